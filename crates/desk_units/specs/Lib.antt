@@ -1,0 +1,2 @@
+pub mod NameFields
+pub mod Padded

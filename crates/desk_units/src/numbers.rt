@@ -1,0 +1,45 @@
+//! Moments, cabins, hauls, seats, and the numbers by which the rows of a day are named.
+
+/// A moment: whole minutes since 2000-01-01 00:00.
+#[derive(Clone, Copy, Debug, PartialEq, Eq, PartialOrd, Ord, Hash)]
+pub struct Minute(pub u32);
+
+/// An airport, by its place in the list of airports, from 0.
+#[derive(Clone, Copy, Debug, PartialEq, Eq, PartialOrd, Ord, Hash)]
+pub struct Airport(pub u32);
+
+/// An aircraft, by its place in the list of aircraft, from 0.
+#[derive(Clone, Copy, Debug, PartialEq, Eq, PartialOrd, Ord, Hash)]
+pub struct Plane(pub u32);
+
+/// A leg, by its place in the list of rotations, from 0.
+#[derive(Clone, Copy, Debug, PartialEq, Eq, PartialOrd, Ord, Hash)]
+pub struct Leg(pub u32);
+
+/// A reservation, by its place in the list of itineraries, from 0.
+#[derive(Clone, Copy, Debug, PartialEq, Eq, PartialOrd, Ord, Hash)]
+pub struct Res(pub u32);
+
+/// A cabin: first, business or economy, in the order in which paths are compared.
+#[derive(Clone, Copy, Debug, PartialEq, Eq, PartialOrd, Ord, Hash)]
+pub enum Cabin {
+    F,
+    B,
+    E,
+}
+
+/// The haul of a leg: domestic, continental or intercontinental.
+#[derive(Clone, Copy, Debug, PartialEq, Eq, PartialOrd, Ord, Hash)]
+pub enum Haul {
+    D,
+    C,
+    I,
+}
+
+/// The seats of an aircraft in each cabin, each from 0 to 999 in a day that was read.
+#[derive(Clone, Copy, Debug, PartialEq, Eq, PartialOrd, Ord, Hash)]
+pub struct Seats {
+    pub f: u32,
+    pub b: u32,
+    pub e: u32,
+}
