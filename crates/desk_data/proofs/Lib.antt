@@ -1,0 +1,2 @@
+mod SaidLemmas
+mod ScheduleLemmas

@@ -1,0 +1,4 @@
+pub mod Situation
+pub mod PlanRows
+pub mod Valid
+pub mod Fits

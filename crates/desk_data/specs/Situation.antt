@@ -1,0 +1,106 @@
+-- A day as it is disrupted: the joined rows and the orders taken so far. Every word on it is total:
+-- what is out of range is a row of nothing.
+use Rattle.std.specs.Prelude.{ℕ, ◌+◌, Bool, true, false, ◌||◌, nat_lt, ◌==◌, if◌then◌else◌, List, [], ◌∷◌, Option, Some, None, length, map, slice_index_or, unwrap_or, is_none}
+use Rattle.std.specs.Option.{option_or}
+use Rattle.desk_units.specs.declared.numbers.Leg.{Leg}
+use Rattle.desk_units.specs.declared.numbers.Haul.TheVariants.{D}
+use Rattle.desk_data.specs.declared.info.LegInfo.{LegInfo}
+use Rattle.desk_data.specs.declared.info.PlaneInfo.{PlaneInfo}
+use Rattle.desk_data.specs.declared.info.ResInfo.{ResInfo}
+use Rattle.desk_data.specs.declared.info.AirportInfo.{AirportInfo}
+use Rattle.desk_data.specs.declared.parts.Parts.{Parts}
+use Rattle.desk_data.specs.declared.orders.Order.{Order}
+use Rattle.desk_data.specs.declared.orders.Order.TheVariants.{Flight}
+use Rattle.desk_data.specs.declared.row.Row.{Row}
+use Rattle.desk_data.specs.declared.row.Row.TheVariants.{Flown}
+use Rattle.desk_data.specs.declared.row.Group.{Group}
+use Rattle.desk_data.specs.PlanRows.{PlanRows}
+
+-- a day as it is disrupted
+pub record Situation : Type 0 where
+  pub parts : Parts
+  pub orders : List Order
+
+-- how many there are
+abbrev pub legs_of : Situation → ℕ
+legs_of I = length I.parts.legs
+
+abbrev pub planes_of : Situation → ℕ
+planes_of I = length I.parts.planes
+
+abbrev pub airports_of : Situation → ℕ
+airports_of I = length I.parts.airports
+
+abbrev pub reservations_of : Situation → ℕ
+reservations_of I = length I.parts.res
+
+-- rows of nothing
+unfoldable pub no_leg : LegInfo
+no_leg = record { flight = []; day = 0; origin = record { 0 = 0 }; dest = record { 0 = 0 }; sched = record { 0 = 0 }; block = 0; distance = 0; haul = D; plane = record { 0 = 0 }; prev = None }
+
+unfoldable pub no_plane : PlaneInfo
+no_plane = record { name = []; model = []; family = []; seats = record { f = 0; b = 0; e = 0 }; range = 0; hourly = record { 0 = 0 }; turn = 0; transit = 0; origin = record { 0 = 0 }; maint = None; surface = false }
+
+unfoldable pub no_res : ResInfo
+no_res = record { name = []; inbound = false; price = record { 0 = 0 }; count = 0; path = [] }
+
+unfoldable pub no_airport : AirportInfo
+no_airport = record { name = []; caps = [] }
+
+-- the row of a number
+abbrev pub leg_at : Situation → ℕ → LegInfo
+leg_at I x = slice_index_or I.parts.legs x no_leg
+
+abbrev pub plane_at : Situation → ℕ → PlaneInfo
+plane_at I p = slice_index_or I.parts.planes p no_plane
+
+abbrev pub res_at : Situation → ℕ → ResInfo
+res_at I r = slice_index_or I.parts.res r no_res
+
+abbrev pub airport_at : Situation → ℕ → AirportInfo
+airport_at I a = slice_index_or I.parts.airports a no_airport
+
+-- what an order says of leg x: a delay, or None inside where it is off
+abbrev pub said_of : ℕ → Order → Option (Option ℕ)
+said_of x (Flight leg delay) = if leg.0 == x then Some delay else None
+said_of x order = None
+
+-- the last flight order of leg x decides
+unfoldable pub last_said : ℕ → List Order → Option (Option ℕ)
+last_said x [] = None
+last_said x (order ∷ orders) = option_or (last_said x orders) (said_of x order)
+
+-- the minutes by which the orders delay leg x
+unfoldable pub delay_of : Option (Option ℕ) → ℕ
+delay_of None = 0
+delay_of (Some said) = unwrap_or said 0
+
+unfoldable pub is_off : Option (Option ℕ) → Bool
+is_off None = false
+is_off (Some said) = is_none said
+
+-- the earliest and the latest departure of leg x, and whether it is ordered off
+unfoldable pub earliest : Situation → ℕ → ℕ
+earliest I x = (leg_at I x).sched.0 + delay_of (last_said x I.orders)
+
+unfoldable pub latest : Situation → ℕ → ℕ
+latest I x = earliest I x + 2880
+
+unfoldable pub ordered_off : Situation → ℕ → Bool
+ordered_off I x = is_off (last_said x I.orders)
+
+-- a leg is fixed if its scheduled aircraft is surface transport or it is scheduled before the window
+unfoldable pub fixed : Situation → ℕ → Bool
+fixed I x = (plane_at I (leg_at I x).plane.0).surface || nat_lt (leg_at I x).sched.0 I.parts.from.0
+
+-- a leg as scheduled
+abbrev pub scheduled_row : LegInfo → Row
+scheduled_row leg = Flown leg.plane leg.sched
+
+-- all passengers of a reservation on its scheduled path
+abbrev pub groups_of : ResInfo → List Group
+groups_of r = let group : Group = record { count = r.count; path = r.path } in group ∷ []
+
+-- each leg as scheduled, and all passengers of each reservation on its scheduled path
+unfoldable pub schedule : Situation → PlanRows
+schedule I = record { rows = map scheduled_row I.parts.legs; groups = map groups_of I.parts.res }

@@ -1,0 +1,26 @@
+//! The joined day of an airline: its rows, its disruption orders, and plans for it.
+#![tactic(auto)]
+
+mod broken;
+mod info;
+mod instance;
+mod moves;
+mod orders;
+mod parts;
+mod path;
+mod plan;
+mod row;
+
+pub use broken::Broken;
+pub use desk_units::{
+    Airport, Cabin, Grains, Haul, Leg, List, Minute, Name, NoMem, Plane, Price, Res, Seats, Steps,
+    Tariff, Weight,
+};
+pub use info::{AirportInfo, Cap, LegInfo, Maint, PlaneInfo, PositionInfo, ResInfo};
+pub use instance::Instance;
+pub use moves::{Move, Step, fits};
+pub use orders::{Batch, Order};
+pub use parts::Parts;
+pub use path::Path;
+pub use plan::Plan;
+pub use row::{Group, Row};

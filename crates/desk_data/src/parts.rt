@@ -1,0 +1,25 @@
+//! The rows from which an instance is made.
+
+use crate::info::{AirportInfo, LegInfo, PlaneInfo, PositionInfo, ResInfo};
+use desk_units::{List, Minute, Tariff};
+
+/// The rows of a joined day. Airports, aircraft, legs and reservations are numbered by their places
+/// in these lists, from 0.
+#[derive(Debug, Drop)]
+pub struct Parts {
+    /// At most 500.
+    pub airports: List<AirportInfo>,
+    /// At most 1,000.
+    pub planes: List<PlaneInfo>,
+    /// At most 20,000.
+    pub legs: List<LegInfo>,
+    /// At most 100,000.
+    pub res: List<ResInfo>,
+    /// The start of the window in which the desk may move legs.
+    pub from: Minute,
+    /// The end of that window.
+    pub to: Minute,
+    /// At most 10,000.
+    pub positions: List<PositionInfo>,
+    pub tariff: Tariff,
+}
