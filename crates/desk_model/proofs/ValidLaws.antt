@@ -1,0 +1,117 @@
+-- Plans stay plans for their instance, and what they cost is bounded.
+use Rattle.std.proofs.Common.{◌≡◌, ℕ, zero, suc, ◌+◌, ◌*◌, ◌≤◌, inl, inr, Bool, true, false, cond, List, [], ◌∷◌, length, refl, ap, subst, ◌∙◌, arith, length-append, ◌^◌}
+use Rattle.std.specs.Prelude.{sum_by}
+use Rattle.std.specs.List.{AllByRecursion}
+use Rattle.std.proofs.Math.Nat.{mul-le-mul_left}
+use Rattle.std.proofs.lemmas.Bool.{cases_lt}
+use Rattle.std.proofs.lemmas.List.{length-set, get_or_past}
+use Rattle.std.proofs.lemmas.List.Sums.{sum_by-le}
+use Rattle.std.proofs.lemmas.List.Elements.{All-set, All-get_or, All-from_recursion, recursion_from_All}
+use Rattle.desk_data.specs.declared.row.Row.{Row}
+use Rattle.desk_data.specs.declared.row.Row.TheVariants.{Flown, Cancelled}
+use Rattle.desk_data.specs.declared.moves.Step.{Step}
+use Rattle.desk_data.specs.declared.moves.Step.TheVariants.{Set}
+use Rattle.desk_data.specs.declared.moves.Move.{Move}
+use Rattle.desk_data.specs.Situation.{Situation, legs_of, planes_of, airports_of, leg_at, plane_at, no_leg, no_plane}
+use Rattle.desk_data.specs.PlanRows.{PlanRows, IsRow, row_at, with_row}
+use Rattle.desk_data.specs.Valid.{IsValid, IsLeg, IsPlane, IsRowOf, IsPlanFor}
+use Rattle.desk_data.specs.Fits.{StepFits, Fits}
+use Rattle.desk_model.specs.declared.answer.Answer.{Answer}
+use Rattle.desk_model.specs.declared.answer.Answer.TheVariants.{Accepted, Breaks, Dearer, NoPlan, Full}
+use Rattle.desk_model.specs.declared.answer.Event.TheVariants as event
+use Rattle.desk_model.specs.Numbers.{numbers}
+use Rattle.desk_model.specs.Cost.{one, operating_of, operating, cost}
+use Rattle.desk_model.specs.Steps.{is_row, stepped, stepped_by, moved}
+use Rattle.desk_model.specs.States.{State, answer, published, after}
+
+-- ---- moves
+
+row_is_sound : (planes : ℕ) (row : Row) → IsRowOf planes row → IsRow row
+row_is_sound planes (Flown plane dep) h = h.1
+row_is_sound planes Cancelled h = tt
+
+with_row-valid : (I : Situation) (P : PlanRows) (x : ℕ) (row : Row) → IsRowOf (planes_of I) row → IsPlanFor I P → IsPlanFor I (with_row P x row)
+with_row-valid I P x row fits h = record {
+  sound = record { rows = All-set IsRow P.rows x row (row_is_sound (planes_of I) row fits) h.sound.rows; groups = h.sound.groups };
+  legs = length-set P.rows x row ∙ h.legs;
+  res = h.res;
+  rows = All-set (IsRowOf (planes_of I)) P.rows x row fits h.rows;
+  groups = h.groups;
+}
+
+cond_valid : (I : Situation) (b : Bool) (P Q : PlanRows) → IsPlanFor I P → IsPlanFor I Q → IsPlanFor I (cond b P Q)
+cond_valid I true P Q p q = p
+cond_valid I false P Q p q = q
+
+pub stepped-valid : (I : Situation) (P : PlanRows) (step : Step) → StepFits I step → IsPlanFor I P → IsPlanFor I (stepped I P step)
+unfolding stepped
+stepped-valid I P (Set leg was new) fits h =
+    cond_valid I (is_row (row_at P leg.0) was) (with_row P leg.0 new) P (with_row-valid I P leg.0 new fits.2 h) h
+
+pub stepped_by-valid : (I : Situation) (P : PlanRows) (steps : List Step) → AllByRecursion (StepFits I) steps → IsPlanFor I P → IsPlanFor I (stepped_by I P steps)
+stepped_by-valid I P [] fits h = h
+stepped_by-valid I P (step ∷ steps) fits h = stepped_by-valid I (stepped I P step) steps fits.1 (stepped-valid I P step fits.0 h)
+
+pub moved-valid : (I : Situation) (P : PlanRows) (m : Move) → Fits I m → IsPlanFor I P → IsPlanFor I (moved I P m)
+unfolding moved
+moved-valid I P m fits h = stepped_by-valid I P m.steps (recursion_from_All (StepFits I) m.steps fits.each) h
+
+published_valid : (S : State) (m : Move) (a : Answer) → Fits S.inst m → IsPlanFor S.inst S.plan → IsPlanFor S.inst (published S m a).plan
+published_valid S m (Accepted told) fits h = moved-valid S.inst S.plan m fits h
+published_valid S m (Breaks item) fits h = h
+published_valid S m (Dearer now would) fits h = h
+published_valid S m (NoPlan item) fits h = h
+published_valid S m (Full entries) fits h = h
+
+pub after-valid : (S : State) (m : Move) → Fits S.inst m → IsPlanFor S.inst S.plan → IsPlanFor S.inst (after S (event.Move m)).plan
+unfolding after
+after-valid S m fits h = published_valid S m (answer S (event.Move m)) fits h
+
+-- ---- costs
+
+pub length-numbers : (n : ℕ) → length (numbers n) ≡ n
+length-numbers zero = refl
+length-numbers (suc n) = length-append (numbers n) (n ∷ []) ∙ ap (λ (k : ℕ). k + 1) (length-numbers n) ∙ (let e : n + 1 ≡ suc n = omega arith in e)
+
+-- the most that one leg can cost: 2,880 minutes at the greatest price
+abbrev pub most : ℕ
+most = 28799999999997120000
+
+block_le : (I : Situation) (x : ℕ) → IsValid I → (leg_at I x).block ≤ 2880
+unfolding no_leg
+block_le I x valid =
+    elim (cases_lt x (legs_of I)) [
+      | inl within ↦ (All-get_or (IsLeg (airports_of I) (planes_of I) (legs_of I)) I.parts.legs x no_leg within valid.parts.legs).block
+      | inr past ↦ rw (get_or_past I.parts.legs x no_leg past) (omega arith)
+    ]
+
+hourly_le : (I : Situation) (p : ℕ) → IsValid I → (plane_at I p).hourly.0 ≤ 9999999999999
+unfolding no_plane
+hourly_le I p valid =
+    elim (cases_lt p (planes_of I)) [
+      | inl within ↦ (All-get_or (IsPlane (airports_of I)) I.parts.planes p no_plane within valid.parts.planes).hourly
+      | inr past ↦ rw (get_or_past I.parts.planes p no_plane past) (omega arith)
+    ]
+
+pub operating_of-le : (I : Situation) (x : ℕ) (row : Row) → IsValid I → operating_of I x row ≤ most
+operating_of-le I x (Flown plane dep) valid =
+    let block = block_le I x valid in
+    let hourly = hourly_le I plane.0 valid in
+    let dear : one * (plane_at I plane.0).hourly.0 ≤ 9999999999999000 = omega (arith, hourly) in
+    let first = mul-le-mul_left (one * (plane_at I plane.0).hourly.0) block in
+    omega (arith, first, dear)
+operating_of-le I x Cancelled valid = omega arith
+
+operating_all : (I : Situation) (P : PlanRows) → IsValid I → (xs : List ℕ) → AllByRecursion (λ x. operating I P x ≤ most) xs
+operating_all I P valid [] = tt
+operating_all I P valid (x ∷ xs) = (operating_of-le I x (row_at P x) valid, operating_all I P valid xs)
+
+-- what the first n legs cost
+pub operating-sum-le : (I : Situation) (P : PlanRows) (n : ℕ) → IsValid I → sum_by (operating I P) (numbers n) ≤ n * most
+operating-sum-le I P n valid =
+    let sum = sum_by-le (operating I P) most (numbers n) (All-from_recursion (λ x. operating I P x ≤ most) (numbers n) (operating_all I P valid (numbers n))) in
+    subst (λ (k : ℕ). sum_by (operating I P) (numbers n) ≤ k * most) (length-numbers n) sum
+
+pub cost-le : (I : Situation) (P : PlanRows) → IsValid I → cost I P ≤ 10 ^ 38
+unfolding cost
+cost-le I P valid = omega (arith, operating-sum-le I P (legs_of I) valid, valid.parts.few.legs)

@@ -1,0 +1,65 @@
+-- Histories: lists of entries, each with who asked, what was asked and the answer.
+use Rattle.std.specs.Prelude.{◌≡◌, ℕ, ◌+◌, Bool, true, false, nat_lt, if◌then◌else◌, List, [], ◌∷◌, Some, length, take, slice_get, count_by, All}
+use Rattle.desk_data.specs.Situation.{Situation}
+use Rattle.desk_data.specs.Fits.{Fits}
+use Rattle.desk_model.specs.declared.answer.Answer.{Answer}
+use Rattle.desk_model.specs.declared.answer.Answer.TheVariants.{Accepted}
+use Rattle.desk_model.specs.declared.answer.Event.{Event}
+use Rattle.desk_model.specs.declared.answer.Event.TheVariants as event
+use Rattle.desk_model.specs.declared.answer.Entry.{Entry}
+use Rattle.desk_model.specs.States.{State, answer, after}
+
+-- the state after a history
+abbrev pub state : State → List Entry → State
+state S [] = S
+state S (entry ∷ entries) = state (after S entry.event) entries
+
+-- proposals are taken while the journal has fewer entries than this
+abbrev pub proposal_limit : ℕ
+proposal_limit = 900000
+
+-- whether a journal of n entries takes the event
+abbrev pub has_room : ℕ → Event → Bool
+has_room n (event.Move m) = nat_lt n proposal_limit
+
+-- what can be asked of an instance
+abbrev pub IsAskable : Situation → Event → Type 0
+IsAskable I (event.Move m) = Fits I m
+
+-- each of these events, each with its caller, can be asked
+abbrev pub AreAskable : Situation → List (ℕ × Event) → Type 0
+AreAskable I events = All (λ asked. IsAskable I asked.1) events
+
+-- the entry may stand behind the entries before it: there was room, it could be asked, and it has the answer of the state there
+pub record Stands (S : State) (before : List Entry) (entry : Entry) : Type 0 where
+  pub room : has_room (length before) entry.event ≡ true
+  pub asked : IsAskable (state S before).inst entry.event
+  pub told : entry.answer ≡ answer (state S before) entry.event
+
+-- each entry stands behind those before it
+abbrev pub IsLegal : State → List Entry → Type 0
+IsLegal S h = (i : ℕ) (entry : Entry) → slice_get h i ≡ Some entry → Stands S (take i h) entry
+
+-- whether an answer changed the plan
+abbrev pub is_change : Answer → Bool
+is_change (Accepted cost) = true
+is_change other = false
+
+-- how many entries of a history changed the plan
+abbrev pub changes : List Entry → ℕ
+changes h = count_by (λ entry. is_change entry.answer) h
+
+-- the entry of an event at a state
+abbrev pub entry_of : State → ℕ → Event → Entry
+entry_of S caller event = record { caller = caller; event = event; answer = answer S event }
+
+-- the entries of these events, each with its caller, behind n entries: those that find no room have none
+unfoldable pub entries : ℕ → State → List (ℕ × Event) → List Entry
+entries n S [] = []
+entries n S (asked ∷ more) =
+    if has_room n asked.1 then entry_of S asked.0 asked.1 ∷ entries (n + 1) (after S asked.1) more
+    else entries n S more
+
+-- the history of these events in order
+abbrev pub run : State → List (ℕ × Event) → List Entry
+run S events = entries 0 S events

@@ -1,0 +1,9 @@
+pub mod Numbers
+pub mod Rotations
+pub mod Rules
+pub mod Cost
+pub mod Steps
+pub mod States
+pub mod Histories
+pub mod Words
+pub mod Promises

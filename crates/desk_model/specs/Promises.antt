@@ -1,0 +1,52 @@
+-- What holds of every legal history from the opening of an instance.
+use Rattle.std.specs.Prelude.{◌≡◌, ◌↔◌, ℕ, ◌+◌, ◌<◌, ◌≤◌, Some, None, false, List, length, take, slice_get, true}
+use Rattle.desk_units.specs.declared.money.Grains.{Grains}
+use Rattle.desk_data.specs.declared.broken.Broken.{Broken}
+use Rattle.desk_data.specs.declared.moves.Move.{Move}
+use Rattle.desk_data.specs.Situation.{Situation}
+use Rattle.desk_model.specs.declared.answer.Answer.TheVariants.{Accepted}
+use Rattle.desk_model.specs.declared.answer.Event.TheVariants as event
+use Rattle.desk_model.specs.declared.answer.Entry.{Entry}
+use Rattle.desk_model.specs.Cost.{cost}
+use Rattle.desk_model.specs.Steps.{moved}
+use Rattle.desk_model.specs.States.{State, grains, opening}
+use Rattle.desk_model.specs.Histories.{state, changes, is_change}
+use Rattle.desk_model.specs.Words.{IsFeasible, IsLeast}
+
+-- the state after the first i entries
+abbrev pub state_at : Situation → List Entry → ℕ → State
+state_at I h i = state (opening I) (take i h)
+
+-- what the rows of a state cost
+abbrev pub cost_of : State → ℕ
+cost_of S = cost S.inst S.plan
+
+-- a published plan meets all rules; where there is no plan, the item told is the first that the rows break
+pub record IsHonest (S : State) : Type 0 where
+  pub published : S.broken ≡ None → IsFeasible S.inst S.plan
+  pub unpublished : (item : Broken) → S.broken ≡ Some item → IsLeast S.inst S.plan item
+
+-- the move makes of the state's plan one that meets all rules and costs less
+pub record Improves (S : State) (m : Move) : Type 0 where
+  pub feasible : IsFeasible S.inst (moved S.inst S.plan m)
+  pub cheaper : cost S.inst (moved S.inst S.plan m) < cost_of S
+
+-- entry i of the history, between the state before it and the state after it
+pub record IsKept (before : State) (entry : Entry) (behind : State) : Type 0 where
+  -- a proposal to a published plan is accepted exactly where the moved plan is feasible and cheaper
+  pub accepted : (m : Move) → entry.event ≡ event.Move m → before.broken ≡ None → is_change entry.answer ≡ true ↔ Improves before m
+  -- the cost that is told of a change is the cost of the rows after it, and less than before
+  pub stored : (told : Grains) → entry.answer ≡ Accepted told → (told ≡ grains (cost_of behind)) × (cost_of behind < cost_of before)
+  -- a change publishes the moved plan
+  pub moved_to : (m : Move) → entry.event ≡ event.Move m → is_change entry.answer ≡ true → (behind.plan ≡ moved before.inst before.plan m) × (behind.broken ≡ None)
+  -- every other answer leaves the state
+  pub refused : is_change entry.answer ≡ false → behind ≡ before
+
+-- what holds of a history from the opening of an instance
+pub record KeepsPromises (I : Situation) (h : List Entry) : Type 0 where
+  pub honest : (i : ℕ) → IsHonest (state_at I h i)
+  pub entries : (i : ℕ) (entry : Entry) → slice_get h i ≡ Some entry → IsKept (state_at I h i) entry (state_at I h (i + 1))
+  -- costs only fall
+  pub falls : (i j : ℕ) → i ≤ j → cost_of (state_at I h j) ≤ cost_of (state_at I h i)
+  -- equally many changes make the same state
+  pub same : (i j : ℕ) → i ≤ j → j ≤ length h → changes (take i h) ≡ changes (take j h) → state_at I h i ≡ state_at I h j

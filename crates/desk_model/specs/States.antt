@@ -1,0 +1,51 @@
+-- The state of the desk, and what it answers to an event.
+use Rattle.std.specs.Prelude.{ℕ, nat_le, if◌then◌else◌, Option, Some, None}
+use Rattle.desk_units.specs.declared.money.Grains.{Grains}
+use Rattle.desk_data.specs.declared.broken.Broken.{Broken}
+use Rattle.desk_data.specs.declared.moves.Move.{Move}
+use Rattle.desk_data.specs.Situation.{Situation, schedule}
+use Rattle.desk_data.specs.PlanRows.{PlanRows}
+use Rattle.desk_model.specs.declared.answer.Answer.{Answer}
+use Rattle.desk_model.specs.declared.answer.Answer.TheVariants.{Accepted, Breaks, Dearer, NoPlan}
+use Rattle.desk_model.specs.declared.answer.Event.{Event}
+use Rattle.desk_model.specs.declared.answer.Event.TheVariants as event
+use Rattle.desk_model.specs.Rules.{least}
+use Rattle.desk_model.specs.Cost.{cost}
+use Rattle.desk_model.specs.Steps.{moved}
+
+-- the instance as disrupted, the rows, and the item that they break: there is a plan where they break none
+pub record State : Type 0 where
+  pub inst : Situation
+  pub plan : PlanRows
+  pub broken : Option Broken
+
+-- a sum of money
+abbrev pub grains : ℕ → Grains
+grains n = record { 0 = n }
+
+-- before anything has happened the plan is the schedule
+unfoldable pub opening : Situation → State
+opening I = record { inst = I; plan = schedule I; broken = least I (schedule I) }
+
+-- the answer to a proposal at a plan: what the moved plan breaks, else whether it is cheaper
+abbrev pub judged : Option Broken → ℕ → ℕ → Answer
+judged (Some item) now would = Breaks item
+judged None now would = if nat_le now would then Dearer (grains now) (grains would) else Accepted (grains would)
+
+-- there is nothing to move where there is no plan
+abbrev pub proposed : State → Move → Option Broken → Answer
+proposed S m (Some item) = NoPlan item
+proposed S m None =
+    let moved_plan = moved S.inst S.plan m in
+    judged (least S.inst moved_plan) (cost S.inst S.plan) (cost S.inst moved_plan)
+
+unfoldable pub answer : State → Event → Answer
+answer S (event.Move m) = proposed S m S.broken
+
+-- an accepted move is published, and every other answer leaves the state
+abbrev pub published : State → Move → Answer → State
+published S m (Accepted cost) = record { inst = S.inst; plan = moved S.inst S.plan m; broken = None }
+published S m other = S
+
+unfoldable pub after : State → Event → State
+after S (event.Move m) = published S m (answer S (event.Move m))
