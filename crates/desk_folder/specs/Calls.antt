@@ -57,3 +57,9 @@ pub record PutsToSink (before now : SinkSide) (piece : List ℕ) (answer : Resul
   pub count : IfOk answer (λ n. (0 < n) × (n ≤ length piece))
   pub bytes : PutAppends before.written now.written piece answer
   pub faults : Counts before.faults now.faults answer
+
+-- a count over one call, exactly: it rises by one where the call fails, up to its last value, and else stands still
+abbrev pub CountsFailure : {T : Type 0} → ℕ → ℕ → Result T FolderFault → Type 0
+CountsFailure before now (Ok _) = now ≡ before
+CountsFailure before now (Err Failed) = now ≡ min (before + 1) (2 ^ 64 - 1)
+CountsFailure before now (Err Memory) = now ≡ before

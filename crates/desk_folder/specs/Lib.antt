@@ -1,3 +1,6 @@
-pub mod Files
-pub mod Outside
 pub mod Calls
+pub mod Entries
+pub mod Files
+pub mod Memory
+pub mod MemorySink
+pub mod Outside

@@ -1,5 +1,5 @@
 //! The files of the desk's folder.
-ghost use Rattle.std.specs.Prelude.{◌≡◌};
+ghost use Rattle.std.specs.Prelude.{◌≡◌, ◌<◌};
 ghost use Rattle.desk_folder.specs.Files.{file_name, file_number};
 
 use std::fmt;
@@ -68,7 +68,8 @@ impl File {
 
     /// The file's place in file order, counted from 0.
     pub fn number(self) -> usize
-        ensures { result ≡ file_number self }
+        ensures place { result ≡ file_number self }
+        ensures within { result < 16 }
     {
         match self {
             File::Config => 0,

@@ -3,10 +3,15 @@
 //! own are the trusted edge.
 #![tactic(auto)]
 
+mod entries;
 mod faults;
 mod files;
+mod memory;
+mod memory_sink;
 mod traits;
 
 pub use faults::FolderFault;
 pub use files::File;
+pub use memory::MemFolder;
+pub use memory_sink::MemSink;
 pub use traits::{Folder, FreeGate, Gate, Sink};
