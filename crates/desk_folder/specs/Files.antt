@@ -1,5 +1,5 @@
 -- The files of the desk's folder: their names, and their places in file order.
-use Rattle.std.specs.Prelude.{ℕ, List, codes}
+use Rattle.std.specs.Prelude.{ℕ, List, codes, Bool, true, false}
 use Rattle.desk_folder.specs.declared.files.File.{File}
 use Rattle.desk_folder.specs.declared.files.File.TheVariants.{Config, Flights, Rotations, Aircraft, Airports, Dist, Itineraries, Position, AltFlights, AltAircraft, AltAirports, Tariff, Feed, Journal, SolRotations, SolItineraries}
 
@@ -40,3 +40,15 @@ file_number Feed = 12
 file_number Journal = 13
 file_number SolRotations = 14
 file_number SolItineraries = 15
+
+-- the two files that hold the plan found are read from the output directory
+abbrev pub is_solution : File → Bool
+is_solution SolRotations = true
+is_solution SolItineraries = true
+is_solution _ = false
+
+-- the files that read as empty where they are missing
+abbrev pub may_be_missing : File → Bool
+may_be_missing Feed = true
+may_be_missing Journal = true
+may_be_missing _ = false

@@ -1,6 +1,6 @@
 //! The files of the desk's folder.
 ghost use Rattle.std.specs.Prelude.{◌≡◌, ◌<◌};
-ghost use Rattle.desk_folder.specs.Files.{file_name, file_number};
+ghost use Rattle.desk_folder.specs.Files.{file_name, file_number, is_solution, may_be_missing};
 
 use std::fmt;
 
@@ -89,6 +89,21 @@ impl File {
             File::SolRotations => 14,
             File::SolItineraries => 15,
         }
+    }
+
+    /// Whether the file is one of the two that hold the plan found, which are read from the output
+    /// directory.
+    pub fn is_solution(self) -> bool
+        ensures { result ≡ is_solution self }
+    {
+        matches!(self, File::SolRotations | File::SolItineraries)
+    }
+
+    /// Whether a missing file reads as empty.
+    pub fn may_be_missing(self) -> bool
+        ensures { result ≡ may_be_missing self }
+    {
+        matches!(self, File::Feed | File::Journal)
     }
 }
 

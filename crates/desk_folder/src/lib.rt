@@ -6,12 +6,15 @@
 mod entries;
 mod faults;
 mod files;
+mod host;
+mod host_files;
 mod memory;
 mod memory_sink;
 mod traits;
 
 pub use faults::FolderFault;
 pub use files::File;
+pub use host::{HostFolder, HostSink};
 pub use memory::MemFolder;
 pub use memory_sink::MemSink;
 pub use traits::{Folder, FreeGate, Gate, Sink};
