@@ -108,6 +108,11 @@ impl File {
 }
 
 impl fmt::Display for File {
+    ghost use Rattle.std.specs.Prelude.{Some};
+    ghost use Rattle.desk_folder.specs.Files.{file_name};
+
+    ghost output = { λ file. Some (file_name file) };
+
     fn fmt<W: fmt::Write>(&self, f: &mut fmt::Formatter<W>) -> fmt::Result {
         f.write_str(self.name())
     }

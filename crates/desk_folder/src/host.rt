@@ -27,8 +27,12 @@ pub struct HostFolder<R: Files + Drop> {
 }
 
 impl<R: Files + Drop> HostFolder<R> {
+    ghost use Rattle.desk_folder.specs.Host.{TellsNoBytes};
+
     /// A folder over the host's files, with no directory named.
-    pub fn new(rt: R, alloc: Global) -> HostFolder<R> {
+    pub fn new(rt: R, alloc: Global) -> HostFolder<R>
+        ensures { TellsNoBytes (⟦<HostFolder<R> as Folder>⟧.outside result) }
+    {
         HostFolder {
             rt,
             input: String::new(alloc),
@@ -120,8 +124,12 @@ pub struct HostSink<P: Print + Drop> {
 }
 
 impl<P: Print + Drop> HostSink<P> {
+    ghost use Rattle.std.specs.Prelude.{◌≡◌, None};
+
     /// A sink that prints.
-    pub fn new(rt: P) -> HostSink<P> {
+    pub fn new(rt: P) -> HostSink<P>
+        ensures { ⟦<HostSink<P> as Sink>⟧.report result ≡ record { written = None; faults = 0 } }
+    {
         HostSink { rt, faults: 0 }
     }
 }
