@@ -10,6 +10,7 @@ mod parts;
 mod path;
 mod plan;
 mod row;
+mod validity;
 
 pub use broken::Broken;
 pub use desk_units::{
