@@ -5,7 +5,7 @@ ghost use Rattle.desk_data.specs.Valid.{IsSeen, IsPathOf, IsMoment, IsPrice, Are
 
 use crate::info::{AirportInfo, Cap, LegInfo, Maint, PlaneInfo, PositionInfo, ResInfo};
 use crate::parts::Parts;
-use desk_units::{Name, NoMem, Seats};
+use desk_units::{Minute, Name, NoMem, Price, Seats};
 use std::alloc::Global;
 use std::collections::HashSet;
 
@@ -15,6 +15,18 @@ fn is_seen(name: &Name) -> bool
     name.as_slice()
         .iter()
         .all(|byte| 0x21 <= *byte && *byte <= 0x7e)
+}
+
+fn is_moment(at: Minute) -> bool
+    ensures { IsTrue result ↔ IsMoment at.0 }
+{
+    at.0 < 52_596_000
+}
+
+fn is_price(price: Price) -> bool
+    ensures { IsTrue result ↔ IsPrice price.0 }
+{
+    price.0 <= 9_999_999_999_999
 }
 
 fn are_seats(seats: &Seats) -> bool
@@ -39,8 +51,8 @@ fn is_maint(airports: usize, maint: &Maint) -> bool
     ensures { IsTrue result ↔ IsMaint airports maint.now }
 {
     (maint.airport.0 as usize) < airports
-        && maint.from.0 < 52_596_000
-        && maint.to.0 < 52_596_000
+        && is_moment(maint.from)
+        && is_moment(maint.to)
         && maint.minutes <= 100_000
 }
 
@@ -54,7 +66,7 @@ fn are_plane_numbers(plane: &PlaneInfo) -> bool
     ensures { IsTrue result ↔ ((plane.now.range ≤ 100000) × IsPrice plane.now.hourly.0 × (plane.now.turn ≤ 2880) × (plane.now.transit ≤ 2880)) }
 {
     plane.range <= 100_000
-        && plane.hourly.0 <= 9_999_999_999_999
+        && is_price(plane.hourly)
         && plane.turn <= 2_880
         && plane.transit <= 2_880
 }
@@ -107,7 +119,7 @@ fn is_reservation(legs: usize, res: &ResInfo) -> bool
 {
     let taken = res.path.as_slice().len();
     is_seen(&res.name)
-        && res.price.0 <= 9_999_999_999_999
+        && is_price(res.price)
         && 1 <= res.count
         && res.count <= 1_000
         && 1 <= taken
@@ -134,7 +146,8 @@ fn are_within_limits(parts: &Parts) -> bool
         && parts.positions.as_slice().len() <= 10_000
 }
 
-/// A row that has a name, which no other row of its list may have.
+/// A row that has a name, which no other row of its list may have. Where the bytes alone name it,
+/// the number is 0.
 trait Named {
     ghost key_of: { Self → List ℕ × ℕ };
 
@@ -226,24 +239,32 @@ fn are_legs(parts: &Parts) -> bool
         .all(|leg| is_leg(airports, planes, legs.len(), leg))
 }
 
-fn are_journeys(parts: &Parts) -> bool
-    ensures { IsTrue result ↔ (All (IsReservation (length parts.now.legs)) parts.now.res × IsMoment parts.now.from.0 × IsMoment parts.now.to.0
-        × All (IsPosition (length parts.now.airports)) parts.now.positions) }
+fn are_reservations(parts: &Parts) -> bool
+    ensures { IsTrue result ↔ All (IsReservation (length parts.now.legs)) parts.now.res }
 {
-    let airports = parts.airports.as_slice().len();
     let legs = parts.legs.as_slice().len();
     parts
         .res
         .as_slice()
         .iter()
         .all(|res| is_reservation(legs, res))
-        && parts.from.0 < 52_596_000
-        && parts.to.0 < 52_596_000
-        && parts
-            .positions
-            .as_slice()
-            .iter()
-            .all(|position| is_position(airports, position))
+}
+
+fn are_positions(parts: &Parts) -> bool
+    ensures { IsTrue result ↔ All (IsPosition (length parts.now.airports)) parts.now.positions }
+{
+    let airports = parts.airports.as_slice().len();
+    parts
+        .positions
+        .as_slice()
+        .iter()
+        .all(|position| is_position(airports, position))
+}
+
+fn is_window(from: Minute, to: Minute) -> bool
+    ensures { IsTrue result ↔ (IsMoment from.0 × IsMoment to.0) }
+{
+    is_moment(from) && is_moment(to)
 }
 
 impl Parts {
@@ -257,7 +278,9 @@ impl Parts {
             || !are_airports(self)
             || !are_planes(self)
             || !are_legs(self)
-            || !are_journeys(self)
+            || !are_reservations(self)
+            || !are_positions(self)
+            || !is_window(self.from, self.to)
         {
             return Ok(false);
         }
