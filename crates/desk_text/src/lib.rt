@@ -1,0 +1,9 @@
+//! Days, moments and numbers as text.
+#![tactic(auto)]
+
+mod days;
+mod texts;
+
+pub use days::day_of;
+pub use desk_units::{Minute, NoMem};
+pub use texts::{push_date, push_moment, push_number, written_days_read_back};
