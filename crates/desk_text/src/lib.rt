@@ -6,4 +6,7 @@ mod texts;
 
 pub use days::day_of;
 pub use desk_units::{Minute, NoMem};
-pub use texts::{push_date, push_moment, push_number, written_days_read_back};
+pub use texts::{
+    date_text, moment_text, push_all, push_date, push_moment, push_number, two_digits,
+    written_days_read_back,
+};

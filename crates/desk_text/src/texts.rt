@@ -1,6 +1,7 @@
 //! What days, moments and numbers are written as.
 
 ghost use Rattle.std.specs.Prelude.{◌≡◌, ℕ, ◌+◌, ◌*◌, ◌<◌, ◌≤◌, ◌++◌, length, sum, take, slice_index, decimal, OnOk, OnErr, Some};
+ghost use Rattle.std.specs.List.{flat_map};
 ghost use Rattle.desk_text.specs.Days.{day_of, days_before};
 ghost use Rattle.desk_text.specs.Texts.{year_of, day_in_year, months_passed, month_of, day_in_month, two_digits, date_text, time_text, moment_text};
 
@@ -69,16 +70,16 @@ fn date_of(day: u32) -> Date
 
 /// A number below 100 in two digits.
 #[inline]
-fn two_digits(number: u32) -> [u8; 2]
+pub fn two_digits(number: u32) -> [u8; 2]
     requires { number < 100 }
     ensures { result ≡ two_digits number }
 {
     [b'0' + (number / 10) as u8, b'0' + (number % 10) as u8]
 }
 
-/// The text of a day.
+/// The text of a day, counted from 2000-01-01 and below 36,525: `dd/mm/yy`.
 #[tactic(auto, unfolding(crate::specs::Texts::date_text))]
-fn date_text(day: u32) -> [u8; 8]
+pub fn date_text(day: u32) -> [u8; 8]
     requires { day < 36525 }
     ensures { result ≡ date_text day }
 {
@@ -102,6 +103,18 @@ fn time_text(minute: u32) -> [u8; 5]
     [hour[0], hour[1], b':', minute[0], minute[1]]
 }
 
+/// The text of a moment below 52,596,000: `dd/mm/yy HH:MM`.
+#[tactic(auto, unfolding(crate::specs::Texts::date_text, crate::specs::Texts::time_text))]
+pub fn moment_text(at: Minute) -> [u8; 14]
+    requires { at.0 < 52596000 }
+    ensures { result ≡ moment_text at.0 }
+{
+    let mut text = [b' '; 14];
+    text[..8].copy_from_slice(&date_text(at.0 / 1_440));
+    text[9..].copy_from_slice(&time_text(at.0 % 1_440));
+    text
+}
+
 /// Adds a day, counted from 2000-01-01 and below 36,525, as `dd/mm/yy`. After want of memory the
 /// text is as before.
 pub fn push_date(out: &mut Vec<u8>, day: u32) -> Result<(), NoMem>
@@ -119,7 +132,7 @@ pub fn push_moment(out: &mut Vec<u8>, at: Minute) -> Result<(), NoMem>
     ensures ok { OnOk result (out.new.items ≡ out.old.items ++ moment_text at.0) }
     ensures err { OnErr result (out.new.items ≡ out.old.items) }
 {
-    out.extend_from_slice(&moment_text(at.0))?;
+    out.extend_from_slice(&moment_text(at))?;
     Ok(())
 }
 
@@ -133,16 +146,19 @@ pub fn push_number(out: &mut Vec<u8>, number: u128) -> Result<(), NoMem>
     Ok(())
 }
 
-/// The text of a moment.
-#[tactic(auto, unfolding(crate::specs::Texts::date_text, crate::specs::Texts::time_text))]
-fn moment_text(at: u32) -> [u8; 14]
-    requires { at < 52596000 }
-    ensures { result ≡ moment_text at }
+/// Adds all parts, one behind the other. After want of memory the text is as before.
+pub fn push_all(out: &mut Vec<u8>, parts: &[&[u8]]) -> Result<(), NoMem>
+    ensures ok { OnOk result (out.new.items ≡ out.old.items ++ flat_map (λ part. part.now) parts.now) }
+    ensures err { OnErr result (out.new.items ≡ out.old.items) }
 {
-    let mut text = [b' '; 14];
-    text[..8].copy_from_slice(&date_text(at / 1_440));
-    text[9..].copy_from_slice(&time_text(at % 1_440));
-    text
+    let start = out.len();
+    for part in parts {
+        if out.extend_from_slice(part).is_err() {
+            out.truncate(start);
+            return Err(NoMem);
+        }
+    }
+    Ok(())
 }
 
 /// A written day reads back: the day of the month, the month and the year that are written are those
