@@ -1,43 +1,65 @@
--- A call of the host's folder that succeeds changes nothing that is told.
-use Rattle.std.proofs.Common.{ℕ, ◌<◌, ◌≤◌, List, Result, Ok, length, arith, refl}
+-- A call of the host's folder changes no more than its counts.
+use Rattle.std.proofs.Common.{◌≡◌, ◌≢◌, ℕ, ◌<◌, ◌≤◌, List, Result, Ok, Err, IfOk, length, slice_index, refl, arith}
 use Rattle.std.specs.Io.{ReadsAtMost}
-use Rattle.desk_folder.specs.Calls.{Counts, Puts, Takes}
-use Rattle.desk_folder.specs.Host.{counts_alone}
+use Rattle.desk_folder.specs.Calls.{Counts, Places, PutAppends, Puts, Takes}
+use Rattle.desk_folder.specs.Files.{file_number}
+use Rattle.desk_folder.specs.Host.{HostCounts, counts_alone}
 use Rattle.desk_folder.specs.declared.faults.FolderFault.{FolderFault}
+use Rattle.desk_folder.specs.declared.faults.FolderFault.TheVariants.{Failed, Memory}
 use Rattle.desk_folder.specs.declared.files.File.{File}
+use Rattle.std.specs.Prelude.{None}
+use Rattle.std.specs.Io.KnownBytes.{ReadConsumes}
 
-Counts-ok : (count k : ℕ) → Counts {T = ℕ} count count (Ok k)
-Counts-ok count k = record { kept = omega arith; rose = λ e. absurd (cc) }
+-- the counts of other files stay
+abbrev pub OthersStay : File → List ℕ → List ℕ → Type 0
+OthersStay file before now = (f : File) → f ≢ file → slice_index now (file_number f) ≡ slice_index before (file_number f)
 
-pub Takes-ok : (places : ℕ) (nexts puts : List ℕ) (file : File) (buffer : List ℕ) (k : ℕ)
-    → (let answer : Result ℕ FolderFault = Ok k in ReadsAtMost answer buffer)
-    → Takes (counts_alone places nexts puts) (counts_alone places nexts puts) file buffer (Ok k)
-Takes-ok places nexts puts file buffer k fits = record {
+reads-untold : (answer : Result ℕ FolderFault) (buffer : List ℕ) → ReadConsumes None None answer buffer
+reads-untold (Ok n) buffer = (tt, λ _ _. tt)
+reads-untold (Err fault) buffer = tt
+
+puts-untold : (answer : Result ℕ FolderFault) (piece : List ℕ) → PutAppends None None piece answer
+puts-untold (Ok n) piece = tt
+puts-untold (Err Failed) piece = (0, tt)
+puts-untold (Err Memory) piece = tt
+
+pub Takes-untold : (place : ℕ) (next nexts put : List ℕ) (file : File) (buffer : List ℕ) (answer : Result ℕ FolderFault) → ReadsAtMost answer buffer
+    → Counts (slice_index next (file_number file)) (slice_index nexts (file_number file)) answer → OthersStay file next nexts
+    → Takes (counts_alone (record { place = place; next = next; put = put })) (counts_alone (record { place = place; next = nexts; put = put })) file buffer answer
+Takes-untold place next nexts put file buffer answer fits faults others = record {
   fits = fits;
-  bytes = (tt, λ _ _. tt);
-  faults = Counts-ok _ k;
+  bytes = reads-untold answer buffer;
+  faults = faults;
   others = record {
     directories = refl;
     left = λ f _. refl;
     written = λ f. refl;
     place_faults = refl;
-    next_faults = λ f _. refl;
+    next_faults = others;
     put_faults = λ f. refl;
   };
 }
 
-pub Puts-ok : (places : ℕ) (nexts puts : List ℕ) (file : File) (piece : List ℕ) (k : ℕ) → 0 < k → k ≤ length piece
-    → Puts (counts_alone places nexts puts) (counts_alone places nexts puts) file piece (Ok k)
-Puts-ok places nexts puts file piece k some within = record {
-  count = (some, within);
-  bytes = tt;
-  faults = Counts-ok _ k;
+pub Puts-untold : (place : ℕ) (next put puts : List ℕ) (file : File) (piece : List ℕ) (answer : Result ℕ FolderFault) → IfOk answer (λ n. (0 < n) × (n ≤ length piece))
+    → Counts (slice_index put (file_number file)) (slice_index puts (file_number file)) answer → OthersStay file put puts
+    → Puts (counts_alone (record { place = place; next = next; put = put })) (counts_alone (record { place = place; next = next; put = puts })) file piece answer
+Puts-untold place next put puts file piece answer count faults others = record {
+  count = count;
+  bytes = puts-untold answer piece;
+  faults = faults;
   others = record {
     directories = refl;
     left = λ f. refl;
     written = λ f _. refl;
     place_faults = refl;
     next_faults = λ f. refl;
-    put_faults = λ f _. refl;
+    put_faults = others;
   };
+}
+
+pub Places-untold : (h : HostCounts) (input output : List ℕ) → Places (counts_alone h) (counts_alone h) input output (Ok tt)
+Places-untold h input output = record {
+  names = tt;
+  faults = record { kept = omega arith; rose = λ e. absurd (cc) };
+  others = record { left = λ f. refl; written = λ f. refl; next_faults = λ f. refl; put_faults = λ f. refl };
 }

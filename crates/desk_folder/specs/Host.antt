@@ -4,14 +4,21 @@ use Rattle.desk_folder.specs.Files.{file_number}
 use Rattle.desk_folder.specs.Outside.{Outside}
 use Rattle.desk_folder.specs.declared.files.File.{File}
 
-abbrev pub counts_alone : ℕ → List ℕ → List ℕ → Outside
-counts_alone place_faults next_faults put_faults = record {
+-- how many calls failed of `place`, and of `next` and `put` for each file by its number
+pub record HostCounts : Type 0 where
+  pub place : ℕ
+  pub next : List ℕ
+  pub put : List ℕ
+
+-- the counts are told, and nothing else
+abbrev pub counts_alone : HostCounts → Outside
+counts_alone h = record {
   directories = None;
   left = λ _. None;
   written = λ _. None;
-  place_faults = place_faults;
-  next_faults = λ file. slice_index next_faults (file_number file);
-  put_faults = λ file. slice_index put_faults (file_number file);
+  place_faults = h.place;
+  next_faults = λ file. slice_index h.next (file_number file);
+  put_faults = λ file. slice_index h.put (file_number file);
 }
 
 -- nothing is told of directories and bytes, and no call has failed

@@ -1,6 +1,6 @@
 //! The plain work of a folder in memory, over lists.
 ghost use Rattle.std.specs.Prelude.{◌≡◌, ◌≢◌, ℕ, ◌+◌, ◌^◌, ◌<◌, ◌≤◌, [], ◌++◌, OnOk, OnErr, length, take, drop, min, slice_index, slice_set, ◌-◌};
-ghost use Rattle.desk_folder.specs.Entries.{entry_of, text_at};
+ghost use Rattle.desk_folder.specs.Entries.{entry_of, named_texts, text_at, texts_of};
 ghost use Rattle.desk_folder.specs.Files.{file_number};
 ghost use Rattle.desk_folder.specs.declared.files.File.{File};
 
@@ -9,7 +9,7 @@ use std::alloc::AllocError;
 
 /// The bytes of the first entry of a file, or none.
 pub(crate) fn entry(entries: &[(File, Vec<u8>)], file: File) -> &[u8]
-    ensures { result.now ≡ entry_of file entries.now }
+    ensures { result.now ≡ entry_of file (named_texts entries.now) }
 {
     for (name, bytes) in entries {
         if name.number() == file.number() {
@@ -37,7 +37,7 @@ pub(crate) fn hand_out(bytes: &[u8], from: usize, into: &mut [u8]) -> usize
 /// One of several texts.
 pub(crate) fn text(texts: &[Vec<u8>], at: usize) -> &[u8]
     requires { at < length texts.now }
-    ensures { result.now ≡ text_at texts.now at }
+    ensures { result.now ≡ text_at (texts_of texts.now) at }
 {
     texts[at].as_slice()
 }
@@ -45,9 +45,9 @@ pub(crate) fn text(texts: &[Vec<u8>], at: usize) -> &[u8]
 /// Appends a piece to one of several texts, and leaves the others. An error appends nothing.
 pub(crate) fn append(texts: &mut [Vec<u8>], at: usize, piece: &[u8]) -> Result<(), AllocError>
     requires { at < length texts.old }
-    ensures ok { OnOk result (text_at texts.new at ≡ text_at texts.old at ++ piece.now) }
-    ensures err { OnErr result (text_at texts.new at ≡ text_at texts.old at) }
-    ensures others { (k : ℕ) → k ≢ at → text_at texts.new k ≡ text_at texts.old k }
+    ensures ok { OnOk result (text_at (texts_of texts.new) at ≡ text_at (texts_of texts.old) at ++ piece.now) }
+    ensures err { OnErr result (text_at (texts_of texts.new) at ≡ text_at (texts_of texts.old) at) }
+    ensures others { (k : ℕ) → k ≢ at → text_at (texts_of texts.new) k ≡ text_at (texts_of texts.old) k }
 {
     let text = &mut texts[at];
     text.extend_from_slice(piece)

@@ -1,13 +1,16 @@
 //! The host's own folder and standard output. They tell no bytes: what the host does with a call is
 //! trusted, and the contracts speak of counts alone.
-ghost use Rattle.std.specs.Prelude.{◌≡◌, if◌then◌else◌};
-ghost use Rattle.desk_folder.specs.Files.{is_solution};
+ghost use Rattle.std.specs.Prelude.{◌≡◌, ◌≢◌, length, slice_index, if◌then◌else◌};
+ghost use Rattle.desk_folder.specs.Calls.{Counts};
+ghost use Rattle.desk_folder.specs.Files.{file_number, is_solution};
+ghost use Rattle.desk_folder.specs.declared.files.File.{File};
 
 use crate::entries::raise;
 use crate::host_files::{read_some, write_some};
 use crate::{File, Folder, FolderFault, Sink};
 use std::alloc::Global;
 use std::io::Print;
+use std::marker::Model;
 use std::rt::Files;
 
 /// Two directories of the host. Each file is opened at the first call that reads or writes it, and stays
@@ -24,6 +27,14 @@ pub struct HostFolder<R: Files + Drop> {
     place_faults: u64,
     next_faults: [u64; 16],
     put_faults: [u64; 16],
+}
+
+impl<R: Files + Drop> Model for HostFolder<R> {
+    ghost use Rattle.desk_folder.specs.Host.{HostCounts};
+
+    ghost Value = { HostCounts };
+
+    ghost view = { λ h. record { place = h.place_faults; next = h.next_faults; put = h.put_faults } };
 }
 
 impl<R: Files + Drop> HostFolder<R> {
@@ -55,6 +66,23 @@ fn closed<F: Drop>() -> [Option<F>; 16] {
     ]
 }
 
+// Hands an answer on, and counts it where it is a failure.
+fn counted(
+    counts: &mut [u64],
+    file: File,
+    answer: Result<usize, FolderFault>,
+) -> Result<usize, FolderFault>
+    requires { length counts.old ≡ 16 }
+    ensures same { result ≡ answer }
+    ensures counts { Counts (slice_index counts.old (file_number file)) (slice_index counts.new (file_number file)) answer }
+    ensures others { (f : File) → f ≢ file → slice_index counts.new (file_number f) ≡ slice_index counts.old (file_number f) }
+{
+    if answer == Err(FolderFault::Failed) {
+        raise(counts, file);
+    }
+    answer
+}
+
 // The directory that a file is read from.
 fn source_directory<'a>(input: &'a str, output: &'a str, file: File) -> &'a str
     ensures { result.now ≡ (if is_solution file then output.now else input.now) }
@@ -65,7 +93,7 @@ fn source_directory<'a>(input: &'a str, output: &'a str, file: File) -> &'a str
 impl<R: Files + Drop> Folder for HostFolder<R> {
     ghost use Rattle.desk_folder.specs.Host.{counts_alone};
 
-    ghost outside = { λ h. counts_alone h.place_faults h.next_faults h.put_faults };
+    ghost outside = { counts_alone };
 
     fn place(&mut self, alloc: Global, input: &str, output: &str) -> Result<(), FolderFault> {
         let input = String::from_str(alloc, input)?;
@@ -84,35 +112,16 @@ impl<R: Files + Drop> Folder for HostFolder<R> {
         let source = &mut self.sources[file.number()];
         let (input, output) = (self.input.as_str(), self.output.as_str());
         let directory = source_directory(input, output, file);
-        match read_some(&self.rt, alloc, source, directory, file, into) {
-            Ok(count) => Ok(count),
-            Err(FolderFault::Failed) => {
-                raise(&mut self.next_faults, file);
-                Err(FolderFault::Failed)
-            }
-            Err(FolderFault::Memory) => Err(FolderFault::Memory),
-        }
+        let answer = read_some(&self.rt, alloc, source, directory, file, into);
+        counted(&mut self.next_faults, file, answer)
     }
 
     fn put(&mut self, alloc: Global, file: File, piece: &[u8]) -> Result<usize, FolderFault> {
         let target = &mut self.targets[file.number()];
         let directory = self.output.as_str();
-        match write_some(
-            &self.rt,
-            alloc,
-            target,
-            &mut self.is_emptied,
-            directory,
-            file,
-            piece,
-        ) {
-            Ok(count) => Ok(count),
-            Err(FolderFault::Failed) => {
-                raise(&mut self.put_faults, file);
-                Err(FolderFault::Failed)
-            }
-            Err(FolderFault::Memory) => Err(FolderFault::Memory),
-        }
+        let emptied = &mut self.is_emptied;
+        let answer = write_some(&self.rt, alloc, target, emptied, directory, file, piece);
+        counted(&mut self.put_faults, file, answer)
     }
 }
 
@@ -121,6 +130,14 @@ impl<R: Files + Drop> Folder for HostFolder<R> {
 pub struct HostSink<P: Print + Drop> {
     rt: P,
     faults: u64,
+}
+
+impl<P: Print + Drop> Model for HostSink<P> {
+    ghost use Rattle.std.specs.Prelude.{ℕ};
+
+    ghost Value = { ℕ };
+
+    ghost view = { λ s. s.faults };
 }
 
 impl<P: Print + Drop> HostSink<P> {
@@ -137,7 +154,7 @@ impl<P: Print + Drop> HostSink<P> {
 impl<P: Print + Drop> Sink for HostSink<P> {
     ghost use Rattle.std.specs.Prelude.{None};
 
-    ghost report = { λ s. record { written = None; faults = s.faults } };
+    ghost report = { λ faults. record { written = None; faults = faults } };
 
     fn put(&mut self, _alloc: Global, piece: &[u8]) -> Result<usize, FolderFault> {
         match self.rt.write_some(piece) {

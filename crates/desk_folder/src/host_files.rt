@@ -75,8 +75,7 @@ pub(crate) fn write_some<R: Files>(
     file: File,
     piece: &[u8],
 ) -> Result<usize, FolderFault>
-    ensures some { IfOk result (λ count. 0 < count) }
-    ensures within { IfOk result (λ count. count ≤ length piece.now) }
+    ensures { IfOk result (λ n. (0 < n) × (n ≤ length piece.now)) }
 {
     if !*is_emptied {
         empty_outputs(rt, alloc, directory)?;

@@ -5,6 +5,7 @@ ghost use Rattle.desk_folder.specs.Files.{file_number};
 use crate::entries::{append, entry, hand_out, raise, text};
 use crate::{File, Folder, FolderFault};
 use std::alloc::Global;
+use std::marker::Model;
 
 /// A folder in memory. It tells its directories, what is left and what is written, takes each piece
 /// whole, and fails the calls of `next` and `put` with the numbers that it was given, counted from 1
@@ -24,15 +25,33 @@ pub struct MemFolder {
     put_faults: [u64; 16],
 }
 
+impl Model for MemFolder {
+    ghost use Rattle.std.specs.String.{string_bytes};
+    ghost use Rattle.desk_folder.specs.Entries.{named_texts, texts_of};
+    ghost use Rattle.desk_folder.specs.Memory.{MemoryFolder};
+
+    ghost Value = { MemoryFolder };
+
+    ghost view = { λ m. record {
+      directories = record { input = string_bytes m.input; output = string_bytes m.output };
+      inputs = named_texts m.inputs.items;
+      taken = m.taken;
+      written = texts_of m.outputs;
+      next_faults = m.next_faults;
+      put_faults = m.put_faults;
+      calls = record { next_calls = m.next_calls; put_calls = m.put_calls; fail_next = m.fail_next.items; fail_put = m.fail_put.items };
+    } };
+}
+
 impl MemFolder {
-    ghost use Rattle.desk_folder.specs.Entries.{entry_of};
-    ghost use Rattle.desk_folder.specs.Memory.{IsNew, memory_calls, memory_outside};
+    ghost use Rattle.desk_folder.specs.Entries.{named_texts, text_at};
+    ghost use Rattle.desk_folder.specs.Memory.{IsNew, memory_outside};
 
     /// A folder with these input files, of which the first of a name counts; a file that isn't listed is
     /// empty. The calls of `next` and of `put` with the listed numbers will fail.
     pub fn new(inputs: Vec<(File, Vec<u8>)>, fail_next: Vec<u64>, fail_put: Vec<u64>) -> MemFolder
-        ensures outside { IsNew inputs.items (memory_outside result) }
-        ensures calls { memory_calls result ≡ record { next_calls = 0; put_calls = 0; fail_next = fail_next.items; fail_put = fail_put.items } }
+        ensures outside { IsNew (named_texts inputs.items) (memory_outside result) }
+        ensures calls { result.calls ≡ record { next_calls = 0; put_calls = 0; fail_next = fail_next.items; fail_put = fail_put.items } }
     {
         let alloc = *inputs.allocator();
         MemFolder {
@@ -80,13 +99,13 @@ impl Folder for MemFolder {
     ghost use Rattle.std.specs.Bool.{MatchBool};
     ghost use Rattle.desk_folder.specs.declared.faults.FolderFault.TheVariants.{Failed, Memory};
     ghost use Rattle.desk_folder.specs.Calls.{CountsFailure, Places, Takes, Puts};
-    ghost use Rattle.desk_folder.specs.Memory.{memory_outside, memory_calls, next_call, next_fails, put_call, put_fails};
+    ghost use Rattle.desk_folder.specs.Memory.{memory_outside, next_call, next_fails, put_call, put_fails};
 
     ghost outside = { memory_outside };
 
     fn place(&mut self, alloc: Global, input: &str, output: &str) -> Result<(), FolderFault>
         ensures places { Places (memory_outside self.old) (memory_outside self.new) input.now output.now result }
-        ensures calls { memory_calls self.new ≡ memory_calls self.old }
+        ensures calls { self.new.calls ≡ self.old.calls }
         ensures never_fails { IsOkUnless result Memory }
         ensures counted { CountsFailure (memory_outside self.old).place_faults (memory_outside self.new).place_faults result }
     {
@@ -101,8 +120,8 @@ impl Folder for MemFolder {
     fn next(&mut self, _alloc: Global, file: File, into: &mut [u8]) -> Result<usize, FolderFault>
         requires { 0 < length into.old }
         ensures takes { Takes (memory_outside self.old) (memory_outside self.new) file into.new result }
-        ensures calls { memory_calls self.new ≡ record (memory_calls self.old) { next_calls = next_call (memory_calls self.old) } }
-        ensures fails { MatchBool (next_fails (memory_calls self.old)) (result ≡ Err Failed) (IsOk result) }
+        ensures calls { self.new.calls ≡ record self.old.calls { next_calls = next_call self.old.calls } }
+        ensures fails { MatchBool (next_fails self.old.calls) (result ≡ Err Failed) (IsOk result) }
         ensures counted { CountsFailure ((memory_outside self.old).next_faults file) ((memory_outside self.new).next_faults file) result }
     {
         self.next_calls = self.next_calls.saturating_add(1);
@@ -120,8 +139,8 @@ impl Folder for MemFolder {
     fn put(&mut self, _alloc: Global, file: File, piece: &[u8]) -> Result<usize, FolderFault>
         requires { 0 < length piece.now }
         ensures puts { Puts (memory_outside self.old) (memory_outside self.new) file piece.now result }
-        ensures calls { memory_calls self.new ≡ record (memory_calls self.old) { put_calls = put_call (memory_calls self.old) } }
-        ensures fails { MatchBool (put_fails (memory_calls self.old)) (result ≡ Err Failed) (IsOkUnless result Memory) }
+        ensures calls { self.new.calls ≡ record self.old.calls { put_calls = put_call self.old.calls } }
+        ensures fails { MatchBool (put_fails self.old.calls) (result ≡ Err Failed) (IsOkUnless result Memory) }
         ensures nothing { OnErr result ((memory_outside self.new).written file ≡ (memory_outside self.old).written file) }
         ensures counted { CountsFailure ((memory_outside self.old).put_faults file) ((memory_outside self.new).put_faults file) result }
     {

@@ -1,6 +1,10 @@
-use Rattle.desk_folder.proofs.HostLemmas.{Takes-ok}
+use Rattle.desk_folder.proofs.HostLemmas.{Takes-untold}
 use Rattle.desk_folder.proofs.host.HostFolderFolder.next.Goals as goal
 
-pub returns-in-Ok : goal.returns-in-Ok
-returns-in-Ok g c =
-    let h = c.args.self.now in Takes-ok h.place_faults h.next_faults h.put_faults c.args.file c.read_some.new.into c.in-Ok.count c.in-Ok.ensures
+pub returns : goal.returns
+returns g c =
+    let h = c.self.inside in
+    let call = c.read_some-answer in
+    let faults = c.counted.ensures in
+    rw (← c.self.view_is, faults.same)
+    (Takes-untold h.place_faults h.next_faults c.counted.new.counts h.put_faults c.args.file call.new.into call.result call.ensures faults.counts faults.others)

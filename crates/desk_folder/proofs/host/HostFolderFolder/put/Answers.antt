@@ -1,7 +1,10 @@
-use Rattle.desk_folder.proofs.HostLemmas.{Puts-ok}
+use Rattle.desk_folder.proofs.HostLemmas.{Puts-untold}
 use Rattle.desk_folder.proofs.host.HostFolderFolder.put.Goals as goal
 
-pub returns-in-Ok : goal.returns-in-Ok
-returns-in-Ok g c =
-    let h = c.args.self.now in
-    Puts-ok h.place_faults h.next_faults h.put_faults c.args.file c.args.piece.now c.in-Ok.count c.in-Ok.ensures.some c.in-Ok.ensures.within
+pub returns : goal.returns
+returns g c =
+    let h = c.self.inside in
+    let call = c.write_some-answer in
+    let faults = c.counted.ensures in
+    rw (← c.self.view_is, faults.same)
+    (Puts-untold h.place_faults h.next_faults h.put_faults c.counted.new.counts c.args.file c.args.piece.now call.result call.ensures faults.counts faults.others)
