@@ -1,0 +1,13 @@
+//! The early form of the desk's input files: flights, rotations, aircraft and proposed moves.
+//!
+//! Bytes are lines, each ended by LF, the last one too. The fields of a line are separated by
+//! exactly one space, and no line is empty. The first line that is not in the form is refused, by
+//! its number from 1; nothing behind it is looked at.
+#![tactic(auto)]
+
+mod fault;
+mod rows;
+
+pub use desk_units::{List, Minute, Name, NoMem, Price, Seats};
+pub use fault::FormFault;
+pub use rows::{AircraftRow, FlightRow, JournalRow, NamedRow, RotationRow};
