@@ -5,7 +5,10 @@
 //! its number from 1; nothing behind it is looked at.
 #![tactic(auto)]
 
+mod days;
 mod fault;
+mod fields;
+mod names;
 mod rows;
 
 pub use desk_units::{List, Minute, Name, NoMem, Price, Seats};
