@@ -1,3 +1,4 @@
 pub mod DayLemmas
 pub mod CutLemmas
 pub mod SeenLemmas
+pub mod RowLemmas

@@ -21,7 +21,8 @@ fn place_of(bytes: &[u8], at: u8) -> Option<usize>
 /// The bytes before the first `at`, and those behind it, or `None` where there is none.
 #[inline]
 pub(crate) fn cut(bytes: &[u8], at: u8) -> Option<(&[u8], &[u8])>
-    ensures { option_map (λ parts. (parts.0.now, parts.1.now)) result ≡ cut at bytes.now }
+    ensures exact { option_map (λ parts. (parts.0.now, parts.1.now)) result ≡ cut at bytes.now }
+    ensures size { IfSome result (λ parts. length parts.0.now + length parts.1.now + 1 ≡ length bytes.now) }
 {
     let place = place_of(bytes, at)?;
     let (front, back) = bytes.split_at(place);

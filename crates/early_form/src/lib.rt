@@ -10,6 +10,7 @@ mod fault;
 mod fields;
 mod names;
 mod rows;
+mod table;
 
 pub use desk_units::{List, Minute, Name, NoMem, Price, Seats};
 pub use fault::FormFault;
