@@ -2,3 +2,4 @@ pub mod DayLemmas
 pub mod CutLemmas
 pub mod SeenLemmas
 pub mod RowLemmas
+pub mod FlightLemmas

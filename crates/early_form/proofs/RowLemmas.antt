@@ -5,7 +5,7 @@ use Rattle.std.specs.List.{slice_split}
 use Rattle.std.proofs.lemmas.Bool.{eqb-true}
 use Rattle.std.proofs.lemmas.List.{length-append}
 use Rattle.std.proofs.lemmas.List.Splits.{length-slice_split}
-use Rattle.early_form.specs.Fields.{cut}
+use Rattle.early_form.specs.Fields.{◌>>=◌, only_if, cut}
 use Rattle.early_form.specs.Rows.{rows_from, rows_of}
 use Rattle.early_form.proofs.CutLemmas.{split_cut, split_uncut}
 
@@ -49,3 +49,11 @@ begins row bytes = refl
 -- one more row takes less room than its line
 pub still_room : {Row : Type 0} (before : List Row) (x : Row) (text after rest bytes : List ℕ) → length text + length after + 1 ≡ length rest → length before + length rest ≤ length bytes → length (before ++ x ∷ []) + length after ≤ length bytes
 still_room before x text after rest bytes cut_off room = omega (arith, length-append before (x ∷ []))
+
+-- a row of a line, where it may follow
+pub follows : {Row : Type 0} (read : Option Row) (may : Row → Bool) (x : Row) → Some x ≡ read → may x ≡ true → Some x ≡ (read >>= λ r. only_if (may r) r)
+follows read may x e allowed = ap (λ b. only_if b x) (sym allowed) ∙ ap (λ o. o >>= λ r. only_if (may r) r) e
+
+-- and where it may not
+pub follows_not : {Row : Type 0} (read : Option Row) (may : Row → Bool) (x : Row) → Some x ≡ read → may x ≡ false → None ≡ (read >>= λ r. only_if (may r) r)
+follows_not read may x e denied = ap (λ b. only_if b x) (sym denied) ∙ ap (λ o. o >>= λ r. only_if (may r) r) e

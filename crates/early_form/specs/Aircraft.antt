@@ -1,5 +1,5 @@
 -- The file of aircraft.
-use Rattle.std.specs.Prelude.{ℕ, List, [], ◌∷◌, ◌++◌, length, Bool, not, Option, Result, bytes_eq, codes, nat_lt, nat_le, ◌&&◌}
+use Rattle.std.specs.Prelude.{ℕ, List, [], ◌∷◌, ◌++◌, length, map, Bool, not, Option, Result, bytes_eq, codes, nat_lt, nat_le, ◌&&◌}
 use Rattle.std.specs.List.{list_any}
 use Rattle.early_form.specs.declared.rows.FlightRow.{FlightRow}
 use Rattle.early_form.specs.declared.rows.AircraftRow.{AircraftRow}
@@ -23,7 +23,7 @@ aircraft_at line = do
 
 -- whether one of the rows is of this aircraft
 abbrev pub has_aircraft : List AircraftRow → List ℕ → Bool
-has_aircraft rows name = list_any (λ r. bytes_eq name r.name) rows
+has_aircraft rows name = list_any (bytes_eq name) (map (λ r. r.name) rows)
 
 -- a row of the file: at most 1,000, each of another aircraft, with at most 500 airports, those of the flights among them
 unfoldable pub aircraft_row : List FlightRow → List AircraftRow → List ℕ → Option AircraftRow

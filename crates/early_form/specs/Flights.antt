@@ -5,11 +5,7 @@ use Rattle.early_form.specs.declared.rows.FlightRow.{FlightRow}
 use Rattle.early_form.specs.declared.rows.AircraftRow.{AircraftRow}
 use Rattle.early_form.specs.Fields.{◌>>=◌, only_if, field, name_of, time_of}
 use Rattle.early_form.specs.Rows.{rows_of}
-
--- the different names, in order of first sight
-unfoldable pub first_seen : List (List ℕ) → List (List ℕ)
-first_seen [] = []
-first_seen (name ∷ names) = name ∷ filter (λ other. not (bytes_eq name other)) (first_seen names)
+use Rattle.early_form.specs.Seen.{first_seen}
 
 -- the airports: those of the flights, origin before destination, and then the origins of the aircraft
 unfoldable pub airports_of : List FlightRow → List AircraftRow → List (List ℕ)
@@ -27,13 +23,17 @@ flight_at line = do
 
 -- whether one of the rows is of this flight
 abbrev pub has_flight : List FlightRow → List ℕ → Bool
-has_flight rows flight = list_any (λ r. bytes_eq flight r.flight) rows
+has_flight rows flight = list_any (bytes_eq flight) (map (λ r. r.flight) rows)
 
--- a row of the file: at most 20,000, each of another flight, with at most 500 airports
+-- a flight may stand behind those before: at most 20,000 rows, each of another flight, with at most 500 airports
+abbrev pub flight_follows : List FlightRow → FlightRow → Bool
+flight_follows before row = (nat_lt (length before) 20000 && not (has_flight before row.flight)) && nat_le (length (airports_of (before ++ row ∷ []) [])) 500
+
+-- the row of a line behind those before
 unfoldable pub flight_row : List FlightRow → List ℕ → Option FlightRow
 flight_row before line = do
   row ← flight_at line
-  only_if ((nat_lt (length before) 20000 && not (has_flight before row.flight)) && nat_le (length (airports_of (before ++ row ∷ []) [])) 500) row
+  only_if (flight_follows before row) row
 
 -- the flights of the bytes, or the number of the first line that is refused
 abbrev pub flights_of : List ℕ → Result (List FlightRow) ℕ

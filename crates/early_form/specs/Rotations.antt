@@ -1,5 +1,5 @@
 -- The file of rotations.
-use Rattle.std.specs.Prelude.{ℕ, ◌+◌, ◌*◌, List, length, Bool, true, not, Option, Some, Result, option_map, find, bytes_eq, nat_lt, nat_le, ◌==◌, ◌&&◌}
+use Rattle.std.specs.Prelude.{ℕ, ◌+◌, ◌*◌, List, length, map, Bool, true, not, Option, Some, Result, option_map, find, bytes_eq, nat_lt, nat_le, ◌==◌, ◌&&◌}
 use Rattle.std.specs.List.{list_any}
 use Rattle.std.specs.Option.{option_map_or}
 use Rattle.early_form.specs.declared.rows.FlightRow.{FlightRow}
@@ -15,9 +15,13 @@ rotation_at line = do
   aircraft ← name_of day.1
   Some (record { flight = flight.0; day = day.0; aircraft = aircraft })
 
+-- whether a leg is of this flight and day
+abbrev pub is_leg : List ℕ → ℕ → List ℕ × ℕ → Bool
+is_leg flight day leg = bytes_eq flight leg.0 && (day == leg.1)
+
 -- whether one of the rows is of this flight and day
 abbrev pub has_leg : List RotationRow → List ℕ → ℕ → Bool
-has_leg rows flight day = list_any (λ r. bytes_eq flight r.flight && (day == r.day)) rows
+has_leg rows flight day = list_any (is_leg flight day) (map (λ r. (r.flight, r.day)) rows)
 
 -- the minute of the day at which a flight departs, where it is one of these
 unfoldable pub departure_of : List FlightRow → List ℕ → Option ℕ

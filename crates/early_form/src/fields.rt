@@ -9,7 +9,7 @@ ghost use Rattle.early_form.specs.Days.{day_of};
 ghost use Rattle.early_form.specs.Facts.{IsPlainName};
 
 use crate::days::day_of;
-use desk_units::{Price, Seats};
+use desk_units::{Name, Price, Seats};
 
 /// The place of the first `at`.
 fn place_of(bytes: &[u8], at: u8) -> Option<usize>
@@ -239,4 +239,12 @@ pub(crate) fn time_field(bytes: &[u8]) -> Option<(u32, &[u8])>
 {
     let (text, rest) = cut(bytes, b' ')?;
     Some((time(text)?, rest))
+}
+
+/// The name of a text that is one.
+pub(crate) fn name_of(text: &[u8]) -> Name
+    requires { IsPlainName text.now }
+    ensures { result ≡ text.now }
+{
+    Name::of(text).unwrap()
 }

@@ -8,10 +8,12 @@
 mod days;
 mod fault;
 mod fields;
+mod flights;
 mod names;
 mod rows;
 mod table;
 
 pub use desk_units::{List, Minute, Name, NoMem, Price, Seats};
 pub use fault::FormFault;
+pub use flights::read_flights;
 pub use rows::{AircraftRow, FlightRow, JournalRow, NamedRow, RotationRow};
