@@ -3,3 +3,4 @@ pub mod CutLemmas
 pub mod SeenLemmas
 pub mod RowLemmas
 pub mod FlightLemmas
+pub mod RotationLemmas

@@ -11,10 +11,14 @@ use Rattle.early_form.specs.Seen.{with_name, first_seen}
 abbrev pub names_of : List (Bor (List ℕ)) → List (List ℕ)
 names_of keys = map (λ k. k.now) keys
 
+-- what a test finds, it finds of what the elements are seen as
+pub any_map : {A B : Type 0} (seen : A → B) (test : B → Bool) (xs : List A) → list_any (λ x. test (seen x)) xs ≡ list_any test (map seen xs)
+any_map seen test [] = refl
+any_map seen test (x ∷ xs) = ap (λ b. test (seen x) || b) (any_map seen test xs)
+
 -- whether a name is there
 pub any_now : (name : List ℕ) (keys : List (Bor (List ℕ))) → list_any (λ k. bytes_eq name k.now) keys ≡ list_any (bytes_eq name) (names_of keys)
-any_now name [] = refl
-any_now name (k ∷ keys) = ap (λ b. bytes_eq name k.now || b) (any_now name keys)
+any_now name keys = any_map (λ k. k.now) (bytes_eq name) keys
 
 now_push : (keys : List (Bor (List ℕ))) (k : Bor (List ℕ)) → names_of (keys ++ k ∷ []) ≡ names_of keys ++ k.now ∷ []
 now_push [] k = refl
@@ -39,7 +43,7 @@ same_both_ways true y f g = sym (f refl)
 same_both_ways false true f g = g refl
 same_both_ways false false f g = refl
 
-bytes_eq-sym : (a b : List ℕ) → bytes_eq a b ≡ bytes_eq b a
+pub bytes_eq-sym : (a b : List ℕ) → bytes_eq a b ≡ bytes_eq b a
 bytes_eq-sym a b = same_both_ways _ _ (λ e. (bytes_eq-Decides b a).1 (sym ((bytes_eq-Decides a b).0 e))) (λ e. (bytes_eq-Decides a b).1 (sym ((bytes_eq-Decides b a).0 e)))
 
 filter_last : (p : List ℕ → Bool) (b : Bool) (names : List (List ℕ)) (name : List ℕ) → p name ≡ b → filter p (names ++ name ∷ []) ≡ cond b (filter p names ++ name ∷ []) (filter p names)

@@ -25,11 +25,15 @@ aircraft_at line = do
 abbrev pub has_aircraft : List AircraftRow → List ℕ → Bool
 has_aircraft rows name = list_any (bytes_eq name) (map (λ r. r.name) rows)
 
--- a row of the file: at most 1,000, each of another aircraft, with at most 500 airports, those of the flights among them
+-- an aircraft may stand behind those before: at most 1,000 rows, each of another aircraft, with at most 500 airports, those of the flights among them
+abbrev pub aircraft_follows : List FlightRow → List AircraftRow → AircraftRow → Bool
+aircraft_follows flights before row = (nat_lt (length before) 1000 && not (has_aircraft before row.name)) && nat_le (length (airports_of flights (before ++ row ∷ []))) 500
+
+-- the row of a line behind those before
 unfoldable pub aircraft_row : List FlightRow → List AircraftRow → List ℕ → Option AircraftRow
 aircraft_row flights before line = do
   row ← aircraft_at line
-  only_if ((nat_lt (length before) 1000 && not (has_aircraft before row.name)) && nat_le (length (airports_of flights (before ++ row ∷ []))) 500) row
+  only_if (aircraft_follows flights before row) row
 
 -- the aircraft of the bytes, or the number of the first line that is refused
 abbrev pub aircraft_of : List FlightRow → List ℕ → Result (List AircraftRow) ℕ

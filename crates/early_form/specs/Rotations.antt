@@ -31,11 +31,15 @@ departure_of flights flight = option_map (λ f. f.dep) (find (λ f. bytes_eq fli
 abbrev pub departs_in_time : List FlightRow → RotationRow → Bool
 departs_in_time flights row = option_map_or (λ dep. nat_le (1440 * row.day + dep) 52480000) (departure_of flights row.flight) true
 
--- a row of the file: at most 20,000, each of another flight or day
+-- a rotation may stand behind those before: at most 20,000 rows, each of another flight or day, none that departs too late
+abbrev pub rotation_follows : List FlightRow → List RotationRow → RotationRow → Bool
+rotation_follows flights before row = (nat_lt (length before) 20000 && not (has_leg before row.flight row.day)) && departs_in_time flights row
+
+-- the row of a line behind those before
 unfoldable pub rotation_row : List FlightRow → List RotationRow → List ℕ → Option RotationRow
 rotation_row flights before line = do
   row ← rotation_at line
-  only_if ((nat_lt (length before) 20000 && not (has_leg before row.flight row.day)) && departs_in_time flights row) row
+  only_if (rotation_follows flights before row) row
 
 -- the rotations of the bytes, or the number of the first line that is refused
 abbrev pub rotations_of : List FlightRow → List ℕ → Result (List RotationRow) ℕ

@@ -10,6 +10,7 @@ mod fault;
 mod fields;
 mod flights;
 mod names;
+mod rotations;
 mod rows;
 mod table;
 
