@@ -17,4 +17,5 @@ mod table;
 pub use desk_units::{List, Minute, Name, NoMem, Price, Seats};
 pub use fault::FormFault;
 pub use flights::read_flights;
+pub use rotations::read_rotations;
 pub use rows::{AircraftRow, FlightRow, JournalRow, NamedRow, RotationRow};

@@ -45,6 +45,7 @@ fn rotation_at(line: &[u8]) -> Option<Rotation<'_>>
 }
 
 /// The form of the file of rotations, over the departures of the flights.
+#[derive(Drop)]
 struct Rotations<'a> {
     flights: &'a [FlightRow],
     departures: IndexMap<&'a [u8], u32>,
@@ -62,4 +63,53 @@ impl Rotations<'_> {
             Some(dep) => 1440 * u64::from(row.day) + u64::from(dep) <= LATEST_DEPARTURE,
         }
     }
+}
+
+impl<'a> Table<'a, RotationRow, Legs<'a>> for Rotations<'a> {
+    ghost reads = { λ r. rotation_row r.flights.now };
+
+    ghost knows = { λ _ seen rows. seen ≡ map (λ x. (x.flight, x.day)) rows };
+
+    ghost holds = { λ r. AreRotations r.flights.now };
+
+    #[tactic(auto, unfolding(crate::specs::Rotations::rotation_row))]
+    fn next(
+        &self,
+        seen: &mut Legs<'a>,
+        before: &[RotationRow],
+        line: &'a [u8],
+    ) -> Result<Option<RotationRow>, NoMem> {
+        let Some(rotation) = rotation_at(line) else {
+            return Ok(None);
+        };
+        if before.len() >= MOST_ROTATIONS || !seen.insert(rotation.flight, rotation.row.day)? {
+            return Ok(None);
+        }
+        if !self.departs_in_time(rotation.flight, &rotation.row) {
+            return Ok(None);
+        }
+        Ok(Some(rotation.row))
+    }
+}
+
+/// The rotations of the bytes, in the order of their lines, or the first line that is refused.
+///
+/// A line is `FLIGHT DATE AIRCRAFT`. It is refused where it is not in this form, names a flight and
+/// day of a line before it, is past the 20,000th, or departs, where its flight is one of `flights`,
+/// later than at minute 52,480,000.
+pub fn read_rotations<'a>(
+    alloc: Global,
+    bytes: &'a [u8],
+    flights: &'a [FlightRow],
+) -> Result<Vec<RotationRow>, FormFault>
+    requires { length bytes.now < 2 ^ 32 }
+    ensures exact { Gives (λ v. v.items) result (rotations_of flights.now bytes.now) }
+    ensures rows { IfOk result (λ v. AreRotations flights.now v.items) }
+{
+    let departures = departures_of(alloc, flights)?;
+    let table = Rotations {
+        flights,
+        departures,
+    };
+    read_rows(alloc, &table, Legs::new(alloc), bytes)
 }
