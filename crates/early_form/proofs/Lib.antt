@@ -4,3 +4,4 @@ pub mod SeenLemmas
 pub mod RowLemmas
 pub mod FlightLemmas
 pub mod RotationLemmas
+pub mod AircraftLemmas

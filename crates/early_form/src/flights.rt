@@ -9,13 +9,11 @@ use crate::fault::FormFault;
 use crate::fields::{name_field, name_of, time_field};
 use crate::names::Names;
 use crate::rows::FlightRow;
-use crate::table::{Table, read_rows};
+use crate::table::{MOST_AIRPORTS, Table, read_rows};
 use desk_units::NoMem;
 use std::alloc::Global;
 
 const MOST_FLIGHTS: usize = 20_000;
-
-pub(crate) const MOST_AIRPORTS: usize = 500;
 
 /// A row and the texts of its names.
 #[derive(Drop)]

@@ -8,6 +8,9 @@ use crate::fields::cut;
 use desk_units::NoMem;
 use std::alloc::Global;
 
+/// The most airports of a day.
+pub(crate) const MOST_AIRPORTS: usize = 500;
+
 /// How the lines of a file become rows. `Seen` is what is kept of the rows so far.
 pub(crate) trait Table<'a, Row, Seen> {
     ghost reads: { Self → List Row → List ℕ → Option Row };
