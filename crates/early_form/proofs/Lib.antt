@@ -1,0 +1,7 @@
+pub mod DayLemmas
+pub mod CutLemmas
+pub mod SeenLemmas
+pub mod RowLemmas
+pub mod FlightLemmas
+pub mod RotationLemmas
+pub mod AircraftLemmas
