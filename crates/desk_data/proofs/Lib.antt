@@ -1,2 +1,3 @@
+mod NameLemmas
 mod SaidLemmas
 mod ScheduleLemmas

@@ -1,14 +1,12 @@
 -- The schedule is a plan for its day.
-use Rattle.std.proofs.Common.{◌≡◌, ℕ, ◌<◌, ◌≤◌, List, [], ◌∷◌, map, length, refl, ap, ◌∙◌, sym, arith, get_or}
-use Rattle.std.specs.List.{All}
+use Rattle.std.proofs.Common.{ℕ, [], arith}
 use Rattle.std.proofs.lemmas.List.{length-map, get_or-map}
-use Rattle.std.proofs.lemmas.List.Elements.{All-map, All-weaker, All-cons, All-nil}
+use Rattle.std.proofs.lemmas.List.Elements.{All-map, All-cons, All-nil}
 use Rattle.desk_data.specs.declared.info.ResInfo.{ResInfo}
-use Rattle.desk_data.specs.declared.info.LegInfo.{LegInfo}
 use Rattle.desk_data.specs.declared.row.Group.{Group}
 use Rattle.desk_data.specs.PlanRows.{IsRow, IsGroup, AreGroups, IsSound}
-use Rattle.desk_data.specs.Situation.{Situation, legs_of, planes_of, reservations_of, res_at, no_res, scheduled_row, groups_of, schedule}
-use Rattle.desk_data.specs.Valid.{IsValid, IsLeg, IsReservation, IsPathOf, IsRowOf, AreGroupsOf, IsPlanFor}
+use Rattle.desk_data.specs.Situation.{Situation, legs_of, planes_of, res_at, no_res, scheduled_row, groups_of, schedule}
+use Rattle.desk_data.specs.Valid.{IsValid, IsReservation, IsPathOf, IsRowOf, AreGroupsOf, IsPlanFor}
 
 -- the groups of one reservation
 sound_groups : (legs : ℕ) (r : ResInfo) → IsReservation legs r → AreGroups (groups_of r)

@@ -1,5 +1,5 @@
 -- Moves that an instance can be asked about.
-use Rattle.std.specs.Prelude.{ℕ, ◌<◌, ◌≤◌, length, All}
+use Rattle.std.specs.Prelude.{◌<◌, ◌≤◌, length, All}
 use Rattle.desk_data.specs.declared.moves.Step.{Step}
 use Rattle.desk_data.specs.declared.moves.Step.TheVariants.{Set}
 use Rattle.desk_data.specs.declared.moves.Move.{Move}

@@ -1,8 +1,7 @@
 -- A day as it is disrupted: the joined rows and the orders taken so far. Every word on it is total:
 -- what is out of range is a row of nothing.
-use Rattle.std.specs.Prelude.{ℕ, ◌+◌, Bool, true, false, ◌||◌, nat_lt, ◌==◌, if◌then◌else◌, List, [], ◌∷◌, Option, Some, None, length, map, slice_index_or, unwrap_or, is_none}
+use Rattle.std.specs.Prelude.{ℕ, ◌+◌, Bool, false, ◌||◌, nat_lt, ◌==◌, if◌then◌else◌, List, [], ◌∷◌, Option, Some, None, length, map, slice_index_or, unwrap_or, is_none}
 use Rattle.std.specs.Option.{option_or}
-use Rattle.desk_units.specs.declared.numbers.Leg.{Leg}
 use Rattle.desk_units.specs.declared.numbers.Haul.TheVariants.{D}
 use Rattle.desk_data.specs.declared.info.LegInfo.{LegInfo}
 use Rattle.desk_data.specs.declared.info.PlaneInfo.{PlaneInfo}

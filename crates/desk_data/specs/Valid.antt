@@ -1,5 +1,5 @@
 -- Which rows make an instance, and which plans are plans for it.
-use Rattle.std.specs.Prelude.{◌≡◌, ◌≢◌, ℕ, ◌<◌, ◌≤◌, List, length, All, map, sum_by, Option}
+use Rattle.std.specs.Prelude.{◌≡◌, ◌≢◌, ℕ, ◌<◌, ◌≤◌, List, length, All, sum_by}
 use Rattle.std.specs.List.{AllPairs}
 use Rattle.std.specs.Option.{ForSome}
 use Rattle.desk_units.specs.declared.numbers.Leg.{Leg}
@@ -19,7 +19,7 @@ use Rattle.desk_data.specs.declared.row.Row.{Row}
 use Rattle.desk_data.specs.declared.row.Row.TheVariants.{Flown, Cancelled}
 use Rattle.desk_data.specs.declared.row.Group.{Group}
 use Rattle.desk_data.specs.PlanRows.{PlanRows, IsSound, groups_at}
-use Rattle.desk_data.specs.Situation.{Situation, legs_of, planes_of, airports_of, reservations_of, res_at}
+use Rattle.desk_data.specs.Situation.{Situation, legs_of, planes_of, reservations_of, res_at}
 
 -- the bytes of a name can be seen: from ! to ~
 abbrev pub IsSeen : List ℕ → Type 0

@@ -35,7 +35,7 @@ impl Model for Instance {
 }
 
 impl Instance {
-    /// The instance of these rows, with no orders.
+    /// The instance of these rows, with no orders. `Parts::are_valid` tests its condition.
     pub fn of(alloc: Global, parts: Parts) -> Result<Instance, NoMem>
         requires { AreParts parts }
         ensures { IfOk result (λ inst. inst ≡ record { parts = parts; orders = [] }) }

@@ -10,6 +10,9 @@ mod parts;
 mod path;
 mod plan;
 mod row;
+#[cfg(test)]
+mod tests;
+mod validity;
 
 pub use broken::Broken;
 pub use desk_units::{

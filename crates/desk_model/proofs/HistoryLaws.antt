@@ -191,22 +191,43 @@ legal-append S h entry legal stands i e at =
 pub legal-nil : (S : State) → IsLegal S []
 legal-nil S i entry at = absurd cc
 
-entries_legal : (S : State) (h : List Entry) (events : List (ℕ × Event)) → IsLegal S h → AllByRecursion (λ asked. IsAskable S.inst asked.1) events → IsLegal S (h ++ entries (length h) (state S h) events)
+-- ---- runs
+
+-- a history with the entry of one more event, where there is room for it
+abbrev pub with_event : State → List Entry → ℕ × Event → List Entry
+with_event S h e = cond (has_room (length h) e.1) (h ++ entry_of (state S h) e.0 e.1 ∷ []) h
+
+-- a history and the entries of the events behind it are those behind the history with the first event
+pub run-step : (S : State) (h : List Entry) (e : ℕ × Event) (events : List (ℕ × Event)) → h ++ entries (length h) (state S h) (e ∷ events) ≡ with_event S h e ++ entries (length (with_event S h e)) (state S (with_event S h e)) events
 unfolding entries
-entries_legal S h [] legal asked = subst (IsLegal S) (sym (append-nil h)) legal
-entries_legal S h (e ∷ events) legal asked =
+run-step S h e events =
     elim (cases_Bool (has_room (length h) e.1)) [
       | inl room ↦
           let entry : Entry = entry_of (state S h) e.0 e.1 in
-          let stands : Stands S h entry = record { room = room; asked = subst (λ (I : Situation). IsAskable I e.1) (sym (state-inst S h)) asked.0; told = refl } in
-          let more = entries_legal S (h ++ entry ∷ []) events (legal-append S h entry legal stands) asked.1 in
           let len : length (h ++ entry ∷ []) ≡ length h + 1 = length-append h (entry ∷ []) in
           let here : state S (h ++ entry ∷ []) ≡ after (state S h) e.1 = state-append S h (entry ∷ []) in
-          let same : (h ++ entry ∷ []) ++ entries (length (h ++ entry ∷ [])) (state S (h ++ entry ∷ [])) events ≡ h ++ entries (length h) (state S h) (e ∷ events) =
-          rw (len, here, room) (append_assoc h (entry ∷ []) (entries (length h + 1) (after (state S h) e.1) events)) in
-          subst (IsLegal S) same more
-      | inr full ↦ subst (IsLegal S) (rw full refl) (entries_legal S h events legal asked.1)
+          rw (room, len, here) (sym (append_assoc h (entry ∷ []) (entries (length h + 1) (after (state S h) e.1) events)))
+      | inr full ↦ rw full refl
     ]
+
+-- no events, no entries
+pub run-nil : (S : State) (h : List Entry) → h ++ entries (length h) (state S h) [] ≡ h
+unfolding entries
+run-nil S h = append-nil h
+
+with_event-legal : (S : State) (h : List Entry) (e : ℕ × Event) → IsLegal S h → IsAskable S.inst e.1 → IsLegal S (with_event S h e)
+with_event-legal S h e legal asked =
+    elim (cases_Bool (has_room (length h) e.1)) [
+      | inl room ↦
+          let stands : Stands S h (entry_of (state S h) e.0 e.1) = record { room = room; asked = subst (λ (I : Situation). IsAskable I e.1) (sym (state-inst S h)) asked; told = refl } in
+          rw room (legal-append S h (entry_of (state S h) e.0 e.1) legal stands)
+      | inr full ↦ rw full legal
+    ]
+
+entries_legal : (S : State) (h : List Entry) (events : List (ℕ × Event)) → IsLegal S h → AllByRecursion (λ asked. IsAskable S.inst asked.1) events → IsLegal S (h ++ entries (length h) (state S h) events)
+entries_legal S h [] legal asked = subst (IsLegal S) (sym (run-nil S h)) legal
+entries_legal S h (e ∷ events) legal asked =
+    subst (IsLegal S) (sym (run-step S h e events)) (entries_legal S (with_event S h e) events (with_event-legal S h e legal asked.0) asked.1)
 
 -- the history of events that can be asked is legal
 pub run-legal : (S : State) (events : List (ℕ × Event)) → AreAskable S.inst events → IsLegal S (run S events)

@@ -2,7 +2,7 @@ use Rattle.std.proofs.Common.{arith, rules}
 use Rattle.std.specs.Arc.{arc_value}
 use Rattle.std.proofs.lemmas.Grind.{common_steps}
 use Rattle.std.proofs.lemmas.List.{take_all}
-use Rattle.desk_data.specs.Situation.{last_said, delay_of}
+use Rattle.desk_data.specs.Situation.{last_said}
 use Rattle.desk_data.proofs.SaidLemmas.{last_said-push, delay_of-last_said}
 use Rattle.desk_data.proofs.instance.Instance.last_said.Goals as goal
 

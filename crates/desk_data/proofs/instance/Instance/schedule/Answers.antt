@@ -1,6 +1,4 @@
-use Rattle.std.proofs.Common.{rules, sym, subst}
 use Rattle.desk_data.specs.Situation.{schedule}
-use Rattle.desk_data.specs.Valid.{IsPlanFor}
 use Rattle.desk_data.proofs.ScheduleLemmas.{sound_schedule, plan_for_schedule}
 use Rattle.desk_data.proofs.instance.Instance.schedule.Goals as goal
 

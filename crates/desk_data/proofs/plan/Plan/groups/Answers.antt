@@ -1,6 +1,5 @@
-use Rattle.std.proofs.Common.{◌≡◌, ◌<◌, length, get_or, sym, subst, [], map, arith}
+use Rattle.std.proofs.Common.{◌<◌, length, subst, [], arith}
 use Rattle.std.proofs.lemmas.List.{length-map, get_or-map}
-use Rattle.desk_data.specs.declared.row.Group.{Group}
 use Rattle.desk_data.specs.PlanRows.{AreGroups}
 use Rattle.desk_data.proofs.plan.Plan.groups.Goals as goal
 

@@ -1,0 +1,60 @@
+-- What a folder in memory tells of itself.
+use Rattle.std.specs.Prelude.{◌≡◌, ℕ, ◌+◌, ◌-◌, ◌^◌, ◌==◌, min, Bool, List, [], Some, drop, slice_index}
+use Rattle.std.specs.List.{list_any}
+use Rattle.std.specs.declared.alloc.Global.{Global}
+use Rattle.std.specs.declared.vec.Vec.{Vec}
+use Rattle.std.specs.String.{string_bytes}
+use Rattle.desk_folder.specs.Entries.{entry_of, text_at}
+use Rattle.desk_folder.specs.Files.{file_number}
+use Rattle.desk_folder.specs.Outside.{Outside}
+use Rattle.desk_folder.specs.declared.files.File.{File}
+use Rattle.desk_folder.specs.declared.memory.MemFolder.{MemFolder}
+
+-- a folder in memory tells all
+abbrev pub memory_outside : MemFolder → Outside
+memory_outside m = record {
+  directories = Some (record { input = string_bytes m.input; output = string_bytes m.output });
+  left = λ file. Some (drop (slice_index m.taken (file_number file)) (entry_of file m.inputs.items));
+  written = λ file. Some (text_at m.outputs (file_number file));
+  place_faults = 0;
+  next_faults = λ file. slice_index m.next_faults (file_number file);
+  put_faults = λ file. slice_index m.put_faults (file_number file);
+}
+
+-- how many calls of `next` and `put` were made, and the numbers of those that fail
+pub record CallPlan : Type 0 where
+  pub next_calls : ℕ
+  pub put_calls : ℕ
+  pub fail_next : List ℕ
+  pub fail_put : List ℕ
+
+-- the numbers of the next calls, counted from 1
+abbrev pub next_call : CallPlan → ℕ
+next_call p = min (p.next_calls + 1) (2 ^ 64 - 1)
+
+abbrev pub put_call : CallPlan → ℕ
+put_call p = min (p.put_calls + 1) (2 ^ 64 - 1)
+
+-- the next call is one of those that fail
+abbrev pub next_fails : CallPlan → Bool
+next_fails p = list_any (λ n. n == next_call p) p.fail_next
+
+abbrev pub put_fails : CallPlan → Bool
+put_fails p = list_any (λ n. n == put_call p) p.fail_put
+
+abbrev pub memory_calls : MemFolder → CallPlan
+memory_calls m = record {
+  next_calls = m.next_calls;
+  put_calls = m.put_calls;
+  fail_next = m.fail_next.items;
+  fail_put = m.fail_put.items;
+}
+
+-- nothing is read, nothing is written, no directory is named and no call has failed
+pub record IsNew (inputs : List (File × Vec ℕ Global)) (now : Outside) : Type 0 where
+  pub directories : now.directories ≡ Some (record { input = []; output = [] })
+  pub left : (file : File) → now.left file ≡ Some (entry_of file inputs)
+  pub written : (file : File) → now.written file ≡ Some []
+  pub place_faults : now.place_faults ≡ 0
+  pub next_faults : (file : File) → now.next_faults file ≡ 0
+  pub put_faults : (file : File) → now.put_faults file ≡ 0

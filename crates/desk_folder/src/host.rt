@@ -1,0 +1,151 @@
+//! The host's own folder and standard output. They tell no bytes: what the host does with a call is
+//! trusted, and the contracts speak of counts alone.
+ghost use Rattle.std.specs.Prelude.{◌≡◌, if◌then◌else◌};
+ghost use Rattle.desk_folder.specs.Files.{is_solution};
+
+use crate::entries::raise;
+use crate::host_files::{read_some, write_some};
+use crate::{File, Folder, FolderFault, Sink};
+use std::alloc::Global;
+use std::io::Print;
+use std::rt::Files;
+
+/// Two directories of the host. Each file is opened at the first call that reads or writes it, and stays
+/// open. A missing `feed.csv` or `journal.csv` reads as empty. The first `put` after `place` makes the
+/// output directory where it is missing, and empties what an earlier run wrote there.
+#[derive(Drop)]
+pub struct HostFolder<R: Files + Drop> {
+    rt: R,
+    input: String,
+    output: String,
+    sources: [Option<R::File>; 16],
+    targets: [Option<R::File>; 16],
+    is_emptied: bool,
+    place_faults: u64,
+    next_faults: [u64; 16],
+    put_faults: [u64; 16],
+}
+
+impl<R: Files + Drop> HostFolder<R> {
+    ghost use Rattle.desk_folder.specs.Host.{TellsNoBytes};
+
+    /// A folder over the host's files, with no directory named.
+    pub fn new(rt: R, alloc: Global) -> HostFolder<R>
+        ensures { TellsNoBytes (⟦<HostFolder<R> as Folder>⟧.outside result) }
+    {
+        HostFolder {
+            rt,
+            input: String::new(alloc),
+            output: String::new(alloc),
+            sources: closed(),
+            targets: closed(),
+            is_emptied: false,
+            place_faults: 0,
+            next_faults: [0; 16],
+            put_faults: [0; 16],
+        }
+    }
+}
+
+// No file is open.
+fn closed<F: Drop>() -> [Option<F>; 16] {
+    [
+        None, None, None, None, None, None, None, None, None, None, None, None, None, None, None,
+        None,
+    ]
+}
+
+// The directory that a file is read from.
+fn source_directory<'a>(input: &'a str, output: &'a str, file: File) -> &'a str
+    ensures { result.now ≡ (if is_solution file then output.now else input.now) }
+{
+    if file.is_solution() { output } else { input }
+}
+
+impl<R: Files + Drop> Folder for HostFolder<R> {
+    ghost use Rattle.desk_folder.specs.Host.{counts_alone};
+
+    ghost outside = { λ h. counts_alone h.place_faults h.next_faults h.put_faults };
+
+    fn place(&mut self, alloc: Global, input: &str, output: &str) -> Result<(), FolderFault> {
+        let input = String::from_str(alloc, input)?;
+        let Ok(output) = String::from_str(alloc, output) else {
+            return Err(FolderFault::Memory);
+        };
+        self.input = input;
+        self.output = output;
+        self.sources = closed();
+        self.targets = closed();
+        self.is_emptied = false;
+        Ok(())
+    }
+
+    fn next(&mut self, alloc: Global, file: File, into: &mut [u8]) -> Result<usize, FolderFault> {
+        let source = &mut self.sources[file.number()];
+        let (input, output) = (self.input.as_str(), self.output.as_str());
+        let directory = source_directory(input, output, file);
+        match read_some(&self.rt, alloc, source, directory, file, into) {
+            Ok(count) => Ok(count),
+            Err(FolderFault::Failed) => {
+                raise(&mut self.next_faults, file);
+                Err(FolderFault::Failed)
+            }
+            Err(FolderFault::Memory) => Err(FolderFault::Memory),
+        }
+    }
+
+    fn put(&mut self, alloc: Global, file: File, piece: &[u8]) -> Result<usize, FolderFault> {
+        let target = &mut self.targets[file.number()];
+        let directory = self.output.as_str();
+        match write_some(
+            &self.rt,
+            alloc,
+            target,
+            &mut self.is_emptied,
+            directory,
+            file,
+            piece,
+        ) {
+            Ok(count) => Ok(count),
+            Err(FolderFault::Failed) => {
+                raise(&mut self.put_faults, file);
+                Err(FolderFault::Failed)
+            }
+            Err(FolderFault::Memory) => Err(FolderFault::Memory),
+        }
+    }
+}
+
+/// The host's standard output.
+#[derive(Drop)]
+pub struct HostSink<P: Print + Drop> {
+    rt: P,
+    faults: u64,
+}
+
+impl<P: Print + Drop> HostSink<P> {
+    ghost use Rattle.std.specs.Prelude.{◌≡◌, None};
+
+    /// A sink that prints.
+    pub fn new(rt: P) -> HostSink<P>
+        ensures { ⟦<HostSink<P> as Sink>⟧.report result ≡ record { written = None; faults = 0 } }
+    {
+        HostSink { rt, faults: 0 }
+    }
+}
+
+impl<P: Print + Drop> Sink for HostSink<P> {
+    ghost use Rattle.std.specs.Prelude.{None};
+
+    ghost report = { λ s. record { written = None; faults = s.faults } };
+
+    fn put(&mut self, _alloc: Global, piece: &[u8]) -> Result<usize, FolderFault> {
+        match self.rt.write_some(piece) {
+            Ok(count) if count > 0 => Ok(count),
+            _ => {
+                self.faults = self.faults.saturating_add(1);
+                Err(FolderFault::Failed)
+            }
+        }
+    }
+}

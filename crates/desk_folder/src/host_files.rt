@@ -1,0 +1,99 @@
+//! Single reads and writes of the host's files.
+ghost use Rattle.std.specs.Prelude.{◌≡◌, ◌<◌, ◌≤◌, IfOk, length};
+ghost use Rattle.std.specs.Io.{ReadsAtMost};
+
+use crate::{File, FolderFault};
+use std::alloc::{AllocError, Global};
+use std::fs;
+use std::fs::OpenOptions;
+use std::io::{ErrorKind, Read, Write};
+use std::rt::Files;
+
+// The path of a file in a directory.
+fn path_of(alloc: Global, directory: &str, file: File) -> Result<String, AllocError> {
+    let mut path = String::from_str(alloc, directory)?;
+    if !directory.is_empty() {
+        path.push('/')?;
+    }
+    path.push_str(file.name())?;
+    Ok(path)
+}
+
+/// Reads some bytes of a file in a directory, and opens it before where it isn't open yet.
+pub(crate) fn read_some<R: Files>(
+    rt: &R,
+    alloc: Global,
+    source: &mut Option<R::File>,
+    directory: &str,
+    file: File,
+    into: &mut [u8],
+) -> Result<usize, FolderFault>
+    ensures { ReadsAtMost result into.new }
+{
+    if source.is_none() {
+        let path = path_of(alloc, directory, file)?;
+        match fs::open(rt, path.as_str()) {
+            Ok(opened) => *source = Some(opened),
+            Err(error) if error.kind() == ErrorKind::NotFound && file.may_be_missing() => {
+                return Ok(0);
+            }
+            Err(_) => return Err(FolderFault::Failed),
+        }
+    }
+    match source {
+        Some(opened) => opened.read(into).map_err(|_| FolderFault::Failed),
+        None => Err(FolderFault::Failed),
+    }
+}
+
+// Makes an output directory where it is missing, and empties the output files of an earlier run in it.
+fn empty_outputs<R: Files>(rt: &R, alloc: Global, directory: &str) -> Result<(), FolderFault> {
+    if !directory.is_empty() && fs::create_dir_all(rt, directory).is_err() {
+        return Err(FolderFault::Failed);
+    }
+    for file in [File::Journal, File::SolRotations, File::SolItineraries] {
+        let path = path_of(alloc, directory, file)?;
+        let mut options = OpenOptions::new();
+        options.write(true).truncate(true);
+        match options.open(rt, path.as_str()) {
+            Ok(_) => {}
+            Err(error) if error.kind() == ErrorKind::NotFound => {}
+            Err(_) => return Err(FolderFault::Failed),
+        }
+    }
+    Ok(())
+}
+
+/// Writes at least one byte of a piece at the end of a file in an output directory. The first write in a
+/// directory empties the output files of an earlier run, and the first of a file creates it.
+pub(crate) fn write_some<R: Files>(
+    rt: &R,
+    alloc: Global,
+    target: &mut Option<R::File>,
+    is_emptied: &mut bool,
+    directory: &str,
+    file: File,
+    piece: &[u8],
+) -> Result<usize, FolderFault>
+    ensures some { IfOk result (λ count. 0 < count) }
+    ensures within { IfOk result (λ count. count ≤ length piece.now) }
+{
+    if !*is_emptied {
+        empty_outputs(rt, alloc, directory)?;
+        *is_emptied = true;
+    }
+    if target.is_none() {
+        let path = path_of(alloc, directory, file)?;
+        match fs::create(rt, path.as_str()) {
+            Ok(created) => *target = Some(created),
+            Err(_) => return Err(FolderFault::Failed),
+        }
+    }
+    let Some(created) = target else {
+        return Err(FolderFault::Failed);
+    };
+    match created.write(piece) {
+        Ok(count) if count > 0 => Ok(count),
+        _ => Err(FolderFault::Failed),
+    }
+}

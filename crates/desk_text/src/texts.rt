@@ -1,0 +1,210 @@
+//! What days, moments and numbers are written as.
+
+ghost use Rattle.std.specs.Prelude.{◌≡◌, ℕ, ◌+◌, ◌*◌, ◌<◌, ◌≤◌, ◌++◌, length, sum, take, slice_index, decimal, OnOk, OnErr, Some};
+ghost use Rattle.std.specs.List.{flat_map};
+ghost use Rattle.desk_text.specs.Days.{day_of, days_before};
+ghost use Rattle.desk_text.specs.Texts.{year_of, day_in_year, months_passed, month_of, day_in_month, two_digits, date_text, time_text, moment_text};
+
+use crate::days::{days_before, month_lengths};
+use desk_units::{Minute, NoMem};
+use itoa::Buffer;
+
+/// The parts of a date: the day of the month and the month, both from 1, and the year from 2000.
+#[derive(Clone, Copy)]
+struct Date {
+    day: u32,
+    month: u32,
+    year: u32,
+}
+
+/// The year of a day, counted from 2000. Four years, the first of them a leap year, have 1,461 days.
+fn year_of(day: u32) -> u32
+    requires { day < 36525 }
+    ensures exact { result ≡ year_of day }
+    ensures in_century { result < 100 }
+    ensures begun { days_before result ≤ day }
+    ensures not_over { day < days_before (result + 1) }
+{
+    4 * day / 1_461
+}
+
+/// How many of the months have passed on a day of their year, and how many days of the next one.
+fn split_by_months(day: u32, months: &[u32]) -> (u32, u32)
+    requires twelve { length months.now ≡ 12 }
+    requires in_year { day < sum months.now }
+    ensures month { result.0 < 12 }
+    ensures day { sum (take result.0 months.now) + result.1 ≡ day }
+    ensures within { result.1 < slice_index months.now result.0 }
+{
+    let mut passed = 0;
+    let mut left = day;
+    for length in months {
+        if left < *length {
+            break;
+        }
+        left -= *length;
+        passed += 1;
+    }
+    (passed, left)
+}
+
+/// The date of a day.
+fn date_of(day: u32) -> Date
+    requires { day < 36525 }
+    ensures day { result.day ≡ day_in_month day }
+    ensures day_fits { result.day ≤ 31 }
+    ensures month { result.month ≡ month_of day }
+    ensures month_fits { result.month ≤ 12 }
+    ensures year { result.year ≡ year_of day }
+    ensures year_fits { result.year < 100 }
+{
+    let year = year_of(day);
+    let months = month_lengths(year % 4 == 0);
+    let (passed, left) = split_by_months(day - days_before(year), &months);
+    Date {
+        day: left + 1,
+        month: passed + 1,
+        year,
+    }
+}
+
+/// A number below 100 in two digits.
+#[inline]
+pub fn two_digits(number: u32) -> [u8; 2]
+    requires { number < 100 }
+    ensures { result ≡ two_digits number }
+{
+    [b'0' + (number / 10) as u8, b'0' + (number % 10) as u8]
+}
+
+/// The text of a day, counted from 2000-01-01 and below 36,525: `dd/mm/yy`.
+#[tactic(auto, unfolding(crate::specs::Texts::date_text))]
+pub fn date_text(day: u32) -> [u8; 8]
+    requires { day < 36525 }
+    ensures { result ≡ date_text day }
+{
+    let date = date_of(day);
+    let day = two_digits(date.day);
+    let month = two_digits(date.month);
+    let year = two_digits(date.year);
+    [
+        day[0], day[1], b'/', month[0], month[1], b'/', year[0], year[1],
+    ]
+}
+
+/// The text of a minute of the day.
+#[tactic(auto, unfolding(crate::specs::Texts::time_text))]
+fn time_text(minute: u32) -> [u8; 5]
+    requires { minute < 1440 }
+    ensures { result ≡ time_text minute }
+{
+    let hour = two_digits(minute / 60);
+    let minute = two_digits(minute % 60);
+    [hour[0], hour[1], b':', minute[0], minute[1]]
+}
+
+/// The text of a moment below 52,596,000: `dd/mm/yy HH:MM`.
+#[tactic(auto, unfolding(crate::specs::Texts::date_text, crate::specs::Texts::time_text))]
+pub fn moment_text(at: Minute) -> [u8; 14]
+    requires { at.0 < 52596000 }
+    ensures { result ≡ moment_text at.0 }
+{
+    let mut text = [b' '; 14];
+    text[..8].copy_from_slice(&date_text(at.0 / 1_440));
+    text[9..].copy_from_slice(&time_text(at.0 % 1_440));
+    text
+}
+
+/// Adds a day, counted from 2000-01-01 and below 36,525, as `dd/mm/yy`. After want of memory the
+/// text is as before.
+pub fn push_date(out: &mut Vec<u8>, day: u32) -> Result<(), NoMem>
+    requires { day < 36525 }
+    ensures ok { OnOk result (out.new.items ≡ out.old.items ++ date_text day) }
+    ensures err { OnErr result (out.new.items ≡ out.old.items) }
+{
+    out.extend_from_slice(&date_text(day))?;
+    Ok(())
+}
+
+/// Adds a moment below 52,596,000 as `dd/mm/yy HH:MM`. After want of memory the text is as before.
+pub fn push_moment(out: &mut Vec<u8>, at: Minute) -> Result<(), NoMem>
+    requires { at.0 < 52596000 }
+    ensures ok { OnOk result (out.new.items ≡ out.old.items ++ moment_text at.0) }
+    ensures err { OnErr result (out.new.items ≡ out.old.items) }
+{
+    out.extend_from_slice(&moment_text(at))?;
+    Ok(())
+}
+
+/// Adds a number in decimal, without leading zeros. After want of memory the text is as before.
+pub fn push_number(out: &mut Vec<u8>, number: u128) -> Result<(), NoMem>
+    ensures ok { OnOk result (out.new.items ≡ out.old.items ++ decimal number) }
+    ensures err { OnErr result (out.new.items ≡ out.old.items) }
+{
+    let mut buffer = Buffer::new();
+    out.extend_from_slice(buffer.format(number).as_bytes())?;
+    Ok(())
+}
+
+/// Adds all parts, one behind the other. After want of memory the text is as before.
+pub fn push_all(out: &mut Vec<u8>, parts: &[&[u8]]) -> Result<(), NoMem>
+    ensures ok { OnOk result (out.new.items ≡ out.old.items ++ flat_map (λ part. part.now) parts.now) }
+    ensures err { OnErr result (out.new.items ≡ out.old.items) }
+{
+    let start = out.len();
+    for part in parts {
+        if out.extend_from_slice(part).is_err() {
+            out.truncate(start);
+            return Err(NoMem);
+        }
+    }
+    Ok(())
+}
+
+/// A written day reads back: the day of the month, the month and the year that are written are those
+/// of the day, and two digits are enough for each.
+pub fn written_days_read_back()
+    ensures day { (day : ℕ) → day < 36525 → day_of (day_in_month day) (month_of day) (year_of day) ≡ Some day }
+    ensures year { (day : ℕ) → day < 36525 → year_of day < 100 }
+{}
+
+#[cfg(test)]
+mod tests {
+    use super::*;
+    use std::alloc::Global;
+    use std::process::Abort;
+    use std::test::Fail;
+
+    fn expect_date(rt: &impl Abort, alloc: Global, day: u32, text: &[u8]) -> Result<(), Fail>
+        requires { day < 36525 }
+    {
+        let mut out = Vec::new(alloc);
+        push_date(&mut out, day)?;
+        assert_eq!(rt; out.as_slice(), text);
+        Ok(())
+    }
+
+    #[test]
+    fn dates(rt: HostRuntime) -> Result<(), Fail> {
+        let alloc = rt.alloc();
+        expect_date(&rt, alloc, 0, b"01/01/00")?;
+        expect_date(&rt, alloc, 59, b"29/02/00")?;
+        expect_date(&rt, alloc, 60, b"01/03/00")?;
+        expect_date(&rt, alloc, 365, b"31/12/00")?;
+        expect_date(&rt, alloc, 366, b"01/01/01")?;
+        expect_date(&rt, alloc, 2_982, b"01/03/08")?;
+        expect_date(&rt, alloc, 36_524, b"31/12/99")
+    }
+
+    #[test]
+    fn moments_and_numbers(rt: HostRuntime) -> Result<(), Fail> {
+        let mut out = Vec::new(rt.alloc());
+        push_moment(&mut out, Minute(4_294_080))?;
+        push_moment(&mut out, Minute(52_595_999))?;
+        push_number(&mut out, 0)?;
+        push_number(&mut out, 18_446_744_073_709_551_616)?;
+        let text = b"01/03/08 00:0031/12/99 23:59018446744073709551616";
+        assert_eq!(rt; out.as_slice(), text.as_slice());
+        Ok(())
+    }
+}
