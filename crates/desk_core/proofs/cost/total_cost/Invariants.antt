@@ -1,0 +1,9 @@
+use Rattle.std.proofs.Common.{◌≡◌}
+use Rattle.std.specs.Prelude.{sum_by}
+use Rattle.desk_model.specs.Numbers.{numbers}
+use Rattle.desk_model.specs.Cost.{operating}
+use Rattle.desk_core.proofs.cost.total_cost.Given as goal
+
+-- what the legs so far cost
+abbrev pub invariant-loop-x : goal.invariant-loop-x
+invariant-loop-x l = l.total.0 ≡ sum_by (operating l.inst l.plan) (numbers l.x)

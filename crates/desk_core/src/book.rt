@@ -1,0 +1,229 @@
+//! The book.
+
+ghost use Rattle.std.specs.Prelude.{◌≡◌, ◌≤◌, [], length, drop, IfOk, OnOk, OnErr};
+
+use crate::cost::total_cost;
+use crate::judged::Judged;
+use crate::least::least_broken;
+use crate::moved::{copied_move, moved_plan};
+use desk_data::{Broken, Grains, Instance, Move, NoMem, Plan};
+use desk_model::{Answer, Entry, Event};
+use std::alloc::Global;
+use std::marker::Model;
+
+/// A journal of fewer entries than this takes a proposal.
+const PROPOSAL_LIMIT: usize = 900_000;
+
+/// The desk's book: the state, and the journal of what was proposed and answered. Contracts see it
+/// as the instance that it was opened with and its journal: its state is that of its journal.
+#[derive(Debug, Drop)]
+pub struct Book {
+    inst: Instance,
+    plan: Plan,
+    /// The first item that the plan breaks: there is no plan to publish where there is one.
+    broken: Option<Broken>,
+    /// What the plan costs.
+    cost: Grains,
+    journal: Vec<Entry>,
+    /// How many entries of the journal changed the plan.
+    changes: u32,
+}
+
+impl Model for Book {
+    ghost use Rattle.desk_core.specs.Recorded.{Recorded};
+    ghost use Rattle.desk_core.specs.Kept.{IsKept};
+
+    ghost Value = { Recorded };
+
+    ghost view = { λ b. record { opening = b.inst; journal = b.journal.items } };
+
+    ghost invariant = { λ b. IsKept b.inst b.plan b.broken b.cost b.changes b.journal.items };
+}
+
+impl Book {
+    ghost use Rattle.desk_data.specs.Valid.{IsPlanFor};
+    ghost use Rattle.desk_data.specs.Fits.{Fits};
+    ghost use Rattle.desk_model.specs.declared.answer.Event.TheVariants as event;
+    ghost use Rattle.desk_model.specs.States.{opening, grains};
+    ghost use Rattle.desk_model.specs.Histories.{changes, IsLegal};
+    ghost use Rattle.desk_model.specs.Promises.{cost_of, KeepsPromises};
+    ghost use Rattle.desk_core.specs.Recorded.{Recorded, state_of, replied, recorded, accepted};
+    ghost use Rattle.desk_core.specs.Judged.{IsJudged};
+
+    /// The book of an instance that has no orders: its plan is the schedule, and nothing is
+    /// journalled yet.
+    pub fn open(alloc: Global, inst: Instance) -> Result<Book, NoMem>
+        requires { inst.orders ≡ [] }
+        ensures { IfOk result (λ book. book ≡ record { opening = inst; journal = [] }) }
+    {
+        let plan = inst.schedule(alloc)?;
+        let broken = least_broken(&inst, &plan);
+        let cost = total_cost(&inst, &plan);
+        Ok(Book {
+            inst,
+            plan,
+            broken,
+            cost,
+            journal: Vec::new(alloc),
+            changes: 0,
+        })
+    }
+
+    /// Proposes a move. Where the journal has 900,000 entries, the answer is `Full` and nothing
+    /// changes. Else the answer and the state after it are those of the move at the book's state,
+    /// and one entry is journalled. After `NoMem` the book is as before.
+    pub fn propose(&mut self, alloc: Global, caller: u32, m: &Move) -> Result<Answer, NoMem>
+        requires { Fits self.old.opening m.now }
+        ensures answer { IfOk result (λ told. told ≡ replied self.old (event.Move m.now)) }
+        ensures after { OnOk result (self.new ≡ recorded self.old caller (event.Move m.now)) }
+        ensures err { OnErr result (self.new ≡ self.old) }
+        ensures opening { self.new.opening ≡ self.old.opening }
+    {
+        if self.journal.len() >= PROPOSAL_LIMIT {
+            return Ok(Answer::Full {
+                entries: self.entries(),
+            });
+        }
+        self.journal.reserve(1)?;
+        let event = Event::Move(copied_move(alloc, m)?);
+        match self.judge(alloc, m)? {
+            Judged::Published { plan, cost } => {
+                let answer = Answer::Accepted { cost };
+                self.journal.push(Entry {
+                    caller,
+                    event,
+                    answer,
+                })?;
+                self.plan = plan;
+                self.cost = cost;
+                self.changes += 1;
+                Ok(answer)
+            }
+            Judged::Refused(answer) => {
+                self.journal.push(Entry {
+                    caller,
+                    event,
+                    answer,
+                })?;
+                Ok(answer)
+            }
+        }
+    }
+
+    /// What becomes of a move at the book's state.
+    fn judge(&self, alloc: Global, m: &Move) -> Result<Judged, NoMem>
+        requires { Fits self.now.opening m.now }
+        ensures { IfOk result (λ judged. IsJudged (state_of self.now) m.now judged) }
+    {
+        if let Some(item) = self.broken {
+            return Ok(Judged::Refused(Answer::NoPlan(item)));
+        }
+        let plan = moved_plan(alloc, &self.inst, &self.plan, m)?;
+        if let Some(item) = least_broken(&self.inst, &plan) {
+            return Ok(Judged::Refused(Answer::Breaks(item)));
+        }
+        let cost = total_cost(&self.inst, &plan);
+        if cost.0 >= self.cost.0 {
+            return Ok(Judged::Refused(Answer::Dearer {
+                now: self.cost,
+                would: cost,
+            }));
+        }
+        Ok(Judged::Published { plan, cost })
+    }
+
+    /// How many entries the journal has, at most 900,000.
+    pub fn entries(&self) -> u32
+        ensures count { result ≡ length self.now.journal }
+        ensures limit { result ≤ 900000 }
+    {
+        self.journal.len() as u32
+    }
+
+    /// How many entries changed the plan.
+    pub fn changes(&self) -> u32
+        ensures { result ≡ changes self.now.journal }
+    {
+        self.changes
+    }
+
+    /// How many proposals were accepted since the last batch. There are no batches, so each change
+    /// is one.
+    pub fn accepted(&self) -> u32
+        ensures { result ≡ accepted self.now.journal }
+    {
+        self.changes
+    }
+
+    /// The first item that the plan breaks. There is a plan to publish where there is none.
+    pub fn broken(&self) -> Option<Broken>
+        ensures { result ≡ (state_of self.now).broken }
+    {
+        self.broken
+    }
+
+    /// What the plan costs, also where there is none to publish.
+    pub fn cost(&self) -> Grains
+        ensures { result ≡ grains (cost_of (state_of self.now)) }
+    {
+        self.cost
+    }
+
+    /// The plan as it stands.
+    pub fn plan(&self) -> &Plan
+        ensures plan { result.now ≡ (state_of self.now).plan }
+        ensures valid { IsPlanFor (state_of self.now).inst result.now }
+    {
+        &self.plan
+    }
+
+    /// The instance as it is disrupted, which is the one that the book was opened with.
+    pub fn instance(&self) -> &Instance
+        ensures now { result.now ≡ (state_of self.now).inst }
+        ensures opening { result.now ≡ self.now.opening }
+    {
+        &self.inst
+    }
+
+    /// The journal: who proposed what, and what the answer was. Each answer is that of the state
+    /// before it, and so it keeps what is promised of every legal history.
+    pub fn journal(&self) -> &[Entry]
+        ensures entries { result.now ≡ self.now.journal }
+        ensures legal { IsLegal (opening self.now.opening) self.now.journal }
+        ensures promises { KeepsPromises self.now.opening self.now.journal }
+    {
+        self.journal.as_slice()
+    }
+
+    /// The entries from place `n` on, as copies.
+    pub fn since(&self, alloc: Global, n: u32) -> Result<Vec<Entry>, NoMem>
+        requires { n ≤ length self.now.journal }
+        ensures { IfOk result (λ later. later.items ≡ drop n self.now.journal) }
+    {
+        copied_entries(alloc, &self.journal[n as usize..])
+    }
+}
+
+/// Equal entries.
+fn copied_entries(alloc: Global, entries: &[Entry]) -> Result<Vec<Entry>, NoMem>
+    ensures { IfOk result (λ copies. copies.items ≡ entries.now) }
+{
+    let mut copies = Vec::with_capacity(alloc, entries.len())?;
+    for entry in entries {
+        copies.push(Entry {
+            caller: entry.caller,
+            event: copied_event(alloc, &entry.event)?,
+            answer: entry.answer,
+        })?;
+    }
+    Ok(copies)
+}
+
+/// An equal event.
+fn copied_event(alloc: Global, event: &Event) -> Result<Event, NoMem>
+    ensures { IfOk result (λ copy. copy ≡ event.now) }
+{
+    match event {
+        Event::Move(m) => Ok(Event::Move(copied_move(alloc, m)?)),
+    }
+}

@@ -1,0 +1,11 @@
+//! The book: the state of the desk, and the journal of what was proposed and answered.
+#![tactic(auto)]
+
+mod book;
+mod cost;
+mod judged;
+mod least;
+mod moved;
+
+pub use book::Book;
+pub use desk_model::{Answer, Broken, Entry, Event, Grains, Move};
