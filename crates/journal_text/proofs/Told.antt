@@ -1,0 +1,92 @@
+-- Each entry of a legal history can be told.
+use Rattle.std.proofs.Common.{◌≡◌, ℕ, zero, suc, ◌+◌, ◌<◌, ◌≤◌, Bool, true, false, cond, leb, List, [], ◌∷◌, ◌++◌, length, get_or, take, refl, sym, ap, subst, ◌∙◌, arith}
+use Rattle.std.specs.Prelude.{find, map, None, Some, Option, All, slice_get}
+use Rattle.std.specs.List.{AllByRecursion}
+use Rattle.std.proofs.lemmas.List.{map-append}
+use Rattle.std.proofs.lemmas.List.Elements.{All-from_get_or}
+use Rattle.std.proofs.lemmas.Option.{slice_get-get_or}
+use Rattle.desk_data.specs.declared.broken.Broken.{Broken}
+use Rattle.desk_data.specs.declared.broken.Broken.TheVariants.{C2, C5, C6}
+use Rattle.desk_data.specs.declared.moves.Move.{Move}
+use Rattle.desk_data.specs.Situation.{Situation, legs_of}
+use Rattle.desk_data.specs.PlanRows.{PlanRows}
+use Rattle.desk_model.specs.declared.answer.Answer.{Answer}
+use Rattle.desk_model.specs.declared.answer.Answer.TheVariants.{Dearer, Accepted}
+use Rattle.desk_model.specs.declared.answer.Event.{Event}
+use Rattle.desk_model.specs.declared.answer.Event.TheVariants as event
+use Rattle.desk_model.specs.declared.answer.Entry.{Entry}
+use Rattle.desk_model.specs.Numbers.{numbers}
+use Rattle.desk_model.specs.Rules.{breaks, items, least, leg}
+use Rattle.desk_model.specs.Cost.{cost}
+use Rattle.desk_model.specs.Steps.{moved}
+use Rattle.desk_model.specs.States.{State, opening, grains, judged, proposed, answer}
+use Rattle.desk_model.specs.Histories.{state, IsAskable, Stands, IsLegal}
+use Rattle.desk_model.proofs.StateLaws.{IsTold, opening-told}
+use Rattle.desk_model.proofs.HistoryLaws.{state-told, state-inst}
+use Rattle.journal_text.specs.Told.{Names, AnswerNames, CanBeTold}
+
+-- ---- the items of an instance
+
+all_joined : {X : Type 0} (P : X → Type 0) (xs ys : List X) → AllByRecursion P xs → AllByRecursion P ys → AllByRecursion P (xs ++ ys)
+all_joined P [] ys a b = b
+all_joined P (x ∷ xs) ys a b = (a.0, all_joined P xs ys a.1 b)
+
+all_of_numbers : {X : Type 0} (P : X → Type 0) (f : ℕ → X) (n : ℕ) → ((k : ℕ) → k < n → P (f k)) → AllByRecursion P (map f (numbers n))
+all_of_numbers P f zero h = tt
+all_of_numbers P f (suc n) h =
+    subst (AllByRecursion P) (sym (map-append f (numbers n) (n ∷ [])))
+    (all_joined P (map f (numbers n)) (f n ∷ []) (all_of_numbers P f n (λ k lt. h k (omega arith))) (h n (omega arith), tt))
+
+found_one : {X : Type 0} (P : X → Type 0) (p : X → Bool) (x y : X) (ys : List X) (b : Bool) → cond b (Some y) (find p ys) ≡ Some x → P y → (find p ys ≡ Some x → P x) → P x
+found_one P p x y ys true h here more = let same : y ≡ x = cc in subst P same here
+found_one P p x y ys false h here more = more h
+
+-- what is found is one of them
+found_among : {X : Type 0} (P : X → Type 0) (p : X → Bool) (xs : List X) (x : X) → AllByRecursion P xs → find p xs ≡ Some x → P x
+found_among P p [] x all h = absurd cc
+found_among P p (y ∷ ys) x all h = found_one P p x y ys (p y) h all.0 (found_among P p ys x all.1)
+
+items_name : (I : Situation) → AllByRecursion (Names I) (items I)
+unfolding items
+items_name I =
+    let n = legs_of I in
+    all_joined (Names I) (map (λ x. C2 (leg x)) (numbers n) ++ map (λ x. C5 (leg x)) (numbers n)) (map (λ x. C6 (leg x)) (numbers n))
+    (all_joined (Names I) (map (λ x. C2 (leg x)) (numbers n)) (map (λ x. C5 (leg x)) (numbers n))
+    (all_of_numbers (Names I) (λ x. C2 (leg x)) n (λ x lt. lt))
+    (all_of_numbers (Names I) (λ x. C5 (leg x)) n (λ x lt. lt)))
+    (all_of_numbers (Names I) (λ x. C6 (leg x)) n (λ x lt. lt))
+
+-- the first broken item names what there is
+pub least-names : (I : Situation) (P : PlanRows) (item : Broken) → least I P ≡ Some item → Names I item
+unfolding least
+least-names I P item h = found_among (Names I) (breaks I P) (items I) item (items_name I) h
+
+-- ---- answers
+
+judged_names : (I : Situation) (P : PlanRows) (b : Option Broken) (now would : ℕ) → least I P ≡ b → AnswerNames I (judged b now would)
+judged_names I P (Some item) now would is = least-names I P item is
+judged_names I P None now would is =
+    elim (leb now would) as (λ (dear : Bool). AnswerNames I (cond dear (Dearer (grains now) (grains would)) (Accepted (grains would)))) [ true ↦ tt | false ↦ tt ]
+
+proposed_names : (S : State) (m : Move) (b : Option Broken) → S.broken ≡ b → IsTold S → AnswerNames S.inst (proposed S m b)
+proposed_names S m (Some item) is told = least-names S.inst S.plan item (sym told ∙ is)
+proposed_names S m None is told = judged_names S.inst (moved S.inst S.plan m) (least S.inst (moved S.inst S.plan m)) (cost S.inst S.plan) (cost S.inst (moved S.inst S.plan m)) refl
+
+answer_names : (S : State) (e : Event) → IsTold S → AnswerNames S.inst (answer S e)
+unfolding answer
+answer_names S (event.Move m) told = proposed_names S m S.broken refl told
+
+-- ---- histories
+
+stands_told : (I : Situation) (before : List Entry) (entry : Entry) → Stands (opening I) before entry → CanBeTold I entry
+unfolding opening
+stands_told I before entry stands =
+    let S = state (opening I) before in
+    let same : S.inst ≡ I = state-inst (opening I) before in
+    record {
+      event = subst (λ (J : Situation). IsAskable J entry.event) same stands.asked;
+      answer = subst (λ (J : Situation). AnswerNames J entry.answer) same (subst (AnswerNames S.inst) (sym stands.told) (answer_names S entry.event (state-told (opening I) before (opening-told I))));
+    }
+
+pub legal-told : (I : Situation) (h : List Entry) → IsLegal (opening I) h → All (CanBeTold I) h
+legal-told I h legal k d lt = stands_told I (take k h) (get_or h k d) (legal k (get_or h k d) (slice_get-get_or h k d lt))

@@ -1,0 +1,46 @@
+//! The file of a plan's rotations.
+
+ghost use Rattle.std.specs.Prelude.{◌≡◌, ◌<◌, ◌++◌, IfOk, OnOk};
+ghost use Rattle.desk_data.specs.Situation.{planes_of};
+ghost use Rattle.desk_data.specs.Valid.{IsPlanFor, IsRowOf};
+ghost use Rattle.sol_text.specs.Rotations.{rotation_line, rotations_text};
+
+use desk_data::{Instance, LegInfo, NoMem, Plan, Row};
+use desk_text::{date_text, moment_text, push_all};
+use std::alloc::Global;
+
+/// The rotations of a plan: one line for each leg, in the order of the legs. The line of a flown leg
+/// is `FLIGHT DATE AIRCRAFT DATE TIME`, with its flight date, its aircraft and its departure, and
+/// that of a cancelled leg `FLIGHT DATE cancelled`. The only error is want of memory.
+#[tactic(auto, unfolding(crate::specs::Rotations::rotations_text))]
+pub fn rotations_text(alloc: Global, inst: &Instance, plan: &Plan) -> Result<Vec<u8>, NoMem>
+    requires { IsPlanFor inst.now plan.now }
+    ensures { IfOk result (λ text. text.items ≡ rotations_text inst.now plan.now) }
+{
+    let legs = inst.parts().legs.as_slice();
+    let rows = plan.rows();
+    let mut text = Vec::new(alloc);
+    for (x, leg) in legs.iter().enumerate() {
+        push_line(&mut text, inst, leg, rows[x])?;
+    }
+    Ok(text)
+}
+
+/// Adds the line of a leg.
+#[tactic(auto, unfolding(crate::specs::Rotations::rotation_line))]
+fn push_line(text: &mut Vec<u8>, inst: &Instance, leg: &LegInfo, row: Row) -> Result<(), NoMem>
+    requires day { leg.now.day < 36525 }
+    requires row { IsRowOf (planes_of inst.now) row }
+    ensures { OnOk result (text.new.items ≡ text.old.items ++ rotation_line inst.now leg.now row) }
+{
+    let flight = leg.flight.as_slice();
+    let date = date_text(leg.day);
+    match row {
+        Row::Flown { plane, dep } => {
+            let plane = inst.plane(plane).name.as_slice();
+            let departure = moment_text(dep);
+            push_all(text, &[flight, b" ", &date, b" ", plane, b" ", &departure, b"\n"])
+        }
+        Row::Cancelled => push_all(text, &[flight, b" ", &date, b" ", b"cancelled", b"\n"]),
+    }
+}
