@@ -1,5 +1,5 @@
 //! The plain work of a folder in memory, over lists.
-ghost use Rattle.std.specs.Prelude.{◌≡◌, ◌≢◌, ℕ, ◌+◌, ◌^◌, ◌<◌, ◌≤◌, [], ◌++◌, OnOk, OnErr, length, take, drop, min, slice_index, slice_set, ◌-◌};
+ghost use Rattle.std.specs.Prelude.{◌≡◌, ◌≢◌, ℕ, ◌+◌, ◌-◌, ◌^◌, ◌<◌, ◌≤◌, [], ◌++◌, OnOk, OnErr, length, take, drop, min, slice_index};
 ghost use Rattle.desk_folder.specs.Entries.{entry_of, named_texts, text_at, texts_of};
 ghost use Rattle.desk_folder.specs.Files.{file_number};
 ghost use Rattle.desk_folder.specs.declared.files.File.{File};

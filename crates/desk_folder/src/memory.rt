@@ -1,7 +1,4 @@
 //! A folder in memory, for tests: it tells all, and fails the calls that it is told to.
-ghost use Rattle.std.specs.Prelude.{◌≡◌, ℕ, ◌+◌, ◌^◌, ◌<◌, ◌≤◌, [], ◌++◌, Some, length, take, drop, min, slice_index, slice_set};
-ghost use Rattle.desk_folder.specs.Files.{file_number};
-
 use crate::entries::{append, entry, hand_out, raise, text};
 use crate::{File, Folder, FolderFault};
 use std::alloc::Global;
@@ -44,7 +41,8 @@ impl Model for MemFolder {
 }
 
 impl MemFolder {
-    ghost use Rattle.desk_folder.specs.Entries.{named_texts, text_at};
+    ghost use Rattle.std.specs.Prelude.{◌≡◌, Some};
+    ghost use Rattle.desk_folder.specs.Entries.{named_texts};
     ghost use Rattle.desk_folder.specs.Memory.{IsNew, memory_outside};
 
     /// A folder with these input files, of which the first of a name counts; a file that isn't listed is
@@ -95,7 +93,7 @@ impl MemFolder {
 }
 
 impl Folder for MemFolder {
-    ghost use Rattle.std.specs.Prelude.{◌≡◌, ◌<◌, length, min, ◌+◌, ◌-◌, ◌^◌, IsOk, IsOkUnless, OnErr, IsErrOf};
+    ghost use Rattle.std.specs.Prelude.{◌≡◌, ◌<◌, length, IsOk, IsOkUnless, OnErr};
     ghost use Rattle.std.specs.Bool.{MatchBool};
     ghost use Rattle.desk_folder.specs.declared.faults.FolderFault.TheVariants.{Failed, Memory};
     ghost use Rattle.desk_folder.specs.Calls.{CountsFailure, Places, Takes, Puts};
