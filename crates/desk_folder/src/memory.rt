@@ -1,6 +1,6 @@
 //! A folder in memory, for tests: it tells all, and fails the calls that it is told to.
 use crate::entries::{append, entry, hand_out, raise, text};
-use crate::{File, Folder, FolderFault};
+use crate::{FILES, File, Folder, FolderFault};
 use std::alloc::Global;
 use std::marker::Model;
 
@@ -10,16 +10,16 @@ use std::marker::Model;
 #[derive(Drop)]
 pub struct MemFolder {
     inputs: Vec<(File, Vec<u8>)>,
-    taken: [usize; 16],
-    outputs: [Vec<u8>; 16],
+    taken: [usize; FILES],
+    outputs: [Vec<u8>; FILES],
     input: String,
     output: String,
     next_calls: u64,
     put_calls: u64,
     fail_next: Vec<u64>,
     fail_put: Vec<u64>,
-    next_faults: [u64; 16],
-    put_faults: [u64; 16],
+    next_faults: [u64; FILES],
+    put_faults: [u64; FILES],
 }
 
 impl Model for MemFolder {
@@ -54,7 +54,7 @@ impl MemFolder {
         let alloc = *inputs.allocator();
         MemFolder {
             inputs,
-            taken: [0; 16],
+            taken: [0; FILES],
             outputs: [
                 Vec::new(alloc),
                 Vec::new(alloc),
@@ -79,8 +79,8 @@ impl MemFolder {
             put_calls: 0,
             fail_next,
             fail_put,
-            next_faults: [0; 16],
-            put_faults: [0; 16],
+            next_faults: [0; FILES],
+            put_faults: [0; FILES],
         }
     }
 
