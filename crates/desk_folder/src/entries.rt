@@ -1,10 +1,10 @@
 //! The plain work of a folder in memory, over lists.
-ghost use Rattle.std.specs.Prelude.{◌≡◌, ◌≢◌, ℕ, ◌+◌, ◌^◌, ◌<◌, ◌≤◌, [], ◌++◌, OnOk, OnErr, length, take, drop, min, slice_index, slice_set, ◌-◌};
+ghost use Rattle.std.specs.Prelude.{◌≡◌, ◌≢◌, ℕ, ◌+◌, ◌-◌, ◌^◌, ◌<◌, ◌≤◌, [], ◌++◌, OnOk, OnErr, length, take, drop, min, slice_index};
 ghost use Rattle.desk_folder.specs.Entries.{entry_of, named_texts, text_at, texts_of};
 ghost use Rattle.desk_folder.specs.Files.{file_number};
 ghost use Rattle.desk_folder.specs.declared.files.File.{File};
 
-use crate::File;
+use crate::{FILES, File};
 use std::alloc::AllocError;
 
 /// The bytes of the first entry of a file, or none.
@@ -56,7 +56,7 @@ pub(crate) fn append(texts: &mut [Vec<u8>], at: usize, piece: &[u8]) -> Result<(
 /// Raises a file's count of faults by one; at its last value it stands still.
 #[tactic(auto, using(crate::proofs::FileLemmas::numbers_differ))]
 pub(crate) fn raise(counts: &mut [u64], file: File)
-    requires { length counts.old ≡ 16 }
+    requires { length counts.old ≡ FILES }
     ensures raised { slice_index counts.new (file_number file) ≡ min (slice_index counts.old (file_number file) + 1) (2 ^ 64 - 1) }
     ensures kept { slice_index counts.old (file_number file) ≤ slice_index counts.new (file_number file) }
     ensures others { (f : File) → f ≢ file → slice_index counts.new (file_number f) ≡ slice_index counts.old (file_number f) }

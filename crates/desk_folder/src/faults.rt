@@ -1,7 +1,6 @@
 //! What a call of a folder or a sink may answer in place of its result.
-ghost use Rattle.desk_folder.specs.declared.faults.FolderFault.{FolderFault};
-ghost use Rattle.desk_folder.specs.declared.faults.FolderFault.TheVariants.{Memory};
 ghost use Rattle.std.specs.Prelude.{◌≡◌};
+ghost use Rattle.desk_folder.specs.declared.faults.FolderFault.TheVariants.{Memory};
 
 use std::alloc::{AllocError, AllocFailed};
 use thiserror::Error;

@@ -41,6 +41,9 @@ pub enum File {
     SolItineraries,
 }
 
+/// How many files there are.
+pub const FILES: usize = 16;
+
 impl File {
     /// The file's name in its directory.
     pub fn name(self) -> &'static str
@@ -69,7 +72,7 @@ impl File {
     /// The file's place in file order, counted from 0.
     pub fn number(self) -> usize
         ensures place { result ≡ file_number self }
-        ensures within { result < 16 }
+        ensures within { result < FILES }
     {
         match self {
             File::Config => 0,

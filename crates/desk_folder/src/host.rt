@@ -7,7 +7,7 @@ ghost use Rattle.desk_folder.specs.declared.files.File.{File};
 
 use crate::entries::raise;
 use crate::host_files::{read_some, write_some};
-use crate::{File, Folder, FolderFault, Sink};
+use crate::{FILES, File, Folder, FolderFault, Sink};
 use std::alloc::Global;
 use std::io::Print;
 use std::marker::Model;
@@ -21,12 +21,12 @@ pub struct HostFolder<R: Files + Drop> {
     rt: R,
     input: String,
     output: String,
-    sources: [Option<R::File>; 16],
-    targets: [Option<R::File>; 16],
+    sources: [Option<R::File>; FILES],
+    targets: [Option<R::File>; FILES],
     is_emptied: bool,
     place_faults: u64,
-    next_faults: [u64; 16],
-    put_faults: [u64; 16],
+    next_faults: [u64; FILES],
+    put_faults: [u64; FILES],
 }
 
 impl<R: Files + Drop> Model for HostFolder<R> {
@@ -52,14 +52,14 @@ impl<R: Files + Drop> HostFolder<R> {
             targets: closed(),
             is_emptied: false,
             place_faults: 0,
-            next_faults: [0; 16],
-            put_faults: [0; 16],
+            next_faults: [0; FILES],
+            put_faults: [0; FILES],
         }
     }
 }
 
 // No file is open.
-fn closed<F: Drop>() -> [Option<F>; 16] {
+fn closed<F: Drop>() -> [Option<F>; FILES] {
     [
         None, None, None, None, None, None, None, None, None, None, None, None, None, None, None,
         None,
@@ -72,7 +72,7 @@ fn counted(
     file: File,
     answer: Result<usize, FolderFault>,
 ) -> Result<usize, FolderFault>
-    requires { length counts.old ≡ 16 }
+    requires { length counts.old ≡ FILES }
     ensures same { result ≡ answer }
     ensures counts { Counts (slice_index counts.old (file_number file)) (slice_index counts.new (file_number file)) answer }
     ensures others { (f : File) → f ≢ file → slice_index counts.new (file_number f) ≡ slice_index counts.old (file_number f) }

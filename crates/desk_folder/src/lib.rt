@@ -13,7 +13,7 @@ mod memory_sink;
 mod traits;
 
 pub use faults::FolderFault;
-pub use files::File;
+pub use files::{FILES, File};
 pub use host::{HostFolder, HostSink};
 pub use memory::MemFolder;
 pub use memory_sink::MemSink;

@@ -1,9 +1,6 @@
 //! A folder in memory, for tests: it tells all, and fails the calls that it is told to.
-ghost use Rattle.std.specs.Prelude.{◌≡◌, ℕ, ◌+◌, ◌^◌, ◌<◌, ◌≤◌, [], ◌++◌, Some, length, take, drop, min, slice_index, slice_set};
-ghost use Rattle.desk_folder.specs.Files.{file_number};
-
 use crate::entries::{append, entry, hand_out, raise, text};
-use crate::{File, Folder, FolderFault};
+use crate::{FILES, File, Folder, FolderFault};
 use std::alloc::Global;
 use std::marker::Model;
 
@@ -13,16 +10,16 @@ use std::marker::Model;
 #[derive(Drop)]
 pub struct MemFolder {
     inputs: Vec<(File, Vec<u8>)>,
-    taken: [usize; 16],
-    outputs: [Vec<u8>; 16],
+    taken: [usize; FILES],
+    outputs: [Vec<u8>; FILES],
     input: String,
     output: String,
     next_calls: u64,
     put_calls: u64,
     fail_next: Vec<u64>,
     fail_put: Vec<u64>,
-    next_faults: [u64; 16],
-    put_faults: [u64; 16],
+    next_faults: [u64; FILES],
+    put_faults: [u64; FILES],
 }
 
 impl Model for MemFolder {
@@ -44,7 +41,8 @@ impl Model for MemFolder {
 }
 
 impl MemFolder {
-    ghost use Rattle.desk_folder.specs.Entries.{named_texts, text_at};
+    ghost use Rattle.std.specs.Prelude.{◌≡◌, Some};
+    ghost use Rattle.desk_folder.specs.Entries.{named_texts};
     ghost use Rattle.desk_folder.specs.Memory.{IsNew, memory_outside};
 
     /// A folder with these input files, of which the first of a name counts; a file that isn't listed is
@@ -56,7 +54,7 @@ impl MemFolder {
         let alloc = *inputs.allocator();
         MemFolder {
             inputs,
-            taken: [0; 16],
+            taken: [0; FILES],
             outputs: [
                 Vec::new(alloc),
                 Vec::new(alloc),
@@ -81,8 +79,8 @@ impl MemFolder {
             put_calls: 0,
             fail_next,
             fail_put,
-            next_faults: [0; 16],
-            put_faults: [0; 16],
+            next_faults: [0; FILES],
+            put_faults: [0; FILES],
         }
     }
 
@@ -95,7 +93,7 @@ impl MemFolder {
 }
 
 impl Folder for MemFolder {
-    ghost use Rattle.std.specs.Prelude.{◌≡◌, ◌<◌, length, min, ◌+◌, ◌-◌, ◌^◌, IsOk, IsOkUnless, OnErr, IsErrOf};
+    ghost use Rattle.std.specs.Prelude.{◌≡◌, ◌<◌, length, IsOk, IsOkUnless, OnErr};
     ghost use Rattle.std.specs.Bool.{MatchBool};
     ghost use Rattle.desk_folder.specs.declared.faults.FolderFault.TheVariants.{Failed, Memory};
     ghost use Rattle.desk_folder.specs.Calls.{CountsFailure, Places, Takes, Puts};

@@ -1,6 +1,5 @@
 //! A file of a folder, read to its end.
-ghost use Rattle.std.specs.Prelude.{◌≡◌, ◌<◌, IfOk, vec_len};
-ghost use Rattle.folder_io.specs.declared.reads.ReadEnd.{ReadEnd};
+ghost use Rattle.std.specs.Prelude.{◌≡◌, IfOk, vec_len};
 ghost use Rattle.folder_io.specs.declared.reads.ReadEnd.TheVariants as end;
 ghost use Rattle.folder_io.specs.Ends.{read_end};
 ghost use Rattle.folder_io.specs.Texts.{ReadsFile};

@@ -17,6 +17,6 @@ returns-then-is_err g c =
       size = λ e. absurd (cc);
       failed = λ e. absurd (cc);
       kept = omega arith;
-      left = (_, Consumes-trans _ _ _ _ _ c.loop-piece.invariant.bytes c.in_ok-taken.ensures.bytes.0);
+      left = (_, Consumes-trans (before.left file) (mid.left file) (now.left file) _ _ c.loop-piece.invariant.bytes c.in_ok-taken.ensures.bytes.0);
       others = ReadsOnly-trans file before mid now c.loop-piece.invariant.others c.in_ok-taken.ensures.others;
     }
