@@ -30,7 +30,7 @@ returns-clause-exact c = follows (aircraft_at c.args.line.now) (aircraft_follows
 pub returns-clause-kept : goal.returns-clause-kept
 returns-clause-kept c = (
   last_name c.in-Some.aircraft.name.now c.in-Some.aircraft.row.name c.args.seen.now.aircraft c.insert.new.self (map (λ r. r.name) c.args.before.now) c.in_ok-insert.ensures.names (fresh c) c.in-Some.ensures.texts.0 c.requires.0 ∙ sym (map-append (λ r. r.name) c.args.before.now (c.in-Some.aircraft.row ∷ [])),
-  airports c
+  airports c,
 )
 
 pub returns-clause-facts : goal.returns-clause-facts
