@@ -1,4 +1,4 @@
-use Rattle.std.proofs.Common.{◌≡◌, ◌+◌, ◌≤◌, ◌++◌, ◌∷◌, [], length, sym, ◌∙◌, arith}
+use Rattle.std.proofs.Common.{sym, ◌∙◌, arith}
 use Rattle.early_form.specs.Rows.{rows_of}
 use Rattle.early_form.proofs.RowLemmas.{goes_on, refused, unended, ended, begins, still_room}
 use Rattle.early_form.proofs.table.read_rows.Goals as goal
