@@ -5,3 +5,4 @@ pub mod RowLemmas
 pub mod FlightLemmas
 pub mod RotationLemmas
 pub mod AircraftLemmas
+pub mod PlainNames

@@ -1,20 +1,17 @@
 -- One more rotation, and the departures of the flights.
-use Rattle.std.proofs.Common.{◌≡◌, ◌≢◌, ℕ, zero, suc, ◌+◌, ◌-◌, ◌*◌, ◌<◌, ◌≤◌, Bool, true, false, cond, not, ◌&&◌, List, [], ◌∷◌, ◌++◌, length, get_or, drop, map, bytes_eq, Option, Some, None, refl, sym, ap, ◌∙◌, arith, drop-cons, All, AllPairs, IfSome, true≢false, leb}
+use Rattle.std.proofs.Common.{◌≡◌, ◌≢◌, ℕ, zero, suc, ◌+◌, ◌-◌, ◌*◌, ◌<◌, ◌≤◌, Bool, true, false, cond, not, List, [], ◌∷◌, ◌++◌, length, get_or, drop, map, bytes_eq, Option, Some, None, refl, sym, ap, ◌∙◌, arith, drop-cons, IfSome, true≢false, leb}
 use Rattle.std.specs.Prelude.{find, option_map}
 use Rattle.std.specs.Option.{option_map_or}
 use Rattle.std.specs.List.{list_any}
-use Rattle.std.specs.HashMap.{HashMap, get_by, UpdatesBy}
 use Rattle.std.proofs.lemmas.Bool.{and_from, or_parts, not-true, leb-true, eq-eqb}
 use Rattle.std.proofs.lemmas.List.{length-append}
 use Rattle.std.proofs.lemmas.List.Elements.{All-push}
 use Rattle.std.proofs.lemmas.List.Quantifiers.{all_pairs_push}
 use Rattle.std.proofs.lemmas.Slice.Eq.{bytes_eq-Decides}
-use Rattle.std.proofs.lemmas.Map.Text.{hash_map_updates_str}
 use Rattle.early_form.specs.declared.rows.FlightRow.{FlightRow}
 use Rattle.early_form.specs.declared.rows.RotationRow.{RotationRow}
 use Rattle.early_form.specs.Rotations.{is_leg, has_leg, departure_of, departs_in_time}
 use Rattle.early_form.specs.Facts.{IsPlainName, IsRotation, AreRotations}
-use Rattle.early_form.proofs.SeenLemmas.{bytes_eq-sym}
 
 -- no flights have no departures
 pub no_departure : (name : List ℕ) → None ≡ departure_of [] name

@@ -23,5 +23,5 @@ unfoldable pub day_of : ℕ → ℕ → ℕ → Option ℕ
 day_of day month year =
     let months = month_lengths (is_leap year) in
     if (nat_le 1 month && nat_le month 12) && (nat_le 1 day && nat_le day (slice_index months (month - 1))) then
-      Some (days_before year + sum (take (month - 1) months) + (day - 1))
+    Some (days_before year + sum (take (month - 1) months) + (day - 1))
     else None

@@ -2,7 +2,6 @@
 use Rattle.std.specs.Prelude.{◌≡◌, ◌≢◌, ℕ, ◌+◌, ◌*◌, ◌<◌, ◌≤◌, List, [], length, All, AllPairs, IfSome, IsTrue, ⊤}
 use Rattle.std.specs.Char.{is_ascii_alphanumeric}
 use Rattle.desk_units.specs.Padded.{IsNameLength}
-use Rattle.desk_units.specs.declared.numbers.Seats.{Seats}
 use Rattle.early_form.specs.declared.rows.FlightRow.{FlightRow}
 use Rattle.early_form.specs.declared.rows.RotationRow.{RotationRow}
 use Rattle.early_form.specs.declared.rows.AircraftRow.{AircraftRow}

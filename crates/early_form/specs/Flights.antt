@@ -1,5 +1,5 @@
 -- The file of flights.
-use Rattle.std.specs.Prelude.{ℕ, List, [], ◌∷◌, ◌++◌, length, map, flat_map, filter, Bool, not, Option, Some, Result, bytes_eq, codes, nat_lt, nat_le, ◌&&◌}
+use Rattle.std.specs.Prelude.{ℕ, List, [], ◌∷◌, ◌++◌, length, map, flat_map, Bool, not, Option, Result, bytes_eq, codes, nat_lt, nat_le, ◌&&◌}
 use Rattle.std.specs.List.{list_any}
 use Rattle.early_form.specs.declared.rows.FlightRow.{FlightRow}
 use Rattle.early_form.specs.declared.rows.AircraftRow.{AircraftRow}

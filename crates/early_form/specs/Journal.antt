@@ -1,5 +1,5 @@
 -- The file of proposed moves.
-use Rattle.std.specs.Prelude.{ℕ, ◌+◌, ◌*◌, List, Bool, not, Option, Some, None, Result, bytes_eq, codes, nat_lt, ◌==◌, if◌then◌else◌}
+use Rattle.std.specs.Prelude.{ℕ, ◌+◌, ◌*◌, List, not, Option, Some, None, Result, bytes_eq, codes, nat_lt, ◌==◌, if◌then◌else◌}
 use Rattle.std.specs.List.{list_any}
 use Rattle.early_form.specs.declared.rows.NamedRow.{NamedRow}
 use Rattle.early_form.specs.declared.rows.NamedRow.TheVariants.{Flown, Cancelled}

@@ -85,7 +85,11 @@ fn digits(bytes: &[u8], longest: usize) -> Option<u32>
     ensures size { IfSome result (λ _. (1 ≤ length bytes.now) × (length bytes.now ≤ longest)) }
 {
     let is_number = (1 <= bytes.len() && bytes.len() <= longest) && are_digits(bytes);
-    if is_number { Some(decimal_value(bytes)) } else { None }
+    if is_number {
+        Some(decimal_value(bytes))
+    } else {
+        None
+    }
 }
 
 /// The number, 0 to `most`, that 1 to 9 digits spell.

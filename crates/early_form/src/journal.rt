@@ -106,13 +106,7 @@ fn before_tail(bytes: &[u8]) -> Option<&[u8]>
 {
     match cut(bytes, b',') {
         None => Some(bytes),
-        Some((step, tail)) => {
-            if has_comma(tail) {
-                None
-            } else {
-                Some(step)
-            }
-        }
+        Some((step, tail)) => { if has_comma(tail) { None } else { Some(step) } }
     }
 }
 

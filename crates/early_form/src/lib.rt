@@ -23,3 +23,6 @@ pub use flights::read_flights;
 pub use journal::read_journal;
 pub use rotations::read_rotations;
 pub use rows::{AircraftRow, FlightRow, JournalRow, NamedRow, RotationRow};
+
+#[cfg(test)]
+mod tests;

@@ -14,7 +14,9 @@ pub(crate) const MOST_AIRPORTS: usize = 500;
 /// How the lines of a file become rows. `Seen` is what is kept of the rows so far.
 pub(crate) trait Table<'a, Row, Seen> {
     ghost reads: { Self → List Row → List ℕ → Option Row };
+
     ghost knows: { Self → Seen → List Row → Type 0 };
+
     ghost holds: { Self → List Row → Type 0 };
 
     /// The row of a line behind the rows before it, or `None` where the line is refused.

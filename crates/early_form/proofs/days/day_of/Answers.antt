@@ -1,5 +1,4 @@
-use Rattle.std.proofs.Common.{◌≡◌, ◌+◌, ◌≤◌, length, sum, arith, sym, ◌∙◌, ap, rules}
-use Rattle.early_form.specs.Days.{days_of_year}
+use Rattle.std.proofs.Common.{sym, ◌∙◌, rules}
 use Rattle.early_form.proofs.DayLemmas.{day_is_below}
 use Rattle.early_form.proofs.days.day_of.Goals as goal
 

@@ -1,4 +1,4 @@
-use Rattle.std.proofs.Common.{ℕ, ◌^◌, ◌≤◌, ◌+◌, ◌*◌, lit<, arith}
+use Rattle.std.proofs.Common.{ℕ, ◌^◌, ◌≤◌, lit<, arith}
 use Rattle.std.proofs.Math.Nat.{pow-le-pow_right}
 use Rattle.early_form.proofs.fields.decimal_value.Goals as goal
 

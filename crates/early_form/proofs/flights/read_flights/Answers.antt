@@ -1,4 +1,4 @@
-use Rattle.std.proofs.Common.{refl, ◌∙◌, arith}
+use Rattle.std.proofs.Common.{refl, ◌∙◌}
 use Rattle.early_form.proofs.FlightLemmas.{no_flights, no_airports}
 use Rattle.early_form.proofs.flights.read_flights.Goals as goal
 

@@ -1,4 +1,4 @@
-use Rattle.std.proofs.Common.{◌≡◌, ℕ, List, Bor, Some, cond, bytes_eq, ap, sym, ◌∙◌, arith, ◌≤◌, ◌<◌, length}
+use Rattle.std.proofs.Common.{ℕ, List, Bor, Some, cond, bytes_eq, ap, sym, ◌∙◌, arith, length}
 use Rattle.std.proofs.Math.ListN.{drop_of_length-le}
 use Rattle.std.specs.Map.{lookup}
 use Rattle.std.proofs.lemmas.Map.Text.{hash_map_updates_str}

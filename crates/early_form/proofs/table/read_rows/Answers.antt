@@ -1,4 +1,4 @@
-use Rattle.std.proofs.Common.{◌≡◌, ◌+◌, ◌≤◌, ◌++◌, ◌∷◌, [], length, sym, ◌∙◌, arith}
+use Rattle.std.proofs.Common.{sym, ◌∙◌, arith}
 use Rattle.early_form.specs.Rows.{rows_of}
 use Rattle.early_form.proofs.RowLemmas.{goes_on, refused, unended, ended, begins, still_room}
 use Rattle.early_form.proofs.table.read_rows.Goals as goal
@@ -24,7 +24,7 @@ loop-rest-preserved g c =
       knows = kept;
       holds = facts c.loop-rest.invariant.holds;
       read = goes_on (g.T.Table.reads c.args.table.now) c.loop-rest.rows.items (rows_of (g.T.Table.reads c.args.table.now) c.args.bytes.now) c.loop-rest.rest.now c.in-Some.text.now c.in-Some.after.now c.in-Some-2.row c.in-Some.ensures.exact some c.loop-rest.invariant.read;
-      room = still_room c.loop-rest.rows.items c.in-Some-2.row c.in-Some.text.now c.in-Some.after.now c.loop-rest.rest.now c.args.bytes.now c.in-Some.ensures.size c.loop-rest.invariant.room
+      room = still_room c.loop-rest.rows.items c.in-Some-2.row c.in-Some.text.now c.in-Some.after.now c.loop-rest.rest.now c.args.bytes.now c.in-Some.ensures.size c.loop-rest.invariant.room;
     })
 
 pub returns-clause-exact : goal.returns-clause-exact

@@ -9,7 +9,7 @@ invariant-loop-rest g l = record {
   knows : g.T.Table.knows l.table l.seen l.rows.items;
   holds : g.T.Table.holds l.table l.rows.items;
   read : rows_from (g.T.Table.reads l.table) l.rows.items (pieces l.rest) ≡ rows_of (g.T.Table.reads l.table) l.bytes;
-  room : length l.rows.items + length l.rest ≤ length l.bytes
+  room : length l.rows.items + length l.rest ≤ length l.bytes;
 }
 
 abbrev pub decreases-loop-rest : goal.decreases-loop-rest

@@ -1,4 +1,4 @@
-use Rattle.std.proofs.Common.{◌≡◌, ◌<◌, ◌≤◌, false, [], ◌∷◌, ◌++◌, length, map, ap, sym, ◌∙◌, arith}
+use Rattle.std.proofs.Common.{◌≡◌, ◌≤◌, false, [], ◌∷◌, ◌++◌, length, map, ap, sym, ◌∙◌, arith}
 use Rattle.std.proofs.lemmas.List.{map-append}
 use Rattle.early_form.specs.Flights.{airports_of}
 use Rattle.early_form.specs.Aircraft.{aircraft_at, aircraft_row, aircraft_follows, has_aircraft}
@@ -30,7 +30,7 @@ returns-clause-exact c = follows (aircraft_at c.args.line.now) (aircraft_follows
 pub returns-clause-kept : goal.returns-clause-kept
 returns-clause-kept c = (
   last_name c.in-Some.aircraft.name.now c.in-Some.aircraft.row.name c.args.seen.now.aircraft c.insert.new.self (map (λ r. r.name) c.args.before.now) c.in_ok-insert.ensures.names (fresh c) c.in-Some.ensures.texts.0 c.requires.0 ∙ sym (map-append (λ r. r.name) c.args.before.now (c.in-Some.aircraft.row ∷ [])),
-  airports c
+  airports c,
 )
 
 pub returns-clause-facts : goal.returns-clause-facts

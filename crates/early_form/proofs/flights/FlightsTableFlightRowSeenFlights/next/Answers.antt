@@ -1,4 +1,4 @@
-use Rattle.std.proofs.Common.{◌≡◌, ◌<◌, ◌≤◌, false, [], ◌∷◌, ◌++◌, length, map, ap, sym, ◌∙◌, arith}
+use Rattle.std.proofs.Common.{◌≡◌, ◌≤◌, false, [], ◌∷◌, ◌++◌, length, map, ap, sym, ◌∙◌, arith}
 use Rattle.std.proofs.lemmas.List.{map-append}
 use Rattle.early_form.specs.Flights.{flight_at, flight_row, flight_follows, has_flight, airports_of}
 use Rattle.early_form.proofs.RowLemmas.{follows, follows_not}
@@ -28,7 +28,7 @@ returns-clause-exact c = follows (flight_at c.args.line.now) (flight_follows c.a
 pub returns-clause-kept : goal.returns-clause-kept
 returns-clause-kept c = (
   last_name c.in-Some.flight.flight.now c.in-Some.flight.row.flight c.args.seen.now.flights c.insert.new.self (map (λ r. r.flight) c.args.before.now) c.in_ok-insert.ensures.names (fresh c) c.in-Some.ensures.texts.0 c.requires.0 ∙ sym (map-append (λ r. r.flight) c.args.before.now (c.in-Some.flight.row ∷ [])),
-  airports c
+  airports c,
 )
 
 pub returns-clause-facts : goal.returns-clause-facts
