@@ -36,5 +36,8 @@ judged_dearer I P broken m is feasible dear =
     (rw (is, feasible, test) refl, refl)
 
 pub judged_published : (I : Situation) (P Q : PlanRows) (broken : Option Broken) (m : Move) → broken ≡ None → Q ≡ moved I P m → IsPlanFor I Q → least I Q ≡ None → cost I Q < cost I P → IsJudged (at I P broken) m (Published Q (grains (cost I Q)))
-judged_published I P Q broken m is made valid feasible cheaper =
-    (rw made (accepted-from (at I P broken) m is (ap (least I) (sym made) ∙ feasible) (rw (← made) cheaper)), made, valid)
+judged_published I P Q broken m is made valid feasible cheaper = record {
+  answered = rw made (accepted-from (at I P broken) m is (ap (least I) (sym made) ∙ feasible) (rw (← made) cheaper));
+  made = made;
+  valid = valid;
+}

@@ -22,11 +22,11 @@ use Rattle.desk_model.specs.Histories.{state, proposal_limit, IsLegal, Stands, c
 use Rattle.desk_model.proofs.StateLaws.{accepted-cause, after-accepted, after-unchanged}
 use Rattle.desk_model.proofs.HistoryLaws.{state-append, legal-append, legal-nil}
 use Rattle.desk_core.specs.declared.judged.Judged.TheVariants.{Published, Refused}
-use Rattle.desk_core.specs.Kept.{IsKept}
+use Rattle.desk_core.specs.BookParts.{IsBook}
 use Rattle.desk_core.specs.Judged.{IsJudged}
 use Rattle.desk_core.proofs.JudgedLaws.{at}
 
-pub kept_opening : (I : Situation) (P : PlanRows) → I.orders ≡ [] → P ≡ schedule I → IsPlanFor I P → IsKept I P (least I P) (grains (cost I P)) 0 []
+pub kept_opening : (I : Situation) (P : PlanRows) → I.orders ≡ [] → P ≡ schedule I → IsPlanFor I P → IsBook I P (least I P) (grains (cost I P)) 0 []
 unfolding opening
 kept_opening I P none same valid = record {
   undisturbed = none;
@@ -55,7 +55,7 @@ stands I P broken h caller m told reached few fits is = record {
   told = sym is;
 }
 
-pub kept_refused : (I : Situation) (P : PlanRows) (broken : Option Broken) (stored : Grains) (counted : ℕ) (h : List Entry) (caller : ℕ) (m : Move) (told : Answer) → IsKept I P broken stored counted h → length h < proposal_limit → Fits I m → IsJudged (state (opening I) h) m (Refused told) → IsKept I P broken stored counted (h ++ entry_of_move caller m told ∷ [])
+pub kept_refused : (I : Situation) (P : PlanRows) (broken : Option Broken) (stored : Grains) (counted : ℕ) (h : List Entry) (caller : ℕ) (m : Move) (told : Answer) → IsBook I P broken stored counted h → length h < proposal_limit → Fits I m → IsJudged (state (opening I) h) m (Refused told) → IsBook I P broken stored counted (h ++ entry_of_move caller m told ∷ [])
 kept_refused I P broken stored counted h caller m told kept few fits judged =
     let S = state (opening I) h in
     let entry = entry_of_move caller m told in
@@ -69,20 +69,20 @@ kept_refused I P broken stored counted h caller m told kept few fits judged =
       few = omega (arith, few, length-append h (entry ∷ []));
     }
 
-pub kept_published : (I : Situation) (P Q : PlanRows) (broken : Option Broken) (stored told : Grains) (counted : ℕ) (h : List Entry) (caller : ℕ) (m : Move) → IsKept I P broken stored counted h → length h < proposal_limit → Fits I m → IsJudged (state (opening I) h) m (Published Q told) → IsKept I Q broken told (counted + 1) (h ++ entry_of_move caller m (Accepted told) ∷ [])
+pub kept_published : (I : Situation) (P Q : PlanRows) (broken : Option Broken) (stored told : Grains) (counted : ℕ) (h : List Entry) (caller : ℕ) (m : Move) → IsBook I P broken stored counted h → length h < proposal_limit → Fits I m → IsJudged (state (opening I) h) m (Published Q told) → IsBook I Q broken told (counted + 1) (h ++ entry_of_move caller m (Accepted told) ∷ [])
 kept_published I P Q broken stored told counted h caller m kept few fits judged =
     let S = state (opening I) h in
     let entry = entry_of_move caller m (Accepted told) in
     let here : S ≡ at I P broken = kept.reached in
-    let cause = accepted-cause S m told judged.0 in
+    let cause = accepted-cause S m told judged.answered in
     let none : broken ≡ None = sym (ap (λ (T : State). T.broken) here) ∙ cause.had_plan in
     let inst : S.inst ≡ I = ap (λ (T : State). T.inst) here in
     record {
       undisturbed = kept.undisturbed;
-      legal = legal-append (opening I) h entry kept.legal (stands I P broken h caller m (Accepted told) kept.reached few fits judged.0);
-      reached = state-append (opening I) h (entry ∷ []) ∙ after-accepted S m told judged.0 ∙ rw (← judged.1, inst, none) refl;
-      costs = cause.stored ∙ rw (← judged.1, inst) refl;
+      legal = legal-append (opening I) h entry kept.legal (stands I P broken h caller m (Accepted told) kept.reached few fits judged.answered);
+      reached = state-append (opening I) h (entry ∷ []) ∙ after-accepted S m told judged.answered ∙ rw (← judged.made, inst, none) refl;
+      costs = cause.stored ∙ rw (← judged.made, inst) refl;
       changed = ap (λ n. n + 1) kept.changed ∙ sym (changes-push h entry true refl);
-      valid = rw (← inst) judged.2;
+      valid = rw (← inst) judged.valid;
       few = omega (arith, few, length-append h (entry ∷ []));
     }

@@ -31,13 +31,13 @@ pub struct Book {
 
 impl Model for Book {
     ghost use Rattle.desk_core.specs.Recorded.{Recorded};
-    ghost use Rattle.desk_core.specs.Kept.{IsKept};
+    ghost use Rattle.desk_core.specs.BookParts.{IsBook};
 
     ghost Value = { Recorded };
 
     ghost view = { λ b. record { opening = b.inst; journal = b.journal.items } };
 
-    ghost invariant = { λ b. IsKept b.inst b.plan b.broken b.cost b.changes b.journal.items };
+    ghost invariant = { λ b. IsBook b.inst b.plan b.broken b.cost b.changes b.journal.items };
 }
 
 impl Book {

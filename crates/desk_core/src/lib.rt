@@ -6,6 +6,8 @@ mod cost;
 mod judged;
 mod least;
 mod moved;
+#[cfg(test)]
+mod tests;
 
 pub use book::Book;
 pub use desk_model::{Answer, Broken, Entry, Event, Grains, Move};

@@ -11,7 +11,7 @@ use Rattle.desk_model.specs.States.{State, grains, opening}
 use Rattle.desk_model.specs.Histories.{state, proposal_limit, IsLegal, changes}
 
 -- the instance, the plan, the broken item, the stored cost and the count of changes are those of the journal h
-pub record IsKept (I : Situation) (P : PlanRows) (broken : Option Broken) (stored : Grains) (counted : ℕ) (h : List Entry) : Type 0 where
+pub record IsBook (I : Situation) (P : PlanRows) (broken : Option Broken) (stored : Grains) (counted : ℕ) (h : List Entry) : Type 0 where
   pub undisturbed : I.orders ≡ []
   pub legal : IsLegal (opening I) h
   pub reached : state (opening I) h ≡ record { inst = I; plan = P; broken = broken }
