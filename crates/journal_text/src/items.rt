@@ -40,9 +40,15 @@ pub fn push_broken(text: &mut Vec<u8>, inst: &Instance, item: &Broken) -> Result
 
 /// Adds a word and a leg.
 #[tactic(auto, unfolding(crate::specs::Items::leg_text))]
-pub(crate) fn push_leg(text: &mut Vec<u8>, word: &[u8], inst: &Instance, leg: Leg) -> Result<(), NoMem>
+pub(crate) fn push_leg(
+    text: &mut Vec<u8>,
+    word: &[u8],
+    inst: &Instance,
+    leg: Leg,
+) -> Result<(), NoMem>
     requires { leg.0 < legs_of inst.now }
-    ensures ok { OnOk result (text.new.items ≡ text.old.items ++ (word.now ++ leg_text inst.now leg.0)) }
+    ensures ok { OnOk result (
+        text.new.items ≡ text.old.items ++ (word.now ++ leg_text inst.now leg.0)) }
     ensures err { OnErr result (text.new.items ≡ text.old.items) }
 {
     let info = inst.leg(leg);
@@ -52,14 +58,32 @@ pub(crate) fn push_leg(text: &mut Vec<u8>, word: &[u8], inst: &Instance, leg: Le
 
 /// Adds a word, a leg and a cabin.
 #[tactic(auto, unfolding(crate::specs::Items::leg_text))]
-fn push_cabin(text: &mut Vec<u8>, word: &[u8], inst: &Instance, leg: Leg, cabin: Cabin) -> Result<(), NoMem>
+fn push_cabin(
+    text: &mut Vec<u8>,
+    word: &[u8],
+    inst: &Instance,
+    leg: Leg,
+    cabin: Cabin,
+) -> Result<(), NoMem>
     requires { leg.0 < legs_of inst.now }
-    ensures ok { OnOk result (text.new.items ≡ text.old.items ++ (word.now ++ leg_text inst.now leg.0 ++ codes " " ++ cabin_text cabin)) }
+    ensures ok { OnOk result (
+        text.new.items ≡ text.old.items
+        ++ (word.now ++ leg_text inst.now leg.0 ++ codes " " ++ cabin_text cabin)) }
     ensures err { OnErr result (text.new.items ≡ text.old.items) }
 {
     let info = inst.leg(leg);
     let date = date_text(info.day);
-    push_all(text, &[word, info.flight.as_slice(), b" ", &date, b" ", &cabin_letter(cabin)])
+    push_all(
+        text,
+        &[
+            word,
+            info.flight.as_slice(),
+            b" ",
+            &date,
+            b" ",
+            &cabin_letter(cabin),
+        ],
+    )
 }
 
 fn cabin_letter(cabin: Cabin) -> [u8; 1]
@@ -75,7 +99,8 @@ fn cabin_letter(cabin: Cabin) -> [u8; 1]
 /// Adds a word and an aircraft.
 fn push_plane(text: &mut Vec<u8>, word: &[u8], inst: &Instance, plane: Plane) -> Result<(), NoMem>
     requires { plane.0 < planes_of inst.now }
-    ensures ok { OnOk result (text.new.items ≡ text.old.items ++ (word.now ++ (plane_at inst.now plane.0).name)) }
+    ensures ok { OnOk result (
+        text.new.items ≡ text.old.items ++ (word.now ++ (plane_at inst.now plane.0).name)) }
     ensures err { OnErr result (text.new.items ≡ text.old.items) }
 {
     push_all(text, &[word, inst.plane(plane).name.as_slice()])
@@ -83,10 +108,17 @@ fn push_plane(text: &mut Vec<u8>, word: &[u8], inst: &Instance, plane: Plane) ->
 
 /// Adds a word, an airport and an hour, counted from the start of day 0.
 #[tactic(auto, unfolding(crate::specs::Items::hour_text))]
-fn push_hour(text: &mut Vec<u8>, word: &[u8], inst: &Instance, airport: Airport, hour: u32) -> Result<(), NoMem>
+fn push_hour(
+    text: &mut Vec<u8>,
+    word: &[u8],
+    inst: &Instance,
+    airport: Airport,
+    hour: u32,
+) -> Result<(), NoMem>
     requires airport { airport.0 < airports_of inst.now }
     requires hour { hour < 876600 }
-    ensures ok { OnOk result (text.new.items ≡ text.old.items ++ (word.now ++ hour_text inst.now airport.0 hour)) }
+    ensures ok { OnOk result (
+        text.new.items ≡ text.old.items ++ (word.now ++ hour_text inst.now airport.0 hour)) }
     ensures err { OnErr result (text.new.items ≡ text.old.items) }
 {
     let name = inst.airport(airport).name.as_slice();
@@ -99,11 +131,20 @@ fn push_hour(text: &mut Vec<u8>, word: &[u8], inst: &Instance, airport: Airport,
 #[tactic(auto, unfolding(crate::specs::Items::reservation_text))]
 fn push_reservation(text: &mut Vec<u8>, word: &[u8], inst: &Instance, res: Res) -> Result<(), NoMem>
     requires { res.0 < reservations_of inst.now }
-    ensures ok { OnOk result (text.new.items ≡ text.old.items ++ (word.now ++ reservation_text inst.now res.0)) }
+    ensures ok { OnOk result (
+        text.new.items ≡ text.old.items ++ (word.now ++ reservation_text inst.now res.0)) }
     ensures err { OnErr result (text.new.items ≡ text.old.items) }
 {
     let info = inst.res(res);
-    push_all(text, &[word, info.name.as_slice(), b" ", &direction_letter(info.inbound)])
+    push_all(
+        text,
+        &[
+            word,
+            info.name.as_slice(),
+            b" ",
+            &direction_letter(info.inbound),
+        ],
+    )
 }
 
 fn direction_letter(inbound: bool) -> [u8; 1]
@@ -122,7 +163,10 @@ pub(crate) fn push_row(text: &mut Vec<u8>, inst: &Instance, row: Row) -> Result<
     match row {
         Row::Flown { plane, dep } => {
             let departure = moment_text(dep);
-            push_all(text, &[b"+ ", inst.plane(plane).name.as_slice(), b" ", &departure])
+            push_all(
+                text,
+                &[b"+ ", inst.plane(plane).name.as_slice(), b" ", &departure],
+            )
         }
         Row::Cancelled => push_all(text, &[b"-"]),
     }

@@ -27,7 +27,9 @@ pub(crate) fn push_move(text: &mut Vec<u8>, inst: &Instance, m: &Move) -> Result
 /// Adds steps, each behind a space.
 fn push_more_steps(text: &mut Vec<u8>, inst: &Instance, steps: &[Step]) -> Result<(), NoMem>
     requires { All (StepFits inst.now) steps.now }
-    ensures { OnOk result (text.new.items ≡ text.old.items ++ flat_map (λ step. codes " " ++ step_text inst.now step) steps.now) }
+    ensures { OnOk result (
+        text.new.items ≡ text.old.items
+        ++ flat_map (λ step. codes " " ++ step_text inst.now step) steps.now) }
 {
     for step in steps {
         push_all(text, &[b" "])?;

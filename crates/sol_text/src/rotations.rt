@@ -28,7 +28,12 @@ pub fn rotations_text(alloc: Global, inst: &Instance, plan: &Plan) -> Result<Vec
 
 /// Adds the line of a leg.
 #[tactic(auto, unfolding(crate::specs::Rotations::rotation_line))]
-fn push_line(text: &mut Vec<u8>, inst: &Instance, leg: &LegInfo, row: Row) -> Result<(), NoMem>
+pub(crate) fn push_line(
+    text: &mut Vec<u8>,
+    inst: &Instance,
+    leg: &LegInfo,
+    row: Row,
+) -> Result<(), NoMem>
     requires day { leg.now.day < 36525 }
     requires row { IsRowOf (planes_of inst.now) row }
     ensures { OnOk result (text.new.items ≡ text.old.items ++ rotation_line inst.now leg.now row) }
@@ -39,7 +44,10 @@ fn push_line(text: &mut Vec<u8>, inst: &Instance, leg: &LegInfo, row: Row) -> Re
         Row::Flown { plane, dep } => {
             let plane = inst.plane(plane).name.as_slice();
             let departure = moment_text(dep);
-            push_all(text, &[flight, b" ", &date, b" ", plane, b" ", &departure, b"\n"])
+            push_all(
+                text,
+                &[flight, b" ", &date, b" ", plane, b" ", &departure, b"\n"],
+            )
         }
         Row::Cancelled => push_all(text, &[flight, b" ", &date, b" ", b"cancelled", b"\n"]),
     }

@@ -1,4 +1,4 @@
-use Rattle.std.proofs.Common.{◌≡◌, ◌++◌, length, take, vec_len}
+use Rattle.std.proofs.Common.{◌≡◌, ◌++◌, take, vec_len}
 use Rattle.std.specs.List.{flat_map}
 use Rattle.desk_text.proofs.texts.push_all.Given as goal
 
