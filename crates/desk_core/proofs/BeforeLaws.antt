@@ -1,6 +1,6 @@
 -- The leg before a leg: how one pass over the legs finds it, and what it says of the rules.
 use Rattle.std.proofs.Common.{◌≡◌, ℕ, ◌+◌, ◌<◌, ◌⊎◌, inl, inr, Bool, true, false, ◌&&◌, ◌||◌, eqb, leb, List, refl, sym, ap, ◌∙◌, subst, arith, get_or}
-use Rattle.std.specs.Prelude.{Option, Some, None, length}
+use Rattle.std.specs.Prelude.{Option, Some, None}
 use Rattle.std.proofs.lemmas.Bool.{cases_Bool, true≢false, and_parts, and_from}
 use Rattle.desk_units.specs.declared.numbers.Leg.{Leg}
 use Rattle.desk_data.specs.declared.row.Row.{Row}
@@ -11,7 +11,7 @@ use Rattle.desk_model.specs.Numbers.{each_below, none_below, implies}
 use Rattle.desk_model.specs.Rotations.{precedes, follows, is_first, arr, ground}
 use Rattle.desk_model.specs.Rules.{leaves_right, has_ground_time, keeps_c5, keeps_c6}
 use Rattle.desk_model.proofs.Tests.{each_below-holds, each_below-from, none_below-holds, none_below-from, implies-holds, implies-from}
-use Rattle.desk_core.specs.Before.{precedes_in, IsNearest, IsLastBefore, is_behind, stand, is_ready, stands_there, has_turned}
+use Rattle.desk_core.specs.Before.{precedes_in, IsNearest, IsLastBefore, is_behind, stands_there, has_turned}
 use Rattle.desk_core.proofs.OrderLaws.{comes_before-irreflexive, comes_before-trans, comes_before-total}
 
 abbrev row_in : List Row → ℕ → Row

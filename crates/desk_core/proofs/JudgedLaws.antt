@@ -1,8 +1,7 @@
 -- What judging a move at a state finds out, case by case.
-use Rattle.std.proofs.Common.{◌≡◌, ℕ, ◌<◌, ◌≤◌, Bool, true, false, leb, refl, sym, ap, ◌∙◌}
+use Rattle.std.proofs.Common.{◌≡◌, ◌<◌, ◌≤◌, true, leb, refl, sym, ap, ◌∙◌}
 use Rattle.std.specs.Prelude.{None, Some, Option}
-use Rattle.std.proofs.lemmas.Bool.{le-leb, lt-leb}
-use Rattle.desk_units.specs.declared.money.Grains.{Grains}
+use Rattle.std.proofs.lemmas.Bool.{le-leb}
 use Rattle.desk_data.specs.declared.broken.Broken.{Broken}
 use Rattle.desk_data.specs.declared.moves.Move.{Move}
 use Rattle.desk_data.specs.Situation.{Situation}

@@ -1,6 +1,6 @@
 -- What a book keeps when it is opened and when an entry is added.
-use Rattle.std.proofs.Common.{◌≡◌, ℕ, ◌+◌, ◌<◌, ◌≤◌, Bool, true, false, cond, List, [], ◌∷◌, ◌++◌, length, refl, sym, ap, subst, ◌∙◌, arith, length-append}
-use Rattle.std.specs.Prelude.{None, Some, Option, count_by}
+use Rattle.std.proofs.Common.{◌≡◌, ℕ, ◌+◌, ◌<◌, Bool, true, false, cond, List, [], ◌∷◌, ◌++◌, length, refl, sym, ap, ◌∙◌, arith, length-append}
+use Rattle.std.specs.Prelude.{None, Option}
 use Rattle.std.proofs.lemmas.Bool.{lt-ltb}
 use Rattle.std.proofs.lemmas.List.Sums.{sum_by-append}
 use Rattle.desk_units.specs.declared.money.Grains.{Grains}
@@ -16,9 +16,8 @@ use Rattle.desk_model.specs.declared.answer.Event.TheVariants as event
 use Rattle.desk_model.specs.declared.answer.Entry.{Entry}
 use Rattle.desk_model.specs.Rules.{least}
 use Rattle.desk_model.specs.Cost.{cost}
-use Rattle.desk_model.specs.Steps.{moved}
-use Rattle.desk_model.specs.States.{State, grains, opening, answer, after}
-use Rattle.desk_model.specs.Histories.{state, proposal_limit, IsLegal, Stands, changes, is_change}
+use Rattle.desk_model.specs.States.{State, grains, opening, answer}
+use Rattle.desk_model.specs.Histories.{state, proposal_limit, Stands, changes, is_change}
 use Rattle.desk_model.proofs.StateLaws.{accepted-cause, after-accepted, after-unchanged}
 use Rattle.desk_model.proofs.HistoryLaws.{state-append, legal-append, legal-nil}
 use Rattle.desk_core.specs.declared.judged.Judged.TheVariants.{Published, Refused}

@@ -1,5 +1,5 @@
 -- Steps and costs, one at a time.
-use Rattle.std.proofs.Common.{◌≡◌, ℕ, List, [], ◌∷◌, ◌++◌, refl}
+use Rattle.std.proofs.Common.{◌≡◌, List, [], ◌∷◌, ◌++◌, refl}
 use Rattle.desk_data.specs.declared.moves.Step.{Step}
 use Rattle.desk_data.specs.Situation.{Situation}
 use Rattle.desk_data.specs.PlanRows.{PlanRows}

@@ -1,4 +1,4 @@
-use Rattle.std.proofs.Common.{◌≡◌, ◌<◌, ◌+◌, suc, arith, sym, ap, ◌∙◌, not, true, false, refl, below_more, add-one}
+use Rattle.std.proofs.Common.{◌≡◌, ◌<◌, arith, sym, ap, ◌∙◌, true, false, below_more, add-one}
 use Rattle.std.specs.Prelude.{find, map}
 use Rattle.desk_data.specs.declared.broken.Broken.TheVariants.{C6}
 use Rattle.desk_data.specs.Situation.{legs_of}

@@ -1,4 +1,4 @@
-use Rattle.std.proofs.Common.{◌≡◌, ◌<◌, arith, sym, ap, ◌∙◌, not, false}
+use Rattle.std.proofs.Common.{◌≡◌, ◌<◌, arith, sym, false}
 use Rattle.desk_data.specs.Situation.{legs_of}
 use Rattle.desk_model.specs.Rules.{keeps_c2}
 use Rattle.desk_core.proofs.FindLaws.{first_c2, no_c2}

@@ -1,7 +1,6 @@
-use Rattle.std.proofs.Common.{◌≡◌, ◌<◌, length, arith, ap}
+use Rattle.std.proofs.Common.{◌<◌, length, arith, ap}
 use Rattle.std.proofs.lemmas.Grind.{common_steps}
-use Rattle.std.proofs.lemmas.List.{take_more, take_all}
-use Rattle.desk_model.specs.Steps.{stepped_by, moved}
+use Rattle.desk_model.specs.Steps.{moved}
 use Rattle.desk_model.proofs.ValidLaws.{stepped-valid}
 use Rattle.desk_core.proofs.StepLaws.{stepped_by-push}
 use Rattle.desk_core.proofs.moved.moved_plan.Goals as goal

@@ -1,4 +1,3 @@
-use Rattle.std.proofs.Common.{rules}
 use Rattle.desk_model.proofs.HistoryLaws.{promises}
 use Rattle.desk_core.proofs.book.Book.journal.Goals as goal
 

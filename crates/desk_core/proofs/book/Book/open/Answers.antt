@@ -1,4 +1,3 @@
-use Rattle.std.proofs.Common.{rules}
 use Rattle.desk_core.proofs.KeptLaws.{kept_opening}
 use Rattle.desk_core.proofs.book.Book.open.Goals as goal
 
