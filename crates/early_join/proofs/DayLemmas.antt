@@ -1,6 +1,6 @@
 -- The rows of the joined day make an instance.
-use Rattle.std.proofs.Common.{◌≡◌, ◌≢◌, ℕ, ◌+◌, ◌-◌, ◌*◌, ◌<◌, ◌≤◌, Bool, true, ◌||◌, List, [], length, map, bytes_eq, Option, Some, None, Result, Ok, refl, sym, ap, subst, ◌∙◌, arith, All, AllPairs, inl, inr}
-use Rattle.std.specs.Prelude.{find, option_map, IfSome, unwrap_or, IsTrue}
+use Rattle.std.proofs.Common.{◌≡◌, ◌≢◌, ℕ, ◌+◌, ◌*◌, ◌<◌, ◌≤◌, true, ◌||◌, List, [], length, map, bytes_eq, Option, Some, None, Ok, refl, sym, ap, subst, ◌∙◌, arith, All, AllPairs, inl, inr}
+use Rattle.std.specs.Prelude.{option_map, IfSome, unwrap_or, IsTrue}
 use Rattle.std.specs.Int.{is_in_range}
 use Rattle.std.specs.Char.{is_ascii_alphanumeric}
 use Rattle.std.proofs.lemmas.Bool.{and_parts, or_cases, leb-true}
@@ -21,11 +21,11 @@ use Rattle.early_form.specs.declared.rows.AircraftRow.{AircraftRow}
 use Rattle.early_form.specs.Flights.{airports_of}
 use Rattle.early_form.specs.Rotations.{departure_of}
 use Rattle.early_form.specs.Facts.{IsPlainName, IsFlight, IsRotation, IsAircraft, AreFlights, AreRotations, AreAircraft}
-use Rattle.early_join.specs.Join.{place_of, airport_of, airport_info, plane_info, leg_of, leg_info, joined, over, day_of_legs, day_of_rows}
+use Rattle.early_join.specs.Join.{place_of, airport_info, plane_info, leg_of, leg_info, joined, over, day_of_legs, day_of_rows}
 use Rattle.early_join.proofs.NamesLemmas.{same_name}
 use Rattle.early_join.proofs.SeenLemmas.{airports-apart, airports-All, airport_of_flight, airport_of_aircraft}
 use Rattle.early_join.proofs.JoinLemmas.{Joins, joins_of, joins-All, joins-keys, pairs_of_keys, keys_of_pairs, found, found_some}
-use Rattle.early_join.proofs.LegLemmas.{flight_of, plane_of, leg_parts}
+use Rattle.early_join.proofs.LegLemmas.{flight_of, leg_parts}
 
 -- the rows of a day
 abbrev pub parts_with : List AirportInfo → List PlaneInfo → List LegInfo → List ResInfo → List PositionInfo → Parts

@@ -1,5 +1,5 @@
 -- The events of proposals can be asked.
-use Rattle.std.proofs.Common.{◌≡◌, ℕ, ◌<◌, ◌≤◌, ◌&&◌, eqb, List, [], ◌∷◌, length, map, bytes_eq, Option, Some, None, Result, Ok, Err, refl, sym, ap, subst, ◌∙◌, arith, All}
+use Rattle.std.proofs.Common.{◌≡◌, ℕ, ◌<◌, ◌≤◌, ◌&&◌, eqb, List, [], map, bytes_eq, Option, Some, None, Result, Ok, Err, refl, sym, subst, ◌∙◌, arith, All}
 use Rattle.std.specs.Prelude.{IfOk}
 use Rattle.std.specs.List.{position}
 use Rattle.std.proofs.lemmas.List.{length-map}

@@ -1,5 +1,5 @@
 -- A join that fails for its rows fails for the day.
-use Rattle.std.proofs.Common.{ℕ, List, Result, Ok, Err, ap}
+use Rattle.std.proofs.Common.{List, Err, ap}
 use Rattle.desk_data.specs.declared.info.LegInfo.{LegInfo}
 use Rattle.desk_data.specs.Situation.{Situation}
 use Rattle.early_form.specs.declared.rows.FlightRow.{FlightRow}

@@ -1,5 +1,5 @@
 -- The leg of a rotation.
-use Rattle.std.proofs.Common.{◌≡◌, ℕ, List, map, bytes_eq, Option, Some, None, refl, ap, ◌∙◌, sym}
+use Rattle.std.proofs.Common.{◌≡◌, ℕ, List, map, bytes_eq, Option, Some, None, refl, ◌∙◌}
 use Rattle.std.specs.Prelude.{find}
 use Rattle.desk_data.specs.declared.info.LegInfo.{LegInfo}
 use Rattle.early_form.specs.declared.rows.FlightRow.{FlightRow}

@@ -1,5 +1,5 @@
 -- Sets of borrowed names and legs are seen as lists, in which each new one stands last.
-use Rattle.std.proofs.Common.{◌≡◌, ◌≢◌, ℕ, zero, suc, ◌+◌, ◌<◌, Bool, true, false, cond, ◌&&◌, ◌||◌, not, eqb, ltb, List, [], ◌∷◌, ◌++◌, length, take, get_or, map, bytes_eq, Option, Some, None, refl, sym, ap, ◌∙◌, Bor, arith, AllPairs}
+use Rattle.std.proofs.Common.{◌≡◌, ◌≢◌, ℕ, suc, ◌+◌, ◌<◌, Bool, true, false, cond, ◌&&◌, ◌||◌, not, eqb, ltb, List, [], ◌∷◌, ◌++◌, length, take, get_or, map, bytes_eq, Some, None, refl, sym, ap, ◌∙◌, Bor, arith, AllPairs}
 use Rattle.std.specs.List.{list_any, position, position_or_len}
 use Rattle.std.proofs.lemmas.Bool.{false_from_ne_true, and_parts}
 use Rattle.std.proofs.lemmas.Grind.{common_steps}

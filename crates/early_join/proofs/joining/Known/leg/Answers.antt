@@ -1,5 +1,5 @@
 use Rattle.std.proofs.Common.{◌≡◌, bytes_eq, map, Some, None, refl, ap, sym, ◌∙◌}
-use Rattle.early_join.specs.Join.{place_of, leg_of, leg_info}
+use Rattle.early_join.specs.Join.{place_of, leg_of}
 use Rattle.early_join.proofs.JoinLemmas.{find_at_place, find_nowhere}
 use Rattle.early_join.proofs.LegLemmas.{leg_by, plane_of}
 use Rattle.early_join.proofs.joining.Known.leg.Goals as goal

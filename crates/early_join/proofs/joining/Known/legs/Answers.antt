@@ -1,7 +1,6 @@
-use Rattle.std.proofs.Common.{◌+◌, List, [], ◌∷◌, length, drop, Some, None, ap, sym, ◌∙◌, arith}
+use Rattle.std.proofs.Common.{◌+◌, [], ◌∷◌, length, drop, ap, sym, ◌∙◌, arith}
 use Rattle.std.proofs.Math.ListN.{drop_of_length-le}
 use Rattle.std.proofs.lemmas.List.{length-append}
-use Rattle.desk_data.specs.declared.info.LegInfo.{LegInfo}
 use Rattle.early_join.specs.Join.{leg_info, joined, joined_from}
 use Rattle.early_join.proofs.JoinLemmas.{joined_more, joined_stops, joined_ends}
 use Rattle.early_join.proofs.joining.Known.legs.Goals as goal

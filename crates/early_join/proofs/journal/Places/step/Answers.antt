@@ -1,4 +1,4 @@
-use Rattle.std.proofs.Common.{◌≡◌, Some, None, refl, ◌∙◌}
+use Rattle.std.proofs.Common.{Some, None, refl, ◌∙◌}
 use Rattle.std.specs.List.{position}
 use Rattle.early_join.specs.Names.{is_leg}
 use Rattle.early_join.specs.Join.{row_of}
