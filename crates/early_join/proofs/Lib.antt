@@ -1,0 +1,7 @@
+mod DayLemmas
+mod EventLemmas
+mod FaultLemmas
+mod JoinLemmas
+mod LegLemmas
+mod NamesLemmas
+mod SeenLemmas

@@ -1,0 +1,12 @@
+//! The rows of the early form, joined: names become numbers.
+#![tactic(auto)]
+
+mod airports;
+mod fault;
+mod joining;
+mod journal;
+mod names;
+
+pub use fault::JoinFault;
+pub use joining::join;
+pub use journal::join_journal;
