@@ -1,0 +1,276 @@
+-- Naming the directories, reading, taking the events and writing, one after another.
+use Rattle.std.proofs.Common.{◌≡◌, ◌≢◌, ℕ, List, [], ◌++◌, refl, sym, ap, subst, ◌∙◌, inl, inr, ◌⊎◌}
+use Rattle.std.specs.Prelude.{Option, Some, None, IsSome, IfSome, Result, Ok, Err}
+use Rattle.std.specs.Io.KnownBytes.{Appends, Keeps}
+use Rattle.std.proofs.lemmas.Bool.{false≢true}
+use Rattle.std.proofs.lemmas.List.{append-nil}
+use Rattle.desk_folder.specs.declared.files.File.{File}
+use Rattle.desk_folder.specs.declared.files.File.TheVariants as file
+use Rattle.desk_folder.specs.declared.faults.FolderFault.{FolderFault}
+use Rattle.desk_folder.specs.Outside.{Outside, SinkSide, Directories, PlacesOnly}
+use Rattle.desk_folder.specs.Calls.{AppendsPrefix, Rose, Names}
+use Rattle.desk_data.specs.declared.broken.Broken.{Broken}
+use Rattle.desk_data.specs.Situation.{Situation}
+use Rattle.desk_model.specs.declared.answer.Entry.{Entry}
+use Rattle.desk_model.specs.States.{State, opening}
+use Rattle.desk_model.specs.Histories.{AreAskable, IsLegal, run, state}
+use Rattle.desk_model.specs.Promises.{KeepsPromises}
+use Rattle.desk_model.proofs.StateLaws.{opening-inst}
+use Rattle.desk_model.proofs.HistoryLaws.{promises, run-legal}
+use Rattle.journal_text.specs.Lines.{journal_text}
+use Rattle.sol_text.specs.Rotations.{rotations_text}
+use Rattle.desk_replay.specs.declared.ending.Refusal.{Refusal}
+use Rattle.desk_replay.specs.declared.ending.Ending.{Ending}
+use Rattle.desk_replay.specs.declared.ending.Ending.TheVariants as ending
+use Rattle.desk_replay.specs.Story.{Inputs, Story, story_of}
+use Rattle.desk_replay.specs.Outcome.{history, last, planned_rotations, report_text, Texts, texts_from, texts_of}
+use Rattle.desk_replay.specs.Runs.{World, Tells, IsRead, AreRead, Headline, IsUnwritten, IsWritten, StopsInRotations, StopsInJournal, StopsInReport, Stops, StopsIn, Did, HasCause, AreNamed, IsReadWhole, Replays}
+use Rattle.desk_replay.specs.Reading.{OnlyReads}
+use Rattle.desk_replay.specs.Writing.{Wrote, OnlyWrites}
+use Rattle.desk_replay.specs.Finishing.{Told, Finishes}
+
+-- ---- what was written is told of the story
+
+pub told-from : (before now : World) (s : Story) (t : Texts) (how : Ending) → t ≡ texts_of s → Wrote before now t (Err how) → Told before now s how
+told-from before now s t (ending.WriteFault f) is h = subst (λ (u : Texts). StopsIn f before now u) is h
+told-from before now s t ending.ReportFault is h = subst (λ (u : Texts). StopsInReport before now u) is h
+told-from before now s t ending.Memory is h = inr (subst (λ (u : Texts). Stops before now u) is h)
+told-from before now s t ending.Done is h = absurd h
+told-from before now s t ending.NoPlan is h = absurd h
+told-from before now s t ending.Usage is h = absurd h
+told-from before now s t (ending.Refused r) is h = absurd h
+told-from before now s t ending.PlaceFault is h = absurd h
+told-from before now s t (ending.ReadFault f) is h = absurd h
+
+-- ---- the headline
+
+-- a story's history, from what was written
+abbrev IsRunnable : Story → Type 0
+IsRunnable s = AreAskable s.day s.events
+
+appends_nothing : (before now : Option (List ℕ)) → Appends before now [] → Keeps before now
+appends_nothing None now h = tt
+appends_nothing (Some xs) None h = h
+appends_nothing (Some xs) (Some ys) h = h ∙ append-nil xs
+
+planned_some : (S : State) (o : Option Broken) → IsSome o → planned_rotations S o ≡ []
+planned_some S None h = absurd (false≢true h)
+planned_some S (Some item) h = refl
+
+story_legal : (s : Story) → IsRunnable s → IsLegal (opening s.day) (history s)
+unfolding history
+story_legal s runs = run-legal (opening s.day) s.events (subst (λ (I : Situation). AreAskable I s.events) (sym (opening-inst s.day)) runs)
+
+-- the texts of a story, part by part
+texts_rotations : (s : Story) → (texts_of s).rotations ≡ planned_rotations (last s) (last s).broken
+unfolding texts_from last
+texts_rotations s = refl
+
+last_is : (s : Story) → last s ≡ state (opening s.day) (history s)
+unfolding last
+last_is s = refl
+
+texts_journal : (s : Story) → (texts_of s).journal ≡ journal_text s.day (history s)
+unfolding texts_from
+texts_journal s = refl
+
+texts_report : (s : Story) → (texts_of s).report ≡ report_text s.day (history s)
+unfolding texts_from
+texts_report s = refl
+
+history_is : (s : Story) → history s ≡ run (opening s.day) s.events
+unfolding history
+history_is s = refl
+
+rotations_of_plan : (s : Story) → (state (opening s.day) (history s)).broken ≡ None → (texts_of s).rotations ≡ rotations_text (state (opening s.day) (history s)).inst (state (opening s.day) (history s)).plan
+rotations_of_plan s none = texts_rotations s ∙ rw (last_is s, none) refl
+
+no_rotations_of : (s : Story) → IsSome (state (opening s.day) (history s)).broken → (texts_of s).rotations ≡ []
+no_rotations_of s some = texts_rotations s ∙ rw (last_is s) (planned_some (state (opening s.day) (history s)) (state (opening s.day) (history s)).broken some)
+
+pub headline : (before now : World) (s : Story) → IsRunnable s → IsWritten before now (texts_of s) → Headline before now s (history s)
+headline before now s runs w = record {
+  events = history_is s;
+  legal = story_legal s runs;
+  promises = promises s.day (history s) (story_legal s runs);
+  journal = subst (λ (t : List ℕ). Appends (before.folder.written file.Journal) (now.folder.written file.Journal) t) (texts_journal s) w.journal;
+  reported = subst (λ (t : List ℕ). Appends before.sink.written now.sink.written t) (texts_report s) w.sink;
+  rotations = λ none. subst (λ (t : List ℕ). Appends (before.folder.written file.SolRotations) (now.folder.written file.SolRotations) t) (rotations_of_plan s none) w.rotations;
+  no_rotations = λ some. appends_nothing (before.folder.written file.SolRotations) (now.folder.written file.SolRotations)
+    (subst (λ (t : List ℕ). Appends (before.folder.written file.SolRotations) (now.folder.written file.SolRotations) t) (no_rotations_of s some) w.rotations);
+}
+
+-- ---- from the world before the reading
+
+-- the same is written as before, and the sink is as before
+abbrev SameWritten : Outside → Outside → Type 0
+SameWritten before mid = (f : File) → mid.written f ≡ before.written f
+
+unwritten_from : (before mid now : Outside) (sink sink' : SinkSide) → SameWritten before mid → IsUnwritten (record { folder = mid; sink = sink }) (record { folder = now; sink = sink' }) → IsUnwritten (record { folder = before; sink = sink }) (record { folder = now; sink = sink' })
+unwritten_from before mid now sink sink' same h = record {
+  rotations = subst (λ (o : Option (List ℕ)). Keeps o (now.written file.SolRotations)) (same file.SolRotations) h.rotations;
+  journal = subst (λ (o : Option (List ℕ)). Keeps o (now.written file.Journal)) (same file.Journal) h.journal;
+  sink = h.sink;
+}
+
+written_from : (before mid now : Outside) (sink sink' : SinkSide) (t : Texts) → SameWritten before mid → IsWritten (record { folder = mid; sink = sink }) (record { folder = now; sink = sink' }) t → IsWritten (record { folder = before; sink = sink }) (record { folder = now; sink = sink' }) t
+written_from before mid now sink sink' t same h = record {
+  rotations = subst (λ (o : Option (List ℕ)). Appends o (now.written file.SolRotations) t.rotations) (same file.SolRotations) h.rotations;
+  journal = subst (λ (o : Option (List ℕ)). Appends o (now.written file.Journal) t.journal) (same file.Journal) h.journal;
+  sink = h.sink;
+}
+
+stops_in_rotations_from : (before mid now : Outside) (sink sink' : SinkSide) (t : Texts) → SameWritten before mid → StopsInRotations (record { folder = mid; sink = sink }) (record { folder = now; sink = sink' }) t → StopsInRotations (record { folder = before; sink = sink }) (record { folder = now; sink = sink' }) t
+stops_in_rotations_from before mid now sink sink' t same h = record {
+  rotations = subst (λ (o : Option (List ℕ)). AppendsPrefix o (now.written file.SolRotations) t.rotations) (same file.SolRotations) h.rotations;
+  journal = subst (λ (o : Option (List ℕ)). Keeps o (now.written file.Journal)) (same file.Journal) h.journal;
+  sink = h.sink;
+}
+
+stops_in_journal_from : (before mid now : Outside) (sink sink' : SinkSide) (t : Texts) → SameWritten before mid → StopsInJournal (record { folder = mid; sink = sink }) (record { folder = now; sink = sink' }) t → StopsInJournal (record { folder = before; sink = sink }) (record { folder = now; sink = sink' }) t
+stops_in_journal_from before mid now sink sink' t same h = record {
+  rotations = subst (λ (o : Option (List ℕ)). Appends o (now.written file.SolRotations) t.rotations) (same file.SolRotations) h.rotations;
+  journal = subst (λ (o : Option (List ℕ)). AppendsPrefix o (now.written file.Journal) t.journal) (same file.Journal) h.journal;
+  sink = h.sink;
+}
+
+stops_in_report_from : (before mid now : Outside) (sink sink' : SinkSide) (t : Texts) → SameWritten before mid → StopsInReport (record { folder = mid; sink = sink }) (record { folder = now; sink = sink' }) t → StopsInReport (record { folder = before; sink = sink }) (record { folder = now; sink = sink' }) t
+stops_in_report_from before mid now sink sink' t same h = record {
+  rotations = subst (λ (o : Option (List ℕ)). Appends o (now.written file.SolRotations) t.rotations) (same file.SolRotations) h.rotations;
+  journal = subst (λ (o : Option (List ℕ)). Appends o (now.written file.Journal) t.journal) (same file.Journal) h.journal;
+  sink = h.sink;
+}
+
+stops_in_from : (before mid now : Outside) (sink sink' : SinkSide) (t : Texts) (f : File) → SameWritten before mid → StopsIn f (record { folder = mid; sink = sink }) (record { folder = now; sink = sink' }) t → StopsIn f (record { folder = before; sink = sink }) (record { folder = now; sink = sink' }) t
+stops_in_from before mid now sink sink' t file.SolRotations same h = stops_in_rotations_from before mid now sink sink' t same h
+stops_in_from before mid now sink sink' t file.Journal same h = stops_in_journal_from before mid now sink sink' t same h
+stops_in_from before mid now sink sink' t file.Config same h = absurd h
+stops_in_from before mid now sink sink' t file.Flights same h = absurd h
+stops_in_from before mid now sink sink' t file.Rotations same h = absurd h
+stops_in_from before mid now sink sink' t file.Aircraft same h = absurd h
+stops_in_from before mid now sink sink' t file.Airports same h = absurd h
+stops_in_from before mid now sink sink' t file.Dist same h = absurd h
+stops_in_from before mid now sink sink' t file.Itineraries same h = absurd h
+stops_in_from before mid now sink sink' t file.Position same h = absurd h
+stops_in_from before mid now sink sink' t file.AltFlights same h = absurd h
+stops_in_from before mid now sink sink' t file.AltAircraft same h = absurd h
+stops_in_from before mid now sink sink' t file.AltAirports same h = absurd h
+stops_in_from before mid now sink sink' t file.Tariff same h = absurd h
+stops_in_from before mid now sink sink' t file.Feed same h = absurd h
+stops_in_from before mid now sink sink' t file.SolItineraries same h = absurd h
+
+stops_from : (before mid now : Outside) (sink sink' : SinkSide) (t : Texts) → SameWritten before mid → Stops (record { folder = mid; sink = sink }) (record { folder = now; sink = sink' }) t → Stops (record { folder = before; sink = sink }) (record { folder = now; sink = sink' }) t
+stops_from before mid now sink sink' t same (inl h) = inl (stops_in_rotations_from before mid now sink sink' t same h)
+stops_from before mid now sink sink' t same (inr (inl h)) = inr (inl (stops_in_journal_from before mid now sink sink' t same h))
+stops_from before mid now sink sink' t same (inr (inr h)) = inr (inr (stops_in_report_from before mid now sink sink' t same h))
+
+-- ---- the whole
+
+-- what was done before the events are taken: the directories are named, and the input is read
+pub record Prepared (dirs : Directories) (before mid : Outside) (s : Story) : Type 0 where
+  pub named : IfSome before.directories (λ was. mid.directories ≡ Some dirs)
+  pub written : SameWritten before mid
+  pub put_faults : (f : File) → mid.put_faults f ≡ before.put_faults f
+  pub read : AreRead before mid
+  pub story : (x : Inputs) → Tells before x → story_of x ≡ Ok s
+
+did_from : (dirs : Directories) (before mid now : Outside) (sink sink' : SinkSide) (s : Story) (how : Ending) (x : Inputs) → Prepared dirs before mid s → IsRunnable s → Told (record { folder = mid; sink = sink }) (record { folder = now; sink = sink' }) s how → Tells before x → Did (record { folder = before; sink = sink }) (record { folder = now; sink = sink' }) x how
+did_from dirs before mid now sink sink' s ending.Done x p runs h tells =
+    (s, p.story x tells, h.0, (history s, headline (record { folder = before; sink = sink }) (record { folder = now; sink = sink' }) s runs (written_from before mid now sink sink' (texts_of s) p.written h.1)))
+did_from dirs before mid now sink sink' s ending.NoPlan x p runs h tells =
+    (s, p.story x tells, h.0, (history s, headline (record { folder = before; sink = sink }) (record { folder = now; sink = sink' }) s runs (written_from before mid now sink sink' (texts_of s) p.written h.1)))
+did_from dirs before mid now sink sink' s (ending.WriteFault f) x p runs h tells = (s, p.story x tells, stops_in_from before mid now sink sink' (texts_of s) f p.written h)
+did_from dirs before mid now sink sink' s ending.ReportFault x p runs h tells = (s, p.story x tells, stops_in_report_from before mid now sink sink' (texts_of s) p.written h)
+did_from dirs before mid now sink sink' s ending.Memory x p runs (inl h) tells = inl (unwritten_from before mid now sink sink' p.written h)
+did_from dirs before mid now sink sink' s ending.Memory x p runs (inr h) tells = inr (s, p.story x tells, stops_from before mid now sink sink' (texts_of s) p.written h)
+did_from dirs before mid now sink sink' s ending.Usage x p runs h tells = absurd h
+did_from dirs before mid now sink sink' s (ending.Refused r) x p runs h tells = absurd h
+did_from dirs before mid now sink sink' s ending.PlaceFault x p runs h tells = absurd h
+did_from dirs before mid now sink sink' s (ending.ReadFault f) x p runs h tells = absurd h
+
+cause_from : (dirs : Directories) (before mid now : Outside) (sink sink' : SinkSide) (s : Story) (how : Ending) → Prepared dirs before mid s → Told (record { folder = mid; sink = sink }) (record { folder = now; sink = sink' }) s how → HasCause (record { folder = mid; sink = sink }) (record { folder = now; sink = sink' }) how → HasCause (record { folder = before; sink = sink }) (record { folder = now; sink = sink' }) how
+cause_from dirs before mid now sink sink' s (ending.WriteFault f) p told h = subst (λ (n : ℕ). Rose n (now.put_faults f)) (p.put_faults f) h
+cause_from dirs before mid now sink sink' s ending.ReportFault p told h = h
+cause_from dirs before mid now sink sink' s ending.PlaceFault p told h = absurd told
+cause_from dirs before mid now sink sink' s (ending.ReadFault f) p told h = absurd told
+cause_from dirs before mid now sink sink' s ending.Done p told h = tt
+cause_from dirs before mid now sink sink' s ending.NoPlan p told h = tt
+cause_from dirs before mid now sink sink' s ending.Usage p told h = tt
+cause_from dirs before mid now sink sink' s (ending.Refused r) p told h = tt
+cause_from dirs before mid now sink sink' s ending.Memory p told h = tt
+
+some_named : (d : Option Directories) (mid now dirs : Option Directories) → now ≡ mid → IfSome d (λ was. mid ≡ dirs) → IfSome d (λ was. now ≡ dirs)
+some_named None mid now dirs e h = tt
+some_named (Some was) mid now dirs e h = e ∙ h
+
+named_from : (dirs : Directories) (before mid now : Outside) (sink sink' : SinkSide) (s : Story) (how : Ending) → Prepared dirs before mid s → now.directories ≡ mid.directories → AreNamed dirs (record { folder = before; sink = sink }) (record { folder = now; sink = sink' }) how
+named_from dirs before mid now sink sink' s ending.PlaceFault p e = tt
+named_from dirs before mid now sink sink' s ending.Memory p e = tt
+named_from dirs before mid now sink sink' s ending.Done p e = some_named before.directories mid.directories now.directories (Some dirs) e p.named
+named_from dirs before mid now sink sink' s ending.NoPlan p e = some_named before.directories mid.directories now.directories (Some dirs) e p.named
+named_from dirs before mid now sink sink' s ending.Usage p e = some_named before.directories mid.directories now.directories (Some dirs) e p.named
+named_from dirs before mid now sink sink' s (ending.Refused r) p e = some_named before.directories mid.directories now.directories (Some dirs) e p.named
+named_from dirs before mid now sink sink' s (ending.ReadFault f) p e = some_named before.directories mid.directories now.directories (Some dirs) e p.named
+named_from dirs before mid now sink sink' s (ending.WriteFault f) p e = some_named before.directories mid.directories now.directories (Some dirs) e p.named
+named_from dirs before mid now sink sink' s ending.ReportFault p e = some_named before.directories mid.directories now.directories (Some dirs) e p.named
+
+read_on : (d mid now : Option (List ℕ)) → now ≡ mid → IfSome d (λ bytes. mid ≡ Some []) → IfSome d (λ bytes. now ≡ Some [])
+read_on None mid now e h = tt
+read_on (Some bytes) mid now e h = e ∙ h
+
+are_read_from : (before mid now : Outside) → ((f : File) → now.left f ≡ mid.left f) → AreRead before mid → AreRead before now
+are_read_from before mid now same h = record {
+  flights = read_on (before.left file.Flights) (mid.left file.Flights) (now.left file.Flights) (same file.Flights) h.flights;
+  rotations = read_on (before.left file.Rotations) (mid.left file.Rotations) (now.left file.Rotations) (same file.Rotations) h.rotations;
+  aircraft = read_on (before.left file.Aircraft) (mid.left file.Aircraft) (now.left file.Aircraft) (same file.Aircraft) h.aircraft;
+  journal = read_on (before.left file.Journal) (mid.left file.Journal) (now.left file.Journal) (same file.Journal) h.journal;
+}
+
+read_whole_from : (before now : Outside) (sink sink' : SinkSide) (how : Ending) → AreRead before now → IsReadWhole (record { folder = before; sink = sink }) (record { folder = now; sink = sink' }) how
+read_whole_from before now sink sink' ending.Done h = h
+read_whole_from before now sink sink' ending.NoPlan h = h
+read_whole_from before now sink sink' ending.Usage h = tt
+read_whole_from before now sink sink' (ending.Refused r) h = tt
+read_whole_from before now sink sink' ending.PlaceFault h = tt
+read_whole_from before now sink sink' (ending.ReadFault f) h = tt
+read_whole_from before now sink sink' (ending.WriteFault f) h = tt
+read_whole_from before now sink sink' ending.ReportFault h = tt
+read_whole_from before now sink sink' ending.Memory h = tt
+
+pub replays-finished : (dirs : Directories) (before mid now : Outside) (sink sink' : SinkSide) (s : Story) (how : Ending) → Prepared dirs before mid s → IsRunnable s → Finishes (record { folder = mid; sink = sink }) (record { folder = now; sink = sink' }) s how → Replays dirs (record { folder = before; sink = sink }) (record { folder = now; sink = sink' }) how
+replays-finished dirs before mid now sink sink' s how p runs h = record {
+  no_usage = λ e. subst (λ (e : Ending). Told (record { folder = mid; sink = sink }) (record { folder = now; sink = sink' }) s e) e h.told;
+  cause = cause_from dirs before mid now sink sink' s how p h.told h.cause;
+  did = λ x tells. did_from dirs before mid now sink sink' s how x p runs h.told tells;
+  named = named_from dirs before mid now sink sink' s how p h.only.directories;
+  read = read_whole_from before now sink sink' how (are_read_from before mid now h.only.left p.read);
+  others = λ f a b. h.only.written f a b ∙ p.written f;
+}
+
+-- naming the directories and reading prepare
+named_by : (d now : Option Directories) (dirs : Directories) (ok : Unit {0}) → Names d now dirs (let r : Result (Unit {0}) FolderFault = Ok ok in r) → IfSome d (λ was. now ≡ Some dirs)
+named_by None now dirs ok h = tt
+named_by (Some was) now dirs ok h = h
+
+tells_after : (before placed : Outside) (x : Inputs) → ((f : File) → placed.left f ≡ before.left f) → Tells before x → Tells placed x
+tells_after before placed x same h = record {
+  flights = same file.Flights ∙ h.flights; rotations = same file.Rotations ∙ h.rotations;
+  aircraft = same file.Aircraft ∙ h.aircraft; journal = same file.Journal ∙ h.journal;
+}
+
+read_before : (before placed : Outside) (f : File) (now : Option (List ℕ)) → placed.left f ≡ before.left f → IfSome (placed.left f) (λ bytes. now ≡ Some []) → IfSome (before.left f) (λ bytes. now ≡ Some [])
+read_before before placed f now same h = subst (λ (o : Option (List ℕ)). IfSome o (λ bytes. now ≡ Some [])) same h
+
+pub prepared : (dirs : Directories) (before placed mid : Outside) (s : Story) (ok : Unit {0}) → Names before.directories placed.directories dirs (let r : Result (Unit {0}) FolderFault = Ok ok in r) → PlacesOnly before placed → OnlyReads placed mid → AreRead placed mid → ((x : Inputs) → Tells placed x → story_of x ≡ Ok s) → Prepared dirs before mid s
+prepared dirs before placed mid s ok names only reads read story = record {
+  named = some_named before.directories placed.directories mid.directories (Some dirs) reads.directories (named_by before.directories placed.directories dirs ok names);
+  written = λ f. reads.written f ∙ only.written f;
+  put_faults = λ f. reads.put_faults f ∙ only.put_faults f;
+  read = record {
+    flights = read_before before placed file.Flights (mid.left file.Flights) (only.left file.Flights) read.flights;
+    rotations = read_before before placed file.Rotations (mid.left file.Rotations) (only.left file.Rotations) read.rotations;
+    aircraft = read_before before placed file.Aircraft (mid.left file.Aircraft) (only.left file.Aircraft) read.aircraft;
+    journal = read_before before placed file.Journal (mid.left file.Journal) (only.left file.Journal) read.journal;
+  };
+  story = λ x tells. story x (tells_after before placed x only.left tells);
+}

@@ -1,0 +1,18 @@
+-- The words of the program.
+use Rattle.std.specs.Prelude.{ℕ, Bool, true, false, not, ◌&&◌, ◌==◌, if◌then◌else◌, List, [], ◌∷◌, Option, Some, None, codes, bytes_eq}
+use Rattle.desk_folder.specs.Outside.{Directories}
+
+-- a directory isn't empty and doesn't begin with -
+abbrev pub is_directory : List ℕ → Bool
+is_directory [] = false
+is_directory (byte ∷ bytes) = not (byte == 45)
+
+abbrev pub directories : List ℕ → List ℕ → Directories
+directories input output = record { input = input; output = output }
+
+-- the command `replay IN OUT`; all other words are a usage refusal
+abbrev pub command : List (List ℕ) → Option Directories
+command (word ∷ input ∷ output ∷ []) =
+    if bytes_eq word (codes "replay") && is_directory input && is_directory output then Some (directories input output)
+    else None
+command words = None

@@ -1,0 +1,10 @@
+pub mod Story
+pub mod Outcome
+pub mod Commands
+pub mod Runs
+pub mod Reading
+pub mod ReadEnds
+pub mod Writing
+pub mod Finishing
+pub mod InputRows
+pub mod InputStory

@@ -1,0 +1,168 @@
+-- What a run does to the outside, by how it ends.
+use Rattle.std.specs.Prelude.{◌≡◌, ◌≢◌, ◌⊎◌, ◌↔◌, ℕ, ◌<◌, List, [], Option, Some, None, IfSome, IsSome, Result, Ok, Err, MatchOption}
+use Rattle.std.specs.Io.KnownBytes.{Appends, Keeps}
+use Rattle.desk_folder.specs.declared.files.File.{File}
+use Rattle.desk_folder.specs.declared.files.File.TheVariants as file
+use Rattle.desk_folder.specs.declared.faults.FolderFault.{FolderFault}
+use Rattle.desk_folder.specs.declared.faults.FolderFault.TheVariants as fault
+use Rattle.desk_folder.specs.Outside.{Outside, SinkSide, Directories}
+use Rattle.desk_folder.specs.Calls.{AppendsPrefix, Rose}
+use Rattle.folder_io.specs.Texts.{PutsReport}
+use Rattle.desk_model.specs.declared.answer.Entry.{Entry}
+use Rattle.desk_model.specs.States.{opening}
+use Rattle.desk_model.specs.Histories.{IsLegal, run, state}
+use Rattle.desk_model.specs.Promises.{KeepsPromises}
+use Rattle.journal_text.specs.Lines.{journal_text}
+use Rattle.sol_text.specs.Rotations.{rotations_text}
+use Rattle.desk_replay.specs.declared.ending.Refusal.{Refusal}
+use Rattle.desk_replay.specs.declared.ending.Ending.{Ending}
+use Rattle.desk_replay.specs.declared.ending.Ending.TheVariants as ending
+use Rattle.desk_replay.specs.Story.{Inputs, Story, story_of}
+use Rattle.desk_replay.specs.Outcome.{last, Texts, texts_of, report_text, fault_text, status_of}
+use Rattle.desk_replay.specs.Commands.{command}
+
+-- the folder and the sink
+pub record World : Type 0 where
+  pub folder : Outside
+  pub sink : SinkSide
+
+-- the folder tells the bytes of the input files
+pub record Tells (outside : Outside) (x : Inputs) : Type 0 where
+  pub flights : outside.left file.Flights ≡ Some x.flights
+  pub rotations : outside.left file.Rotations ≡ Some x.rotations
+  pub aircraft : outside.left file.Aircraft ≡ Some x.aircraft
+  pub journal : outside.left file.Journal ≡ Some x.journal
+
+-- the file that has been read to its end
+abbrev pub IsRead : Outside → Outside → File → Type 0
+IsRead before now f = IfSome (before.left f) (λ bytes. now.left f ≡ Some [])
+
+-- the promise of the desk, for a run that was done: the history behind what was written
+pub record Headline (before now : World) (s : Story) (h : List Entry) : Type 0 where
+  -- it is the history of the events that were read, in their order, from the opening of the day that was read
+  pub events : h ≡ run (opening s.day) s.events
+  pub legal : IsLegal (opening s.day) h
+  -- each published plan meets all rules, each stored cost is the cost of the rows, costs only fall, and a proposal to a
+  -- published plan is accepted exactly where the moved plan is feasible and cheaper
+  pub promises : KeepsPromises s.day h
+  -- journal.csv is the journal of the history, and the report tells its changes and the cost of the last plan
+  pub journal : Appends (before.folder.written file.Journal) (now.folder.written file.Journal) (journal_text s.day h)
+  pub reported : Appends before.sink.written now.sink.written (report_text s.day h)
+  -- sol_rotations.csv is that of the last plan, and is written only where there is one
+  pub rotations : (state (opening s.day) h).broken ≡ None →
+      Appends (before.folder.written file.SolRotations) (now.folder.written file.SolRotations)
+        (rotations_text (state (opening s.day) h).inst (state (opening s.day) h).plan)
+  pub no_rotations : IsSome (state (opening s.day) h).broken → Keeps (before.folder.written file.SolRotations) (now.folder.written file.SolRotations)
+
+-- nothing was written
+pub record IsUnwritten (before now : World) : Type 0 where
+  pub rotations : Keeps (before.folder.written file.SolRotations) (now.folder.written file.SolRotations)
+  pub journal : Keeps (before.folder.written file.Journal) (now.folder.written file.Journal)
+  pub sink : Keeps before.sink.written now.sink.written
+
+-- all texts were written
+pub record IsWritten (before now : World) (t : Texts) : Type 0 where
+  pub rotations : Appends (before.folder.written file.SolRotations) (now.folder.written file.SolRotations) t.rotations
+  pub journal : Appends (before.folder.written file.Journal) (now.folder.written file.Journal) t.journal
+  pub sink : Appends before.sink.written now.sink.written t.report
+
+-- writing stopped in sol_rotations.csv, in journal.csv, or in the report: what stands before is whole, and what stands behind is not begun
+pub record StopsInRotations (before now : World) (t : Texts) : Type 0 where
+  pub rotations : AppendsPrefix (before.folder.written file.SolRotations) (now.folder.written file.SolRotations) t.rotations
+  pub journal : Keeps (before.folder.written file.Journal) (now.folder.written file.Journal)
+  pub sink : Keeps before.sink.written now.sink.written
+
+pub record StopsInJournal (before now : World) (t : Texts) : Type 0 where
+  pub rotations : Appends (before.folder.written file.SolRotations) (now.folder.written file.SolRotations) t.rotations
+  pub journal : AppendsPrefix (before.folder.written file.Journal) (now.folder.written file.Journal) t.journal
+  pub sink : Keeps before.sink.written now.sink.written
+
+pub record StopsInReport (before now : World) (t : Texts) : Type 0 where
+  pub rotations : Appends (before.folder.written file.SolRotations) (now.folder.written file.SolRotations) t.rotations
+  pub journal : Appends (before.folder.written file.Journal) (now.folder.written file.Journal) t.journal
+  pub sink : AppendsPrefix before.sink.written now.sink.written t.report
+
+abbrev pub Stops : World → World → Texts → Type 0
+Stops before now t = StopsInRotations before now t ⊎ (StopsInJournal before now t ⊎ StopsInReport before now t)
+
+-- where a file could not be written
+abbrev pub StopsIn : File → World → World → Texts → Type 0
+StopsIn file.SolRotations before now t = StopsInRotations before now t
+StopsIn file.Journal before now t = StopsInJournal before now t
+StopsIn f before now t = ⊥
+
+-- the story that the input tells
+abbrev pub IsTold : Inputs → Story → Type 0
+IsTold x s = story_of x ≡ Ok s
+
+-- what a run did on these inputs, by its ending
+abbrev pub Did : World → World → Inputs → Ending → Type 0
+Did before now x ending.Done = (s : Story) × IsTold x s × ((last s).broken ≡ None) × ((h : List Entry) × Headline before now s h)
+Did before now x ending.NoPlan = (s : Story) × IsTold x s × IsSome (last s).broken × ((h : List Entry) × Headline before now s h)
+Did before now x ending.Usage = ⊥
+Did before now x (ending.Refused r) = (story_of x ≡ Err r) × IsUnwritten before now
+Did before now x ending.PlaceFault = IsUnwritten before now
+Did before now x (ending.ReadFault f) = IsUnwritten before now
+Did before now x (ending.WriteFault f) = (s : Story) × IsTold x s × StopsIn f before now (texts_of s)
+Did before now x ending.ReportFault = (s : Story) × IsTold x s × StopsInReport before now (texts_of s)
+Did before now x ending.Memory = IsUnwritten before now ⊎ ((s : Story) × IsTold x s × Stops before now (texts_of s))
+
+-- only a fault of the outside ends a run so: its count of that very call and file rose
+abbrev pub HasCause : World → World → Ending → Type 0
+HasCause before now ending.PlaceFault = Rose before.folder.place_faults now.folder.place_faults
+HasCause before now (ending.ReadFault f) = Rose (before.folder.next_faults f) (now.folder.next_faults f)
+HasCause before now (ending.WriteFault f) = Rose (before.folder.put_faults f) (now.folder.put_faults f)
+HasCause before now ending.ReportFault = Rose before.sink.faults now.sink.faults
+HasCause before now other = Unit {0}
+
+-- the directories are named, unless a fault or want of memory came before
+abbrev pub AreNamed : Directories → World → World → Ending → Type 0
+AreNamed dirs before now ending.PlaceFault = Unit {0}
+AreNamed dirs before now ending.Memory = Unit {0}
+AreNamed dirs before now other = IfSome before.folder.directories (λ was. now.folder.directories ≡ Some dirs)
+
+-- all four files were read to their end
+pub record AreRead (before now : Outside) : Type 0 where
+  pub flights : IsRead before now file.Flights
+  pub rotations : IsRead before now file.Rotations
+  pub aircraft : IsRead before now file.Aircraft
+  pub journal : IsRead before now file.Journal
+
+abbrev pub IsReadWhole : World → World → Ending → Type 0
+IsReadWhole before now ending.Done = AreRead before.folder now.folder
+IsReadWhole before now ending.NoPlan = AreRead before.folder now.folder
+IsReadWhole before now other = Unit {0}
+
+-- a replay from and to these directories
+pub record Replays (dirs : Directories) (before now : World) (how : Ending) : Type 0 where
+  pub no_usage : how ≢ ending.Usage
+  pub cause : HasCause before now how
+  pub did : (x : Inputs) → Tells before.folder x → Did before now x how
+  pub named : AreNamed dirs before now how
+  pub read : IsReadWhole before now how
+  -- no other file is written
+  pub others : (f : File) → f ≢ file.SolRotations → f ≢ file.Journal → now.folder.written f ≡ before.folder.written f
+
+-- nothing was called
+pub record IsUntouched (before now : World) : Type 0 where
+  pub folder : now.folder ≡ before.folder
+  pub sink : now.sink ≡ before.sink
+
+-- a run of the program with these words, before its fault's line
+abbrev pub Ends : List (List ℕ) → World → World → Ending → Type 0
+Ends words before now how = MatchOption (command words) ((how ≡ ending.Usage) × IsUntouched before now) (λ dirs. Replays dirs before now how)
+
+-- want of memory while the fault's line is put gives status 6, and a fault of the sink leaves the status
+abbrev pub status_after : Ending → Result (Unit {0}) FolderFault → ℕ
+status_after how (Ok done) = status_of how
+status_after how (Err fault.Failed) = status_of how
+status_after how (Err fault.Memory) = 6
+
+-- a run of the program with these words: how it ended, what the sink had before the fault's line, and that line
+pub record Runs (words : List (List ℕ)) (before now : World) (code : ℕ) : Type 0 where
+  pub how : Ending
+  pub sink : SinkSide
+  pub ends : Ends words before (record { folder = now.folder; sink = sink }) how
+  pub answer : Result (Unit {0}) FolderFault
+  pub line : PutsReport sink now.sink (fault_text how) answer
+  pub status : code ≡ status_after how answer

@@ -1,0 +1,47 @@
+//! The top call.
+
+ghost use Rattle.std.specs.Prelude.{◌≡◌, ◌≤◌, map, List as Items};
+ghost use Rattle.std.specs.String.{string_bytes};
+ghost use Rattle.desk_model.specs.declared.answer.Entry.{Entry};
+ghost use Rattle.desk_replay.specs.Story.{Inputs, Story};
+ghost use Rattle.desk_replay.specs.Runs.{World, Tells, IsTold, Ends, Headline, Runs};
+
+use desk_folder::{Folder, FolderFault, Gate, Sink};
+use desk_replay::{Ending, command, fault_text, replay};
+use folder_io::put_report;
+use std::alloc::Global;
+
+// Does what the words say.
+fn run<F: Folder, O: Sink>(alloc: Global, words: &[String], folder: &mut F, out: &mut O) -> Ending
+    ensures { Ends (map string_bytes words.now) (record { folder = F.outside folder.old; sink = O.report out.old }) (record { folder = F.outside folder.new; sink = O.report out.new }) result }
+{
+    match command(words) {
+        Some((input, output)) => replay(alloc, input, output, folder, out),
+        None => Ending::Usage,
+    }
+}
+
+/// The desk: does what the words say, the program's name left out, and answers the status.
+///
+/// 0: done, with a plan at the end. 1: done, with no plan at the end. 2: the words are no command.
+/// 3: the input is refused. 4: the folder failed to name the directories or to read a file. 5: the
+/// folder failed to write a file, or the sink to write the report. 6: memory ran out. From 2 on, a
+/// line in the report says why.
+pub fn desk_main<F: Folder, O: Sink, G: Gate>(
+    alloc: Global,
+    words: &[String],
+    folder: &mut F,
+    out: &mut O,
+    _gate: &G,
+) -> u8
+    ensures runs { Runs (map string_bytes words.now) (record { folder = F.outside folder.old; sink = O.report out.old }) (record { folder = F.outside folder.new; sink = O.report out.new }) result }
+{
+    let ending = run(alloc, words, folder, out);
+    let Ok(line) = fault_text(alloc, &ending) else {
+        return 6;
+    };
+    match put_report(alloc, out, line.as_bytes()) {
+        Ok(()) | Err(FolderFault::Failed) => ending.status(),
+        Err(FolderFault::Memory) => 6,
+    }
+}
