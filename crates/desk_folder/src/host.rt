@@ -6,7 +6,7 @@ ghost use Rattle.desk_folder.specs.Files.{file_number, is_solution};
 ghost use Rattle.desk_folder.specs.declared.files.File.{File};
 
 use crate::entries::raise;
-use crate::host_files::{read_some, write_some};
+use crate::host_files::{empty_outputs, read_some, write_some};
 use crate::{FILES, File, Folder, FolderFault, Sink};
 use std::alloc::Global;
 use std::io::Print;
@@ -55,6 +55,20 @@ impl<R: Files + Drop> HostFolder<R> {
             next_faults: [0; FILES],
             put_faults: [0; FILES],
         }
+    }
+}
+
+impl<R: Files + Drop> HostFolder<R> {
+    /// For the end of a run that was done: where it has written nothing, empties what an earlier run
+    /// wrote in the output directory, so that no stale plan is taken for one of this run.
+    pub fn settle(&mut self, alloc: Global) -> Result<(), FolderFault>
+        ensures { self.new ≡ self.old }
+    {
+        if !self.is_emptied {
+            empty_outputs(&self.rt, alloc, self.output.as_str())?;
+            self.is_emptied = true;
+        }
+        Ok(())
     }
 }
 

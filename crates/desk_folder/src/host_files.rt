@@ -46,8 +46,12 @@ pub(crate) fn read_some<R: Files>(
     }
 }
 
-// Makes an output directory where it is missing, and empties the output files of an earlier run in it.
-fn empty_outputs<R: Files>(rt: &R, alloc: Global, directory: &str) -> Result<(), FolderFault> {
+/// Makes an output directory where it is missing, and empties the output files of an earlier run in it.
+pub(crate) fn empty_outputs<R: Files>(
+    rt: &R,
+    alloc: Global,
+    directory: &str,
+) -> Result<(), FolderFault> {
     if !directory.is_empty() && fs::create_dir_all(rt, directory).is_err() {
         return Err(FolderFault::Failed);
     }

@@ -1,4 +1,3 @@
-pub mod DayLemmas
 pub mod CutLemmas
 pub mod SeenLemmas
 pub mod RowLemmas

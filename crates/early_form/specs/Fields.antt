@@ -3,7 +3,7 @@ use Rattle.std.specs.Prelude.{ℕ, ◌+◌, ◌-◌, ◌*◌, ◌^◌, Bool, Lis
 use Rattle.std.specs.List.{list_all}
 use Rattle.std.specs.Char.{is_ascii_digit, is_ascii_alphanumeric}
 use Rattle.desk_units.specs.declared.numbers.Seats.{Seats}
-use Rattle.early_form.specs.Days.{day_of}
+use Rattle.desk_text.specs.Days.{day_of}
 
 infixl 10 ◌>>=◌
 -- what is read, and then what f reads of it

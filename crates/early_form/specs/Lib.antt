@@ -1,5 +1,4 @@
 pub mod Fields
-pub mod Days
 pub mod Seen
 pub mod Rows
 pub mod Flights

@@ -5,10 +5,10 @@ ghost use Rattle.std.specs.List.{list_all};
 ghost use Rattle.std.specs.Char.{is_ascii_alphanumeric, is_ascii_digit};
 ghost use Rattle.desk_units.specs.Padded.{IsNameLength};
 ghost use Rattle.early_form.specs.Fields.{cut, field, name_of, decimal_value, digits_of, number_of, fraction_of, price_of, seats_of, two_digits, date_of, time_of};
-ghost use Rattle.early_form.specs.Days.{day_of};
+ghost use Rattle.desk_text.specs.Days.{day_of};
 ghost use Rattle.early_form.specs.Facts.{IsPlainName};
 
-use crate::days::day_of;
+use desk_text::day_of;
 use desk_units::{Name, Price, Seats};
 
 /// The place of the first `at`.

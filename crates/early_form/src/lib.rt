@@ -6,7 +6,6 @@
 #![tactic(auto)]
 
 mod aircraft;
-mod days;
 mod fault;
 mod fields;
 mod flights;
