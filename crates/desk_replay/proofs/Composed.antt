@@ -1,5 +1,5 @@
 -- Naming the directories, reading, taking the events and writing, one after another.
-use Rattle.std.proofs.Common.{◌≡◌, ◌≢◌, ℕ, List, [], ◌++◌, refl, sym, ap, subst, ◌∙◌, inl, inr, ◌⊎◌}
+use Rattle.std.proofs.Common.{◌≡◌, ℕ, List, [], refl, sym, subst, ◌∙◌, inl, inr}
 use Rattle.std.specs.Prelude.{Option, Some, None, IsSome, IfSome, Result, Ok, Err}
 use Rattle.std.specs.Io.KnownBytes.{Appends, Keeps}
 use Rattle.std.proofs.lemmas.Bool.{false≢true}
@@ -11,22 +11,19 @@ use Rattle.desk_folder.specs.Outside.{Outside, SinkSide, Directories, PlacesOnly
 use Rattle.desk_folder.specs.Calls.{AppendsPrefix, Rose, Names}
 use Rattle.desk_data.specs.declared.broken.Broken.{Broken}
 use Rattle.desk_data.specs.Situation.{Situation}
-use Rattle.desk_model.specs.declared.answer.Entry.{Entry}
 use Rattle.desk_model.specs.States.{State, opening}
 use Rattle.desk_model.specs.Histories.{AreAskable, IsLegal, run, state}
-use Rattle.desk_model.specs.Promises.{KeepsPromises}
 use Rattle.desk_model.proofs.StateLaws.{opening-inst}
 use Rattle.desk_model.proofs.HistoryLaws.{promises, run-legal}
 use Rattle.journal_text.specs.Lines.{journal_text}
 use Rattle.sol_text.specs.Rotations.{rotations_text}
-use Rattle.desk_replay.specs.declared.ending.Refusal.{Refusal}
 use Rattle.desk_replay.specs.declared.ending.Ending.{Ending}
 use Rattle.desk_replay.specs.declared.ending.Ending.TheVariants as ending
 use Rattle.desk_replay.specs.Story.{Inputs, Story, story_of}
 use Rattle.desk_replay.specs.Outcome.{history, last, planned_rotations, report_text, Texts, texts_from, texts_of}
-use Rattle.desk_replay.specs.Runs.{World, Tells, IsRead, AreRead, Headline, IsUnwritten, IsWritten, StopsInRotations, StopsInJournal, StopsInReport, Stops, StopsIn, Did, HasCause, AreNamed, IsReadWhole, Replays}
+use Rattle.desk_replay.specs.Runs.{World, Tells, AreRead, Headline, IsUnwritten, IsWritten, StopsInRotations, StopsInJournal, StopsInReport, Stops, StopsIn, Did, HasCause, AreNamed, IsReadWhole, Replays}
 use Rattle.desk_replay.specs.Reading.{OnlyReads}
-use Rattle.desk_replay.specs.Writing.{Wrote, OnlyWrites}
+use Rattle.desk_replay.specs.Writing.{Wrote}
 use Rattle.desk_replay.specs.Finishing.{Told, Finishes}
 
 -- ---- what was written is told of the story
@@ -97,7 +94,7 @@ headline before now s runs w = record {
   reported = subst (λ (t : List ℕ). Appends before.sink.written now.sink.written t) (texts_report s) w.sink;
   rotations = λ none. subst (λ (t : List ℕ). Appends (before.folder.written file.SolRotations) (now.folder.written file.SolRotations) t) (rotations_of_plan s none) w.rotations;
   no_rotations = λ some. appends_nothing (before.folder.written file.SolRotations) (now.folder.written file.SolRotations)
-    (subst (λ (t : List ℕ). Appends (before.folder.written file.SolRotations) (now.folder.written file.SolRotations) t) (no_rotations_of s some) w.rotations);
+      (subst (λ (t : List ℕ). Appends (before.folder.written file.SolRotations) (now.folder.written file.SolRotations) t) (no_rotations_of s some) w.rotations);
 }
 
 -- ---- from the world before the reading
@@ -254,8 +251,10 @@ named_by (Some was) now dirs ok h = h
 
 tells_after : (before placed : Outside) (x : Inputs) → ((f : File) → placed.left f ≡ before.left f) → Tells before x → Tells placed x
 tells_after before placed x same h = record {
-  flights = same file.Flights ∙ h.flights; rotations = same file.Rotations ∙ h.rotations;
-  aircraft = same file.Aircraft ∙ h.aircraft; journal = same file.Journal ∙ h.journal;
+  flights = same file.Flights ∙ h.flights;
+  rotations = same file.Rotations ∙ h.rotations;
+  aircraft = same file.Aircraft ∙ h.aircraft;
+  journal = same file.Journal ∙ h.journal;
 }
 
 read_before : (before placed : Outside) (f : File) (now : Option (List ℕ)) → placed.left f ≡ before.left f → IfSome (placed.left f) (λ bytes. now ≡ Some []) → IfSome (before.left f) (λ bytes. now ≡ Some [])

@@ -1,12 +1,12 @@
 -- A book after an event, and after all of them.
-use Rattle.std.proofs.Common.{◌≡◌, ℕ, ◌+◌, ◌<◌, ◌≤◌, true, false, List, [], ◌∷◌, ◌++◌, length, get_or, drop, refl, sym, ap, subst, ◌∙◌, arith, add-one, suc, inl, inr}
+use Rattle.std.proofs.Common.{◌≡◌, ℕ, ◌+◌, ◌<◌, ◌≤◌, List, [], ◌∷◌, ◌++◌, length, get_or, drop, refl, sym, ap, subst, ◌∙◌, add-one, suc, inl, inr}
 use Rattle.std.proofs.lemmas.Bool.{cases_Bool}
 use Rattle.std.proofs.Math.Seq.{drop-cons}
 use Rattle.std.proofs.Math.ListN.{drop_of_length-le}
 use Rattle.desk_data.specs.Situation.{Situation}
 use Rattle.desk_model.specs.declared.answer.Event.{Event}
 use Rattle.desk_model.specs.declared.answer.Entry.{Entry}
-use Rattle.desk_model.specs.States.{State, opening}
+use Rattle.desk_model.specs.States.{opening}
 use Rattle.desk_model.specs.Histories.{state, has_room, entries, run}
 use Rattle.desk_model.proofs.HistoryLaws.{with_event, run-step, run-nil}
 use Rattle.desk_core.specs.Recorded.{Recorded, recorded}
@@ -35,11 +35,11 @@ pub continues-next : (I : Situation) (B C : Recorded) (e : ℕ × Event) (i : �
 continues-next I B C e i events lt at is h =
     let left : drop i events ≡ e ∷ drop (i + 1) events = rw add-one (drop-cons events i e lt ∙ ap (λ (x : ℕ × Event). x ∷ drop (suc i) events) (sym at)) in
     let journal : C.journal ≡ with_event (opening I) B.journal e =
-        ap (λ (D : Recorded). D.journal) is ∙ recorded-with B e.0 e.1 ∙ ap (λ (J : Situation). with_event (opening J) B.journal e) h.same in
+    ap (λ (D : Recorded). D.journal) is ∙ recorded-with B e.0 e.1 ∙ ap (λ (J : Situation). with_event (opening J) B.journal e) h.same in
     record {
       same = ap (λ (D : Recorded). D.opening) is ∙ recorded-opening B e.0 e.1 ∙ h.same;
       rest = rw journal
-        (sym (run-step (opening I) B.journal e (drop (i + 1) events))
+          (sym (run-step (opening I) B.journal e (drop (i + 1) events))
           ∙ ap (λ (xs : List (ℕ × Event)). B.journal ++ entries (length B.journal) (state (opening I) B.journal) xs) (sym left)
           ∙ h.rest);
     }
@@ -49,9 +49,9 @@ pub continues-end : (I : Situation) (B : Recorded) (i : ℕ) (events : List (ℕ
 continues-end I B i events le h =
     let left : drop i events ≡ [] = drop_of_length-le events le in
     let journal : B.journal ≡ run (opening I) events =
-        sym (run-nil (opening I) B.journal)
-        ∙ ap (λ (xs : List (ℕ × Event)). B.journal ++ entries (length B.journal) (state (opening I) B.journal) xs) (sym left)
-        ∙ h.rest in
+    sym (run-nil (opening I) B.journal)
+    ∙ ap (λ (xs : List (ℕ × Event)). B.journal ++ entries (length B.journal) (state (opening I) B.journal) xs) (sym left)
+    ∙ h.rest in
     let made = λ (J : Situation) (h : List Entry). let B : Recorded = record { opening = J; journal = h } in B in
     ap (λ (J : Situation). made J B.journal) h.same ∙ ap (made I) journal
 

@@ -1,6 +1,5 @@
 -- What a replay writes.
 use Rattle.std.specs.Prelude.{ℕ, List, [], ◌∷◌, ◌++◌, Option, Some, None, codes, decimal}
-use Rattle.desk_folder.specs.declared.files.File.{File}
 use Rattle.desk_folder.specs.Files.{file_name}
 use Rattle.desk_data.specs.Situation.{Situation}
 use Rattle.desk_data.specs.declared.broken.Broken.{Broken}

@@ -1,13 +1,12 @@
 -- What reading the input does to the outside.
-use Rattle.std.specs.Prelude.{◌≡◌, ◌≢◌, ℕ, ◌≤◌, Result, Ok, Err, IfSome, OnOk, IfErr, List}
+use Rattle.std.specs.Prelude.{◌≡◌, ℕ, ◌≤◌, Result, Ok, Err, IfSome, OnOk, IfErr, List}
 use Rattle.desk_folder.specs.declared.files.File.{File}
 use Rattle.desk_folder.specs.Outside.{Outside, ReadsOnly}
 use Rattle.desk_folder.specs.Calls.{Rose}
 use Rattle.desk_replay.specs.declared.ending.Refusal.{Refusal}
 use Rattle.desk_replay.specs.declared.ending.Ending.{Ending}
 use Rattle.desk_replay.specs.declared.ending.Ending.TheVariants as ending
-use Rattle.desk_replay.specs.Story.{Inputs, rows_of_files, story_of}
-use Rattle.desk_replay.specs.Runs.{Tells, IsRead}
+use Rattle.desk_replay.specs.Runs.{IsRead}
 
 -- what was read is this, or its refusal; a fault of the folder and want of memory say nothing of it
 abbrev pub GivesRead : {V X : Type 0} → (V → X) → Result V Ending → Result X Refusal → Type 0

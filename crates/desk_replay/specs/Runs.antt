@@ -1,5 +1,5 @@
 -- What a run does to the outside, by how it ends.
-use Rattle.std.specs.Prelude.{◌≡◌, ◌≢◌, ◌⊎◌, ◌↔◌, ℕ, ◌<◌, List, [], Option, Some, None, IfSome, IsSome, Result, Ok, Err, MatchOption}
+use Rattle.std.specs.Prelude.{◌≡◌, ◌≢◌, ◌⊎◌, ℕ, List, [], Some, None, IfSome, IsSome, Result, Ok, Err, MatchOption}
 use Rattle.std.specs.Io.KnownBytes.{Appends, Keeps}
 use Rattle.desk_folder.specs.declared.files.File.{File}
 use Rattle.desk_folder.specs.declared.files.File.TheVariants as file
@@ -14,7 +14,6 @@ use Rattle.desk_model.specs.Histories.{IsLegal, run, state}
 use Rattle.desk_model.specs.Promises.{KeepsPromises}
 use Rattle.journal_text.specs.Lines.{journal_text}
 use Rattle.sol_text.specs.Rotations.{rotations_text}
-use Rattle.desk_replay.specs.declared.ending.Refusal.{Refusal}
 use Rattle.desk_replay.specs.declared.ending.Ending.{Ending}
 use Rattle.desk_replay.specs.declared.ending.Ending.TheVariants as ending
 use Rattle.desk_replay.specs.Story.{Inputs, Story, story_of}
@@ -51,7 +50,7 @@ pub record Headline (before now : World) (s : Story) (h : List Entry) : Type 0 w
   -- sol_rotations.csv is that of the last plan, and is written only where there is one
   pub rotations : (state (opening s.day) h).broken ≡ None →
       Appends (before.folder.written file.SolRotations) (now.folder.written file.SolRotations)
-        (rotations_text (state (opening s.day) h).inst (state (opening s.day) h).plan)
+      (rotations_text (state (opening s.day) h).inst (state (opening s.day) h).plan)
   pub no_rotations : IsSome (state (opening s.day) h).broken → Keeps (before.folder.written file.SolRotations) (now.folder.written file.SolRotations)
 
 -- nothing was written
@@ -166,3 +165,10 @@ pub record Runs (words : List (List ℕ)) (before now : World) (code : ℕ) : Ty
   pub answer : Result (Unit {0}) FolderFault
   pub line : PutsReport sink now.sink (fault_text how) answer
   pub status : code ≡ status_after how answer
+
+-- a run that was done on these inputs: the story that they tell, and a history with the headline
+pub record IsDone (before now : World) (x : Inputs) : Type 0 where
+  pub story : Story
+  pub told : IsTold x story
+  pub history : List Entry
+  pub headline : Headline before now story history

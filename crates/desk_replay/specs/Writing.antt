@@ -1,7 +1,5 @@
 -- What writing the texts does to the outside.
-use Rattle.std.specs.Prelude.{◌≡◌, ◌≢◌, ◌≤◌, ◌⊎◌, Result, Ok, Err, IfErr}
-use Rattle.std.specs.declared.alloc.Global.{Global}
-use Rattle.std.specs.declared.vec.Vec.{Vec}
+use Rattle.std.specs.Prelude.{◌≡◌, ◌≢◌, ◌≤◌, Result, Ok, Err, IfErr}
 use Rattle.desk_folder.specs.declared.files.File.{File}
 use Rattle.desk_folder.specs.declared.files.File.TheVariants as file
 use Rattle.desk_folder.specs.Outside.{Outside}

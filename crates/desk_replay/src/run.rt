@@ -11,12 +11,7 @@ use desk_model::Event;
 use std::alloc::Global;
 
 // Takes one event.
-fn take_event(
-    alloc: Global,
-    book: &mut Book,
-    caller: u32,
-    event: &Event,
-) -> Result<(), NoMem>
+fn take_event(alloc: Global, book: &mut Book, caller: u32, event: &Event) -> Result<(), NoMem>
     requires { IsAskable book.old.opening event.now }
     ensures { OnOk result (book.new ≡ recorded book.old caller event.now) }
 {

@@ -28,7 +28,12 @@ pub(crate) fn put_texts<F: Folder, O: Sink>(
 ) -> Result<(), Ending>
     ensures { PutsTexts (record { folder = F.outside folder.old; sink = O.report out.old }) (record { folder = F.outside folder.new; sink = O.report out.new }) (texts_in texts.now) result }
 {
-    match put_text(alloc, folder, File::SolRotations, texts.rotations.as_slice()) {
+    match put_text(
+        alloc,
+        folder,
+        File::SolRotations,
+        texts.rotations.as_slice(),
+    ) {
         Ok(()) => {}
         Err(FolderFault::Failed) => return Err(Ending::WriteFault(File::SolRotations)),
         Err(FolderFault::Memory) => return Err(Ending::Memory),

@@ -1,13 +1,11 @@
 -- Where no memory is left for a line, nothing of it is put.
-use Rattle.std.proofs.Common.{◌≡◌, ℕ, List, [], ◌++◌, refl, sym, arith}
+use Rattle.std.proofs.Common.{ℕ, List, [], sym, arith}
 use Rattle.std.specs.Prelude.{Option, Some, None, Result, Err}
 use Rattle.std.specs.Io.KnownBytes.{Appends}
 use Rattle.std.proofs.lemmas.List.{append-nil}
-use Rattle.std.proofs.lemmas.Bool.{true≢false}
 use Rattle.desk_folder.specs.declared.faults.FolderFault.{FolderFault}
-use Rattle.desk_folder.specs.declared.faults.FolderFault.TheVariants.{Failed, Memory}
+use Rattle.desk_folder.specs.declared.faults.FolderFault.TheVariants.{Memory}
 use Rattle.desk_folder.specs.Outside.{SinkSide}
-use Rattle.desk_folder.specs.Calls.{Counts, Rose}
 use Rattle.folder_io.specs.Texts.{PutsReport}
 
 nothing_appended : (known : Option (List ℕ)) → Appends known known []

@@ -1,10 +1,9 @@
 //! The top call.
 
-ghost use Rattle.std.specs.Prelude.{◌≡◌, ◌≤◌, map, List as Items};
+ghost use Rattle.std.specs.Prelude.{◌≤◌, map};
 ghost use Rattle.std.specs.String.{string_bytes};
-ghost use Rattle.desk_model.specs.declared.answer.Entry.{Entry};
-ghost use Rattle.desk_replay.specs.Story.{Inputs, Story};
-ghost use Rattle.desk_replay.specs.Runs.{World, Tells, IsTold, Ends, Headline, Runs};
+ghost use Rattle.desk_replay.specs.Story.{Inputs};
+ghost use Rattle.desk_replay.specs.Runs.{Tells, Ends, IsDone, Runs};
 
 use desk_folder::{Folder, FolderFault, Gate, Sink};
 use desk_replay::{Ending, command, fault_text, replay};
@@ -21,6 +20,20 @@ fn run<F: Folder, O: Sink>(alloc: Global, words: &[String], folder: &mut F, out:
     }
 }
 
+// Does what the words say, and puts the line that tells why it was not done.
+fn told_run<F: Folder, O: Sink>(alloc: Global, words: &[String], folder: &mut F, out: &mut O) -> u8
+    ensures { Runs (map string_bytes words.now) (record { folder = F.outside folder.old; sink = O.report out.old }) (record { folder = F.outside folder.new; sink = O.report out.new }) result }
+{
+    let ending = run(alloc, words, folder, out);
+    let Ok(line) = fault_text(alloc, &ending) else {
+        return 6;
+    };
+    match put_report(alloc, out, line.as_bytes()) {
+        Ok(()) | Err(FolderFault::Failed) => ending.status(),
+        Err(FolderFault::Memory) => 6,
+    }
+}
+
 /// The desk: does what the words say, the program's name left out, and answers the status.
 ///
 /// 0: done, with a plan at the end. 1: done, with no plan at the end. 2: the words are no command.
@@ -34,14 +47,13 @@ pub fn desk_main<F: Folder, O: Sink, G: Gate>(
     out: &mut O,
     _gate: &G,
 ) -> u8
+    // How the run ended, the cause of each ending, and what was written by then.
     ensures runs { Runs (map string_bytes words.now) (record { folder = F.outside folder.old; sink = O.report out.old }) (record { folder = F.outside folder.new; sink = O.report out.new }) result }
+
+    // The headline: where the folder tells the bytes of its input, each run that was done has written
+    // the journal of a legal history of the events that it read, and the last plan of that history.
+    ensures headline { (x : Inputs) → Tells (F.outside folder.old) x → result ≤ 1 →
+        IsDone (record { folder = F.outside folder.old; sink = O.report out.old }) (record { folder = F.outside folder.new; sink = O.report out.new }) x }
 {
-    let ending = run(alloc, words, folder, out);
-    let Ok(line) = fault_text(alloc, &ending) else {
-        return 6;
-    };
-    match put_report(alloc, out, line.as_bytes()) {
-        Ok(()) | Err(FolderFault::Failed) => ending.status(),
-        Err(FolderFault::Memory) => 6,
-    }
+    told_run(alloc, words, folder, out)
 }

@@ -10,13 +10,8 @@ use Rattle.std.proofs.lemmas.Map.Views.{any-filter_same}
 use Rattle.std.proofs.lemmas.Slice.Eq.{bytes_eq-Decides}
 use Rattle.early_form.specs.declared.rows.FlightRow.{FlightRow}
 use Rattle.early_form.specs.declared.rows.AircraftRow.{AircraftRow}
-<<<<<<< HEAD
-use Rattle.early_form.specs.Flights.{airports_of}
-use Rattle.early_form.specs.Seen.{first_seen}
-=======
 use Rattle.early_form.specs.Seen.{first_seen}
 use Rattle.early_form.specs.Flights.{airports_of}
->>>>>>> f4c71600af41764a683bfc51c78af25bd6e713de
 use Rattle.early_join.specs.Names.{with_name}
 
 same_both_ways : (x y : Bool) → (x ≡ true → y ≡ true) → (y ≡ true → x ≡ true) → x ≡ y

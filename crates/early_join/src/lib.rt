@@ -6,6 +6,8 @@ mod fault;
 mod joining;
 mod journal;
 mod names;
+#[cfg(test)]
+mod tests;
 
 pub use fault::JoinFault;
 pub use joining::join;

@@ -4,7 +4,7 @@ use Rattle.desk_replay.proofs.run.run_events.Goals as goal
 pub loop-asked-preserved : goal.loop-asked-preserved
 loop-asked-preserved c =
     continues-next c.args.inst c.loop-asked.book c.take_event.new.book c.asked-item.result c.loop-asked.asked-index c.args.events.now
-      c.loop-asked-test.true c.asked-item.is c.in_ok-take_event.ensures c.loop-asked.invariant
+    c.loop-asked-test.true c.asked-item.is c.in_ok-take_event.ensures c.loop-asked.invariant
 
 pub returns : goal.returns
 returns c = continues-end c.args.inst c.loop-asked.book c.loop-asked.asked-index c.args.events.now c.loop-asked-test.false c.loop-asked.invariant

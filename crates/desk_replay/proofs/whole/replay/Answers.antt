@@ -7,7 +7,7 @@ pub returns-in-Ok-read_story : goal.returns-in-Ok-read_story
 returns-in-Ok-read_story g c =
     let outside = g.F.Folder.outside in
     replays-finished (directories c.args.input.now c.args.output.now) (outside c.args.folder.now) (outside c.read_story.new.folder) (outside c.finish.new.folder)
-      (g.O.Sink.report c.args.out.now) (g.O.Sink.report c.finish.new.out) (story_in c.in-Ok-read_story.story) c.finish.result
-      (prepared (directories c.args.input.now c.args.output.now) (outside c.args.folder.now) (outside c.place.new.self) (outside c.read_story.new.folder) (story_in c.in-Ok-read_story.story)
-        c.in-Ok.field-0 c.in-Ok.ensures.names c.place.ensures.others c.read_story.ensures.only c.in-Ok-read_story.ensures.read c.in-Ok-read_story.ensures.exact)
-      c.in-Ok-read_story.ensures.runs.asked c.finish.ensures
+    (g.O.Sink.report c.args.out.now) (g.O.Sink.report c.finish.new.out) (story_in c.in-Ok-read_story.story) c.finish.result
+    (prepared (directories c.args.input.now c.args.output.now) (outside c.args.folder.now) (outside c.place.new.self) (outside c.read_story.new.folder) (story_in c.in-Ok-read_story.story)
+    c.in-Ok.field-0 c.in-Ok.ensures.names c.place.ensures.others c.read_story.ensures.only c.in-Ok-read_story.ensures.read c.in-Ok-read_story.ensures.exact)
+    c.in-Ok-read_story.ensures.runs.asked c.finish.ensures

@@ -1,18 +1,11 @@
-use Rattle.std.proofs.Common.{refl}
-use Rattle.desk_replay.specs.Outcome.{fault_text}
-use Rattle.desk_top.proofs.Unput.{puts-nothing, no_memory}
+use Rattle.std.proofs.Common.{map}
+use Rattle.std.specs.String.{string_bytes}
+use Rattle.desk_replay.proofs.HeadlineLaw.{headline-of}
 use Rattle.desk_top.proofs.desk.desk_main.Goals as goal
 
-pub returns-in_default : goal.returns-in_default
-returns-in_default g c =
-    let sink = g.O.Sink.report c.run-ending.new.out in
-    record {
-      runs = record {
-        how = c.run-ending.result;
-        sink = sink;
-        ends = c.run-ending.ensures;
-        answer = no_memory;
-        line = puts-nothing sink (fault_text c.run-ending.result);
-        status = refl;
-      };
-    }
+pub returns-clause-headline : goal.returns-clause-headline
+returns-clause-headline g c x tells done =
+    headline-of (map string_bytes c.args.words.now)
+    (record { folder = g.F.Folder.outside c.args.folder.now; sink = g.O.Sink.report c.args.out.now })
+    (record { folder = g.F.Folder.outside c.told_run.new.folder; sink = g.O.Sink.report c.told_run.new.out })
+    c.told_run.result c.told_run.ensures x tells done
