@@ -1,0 +1,91 @@
+#!/usr/bin/env python3
+"""Refuses each allocation of six runs of the built desk in turn.
+
+Each run must end with status 6 or with its own status, and with its own status it must write what it
+writes where nothing is refused. With status 6 the output files are whole up to one, which has a front
+of its text, and what the report has is a front of it, before the line `memory` or a front of that.
+"""
+import os
+import subprocess
+import sys
+import tempfile
+
+HERE = os.path.dirname(os.path.abspath(__file__))
+PROGRAM = os.path.join(os.path.dirname(HERE), "crates", "desk_top", "out", "desk_top")
+FLIGHTS = "F1 AAA BBB 08:00 09:00 0\nF2 BBB AAA 09:30 10:30 0\nF3 AAA BBB 12:00 13:00 0\n"
+ROTATIONS = "F1 01/03/08 P1\nF2 01/03/08 P1\nF3 01/03/08 P2\n"
+AIRCRAFT = "P1 M1 NB 0/0/10 600 100 30 20 AAA NULL\nP2 M1 NB 0/0/9 600 120 30 20 AAA NULL\n"
+CANCEL = "1,move,set F3 01/03/08 + P2 01/03/08 12:00 -\n"
+RUNS = (
+    (ROTATIONS, ""),
+    (ROTATIONS, CANCEL + CANCEL),
+    (ROTATIONS, "2,move,set F2 01/03/08 + P1 01/03/08 09:30 + P1 01/03/08 09:29\n"),
+    (ROTATIONS, "2,move,set F1 01/03/08 + P1 01/03/08 08:00 -\n"),
+    (ROTATIONS, "2,move,set F1 01/03/08 + P1 01/03/08 08:00 + P1 01/03/08 08:01\n"),
+    (ROTATIONS.split("\n", 1)[1], ""),
+)
+OUTPUTS = ("sol_rotations.csv", "journal.csv")
+
+
+def text_of(path):
+    try:
+        with open(path) as file:
+            return file.read()
+    except FileNotFoundError:
+        return ""
+
+
+def run(shim, day, out, refuse):
+    env = {**os.environ, "LD_PRELOAD": shim, "REFUSE": str(refuse)}
+    done = subprocess.run([PROGRAM, "replay", day, out], capture_output=True, text=True, env=env)
+    written = tuple(text_of(os.path.join(out, name)) for name in OUTPUTS)
+    for name in OUTPUTS:
+        if os.path.exists(os.path.join(out, name)):
+            os.remove(os.path.join(out, name))
+    return done.returncode, done.stdout, written, done.stderr
+
+
+def is_story(written, report, whole, whole_report):
+    """Whole up to one, a front of that one, and nothing behind it."""
+    texts = list(zip(written + (report,), whole + (whole_report,)))
+    open_still = True
+    for has, wants in texts:
+        if not wants.startswith(has) or (has and not open_still):
+            return False
+        open_still = open_still and has == wants
+    return True
+
+
+def main():
+    with tempfile.TemporaryDirectory() as folder:
+        shim = os.path.join(folder, "refused.so")
+        subprocess.run(["gcc", "-shared", "-fPIC", "-O1", "-o", shim,
+                        os.path.join(HERE, "refused_memory.c"), "-ldl"], check=True)
+        out = os.path.join(folder, "out")
+        tried, six, wrong = 0, 0, 0
+        for rotations, journal in RUNS:
+            day = tempfile.mkdtemp(dir=folder)
+            for name, text in (("flights.csv", FLIGHTS), ("rotations.csv", rotations),
+                               ("aircraft.csv", AIRCRAFT), ("journal.csv", journal)):
+                with open(os.path.join(day, name), "w") as file:
+                    file.write(text)
+            status, report, written, calls = run(shim, day, out, 0)
+            for refuse in range(1, int(calls) + 1):
+                got, told, has, _ = run(shim, day, out, refuse)
+                tried += 1
+                six += got == 6
+                front = told[:-len("memory\n")] if told.endswith("memory\n") else told
+                if got == status:
+                    good = told == report and has == written
+                else:
+                    good = got == 6 and is_story(has, front, written, report)
+                if not good:
+                    wrong += 1
+                    print("refused %d: status %d, report %r" % (refuse, got, told))
+    print("%d allocations refused: %d runs ended with 6, %d as if none was refused, %d wrong"
+          % (tried, six, tried - six - wrong, wrong))
+    sys.exit(1 if wrong else 0)
+
+
+if __name__ == "__main__":
+    main()
