@@ -3,9 +3,10 @@
 
 Usage: bench/day.py [LEGS]      LEGS, a multiple of 20, is 20,000 where it is left out
 
-Each aircraft flies 20 legs there and back between two airports. The journal is empty. The day is
-run once with no legs, once with half of the legs and once with all of them, so that what reading
-and the check of the plan cost can be told apart from the start of the program.
+Each aircraft flies 20 legs there and back between two airports. Each day is run twice: with a
+journal whose one line names a leg that is not there, so that the run ends when all is read and
+joined; and with an empty journal, so that the schedule is checked and written too. The first day has
+no legs, so that the start of the program can be told apart.
 """
 import os
 import subprocess
@@ -18,7 +19,10 @@ PROGRAM = os.path.join(TOP, "crates", "desk_top", "out", "desk_top")
 PER_AIRCRAFT = 20
 
 
-def write_day(folder, legs):
+UNKNOWN = "1,move,set F0 02/03/08 - -\n"
+
+
+def write_day(folder, legs, proposal):
     planes = legs // PER_AIRCRAFT
     airports = ["A%03d" % (i % 250) for i in range(planes)]
     with open(os.path.join(folder, "flights.csv"), "w") as flights, \
@@ -34,30 +38,32 @@ def write_day(folder, legs):
                 flights.write("%s %s %s %02d:%02d %02d:%02d 0\n" % (
                     flight, ends[0], ends[1], dep // 60, dep % 60, (dep + 40) // 60, (dep + 40) % 60))
                 rotations.write("%s 01/03/08 P%d\n" % (flight, p))
-    open(os.path.join(folder, "journal.csv"), "w").close()
+    with open(os.path.join(folder, "journal.csv"), "w") as journal:
+        journal.write(proposal)
     names = ("flights.csv", "rotations.csv", "aircraft.csv")
     return sum(os.path.getsize(os.path.join(folder, name)) for name in names)
 
 
-def run(legs):
+def run(legs, what, proposal):
     with tempfile.TemporaryDirectory() as folder:
         into = os.path.join(folder, "out")
         os.mkdir(into)
-        size = write_day(folder, legs)
+        size = write_day(folder, legs, proposal)
         best = None
         for _ in range(3):
             start = time.perf_counter()
             done = subprocess.run([PROGRAM, "replay", folder, into], capture_output=True, text=True)
             took = time.perf_counter() - start
             best = took if best is None else min(best, took)
-        print("%6d legs, %8d bytes: %7.3f s, status %d: %s"
-              % (legs, size, best, done.returncode, done.stdout.replace("\n", "; ")))
+        print("%6d legs, %8d bytes, %s: %7.3f s, status %d: %s"
+              % (legs, size, what, best, done.returncode, done.stdout.strip().replace("\n", "; ")))
 
 
 def main():
     legs = int(sys.argv[1]) if len(sys.argv) > 1 else 20000
     for n in (0, legs // 2, legs):
-        run(n)
+        run(n, "read and joined", UNKNOWN)
+        run(n, "and checked", "")
 
 
 if __name__ == "__main__":

@@ -21,7 +21,7 @@ use Rattle.desk_replay.specs.declared.ending.Ending.{Ending}
 use Rattle.desk_replay.specs.declared.ending.Ending.TheVariants as ending
 use Rattle.desk_replay.specs.Story.{Inputs, Story, story_of}
 use Rattle.desk_replay.specs.Outcome.{history, last, planned_rotations, report_text, Texts, texts_from, texts_of}
-use Rattle.desk_replay.specs.Runs.{World, Tells, AreRead, Headline, IsUnwritten, IsWritten, StopsInRotations, StopsInJournal, StopsInReport, Stops, StopsIn, Did, HasCause, AreNamed, IsReadWhole, Replays}
+use Rattle.desk_replay.specs.Runs.{World, Tells, AreRead, Headline, IsUnwritten, IsWritten, StopsInRotations, StopsInJournal, StopsInReport, Stops, StopsIn, Did, HasCause, AreNamed, IsReadWhole, IsSilent, Replays}
 use Rattle.desk_replay.specs.Reading.{OnlyReads}
 use Rattle.desk_replay.specs.Writing.{Wrote}
 use Rattle.desk_replay.specs.Finishing.{Told, Finishes}
@@ -234,6 +234,17 @@ read_whole_from before now sink sink' (ending.WriteFault f) h = tt
 read_whole_from before now sink sink' ending.ReportFault h = tt
 read_whole_from before now sink sink' ending.Memory h = tt
 
+silent_from : (before mid now : Outside) (sink sink' : SinkSide) (s : Story) (how : Ending) → Told (record { folder = mid; sink = sink }) (record { folder = now; sink = sink' }) s how → IsSilent (record { folder = before; sink = sink }) (record { folder = now; sink = sink' }) how
+silent_from before mid now sink sink' s (ending.Refused r) told = absurd told
+silent_from before mid now sink sink' s ending.PlaceFault told = absurd told
+silent_from before mid now sink sink' s (ending.ReadFault f) told = absurd told
+silent_from before mid now sink sink' s ending.Done told = tt
+silent_from before mid now sink sink' s ending.NoPlan told = tt
+silent_from before mid now sink sink' s ending.Usage told = tt
+silent_from before mid now sink sink' s (ending.WriteFault f) told = tt
+silent_from before mid now sink sink' s ending.ReportFault told = tt
+silent_from before mid now sink sink' s ending.Memory told = tt
+
 pub replays-finished : (dirs : Directories) (before mid now : Outside) (sink sink' : SinkSide) (s : Story) (how : Ending) → Prepared dirs before mid s → IsRunnable s → Finishes (record { folder = mid; sink = sink }) (record { folder = now; sink = sink' }) s how → Replays dirs (record { folder = before; sink = sink }) (record { folder = now; sink = sink' }) how
 replays-finished dirs before mid now sink sink' s how p runs h = record {
   no_usage = λ e. subst (λ (e : Ending). Told (record { folder = mid; sink = sink }) (record { folder = now; sink = sink' }) s e) e h.told;
@@ -241,6 +252,7 @@ replays-finished dirs before mid now sink sink' s how p runs h = record {
   did = λ x tells. did_from dirs before mid now sink sink' s how x p runs h.told tells;
   named = named_from dirs before mid now sink sink' s how p h.only.directories;
   read = read_whole_from before now sink sink' how (are_read_from before mid now h.only.left p.read);
+  silent = silent_from before mid now sink sink' s how h.told;
   others = λ f a b. h.only.written f a b ∙ p.written f;
 }
 

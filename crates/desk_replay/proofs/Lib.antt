@@ -1,3 +1,4 @@
 pub mod RunLaws
 pub mod Composed
 pub mod HeadlineLaw
+pub mod CausesLaw

@@ -2,6 +2,7 @@ pub mod Story
 pub mod Outcome
 pub mod Commands
 pub mod Runs
+pub mod Causes
 pub mod Reading
 pub mod ReadEnds
 pub mod Writing

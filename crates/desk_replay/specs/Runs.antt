@@ -25,6 +25,9 @@ pub record World : Type 0 where
   pub folder : Outside
   pub sink : SinkSide
 
+abbrev pub world : Outside → SinkSide → World
+world folder sink = record { folder = folder; sink = sink }
+
 -- the folder tells the bytes of the input files
 pub record Tells (outside : Outside) (x : Inputs) : Type 0 where
   pub flights : outside.left file.Flights ≡ Some x.flights
@@ -132,6 +135,13 @@ IsReadWhole before now ending.Done = AreRead before.folder now.folder
 IsReadWhole before now ending.NoPlan = AreRead before.folder now.folder
 IsReadWhole before now other = Unit {0}
 
+-- where nothing is reported, the sink is as before
+abbrev pub IsSilent : World → World → Ending → Type 0
+IsSilent before now (ending.Refused r) = now.sink ≡ before.sink
+IsSilent before now ending.PlaceFault = now.sink ≡ before.sink
+IsSilent before now (ending.ReadFault f) = now.sink ≡ before.sink
+IsSilent before now other = Unit {0}
+
 -- a replay from and to these directories
 pub record Replays (dirs : Directories) (before now : World) (how : Ending) : Type 0 where
   pub no_usage : how ≢ ending.Usage
@@ -139,6 +149,7 @@ pub record Replays (dirs : Directories) (before now : World) (how : Ending) : Ty
   pub did : (x : Inputs) → Tells before.folder x → Did before now x how
   pub named : AreNamed dirs before now how
   pub read : IsReadWhole before now how
+  pub silent : IsSilent before now how
   -- no other file is written
   pub others : (f : File) → f ≢ file.SolRotations → f ≢ file.Journal → now.folder.written f ≡ before.folder.written f
 

@@ -58,7 +58,8 @@ fn form_end(file: File, fault: FormFault) -> Ending
 }
 
 fn flight_rows<F: Folder>(alloc: Global, folder: &mut F) -> Result<Vec<FlightRow>, Ending>
-    ensures reads { ReadsRows (F.outside folder.old) (F.outside folder.new) file.Flights (formed file.Flights input_limit flights_of) (λ v. v.items) result }
+    ensures reads { ReadsRows (F.outside folder.old) (F.outside folder.new) file.Flights
+        (formed file.Flights input_limit flights_of) (λ v. v.items) result }
     ensures rows { IfOk result (λ v. AreFlights v.items) }
 {
     let bytes = match read_file(alloc, folder, File::Flights, INPUT_LIMIT) {
@@ -76,7 +77,8 @@ fn rotation_rows<F: Folder>(
     folder: &mut F,
     flights: &[FlightRow],
 ) -> Result<Vec<RotationRow>, Ending>
-    ensures reads { ReadsRows (F.outside folder.old) (F.outside folder.new) file.Rotations (formed file.Rotations input_limit (rotations_of flights.now)) (λ v. v.items) result }
+    ensures reads { ReadsRows (F.outside folder.old) (F.outside folder.new) file.Rotations
+        (formed file.Rotations input_limit (rotations_of flights.now)) (λ v. v.items) result }
     ensures rows { IfOk result (λ v. AreRotations flights.now v.items) }
 {
     let bytes = match read_file(alloc, folder, File::Rotations, INPUT_LIMIT) {
@@ -94,7 +96,8 @@ fn aircraft_rows<F: Folder>(
     folder: &mut F,
     flights: &[FlightRow],
 ) -> Result<Vec<AircraftRow>, Ending>
-    ensures reads { ReadsRows (F.outside folder.old) (F.outside folder.new) file.Aircraft (formed file.Aircraft input_limit (aircraft_of flights.now)) (λ v. v.items) result }
+    ensures reads { ReadsRows (F.outside folder.old) (F.outside folder.new) file.Aircraft
+        (formed file.Aircraft input_limit (aircraft_of flights.now)) (λ v. v.items) result }
     ensures rows { IfOk result (λ v. AreAircraft flights.now v.items) }
 {
     let bytes = match read_file(alloc, folder, File::Aircraft, INPUT_LIMIT) {
@@ -108,7 +111,8 @@ fn aircraft_rows<F: Folder>(
 }
 
 fn journal_rows<F: Folder>(alloc: Global, folder: &mut F) -> Result<Vec<JournalRow>, Ending>
-    ensures reads { ReadsRows (F.outside folder.old) (F.outside folder.new) file.Journal (formed file.Journal journal_limit moves_of) (λ v. v.items) result }
+    ensures reads { ReadsRows (F.outside folder.old) (F.outside folder.new) file.Journal
+        (formed file.Journal journal_limit moves_of) (λ v. v.items) result }
     ensures rows { IfOk result (λ v. AreProposals v.items) }
 {
     let bytes = match read_file(alloc, folder, File::Journal, JOURNAL_LIMIT) {

@@ -3,7 +3,7 @@
 ghost use Rattle.std.specs.Prelude.{◌≡◌};
 ghost use Rattle.desk_replay.specs.Commands.{directories};
 ghost use Rattle.desk_replay.specs.InputStory.{story_in, CanBeRun};
-ghost use Rattle.desk_replay.specs.Runs.{World, Replays};
+ghost use Rattle.desk_replay.specs.Runs.{world, Replays};
 ghost use Rattle.desk_replay.specs.Finishing.{Finishes};
 
 use crate::ending::Ending;
@@ -23,7 +23,8 @@ fn finish<F: Folder, O: Sink>(
     out: &mut O,
 ) -> Ending
     requires { CanBeRun story }
-    ensures { Finishes (record { folder = F.outside folder.old; sink = O.report out.old }) (record { folder = F.outside folder.new; sink = O.report out.new }) (story_in story) result }
+    ensures { Finishes (world (F.outside folder.old) (O.report out.old))
+        (world (F.outside folder.new) (O.report out.new)) (story_in story) result }
 {
     let InputStory { inst, events } = story;
     let book = match run_events(alloc, inst, events.as_slice()) {
@@ -53,7 +54,8 @@ pub fn replay<F: Folder, O: Sink>(
     folder: &mut F,
     out: &mut O,
 ) -> Ending
-    ensures { Replays (directories input.now output.now) (record { folder = F.outside folder.old; sink = O.report out.old }) (record { folder = F.outside folder.new; sink = O.report out.new }) result }
+    ensures { Replays (directories input.now output.now) (world (F.outside folder.old) (O.report out.old))
+        (world (F.outside folder.new) (O.report out.new)) result }
 {
     match folder.place(alloc, input, output) {
         Ok(()) => {}

@@ -1,7 +1,7 @@
 //! Writing what a run has found.
 
 ghost use Rattle.std.specs.Prelude.{◌≡◌};
-ghost use Rattle.desk_replay.specs.Runs.{World};
+ghost use Rattle.desk_replay.specs.Runs.{world};
 ghost use Rattle.desk_replay.specs.Writing.{texts_in, PutsTexts};
 
 use crate::ending::Ending;
@@ -26,7 +26,8 @@ pub(crate) fn put_texts<F: Folder, O: Sink>(
     out: &mut O,
     texts: &OutputTexts,
 ) -> Result<(), Ending>
-    ensures { PutsTexts (record { folder = F.outside folder.old; sink = O.report out.old }) (record { folder = F.outside folder.new; sink = O.report out.new }) (texts_in texts.now) result }
+    ensures { PutsTexts (world (F.outside folder.old) (O.report out.old))
+        (world (F.outside folder.new) (O.report out.new)) (texts_in texts.now) result }
 {
     match put_text(
         alloc,

@@ -1,9 +1,12 @@
 //! The top call.
 
-ghost use Rattle.std.specs.Prelude.{◌≤◌, map};
+ghost use Rattle.std.specs.Prelude.{◌≡◌, ◌≤◌, map};
 ghost use Rattle.std.specs.String.{string_bytes};
-ghost use Rattle.desk_replay.specs.Story.{Inputs};
-ghost use Rattle.desk_replay.specs.Runs.{Tells, Ends, IsDone, Runs};
+ghost use Rattle.desk_folder.specs.Outside.{Directories};
+ghost use Rattle.desk_replay.specs.Commands.{command};
+ghost use Rattle.desk_replay.specs.Story.{Inputs, story_of};
+ghost use Rattle.desk_replay.specs.Runs.{world, Tells, Ends, IsDone, Runs};
+ghost use Rattle.desk_replay.specs.Causes.{IsUnlessMemory, IsDoneWith, IsRefused, HasFault, IsFaultless, Answers};
 
 use desk_folder::{Folder, FolderFault, Gate, Sink};
 use desk_replay::{Ending, command, fault_text, replay};
@@ -12,7 +15,8 @@ use std::alloc::Global;
 
 // Does what the words say.
 fn run<F: Folder, O: Sink>(alloc: Global, words: &[String], folder: &mut F, out: &mut O) -> Ending
-    ensures { Ends (map string_bytes words.now) (record { folder = F.outside folder.old; sink = O.report out.old }) (record { folder = F.outside folder.new; sink = O.report out.new }) result }
+    ensures { Ends (map string_bytes words.now) (world (F.outside folder.old) (O.report out.old))
+        (world (F.outside folder.new) (O.report out.new)) result }
 {
     match command(words) {
         Some((input, output)) => replay(alloc, input, output, folder, out),
@@ -22,7 +26,8 @@ fn run<F: Folder, O: Sink>(alloc: Global, words: &[String], folder: &mut F, out:
 
 // Does what the words say, and puts the line that tells why it was not done.
 fn told_run<F: Folder, O: Sink>(alloc: Global, words: &[String], folder: &mut F, out: &mut O) -> u8
-    ensures { Runs (map string_bytes words.now) (record { folder = F.outside folder.old; sink = O.report out.old }) (record { folder = F.outside folder.new; sink = O.report out.new }) result }
+    ensures { Runs (map string_bytes words.now) (world (F.outside folder.old) (O.report out.old))
+        (world (F.outside folder.new) (O.report out.new)) result }
 {
     let ending = run(alloc, words, folder, out);
     let Ok(line) = fault_text(alloc, &ending) else {
@@ -48,12 +53,38 @@ pub fn desk_main<F: Folder, O: Sink, G: Gate>(
     _gate: &G,
 ) -> u8
     // How the run ended, the cause of each ending, and what was written by then.
-    ensures runs { Runs (map string_bytes words.now) (record { folder = F.outside folder.old; sink = O.report out.old }) (record { folder = F.outside folder.new; sink = O.report out.new }) result }
+    ensures runs { Runs (map string_bytes words.now) (world (F.outside folder.old) (O.report out.old))
+        (world (F.outside folder.new) (O.report out.new)) result }
 
     // The headline: where the folder tells the bytes of its input, each run that was done has written
     // the journal of a legal history of the events that it read, and the last plan of that history.
     ensures headline { (x : Inputs) → Tells (F.outside folder.old) x → result ≤ 1 →
-        IsDone (record { folder = F.outside folder.old; sink = O.report out.old }) (record { folder = F.outside folder.new; sink = O.report out.new }) x }
+        IsDone (world (F.outside folder.old) (O.report out.old))
+        (world (F.outside folder.new) (O.report out.new)) x }
+
+    // 0 and 1: the input is accepted, and its last state has a plan, or has none.
+    ensures done { (x : Inputs) → Tells (F.outside folder.old) x → result ≤ 1 → IsDoneWith x result }
+
+    // 2: exactly where the words are no command.
+    ensures usage { command (map string_bytes words.now) ≡ None → IsUnlessMemory result 2 }
+    ensures usage_only { result ≡ 2 → command (map string_bytes words.now) ≡ None }
+
+    // 3: the input is refused; its first refusal is told, and no file is written.
+    ensures refused { (x : Inputs) → Tells (F.outside folder.old) x → result ≡ 3 →
+        IsRefused (world (F.outside folder.old) (O.report out.old))
+        (world (F.outside folder.new) (O.report out.new)) x }
+
+    // 4 and 5: the count of faults of the call that is told rose in this run.
+    ensures fault { 4 ≤ result → result ≤ 5 →
+        HasFault (world (F.outside folder.old) (O.report out.old))
+        (world (F.outside folder.new) (O.report out.new)) result }
+
+    // Where no call failed, the input alone decides between 0, 1 and 3, but for want of memory.
+    ensures complete { (x : Inputs) → Tells (F.outside folder.old) x → (dirs : Directories) →
+        command (map string_bytes words.now) ≡ Some dirs →
+        IsFaultless (world (F.outside folder.old) (O.report out.old))
+        (world (F.outside folder.new) (O.report out.new)) →
+        Answers (story_of x) result }
 {
     told_run(alloc, words, folder, out)
 }

@@ -4,6 +4,7 @@
 //! As scheduled it costs 320, which are 192,000,000,000 grains.
 
 use super::*;
+use desk_data::NoMem;
 use desk_folder::{File, MemFolder, MemSink};
 use std::test::Fail;
 
@@ -224,7 +225,7 @@ const RUNS: [Run; 26] = [
 ];
 
 /// The words of a replay.
-fn replay_words(alloc: Global) -> Result<Vec<String>, Fail> {
+fn replay_words(alloc: Global) -> Result<Vec<String>, NoMem> {
     let mut words = Vec::new(alloc);
     for word in ["replay", "in", "out"] {
         words.push(String::from_str(alloc, word)?)?;
@@ -238,7 +239,7 @@ fn folder_of(
     run: &Run,
     fail_next: &[u64],
     fail_put: &[u64],
-) -> Result<MemFolder, Fail> {
+) -> Result<MemFolder, NoMem> {
     let mut inputs = Vec::new(alloc);
     inputs.push((
         File::Flights,
@@ -287,74 +288,141 @@ fn days_are_replayed_or_refused(rt: HostRuntime) -> Result<(), Fail> {
     Ok(())
 }
 
-/// A run in which a call fails, with what it must write.
+/// A call that fails in the second of the runs above, with what the run must write.
 struct Fault {
-    fail_next: &'static [u64],
-    fail_put: &'static [u64],
-    fail_report: &'static [u64],
+    /// The number of the failing `next`, `put` and report line; 0 for none.
+    next: u64,
+    put: u64,
+    report_line: u64,
     status: u8,
     report: &'static str,
     written_rotations: &'static str,
+    written_journal: &'static str,
 }
 
-const FAULTS: [Fault; 6] = [
+const READ_FAULT: Fault = Fault {
+    next: 0,
+    put: 0,
+    report_line: 0,
+    status: 4,
+    report: "",
+    written_rotations: "",
+    written_journal: "",
+};
+
+const ROTATIONS_1: &str = "F1 01/03/08 P1 01/03/08 08:00\n";
+
+const ROTATIONS_2: &str = "F1 01/03/08 P1 01/03/08 08:00\nF2 01/03/08 P1 01/03/08 09:30\n";
+
+const ROTATIONS_3: &str =
+    "F1 01/03/08 P1 01/03/08 08:00\nF2 01/03/08 P1 01/03/08 09:30\nF3 01/03/08 cancelled\n";
+
+const JOURNAL_1: &str = "1,move,set F3 01/03/08 + P2 01/03/08 12:00 -,accepted 120000000000\n";
+
+const JOURNAL_2: &str =
+    "1,move,set F3 01/03/08 + P2 01/03/08 12:00 -,accepted 120000000000\n1,move,set F3 01/03/08 + P2 01/03/08 12:00 -,dearer 120000000000 120000000000\n";
+
+const FAULTS: [Fault; 15] = [
     Fault {
-        fail_next: &[1],
-        fail_put: &[],
-        fail_report: &[],
-        status: 4,
+        next: 1,
         report: "read fault flights.csv\n",
-        written_rotations: "",
+        ..READ_FAULT
     },
     Fault {
-        fail_next: &[4],
-        fail_put: &[],
-        fail_report: &[],
-        status: 4,
+        next: 2,
+        report: "read fault flights.csv\n",
+        ..READ_FAULT
+    },
+    Fault {
+        next: 3,
         report: "read fault rotations.csv\n",
-        written_rotations: "",
+        ..READ_FAULT
     },
     Fault {
-        fail_next: &[7],
-        fail_put: &[],
-        fail_report: &[],
-        status: 4,
+        next: 4,
+        report: "read fault rotations.csv\n",
+        ..READ_FAULT
+    },
+    Fault {
+        next: 5,
+        report: "read fault aircraft.csv\n",
+        ..READ_FAULT
+    },
+    Fault {
+        next: 6,
+        report: "read fault aircraft.csv\n",
+        ..READ_FAULT
+    },
+    Fault {
+        next: 7,
         report: "read fault journal.csv\n",
-        written_rotations: "",
+        ..READ_FAULT
     },
     Fault {
-        fail_next: &[],
-        fail_put: &[2],
-        fail_report: &[],
+        next: 8,
+        report: "read fault journal.csv\n",
+        ..READ_FAULT
+    },
+    Fault {
+        put: 1,
         status: 5,
         report: "write fault sol_rotations.csv\n",
-        written_rotations: "F1 01/03/08 P1 01/03/08 08:00\n",
+        ..READ_FAULT
     },
     Fault {
-        fail_next: &[],
-        fail_put: &[],
-        fail_report: &[1],
+        put: 2,
+        status: 5,
+        report: "write fault sol_rotations.csv\n",
+        written_rotations: ROTATIONS_1,
+        ..READ_FAULT
+    },
+    Fault {
+        put: 3,
+        status: 5,
+        report: "write fault sol_rotations.csv\n",
+        written_rotations: ROTATIONS_2,
+        ..READ_FAULT
+    },
+    Fault {
+        put: 4,
+        status: 5,
+        report: "write fault journal.csv\n",
+        written_rotations: ROTATIONS_3,
+        ..READ_FAULT
+    },
+    Fault {
+        put: 5,
+        status: 5,
+        report: "write fault journal.csv\n",
+        written_rotations: ROTATIONS_3,
+        written_journal: JOURNAL_1,
+        ..READ_FAULT
+    },
+    Fault {
+        report_line: 1,
         status: 5,
         report: "write fault report\n",
-        written_rotations: SCHEDULED,
+        written_rotations: ROTATIONS_3,
+        written_journal: JOURNAL_2,
+        ..READ_FAULT
     },
     Fault {
-        fail_next: &[],
-        fail_put: &[],
-        fail_report: &[2],
+        report_line: 2,
         status: 5,
-        report: "changes 0\nwrite fault report\n",
-        written_rotations: SCHEDULED,
+        report: "changes 1\nwrite fault report\n",
+        written_rotations: ROTATIONS_3,
+        written_journal: JOURNAL_2,
+        ..READ_FAULT
     },
 ];
 
 #[test]
-fn faults_are_told_by_call_and_file(rt: HostRuntime) -> Result<(), Fail> {
+fn each_failing_call_is_told_by_call_and_file(rt: HostRuntime) -> Result<(), Fail> {
     let alloc = rt.alloc();
     let words = replay_words(alloc)?;
     for (i, fault) in FAULTS.iter().enumerate() {
-        let mut folder = folder_of(alloc, &USUAL, fault.fail_next, fault.fail_put)?;
-        let mut out = MemSink::new(Vec::from_slice(alloc, fault.fail_report)?);
+        let mut folder = folder_of(alloc, &RUNS[1], &[fault.next], &[fault.put])?;
+        let mut out = MemSink::new(Vec::from_slice(alloc, &[fault.report_line])?);
         let status = desk_main(alloc, words.as_slice(), &mut folder, &mut out, &FreeGate);
         assert_eq!(rt; status, fault.status, "status of fault {i}");
         assert_eq!(rt;
@@ -368,8 +436,39 @@ fn faults_are_told_by_call_and_file(rt: HostRuntime) -> Result<(), Fail> {
             fault.written_rotations.as_bytes(),
             "rotations of fault {i}"
         );
+        let journal = folder.written(File::Journal);
+        assert_eq!(rt;
+            journal,
+            fault.written_journal.as_bytes(),
+            "journal of fault {i}"
+        );
     }
     Ok(())
+}
+
+/// The status of a run, or none where memory ran out before it began.
+fn status_of_run(alloc: Global, run: &Run) -> Option<u8> {
+    let Ok(words) = replay_words(alloc) else {
+        return None;
+    };
+    let Ok(mut folder) = folder_of(alloc, run, &[], &[]) else {
+        return None;
+    };
+    let mut out = MemSink::new(Vec::new(alloc));
+    Some(desk_main(alloc, words.as_slice(), &mut folder, &mut out, &FreeGate))
+}
+
+/// Tried with each allocation refused in turn.
+#[test]
+fn want_of_memory_gives_status_6_or_the_runs_own(rt: HostRuntime) {
+    for (i, run) in RUNS[..6].iter().enumerate() {
+        if let Some(status) = status_of_run(rt.alloc(), run) {
+            assert!(rt;
+                status == run.status || status == 6,
+                "status {status} of run {i}"
+            );
+        }
+    }
 }
 
 const USAGES: [&[&str]; 8] = [

@@ -1,11 +1,24 @@
 use Rattle.std.proofs.Common.{map}
 use Rattle.std.specs.String.{string_bytes}
+use Rattle.desk_replay.specs.Runs.{world}
 use Rattle.desk_replay.proofs.HeadlineLaw.{headline-of}
+use Rattle.desk_replay.proofs.CausesLaw.{usage-from, usage-only, done-with, refused-of, fault-of, complete-of}
 use Rattle.desk_top.proofs.desk.desk_main.Goals as goal
 
-pub returns-clause-headline : goal.returns-clause-headline
-returns-clause-headline g c x tells done =
-    headline-of (map string_bytes c.args.words.now)
-    (record { folder = g.F.Folder.outside c.args.folder.now; sink = g.O.Sink.report c.args.out.now })
-    (record { folder = g.F.Folder.outside c.told_run.new.folder; sink = g.O.Sink.report c.told_run.new.out })
-    c.told_run.result c.told_run.ensures x tells done
+pub returns : goal.returns
+returns g c =
+    let words = map string_bytes c.args.words.now in
+    let before = world (g.F.Folder.outside c.args.folder.now) (g.O.Sink.report c.args.out.now) in
+    let now = world (g.F.Folder.outside c.told_run.new.folder) (g.O.Sink.report c.told_run.new.out) in
+    let code = c.told_run.result in
+    let run = c.told_run.ensures in
+    record {
+      runs = run;
+      headline = headline-of words before now code run;
+      done = done-with words before now code run;
+      usage = usage-from words before now code run;
+      usage_only = usage-only words before now code run;
+      refused = refused-of words before now code run;
+      fault = fault-of words before now code run;
+      complete = complete-of words before now code run;
+    }

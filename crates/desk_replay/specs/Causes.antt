@@ -1,0 +1,63 @@
+-- When each status comes.
+use Rattle.std.specs.Prelude.{◌≡◌, ◌⊎◌, ℕ, List, Option, Some, None, Result, Ok, Err}
+use Rattle.std.specs.Io.KnownBytes.{Keeps}
+use Rattle.desk_folder.specs.declared.files.File.{File}
+use Rattle.desk_folder.specs.declared.files.File.TheVariants as file
+use Rattle.desk_folder.specs.declared.faults.FolderFault.{FolderFault}
+use Rattle.desk_folder.specs.Outside.{SinkSide}
+use Rattle.desk_folder.specs.Calls.{Rose}
+use Rattle.folder_io.specs.Texts.{PutsReport}
+use Rattle.desk_data.specs.declared.broken.Broken.{Broken}
+use Rattle.desk_replay.specs.declared.ending.Refusal.{Refusal}
+use Rattle.desk_replay.specs.declared.ending.Ending.{Ending}
+use Rattle.desk_replay.specs.Story.{Inputs, Story, story_of}
+use Rattle.desk_replay.specs.Outcome.{last, refusal_text, fault_text, status_of}
+use Rattle.desk_replay.specs.Runs.{World, IsTold, HasCause}
+
+-- want of memory is the one free answer: the status is this one, unless memory ran out
+abbrev pub IsUnlessMemory : ℕ → ℕ → Type 0
+IsUnlessMemory code status = (code ≡ status) ⊎ (code ≡ 6)
+
+-- 0 where there is a plan, 1 where there is none
+abbrev pub plan_status : Option Broken → ℕ
+plan_status None = 0
+plan_status (Some item) = 1
+
+abbrev pub done_status : Story → ℕ
+done_status s = plan_status (last s).broken
+
+-- a run that was done on these inputs ends with the status of its last state
+pub record IsDoneWith (x : Inputs) (code : ℕ) : Type 0 where
+  pub story : Story
+  pub told : IsTold x story
+  pub status : code ≡ done_status story
+
+-- the first refusal of the input, its line in the report, and nothing written to a file
+pub record IsRefused (before now : World) (x : Inputs) : Type 0 where
+  pub refusal : Refusal
+  pub first : story_of x ≡ Err refusal
+  pub rotations : Keeps (before.folder.written file.SolRotations) (now.folder.written file.SolRotations)
+  pub journal : Keeps (before.folder.written file.Journal) (now.folder.written file.Journal)
+  pub answer : Result (Unit {0}) FolderFault
+  pub line : PutsReport before.sink now.sink (refusal_text refusal) answer
+
+-- a fault of the outside: its count rose in this run, and its line is put last
+pub record HasFault (before now : World) (code : ℕ) : Type 0 where
+  pub how : Ending
+  pub status : status_of how ≡ code
+  pub cause : HasCause before now how
+  pub sink : SinkSide
+  pub answer : Result (Unit {0}) FolderFault
+  pub line : PutsReport sink now.sink (fault_text how) answer
+
+-- no call failed: no count of faults rose
+pub record IsFaultless (before now : World) : Type 0 where
+  pub place : Rose before.folder.place_faults now.folder.place_faults → ⊥
+  pub next : (f : File) → Rose (before.folder.next_faults f) (now.folder.next_faults f) → ⊥
+  pub put : (f : File) → Rose (before.folder.put_faults f) (now.folder.put_faults f) → ⊥
+  pub sink : Rose before.sink.faults now.sink.faults → ⊥
+
+-- what the input asks for where no call fails: 0 or 1 where it is accepted, and 3 where it is refused
+abbrev pub Answers : Result Story Refusal → ℕ → Type 0
+Answers (Ok s) code = IsUnlessMemory code (done_status s)
+Answers (Err r) code = IsUnlessMemory code 3
