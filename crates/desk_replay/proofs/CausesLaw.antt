@@ -2,11 +2,9 @@
 use Rattle.std.proofs.Common.{◌≡◌, ℕ, ◌≤◌, List, refl, sym, subst, ap, ◌∙◌, arith, inl, inr, ◌⊎◌}
 use Rattle.std.specs.Prelude.{Option, Some, None, IsSome, Result, Ok, Err, MatchOption}
 use Rattle.std.proofs.lemmas.Bool.{false≢true}
-use Rattle.desk_folder.specs.declared.files.File.{File}
 use Rattle.desk_folder.specs.declared.faults.FolderFault.{FolderFault}
 use Rattle.desk_folder.specs.declared.faults.FolderFault.TheVariants as fault
 use Rattle.desk_folder.specs.Outside.{SinkSide, Directories}
-use Rattle.desk_folder.specs.Calls.{Rose}
 use Rattle.folder_io.specs.Texts.{PutsReport}
 use Rattle.desk_data.specs.declared.broken.Broken.{Broken}
 use Rattle.desk_replay.specs.declared.ending.Refusal.{Refusal}
@@ -15,8 +13,8 @@ use Rattle.desk_replay.specs.declared.ending.Ending.TheVariants as ending
 use Rattle.desk_replay.specs.Story.{Inputs, Story, story_of}
 use Rattle.desk_replay.specs.Outcome.{last, refusal_text, fault_text, status_of}
 use Rattle.desk_replay.specs.Commands.{command}
-use Rattle.desk_replay.specs.Runs.{World, Tells, IsTold, Did, HasCause, IsUntouched, Replays, Runs, status_after}
-use Rattle.desk_replay.specs.Causes.{IsUnlessMemory, plan_status, done_status, IsDoneWith, IsRefused, HasFault, IsFaultless, Answers}
+use Rattle.desk_replay.specs.Runs.{World, Tells, Did, HasCause, IsUntouched, Replays, Runs, status_after}
+use Rattle.desk_replay.specs.Causes.{IsUnlessMemory, plan_status, done_status, IsDoneWith, IsRefused, HasFault, IsReadable, IsFaultless, Answers}
 
 -- what the command says of a run before its fault's line
 abbrev EndsBy : Option Directories → World → World → Ending → Type 0
@@ -152,9 +150,12 @@ fault-of words before now code run low high =
     elim (status_cases run.how run.answer code run.status) [
       | inl e ↦
           let made : HasFault before now code = record {
-            how = run.how; status = sym e;
+            how = run.how;
+            status = sym e;
             cause = cause_of (command words) before now run.sink run.how (λ two. omega (arith, e, two, low)) run.ends run.line.faults.kept;
-            sink = run.sink; answer = run.answer; line = run.line;
+            sink = run.sink;
+            answer = run.answer;
+            line = run.line;
           } in made
       | inr e ↦ absurd (omega (arith, e, high))
     ]
@@ -195,4 +196,38 @@ complete-of words before now code run x tells dirs is none =
     elim (status_cases run.how run.answer code run.status) [
       | inl e ↦ faultless_command (command words) dirs before now run.sink x run.how code is e tells run.ends run.line.faults.kept none
       | inr e ↦ memory_answers (story_of x) code e
+    ]
+
+-- ---- refused exactly
+
+abbrev or_story : Story → Result Story Refusal
+or_story s = Ok s
+
+abbrev or_refusal : Refusal → Result Story Refusal
+or_refusal r = Err r
+
+ok_or_refused : (x : Inputs) (s : Story) (r : Refusal) → story_of x ≡ Ok s → story_of x ≡ Err r → ⊥
+ok_or_refused x s r a b = let both : or_story s ≡ or_refusal r = sym a ∙ b in cc
+
+readable_by : (dirs : Directories) (before now : World) (sink : SinkSide) (x : Inputs) (r : Refusal) (how : Ending) (code : ℕ) → code ≡ status_of how → Tells before.folder x → Replays dirs before (record { folder = now.folder; sink = sink }) how → HasCause before now how → IsReadable before now → story_of x ≡ Err r → IsUnlessMemory code 3
+readable_by dirs before now sink x r ending.Done code e tells run cause none err = let did = run.did x tells in absurd (ok_or_refused x did.0 r did.1 err)
+readable_by dirs before now sink x r ending.NoPlan code e tells run cause none err = let did = run.did x tells in absurd (ok_or_refused x did.0 r did.1 err)
+readable_by dirs before now sink x r ending.Usage code e tells run cause none err = absurd (run.no_usage refl)
+readable_by dirs before now sink x r (ending.Refused other) code e tells run cause none err = inl e
+readable_by dirs before now sink x r ending.PlaceFault code e tells run cause none err = absurd (none.place cause)
+readable_by dirs before now sink x r (ending.ReadFault f) code e tells run cause none err = absurd (none.next f cause)
+readable_by dirs before now sink x r (ending.WriteFault f) code e tells run cause none err = let did = run.did x tells in absurd (ok_or_refused x did.0 r did.1 err)
+readable_by dirs before now sink x r ending.ReportFault code e tells run cause none err = let did = run.did x tells in absurd (ok_or_refused x did.0 r did.1 err)
+readable_by dirs before now sink x r ending.Memory code e tells run cause none err = inr e
+
+readable_command : (these : Option Directories) (dirs : Directories) (before now : World) (sink : SinkSide) (x : Inputs) (r : Refusal) (how : Ending) (code : ℕ) → these ≡ Some dirs → code ≡ status_of how → Tells before.folder x → EndsBy these before (record { folder = now.folder; sink = sink }) how → sink.faults ≤ now.sink.faults → IsReadable before now → story_of x ≡ Err r → IsUnlessMemory code 3
+readable_command None dirs before now sink x r how code is e tells ends kept none err = absurd cc
+readable_command (Some those) dirs before now sink x r how code is e tells ends kept none err =
+    readable_by those before now sink x r how code e tells ends (cause_after before now sink how kept ends.cause) none err
+
+pub refused-from : (words : List (List ℕ)) (before now : World) (code : ℕ) → Runs words before now code → (x : Inputs) → Tells before.folder x → (dirs : Directories) → command words ≡ Some dirs → IsReadable before now → (r : Refusal) → story_of x ≡ Err r → IsUnlessMemory code 3
+refused-from words before now code run x tells dirs is none r err =
+    elim (status_cases run.how run.answer code run.status) [
+      | inl e ↦ readable_command (command words) dirs before now run.sink x r run.how code is e tells run.ends run.line.faults.kept none err
+      | inr e ↦ inr e
     ]

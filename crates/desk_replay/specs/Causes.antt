@@ -1,5 +1,5 @@
 -- When each status comes.
-use Rattle.std.specs.Prelude.{◌≡◌, ◌⊎◌, ℕ, List, Option, Some, None, Result, Ok, Err}
+use Rattle.std.specs.Prelude.{◌≡◌, ◌⊎◌, ℕ, Option, Some, None, Result, Ok, Err}
 use Rattle.std.specs.Io.KnownBytes.{Keeps}
 use Rattle.desk_folder.specs.declared.files.File.{File}
 use Rattle.desk_folder.specs.declared.files.File.TheVariants as file
@@ -49,6 +49,11 @@ pub record HasFault (before now : World) (code : ℕ) : Type 0 where
   pub sink : SinkSide
   pub answer : Result (Unit {0}) FolderFault
   pub line : PutsReport sink now.sink (fault_text how) answer
+
+-- the directories were named and the input was read without a failing call
+pub record IsReadable (before now : World) : Type 0 where
+  pub place : Rose before.folder.place_faults now.folder.place_faults → ⊥
+  pub next : (f : File) → Rose (before.folder.next_faults f) (now.folder.next_faults f) → ⊥
 
 -- no call failed: no count of faults rose
 pub record IsFaultless (before now : World) : Type 0 where

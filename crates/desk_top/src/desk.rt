@@ -6,7 +6,8 @@ ghost use Rattle.desk_folder.specs.Outside.{Directories};
 ghost use Rattle.desk_replay.specs.Commands.{command};
 ghost use Rattle.desk_replay.specs.Story.{Inputs, story_of};
 ghost use Rattle.desk_replay.specs.Runs.{world, Tells, Ends, IsDone, Runs};
-ghost use Rattle.desk_replay.specs.Causes.{IsUnlessMemory, IsDoneWith, IsRefused, HasFault, IsFaultless, Answers};
+ghost use Rattle.desk_replay.specs.Causes.{IsUnlessMemory, IsDoneWith, IsRefused, HasFault, IsReadable, IsFaultless, Answers};
+ghost use Rattle.desk_replay.specs.declared.ending.Refusal.{Refusal as Refused};
 
 use desk_folder::{Folder, FolderFault, Gate, Sink};
 use desk_replay::{Ending, command, fault_text, replay};
@@ -68,6 +69,13 @@ pub fn desk_main<F: Folder, O: Sink, G: Gate>(
     // 2: exactly where the words are no command.
     ensures usage { command (map string_bytes words.now) ≡ None → IsUnlessMemory result 2 }
     ensures usage_only { result ≡ 2 → command (map string_bytes words.now) ≡ None }
+
+    // 3: exactly where the input is refused and no call failed that names the directories or reads.
+    ensures refused_where { (x : Inputs) → Tells (F.outside folder.old) x → (dirs : Directories) →
+        command (map string_bytes words.now) ≡ Some dirs →
+        IsReadable (world (F.outside folder.old) (O.report out.old))
+        (world (F.outside folder.new) (O.report out.new)) →
+        (refusal : Refused) → story_of x ≡ Err refusal → IsUnlessMemory result 3 }
 
     // 3: the input is refused; its first refusal is told, and no file is written.
     ensures refused { (x : Inputs) → Tells (F.outside folder.old) x → result ≡ 3 →

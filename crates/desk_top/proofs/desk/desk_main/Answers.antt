@@ -2,7 +2,7 @@ use Rattle.std.proofs.Common.{map}
 use Rattle.std.specs.String.{string_bytes}
 use Rattle.desk_replay.specs.Runs.{world}
 use Rattle.desk_replay.proofs.HeadlineLaw.{headline-of}
-use Rattle.desk_replay.proofs.CausesLaw.{usage-from, usage-only, done-with, refused-of, fault-of, complete-of}
+use Rattle.desk_replay.proofs.CausesLaw.{usage-from, usage-only, done-with, refused-from, refused-of, fault-of, complete-of}
 use Rattle.desk_top.proofs.desk.desk_main.Goals as goal
 
 pub returns : goal.returns
@@ -18,6 +18,7 @@ returns g c =
       done = done-with words before now code run;
       usage = usage-from words before now code run;
       usage_only = usage-only words before now code run;
+      refused_where = refused-from words before now code run;
       refused = refused-of words before now code run;
       fault = fault-of words before now code run;
       complete = complete-of words before now code run;
