@@ -1,5 +1,6 @@
 #!/usr/bin/env python3
-"""Refuses each allocation of six runs of the built desk in turn.
+"""Refuses each allocation of six runs of the built desk in turn, over the host's folder by the
+program, and over the folder in memory by its test, where that is built.
 
 Each run must end with status 6 or with its own status, and with its own status it must write what it
 writes where nothing is refused. With status 6 the output files are whole up to one, which has a front
@@ -12,6 +13,8 @@ import tempfile
 
 HERE = os.path.dirname(os.path.abspath(__file__))
 PROGRAM = os.path.join(os.path.dirname(HERE), "crates", "desk_top", "out", "desk_top")
+TESTS = PROGRAM + "_tests"
+TEST = "tests::want_of_memory_gives_status_6_or_the_runs_own"
 FLIGHTS = "F1 AAA BBB 08:00 09:00 0\nF2 BBB AAA 09:30 10:30 0\nF3 AAA BBB 12:00 13:00 0\n"
 ROTATIONS = "F1 01/03/08 P1\nF2 01/03/08 P1\nF3 01/03/08 P2\n"
 AIRCRAFT = "P1 M1 NB 0/0/10 600 100 30 20 AAA NULL\nP2 M1 NB 0/0/9 600 120 30 20 AAA NULL\n"
@@ -56,6 +59,19 @@ def is_story(written, report, whole, whole_report):
     return True
 
 
+def refuse_in_test(shim):
+    """How often the test was run with an allocation refused, and how often it failed."""
+    if not os.path.exists(TESTS):
+        return 0, 0
+
+    def status_of(refuse):
+        env = {**os.environ, "LD_PRELOAD": shim, "REFUSE": str(refuse)}
+        return subprocess.run([TESTS, TEST], capture_output=True, text=True, env=env)
+
+    calls = int(status_of(0).stderr.split()[-1])
+    return calls, sum(status_of(refuse).returncode != 0 for refuse in range(1, calls + 1))
+
+
 def main():
     with tempfile.TemporaryDirectory() as folder:
         shim = os.path.join(folder, "refused.so")
@@ -82,9 +98,11 @@ def main():
                 if not good:
                     wrong += 1
                     print("refused %d: status %d, report %r" % (refuse, got, told))
-    print("%d allocations refused: %d runs ended with 6, %d as if none was refused, %d wrong"
-          % (tried, six, tried - six - wrong, wrong))
-    sys.exit(1 if wrong else 0)
+        print("%d allocations refused: %d runs ended with 6, %d as if none was refused, %d wrong"
+              % (tried, six, tried - six - wrong, wrong))
+        calls, failed = refuse_in_test(shim)
+        print("%d allocations of the test refused: %d times it failed" % (calls, failed))
+    sys.exit(1 if wrong or failed else 0)
 
 
 if __name__ == "__main__":
