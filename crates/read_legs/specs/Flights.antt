@@ -18,7 +18,7 @@ departure_of field = do
   time ← time_of field
   Ok (days_later time.0 time.1)
 
--- the first moment after this one that shows this minute of the day
+-- the first moment after this one that shows this minute of the day; there is one for each minute below 1,440
 unfoldable pub first_after : ℕ → ℕ → Option ℕ
 first_after moment minute = find (λ at. at % 1440 == minute) (range_with_len (moment + 1) 1440)
 
@@ -54,7 +54,7 @@ flight_row line fields = do
   prev ← previous_of sixth.0
   Ok (record { line = line; flight = flight; origin = origin; dest = dest; dep = dep; arr = arr; prev = prev })
 
--- the ranges of a flight's minutes
+-- the ranges of a flight's times: it departs in the ten days from its date on, and arrives 1 to 2,880 minutes later
 pub record AreTimes (row : FlightRow) : Type 0 where
   pub departs : row.dep < 14400
   pub later : row.dep < row.arr

@@ -2,7 +2,7 @@
 
 use desk_units::Name;
 
-/// A flight of every day on which it is flown.
+/// A flight of the timetable, with its times on each day that it is flown.
 #[derive(Clone, Copy, Debug)]
 pub struct FlightRow {
     /// The line in its file, from 1.
@@ -21,7 +21,7 @@ pub struct FlightRow {
     pub prev: Option<Name>,
 }
 
-/// A flight on one day, with the aircraft that is to fly it.
+/// A flight on one day, with the aircraft that is scheduled to fly it.
 #[derive(Clone, Copy, Debug)]
 pub struct RotationRow {
     /// The line in its file, from 1.

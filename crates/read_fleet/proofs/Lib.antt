@@ -1,0 +1,2 @@
+pub mod MaintenanceLemmas
+pub mod PositionLemmas
