@@ -1,5 +1,0 @@
-pub mod Moments
-pub mod Maintenance
-pub mod Aircraft
-pub mod Position
-pub mod Facts
