@@ -1,2 +1,6 @@
 pub mod DayLemmas
 pub mod DateLemmas
+pub mod CutLemmas
+pub mod LineLemmas
+pub mod FieldLemmas
+pub mod RowLemmas

@@ -1,2 +1,7 @@
 pub mod Days
 pub mod Texts
+pub mod Causes
+pub mod Lines
+pub mod Cuts
+pub mod Fields
+pub mod Rows

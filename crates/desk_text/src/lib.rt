@@ -1,12 +1,27 @@
-//! Days, moments and numbers as text.
+//! Days, moments and numbers as text; the lines and fields of text files.
 #![tactic(auto)]
 
+mod cause;
 mod days;
+mod fields;
+mod reading;
+mod rows;
+mod text;
 mod texts;
+mod values;
 
+pub use cause::{Cause, ReadFault, RowFault};
 pub use days::day_of;
 pub use desk_units::{Minute, NoMem};
+pub use fields::Fields;
+pub use reading::Lines;
+pub use rows::{Grammar, read_rows};
+pub use text::lines;
 pub use texts::{
     date_text, moment_text, push_all, push_date, push_moment, push_number, two_digits,
     written_days_read_back,
 };
+pub use values::{cabin, date, haul, inbound, name, number, price, seats, time, weight};
+
+#[cfg(test)]
+mod tests;

@@ -1,0 +1,80 @@
+//! The rows of a text, one a line.
+
+ghost use Rattle.std.specs.Prelude.{◌≡◌, ◌<◌, ◌≤◌, ◌^◌, ℕ, List, Result, All, IfOk, length};
+ghost use Rattle.desk_text.specs.Lines.{fields};
+ghost use Rattle.desk_text.specs.Rows.{RowOf, line_row, text_rows, GivesRow, Gives, fault_at};
+
+use crate::cause::{Cause, ReadFault, RowFault};
+use crate::fields::Fields;
+use crate::reading::{Lines, are_text};
+use std::alloc::Global;
+
+/// The grammar of a text file: how the fields of a line give a row.
+pub trait Grammar<Row> {
+    ghost row_of: { Self → RowOf Row };
+
+    ghost holds: { Self → Row → Type 0 };
+
+    /// The row of a line, from its number and its fields, or why the line is refused. Of several
+    /// causes it is the first from the left, but for `Fields`, which comes before those of fields.
+    fn row(&self, alloc: Global, line: u32, fields: Fields<'_>) -> Result<Row, RowFault>
+        ensures exact { GivesRow result (row_of self.now line fields.entry) }
+        ensures facts { IfOk result (λ row. holds self.now row) };
+}
+
+/// The row of a line whose bytes are tried first.
+fn line_row<Row: Drop, G: Grammar<Row>>(
+    alloc: Global,
+    grammar: &G,
+    line: u32,
+    text: &[u8],
+) -> Result<Row, RowFault>
+    ensures exact { GivesRow result (line_row (G.row_of grammar.now) line text.now) }
+    ensures facts { IfOk result (λ row. G.holds grammar.now row) }
+{
+    if !are_text(text) {
+        return Err(RowFault::Refused(Cause::Byte));
+    }
+    grammar.row(alloc, line, Fields::of(text))
+}
+
+/// The fault of a line that gave no row.
+fn at_line(line: u32, fault: RowFault) -> ReadFault
+    ensures { result ≡ fault_at line fault }
+{
+    match fault {
+        RowFault::Refused(cause) => ReadFault::Refused { line, cause },
+        RowFault::Memory => ReadFault::Memory,
+    }
+}
+
+/// The rows of a text of at most `limit` bytes, in the order of their lines, or the first line that
+/// is refused. A longer text is refused at line 0 with `Size`. A byte that no line may have is the
+/// first cause of its line, `Byte`.
+pub fn read_rows<Row: Drop, G: Grammar<Row>>(
+    alloc: Global,
+    grammar: &G,
+    limit: usize,
+    bytes: &[u8],
+) -> Result<Vec<Row>, ReadFault>
+    requires { limit < 2 ^ 32 }
+    ensures exact { Gives (λ rows. rows.items) result (text_rows limit (G.row_of grammar.now) bytes.now) }
+    ensures facts { IfOk result (λ rows. All (λ row. G.holds grammar.now row) rows.items) }
+    ensures few { IfOk result (λ rows. length rows.items ≤ length bytes.now) }
+{
+    let mut rows = Vec::new(alloc);
+    if bytes.len() > limit {
+        return Err(ReadFault::Refused {
+            line: 0,
+            cause: Cause::Size,
+        });
+    }
+    let mut lines = Lines::of(bytes);
+    while let Some((line, text)) = lines.next() {
+        match line_row(alloc, grammar, line, text) {
+            Ok(row) => rows.push(row)?,
+            Err(fault) => return Err(at_line(line, fault)),
+        }
+    }
+    Ok(rows)
+}

@@ -1,0 +1,5 @@
+pub mod Moments
+pub mod Maintenance
+pub mod Aircraft
+pub mod Position
+pub mod Facts

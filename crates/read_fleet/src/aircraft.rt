@@ -1,0 +1,100 @@
+//! The file of aircraft.
+
+ghost use Rattle.std.specs.Prelude.{◌≡◌, IfOk, All};
+ghost use Rattle.desk_text.specs.Rows.{Gives, GivesRow, text_rows};
+ghost use Rattle.read_fleet.specs.Aircraft.{aircraft_of, aircraft_row};
+ghost use Rattle.read_fleet.specs.Facts.{IsAircraft, HasSeenNames};
+
+use crate::MOST_BYTES;
+use crate::maintenance::{MaintRow, maint};
+use desk_text::{
+    Cause, Fields, Grammar, ReadFault, RowFault, name, number, price, read_rows, seats,
+};
+use desk_units::{Name, Price, Seats};
+use std::alloc::Global;
+
+/// A line of the file of aircraft.
+#[derive(Clone, Copy, Debug)]
+pub struct AircraftRow {
+    /// Its line in the file, from 1.
+    pub line: u32,
+    /// Its name, of 1 to 32 bytes like each name here.
+    pub name: Name,
+    /// Its model.
+    pub model: Name,
+    /// The family of models that it belongs to.
+    pub family: Name,
+    /// Its seats in each cabin, each from 0 to 999.
+    pub seats: Seats,
+    /// The longest leg that it can fly, in minutes of distance, 0 to 100,000.
+    pub range: u32,
+    /// What an hour of flight costs, at most 999,999,999.9999.
+    pub hourly: Price,
+    /// The ground time between two legs, in minutes, 0 to 2,880.
+    pub turn: u32,
+    /// The ground time before a leg that follows its previous leg, in minutes, 0 to 2,880.
+    pub transit: u32,
+    /// The airport where it stands first.
+    pub origin: Name,
+    /// Its maintenance, where it has one.
+    pub maint: Option<MaintRow>,
+}
+
+/// The aircraft of a line of at least ten fields.
+#[tactic(auto, unfolding(crate::specs::Aircraft::aircraft_of))]
+fn aircraft_of(line: u32, mut fields: Fields<'_>) -> Result<AircraftRow, Cause>
+    ensures exact { result ≡ aircraft_of line fields.entry }
+    ensures facts { IfOk result IsAircraft }
+{
+    Ok(AircraftRow {
+        line,
+        name: name(fields.take()?)?,
+        model: name(fields.take()?)?,
+        family: name(fields.take()?)?,
+        seats: seats(fields.take()?)?,
+        range: number(fields.take()?, 0, 100_000)?,
+        hourly: price(fields.take()?)?,
+        turn: number(fields.take()?, 0, 2_880)?,
+        transit: number(fields.take()?, 0, 2_880)?,
+        origin: name(fields.take()?)?,
+        maint: maint(fields.take()?)?,
+    })
+}
+
+/// The grammar of the file.
+#[derive(Drop)]
+struct Aircraft;
+
+impl Grammar<AircraftRow> for Aircraft {
+    ghost row_of = { λ _. aircraft_row };
+
+    ghost holds = { λ _. IsAircraft };
+
+    #[tactic(auto, unfolding(crate::specs::Aircraft::aircraft_row))]
+    fn row(&self, _alloc: Global, line: u32, fields: Fields<'_>) -> Result<AircraftRow, RowFault> {
+        if fields.count() < 10 {
+            return Err(RowFault::Refused(Cause::Fields));
+        }
+        Ok(aircraft_of(line, fields)?)
+    }
+}
+
+/// The aircraft, in the order of their lines, or the first line that is refused.
+///
+/// A line is `AIRCRAFT MODEL FAMILY SEATS RANGE HOURLY TURN TRANSIT ORIGIN MAINTENANCE`; fields
+/// behind these are passed over. The maintenance is `NULL` for none, or
+/// `AIRPORT-DATE-TIME-DATE-TIME-MINUTES`.
+///
+/// # Errors
+///
+/// `Size` at line 0 for more than 67,108,864 bytes. Of a line `Byte` for a byte that no line may
+/// have, then `Fields` for fewer than ten fields, then from the left the first cause of a field:
+/// `Size` of a name, `Number` of seats, a number or a price, `Word` of a maintenance that is not
+/// `NULL` and has fewer than six parts, `Date` and `Time` of its moments.
+pub fn read_aircraft(alloc: Global, bytes: &[u8]) -> Result<Vec<AircraftRow>, ReadFault>
+    ensures exact { Gives (λ rows. rows.items) result (text_rows 67108864 aircraft_row bytes.now) }
+    ensures facts { IfOk result (λ rows. All IsAircraft rows.items) }
+    ensures names { IfOk result (λ rows. All HasSeenNames rows.items) }
+{
+    read_rows(alloc, &Aircraft, MOST_BYTES, bytes)
+}

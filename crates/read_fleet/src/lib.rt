@@ -1,0 +1,17 @@
+//! The files of the fleet: the aircraft, and where aircraft are wanted at the end.
+#![tactic(auto)]
+
+mod aircraft;
+mod maintenance;
+mod moments;
+mod position;
+#[cfg(test)]
+mod tests;
+
+pub use aircraft::{AircraftRow, read_aircraft};
+pub use desk_text::{Cause, ReadFault};
+pub use maintenance::MaintRow;
+pub use position::{PositionGroup, PositionRow, read_position};
+
+/// The most bytes of a file: 64 MiB.
+const MOST_BYTES: usize = 67_108_864;

@@ -1,0 +1,77 @@
+//! Maintenance, in one field of an aircraft.
+
+ghost use Rattle.std.specs.Prelude.{◌≡◌, reverse, position, option_map, MatchResult, IfOk, IfSome};
+ghost use Rattle.read_fleet.specs.Maintenance.{is_dash, cut_at_last_dash, parts_of, maint_row, maint_of};
+ghost use Rattle.read_fleet.specs.Facts.{IsMaint};
+
+use crate::moments::moment;
+use desk_text::{Cause, name, number};
+use desk_units::{Minute, Name};
+
+/// A time that an aircraft spends in maintenance.
+#[derive(Clone, Copy, Debug)]
+pub struct MaintRow {
+    /// Where it is then.
+    pub airport: Name,
+    /// When it starts, before the year 2100.
+    pub from: Minute,
+    /// When it ends, before the year 2100.
+    pub to: Minute,
+    /// The block minutes that the aircraft may fly before it, 0 to 100,000.
+    pub minutes: u32,
+}
+
+/// How many bytes stand behind the last dash.
+fn behind_last_dash(bytes: &[u8]) -> Option<usize>
+    ensures { result ≡ position is_dash (reverse bytes.now) }
+{
+    bytes.iter().rev().position(|byte| *byte == b'-')
+}
+
+/// The bytes before the last dash and those behind it, or `None` where there is no dash.
+fn cut_at_last_dash(bytes: &[u8]) -> Option<(&[u8], &[u8])>
+    ensures { option_map (λ parts. (parts.0.now, parts.1.now)) result ≡ cut_at_last_dash bytes.now }
+{
+    let behind = behind_last_dash(bytes)?;
+    let end = bytes.len() - behind;
+    Some((&bytes[..end - 1], &bytes[end..]))
+}
+
+/// The parts before the last one, and the last one. One part alone is refused with `Word`.
+fn parts(bytes: &[u8]) -> Result<(&[u8], &[u8]), Cause>
+    ensures { MatchResult result (λ parts. parts_of bytes.now ≡ Ok (parts.0.now, parts.1.now)) (λ cause. parts_of bytes.now ≡ Err cause) }
+{
+    cut_at_last_dash(bytes).ok_or(Cause::Word)
+}
+
+/// A maintenance `AIRPORT-DATE-TIME-DATE-TIME-MINUTES`. The airport may have dashes of its own.
+#[tactic(auto, unfolding(crate::specs::Maintenance::maint_row))]
+fn maint_row(field: &[u8]) -> Result<MaintRow, Cause>
+    ensures exact { result ≡ maint_row field.now }
+    ensures facts { IfOk result IsMaint }
+{
+    let (rest, minutes) = parts(field)?;
+    let (rest, to_time) = parts(rest)?;
+    let (rest, to_date) = parts(rest)?;
+    let (rest, from_time) = parts(rest)?;
+    let (airport, from_date) = parts(rest)?;
+    Ok(MaintRow {
+        airport: name(airport)?,
+        from: moment(from_date, from_time)?,
+        to: moment(to_date, to_time)?,
+        minutes: number(minutes, 0, 100_000)?,
+    })
+}
+
+/// A maintenance, or `None` for `NULL`.
+#[tactic(auto, unfolding(crate::specs::Maintenance::maint_of))]
+pub(crate) fn maint(field: &[u8]) -> Result<Option<MaintRow>, Cause>
+    ensures exact { result ≡ maint_of field.now }
+    ensures facts { IfOk result (λ maint. IfSome maint IsMaint) }
+{
+    if field == b"NULL".as_slice() {
+        Ok(None)
+    } else {
+        Ok(Some(maint_row(field)?))
+    }
+}

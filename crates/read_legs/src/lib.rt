@@ -1,0 +1,15 @@
+//! The readers of the files of flights and of rotations.
+#![tactic(auto)]
+
+mod flights;
+mod rotations;
+mod rows;
+
+pub use desk_text::{Cause, ReadFault};
+pub use desk_units::Name;
+pub use flights::read_flights;
+pub use rotations::read_rotations;
+pub use rows::{FlightRow, RotationRow};
+
+#[cfg(test)]
+mod tests;

@@ -1,0 +1,5 @@
+pub mod Times
+pub mod Config
+pub mod Dist
+pub mod Airports
+pub mod Facts
