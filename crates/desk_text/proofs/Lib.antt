@@ -3,4 +3,5 @@ pub mod DateLemmas
 pub mod CutLemmas
 pub mod LineLemmas
 pub mod FieldLemmas
+pub mod SeenLemmas
 pub mod RowLemmas

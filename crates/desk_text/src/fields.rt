@@ -1,7 +1,9 @@
 //! The fields of a line.
 
-ghost use Rattle.std.specs.Prelude.{◌≡◌, ◌+◌, ◌<◌, ◌≤◌, [], ◌∷◌, length, MatchOption, MatchResult, position, option_map, IfSome};
-ghost use Rattle.desk_text.specs.Lines.{is_blank, fields};
+ghost use Rattle.std.specs.Prelude.{◌≡◌, ◌+◌, ◌<◌, ◌≤◌, [], ◌∷◌, length, true, MatchOption, MatchResult, position, option_map, IfOk, IfSome};
+ghost use Rattle.std.specs.List.{list_all};
+ghost use Rattle.desk_text.specs.Lines.{is_blank, is_text, fields};
+ghost use Rattle.desk_text.specs.Seen.{IsSeen};
 ghost use Rattle.desk_text.specs.Cuts.{cut_where};
 ghost use Rattle.desk_text.specs.Rows.{taken};
 
@@ -59,24 +61,29 @@ fn count_fields(line: &[u8]) -> usize
     count
 }
 
-/// The fields of a line, from the left: what stands between spaces and tabs.
+/// The fields of a line, from the left: what stands between spaces and tabs. Their bytes are from
+/// `!` to `~`.
 #[derive(Drop)]
 pub struct Fields<'a> {
     rest: &'a [u8],
 }
 
 impl<'a> Model for Fields<'a> {
-    ghost use Rattle.std.specs.Prelude.{ℕ, List};
+    ghost use Rattle.std.specs.Prelude.{◌≡◌, ℕ, List, true};
     ghost use Rattle.desk_text.specs.Lines.{fields};
+    ghost use Rattle.desk_text.specs.Seen.{are_seen};
 
     ghost Value = { List (List ℕ) };
 
     ghost view = { λ f. fields f.rest.now };
+
+    ghost invariant = { λ f. are_seen (fields f.rest.now) ≡ true };
 }
 
 impl<'a> Fields<'a> {
-    /// The fields of this line.
+    /// The fields of this line, whose bytes may all stand in a line.
     pub fn of(line: &'a [u8]) -> Fields<'a>
+        requires { list_all is_text line.now ≡ true }
         ensures { result ≡ fields line.now }
     {
         Fields { rest: line }
@@ -84,7 +91,8 @@ impl<'a> Fields<'a> {
 
     /// The next field, or `None` exactly where there are no more.
     pub fn next(&mut self) -> Option<&'a [u8]>
-        ensures { MatchOption result ((self.old ≡ []) × (self.new ≡ [])) (λ field. self.old ≡ field.now ∷ self.new) }
+        ensures exact { MatchOption result ((self.old ≡ []) × (self.new ≡ [])) (λ field. self.old ≡ field.now ∷ self.new) }
+        ensures seen { IfSome result (λ field. IsSeen field.now) }
     {
         match first_field(self.rest) {
             Some((field, rest)) => {
@@ -94,9 +102,11 @@ impl<'a> Fields<'a> {
             None => None,
         }
     }
+
     /// The next field, or `Fields` where there is none.
     pub fn take(&mut self) -> Result<&'a [u8], Cause>
-        ensures { MatchResult result (λ field. taken self.old ≡ Ok (field.now, self.new)) (λ cause. taken self.old ≡ Err cause) }
+        ensures exact { MatchResult result (λ field. taken self.old ≡ Ok (field.now, self.new)) (λ cause. taken self.old ≡ Err cause) }
+        ensures seen { IfOk result (λ field. IsSeen field.now) }
     {
         match self.next() {
             Some(field) => Ok(field),

@@ -14,7 +14,7 @@ pub use cause::{Cause, ReadFault, RowFault};
 pub use days::day_of;
 pub use desk_units::{Minute, NoMem};
 pub use fields::Fields;
-pub use reading::Lines;
+pub use reading::{Lines, are_text};
 pub use rows::{Grammar, read_rows};
 pub use text::lines;
 pub use texts::{

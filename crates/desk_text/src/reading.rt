@@ -72,8 +72,8 @@ fn is_text(byte: u8) -> bool
     is_blank(byte) || (33 <= byte && byte <= 126)
 }
 
-/// Whether each byte may stand in a line.
-pub(crate) fn are_text(line: &[u8]) -> bool
+/// Whether each byte may stand in a line: it is a space, a tab, or from `!` to `~`.
+pub fn are_text(line: &[u8]) -> bool
     ensures { result ≡ list_all is_text line.now }
 {
     line.iter().all(|byte| is_text(*byte))

@@ -24,7 +24,12 @@ fn shown(alloc: Global, text: &str) -> Result<Vec<u8>, NoMem>
     Ok(out)
 }
 
+/// Adds the fields with commas between them, or `?` where a byte may not stand in a line.
 fn show_fields(out: &mut Vec<u8>, line: &[u8]) -> Result<(), NoMem> {
+    if !are_text(line) {
+        out.push(b'?')?;
+        return Ok(());
+    }
     let mut fields = Fields::of(line);
     for place in 0..100 {
         if let Some(field) = fields.next() {
@@ -49,14 +54,14 @@ const LINES: [(&str, &str); 19] = [
     ("\r", ""),
     ("a\n\n \t\n\r\nb\n", "1:a|5:b|"),
     ("\n\n\na", "4:a|"),
-    ("a\rb\n", "1:a\rb|"),
-    ("a \r\r\n", "1:a,\r|"),
-    ("\r\r", "1:\r|"),
+    ("a\rb\n", "1:?|"),
+    ("a \r\r\n", "1:?|"),
+    ("\r\r", "1:?|"),
     ("#a\nb", ""),
     ("a\n#\nb", "1:a|"),
     ("a\n # b\nc#\n#", "1:a|2:#,b|3:c#|"),
     ("a\n#", "1:a|"),
-    ("\r#\na", "1:\r#|2:a|"),
+    ("\r#\na", "1:?|2:a|"),
 ];
 
 #[test]

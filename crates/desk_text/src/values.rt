@@ -5,6 +5,7 @@ ghost use Rattle.std.specs.List.{list_all};
 ghost use Rattle.std.specs.Char.{is_ascii_digit};
 ghost use Rattle.desk_units.specs.Padded.{IsNameLength};
 ghost use Rattle.desk_text.specs.Days.{day_of};
+ghost use Rattle.desk_text.specs.Seen.{IsSeen};
 ghost use Rattle.desk_text.specs.Fields.{name_of, decimal_value, digits_of, number_from, number_of, fraction_of, decimal_of, price_of, weight_of, three_numbers, seats_of, year_from, day_from, date_of, minutes_from, minutes_and_days, minute_from, time_of, haul_of, cabin_of, inbound_of};
 
 use crate::cause::Cause;
@@ -16,6 +17,7 @@ use desk_units::{Cabin, Haul, Name, Price, Seats, Weight};
 pub fn name(field: &[u8]) -> Result<Name, Cause>
     ensures exact { result ≡ name_of field.now }
     ensures length { IfOk result (λ name. IsNameLength (length name)) }
+    ensures seen { IsSeen field.now → IfOk result (λ name. IsSeen name) }
 {
     Name::of(field).ok_or(Cause::Size)
 }

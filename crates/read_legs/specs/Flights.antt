@@ -1,5 +1,5 @@
 -- The file of flights.
-use Rattle.std.specs.Prelude.{ℕ, ◌+◌, ◌*◌, ◌%◌, ◌<◌, ◌≤◌, List, Option, Some, None, Result, Ok, Err, ok_or, bytes_eq, codes, nat_lt, nat_le, ◌==◌, ◌&&◌, if◌then◌else◌}
+use Rattle.std.specs.Prelude.{ℕ, ◌+◌, ◌*◌, ◌%◌, List, Option, Some, None, Result, Ok, Err, ok_or, bytes_eq, codes, nat_lt, nat_le, ◌==◌, ◌&&◌, if◌then◌else◌}
 use Rattle.std.specs.List.{find, range_with_len}
 use Rattle.desk_text.specs.declared.cause.Cause.{Cause}
 use Rattle.desk_text.specs.declared.cause.Cause.TheVariants.{Time}
@@ -53,9 +53,3 @@ flight_row line fields = do
   arr ← arrival_of dep fifth.0
   prev ← previous_of sixth.0
   Ok (record { line = line; flight = flight; origin = origin; dest = dest; dep = dep; arr = arr; prev = prev })
-
--- the ranges of a flight's times: it departs in the ten days from its date on, and arrives 1 to 2,880 minutes later
-pub record AreTimes (row : FlightRow) : Type 0 where
-  pub departs : row.dep < 14400
-  pub later : row.dep < row.arr
-  pub soon : row.arr ≤ row.dep + 2880

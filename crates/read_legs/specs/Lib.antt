@@ -1,2 +1,3 @@
 pub mod Rotations
 pub mod Flights
+pub mod Facts

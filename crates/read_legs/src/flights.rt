@@ -1,8 +1,10 @@
 //! The file of flights.
 
-ghost use Rattle.std.specs.Prelude.{◌≡◌, ◌+◌, ◌<◌, ◌≤◌, IfOk, All, Some};
+ghost use Rattle.std.specs.Prelude.{◌≡◌, ◌+◌, ◌<◌, ◌≤◌, IfOk, IfSome, All, Some};
 ghost use Rattle.desk_text.specs.Rows.{Gives, text_rows};
-ghost use Rattle.read_legs.specs.Flights.{departure_of, first_after, arrival_of, previous_of, flight_row, AreTimes};
+ghost use Rattle.read_legs.specs.Flights.{departure_of, first_after, arrival_of, previous_of, flight_row};
+ghost use Rattle.read_legs.specs.Facts.{IsFlight};
+ghost use Rattle.desk_text.specs.Seen.{IsSeen};
 
 use crate::rows::FlightRow;
 use desk_text::{Cause, Fields, Grammar, ReadFault, RowFault, name, read_rows, time};
@@ -65,7 +67,8 @@ fn arrival(departure: u32, field: &[u8]) -> Result<u32, Cause>
 /// The previous flight, or `None` where the field is `0`.
 #[tactic(auto, unfolding(crate::specs::Flights::previous_of))]
 fn previous(field: &[u8]) -> Result<Option<Name>, Cause>
-    ensures { result ≡ previous_of field.now }
+    ensures exact { result ≡ previous_of field.now }
+    ensures seen { IsSeen field.now → IfOk result (λ previous. IfSome previous IsSeen) }
 {
     if field == b"0".as_slice() {
         return Ok(None);
@@ -81,7 +84,7 @@ struct FlightLine;
 impl Grammar<FlightRow> for FlightLine {
     ghost row_of = { λ _. flight_row };
 
-    ghost holds = { λ _ row. AreTimes row };
+    ghost holds = { λ _. IsFlight };
 
     #[tactic(auto, unfolding(crate::specs::Flights::flight_row))]
     fn row(
@@ -127,7 +130,7 @@ impl Grammar<FlightRow> for FlightLine {
 /// file of more than 67,108,864 bytes is refused at line 0 with `Size`.
 pub fn read_flights(alloc: Global, bytes: &[u8]) -> Result<Vec<FlightRow>, ReadFault>
     ensures exact { Gives (λ rows. rows.items) result (text_rows 67108864 flight_row bytes.now) }
-    ensures facts { IfOk result (λ rows. All AreTimes rows.items) }
+    ensures facts { IfOk result (λ rows. All IsFlight rows.items) }
 {
     read_rows(alloc, &FlightLine, 67_108_864, bytes)
 }

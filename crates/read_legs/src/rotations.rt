@@ -1,8 +1,9 @@
 //! The file of rotations.
 
-ghost use Rattle.std.specs.Prelude.{◌≡◌, ◌<◌, IfOk, All};
+ghost use Rattle.std.specs.Prelude.{◌≡◌, IfOk, All};
 ghost use Rattle.desk_text.specs.Rows.{Gives, text_rows};
 ghost use Rattle.read_legs.specs.Rotations.{rotation_row};
+ghost use Rattle.read_legs.specs.Facts.{IsRotation};
 
 use crate::rows::RotationRow;
 use desk_text::{Fields, Grammar, ReadFault, RowFault, date, name, read_rows};
@@ -15,7 +16,7 @@ struct RotationLine;
 impl Grammar<RotationRow> for RotationLine {
     ghost row_of = { λ _. rotation_row };
 
-    ghost holds = { λ _ row. row.day < 36525 };
+    ghost holds = { λ _. IsRotation };
 
     #[tactic(auto, unfolding(crate::specs::Rotations::rotation_row))]
     fn row(
@@ -47,7 +48,7 @@ impl Grammar<RotationRow> for RotationLine {
 /// than 67,108,864 bytes is refused at line 0 with `Size`.
 pub fn read_rotations(alloc: Global, bytes: &[u8]) -> Result<Vec<RotationRow>, ReadFault>
     ensures exact { Gives (λ rows. rows.items) result (text_rows 67108864 rotation_row bytes.now) }
-    ensures facts { IfOk result (λ rows. All (λ row. row.day < 36525) rows.items) }
+    ensures facts { IfOk result (λ rows. All IsRotation rows.items) }
 {
     read_rows(alloc, &RotationLine, 67_108_864, bytes)
 }

@@ -1,6 +1,7 @@
 -- What holds of the rows of a file that was read.
 use Rattle.std.specs.Prelude.{◌<◌, ◌≤◌, length, All}
 use Rattle.desk_units.specs.Padded.{IsNameLength}
+use Rattle.desk_text.specs.Seen.{IsSeen}
 use Rattle.read_net.specs.declared.rows.Window.{Window}
 use Rattle.read_net.specs.declared.rows.CapRow.{CapRow}
 use Rattle.read_net.specs.declared.rows.AirportRow.{AirportRow}
@@ -18,9 +19,10 @@ pub record IsCap (row : CapRow) : Type 0 where
   pub from : row.from < 1440
   pub to : row.to ≤ 1440
 
--- an airport's name has 1 to 32 bytes, and there are caps, all in their ranges
+-- an airport's name has 1 to 32 bytes that can be seen, and there are caps, all in their ranges
 pub record IsAirport (row : AirportRow) : Type 0 where
   pub airport : IsNameLength (length row.airport)
+  pub seen : IsSeen row.airport
   pub some : 1 ≤ length row.groups
   pub groups : All IsCap row.groups
 

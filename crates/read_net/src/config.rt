@@ -1,8 +1,6 @@
 //! The file of the window.
 
 ghost use Rattle.std.specs.Prelude.{◌≡◌, ◌≢◌, IfOk};
-ghost use Rattle.std.specs.List.{list_all};
-ghost use Rattle.desk_text.specs.Lines.{is_text, fields};
 ghost use Rattle.desk_text.specs.Rows.{line_row, Gives};
 ghost use Rattle.read_net.specs.Config.{window_row, config_of};
 ghost use Rattle.read_net.specs.Facts.{IsWindow};
@@ -10,14 +8,7 @@ ghost use Rattle.read_net.specs.Facts.{IsWindow};
 use crate::MOST_BYTES;
 use crate::rows::Window;
 use crate::times::moment;
-use desk_text::{Cause, Fields, ReadFault, lines};
-
-/// Whether each byte may stand in a line.
-fn are_text(line: &[u8]) -> bool
-    ensures { result ≡ list_all is_text line.now }
-{
-    line.iter().all(|byte| (*byte == b' ' || *byte == b'\t') || (33 <= *byte && *byte <= 126))
-}
+use desk_text::{Cause, Fields, ReadFault, are_text, lines};
 
 /// The window of the fields of a line.
 #[tactic(auto, unfolding(crate::specs::Config::window_row))]
