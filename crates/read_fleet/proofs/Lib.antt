@@ -1,5 +1,2 @@
 pub mod MaintenanceLemmas
-pub mod PositionLemmas
-pub mod SeenLemmas
-pub mod AircraftNameLemmas
-pub mod PositionNameLemmas
+pub mod GroupLemmas

@@ -15,13 +15,16 @@ group_of model seats count = do
   aircraft ← number_of 0 1000 count
   Ok (record { model = name; seats = cabins; count = aircraft })
 
+-- this one before the others, where these are read
+abbrev pub before_all : PositionGroup → Result (List PositionGroup) Cause → Result (List PositionGroup) Cause
+before_all group others = others >>= λ groups. Ok (group ∷ groups)
+
 -- the groups of the fields, three to a group
 unfoldable pub groups_of : List (List ℕ) → Result (List PositionGroup) Cause
 groups_of [] = Ok []
 groups_of (model ∷ seats ∷ count ∷ others) = do
-  first ← group_of model seats count
-  groups ← groups_of others
-  Ok (first ∷ groups)
+  group ← group_of model seats count
+  before_all group (groups_of others)
 groups_of _ = Err causes.Fields
 
 -- one or more groups, each of them whole

@@ -3,7 +3,7 @@
 ghost use Rattle.std.specs.Prelude.{◌≡◌, IfOk, All};
 ghost use Rattle.desk_text.specs.Rows.{Gives, GivesRow, text_rows};
 ghost use Rattle.read_fleet.specs.Aircraft.{aircraft_of, aircraft_row};
-ghost use Rattle.read_fleet.specs.Facts.{IsAircraft, HasSeenNames};
+ghost use Rattle.read_fleet.specs.Facts.{IsAircraft};
 
 use crate::MOST_BYTES;
 use crate::maintenance::{MaintRow, maint};
@@ -94,7 +94,6 @@ impl Grammar<AircraftRow> for Aircraft {
 pub fn read_aircraft(alloc: Global, bytes: &[u8]) -> Result<Vec<AircraftRow>, ReadFault>
     ensures exact { Gives (λ rows. rows.items) result (text_rows 67108864 aircraft_row bytes.now) }
     ensures facts { IfOk result (λ rows. All IsAircraft rows.items) }
-    ensures names { IfOk result (λ rows. All HasSeenNames rows.items) }
 {
     read_rows(alloc, &Aircraft, MOST_BYTES, bytes)
 }

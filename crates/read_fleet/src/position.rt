@@ -1,9 +1,10 @@
 //! The file of positions.
 
-ghost use Rattle.std.specs.Prelude.{◌≡◌, IfOk, All};
+ghost use Rattle.std.specs.Prelude.{◌≡◌, ◌<◌, [], All, Ok, Err, IfOk, IfSome, MatchOption, MatchResult, length};
 ghost use Rattle.desk_text.specs.Rows.{Gives, GivesRow, text_rows};
-ghost use Rattle.read_fleet.specs.Position.{group_of, groups_of, position_row};
-ghost use Rattle.read_fleet.specs.Facts.{IsGroup, IsPosition, HasSeenModels};
+ghost use Rattle.read_fleet.specs.Position.{group_of, groups_of, before_all, position_row};
+ghost use Rattle.desk_text.specs.Seen.{IsSeen};
+ghost use Rattle.read_fleet.specs.Facts.{IsGroup, IsPosition};
 
 use crate::MOST_BYTES;
 use desk_text::{Cause, Fields, Grammar, ReadFault, RowFault, name, number, read_rows, seats};
@@ -32,9 +33,10 @@ pub struct PositionRow {
     pub groups: List<PositionGroup>,
 }
 
-/// A group of three fields.
+/// The group that three fields give.
 #[tactic(auto, unfolding(crate::specs::Position::group_of))]
 fn group(model: &[u8], cabins: &[u8], count: &[u8]) -> Result<PositionGroup, Cause>
+    requires { IsSeen model.now }
     ensures exact { result ≡ group_of model.now cabins.now count.now }
     ensures facts { IfOk result IsGroup }
 {
@@ -45,16 +47,29 @@ fn group(model: &[u8], cabins: &[u8], count: &[u8]) -> Result<PositionGroup, Cau
     })
 }
 
-/// The groups of these fields.
+/// The group of the next three fields, or `None` exactly where there are no more fields.
+#[tactic(auto, unfolding(crate::specs::Position::groups_of))]
+fn next_group(fields: &mut Fields<'_>) -> Result<Option<PositionGroup>, Cause>
+    ensures exact { MatchResult result (λ next. MatchOption next (groups_of fields.old ≡ Ok []) (λ group. groups_of fields.old ≡ before_all group (groups_of fields.new))) (λ cause. groups_of fields.old ≡ Err cause) }
+    ensures shorter { IfOk result (λ next. IfSome next (λ _. length fields.new < length fields.old)) }
+    ensures facts { IfOk result (λ next. IfSome next IsGroup) }
+{
+    let Some(model) = fields.next() else {
+        return Ok(None);
+    };
+    let seats = fields.take()?;
+    let count = fields.take()?;
+    Ok(Some(group(model, seats, count)?))
+}
+
+/// The groups of all fields, three by three.
 fn groups(alloc: Global, mut fields: Fields<'_>) -> Result<List<PositionGroup>, RowFault>
     ensures exact { GivesRow result (groups_of fields.entry) }
     ensures facts { IfOk result (All IsGroup) }
 {
     let mut groups = Vec::new(alloc);
-    while let Some(model) = fields.next() {
-        let seats = fields.take()?;
-        let count = fields.take()?;
-        groups.push(group(model, seats, count)?)?;
+    while let Some(group) = next_group(&mut fields)? {
+        groups.push(group)?;
     }
     Ok(List(groups))
 }
@@ -100,7 +115,6 @@ impl Grammar<PositionRow> for Positions {
 pub fn read_position(alloc: Global, bytes: &[u8]) -> Result<Vec<PositionRow>, ReadFault>
     ensures exact { Gives (λ rows. rows.items) result (text_rows 67108864 position_row bytes.now) }
     ensures facts { IfOk result (λ rows. All IsPosition rows.items) }
-    ensures names { IfOk result (λ rows. All HasSeenModels rows.items) }
 {
     read_rows(alloc, &Positions, MOST_BYTES, bytes)
 }
