@@ -5,4 +5,5 @@ pub mod Lines
 pub mod Seen
 pub mod Cuts
 pub mod Fields
+pub mod Moments
 pub mod Rows

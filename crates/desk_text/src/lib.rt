@@ -4,6 +4,7 @@
 mod cause;
 mod days;
 mod fields;
+mod moments;
 mod reading;
 mod rows;
 mod text;
@@ -14,8 +15,9 @@ pub use cause::{Cause, ReadFault, RowFault};
 pub use days::day_of;
 pub use desk_units::{Minute, NoMem};
 pub use fields::Fields;
+pub use moments::{minute, moment};
 pub use reading::{Lines, are_text};
-pub use rows::{Grammar, read_rows};
+pub use rows::{Grammar, MOST_BYTES, read_rows};
 pub use text::lines;
 pub use texts::{
     date_text, moment_text, push_all, push_date, push_moment, push_number, two_digits,

@@ -9,6 +9,9 @@ use crate::fields::Fields;
 use crate::reading::{Lines, are_text};
 use std::alloc::Global;
 
+/// The most bytes that a text file may have: 64 MiB.
+pub const MOST_BYTES: usize = 67_108_864;
+
 /// The grammar of a text file: how the fields of a line give a row.
 pub trait Grammar<Row> {
     ghost row_of: { Self → RowOf Row };

@@ -1,4 +1,3 @@
-pub mod Moments
 pub mod Maintenance
 pub mod Aircraft
 pub mod Position

@@ -5,8 +5,8 @@ use Rattle.desk_text.specs.declared.cause.Cause.{Cause}
 use Rattle.desk_text.specs.declared.cause.Cause.TheVariants as causes
 use Rattle.desk_text.specs.Fields.{name_of, number_of}
 use Rattle.desk_text.specs.Rows.{◌>>=◌}
+use Rattle.desk_text.specs.Moments.{moment_of}
 use Rattle.read_fleet.specs.declared.maintenance.MaintRow.{MaintRow}
-use Rattle.read_fleet.specs.Moments.{moment_of}
 
 -- a dash
 abbrev pub is_dash : ℕ → Bool

@@ -5,10 +5,9 @@ ghost use Rattle.desk_text.specs.Rows.{Gives, GivesRow, text_rows};
 ghost use Rattle.read_fleet.specs.Aircraft.{aircraft_of, aircraft_row};
 ghost use Rattle.read_fleet.specs.Facts.{IsAircraft};
 
-use crate::MOST_BYTES;
 use crate::maintenance::{MaintRow, maint};
 use desk_text::{
-    Cause, Fields, Grammar, ReadFault, RowFault, name, number, price, read_rows, seats,
+    Cause, Fields, Grammar, MOST_BYTES, ReadFault, RowFault, name, number, price, read_rows, seats,
 };
 use desk_units::{Name, Price, Seats};
 use std::alloc::Global;

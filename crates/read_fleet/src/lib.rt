@@ -3,7 +3,6 @@
 
 mod aircraft;
 mod maintenance;
-mod moments;
 mod position;
 #[cfg(test)]
 mod tests;
@@ -12,6 +11,3 @@ pub use aircraft::{AircraftRow, read_aircraft};
 pub use desk_text::{Cause, ReadFault};
 pub use maintenance::MaintRow;
 pub use position::{PositionGroup, PositionRow, read_position};
-
-/// The most bytes of a file: 64 MiB.
-const MOST_BYTES: usize = 67_108_864;

@@ -4,8 +4,7 @@ ghost use Rattle.std.specs.Prelude.{◌≡◌, reverse, position, option_map, Ma
 ghost use Rattle.read_fleet.specs.Maintenance.{is_dash, cut_at_last_dash, parts_of, maint_row, maint_of};
 ghost use Rattle.read_fleet.specs.Facts.{IsMaint};
 
-use crate::moments::moment;
-use desk_text::{Cause, name, number};
+use desk_text::{Cause, moment, name, number};
 use desk_units::{Minute, Name};
 
 /// A time that an aircraft spends in maintenance.

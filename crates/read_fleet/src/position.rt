@@ -6,8 +6,9 @@ ghost use Rattle.read_fleet.specs.Position.{group_of, groups_of, before_all, pos
 ghost use Rattle.desk_text.specs.Seen.{IsSeen};
 ghost use Rattle.read_fleet.specs.Facts.{IsGroup, IsPosition};
 
-use crate::MOST_BYTES;
-use desk_text::{Cause, Fields, Grammar, ReadFault, RowFault, name, number, read_rows, seats};
+use desk_text::{
+    Cause, Fields, Grammar, MOST_BYTES, ReadFault, RowFault, name, number, read_rows, seats,
+};
 use desk_units::{List, Name, Seats};
 use std::alloc::Global;
 

@@ -7,7 +7,7 @@ ghost use Rattle.read_legs.specs.Facts.{IsFlight};
 ghost use Rattle.desk_text.specs.Seen.{IsSeen};
 
 use crate::rows::FlightRow;
-use desk_text::{Cause, Fields, Grammar, ReadFault, RowFault, name, read_rows, time};
+use desk_text::{Cause, Fields, Grammar, MOST_BYTES, ReadFault, RowFault, name, read_rows, time};
 use desk_units::Name;
 use std::alloc::Global;
 
@@ -132,5 +132,5 @@ pub fn read_flights(alloc: Global, bytes: &[u8]) -> Result<Vec<FlightRow>, ReadF
     ensures exact { Gives (λ rows. rows.items) result (text_rows 67108864 flight_row bytes.now) }
     ensures facts { IfOk result (λ rows. All IsFlight rows.items) }
 {
-    read_rows(alloc, &FlightLine, 67_108_864, bytes)
+    read_rows(alloc, &FlightLine, MOST_BYTES, bytes)
 }

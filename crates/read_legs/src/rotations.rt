@@ -6,7 +6,7 @@ ghost use Rattle.read_legs.specs.Rotations.{rotation_row};
 ghost use Rattle.read_legs.specs.Facts.{IsRotation};
 
 use crate::rows::RotationRow;
-use desk_text::{Fields, Grammar, ReadFault, RowFault, date, name, read_rows};
+use desk_text::{Fields, Grammar, MOST_BYTES, ReadFault, RowFault, date, name, read_rows};
 use std::alloc::Global;
 
 /// The fields of a line: flight, date, aircraft.
@@ -50,5 +50,5 @@ pub fn read_rotations(alloc: Global, bytes: &[u8]) -> Result<Vec<RotationRow>, R
     ensures exact { Gives (λ rows. rows.items) result (text_rows 67108864 rotation_row bytes.now) }
     ensures facts { IfOk result (λ rows. All IsRotation rows.items) }
 {
-    read_rows(alloc, &RotationLine, 67_108_864, bytes)
+    read_rows(alloc, &RotationLine, MOST_BYTES, bytes)
 }

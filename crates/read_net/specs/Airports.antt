@@ -3,10 +3,11 @@ use Rattle.std.specs.Prelude.{ℕ, ◌%◌, List, [], ◌∷◌, length, Result,
 use Rattle.desk_text.specs.declared.cause.Cause.{Cause}
 use Rattle.desk_text.specs.declared.cause.Cause.TheVariants as causes
 use Rattle.desk_text.specs.Fields.{name_of, number_of}
+use Rattle.desk_text.specs.Moments.{minute_of}
 use Rattle.desk_text.specs.Rows.{◌>>=◌, RowOf, taken}
 use Rattle.read_net.specs.declared.rows.CapRow.{CapRow}
 use Rattle.read_net.specs.declared.rows.AirportRow.{AirportRow}
-use Rattle.read_net.specs.Times.{minute_of, end_of}
+use Rattle.read_net.specs.Times.{end_of}
 
 -- DEPARTURES ARRIVALS FROM TO
 unfoldable pub cap_of : List ℕ → List ℕ → List ℕ → List ℕ → Result CapRow Cause

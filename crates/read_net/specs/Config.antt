@@ -3,9 +3,9 @@ use Rattle.std.specs.Prelude.{ℕ, List, [], ◌∷◌, length, Result, Ok, Err,
 use Rattle.desk_text.specs.declared.cause.Cause.{Cause}
 use Rattle.desk_text.specs.declared.cause.Cause.TheVariants as causes
 use Rattle.desk_text.specs.Lines.{text_lines}
+use Rattle.desk_text.specs.Moments.{moment_of}
 use Rattle.desk_text.specs.Rows.{◌>>=◌, RowOf, taken, line_row, at_line}
 use Rattle.read_net.specs.declared.rows.Window.{Window}
-use Rattle.read_net.specs.Times.{moment_of}
 
 -- DATE TIME DATE TIME
 unfoldable pub window_row : RowOf Window

@@ -5,10 +5,11 @@ ghost use Rattle.desk_text.specs.Rows.{Gives, GivesRow, text_rows};
 ghost use Rattle.read_net.specs.Airports.{cap_of, caps_of, airport_row, before_all};
 ghost use Rattle.read_net.specs.Facts.{IsCap, IsAirport};
 
-use crate::MOST_BYTES;
 use crate::rows::{AirportRow, CapRow};
-use crate::times::{end, minute};
-use desk_text::{Cause, Fields, Grammar, ReadFault, RowFault, name, number, read_rows};
+use crate::times::end;
+use desk_text::{
+    Cause, Fields, Grammar, MOST_BYTES, ReadFault, RowFault, minute, name, number, read_rows,
+};
 use desk_units::List;
 use std::alloc::Global;
 

@@ -5,10 +5,8 @@ ghost use Rattle.desk_text.specs.Rows.{line_row, Gives};
 ghost use Rattle.read_net.specs.Config.{window_row, config_of};
 ghost use Rattle.read_net.specs.Facts.{IsWindow};
 
-use crate::MOST_BYTES;
 use crate::rows::Window;
-use crate::times::moment;
-use desk_text::{Cause, Fields, ReadFault, are_text, lines};
+use desk_text::{Cause, Fields, MOST_BYTES, ReadFault, are_text, lines, moment};
 
 /// The window of the fields of a line.
 #[tactic(auto, unfolding(crate::specs::Config::window_row))]

@@ -5,9 +5,8 @@ ghost use Rattle.desk_text.specs.Rows.{Gives, text_rows};
 ghost use Rattle.read_net.specs.Dist.{dist_row};
 ghost use Rattle.read_net.specs.Facts.{IsDistance};
 
-use crate::MOST_BYTES;
 use crate::rows::DistRow;
-use desk_text::{Fields, Grammar, ReadFault, RowFault, haul, name, number, read_rows};
+use desk_text::{Fields, Grammar, MOST_BYTES, ReadFault, RowFault, haul, name, number, read_rows};
 use std::alloc::Global;
 
 /// The form of the file of distances.

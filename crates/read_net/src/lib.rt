@@ -14,8 +14,5 @@ pub use desk_units::{Haul, List, Minute, Name};
 pub use dist::read_dist;
 pub use rows::{AirportRow, CapRow, DistRow, Window};
 
-/// The most bytes of a file.
-const MOST_BYTES: usize = 67_108_864;
-
 #[cfg(test)]
 mod tests;

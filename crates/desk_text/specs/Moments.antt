@@ -1,4 +1,4 @@
--- Moments: a date and a time.
+-- Times of a day, and moments: a date and a time.
 use Rattle.std.specs.Prelude.{ℕ, ◌+◌, ◌*◌, List, Option, Some, None, Result, Ok, Err}
 use Rattle.desk_units.specs.declared.numbers.Minute.{Minute}
 use Rattle.desk_text.specs.declared.cause.Cause.{Cause}

@@ -1,14 +1,15 @@
-//! Moments: a date and a time.
+//! Times of a day, and moments.
 
 ghost use Rattle.std.specs.Prelude.{◌≡◌, ◌<◌, IfOk};
-ghost use Rattle.read_fleet.specs.Moments.{minute_of, moment_of};
+ghost use Rattle.desk_text.specs.Moments.{minute_of, moment_of};
 
-use desk_text::{Cause, date, time};
+use crate::cause::Cause;
+use crate::values::{date, time};
 use desk_units::Minute;
 
-/// The minute of the day that a time names. One that adds days is refused with `Time`.
+/// The minute of the day that a time names, below 1,440; else, and where it adds days, `Time`.
 #[tactic(auto, unfolding(crate::specs::Moments::minute_of))]
-fn minute(field: &[u8]) -> Result<u32, Cause>
+pub fn minute(field: &[u8]) -> Result<u32, Cause>
     ensures exact { result ≡ minute_of field.now }
     ensures small { IfOk result (λ minute. minute < 1440) }
 {
@@ -18,9 +19,11 @@ fn minute(field: &[u8]) -> Result<u32, Cause>
     }
 }
 
-/// The moment of a date and a time.
+/// The moment of a date and a time, in two fields, of the years 2000 to 2099 and so below
+/// 52,596,000; else `Date` or `Time`, of which the date is tried first. A time that adds days is
+/// `Time`.
 #[tactic(auto, unfolding(crate::specs::Moments::moment_of))]
-pub(crate) fn moment(day: &[u8], time: &[u8]) -> Result<Minute, Cause>
+pub fn moment(day: &[u8], time: &[u8]) -> Result<Minute, Cause>
     ensures exact { result ≡ moment_of day.now time.now }
     ensures small { IfOk result (λ at. at.0 < 52596000) }
 {
