@@ -1,0 +1,16 @@
+-- What the readers say of their rows.
+use Rattle.std.specs.Prelude.{All}
+use Rattle.read_legs.specs.Facts.{IsFlight, IsRotation}
+use Rattle.read_net.specs.Facts.{IsWindow, IsAirport, IsDistance}
+use Rattle.read_fleet.specs.Facts.{IsAircraft, IsPosition}
+use Rattle.desk_build.specs.declared.files.Files.{Files}
+
+-- rows that their readers can answer
+pub record AreFileRows (x : Files) : Type 0 where
+  pub window : IsWindow x.config
+  pub flights : All IsFlight x.flights
+  pub rotations : All IsRotation x.rotations
+  pub aircraft : All IsAircraft x.aircraft
+  pub airports : All IsAirport x.airports
+  pub dist : All IsDistance x.dist
+  pub position : All IsPosition x.position

@@ -1,0 +1,7 @@
+pub mod Keys
+pub mod Found
+pub mod Names
+pub mod Refusals
+pub mod Legs
+pub mod Joined
+pub mod Facts

@@ -1,0 +1,26 @@
+-- What the rows of the files name. A name stands for the first row that has it.
+use Rattle.std.specs.Prelude.{ℕ, List, Bool, ◌&&◌, find, position, Option, bytes_eq}
+use Rattle.std.specs.Option.{option_or}
+use Rattle.read_legs.specs.declared.rows.FlightRow.{FlightRow}
+use Rattle.read_fleet.specs.declared.aircraft.AircraftRow.{AircraftRow}
+use Rattle.read_net.specs.declared.rows.AirportRow.{AirportRow}
+use Rattle.read_net.specs.declared.rows.DistRow.{DistRow}
+
+-- the flight of this name
+abbrev pub flight_named : List FlightRow → List ℕ → Option FlightRow
+flight_named flights name = find (λ f. bytes_eq name f.flight) flights
+
+-- the place of an airport and of an aircraft, counted from 0
+abbrev pub airport_place : List AirportRow → List ℕ → Option ℕ
+airport_place airports name = position (λ a. bytes_eq name a.airport) airports
+
+abbrev pub aircraft_place : List AircraftRow → List ℕ → Option ℕ
+aircraft_place aircraft name = position (λ a. bytes_eq name a.name) aircraft
+
+-- whether a row is the distance from the one airport to the other
+abbrev pub is_between : List ℕ → List ℕ → DistRow → Bool
+is_between origin dest row = bytes_eq origin row.origin && bytes_eq dest row.dest
+
+-- the distance between two airports: the first row from the one to the other, else the first row the other way
+abbrev pub distance_between : List DistRow → List ℕ → List ℕ → Option DistRow
+distance_between dist origin dest = option_or (find (is_between origin dest) dist) (find (is_between dest origin) dist)

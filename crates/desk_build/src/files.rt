@@ -1,0 +1,25 @@
+//! The rows of the input files.
+
+use desk_units::List;
+use read_fleet::{AircraftRow, PositionRow};
+use read_legs::{FlightRow, RotationRow};
+use read_net::{AirportRow, DistRow, Window};
+
+/// The rows of the input files, each list in the order of its file's lines.
+#[derive(Debug, Drop)]
+pub struct Files {
+    /// Of config.csv.
+    pub config: Window,
+    /// Of flights.csv, at most 20,000.
+    pub flights: List<FlightRow>,
+    /// Of rotations.csv, at most 20,000.
+    pub rotations: List<RotationRow>,
+    /// Of aircraft.csv, at most 1,000.
+    pub aircraft: List<AircraftRow>,
+    /// Of airports.csv, at most 500.
+    pub airports: List<AirportRow>,
+    /// Of dist.csv, at most 250,000.
+    pub dist: List<DistRow>,
+    /// Of position.csv, with at most 10,000 groups in all.
+    pub position: List<PositionRow>,
+}

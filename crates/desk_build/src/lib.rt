@@ -1,0 +1,16 @@
+//! The join: the rows of the input files become an instance, in which names are numbers.
+#![tactic(auto)]
+
+mod fault;
+mod files;
+mod joining;
+mod places;
+mod rows;
+mod tables;
+
+pub use desk_data::Instance;
+pub use desk_folder::File;
+pub use desk_text::Cause;
+pub use fault::BuildFault;
+pub use files::Files;
+pub use joining::{Built, build};

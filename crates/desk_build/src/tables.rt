@@ -1,0 +1,93 @@
+//! The rows of the files, found by their names.
+
+ghost use Rattle.std.specs.Prelude.{◌≡◌, [], IfOk, option_map, position, ◌==◌, ◌&&◌, bytes_eq};
+ghost use Rattle.desk_build.specs.Keys.{Key as RowKey, key_place};
+ghost use Rattle.desk_build.specs.Found.{place_in};
+ghost use Rattle.desk_build.specs.Names.{flight_named, airport_place, aircraft_place, distance_between};
+
+use crate::files::Files;
+use crate::places::{Places, places_of};
+use desk_units::{Name, NoMem};
+use read_legs::FlightRow;
+use read_net::DistRow;
+use std::alloc::Global;
+
+/// The rows of the files, found by their names. A name stands for the first row that has it.
+#[derive(Drop)]
+pub(crate) struct Tables<'a> {
+    pub(crate) files: &'a Files,
+    flights: Places<'a>,
+    rotations: Places<'a>,
+    aircraft: Places<'a>,
+    airports: Places<'a>,
+    dist: Places<'a>,
+    ghost flights_placed: { (key : RowKey) → place_in flights key ≡ key_place (λ row. (row.flight, [], 0)) files.now.flights key },
+    ghost rotations_placed: { (key : RowKey) → place_in rotations key ≡ key_place (λ row. (row.flight, [], row.day)) files.now.rotations key },
+    ghost aircraft_placed: { (key : RowKey) → place_in aircraft key ≡ key_place (λ row. (row.name, [], 0)) files.now.aircraft key },
+    ghost airports_placed: { (key : RowKey) → place_in airports key ≡ key_place (λ row. (row.airport, [], 0)) files.now.airports key },
+    ghost dist_placed: { (key : RowKey) → place_in dist key ≡ key_place (λ row. (row.origin, row.dest, 0)) files.now.dist key },
+}
+
+impl<'a> Tables<'a> {
+    pub(crate) fn of(alloc: Global, files: &'a Files) -> Result<Tables<'a>, NoMem>
+        ensures { IfOk result (λ tables. tables.files.now ≡ files.now) }
+    {
+        Ok(Tables {
+            files,
+            flights: places_of(alloc, files.flights.as_slice())?,
+            rotations: places_of(alloc, files.rotations.as_slice())?,
+            aircraft: places_of(alloc, files.aircraft.as_slice())?,
+            airports: places_of(alloc, files.airports.as_slice())?,
+            dist: places_of(alloc, files.dist.as_slice())?,
+        })
+    }
+
+    /// The place of a flight.
+    pub(crate) fn flight_place(&self, name: &Name) -> Option<usize>
+        ensures { result ≡ position (λ f. bytes_eq name.now f.flight) self.now.files.now.flights }
+    {
+        self.flights.place_of((name.as_slice(), &[], 0))
+    }
+
+    /// The flight of this name.
+    pub(crate) fn flight(&self, name: &Name) -> Option<&'a FlightRow>
+        ensures { option_map (λ row. row.now) result ≡ flight_named self.now.files.now.flights name.now }
+    {
+        let place = self.flight_place(name)?;
+        Some(&self.files.flights.as_slice()[place])
+    }
+
+    /// The place of the rotation of a flight on a day.
+    pub(crate) fn rotation_place(&self, flight: &Name, day: u32) -> Option<usize>
+        ensures { result ≡ position (λ row. bytes_eq flight.now row.flight && (day == row.day)) self.now.files.now.rotations }
+    {
+        self.rotations.place_of((flight.as_slice(), &[], day))
+    }
+
+    /// The place of an aircraft.
+    pub(crate) fn aircraft_place(&self, name: &Name) -> Option<usize>
+        ensures { result ≡ aircraft_place self.now.files.now.aircraft name.now }
+    {
+        self.aircraft.place_of((name.as_slice(), &[], 0))
+    }
+
+    /// The place of an airport.
+    pub(crate) fn airport_place(&self, name: &Name) -> Option<usize>
+        ensures { result ≡ airport_place self.now.files.now.airports name.now }
+    {
+        self.airports.place_of((name.as_slice(), &[], 0))
+    }
+
+    /// The distance between two airports: the first row from the one to the other, else the first
+    /// row the other way.
+    pub(crate) fn distance(&self, origin: &Name, dest: &Name) -> Option<&'a DistRow>
+        ensures { option_map (λ row. row.now) result ≡ distance_between self.now.files.now.dist origin.now dest.now }
+    {
+        let there = self.dist.place_of((origin.as_slice(), dest.as_slice(), 0));
+        let place = match there {
+            Some(place) => place,
+            None => self.dist.place_of((dest.as_slice(), origin.as_slice(), 0))?,
+        };
+        Some(&self.files.dist.as_slice()[place])
+    }
+}
