@@ -1,8 +1,8 @@
-use Rattle.std.proofs.Common.{◌≡◌, ℕ, true, false, not, Bool, ap, sym, ◌∙◌, take, List, Bor, bytes_eq, ◌&&◌, eqb}
+use Rattle.std.proofs.Common.{◌≡◌, true, not, ap, sym, ◌∙◌, take}
 use Rattle.std.specs.Prelude.{option_copied, is_some}
 use Rattle.std.specs.Map.{lookup}
 use Rattle.indexmap.proofs.CallerLemmas.{insert_entry-new}
-use Rattle.desk_build.specs.Keys.{Key, is_key, key_place}
+use Rattle.desk_build.specs.Keys.{is_key, key_place}
 use Rattle.desk_build.specs.Found.{place_in}
 use Rattle.desk_build.proofs.PlaceLemmas.{place_new, place_kept, copied_stands, not_there, seen, same_borrowed, lookup_seen}
 use Rattle.desk_build.proofs.places.places_of.Goals as goal
@@ -19,15 +19,15 @@ loop-place-preserved g c = λ key.
     let stands : is_some (option_copied c.get.result) ≡ not c.is_none.result = copied_stands c.get.result ∙ c.is_none.ensures in
     elim c.if-is_none.branch [
       | then-is_none+in_ok-insert w ↦ (
-        let absent = not_there (option_copied c.get.result) (stands ∙ ap not w.if-is_none.true) in
-        let new = insert_entry-new same_borrowed here.places k here.place (sym c.get.ensures.value ∙ absent) in
-        ap (λ m. lookup (λ x. is_key key (seen x)) m.entries) w.places-is
-        ∙ ap (lookup (λ x. is_key key (seen x))) (w.in_ok-insert.ensures.entries ∙ new)
-        ∙ place_new key_of rows here.place row c.loop-place-test.true c.index-rows-place.is seen here.places.entries k c.key-key.ensures key (here.invariant key))
+          let absent = not_there (option_copied c.get.result) (stands ∙ ap not w.if-is_none.true) in
+          let new = insert_entry-new same_borrowed here.places k here.place (sym c.get.ensures.value ∙ absent) in
+          ap (λ m. lookup (λ x. is_key key (seen x)) m.entries) w.places-is
+          ∙ ap (lookup (λ x. is_key key (seen x))) (w.in_ok-insert.ensures.entries ∙ new)
+          ∙ place_new key_of rows here.place row c.loop-place-test.true c.index-rows-place.is seen here.places.entries k c.key-key.ensures key (here.invariant key))
       | else-is_none w ↦ (
-        let at : option_copied c.get.result ≡ key_place key_of (take here.place rows) (seen k) = got ∙ here.invariant (seen k) in
-        let stood : is_some (key_place key_of (take here.place rows) (key_of row)) ≡ true = ap (λ q. is_some (key_place key_of (take here.place rows) q)) (sym c.key-key.ensures) ∙ ap is_some (sym at) ∙ stands ∙ ap not w.if-is_none.false in
-        ap (λ m. lookup (λ x. is_key key (seen x)) m.entries) w.places-is
-        ∙ here.invariant key
-        ∙ place_kept key_of rows here.place row c.loop-place-test.true c.index-rows-place.is stood key)
+          let at : option_copied c.get.result ≡ key_place key_of (take here.place rows) (seen k) = got ∙ here.invariant (seen k) in
+          let stood : is_some (key_place key_of (take here.place rows) (key_of row)) ≡ true = ap (λ q. is_some (key_place key_of (take here.place rows) q)) (sym c.key-key.ensures) ∙ ap is_some (sym at) ∙ stands ∙ ap not w.if-is_none.false in
+          ap (λ m. lookup (λ x. is_key key (seen x)) m.entries) w.places-is
+          ∙ here.invariant key
+          ∙ place_kept key_of rows here.place row c.loop-place-test.true c.index-rows-place.is stood key)
     ]

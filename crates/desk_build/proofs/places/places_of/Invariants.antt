@@ -1,7 +1,6 @@
 use Rattle.std.proofs.Common.{◌≡◌, take}
 use Rattle.desk_build.specs.Keys.{Key, key_place}
 use Rattle.desk_build.specs.Found.{place_in}
-use Rattle.desk_build.proofs.PlaceLemmas.{stood_before}
 use Rattle.desk_build.proofs.places.places_of.Given as goal
 
 -- the places of the rows so far
