@@ -1,1 +1,3 @@
+mod BeforeLemmas
+mod FlightLemmas
 pub mod PlaceLemmas
