@@ -1,5 +1,5 @@
 -- A flight that is found by its name is one of the rows.
-use Rattle.std.proofs.Common.{◌≡◌, Bool, true, false, cond, List, ℕ, [], ◌∷◌, Option, Some, None, refl, sym, ap, ◌∙◌, subst, Bor, inl, inr, All, bytes_eq}
+use Rattle.std.proofs.Common.{◌≡◌, Bool, cond, List, ℕ, [], ◌∷◌, Option, Some, sym, ap, ◌∙◌, subst, Bor, inl, inr, All, bytes_eq}
 use Rattle.std.specs.Prelude.{find, option_map}
 use Rattle.std.proofs.lemmas.Bool.{cases_Bool}
 use Rattle.std.proofs.lemmas.List.Elements.{All-head, All-tail}
