@@ -1,0 +1,2 @@
+mod ValidRefused
+mod ValidRows
