@@ -1,2 +1,3 @@
+mod ValidFacts
 mod ValidRefused
 mod ValidRows
