@@ -1,3 +1,5 @@
 mod ValidFacts
+mod ValidLegs
+mod ValidPlanes
 mod ValidRefused
 mod ValidRows
