@@ -1,5 +1,6 @@
 mod ValidFacts
 mod ValidLegs
+mod ValidParts
 mod ValidPlanes
 mod ValidRefused
 mod ValidRows
