@@ -1,4 +1,5 @@
 mod ValidFacts
+mod ValidJoined
 mod ValidLegs
 mod ValidParts
 mod ValidPlanes

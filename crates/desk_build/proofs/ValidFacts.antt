@@ -1,5 +1,5 @@
 -- What follows where nothing is refused: names are known, no two are alike, and legs depart in time.
-use Rattle.std.proofs.Common.{◌≡◌, ◌≢◌, ℕ, ◌+◌, ◌*◌, ◌<◌, ◌≤◌, Bool, true, false, cond, ◌&&◌, eqb, ltb, List, [], ◌∷◌, length, get_or, bytes_eq, Option, Some, None, refl, sym, ap, subst, ◌∙◌, arith, All, AllPairs}
+use Rattle.std.proofs.Common.{◌≡◌, ◌≢◌, ℕ, ◌<◌, ◌≤◌, Bool, true, false, cond, eqb, ltb, List, [], ◌∷◌, length, get_or, bytes_eq, Option, Some, None, refl, sym, ap, ◌∙◌, subst, All, AllPairs}
 use Rattle.std.specs.Prelude.{find, position, is_some, unwrap_or}
 use Rattle.std.specs.Option.{option_map_or, option_or, ForSome}
 use Rattle.std.proofs.lemmas.Bool.{and_parts, and_from, ltb-false, eq-eqb, both_ways, false≢true}
@@ -42,7 +42,7 @@ value_passes test (Some v) e = (v, refl, e)
 
 pub value_fails : {A : Type 0} (test : A → Bool) (o : Option A) (v : A) → option_map_or test o false ≡ false → o ≡ Some v → test v ≡ false
 value_fails test None v e is = absurd cc
-value_fails test (Some w) v e is = let same : w ≡ v = cc in subst (λ (u : _). test u ≡ false) same e
+value_fails test (Some w) v e is = let same : w ≡ v = cc in ap test (sym same) ∙ e
 
 -- what is found is one of the rows
 found_by : {A : Type 0} (P : A → Type 0) (y x : A) (b : Bool) (rest : Option A) → P y → (rest ≡ Some x → P x) → cond b (Some y) rest ≡ Some x → P x
@@ -73,14 +73,16 @@ joined_by x row soon known =
     let both = and_parts (option_map_or (has_airports x.airports) (flight_named x.flights row.flight) false) (is_some (aircraft_place x.aircraft row.aircraft)) known in
     let flight = value_passes (has_airports x.airports) (flight_named x.flights row.flight) both.0 in
     let f = flight.0 in
-    let ends = and_parts (is_some (airport_place x.airports f.origin)) (is_some (airport_place x.airports f.dest)) flight.2 in
-    (f, record {
-      named = flight.1;
-      origin = ends.0;
-      dest = ends.1;
-      aircraft = both.1;
-      soon = ltb-false 52480000 (departure_on f row.day) (value_fails (λ (f : FlightRow). ltb 52480000 (departure_on f row.day)) (flight_named x.flights row.flight) f soon flight.1);
-    })
+    let ends = and_parts (is_some (airport_place x.airports f.origin)) (is_some (airport_place x.airports f.dest)) flight.2 in (
+      f,
+      record {
+        named = flight.1;
+        origin = ends.0;
+        dest = ends.1;
+        aircraft = both.1;
+        soon = ltb-false 52480000 (departure_on f row.day) (value_fails (λ (f : FlightRow). ltb 52480000 (departure_on f row.day)) (flight_named x.flights row.flight) f soon flight.1);
+      },
+    )
 
 module _ (x : Files) (e : refusal_of x ≡ None) where
   -- each rotation has a flight and an aircraft, and its flight has airports

@@ -1,6 +1,6 @@
 -- The legs of the day are in their ranges.
-use Rattle.std.proofs.Common.{◌≡◌, ◌≢◌, ◌&&◌, ℕ, ◌+◌, ◌-◌, ◌*◌, ◌<◌, ◌≤◌, true, List, [], ◌∷◌, length, map, get_or, bytes_eq, Option, Some, None, refl, sym, ap, subst, ◌∙◌, arith, All, AllPairs}
-use Rattle.std.specs.Prelude.{find, position, is_some, option_map, unwrap_or}
+use Rattle.std.proofs.Common.{◌≡◌, ◌≢◌, ◌&&◌, ℕ, ◌-◌, ◌<◌, ◌≤◌, List, length, map, get_or, bytes_eq, Option, Some, None, refl, sym, ap, subst, ◌∙◌, arith, All, AllPairs}
+use Rattle.std.specs.Prelude.{option_map}
 use Rattle.std.specs.Option.{option_map_or, ForSome}
 use Rattle.std.proofs.lemmas.List.{length-map}
 use Rattle.std.proofs.lemmas.List.Elements.{All-map}
@@ -9,16 +9,15 @@ use Rattle.desk_units.specs.declared.numbers.Leg.{Leg}
 use Rattle.desk_data.specs.declared.info.LegInfo.{LegInfo}
 use Rattle.desk_data.specs.Situation.{no_leg}
 use Rattle.desk_data.specs.Valid.{IsLeg}
-use Rattle.read_net.specs.declared.rows.AirportRow.{AirportRow}
 use Rattle.read_net.specs.declared.rows.DistRow.{DistRow}
 use Rattle.read_net.specs.Facts.{IsDistance}
 use Rattle.read_legs.specs.declared.rows.FlightRow.{FlightRow}
 use Rattle.read_legs.specs.declared.rows.RotationRow.{RotationRow}
 use Rattle.read_legs.specs.Facts.{IsFlight, IsRotation}
 use Rattle.desk_build.specs.declared.files.Files.{Files}
-use Rattle.desk_build.specs.Names.{flight_named, airport_place, aircraft_place, is_between, distance_between}
+use Rattle.desk_build.specs.Names.{flight_named, is_between, distance_between}
 use Rattle.desk_build.specs.Refusals.{refusal_of, departure_on}
-use Rattle.desk_build.specs.Legs.{is_in_time, is_last_in_time, last_in_time, previous_place, airport_of, minutes_of, leg_number, leg_by, leg_of}
+use Rattle.desk_build.specs.Legs.{is_in_time, is_last_in_time, last_in_time, previous_place, minutes_of, leg_number, leg_by, leg_of}
 use Rattle.desk_build.specs.Joined.{airport_info, plane_info}
 use Rattle.desk_build.specs.Facts.{AreFileRows}
 use Rattle.desk_build.proofs.ValidFacts.{IsJoined, each_joined, rotations_apart, place_within, known_within, found, found_either}

@@ -1,14 +1,12 @@
 -- The airports and the aircraft of the day are in their ranges.
-use Rattle.std.proofs.Common.{◌≡◌, ℕ, ◌<◌, ◌≤◌, true, List, [], ◌∷◌, length, map, get_or, Option, Some, None, refl, sym, ap, subst, ◌∙◌, arith, All, AllPairs}
-use Rattle.std.specs.Prelude.{is_some, option_map, unwrap_or, IfSome}
-use Rattle.std.specs.Option.{option_map_or, ForSome}
+use Rattle.std.proofs.Common.{◌≡◌, ℕ, ◌<◌, true, List, [], ◌∷◌, length, map, get_or, Option, Some, None, subst, arith, All, AllPairs}
+use Rattle.std.specs.Prelude.{is_some, option_map, IfSome}
+use Rattle.std.specs.Option.{ForSome}
 use Rattle.std.proofs.lemmas.List.{length-map, get_or-map}
 use Rattle.std.proofs.lemmas.List.Elements.{All-map}
-use Rattle.desk_data.specs.declared.info.Maint.{Maint}
 use Rattle.desk_data.specs.Valid.{IsCap, IsAirport, IsMaint, IsPlane}
-use Rattle.read_net.specs.declared.rows.CapRow.{CapRow}
 use Rattle.read_net.specs.declared.rows.AirportRow.{AirportRow}
-use Rattle.read_net.specs.Facts.{IsCap as IsCapRow, IsAirport as IsAirportRow}
+use Rattle.read_net.specs.Facts.{IsAirport as IsAirportRow}
 use Rattle.read_fleet.specs.declared.maintenance.MaintRow.{MaintRow}
 use Rattle.read_fleet.specs.declared.aircraft.AircraftRow.{AircraftRow}
 use Rattle.read_fleet.specs.Facts.{IsMaint as IsMaintRow, IsAircraft}

@@ -1,6 +1,5 @@
 -- What holds where no row is refused: each row has no cause, so there are few, and no two are alike.
-use Rattle.std.proofs.Common.{◌≡◌, ◌≢◌, ℕ, zero, suc, ◌+◌, ◌<◌, ◌≤◌, Bool, true, false, cond, ◌||◌, List, [], ◌∷◌, length, take, get_or, leb, Option, Some, None, refl, sym, ap, subst, ◌∙◌, arith, All, AllPairs, inl, inr}
-use Rattle.std.specs.Prelude.{option_map}
+use Rattle.std.proofs.Common.{◌≡◌, ℕ, zero, suc, ◌+◌, ◌<◌, ◌≤◌, Bool, true, false, cond, List, [], ◌∷◌, length, take, get_or, leb, Option, Some, None, refl, ap, subst, ◌∙◌, arith, AllPairs, inl, inr}
 use Rattle.std.specs.List.{list_any}
 use Rattle.std.specs.Option.{option_map_or, option_or}
 use Rattle.std.proofs.lemmas.Bool.{cases_lt, leb-false, false_from_ne_true, both_ways}
@@ -8,7 +7,7 @@ use Rattle.std.proofs.lemmas.List.{get_or-take, length-take}
 use Rattle.std.proofs.lemmas.List.Folds.{list_any_at}
 use Rattle.desk_folder.specs.declared.files.File.{File}
 use Rattle.desk_text.specs.declared.cause.Cause.{Cause}
-use Rattle.desk_build.specs.Refusals.{Refusal, refused_from, first_refused, in_file}
+use Rattle.desk_build.specs.Refusals.{refused_from, first_refused, in_file}
 
 -- neither of two gives anything
 pub neither : {A : Type 0} (a b : Option A) → option_or a b ≡ None → (a ≡ None) × (b ≡ None)

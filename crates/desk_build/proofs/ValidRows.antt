@@ -1,20 +1,17 @@
 -- What holds of each row where nothing is refused.
-use Rattle.std.proofs.Common.{◌≡◌, ◌≢◌, ℕ, ◌+◌, ◌*◌, ◌<◌, ◌≤◌, Bool, true, false, not, ◌&&◌, ◌||◌, eqb, leb, ltb, List, length, take, get_or, bytes_eq, Option, Some, None, refl, sym, ap, ◌∙◌, arith, All, AllPairs}
+use Rattle.std.proofs.Common.{◌≡◌, ℕ, ◌<◌, ◌≤◌, true, false, ◌&&◌, leb, List, length, take, get_or, bytes_eq, None}
 use Rattle.std.specs.Prelude.{is_some}
 use Rattle.std.specs.List.{list_any}
-use Rattle.std.specs.Option.{option_map_or, ForSome}
-use Rattle.std.proofs.lemmas.Bool.{and_parts, and_from, or_parts, not-false, ltb-false, eq-eqb, both_ways}
-use Rattle.std.proofs.lemmas.Slice.Eq.{bytes_eq-Decides}
+use Rattle.std.proofs.lemmas.Bool.{and_parts, or_parts, not-false}
 use Rattle.desk_folder.specs.declared.files.File.TheVariants as file
-use Rattle.desk_text.specs.declared.cause.Cause.TheVariants.{Unknown, Twice, NoDistance, Limit, BadPrev, BadWindow}
 use Rattle.read_net.specs.declared.rows.AirportRow.{AirportRow}
 use Rattle.read_legs.specs.declared.rows.FlightRow.{FlightRow}
 use Rattle.read_legs.specs.declared.rows.RotationRow.{RotationRow}
 use Rattle.read_fleet.specs.declared.aircraft.AircraftRow.{AircraftRow}
 use Rattle.desk_build.specs.declared.files.Files.{Files}
-use Rattle.desk_build.specs.Names.{flight_named, airport_place, aircraft_place}
-use Rattle.desk_build.specs.Refusals.{first_refused, window_refused, flight_cause, rotation_cause, aircraft_cause, airport_cause, dist_cause, position_cause, in_file, refusal_of, has_good_previous, departure_on, departs_late, has_airports, is_known, has_distance, is_same_leg, has_known_maintenance, has_good_window}
-use Rattle.desk_build.proofs.ValidRefused.{neither, not_in_file, passed, held, none_refused, few_rows, none_alike}
+use Rattle.desk_build.specs.Names.{airport_place}
+use Rattle.desk_build.specs.Refusals.{first_refused, flight_cause, rotation_cause, aircraft_cause, airport_cause, refusal_of, has_good_previous, departs_late, is_known, has_distance, is_same_leg, has_known_maintenance, has_good_window}
+use Rattle.desk_build.proofs.ValidRefused.{neither, not_in_file, passed, held, none_refused, few_rows}
 
 -- nothing is refused in any file
 pub record NoneRefused (x : Files) : Type 0 where
