@@ -5,3 +5,4 @@ pub mod Refusals
 pub mod Legs
 pub mod Joined
 pub mod Facts
+pub mod Numbered

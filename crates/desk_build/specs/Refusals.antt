@@ -1,5 +1,5 @@
 -- Why rows are not joined: the first refusal in the order of the files, then of their lines, then of the causes.
-use Rattle.std.specs.Prelude.{ℕ, ◌+◌, ◌*◌, Bool, true, false, not, ◌&&◌, ◌||◌, List, [], ◌∷◌, length, take, sum_by, Option, Some, None, is_some, is_none, option_map, bytes_eq, nat_lt, nat_le, ◌==◌, if◌then◌else◌}
+use Rattle.std.specs.Prelude.{ℕ, ◌+◌, ◌*◌, Bool, true, false, not, ◌&&◌, ◌||◌, List, [], ◌∷◌, length, take, sum_by, Option, Some, None, is_some, option_map, bytes_eq, nat_lt, nat_le, ◌==◌, if◌then◌else◌}
 use Rattle.std.specs.List.{list_any}
 use Rattle.std.specs.Option.{option_map_or, option_or}
 use Rattle.desk_folder.specs.declared.files.File.{File}

@@ -3,15 +3,15 @@
 ghost use Rattle.std.specs.Prelude.{◌≡◌, [], None, IfOk};
 ghost use Rattle.desk_build.specs.Facts.{AreFileRows};
 ghost use Rattle.desk_build.specs.Refusals.{refusal_of};
-ghost use Rattle.desk_build.specs.Joined.{parts_of, joined, JoinGives};
+ghost use Rattle.desk_build.specs.Joined.{joined, JoinGives};
 
 use crate::fault::BuildFault;
 use crate::files::Files;
+use crate::parts::parts;
 use crate::tables::Tables;
-use desk_data::{Instance, Parts};
+use desk_data::Instance;
 use desk_folder::File;
 use desk_text::Cause;
-use desk_units::NoMem;
 use std::alloc::Global;
 
 /// What the rows of the input files make.
@@ -27,15 +27,6 @@ fn refusal(tables: &Tables<'_>) -> Option<(File, u32, Cause)>
     ensures { result ≡ refusal_of tables.now.files.now }
 {
     None
-}
-
-/// The rows of the day.
-fn parts(alloc: Global, tables: &Tables<'_>) -> Result<Parts, NoMem>
-    requires rows { AreFileRows tables.now.files.now }
-    requires joined { refusal_of tables.now.files.now ≡ None }
-    ensures { IfOk result (λ parts. parts ≡ parts_of tables.now.files.now) }
-{
-    Err(NoMem)
 }
 
 /// The day of the rows, with no orders yet, or the first refusal in the order of the files, then of

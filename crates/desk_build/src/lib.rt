@@ -4,6 +4,8 @@
 mod fault;
 mod files;
 mod joining;
+mod legs;
+mod parts;
 mod places;
 mod rows;
 mod tables;

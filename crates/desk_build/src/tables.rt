@@ -1,9 +1,9 @@
 //! The rows of the files, found by their names.
 
-ghost use Rattle.std.specs.Prelude.{◌≡◌, [], IfOk, option_map, position, ◌==◌, ◌&&◌, bytes_eq};
+ghost use Rattle.std.specs.Prelude.{◌≡◌, [], IfOk, option_map, find, position, ◌==◌, ◌&&◌, bytes_eq};
 ghost use Rattle.desk_build.specs.Keys.{Key as RowKey, key_place};
 ghost use Rattle.desk_build.specs.Found.{place_in};
-ghost use Rattle.desk_build.specs.Names.{flight_named, airport_place, aircraft_place, distance_between};
+ghost use Rattle.desk_build.specs.Names.{flight_named, airport_place, aircraft_place, is_between, distance_between};
 
 use crate::files::Files;
 use crate::places::{Places, places_of};
@@ -32,13 +32,18 @@ impl<'a> Tables<'a> {
     pub(crate) fn of(alloc: Global, files: &'a Files) -> Result<Tables<'a>, NoMem>
         ensures { IfOk result (λ tables. tables.files.now ≡ files.now) }
     {
+        let flights = places_of(alloc, files.flights.as_slice())?;
+        let rotations = places_of(alloc, files.rotations.as_slice())?;
+        let aircraft = places_of(alloc, files.aircraft.as_slice())?;
+        let airports = places_of(alloc, files.airports.as_slice())?;
+        let dist = places_of(alloc, files.dist.as_slice())?;
         Ok(Tables {
             files,
-            flights: places_of(alloc, files.flights.as_slice())?,
-            rotations: places_of(alloc, files.rotations.as_slice())?,
-            aircraft: places_of(alloc, files.aircraft.as_slice())?,
-            airports: places_of(alloc, files.airports.as_slice())?,
-            dist: places_of(alloc, files.dist.as_slice())?,
+            flights,
+            rotations,
+            aircraft,
+            airports,
+            dist,
         })
     }
 
@@ -78,16 +83,29 @@ impl<'a> Tables<'a> {
         self.airports.place_of((name.as_slice(), &[], 0))
     }
 
+    /// The place of the first row from the one airport to the other.
+    fn dist_place(&self, origin: &Name, dest: &Name) -> Option<usize>
+        ensures { result ≡ position (is_between origin.now dest.now) self.now.files.now.dist }
+    {
+        self.dist.place_of((origin.as_slice(), dest.as_slice(), 0))
+    }
+
+    /// The first row from the one airport to the other.
+    fn distance_from(&self, origin: &Name, dest: &Name) -> Option<&'a DistRow>
+        ensures { option_map (λ row. row.now) result ≡ find (is_between origin.now dest.now) self.now.files.now.dist }
+    {
+        let place = self.dist_place(origin, dest)?;
+        Some(&self.files.dist.as_slice()[place])
+    }
+
     /// The distance between two airports: the first row from the one to the other, else the first
     /// row the other way.
     pub(crate) fn distance(&self, origin: &Name, dest: &Name) -> Option<&'a DistRow>
         ensures { option_map (λ row. row.now) result ≡ distance_between self.now.files.now.dist origin.now dest.now }
     {
-        let there = self.dist.place_of((origin.as_slice(), dest.as_slice(), 0));
-        let place = match there {
-            Some(place) => place,
-            None => self.dist.place_of((dest.as_slice(), origin.as_slice(), 0))?,
-        };
-        Some(&self.files.dist.as_slice()[place])
+        match self.distance_from(origin, dest) {
+            Some(row) => Some(row),
+            None => self.distance_from(dest, origin),
+        }
     }
 }
