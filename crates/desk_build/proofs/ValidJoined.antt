@@ -1,0 +1,31 @@
+-- The join of rows: the first refusal, or else the day.
+use Rattle.std.proofs.Common.{◌≡◌, Some, None, Result, Ok, Err, [], sym, ap, ◌∙◌}
+use Rattle.std.specs.Prelude.{IsErrAnd}
+use Rattle.desk_data.specs.declared.parts.Parts.{Parts}
+use Rattle.desk_data.specs.Situation.{Situation}
+use Rattle.desk_build.specs.declared.files.Files.{Files}
+use Rattle.desk_build.specs.declared.joining.Built.{Built}
+use Rattle.desk_build.specs.declared.fault.BuildFault.{BuildFault}
+use Rattle.desk_build.specs.declared.fault.BuildFault.TheVariants.{Refused, Memory}
+use Rattle.desk_build.specs.Refusals.{Refusal, refusal_of}
+use Rattle.desk_build.specs.Joined.{parts_of, day_of, unless_refused, joined, JoinGives}
+
+pub joined_refused : (x : Files) (refusal : Refusal) → refusal_of x ≡ Some refusal → joined x ≡ Err refusal
+unfolding joined
+joined_refused x refusal e = ap (λ r. unless_refused r (day_of x)) e
+
+pub joined_day : (x : Files) → refusal_of x ≡ None → joined x ≡ Ok (day_of x)
+unfolding joined
+joined_day x e = ap (λ r. unless_refused r (day_of x)) e
+
+-- rows that are those of the files make the day
+pub joined_made : (x y : Files) (parts : Parts) (inst : Situation) → x ≡ y → refusal_of x ≡ None → parts ≡ parts_of x → inst ≡ record { parts = parts; orders = [] } → joined y ≡ Ok inst
+joined_made x y parts inst same none made is =
+    let opened : Parts → Situation = λ parts. record { parts = parts; orders = [] } in
+    joined_day y (ap refusal_of (sym same) ∙ none) ∙ ap (λ day. Ok day) (sym (is ∙ ap opened (made ∙ ap parts_of same)))
+
+-- want of memory says nothing of the rows
+pub memory_gives : (result : Result Built BuildFault) (join : Result Situation Refusal) → IsErrAnd result (λ e. e ≡ Memory) → JoinGives result join
+memory_gives (Ok built) join e = absurd e
+memory_gives (Err (Refused f line cause)) join e = absurd cc
+memory_gives (Err Memory) join e = tt
