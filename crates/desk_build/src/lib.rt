@@ -3,6 +3,7 @@
 
 mod fault;
 mod files;
+mod first;
 mod joining;
 mod places;
 mod rows;
