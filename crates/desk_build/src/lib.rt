@@ -1,6 +1,7 @@
 //! The join: the rows of the input files become an instance, in which names are numbers.
 #![tactic(auto)]
 
+mod causes;
 mod fault;
 mod files;
 mod first;
