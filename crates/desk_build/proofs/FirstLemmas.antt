@@ -3,7 +3,7 @@ use Rattle.std.proofs.Common.{◌≡◌, ℕ, suc, ◌+◌, ◌<◌, ◌≤◌, 
 use Rattle.std.proofs.Math.ListN.{drop_of_length-le}
 use Rattle.std.specs.Option.{option_map_or}
 use Rattle.desk_text.specs.declared.cause.Cause.{Cause}
-use Rattle.desk_build.specs.Refusals.{refused_from, first_refused}
+use Rattle.desk_build.specs.Refusals.{refused_from}
 
 module _ {Row : Type 0} (cause : ℕ → Row → Option Cause) (line : Row → ℕ) where
   refused_row : (n : ℕ) (row : Row) (rows : List Row) → refused_from cause line n (row ∷ rows) ≡ option_map_or (λ why. Some (line row, why)) (cause n row) (refused_from cause line (n + 1) rows)

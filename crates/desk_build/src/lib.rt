@@ -7,6 +7,8 @@ mod files;
 mod first;
 mod joining;
 mod places;
+mod positions;
+mod refusals;
 mod rows;
 mod tables;
 

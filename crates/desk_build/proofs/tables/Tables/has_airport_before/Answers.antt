@@ -1,4 +1,4 @@
-use Rattle.std.proofs.Common.{bytes_eq, ◌&&◌, eqb, ltb, false, ap, ◌∙◌}
+use Rattle.std.proofs.Common.{bytes_eq, ltb, false, ap, ◌∙◌}
 use Rattle.std.specs.Option.{option_map_or}
 use Rattle.desk_build.proofs.PlaceLemmas.{stood_before}
 use Rattle.desk_build.proofs.tables.Tables.has_airport_before.Goals as goal
