@@ -9,3 +9,5 @@ mod ValidParts
 mod ValidPlanes
 mod ValidRefused
 mod ValidRows
+pub mod FirstLemmas
+pub mod GroupLemmas

@@ -1,17 +1,15 @@
 //! The join.
 
-ghost use Rattle.std.specs.Prelude.{◌≡◌, [], None, IfOk};
+ghost use Rattle.std.specs.Prelude.{◌≡◌, [], IfOk};
 ghost use Rattle.desk_build.specs.Facts.{AreFileRows};
-ghost use Rattle.desk_build.specs.Refusals.{refusal_of};
 ghost use Rattle.desk_build.specs.Joined.{joined, JoinGives};
 
 use crate::fault::BuildFault;
 use crate::files::Files;
 use crate::parts::parts;
+use crate::refusals::refusal;
 use crate::tables::Tables;
 use desk_data::Instance;
-use desk_folder::File;
-use desk_text::Cause;
 use std::alloc::Global;
 
 /// What the rows of the input files make.
@@ -19,14 +17,6 @@ use std::alloc::Global;
 pub struct Built {
     /// The joined day, with no orders yet.
     pub inst: Instance,
-}
-
-/// The first refusal.
-fn refusal(tables: &Tables<'_>) -> Option<(File, u32, Cause)>
-    requires { AreFileRows tables.now.files.now }
-    ensures { result ≡ refusal_of tables.now.files.now }
-{
-    None
 }
 
 /// The day of the rows, with no orders yet, or the first refusal in the order of the files, then of

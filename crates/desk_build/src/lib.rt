@@ -1,12 +1,16 @@
 //! The join: the rows of the input files become an instance, in which names are numbers.
 #![tactic(auto)]
 
+mod causes;
 mod fault;
 mod files;
+mod first;
 mod joining;
 mod legs;
 mod parts;
 mod places;
+mod positions;
+mod refusals;
 mod rows;
 mod tables;
 

@@ -11,22 +11,15 @@ use std::alloc::Global;
 /// What a row is found by: a name, two names, or a name and a day. What is not used is empty, or 0.
 pub(crate) type Key<'a> = (&'a [u8], &'a [u8], u32);
 
-/// A row that is found by a key, and stands in a line.
+/// A row that is found by a key.
 pub(crate) trait Keyed {
-    ghost use Rattle.std.specs.Prelude.{ℕ};
     ghost use Rattle.desk_build.specs.Keys.{Key as RowKey};
 
     ghost key_of: { Self → RowKey };
 
-    ghost line_of: { Self → ℕ };
-
     /// Its key.
     fn key(&self) -> Key<'_>
         ensures { (result.0.now, result.1.now, result.2) ≡ key_of self.now };
-
-    /// Its line in its file.
-    fn line(&self) -> u32
-        ensures { result ≡ line_of self.now };
 }
 
 /// The places of rows by their keys, counted from 0. A key stands for the first row that has it.
