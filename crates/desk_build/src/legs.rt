@@ -12,7 +12,7 @@ use desk_units::{Airport, Haul, Leg, Minute, Name, Plane};
 use read_legs::{FlightRow, RotationRow};
 use read_net::DistRow;
 
-/// An airport's number is its place.
+/// The number of an airport: its place, or 0 for an unknown name.
 pub(crate) fn airport_of(tables: &Tables<'_>, name: &Name) -> Airport
     requires { CanBeNumbered tables.now.files.now }
     ensures { result ≡ airport_of tables.now.files.now.airports name.now }
@@ -66,7 +66,7 @@ fn previous_leg(tables: &Tables<'_>, flight: &FlightRow, day: u32) -> Option<Leg
     Some(Leg(place as u32))
 }
 
-/// An aircraft's number is its place.
+/// The number of an aircraft: its place, or 0 for an unknown name.
 fn plane_of(tables: &Tables<'_>, name: &Name) -> Plane
     requires { CanBeNumbered tables.now.files.now }
     ensures { result.0 ≡ unwrap_or (aircraft_place tables.now.files.now.aircraft name.now) 0 }
@@ -75,14 +75,14 @@ fn plane_of(tables: &Tables<'_>, name: &Name) -> Plane
     Plane(place as u32)
 }
 
-/// The minutes of a distance.
+/// The minutes of a distance, or 0 where there is none.
 fn minutes_of(distance: Option<&DistRow>) -> u32
     ensures { result ≡ minutes_of (option_map (λ row. row.now) distance.entry) }
 {
     distance.map_or(0, |row| row.minutes)
 }
 
-/// The haul of a distance.
+/// The haul of a distance, domestic where there is none.
 fn haul_of(distance: Option<&DistRow>) -> Haul
     ensures { result ≡ haul_of (option_map (λ row. row.now) distance.entry) }
 {

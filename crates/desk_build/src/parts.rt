@@ -1,6 +1,6 @@
 //! The rows of the day: airports, aircraft, legs and the window.
 
-ghost use Rattle.std.specs.Prelude.{◌≡◌, length, map, All, IfOk, option_map};
+ghost use Rattle.std.specs.Prelude.{◌≡◌, map, IfOk, option_map};
 ghost use Rattle.desk_build.specs.Facts.{AreFileRows};
 ghost use Rattle.desk_build.specs.Numbered.{CanBeNumbered, HasKnownFlights};
 ghost use Rattle.desk_build.specs.Legs.{leg_of};
