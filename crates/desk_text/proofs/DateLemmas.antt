@@ -1,5 +1,5 @@
 -- The year and the month of a day.
-use Rattle.std.proofs.Common.{◌≡◌, ℕ, zero, suc, ◌+◌, ◌-◌, ◌*◌, ◌/◌, ◌<◌, ◌≤◌, ◌⊎◌, inl, inr, Bool, true, false, cond, ◌&&◌, List, [], ◌∷◌, length, get_or, take, sum, ap, arith, leb, refl, ◌∙◌, add-one}
+use Rattle.std.proofs.Common.{◌≡◌, ℕ, zero, suc, ◌+◌, ◌-◌, ◌*◌, ◌/◌, ◌<◌, ◌≤◌, ◌⊎◌, inl, inr, Bool, true, false, cond, ◌&&◌, List, [], ◌∷◌, length, get_or, take, sum, ap, arith, leb, refl, add-one}
 use Rattle.std.specs.Prelude.{count_by, Some}
 use Rattle.std.specs.List.{range_with_len}
 use Rattle.std.proofs.lemmas.Bool.{le-leb, and_from}
@@ -32,7 +32,7 @@ not_passed : (a b : ℕ) → b < a → leb a b ≡ false
 not_passed a b lt = grind (arith, nat_tests)
 
 -- that many periods have passed on a day of the next one
-pub passed_is : (start : ℕ → ℕ) (many n k : ℕ) → ((i j : ℕ) → i ≤ j → start i ≤ start j) → k ≤ many → start k ≤ n → n < start (k + 1) → passed start many n ≡ k
+passed_is : (start : ℕ → ℕ) (many n k : ℕ) → ((i j : ℕ) → i ≤ j → start i ≤ start j) → k ≤ many → start k ≤ n → n < start (k + 1) → passed start many n ≡ k
 passed_is start many n k grows le from to =
     omega (
       arith,
@@ -46,13 +46,13 @@ passed_is start many n k grows le from to =
 days_before_grows : (i j : ℕ) → i ≤ j → days_before i ≤ days_before j
 days_before_grows i j le = omega (arith, days_before_is i, days_before_is j)
 
-pub year_begun : (day : ℕ) → days_before (4 * day / 1461) ≤ day
+year_begun : (day : ℕ) → days_before (4 * day / 1461) ≤ day
 year_begun day = omega (arith, days_before_is (4 * day / 1461))
 
-pub year_not_over : (day : ℕ) → day < days_before (4 * day / 1461 + 1)
+year_not_over : (day : ℕ) → day < days_before (4 * day / 1461 + 1)
 year_not_over day = omega (arith, days_before_is (4 * day / 1461 + 1))
 
-pub year_of_is : (day : ℕ) → day < 36525 → year_of day ≡ 4 * day / 1461
+year_of_is : (day : ℕ) → day < 36525 → year_of day ≡ 4 * day / 1461
 unfolding year_of
 year_of_is day lt = passed_is days_before 100 day (4 * day / 1461) days_before_grows (omega arith) (year_begun day) (year_not_over day)
 
@@ -70,7 +70,7 @@ months_grow (x ∷ xs) (suc i) (suc j) le =
 month_starts_grow : (year i j : ℕ) → i ≤ j → month_start year i ≤ month_start year j
 month_starts_grow year i j le = months_grow (month_lengths (is_leap year)) i j le
 
-pub months_passed_is : (day k : ℕ) → k ≤ 12 → month_start (year_of day) k ≤ day_in_year day → day_in_year day < month_start (year_of day) (k + 1) → months_passed day ≡ k
+months_passed_is : (day k : ℕ) → k ≤ 12 → month_start (year_of day) k ≤ day_in_year day → day_in_year day < month_start (year_of day) (k + 1) → months_passed day ≡ k
 unfolding months_passed
 months_passed_is day k le from to = passed_is (month_start (year_of day)) 12 (day_in_year day) k (month_starts_grow (year_of day)) le from to
 
@@ -105,30 +105,22 @@ pub twelve_months : (leap : Bool) → length (month_lengths leap) ≡ 12
 unfolding month_lengths
 twelve_months leap = refl
 
-days_of_months : (leap : Bool) → sum (month_lengths leap) ≡ cond leap 366 365
+pub days_of_months : (leap : Bool) → sum (month_lengths leap) ≡ cond leap 366 365
 unfolding month_lengths
 days_of_months true = refl
 days_of_months false = refl
 
-pub rest_of_year : (day year : ℕ) → days_before year ≤ day → day < days_before (year + 1) → day - days_before year < sum (month_lengths (is_leap year))
+rest_of_year : (day year : ℕ) → days_before year ≤ day → day < days_before (year + 1) → day - days_before year < sum (month_lengths (is_leap year))
 rest_of_year day year begun to = omega (arith, days_of_months (is_leap year), days_before-suc year, ap days_before (add-one year))
 
 -- the parts of a date are those of the day whose place they give
-pub date_is : (day k left : ℕ) → k < 12 → month_start (year_of day) k + left ≡ day - days_before (year_of day) → left < get_or (month_lengths (is_leap (year_of day))) k 0
+date_is : (day k left : ℕ) → k < 12 → month_start (year_of day) k + left ≡ day - days_before (year_of day) → left < get_or (month_lengths (is_leap (year_of day))) k 0
     → (months_passed day ≡ k) × (day_in_month day ≡ left + 1)
 unfolding day_in_year day_in_month
 date_is day k left lt place within =
     let there : k < length (month_lengths (is_leap (year_of day))) = omega (arith, twelve_months (is_leap (year_of day))) in
     let month : months_passed day ≡ k = months_passed_is day k (omega arith) (omega (arith, place)) (omega (arith, place, within, sum_by_more (λ n. n) (month_lengths (is_leap (year_of day))) k 0 there)) in
     (month, rw month (omega (arith, place)))
-
--- the same of numbers that are equal to them
-pub date_from : (day year start k left : ℕ) (months : List ℕ) → year ≡ year_of day → start ≡ days_before year → months ≡ month_lengths (is_leap year) → k < 12
-    → sum (take k months) + left ≡ day - start → left < get_or months k 0 → (months_passed day ≡ k) × (day_in_month day ≡ left + 1)
-date_from day year start k left months is starts lengths lt place within =
-    let same : months ≡ month_lengths (is_leap (year_of day)) = lengths ∙ ap (λ (y : ℕ). month_lengths (is_leap y)) is in
-    let first : start ≡ days_before (year_of day) = starts ∙ ap days_before is in
-    date_is day k left lt (rw (← same, ← first) place) (rw (← same) within)
 
 -- such a day there is
 day_of_is : (day month year n : ℕ) → month < 12 → 1 ≤ day → day ≤ get_or (month_lengths (is_leap year)) month 0 → days_before year + month_start year month + (day - 1) ≡ n → day_of day (month + 1) year ≡ Some n

@@ -6,7 +6,7 @@ use Rattle.std.proofs.lemmas.List.FromFn.{map-range_with_len_more}
 use Rattle.std.proofs.lemmas.List.Sums.{sum_by_push, sum_by_more_le}
 use Rattle.desk_text.specs.Days.{days_of_year, days_before}
 
-days_before-zero : days_before 0 ≡ 0
+pub days_before-zero : days_before 0 ≡ 0
 unfolding days_before
 days_before-zero = refl
 

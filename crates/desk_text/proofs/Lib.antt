@@ -1,5 +1,6 @@
 pub mod DayLemmas
 pub mod DateLemmas
+pub mod CalendarLemmas
 pub mod CutLemmas
 pub mod LineLemmas
 pub mod FieldLemmas

@@ -1,11 +1,10 @@
 -- The fields of a line that may be read are of bytes that can be seen.
-use Rattle.std.proofs.Common.{◌≡◌, ℕ, ◌≤◌, Bool, true, false, cond, ◌&&◌, ◌||◌, List, [], ◌∷◌, refl, sym, ap, ◌∙◌}
+use Rattle.std.proofs.Common.{◌≡◌, ℕ, Bool, true, false, cond, ◌&&◌, ◌||◌, List, [], ◌∷◌, refl, ap, ◌∙◌}
 use Rattle.std.specs.Prelude.{filter, nat_le}
 use Rattle.std.specs.List.{slice_split, onto_first, list_all}
-use Rattle.std.proofs.lemmas.List.Sums.{AllPass-from_list_all}
-use Rattle.std.proofs.lemmas.Bool.{leb-true, and_parts}
+use Rattle.std.proofs.lemmas.Bool.{and_parts}
 use Rattle.desk_text.specs.Lines.{is_blank, is_text, is_full, fields}
-use Rattle.desk_text.specs.Seen.{IsSeen, is_seen, are_seen}
+use Rattle.desk_text.specs.Seen.{is_seen, are_seen}
 
 -- a byte from ! to ~
 abbrev is_seen_byte : ℕ → Bool

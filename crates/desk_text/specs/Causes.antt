@@ -1,7 +1,9 @@
--- The names of the causes.
-use Rattle.std.specs.Prelude.{ℕ, List, codes}
+-- The names of the causes, and what is printed for a fault.
+use Rattle.std.specs.Prelude.{ℕ, List, ◌++◌, codes, decimal}
 use Rattle.desk_text.specs.declared.cause.Cause.{Cause}
 use Rattle.desk_text.specs.declared.cause.Cause.TheVariants.{Size, Byte, Fields, Number, Date, Time, Word, Unknown, Twice, NoDistance, Limit, BadPrev, BadWindow, Batch, Move, Count, Missing}
+use Rattle.desk_text.specs.declared.cause.ReadFault.{ReadFault}
+use Rattle.desk_text.specs.declared.cause.ReadFault.TheVariants.{Refused, Memory}
 
 -- what is printed for a cause
 abbrev pub cause_name : Cause → List ℕ
@@ -22,3 +24,8 @@ cause_name Batch = codes "Batch"
 cause_name Move = codes "Move"
 cause_name Count = codes "Count"
 cause_name Missing = codes "Missing"
+
+-- what is printed for a fault
+abbrev pub fault_text : ReadFault → List ℕ
+fault_text (Refused line cause) = codes "line " ++ (decimal line ++ (codes " is refused: " ++ cause_name cause))
+fault_text Memory = codes "out of memory"

@@ -1,7 +1,7 @@
 //! Why a text file is refused.
 
-ghost use Rattle.std.specs.Prelude.{◌≡◌};
-ghost use Rattle.desk_text.specs.Causes.{cause_name};
+ghost use Rattle.std.specs.Prelude.{◌≡◌, Some};
+ghost use Rattle.desk_text.specs.Causes.{cause_name, fault_text};
 ghost use Rattle.desk_text.specs.declared.cause.ReadFault.TheVariants as read_fault;
 ghost use Rattle.desk_text.specs.declared.cause.RowFault.TheVariants as row_fault;
 
@@ -77,6 +77,8 @@ impl Cause {
 }
 
 impl fmt::Display for Cause {
+    ghost output = { λ cause. Some (cause_name cause) };
+
     fn fmt<W: fmt::Write>(&self, f: &mut fmt::Formatter<W>) -> fmt::Result {
         f.write_str(self.name())
     }
@@ -92,10 +94,12 @@ pub enum ReadFault {
 }
 
 impl fmt::Display for ReadFault {
+    ghost output = { λ fault. Some (fault_text fault) };
+
     fn fmt<W: fmt::Write>(&self, f: &mut fmt::Formatter<W>) -> fmt::Result {
         match self {
             ReadFault::Refused { line, cause } => write!(f, "line {line} is refused: {cause}"),
-            ReadFault::Memory => write!(f, "out of memory"),
+            ReadFault::Memory => f.write_str("out of memory"),
         }
     }
 }

@@ -1,56 +1,63 @@
 //! Days by their numbers.
 
-ghost use Rattle.std.specs.Prelude.{All, ◌≡◌, ◌+◌, ◌-◌, ◌^◌, ◌<◌, ◌≤◌, ◌&&◌, IfSome, length, slice_index, sum, nat_le, if◌then◌else◌};
-ghost use Rattle.desk_text.specs.Days.{day_of, days_before, days_of_year, month_lengths};
+ghost use Rattle.std.specs.Prelude.{◌≡◌, ◌≢◌, ◌↔◌, ◌+◌, ◌<◌, ◌≤◌, pos, ◌+ℤ◌, ◌≤ℤ◌, IsSome, IfSome, IfOk};
+ghost use Rattle.jiff.specs.Words.{epoch_day, IsDate, IsYmd};
+ghost use Rattle.desk_text.specs.Days.{day_of};
+ghost use Rattle.desk_text.specs.Texts.{day_in_month, month_of, year_of};
 
-/// The lengths of the months of a year.
-#[tactic(auto, unfolding(crate::specs::Days::month_lengths))]
-pub(crate) fn month_lengths(leap: bool) -> [u32; 12]
-    ensures lengths { result ≡ month_lengths leap }
-    ensures year { sum result ≡ (if leap then 366 else 365) }
-    ensures each { All (λ days. days ≤ 31) result }
-{
-    let february = if leap { 29 } else { 28 };
-    [31, february, 31, 30, 31, 30, 31, 31, 30, 31, 30, 31]
-}
+use jiff::ToSpan;
+use jiff::civil::{Date, date};
 
-/// The days of the years from 2000 to the one before 2000 + `year`.
-pub(crate) fn days_before(year: u32) -> u32
+/// The date of this day of the year 2000 + `year`, or `None` where there is no such day.
+fn date_on(day: u32, month: u32, year: u32) -> Option<Date>
     requires { year < 100 }
-    ensures exact { result ≡ days_before year }
-    ensures small { result + days_of_year year ≤ 36525 }
+    ensures there { IsSome result ↔ IsDate (pos (2000 + year)) (pos month) (pos day) }
+    ensures parts { IfSome result (IsYmd (pos (2000 + year)) (pos month) (pos day)) }
 {
-    365 * year + (year + 3) / 4
+    if month > 12 || day > 31 {
+        return None;
+    }
+    Date::new((2_000 + year) as i16, month as i8, day as i8).ok()
 }
 
-/// The sum of the lengths.
-fn total(lengths: &[u32]) -> u32
-    requires { sum lengths.now < 2 ^ 32 }
-    ensures { result ≡ sum lengths.now }
+/// The number of a date from 2000-01-01 on, which is 0.
+fn number_of(date: Date) -> u32
+    requires { pos 10957 ≤ℤ epoch_day date }
+    ensures { epoch_day date ≡ pos (10957 + result) }
 {
-    lengths.iter().sum()
-}
-
-/// Whether a month has such a day.
-fn is_day(day: u32, month: u32, months: &[u32]) -> bool
-    requires { length months.now ≡ 12 }
-    ensures { result ≡ ((nat_le 1 month && nat_le month 12) && (nat_le 1 day && nat_le day (slice_index months.now (month - 1)))) }
-{
-    (1 <= month && month <= 12) && (1 <= day && day <= months[(month - 1) as usize])
+    (date.to_plain().to_unix_epoch_day() - 10_957) as u32
 }
 
 /// The number of a day of the year 2000 + `year`, 2000-01-01 being 0, or `None` where there is no
 /// such day.
-#[tactic(auto, unfolding(crate::specs::Days::day_of))]
 pub fn day_of(day: u32, month: u32, year: u32) -> Option<u32>
     requires { year < 100 }
     ensures exact { result ≡ day_of day month year }
     ensures small { IfSome result (λ n. n < 36525) }
 {
-    let months = month_lengths(year % 4 == 0);
-    if !is_day(day, month, &months) {
-        return None;
-    }
-    let month_start = total(&months[..(month - 1) as usize]);
-    Some(days_before(year) + month_start + (day - 1))
+    let date = date_on(day, month, year)?;
+    Some(number_of(date))
+}
+
+/// The date that is so many days behind 2000-01-01.
+fn date_after(days: u32) -> Date
+    requires { days < 36525 }
+    ensures { epoch_day result ≡ pos (10957 + days) }
+{
+    date(2_000, 1, 1)
+        .checked_add(i64::from(days).days())
+        .unwrap()
+}
+
+/// The date of a day, counted from 2000-01-01.
+pub(crate) fn date_of(day: u32) -> Date
+    requires { day < 36525 }
+    ensures day { result.day ≡ day_in_month day }
+    ensures day_fits { result.day ≤ 31 }
+    ensures month { result.month ≡ month_of day }
+    ensures month_fits { result.month ≤ 12 }
+    ensures year { result.year ≡ pos (2000 + year_of day) }
+    ensures year_fits { year_of day < 100 }
+{
+    date_after(day)
 }

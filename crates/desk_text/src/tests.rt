@@ -89,10 +89,13 @@ const NUMBERS: [(&str, Result<u32, Cause>); 12] = [
     ("3a", Err(Cause::Number)),
 ];
 
-const DATES: [(&str, Result<u32, Cause>); 21] = [
+const DATES: [(&str, Result<u32, Cause>); 24] = [
     ("01/01/00", Ok(0)),
     ("1/1/2000", Ok(0)),
     ("29/02/00", Ok(59)),
+    ("29/2/2000", Ok(59)),
+    ("29/02/96", Ok(35_123)),
+    ("31/12/00", Ok(365)),
     ("01/03/08", Ok(2982)),
     ("1/3/08", Ok(2982)),
     ("01/03/2008", Ok(2982)),
@@ -115,6 +118,10 @@ const DATES: [(&str, Result<u32, Cause>); 21] = [
 
 #[test]
 fn numbers_and_dates(rt: HostRuntime) {
+    assert_eq!(rt; number(b"999999999", 0, 999_999_999), Ok(999_999_999));
+    assert_eq!(rt; number(b"1000000000", 0, u32::MAX), Err(Cause::Number));
+    assert_eq!(rt; day_of(300, 1, 0), None);
+    assert_eq!(rt; day_of(1, 300, 0), None);
     for (text, expected) in &NUMBERS {
         assert_eq!(rt; number(text.as_bytes(), 3, 2880), *expected, "{text}");
     }
@@ -142,8 +149,26 @@ const TIMES: [(&str, Result<(u32, Option<u32>), Cause>); 16] = [
     ("0805", Err(Cause::Time)),
 ];
 
+const MOMENTS: [(&str, &str, Result<u32, Cause>); 8] = [
+    ("01/01/00", "00:00", Ok(0)),
+    ("01/03/08", "0:00", Ok(4_294_080)),
+    ("31/12/2099", "23:59", Ok(52_595_999)),
+    ("01/01/2100", "24:00", Err(Cause::Date)),
+    ("30/02/08", "00:00", Err(Cause::Date)),
+    ("01/03/08", "24:00", Err(Cause::Time)),
+    ("01/03/08", "00:00+0", Err(Cause::Time)),
+    ("01/03/08", "", Err(Cause::Time)),
+];
+
+fn minutes_of(day: &str, time: &str) -> Result<u32, Cause> {
+    Ok(moment(day.as_bytes(), time.as_bytes())?.0)
+}
+
 #[test]
 fn times(rt: HostRuntime) {
+    for (day, time, expected) in &MOMENTS {
+        assert_eq!(rt; minutes_of(day, time), *expected, "{day} {time}");
+    }
     for (text, expected) in &TIMES {
         assert_eq!(rt; time(text.as_bytes()), *expected, "{text}");
     }
@@ -197,12 +222,14 @@ fn seat_list(text: &str) -> Result<(u32, u32, u32), Cause> {
     Ok((seats.f, seats.b, seats.e))
 }
 
-const SEATS: [(&str, Result<(u32, u32, u32), Cause>); 8] = [
+const SEATS: [(&str, Result<(u32, u32, u32), Cause>); 10] = [
     ("0/20/100", Ok((0, 20, 100))),
     ("999/999/999", Ok((999, 999, 999))),
     ("0001/2/3", Ok((1, 2, 3))),
     ("1000/0/0", Err(Cause::Number)),
+    ("0/1000/0", Err(Cause::Number)),
     ("0/0/1000", Err(Cause::Number)),
+    ("0/0/-1", Err(Cause::Number)),
     ("0/0", Err(Cause::Number)),
     ("0/0/0/0", Err(Cause::Number)),
     ("0//0", Err(Cause::Number)),
@@ -277,6 +304,44 @@ const TEXTS: [(&str, (usize, &str)); 13] = [
     ("1 abcdefghij", (1, "rows")),
     ("\x01 abcdefghijk", (0, "Size")),
 ];
+
+/// What is read of a line that ends with this byte.
+fn read_with(alloc: Global, byte: u8) -> (usize, &'static str) {
+    match read_rows(alloc, &Sample, 12, &[b'1', b' ', b'a', byte]) {
+        Ok(rows) => (rows.len(), "rows"),
+        Err(ReadFault::Refused { line, cause }) => (line as usize, cause.name()),
+        Err(ReadFault::Memory) => (0, "memory"),
+    }
+}
+
+#[test]
+fn bytes_that_may_stand_in_a_line(rt: HostRuntime) {
+    for byte in 0..=255_u8 {
+        let ends_the_line = byte == b'\n' || byte == b'\r';
+        let stands = byte == b' ' || byte == b'\t' || (b'!' <= byte && byte <= b'~');
+        assert_eq!(rt; are_text(&[b'a', byte]), stands, "{byte}");
+        let expected = if stands || ends_the_line {
+            (1, "rows")
+        } else {
+            (1, "Byte")
+        };
+        assert_eq!(rt; read_with(rt.alloc(), byte), expected, "{byte}");
+    }
+}
+
+#[test]
+fn faults_are_printed(rt: HostRuntime) -> Result<(), Fail> {
+    let fault = ReadFault::Refused {
+        line: 12,
+        cause: Cause::NoDistance,
+    };
+    let text = format!(in rt.alloc(); "{fault}; {}", ReadFault::Memory)?;
+    assert_eq!(rt;
+        text.as_str(),
+        "line 12 is refused: NoDistance; out of memory"
+    );
+    Ok(())
+}
 
 #[test]
 fn rows_or_the_first_line_that_is_refused(rt: HostRuntime) {

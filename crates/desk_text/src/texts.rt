@@ -1,72 +1,13 @@
 //! What days, moments and numbers are written as.
 
-ghost use Rattle.std.specs.Prelude.{◌≡◌, ℕ, ◌+◌, ◌*◌, ◌<◌, ◌≤◌, ◌++◌, length, sum, take, slice_index, decimal, OnOk, OnErr, Some};
+ghost use Rattle.std.specs.Prelude.{◌≡◌, ℕ, ◌<◌, ◌++◌, decimal, OnOk, OnErr, Some};
 ghost use Rattle.std.specs.List.{flat_map};
-ghost use Rattle.desk_text.specs.Days.{day_of, days_before};
-ghost use Rattle.desk_text.specs.Texts.{year_of, day_in_year, months_passed, month_of, day_in_month, two_digits, date_text, time_text, moment_text};
+ghost use Rattle.desk_text.specs.Days.{day_of};
+ghost use Rattle.desk_text.specs.Texts.{year_of, month_of, day_in_month, two_digits, date_text, time_text, moment_text};
 
-use crate::days::{days_before, month_lengths};
+use crate::days::date_of;
 use desk_units::{Minute, NoMem};
 use itoa::Buffer;
-
-/// The parts of a date: the day of the month and the month, both from 1, and the year from 2000.
-#[derive(Clone, Copy)]
-struct Date {
-    day: u32,
-    month: u32,
-    year: u32,
-}
-
-/// The year of a day, counted from 2000. Four years, the first of them a leap year, have 1,461 days.
-fn year_of(day: u32) -> u32
-    requires { day < 36525 }
-    ensures exact { result ≡ year_of day }
-    ensures in_century { result < 100 }
-    ensures begun { days_before result ≤ day }
-    ensures not_over { day < days_before (result + 1) }
-{
-    4 * day / 1_461
-}
-
-/// How many of the months have passed on a day of their year, and how many days of the next one.
-fn split_by_months(day: u32, months: &[u32]) -> (u32, u32)
-    requires twelve { length months.now ≡ 12 }
-    requires in_year { day < sum months.now }
-    ensures month { result.0 < 12 }
-    ensures day { sum (take result.0 months.now) + result.1 ≡ day }
-    ensures within { result.1 < slice_index months.now result.0 }
-{
-    let mut passed = 0;
-    let mut left = day;
-    for length in months {
-        if left < *length {
-            break;
-        }
-        left -= *length;
-        passed += 1;
-    }
-    (passed, left)
-}
-
-/// The date of a day.
-fn date_of(day: u32) -> Date
-    requires { day < 36525 }
-    ensures day { result.day ≡ day_in_month day }
-    ensures day_fits { result.day ≤ 31 }
-    ensures month { result.month ≡ month_of day }
-    ensures month_fits { result.month ≤ 12 }
-    ensures year { result.year ≡ year_of day }
-    ensures year_fits { result.year < 100 }
-{
-    let year = year_of(day);
-    let months = month_lengths(year % 4 == 0);
-    let (passed, left) = split_by_months(day - days_before(year), &months);
-    Date {
-        day: left + 1,
-        month: passed + 1,
-        year,
-    }
-}
 
 /// A number below 100 in two digits.
 #[inline]
@@ -84,9 +25,9 @@ pub fn date_text(day: u32) -> [u8; 8]
     ensures { result ≡ date_text day }
 {
     let date = date_of(day);
-    let day = two_digits(date.day);
-    let month = two_digits(date.month);
-    let year = two_digits(date.year);
+    let day = two_digits(date.day() as u32);
+    let month = two_digits(date.month() as u32);
+    let year = two_digits((date.year() - 2_000) as u32);
     [
         day[0], day[1], b'/', month[0], month[1], b'/', year[0], year[1],
     ]

@@ -11,7 +11,7 @@ fn refused<Row: Drop>(read: Result<Vec<Row>, ReadFault>) -> (u32, &'static str) 
     }
 }
 
-const AIRCRAFT: [(&str, u32, &str); 39] = [
+const AIRCRAFT: [(&str, u32, &str); 49] = [
     ("", 0, ""),
     ("P1 M1 NB 0/0/10 600 100 30 20 AAA NULL", 0, ""),
     (
@@ -46,6 +46,10 @@ const AIRCRAFT: [(&str, u32, &str); 39] = [
         1,
         "Byte",
     ),
+    ("P1 M1 NB 0/0/10 600 100 30 20 AAA NULL\0", 1, "Byte"),
+    ("P1 M1 NB 0/0/10 600 100 30 20 AAA NULL \u{80}", 1, "Byte"),
+    ("P1 M1 NB 0/0/10 600 100 30 20 AAA\rNULL", 1, "Byte"),
+    ("P1", 1, "Fields"),
     ("P1 M1 NB 0/0/10 600 100 30 20 AAA", 1, "Fields"),
     (
         "abcdefghijklmnopqrstuvwxyz0123456 M1 NB 0/0/10 600 100 30 20 AAA",
@@ -73,12 +77,19 @@ const AIRCRAFT: [(&str, u32, &str); 39] = [
         1,
         "Number",
     ),
+    ("P1 M1 NB 1000/0/0 600 100 30 20 AAA NULL", 1, "Number"),
+    ("P1 M1 NB 0/1000/0 600 100 30 20 AAA NULL", 1, "Number"),
     ("P1 M1 NB 0/0/1000 600 100 30 20 AAA NULL", 1, "Number"),
     ("P1 M1 NB 0/0/10 100001 100 30 20 AAA NULL", 1, "Number"),
     ("P1 M1 NB 0/0/10 -1 100 30 20 AAA NULL", 1, "Number"),
     ("P1 M1 NB 0/0/10 600 1.23456 30 20 AAA NULL", 1, "Number"),
     ("P1 M1 NB 0/0/10 600 1234567890 30 20 AAA NULL", 1, "Number"),
     ("P1 M1 NB 0/0/10 600 100 2881 20 AAA NULL", 1, "Number"),
+    (
+        "P1 M1 NB 0/0/10 600 100 0000000030 20 AAA NULL",
+        1,
+        "Number",
+    ),
     ("P1 M1 NB 0/0/10 600 100 30 2881 AAA NULL", 1, "Number"),
     ("P1 M1 NB 0/0/10 600 100 30 x AAA x", 1, "Number"),
     (
@@ -105,6 +116,16 @@ const AIRCRAFT: [(&str, u32, &str); 39] = [
     ),
     (
         "P1 M1 NB 0/0/10 600 100 30 20 AAA A-30/02/08-x-01/03/08-13:00-120",
+        1,
+        "Date",
+    ),
+    (
+        "P1 M1 NB 0/0/10 600 100 30 20 AAA A-29/02/00-11:00-29/02/01-13:00-120",
+        1,
+        "Date",
+    ),
+    (
+        "P1 M1 NB 0/0/10 600 100 30 20 AAA A-01/03/08-11:00-31/12/2100-13:00-120",
         1,
         "Date",
     ),
@@ -139,6 +160,11 @@ const AIRCRAFT: [(&str, u32, &str); 39] = [
         "Number",
     ),
     (
+        "P1 M1 NB 0/0/10 600 100 30 20 AAA A-01/03/08-11:00-01/03/08-24:00-120",
+        1,
+        "Time",
+    ),
+    (
         "P1 M1 NB 0/0/10 600 100 30 20 AAA A-01/03/08-11:00-01/03/08-13:00-120-",
         1,
         "Date",
@@ -154,7 +180,7 @@ fn aircraft_are_read_or_refused_at_a_line(rt: HostRuntime) {
     }
 }
 
-const POSITIONS: [(&str, u32, &str); 23] = [
+const POSITIONS: [(&str, u32, &str); 28] = [
     ("", 0, ""),
     ("AAA M1 0/0/10 1", 0, ""),
     (
@@ -170,6 +196,8 @@ const POSITIONS: [(&str, u32, &str); 23] = [
     ("AAA M1 0/0/10 1\n#\nBBB", 0, ""),
     ("AAA M1 0/0/10 1 \x7f", 1, "Byte"),
     ("AAA \x01", 1, "Byte"),
+    ("AAA M1 0/0/10 1\0", 1, "Byte"),
+    ("AAA M1\r0/0/10 1", 1, "Byte"),
     ("AAA", 1, "Fields"),
     ("abcdefghijklmnopqrstuvwxyz0123456 M1", 1, "Fields"),
     ("AAA M1 0/0/10", 1, "Fields"),
@@ -178,7 +206,10 @@ const POSITIONS: [(&str, u32, &str); 23] = [
     ("AAA M1 0/0/10 1\n \nBBB M1 0/0/10 1 M1", 3, "Fields"),
     ("abcdefghijklmnopqrstuvwxyz0123456 M1 x 1", 1, "Size"),
     ("AAA abcdefghijklmnopqrstuvwxyz0123456 x 1", 1, "Size"),
+    ("AAA M1 1000/0/0 1", 1, "Number"),
     ("AAA M1 0/0/1000 1", 1, "Number"),
+    ("AAA M1 0/0/10 0000000001", 1, "Number"),
+    ("AAA M1 0/0/10 x x", 1, "Fields"),
     ("AAA M1 0/0/10/0 1", 1, "Number"),
     ("AAA M1 0/0/10 1001", 1, "Number"),
     ("AAA M1 0/0/10 -1", 1, "Number"),
@@ -219,5 +250,20 @@ fn a_maintenance_is_read_from_behind(rt: HostRuntime) -> Result<(), Fail> {
     assert_eq!(rt; maint.from, Minute(4_294_740));
     assert_eq!(rt; maint.to, Minute(4_296_300));
     assert_eq!(rt; maint.minutes, 120);
+    Ok(())
+}
+
+#[test]
+fn files_of_the_most_bytes(rt: HostRuntime) -> Result<(), Fail> {
+    let mut text = vec![in rt.alloc(); b'#'; 67_108_864]?;
+    assert_eq!(rt; read_aircraft(rt.alloc(), &text).err(), None);
+    assert_eq!(rt; read_position(rt.alloc(), &text).err(), None);
+    text.push(b'#')?;
+    let refused = Some(ReadFault::Refused {
+        line: 0,
+        cause: Cause::Size,
+    });
+    assert_eq!(rt; read_aircraft(rt.alloc(), &text).err(), refused);
+    assert_eq!(rt; read_position(rt.alloc(), &text).err(), refused);
     Ok(())
 }

@@ -59,7 +59,7 @@ fn shown_flights(alloc: Global, text: &str) -> Result<Vec<u8>, NoMem> {
     Ok(out)
 }
 
-const FLIGHTS: [(&str, &str); 50] = [
+const FLIGHTS: [(&str, &str); 57] = [
     ("", ""),
     (
         "F1 AAA BBB 08:00 09:00 0\nF2 BBB AAA 09:30 10:30 F1\n",
@@ -86,6 +86,10 @@ const FLIGHTS: [(&str, &str); 50] = [
         "F A B 8:00 9:00 abcdefghijklmnopqrstuvwxyz-123456",
         "1 Size",
     ),
+    (
+        "F abcdefghijklmnopqrstuvwxyz-12345 abcdefghijklmnopqrstuvwxyz-12345 8:00 9:00 abcdefghijklmnopqrstuvwxyz-12345",
+        "1 F abcdefghijklmnopqrstuvwxyz-12345 abcdefghijklmnopqrstuvwxyz-12345 480 540 abcdefghijklmnopqrstuvwxyz-12345 |",
+    ),
     ("F A B 8:00 9:00 00", "1 F A B 480 540 00 |"),
     ("0 0 0 0:00 0:01 0", "1 0 0 0 0 1 - |"),
     // the departure
@@ -97,6 +101,7 @@ const FLIGHTS: [(&str, &str); 50] = [
     ("F A B 00:10+0 01:00 0", "1 F A B 10 60 - |"),
     ("F A B 00:10+1 01:00 0", "1 F A B 1450 1500 - |"),
     ("F A B 23:59+9 00:00 0", "1 F A B 14399 14400 - |"),
+    ("F A B 23:59 00:00 0", "1 F A B 1439 1440 - |"),
     // the arrival without days
     ("F A B 08:00 24:00 0", "1 Time"),
     ("F A B 08:00 9:00x 0", "1 Time"),
@@ -115,6 +120,8 @@ const FLIGHTS: [(&str, &str); 50] = [
     ("F A B 08:00+1 08:00+1 0", "1 Time"),
     ("F A B 08:00+1 08:01+1 0", "1 F A B 1920 1921 - |"),
     ("F A B 08:00+9 09:00+9 0", "1 F A B 13440 13500 - |"),
+    ("F A B 08:00 24:00+0 0", "1 Time"),
+    ("F A B 08:00 09:00+ 0", "1 Time"),
     // fields and bytes
     ("F A B 08:00 09:00", "1 Fields"),
     ("F", "1 Fields"),
@@ -123,10 +130,13 @@ const FLIGHTS: [(&str, &str); 50] = [
     ("F A B 08:00 09:00 0 \x7f", "1 Byte"),
     ("\x1f", "1 Byte"),
     ("F A B 08:00 09:00\x0b 0", "1 Byte"),
+    ("F A\0 B 08:00 09:00 0", "1 Byte"),
+    ("F A B 08:00 09:00 0 \u{80}", "1 Byte"),
     // the first cause from the left
     ("abcdefghijklmnopqrstuvwxyz-123456 A B 8 9 0", "1 Size"),
     ("F A B 8 9 abcdefghijklmnopqrstuvwxyz-123456", "1 Time"),
     ("F A B 8:00 9 abcdefghijklmnopqrstuvwxyz-123456", "1 Time"),
+    ("F abcdefghijklmnopqrstuvwxyz-123456 B 8 9 0", "1 Size"),
     // lines
     (
         "\r\n\tF\tA  B 08:00 09:00 0\t\r\n\r\n",
@@ -175,7 +185,7 @@ fn shown_rotations(alloc: Global, text: &str) -> Result<Vec<u8>, NoMem> {
     Ok(out)
 }
 
-const ROTATIONS: [(&str, &str); 26] = [
+const ROTATIONS: [(&str, &str); 33] = [
     ("", ""),
     (
         "F1 01/03/08 P1\nF2 2/3/2008 P2",
@@ -188,12 +198,18 @@ const ROTATIONS: [(&str, &str); 26] = [
     ),
     ("abcdefghijklmnopqrstuvwxyz-123456 01/03/08 P", "1 Size"),
     ("F 01/03/08 abcdefghijklmnopqrstuvwxyz-123456", "1 Size"),
+    (
+        "abcdefghijklmnopqrstuvwxyz-12345 1/1/00 P",
+        "1 abcdefghijklmnopqrstuvwxyz-12345 0 P |",
+    ),
     ("F 31/12/99 P", "1 F 36524 P |"),
     ("F 31/12/2099 P", "1 F 36524 P |"),
     ("F 01/01/2100 P", "1 Date"),
     ("F 31/12/1999 P", "1 Date"),
     ("F 00/03/08 P", "1 Date"),
     ("F 31/04/08 P", "1 Date"),
+    ("F 29/02/00 P", "1 F 59 P |"),
+    ("F 29/02/01 P", "1 Date"),
     ("F 29/02/08 P", "1 F 2981 P |"),
     ("F 29/02/09 P", "1 Date"),
     ("F 01/13/08 P", "1 Date"),
@@ -204,9 +220,13 @@ const ROTATIONS: [(&str, &str); 26] = [
     ("F 01/03/08 P more ~!", "1 F 2982 P |"),
     ("F 01/03/08 P \x7f", "1 Byte"),
     ("F \x1f", "1 Byte"),
+    ("F 01/03/08 P\0", "1 Byte"),
+    ("F 01/03/08\rP", "1 Byte"),
+    ("F", "1 Fields"),
     // the first cause from the left
     ("abcdefghijklmnopqrstuvwxyz-123456 99/99/99 P", "1 Size"),
     ("F 99/99/99 abcdefghijklmnopqrstuvwxyz-123456", "1 Date"),
+    ("F 99/99/99 P \x7f", "1 Byte"),
     // lines
     ("\n\t \r\nF\t01/03/08 \tP\t\r\n", "3 F 2982 P |"),
     ("F 01/03/08 P\n\nF 1/3 P\nF", "3 Date"),
@@ -223,12 +243,9 @@ fn rotations(rt: HostRuntime) -> Result<(), Fail> {
     Ok(())
 }
 
-/// The most bytes that a file may have.
-const MOST: usize = 67_108_864;
-
 #[test]
 fn files_of_the_most_bytes(rt: HostRuntime) -> Result<(), Fail> {
-    let mut text = vec![in rt.alloc(); b'#'; MOST]?;
+    let mut text = vec![in rt.alloc(); b'#'; 67_108_864]?;
     assert_eq!(rt; read_flights(rt.alloc(), &text).err(), None);
     assert_eq!(rt; read_rotations(rt.alloc(), &text).err(), None);
     text.push(b'#')?;

@@ -1,9 +1,10 @@
 use super::*;
+use desk_text::MOST_BYTES;
 use std::alloc::{AllocError, Global};
 use std::test::Fail;
 
 /// Texts, and the line and the cause of their refusal, or `None` where they are read.
-const CONFIG: [(&str, Option<(u32, Cause)>); 25] = [
+const CONFIG: [(&str, Option<(u32, Cause)>); 29] = [
     ("01/03/08 06:00 02/03/08 06:00\n", None),
     ("01/03/08 06:00 02/03/08 06:00", None),
     ("1/3/2008\t6:00  2/3/08 \t06:00\r\n", None),
@@ -35,6 +36,13 @@ const CONFIG: [(&str, Option<(u32, Cause)>); 25] = [
         "01/03/08 06:00 02/03/08 06:00\r\r\n",
         Some((1, Cause::Byte)),
     ),
+    ("01/03/08 06:00 02/03/08 06:00\0", Some((1, Cause::Byte))),
+    (
+        "x x x\n01/03/08 06:00 02/03/08 06:00\n",
+        Some((1, Cause::Fields)),
+    ),
+    ("29/02/00 23:59 29/02/2000 23:59\n", None),
+    ("29/02/01 24:00 02/03/08 06:00\n", Some((1, Cause::Date))),
     ("30/02/08 24:00 02/03/08 06:00\n", Some((1, Cause::Date))),
     ("01/03/2100 06:00 02/03/08 06:00\n", Some((1, Cause::Date))),
     ("01/03/08 24:00 32/03/08 06:00\n", Some((1, Cause::Time))),
@@ -54,7 +62,7 @@ fn the_window_is_read_or_refused_at_a_line(rt: HostRuntime) {
     }
 }
 
-const AIRPORTS: [(&str, Option<(u32, Cause)>); 33] = [
+const AIRPORTS: [(&str, Option<(u32, Cause)>); 38] = [
     ("", None),
     ("AAA 10 10 00:00 24:00\nBBB 10 10 00:00 24:00\n", None),
     (
@@ -68,6 +76,15 @@ const AIRPORTS: [(&str, Option<(u32, Cause)>); 33] = [
     ("#AAA\n", None),
     ("AAA 10 10 00:00 24:00\n#\nBBB\n", None),
     ("AAA 10 10 00:00 24:00\nAAA 10 10 00:00 24:00\n", None),
+    ("AAA 000000010 10 00:00 0:00\n", None),
+    (
+        "AAA 10 10 00:00 24:00 10 10 24:00\n",
+        Some((1, Cause::Fields)),
+    ),
+    (
+        "abcdefghijklmnopqrstuvwxyz!~#0123\n",
+        Some((1, Cause::Fields)),
+    ),
     ("AAA\n", Some((1, Cause::Fields))),
     ("AAA x 10 25:00\n", Some((1, Cause::Fields))),
     ("AAA 10 10 00:00 24:00 10\n", Some((1, Cause::Fields))),
@@ -97,6 +114,8 @@ const AIRPORTS: [(&str, Option<(u32, Cause)>); 33] = [
     ("AAA 10 10 24:00 24:00\n", Some((1, Cause::Time))),
     ("AAA 10 10 00:00+1 24:00\n", Some((1, Cause::Time))),
     ("AAA 10 10 00:00 24:01\n", Some((1, Cause::Time))),
+    ("AAA 10 10 00:00 24:00+1\n", Some((1, Cause::Time))),
+    ("AAA 10 10 x 10 \u{80}\n", Some((1, Cause::Byte))),
     ("AAA 10 10 00:00 024:00\n", Some((1, Cause::Time))),
     ("AAA 10 10 00:00 24:00+0\n", Some((1, Cause::Time))),
     ("AAA 10 10 00:00 06:00+0\n", Some((1, Cause::Time))),
@@ -126,12 +145,18 @@ fn airports_are_read_or_refused_at_a_line(rt: HostRuntime) {
     }
 }
 
-const DIST: [(&str, Option<(u32, Cause)>); 24] = [
+const DIST: [(&str, Option<(u32, Cause)>); 27] = [
     ("", None),
     ("AAA BBB 60 D\nBBB AAA 75 C\nAAA CCC 90 I\n", None),
     ("AAA\tBBB 000000060 D\r\n\n\t\r\nAAA BBB 60 D \r", None),
     ("AAA BBB 0 D D ~ 61\n", None),
     ("AAA BBB 100000 I", None),
+    (
+        "abcdefghijklmnopqrstuvwxyz012345 abcdefghijklmnopqrstuvwxyz012345 1 C",
+        None,
+    ),
+    ("AAA BBB 60 D\0\n", Some((1, Cause::Byte))),
+    ("AAA BBB 60 x \u{1f}\n", Some((1, Cause::Byte))),
     ("AAA AAA 60 D\n#\nx\n", None),
     ("AAA BBB 60\n", Some((1, Cause::Fields))),
     ("AAA\n", Some((1, Cause::Fields))),
