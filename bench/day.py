@@ -1,12 +1,17 @@
 #!/usr/bin/env python3
 """Writes a large day and times the built desk on it.
 
-Usage: bench/day.py [LEGS]      LEGS, a multiple of 20, is 20,000 where it is left out
+Usage: bench/day.py [LEGS]      LEGS, a multiple of 40, is 20,000 where it is left out
 
-Each aircraft flies 20 legs there and back between two airports. Each day is run twice: with a
-journal whose one line names a leg that is not there, so that the run ends when all is read and
-joined; and with an empty journal, so that the schedule is checked and written too. The first day has
-no legs, so that the start of the program can be told apart.
+A day of 20,000 legs has 1,000 aircraft, 500 airports, 250,000 rows of distances and 10,000 groups of
+positions; other days have as many less. Each aircraft flies 20 legs there and back between two
+airports. The day, one of half its rows and one of no rows are run with a journal whose one line names
+a leg that is not there, so that a run ends when all is read and joined; and the first two with an
+empty journal, so that the schedule is checked and written too. The day of no rows tells the start of
+the program apart. The desk runs on one processor.
+
+The last lines say how many bytes a second were read and joined, and how much longer twice the rows
+took. The status is 1 where that is less than 40 MB a second, or more than 2.3 times as long.
 """
 import os
 import subprocess
@@ -16,55 +21,91 @@ import time
 
 TOP = os.path.dirname(os.path.dirname(os.path.abspath(__file__)))
 PROGRAM = os.path.join(TOP, "crates", "desk_top", "out", "desk_top")
-PER_AIRCRAFT = 20
-
-
+LEGS_OF_AIRCRAFT = 20
 UNKNOWN = "1,move,set F0 02/03/08 - -\n"
+LEAST_RATE = 40.0
+MOST_RATIO = 2.3
 
 
-def write_day(folder, legs, proposal):
-    planes = legs // PER_AIRCRAFT
-    airports = ["A%03d" % (i % 250) for i in range(planes)]
-    with open(os.path.join(folder, "flights.csv"), "w") as flights, \
-            open(os.path.join(folder, "rotations.csv"), "w") as rotations, \
-            open(os.path.join(folder, "aircraft.csv"), "w") as aircraft:
-        for p in range(planes):
-            home, away = airports[p], "B" + airports[p][1:]
-            aircraft.write("P%d M1 NB 0/0/150 600 1000 20 20 %s NULL\n" % (p, home))
-            for k in range(PER_AIRCRAFT):
-                dep = 65 * k
-                ends = (home, away) if k % 2 == 0 else (away, home)
-                flight = "F%d" % (p * PER_AIRCRAFT + k)
-                flights.write("%s %s %s %02d:%02d %02d:%02d 0\n" % (
-                    flight, ends[0], ends[1], dep // 60, dep % 60, (dep + 40) // 60, (dep + 40) % 60))
-                rotations.write("%s 01/03/08 P%d\n" % (flight, p))
-    with open(os.path.join(folder, "journal.csv"), "w") as journal:
-        journal.write(proposal)
-    names = ("flights.csv", "rotations.csv", "aircraft.csv")
-    return sum(os.path.getsize(os.path.join(folder, name)) for name in names)
+def airports_of(legs):
+    pairs = legs // 80
+    return ["A%03d" % i for i in range(pairs)] + ["B%03d" % i for i in range(pairs)]
 
 
-def run(legs, what, proposal):
+def schedule_of(legs, airports):
+    """The lines of flights.csv, rotations.csv and aircraft.csv."""
+    flights, rotations, aircraft = [], [], []
+    for p in range(legs // LEGS_OF_AIRCRAFT):
+        home = airports[p % (len(airports) // 2)]
+        away = "B" + home[1:]
+        aircraft.append("P%d M1 NB 0/0/150 600 1000 20 20 %s NULL" % (p, home))
+        for k in range(LEGS_OF_AIRCRAFT):
+            dep = 65 * k
+            ends = (home, away) if k % 2 == 0 else (away, home)
+            flight = "F%d" % (p * LEGS_OF_AIRCRAFT + k)
+            flights.append("%s %s %s %02d:%02d %02d:%02d 0" % (
+                flight, ends[0], ends[1], dep // 60, dep % 60, (dep + 40) // 60, (dep + 40) % 60))
+            rotations.append("%s 01/03/08 P%d" % (flight, p))
+    return flights, rotations, aircraft
+
+
+def distances_of(rows, airports):
+    """So many rows over all ordered pairs, again and again; the first row of a pair counts."""
+    n = len(airports)
+    return ["%s %s %d D" % (airports[i // n % n], airports[i % n], 40 + i % 600) for i in range(rows)]
+
+
+def day_of(legs):
+    """The text of each file but the journal."""
+    airports = airports_of(legs)
+    flights, rotations, aircraft = schedule_of(legs, airports)
+    groups = " ".join("M%d 0/0/150 1" % i for i in range(20))
+    lines = {
+        "config.csv": ["01/03/08 00:00 03/03/08 00:00"],
+        "flights.csv": flights,
+        "rotations.csv": rotations,
+        "aircraft.csv": aircraft,
+        "airports.csv": ["%s 100 100 00:00 24:00" % a for a in airports],
+        "dist.csv": distances_of(legs * 25 // 2, airports),
+        "position.csv": ["%s %s" % (a, groups) for a in airports],
+    }
+    return {name: "".join(line + "\n" for line in of) for name, of in lines.items()}
+
+
+def run(legs, what, journal):
+    """The bytes of the day, and the shortest time of five runs."""
     with tempfile.TemporaryDirectory() as folder:
         into = os.path.join(folder, "out")
         os.mkdir(into)
-        size = write_day(folder, legs, proposal)
+        size = 0
+        for name, text in dict(day_of(legs), **{"journal.csv": journal}).items():
+            with open(os.path.join(folder, name), "w") as file:
+                file.write(text)
+            size += len(text)
         best = None
-        for _ in range(3):
+        for _ in range(5):
             start = time.perf_counter()
             done = subprocess.run([PROGRAM, "replay", folder, into], capture_output=True, text=True)
             took = time.perf_counter() - start
             best = took if best is None else min(best, took)
         print("%6d legs, %8d bytes, %s: %7.3f s, status %d: %s"
               % (legs, size, what, best, done.returncode, done.stdout.strip().replace("\n", "; ")))
+        return size, best
 
 
 def main():
     legs = int(sys.argv[1]) if len(sys.argv) > 1 else 20000
-    for n in (0, legs // 2, legs):
-        run(n, "read and joined", UNKNOWN)
-        run(n, "and checked", "")
+    _, nothing = run(0, "read and joined", "")
+    _, half = run(legs // 2, "read and joined", UNKNOWN)
+    size, whole = run(legs, "read and joined", UNKNOWN)
+    run(legs // 2, "and checked", "")
+    run(legs, "and checked", "")
+    rate = size / 1e6 / (whole - nothing)
+    ratio = (whole - nothing) / (half - nothing)
+    print("%.1f MB a second read and joined (at least %.0f)" % (rate, LEAST_RATE))
+    print("%.2f times as long for twice the rows (at most %.1f)" % (ratio, MOST_RATIO))
+    return 0 if rate >= LEAST_RATE and ratio <= MOST_RATIO else 1
 
 
 if __name__ == "__main__":
-    main()
+    sys.exit(main())

@@ -17,11 +17,11 @@ use Rattle.desk_replay.specs.Runs.{World, Tells, Did, HasCause, IsUntouched, Rep
 use Rattle.desk_replay.specs.Causes.{IsUnlessMemory, plan_status, done_status, IsDoneWith, IsRefused, HasFault, IsReadable, IsFaultless, Answers}
 
 -- what the command says of a run before its fault's line
-abbrev EndsBy : Option Directories → World → World → Ending → Type 0
+abbrev pub EndsBy : Option Directories → World → World → Ending → Type 0
 EndsBy dirs before now how = MatchOption dirs ((how ≡ ending.Usage) × IsUntouched before now) (λ dirs. Replays dirs before now how)
 
 -- the status is that of the ending, or memory ran out while the line was put
-status_cases : (how : Ending) (answer : Result (Unit {0}) FolderFault) (code : ℕ) → code ≡ status_after how answer → (code ≡ status_of how) ⊎ (code ≡ 6)
+pub status_cases : (how : Ending) (answer : Result (Unit {0}) FolderFault) (code : ℕ) → code ≡ status_after how answer → (code ≡ status_of how) ⊎ (code ≡ 6)
 status_cases how (Ok done) code e = inl e
 status_cases how (Err fault.Failed) code e = inl e
 status_cases how (Err fault.Memory) code e = inr e
@@ -106,7 +106,7 @@ refused_line sink before now r answer silent line = subst (λ (s : SinkSide). Pu
 refused_by : (dirs : Directories) (before now : World) (sink : SinkSide) (x : Inputs) (how : Ending) (answer : Result (Unit {0}) FolderFault) → status_of how ≡ 3 → Tells before.folder x → Replays dirs before (record { folder = now.folder; sink = sink }) how → PutsReport sink now.sink (fault_text how) answer → IsRefused before now x
 refused_by dirs before now sink x (ending.Refused r) answer e tells run line =
     let did = run.did x tells in
-    record { refusal = r; first = did.0; rotations = did.1.rotations; journal = did.1.journal; answer = answer; line = refused_line sink before.sink now.sink r answer run.silent line }
+    record { refusal = r; first = did.0; rotations = did.1.rotations; journal = did.1.journal; answer = answer; line = refused_line sink before.sink now.sink r answer run.silent.sink line }
 refused_by dirs before now sink x ending.Done answer e tells run line = absurd (omega arith)
 refused_by dirs before now sink x ending.NoPlan answer e tells run line = absurd (omega arith)
 refused_by dirs before now sink x ending.Usage answer e tells run line = absurd (omega arith)
@@ -130,7 +130,7 @@ refused-of words before now code run x tells is =
 -- ---- faults of the outside
 
 -- a count that rose before the fault's line was put has risen after it
-cause_after : (before now : World) (sink : SinkSide) (how : Ending) → sink.faults ≤ now.sink.faults → HasCause before (record { folder = now.folder; sink = sink }) how → HasCause before now how
+pub cause_after : (before now : World) (sink : SinkSide) (how : Ending) → sink.faults ≤ now.sink.faults → HasCause before (record { folder = now.folder; sink = sink }) how → HasCause before now how
 cause_after before now sink ending.PlaceFault kept h = h
 cause_after before now sink (ending.ReadFault f) kept h = h
 cause_after before now sink (ending.WriteFault f) kept h = h

@@ -11,6 +11,7 @@ use Rattle.desk_folder.specs.Outside.{Outside, SinkSide, Directories, PlacesOnly
 use Rattle.desk_folder.specs.Calls.{AppendsPrefix, Rose, Names}
 use Rattle.desk_data.specs.declared.broken.Broken.{Broken}
 use Rattle.desk_data.specs.Situation.{Situation}
+use Rattle.desk_model.specs.declared.answer.Entry.{Entry}
 use Rattle.desk_model.specs.States.{State, opening}
 use Rattle.desk_model.specs.Histories.{AreAskable, IsLegal, run, state}
 use Rattle.desk_model.proofs.StateLaws.{opening-inst}
@@ -96,6 +97,29 @@ headline before now s runs w = record {
   no_rotations = λ some. appends_nothing (before.folder.written file.SolRotations) (now.folder.written file.SolRotations)
       (subst (λ (t : List ℕ). Appends (before.folder.written file.SolRotations) (now.folder.written file.SolRotations) t) (no_rotations_of s some) w.rotations);
 }
+
+-- and what was written, from the headline of the story's history
+appends_all : (before now : Option (List ℕ)) → Keeps before now → Appends before now []
+appends_all None now h = tt
+appends_all (Some xs) None h = h
+appends_all (Some xs) (Some ys) h = h ∙ sym (append-nil xs)
+
+written_rotations : (before now : World) (s : Story) (o : Option Broken) → (state (opening s.day) (history s)).broken ≡ o → Headline before now s (history s) → Appends (before.folder.written file.SolRotations) (now.folder.written file.SolRotations) (texts_of s).rotations
+written_rotations before now s None is h = subst (λ (t : List ℕ). Appends (before.folder.written file.SolRotations) (now.folder.written file.SolRotations) t) (sym (rotations_of_plan s is)) (h.rotations is)
+written_rotations before now s (Some item) is h =
+    let some : IsSome (state (opening s.day) (history s)).broken = subst (λ (o : Option Broken). IsSome o) (sym is) refl in
+    subst (λ (t : List ℕ). Appends (before.folder.written file.SolRotations) (now.folder.written file.SolRotations) t) (sym (no_rotations_of s some))
+    (appends_all (before.folder.written file.SolRotations) (now.folder.written file.SolRotations) (h.no_rotations some))
+
+written_by : (before now : World) (s : Story) → Headline before now s (history s) → IsWritten before now (texts_of s)
+written_by before now s h = record {
+  rotations = written_rotations before now s (state (opening s.day) (history s)).broken refl h;
+  journal = subst (λ (t : List ℕ). Appends (before.folder.written file.Journal) (now.folder.written file.Journal) t) (sym (texts_journal s)) h.journal;
+  sink = subst (λ (t : List ℕ). Appends before.sink.written now.sink.written t) (sym (texts_report s)) h.reported;
+}
+
+pub written-of : (before now : World) (s : Story) (h : List Entry) → Headline before now s h → IsWritten before now (texts_of s)
+written-of before now s h told = written_by before now s (subst (λ (h : List Entry). Headline before now s h) (told.events ∙ sym (history_is s)) told)
 
 -- ---- from the world before the reading
 
@@ -217,9 +241,13 @@ read_on (Some bytes) mid now e h = e ∙ h
 
 are_read_from : (before mid now : Outside) → ((f : File) → now.left f ≡ mid.left f) → AreRead before mid → AreRead before now
 are_read_from before mid now same h = record {
+  config = read_on (before.left file.Config) (mid.left file.Config) (now.left file.Config) (same file.Config) h.config;
   flights = read_on (before.left file.Flights) (mid.left file.Flights) (now.left file.Flights) (same file.Flights) h.flights;
   rotations = read_on (before.left file.Rotations) (mid.left file.Rotations) (now.left file.Rotations) (same file.Rotations) h.rotations;
   aircraft = read_on (before.left file.Aircraft) (mid.left file.Aircraft) (now.left file.Aircraft) (same file.Aircraft) h.aircraft;
+  airports = read_on (before.left file.Airports) (mid.left file.Airports) (now.left file.Airports) (same file.Airports) h.airports;
+  dist = read_on (before.left file.Dist) (mid.left file.Dist) (now.left file.Dist) (same file.Dist) h.dist;
+  position = read_on (before.left file.Position) (mid.left file.Position) (now.left file.Position) (same file.Position) h.position;
   journal = read_on (before.left file.Journal) (mid.left file.Journal) (now.left file.Journal) (same file.Journal) h.journal;
 }
 
@@ -253,6 +281,7 @@ replays-finished dirs before mid now sink sink' s how p runs h = record {
   named = named_from dirs before mid now sink sink' s how p h.only.directories;
   read = read_whole_from before now sink sink' how (are_read_from before mid now h.only.left p.read);
   silent = silent_from before mid now sink sink' s how h.told;
+  kept = h.kept;
   others = λ f a b. h.only.written f a b ∙ p.written f;
 }
 
@@ -263,9 +292,13 @@ named_by (Some was) now dirs ok h = h
 
 tells_after : (before placed : Outside) (x : Inputs) → ((f : File) → placed.left f ≡ before.left f) → Tells before x → Tells placed x
 tells_after before placed x same h = record {
+  config = same file.Config ∙ h.config;
   flights = same file.Flights ∙ h.flights;
   rotations = same file.Rotations ∙ h.rotations;
   aircraft = same file.Aircraft ∙ h.aircraft;
+  airports = same file.Airports ∙ h.airports;
+  dist = same file.Dist ∙ h.dist;
+  position = same file.Position ∙ h.position;
   journal = same file.Journal ∙ h.journal;
 }
 
@@ -278,9 +311,13 @@ prepared dirs before placed mid s ok names only reads read story = record {
   written = λ f. reads.written f ∙ only.written f;
   put_faults = λ f. reads.put_faults f ∙ only.put_faults f;
   read = record {
+    config = read_before before placed file.Config (mid.left file.Config) (only.left file.Config) read.config;
     flights = read_before before placed file.Flights (mid.left file.Flights) (only.left file.Flights) read.flights;
     rotations = read_before before placed file.Rotations (mid.left file.Rotations) (only.left file.Rotations) read.rotations;
     aircraft = read_before before placed file.Aircraft (mid.left file.Aircraft) (only.left file.Aircraft) read.aircraft;
+    airports = read_before before placed file.Airports (mid.left file.Airports) (only.left file.Airports) read.airports;
+    dist = read_before before placed file.Dist (mid.left file.Dist) (only.left file.Dist) read.dist;
+    position = read_before before placed file.Position (mid.left file.Position) (only.left file.Position) read.position;
     journal = read_before before placed file.Journal (mid.left file.Journal) (only.left file.Journal) read.journal;
   };
   story = λ x tells. story x (tells_after before placed x only.left tells);

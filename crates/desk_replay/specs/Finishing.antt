@@ -1,5 +1,5 @@
 -- What comes after the input was read.
-use Rattle.std.specs.Prelude.{◌≡◌, ◌⊎◌, None, IsSome}
+use Rattle.std.specs.Prelude.{◌≡◌, ◌≤◌, ◌⊎◌, None, IsSome}
 use Rattle.desk_replay.specs.declared.ending.Ending.{Ending}
 use Rattle.desk_replay.specs.declared.ending.Ending.TheVariants as ending
 use Rattle.desk_replay.specs.Story.{Story}
@@ -21,3 +21,4 @@ pub record Finishes (before now : World) (s : Story) (how : Ending) : Type 0 whe
   pub told : Told before now s how
   pub cause : HasCause before now how
   pub only : OnlyWrites before.folder now.folder
+  pub kept : before.sink.faults ≤ now.sink.faults

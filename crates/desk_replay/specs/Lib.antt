@@ -3,7 +3,9 @@ pub mod Outcome
 pub mod Commands
 pub mod Runs
 pub mod Causes
+pub mod Standing
 pub mod Reading
+pub mod Groups
 pub mod ReadEnds
 pub mod Writing
 pub mod Finishing

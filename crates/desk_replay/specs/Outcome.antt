@@ -1,6 +1,7 @@
 -- What a replay writes.
 use Rattle.std.specs.Prelude.{ℕ, List, [], ◌∷◌, ◌++◌, Option, Some, None, codes, decimal}
 use Rattle.desk_folder.specs.Files.{file_name}
+use Rattle.desk_text.specs.Causes.{cause_name as row_cause_name}
 use Rattle.desk_data.specs.Situation.{Situation}
 use Rattle.desk_data.specs.declared.broken.Broken.{Broken}
 use Rattle.desk_model.specs.declared.answer.Entry.{Entry}
@@ -11,7 +12,7 @@ use Rattle.journal_text.specs.Items.{broken_text}
 use Rattle.journal_text.specs.Lines.{journal_text}
 use Rattle.sol_text.specs.Rotations.{rotations_text}
 use Rattle.desk_replay.specs.declared.ending.Cause.{Cause}
-use Rattle.desk_replay.specs.declared.ending.Cause.TheVariants.{Form, Unknown}
+use Rattle.desk_replay.specs.declared.ending.Cause.TheVariants.{Form, Row}
 use Rattle.desk_replay.specs.declared.ending.Refusal.{Refusal}
 use Rattle.desk_replay.specs.declared.ending.Ending.{Ending}
 use Rattle.desk_replay.specs.declared.ending.Ending.TheVariants as ending
@@ -62,7 +63,7 @@ texts_of s = texts_from s.day (history s)
 -- a cause by its name
 abbrev pub cause_name : Cause → List ℕ
 cause_name Form = codes "Form"
-cause_name Unknown = codes "Unknown"
+cause_name (Row cause) = row_cause_name cause
 
 -- the line of a refusal
 abbrev pub refusal_text : Refusal → List ℕ

@@ -43,3 +43,4 @@ pub record OnlyReads (before now : Outside) : Type 0 where
   pub written : (f : File) → now.written f ≡ before.written f
   pub place_faults : now.place_faults ≡ before.place_faults
   pub put_faults : (f : File) → now.put_faults f ≡ before.put_faults f
+  pub kept : (f : File) → before.next_faults f ≤ now.next_faults f

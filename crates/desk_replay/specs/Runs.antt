@@ -1,5 +1,5 @@
 -- What a run does to the outside, by how it ends.
-use Rattle.std.specs.Prelude.{◌≡◌, ◌≢◌, ◌⊎◌, ℕ, List, [], Some, None, IfSome, IsSome, Result, Ok, Err, MatchOption}
+use Rattle.std.specs.Prelude.{◌≡◌, ◌≢◌, ◌≤◌, ◌⊎◌, ℕ, List, [], Some, None, IfSome, IsSome, Result, Ok, Err, MatchOption}
 use Rattle.std.specs.Io.KnownBytes.{Appends, Keeps}
 use Rattle.desk_folder.specs.declared.files.File.{File}
 use Rattle.desk_folder.specs.declared.files.File.TheVariants as file
@@ -30,9 +30,13 @@ world folder sink = record { folder = folder; sink = sink }
 
 -- the folder tells the bytes of the input files
 pub record Tells (outside : Outside) (x : Inputs) : Type 0 where
+  pub config : outside.left file.Config ≡ Some x.config
   pub flights : outside.left file.Flights ≡ Some x.flights
   pub rotations : outside.left file.Rotations ≡ Some x.rotations
   pub aircraft : outside.left file.Aircraft ≡ Some x.aircraft
+  pub airports : outside.left file.Airports ≡ Some x.airports
+  pub dist : outside.left file.Dist ≡ Some x.dist
+  pub position : outside.left file.Position ≡ Some x.position
   pub journal : outside.left file.Journal ≡ Some x.journal
 
 -- the file that has been read to its end
@@ -123,11 +127,15 @@ AreNamed dirs before now ending.PlaceFault = Unit {0}
 AreNamed dirs before now ending.Memory = Unit {0}
 AreNamed dirs before now other = IfSome before.folder.directories (λ was. now.folder.directories ≡ Some dirs)
 
--- all four files were read to their end
+-- all input files were read to their end
 pub record AreRead (before now : Outside) : Type 0 where
+  pub config : IsRead before now file.Config
   pub flights : IsRead before now file.Flights
   pub rotations : IsRead before now file.Rotations
   pub aircraft : IsRead before now file.Aircraft
+  pub airports : IsRead before now file.Airports
+  pub dist : IsRead before now file.Dist
+  pub position : IsRead before now file.Position
   pub journal : IsRead before now file.Journal
 
 abbrev pub IsReadWhole : World → World → Ending → Type 0
@@ -135,11 +143,16 @@ IsReadWhole before now ending.Done = AreRead before.folder now.folder
 IsReadWhole before now ending.NoPlan = AreRead before.folder now.folder
 IsReadWhole before now other = Unit {0}
 
--- where nothing is reported, the sink is as before
+-- no file has got a byte, and nothing is reported
+pub record IsUntold (before now : World) : Type 0 where
+  pub written : (f : File) → now.folder.written f ≡ before.folder.written f
+  pub sink : now.sink ≡ before.sink
+
+-- where a run ends before the events are taken, nothing is written or reported
 abbrev pub IsSilent : World → World → Ending → Type 0
-IsSilent before now (ending.Refused r) = now.sink ≡ before.sink
-IsSilent before now ending.PlaceFault = now.sink ≡ before.sink
-IsSilent before now (ending.ReadFault f) = now.sink ≡ before.sink
+IsSilent before now (ending.Refused r) = IsUntold before now
+IsSilent before now ending.PlaceFault = IsUntold before now
+IsSilent before now (ending.ReadFault f) = IsUntold before now
 IsSilent before now other = Unit {0}
 
 -- a replay from and to these directories
@@ -150,6 +163,7 @@ pub record Replays (dirs : Directories) (before now : World) (how : Ending) : Ty
   pub named : AreNamed dirs before now how
   pub read : IsReadWhole before now how
   pub silent : IsSilent before now how
+  pub kept : before.sink.faults ≤ now.sink.faults
   -- no other file is written
   pub others : (f : File) → f ≢ file.SolRotations → f ≢ file.Journal → now.folder.written f ≡ before.folder.written f
 

@@ -1,15 +1,16 @@
 //! How a run of the desk ends.
 
 use desk_folder::File;
+use desk_text::Cause as RowCause;
 
 /// Why a line of a file is refused.
 #[derive(Clone, Copy, Debug, PartialEq, Eq)]
 pub enum Cause {
-    /// The line is not in the early form, repeats what must stand once, or goes past a limit; at
-    /// line 0 the file has more bytes than its limit.
+    /// The line of journal.csv is not in its early form; at line 0 the file has more bytes than its
+    /// limit.
     Form,
-    /// The line names a flight, a leg or an aircraft that is not there.
-    Unknown,
+    /// A cause of the text files; of journal.csv only that a name is unknown.
+    Row(RowCause),
 }
 
 /// The first line that is refused.

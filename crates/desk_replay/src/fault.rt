@@ -17,7 +17,7 @@ impl Cause {
     {
         match self {
             Cause::Form => "Form",
-            Cause::Unknown => "Unknown",
+            Cause::Row(cause) => cause.name(),
         }
     }
 }

@@ -4,6 +4,7 @@
 mod ending;
 mod fault;
 mod read;
+mod rows;
 mod run;
 mod story;
 mod texts;

@@ -5,16 +5,18 @@ ghost use Rattle.desk_folder.specs.declared.files.File.TheVariants as file;
 ghost use Rattle.desk_replay.specs.Story.{Inputs, story_of_rows, story_of};
 ghost use Rattle.desk_replay.specs.Runs.{Tells, AreRead};
 ghost use Rattle.desk_replay.specs.Reading.{GivesRead, HasReadCause, NeedsNoFault, OnlyReads};
-ghost use Rattle.desk_replay.specs.ReadEnds.{join_end};
+ghost use Rattle.desk_replay.specs.ReadEnds.{build_end, join_end};
 ghost use Rattle.desk_replay.specs.InputRows.{rows_in, AreInputRows};
 ghost use Rattle.desk_replay.specs.InputStory.{story_in, CanBeRun};
 
 use crate::ending::{Cause, Ending, Refusal};
-use crate::read::{InputRows, input_rows};
+use crate::rows::{InputRows, input_rows};
+use desk_build::{BuildFault, Built, build};
 use desk_data::Instance;
 use desk_folder::{File, Folder};
 use desk_model::Event;
-use early_join::{JoinFault, join, join_journal};
+use desk_text::Cause as RowCause;
+use early_join::{JoinFault, join_journal};
 use std::alloc::Global;
 
 /// A day, and the events that are taken on it, each with its caller.
@@ -24,15 +26,29 @@ pub(crate) struct InputStory {
     pub events: Vec<(u32, Event)>,
 }
 
-// How a run ends where a name isn't known.
-fn join_end(file: File, fault: JoinFault) -> Ending
-    ensures { result ≡ join_end file fault }
+// How a run ends where the rows of the text files don't fit together.
+fn build_end(fault: BuildFault) -> Ending
+    ensures { result ≡ build_end fault }
+{
+    match fault {
+        BuildFault::Refused { file, line, cause } => Ending::Refused(Refusal {
+            file,
+            line,
+            cause: Cause::Row(cause),
+        }),
+        BuildFault::Memory => Ending::Memory,
+    }
+}
+
+// How a run ends where a name in the journal isn't known.
+fn join_end(fault: JoinFault) -> Ending
+    ensures { result ≡ join_end fault }
 {
     match fault {
         JoinFault::Unknown { line } => Ending::Refused(Refusal {
-            file,
+            file: File::Journal,
             line,
-            cause: Cause::Unknown,
+            cause: Cause::Row(RowCause::Unknown),
         }),
         JoinFault::Memory => Ending::Memory,
     }
@@ -45,18 +61,13 @@ fn joined_story(alloc: Global, rows: &InputRows) -> Result<InputStory, Ending>
     ensures runs { IfOk result CanBeRun }
     ensures cause { IfErr result NeedsNoFault }
 {
-    let inst = match join(
-        alloc,
-        rows.flights.as_slice(),
-        rows.rotations.as_slice(),
-        rows.aircraft.as_slice(),
-    ) {
-        Ok(inst) => inst,
-        Err(fault) => return Err(join_end(File::Rotations, fault)),
+    let Built { inst } = match build(alloc, &rows.files) {
+        Ok(built) => built,
+        Err(fault) => return Err(build_end(fault)),
     };
     match join_journal(alloc, &inst, rows.journal.as_slice()) {
         Ok(events) => Ok(InputStory { inst, events }),
-        Err(fault) => Err(join_end(File::Journal, fault)),
+        Err(fault) => Err(join_end(fault)),
     }
 }
 

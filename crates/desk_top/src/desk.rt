@@ -1,12 +1,15 @@
 //! The top call.
 
-ghost use Rattle.std.specs.Prelude.{◌≡◌, ◌≤◌, map};
+ghost use Rattle.std.specs.Prelude.{◌≡◌, ◌≢◌, ◌≤◌, map};
 ghost use Rattle.std.specs.String.{string_bytes};
+ghost use Rattle.desk_folder.specs.declared.files.File.{File};
+ghost use Rattle.desk_folder.specs.declared.files.File.TheVariants as file;
 ghost use Rattle.desk_folder.specs.Outside.{Directories};
 ghost use Rattle.desk_replay.specs.Commands.{command};
 ghost use Rattle.desk_replay.specs.Story.{Inputs, story_of};
 ghost use Rattle.desk_replay.specs.Runs.{world, Tells, Ends, IsDone, Runs};
 ghost use Rattle.desk_replay.specs.Causes.{IsUnlessMemory, IsDoneWith, IsRefused, HasFault, IsReadable, IsFaultless, Answers};
+ghost use Rattle.desk_replay.specs.Standing.{finished_texts, AreBegun, IsToldLast};
 ghost use Rattle.desk_replay.specs.declared.ending.Refusal.{Refusal as Refused};
 
 use desk_folder::{Folder, FolderFault, Gate, Sink};
@@ -93,6 +96,26 @@ pub fn desk_main<F: Folder, O: Sink, G: Gate>(
         IsFaultless (world (F.outside folder.old) (O.report out.old))
         (world (F.outside folder.new) (O.report out.new)) →
         Answers (story_of x) result }
+
+    // What stands at each status: at 2, 3 and 4 no file has got a byte.
+    ensures unwritten { 2 ≤ result → result ≤ 4 → (f : File) →
+        (F.outside folder.new).written f ≡ (F.outside folder.old).written f }
+
+    // At any status the output files are whole up to one, of which there is a beginning, and there is
+    // nothing behind it.
+    ensures begun { (x : Inputs) → Tells (F.outside folder.old) x →
+        AreBegun (F.outside folder.old) (F.outside folder.new) (finished_texts (story_of x)) }
+
+    // And no other file is written.
+    ensures others { (f : File) → f ≢ file.SolRotations → f ≢ file.Journal →
+        (F.outside folder.new).written f ≡ (F.outside folder.old).written f }
+
+    // From 2 on the sink has got a beginning of the report, which is empty at 2, 3 and 4 and where an
+    // output file is not whole, and the line of the fault, of which a rest is missing only at 6 and
+    // where the sink failed.
+    ensures told_last { (x : Inputs) → Tells (F.outside folder.old) x → 2 ≤ result →
+        IsToldLast (world (F.outside folder.old) (O.report out.old))
+        (world (F.outside folder.new) (O.report out.new)) x result }
 {
     told_run(alloc, words, folder, out)
 }

@@ -4,6 +4,8 @@
 //! order, and writes the journal with its answers and the rotations of the last plan to OUT.
 #![tactic(auto)]
 
+#[cfg(test)]
+mod days;
 mod desk;
 
 pub use desk::desk_main;

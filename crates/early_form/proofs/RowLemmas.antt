@@ -1,11 +1,11 @@
 -- The rows of the lines that are left, as a loop reads them.
-use Rattle.std.proofs.Common.{◌≡◌, ℕ, ◌+◌, ◌≤◌, ◌==◌, Bool, true, false, cond, List, [], ◌∷◌, ◌++◌, length, Option, Some, None, Result, Ok, Err, refl, sym, ap, ◌∙◌, arith}
+use Rattle.std.proofs.Common.{◌≡◌, ℕ, ◌+◌, ◌≤◌, ◌==◌, true, false, cond, List, [], ◌∷◌, ◌++◌, length, Option, Some, None, Result, Ok, Err, refl, sym, ap, ◌∙◌, arith}
 use Rattle.std.specs.Option.{option_map_or}
 use Rattle.std.specs.List.{slice_split}
 use Rattle.std.proofs.lemmas.Bool.{eqb-true}
 use Rattle.std.proofs.lemmas.List.{length-append}
 use Rattle.std.proofs.lemmas.List.Splits.{length-slice_split}
-use Rattle.early_form.specs.Fields.{◌>>=◌, only_if, cut}
+use Rattle.early_form.specs.Fields.{cut}
 use Rattle.early_form.specs.Rows.{rows_from, rows_of}
 use Rattle.early_form.proofs.CutLemmas.{split_cut, split_uncut}
 
@@ -13,21 +13,21 @@ use Rattle.early_form.proofs.CutLemmas.{split_cut, split_uncut}
 abbrev pub pieces : List ℕ → List (List ℕ)
 pieces bytes = slice_split (λ b. b == 10) bytes
 
-module _ {Row : Type 0} (row : List Row → List ℕ → Option Row) (before : List Row) (total : Result (List Row) ℕ) where
-  one_line : (text : List ℕ) (others : List (List ℕ)) → 1 ≤ length others → rows_from row before (text ∷ others) ≡ option_map_or (λ r. rows_from row (before ++ r ∷ []) others) (row before text) (Err (length before + 1))
+module _ {Row : Type 0} (row : List ℕ → Option Row) (before : List Row) (total : Result (List Row) ℕ) where
+  one_line : (text : List ℕ) (others : List (List ℕ)) → 1 ≤ length others → rows_from row before (text ∷ others) ≡ option_map_or (λ r. rows_from row (before ++ r ∷ []) others) (row text) (Err (length before + 1))
   unfolding rows_from
   one_line text [] h = absurd (omega arith)
   one_line text (next ∷ others) h = refl
 
-  first_line : (rest text after : List ℕ) → Some (text, after) ≡ cut 10 rest → rows_from row before (pieces rest) ≡ total → option_map_or (λ r. rows_from row (before ++ r ∷ []) (pieces after)) (row before text) (Err (length before + 1)) ≡ total
+  first_line : (rest text after : List ℕ) → Some (text, after) ≡ cut 10 rest → rows_from row before (pieces rest) ≡ total → option_map_or (λ r. rows_from row (before ++ r ∷ []) (pieces after)) (row text) (Err (length before + 1)) ≡ total
   first_line rest text after e so_far = sym (ap (rows_from row before) (split_cut 10 rest text after (sym e)) ∙ one_line text (pieces after) (omega (arith, length-slice_split (λ b. b == 10) after))) ∙ so_far
 
   -- a line gives a row
-  pub goes_on : (rest text after : List ℕ) (x : Row) → Some (text, after) ≡ cut 10 rest → Some x ≡ row before text → rows_from row before (pieces rest) ≡ total → rows_from row (before ++ x ∷ []) (pieces after) ≡ total
+  pub goes_on : (rest text after : List ℕ) (x : Row) → Some (text, after) ≡ cut 10 rest → Some x ≡ row text → rows_from row before (pieces rest) ≡ total → rows_from row (before ++ x ∷ []) (pieces after) ≡ total
   goes_on rest text after x e r so_far = ap (λ o. option_map_or (λ r. rows_from row (before ++ r ∷ []) (pieces after)) o (Err (length before + 1))) r ∙ first_line rest text after e so_far
 
   -- a line gives none
-  pub refused : (n : ℕ) (rest text after : List ℕ) → n ≡ length before → Some (text, after) ≡ cut 10 rest → None ≡ row before text → rows_from row before (pieces rest) ≡ total → total ≡ Err (n + 1)
+  pub refused : (n : ℕ) (rest text after : List ℕ) → n ≡ length before → Some (text, after) ≡ cut 10 rest → None ≡ row text → rows_from row before (pieces rest) ≡ total → total ≡ Err (n + 1)
   refused n rest text after count e r so_far = rw count (sym (ap (λ o. option_map_or (λ r. rows_from row (before ++ r ∷ []) (pieces after)) o (Err (length before + 1))) r ∙ first_line rest text after e so_far))
 
   -- the last line has no end
@@ -42,18 +42,10 @@ module _ {Row : Type 0} (row : List Row → List ℕ → Option Row) (before : L
   ended (b ∷ rest) none so_far = absurd (omega (arith, eqb-true (length (b ∷ rest)) 0 none))
 
 -- nothing was read yet
-pub begins : {Row : Type 0} (row : List Row → List ℕ → Option Row) (bytes : List ℕ) → rows_from row [] (pieces bytes) ≡ rows_of row bytes
+pub begins : {Row : Type 0} (row : List ℕ → Option Row) (bytes : List ℕ) → rows_from row [] (pieces bytes) ≡ rows_of row bytes
 unfolding rows_of
 begins row bytes = refl
 
 -- one more row takes less room than its line
 pub still_room : {Row : Type 0} (before : List Row) (x : Row) (text after rest bytes : List ℕ) → length text + length after + 1 ≡ length rest → length before + length rest ≤ length bytes → length (before ++ x ∷ []) + length after ≤ length bytes
 still_room before x text after rest bytes cut_off room = omega (arith, length-append before (x ∷ []))
-
--- a row of a line, where it may follow
-pub follows : {Row : Type 0} (read : Option Row) (may : Row → Bool) (x : Row) → Some x ≡ read → may x ≡ true → Some x ≡ (read >>= λ r. only_if (may r) r)
-follows read may x e allowed = ap (λ b. only_if b x) (sym allowed) ∙ ap (λ o. o >>= λ r. only_if (may r) r) e
-
--- and where it may not
-pub follows_not : {Row : Type 0} (read : Option Row) (may : Row → Bool) (x : Row) → Some x ≡ read → may x ≡ false → None ≡ (read >>= λ r. only_if (may r) r)
-follows_not read may x e denied = ap (λ b. only_if b x) (sym denied) ∙ ap (λ o. o >>= λ r. only_if (may r) r) e

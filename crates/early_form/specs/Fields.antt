@@ -1,8 +1,7 @@
 -- The fields of a line, and what each spells.
-use Rattle.std.specs.Prelude.{ℕ, ◌+◌, ◌-◌, ◌*◌, ◌^◌, Bool, List, [], ◌∷◌, length, take, drop, fold, Option, Some, None, option_map, position, nat_lt, nat_le, ◌==◌, ◌&&◌, if◌then◌else◌}
+use Rattle.std.specs.Prelude.{ℕ, ◌+◌, ◌-◌, ◌*◌, Bool, List, [], ◌∷◌, length, take, drop, fold, Option, Some, None, option_map, position, nat_lt, nat_le, ◌==◌, ◌&&◌, if◌then◌else◌}
 use Rattle.std.specs.List.{list_all}
 use Rattle.std.specs.Char.{is_ascii_digit, is_ascii_alphanumeric}
-use Rattle.desk_units.specs.declared.numbers.Seats.{Seats}
 use Rattle.desk_text.specs.Days.{day_of}
 
 infixl 10 ◌>>=◌
@@ -43,36 +42,6 @@ unfoldable pub number_of : ℕ → List ℕ → Option ℕ
 number_of most bytes = do
   n ← digits_of 9 bytes
   only_if (nat_le n most) n
-
--- what the 1 to 4 digits behind a point are worth, in ten-thousandths
-unfoldable pub fraction_of : List ℕ → Option ℕ
-fraction_of bytes = do
-  n ← digits_of 4 bytes
-  Some (n * 10 ^ (4 - length bytes))
-
--- the parts of a price round its point, or all of it where it has none, in ten-thousandths
-abbrev pub price_parts : List ℕ → Option (List ℕ × List ℕ) → Option ℕ
-price_parts bytes None = do
-  whole ← digits_of 9 bytes
-  Some (10000 * whole)
-price_parts bytes (Some parts) = do
-  whole ← digits_of 9 parts.0
-  fraction ← fraction_of parts.1
-  Some (10000 * whole + fraction)
-
--- 1 to 9 digits, then perhaps a point and 1 to 4 digits, in ten-thousandths
-unfoldable pub price_of : List ℕ → Option ℕ
-price_of bytes = price_parts bytes (cut 46 bytes)
-
--- the seats of the three cabins, each 0 to 999, with slashes between them
-unfoldable pub seats_of : List ℕ → Option Seats
-seats_of bytes = do
-  first ← cut 47 bytes
-  business ← cut 47 first.1
-  f ← number_of 999 first.0
-  b ← number_of 999 business.0
-  e ← number_of 999 business.1
-  Some (record { f = f; b = b; e = e })
 
 -- the number that two digits spell
 abbrev pub two_digits : ℕ → ℕ → Option ℕ

@@ -66,10 +66,6 @@ move_at line = do
   step ← before_tail event.1 (cut 44 event.1)
   if bytes_eq event.0 (codes "move") then step_of number step else None
 
--- a row of the file: its line decides alone
-abbrev pub move_row : List JournalRow → List ℕ → Option JournalRow
-move_row before line = move_at line
-
 -- the moves of the bytes, or the number of the first line that is refused
 abbrev pub moves_of : List ℕ → Result (List JournalRow) ℕ
-moves_of bytes = rows_of move_row bytes
+moves_of bytes = rows_of move_at bytes

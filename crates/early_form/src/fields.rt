@@ -4,12 +4,12 @@ ghost use Rattle.std.specs.Prelude.{◌≡◌, ◌+◌, ◌<◌, ◌≤◌, ◌^
 ghost use Rattle.std.specs.List.{list_all};
 ghost use Rattle.std.specs.Char.{is_ascii_alphanumeric, is_ascii_digit};
 ghost use Rattle.desk_units.specs.Padded.{IsNameLength};
-ghost use Rattle.early_form.specs.Fields.{cut, field, name_of, decimal_value, digits_of, number_of, fraction_of, price_of, seats_of, two_digits, date_of, time_of};
+ghost use Rattle.early_form.specs.Fields.{cut, field, name_of, decimal_value, digits_of, number_of, two_digits, date_of, time_of};
 ghost use Rattle.desk_text.specs.Days.{day_of};
 ghost use Rattle.early_form.specs.Facts.{IsPlainName};
 
 use desk_text::day_of;
-use desk_units::{Name, Price, Seats};
+use desk_units::Name;
 
 /// The place of the first `at`.
 fn place_of(bytes: &[u8], at: u8) -> Option<usize>
@@ -102,78 +102,6 @@ pub(crate) fn number(bytes: &[u8], most: u32) -> Option<u32>
     if n <= most { Some(n) } else { None }
 }
 
-/// A number with a space behind it, and the bytes behind that space.
-pub(crate) fn number_field(bytes: &[u8], most: u32) -> Option<(u32, &[u8])>
-    ensures exact { option_map (λ x. (x.0, x.1.now)) result ≡ field (number_of most) bytes.now }
-    ensures most { IfSome result (λ x. x.0 ≤ most) }
-{
-    let (text, rest) = cut(bytes, b' ')?;
-    Some((number(text, most)?, rest))
-}
-
-/// What 1 to 4 digits behind a point are worth, in ten-thousandths.
-#[tactic(auto, unfolding(crate::specs::Fields::fraction_of))]
-fn fraction(bytes: &[u8]) -> Option<u32>
-    ensures exact { result ≡ fraction_of bytes.now }
-    ensures small { IfSome result (λ n. n ≤ 9999) }
-{
-    let n = digits(bytes, 4)?;
-    let worth = match bytes.len() {
-        1 => 1000,
-        2 => 100,
-        3 => 10,
-        _ => 1,
-    };
-    Some(n * worth)
-}
-
-/// A price: 1 to 9 digits, then perhaps a point and 1 to 4 digits.
-#[tactic(auto, unfolding(crate::specs::Fields::price_of))]
-pub(crate) fn price(bytes: &[u8]) -> Option<Price>
-    ensures exact { option_map (λ p. p.0) result ≡ price_of bytes.now }
-    ensures most { IfSome result (λ p. p.0 ≤ 9999999999999) }
-{
-    match cut(bytes, b'.') {
-        None => Some(Price(10_000 * u64::from(digits(bytes, 9)?))),
-        Some((whole, part)) => {
-            let whole = u64::from(digits(whole, 9)?);
-            Some(Price(10_000 * whole + u64::from(fraction(part)?)))
-        }
-    }
-}
-
-/// A price with a space behind it, and the bytes behind that space.
-pub(crate) fn price_field(bytes: &[u8]) -> Option<(Price, &[u8])>
-    ensures exact { option_map (λ x. (x.0.0, x.1.now)) result ≡ field price_of bytes.now }
-    ensures most { IfSome result (λ x. x.0.0 ≤ 9999999999999) }
-{
-    let (text, rest) = cut(bytes, b' ')?;
-    Some((price(text)?, rest))
-}
-
-/// The seats of the three cabins, each 0 to 999, with slashes between them.
-#[tactic(auto, unfolding(crate::specs::Fields::seats_of))]
-pub(crate) fn seats(bytes: &[u8]) -> Option<Seats>
-    ensures exact { result ≡ seats_of bytes.now }
-    ensures most { IfSome result (λ s. (s.f ≤ 999) × (s.b ≤ 999) × (s.e ≤ 999)) }
-{
-    let (first, rest) = cut(bytes, b'/')?;
-    let (business, economy) = cut(rest, b'/')?;
-    let f = number(first, 999)?;
-    let b = number(business, 999)?;
-    let e = number(economy, 999)?;
-    Some(Seats { f, b, e })
-}
-
-/// Seats with a space behind them, and the bytes behind that space.
-pub(crate) fn seats_field(bytes: &[u8]) -> Option<(Seats, &[u8])>
-    ensures exact { option_map (λ x. (x.0, x.1.now)) result ≡ field seats_of bytes.now }
-    ensures most { IfSome result (λ x. (x.0.f ≤ 999) × (x.0.b ≤ 999) × (x.0.e ≤ 999)) }
-{
-    let (text, rest) = cut(bytes, b' ')?;
-    Some((seats(text)?, rest))
-}
-
 /// The number that two digits spell.
 fn two_digits(a: u8, b: u8) -> Option<u32>
     ensures exact { result ≡ two_digits a b }
@@ -234,15 +162,6 @@ pub(crate) fn time(bytes: &[u8]) -> Option<u32>
         }
         _ => None,
     }
-}
-
-/// A time with a space behind it, and the bytes behind that space.
-pub(crate) fn time_field(bytes: &[u8]) -> Option<(u32, &[u8])>
-    ensures exact { option_map (λ x. (x.0, x.1.now)) result ≡ field time_of bytes.now }
-    ensures small { IfSome result (λ x. x.0 < 1440) }
-{
-    let (text, rest) = cut(bytes, b' ')?;
-    Some((time(text)?, rest))
 }
 
 /// The name of a text that is one.

@@ -1,17 +1,17 @@
 //! The file of proposed moves.
 
-ghost use Rattle.std.specs.Prelude.{◌≡◌, ◌<◌, ◌≤◌, ◌^◌, List, ℕ, length, bytes_eq, ◌==◌, option_map, IfOk, IfSome};
+ghost use Rattle.std.specs.Prelude.{◌≡◌, ◌<◌, ◌≤◌, ◌^◌, length, bytes_eq, ◌==◌, option_map, IfOk, IfSome};
 ghost use Rattle.std.specs.List.{list_any};
 ghost use Rattle.early_form.specs.Rows.{Gives};
 ghost use Rattle.early_form.specs.Fields.{cut};
-ghost use Rattle.early_form.specs.Journal.{flown_of, flown_at, was_at, flown_last, new_of, before_tail, step_of, move_at, moves_of, move_row};
+ghost use Rattle.early_form.specs.Journal.{flown_of, flown_at, was_at, flown_last, new_of, before_tail, step_of, move_at, moves_of};
 ghost use Rattle.early_form.specs.Facts.{IsNamedRow, IsProposal, AreProposals};
 
 use crate::fault::FormFault;
 use crate::fields::{cut, date, date_field, name, name_field, name_of, number, time};
 use crate::rows::{JournalRow, NamedRow};
 use crate::table::{Table, read_rows};
-use desk_units::{Minute, NoMem};
+use desk_units::Minute;
 use std::alloc::Global;
 
 const END_OF_TIME: u32 = 52_500_000;
@@ -155,24 +155,16 @@ fn move_at(line: &[u8]) -> Option<JournalRow>
     }
 }
 
-/// The form of the file of proposed moves. A line decides alone, so nothing is kept of those before.
-#[derive(Drop)]
+/// The form of the file of proposed moves.
 struct Moves {}
 
-impl<'a> Table<'a, JournalRow, ()> for Moves {
-    ghost reads = { λ _. move_row };
+impl Table<JournalRow> for Moves {
+    ghost reads = { λ _. move_at };
 
-    ghost knows = { λ _ _ _. Unit {0} };
+    ghost holds = { λ _. IsProposal };
 
-    ghost holds = { λ _. AreProposals };
-
-    fn next(
-        &self,
-        _seen: &mut (),
-        _before: &[JournalRow],
-        line: &'a [u8],
-    ) -> Result<Option<JournalRow>, NoMem> {
-        Ok(move_at(line))
+    fn row(&self, line: &[u8]) -> Option<JournalRow> {
+        move_at(line)
     }
 }
 
@@ -186,5 +178,5 @@ pub fn read_journal(alloc: Global, bytes: &[u8]) -> Result<Vec<JournalRow>, Form
     ensures exact { Gives (λ v. v.items) result (moves_of bytes.now) }
     ensures rows { IfOk result (λ v. AreProposals v.items) }
 {
-    read_rows(alloc, &Moves {}, (), bytes)
+    read_rows(alloc, &Moves {}, bytes)
 }

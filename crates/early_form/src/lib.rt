@@ -1,27 +1,20 @@
-//! The early form of the desk's input files: flights, rotations, aircraft and proposed moves.
+//! The early form of the journal's file of proposed moves.
 //!
-//! Bytes are lines, each ended by LF, the last one too. The fields of a line are separated by
-//! exactly one space, and no line is empty. The first line that is not in the form is refused, by
-//! its number from 1; nothing behind it is looked at.
+//! Bytes are lines, each ended by LF, the last one too. The fields of a line are separated by commas,
+//! and the words of a step by exactly one space; no line is empty. The first line that is not in the
+//! form is refused, by its number from 1; nothing behind it is looked at.
 #![tactic(auto)]
 
-mod aircraft;
 mod fault;
 mod fields;
-mod flights;
 mod journal;
-mod names;
-mod rotations;
 mod rows;
 mod table;
 
-pub use aircraft::read_aircraft;
-pub use desk_units::{List, Minute, Name, NoMem, Price, Seats};
+pub use desk_units::{Minute, Name, NoMem};
 pub use fault::FormFault;
-pub use flights::read_flights;
 pub use journal::read_journal;
-pub use rotations::read_rotations;
-pub use rows::{AircraftRow, FlightRow, JournalRow, NamedRow, RotationRow};
+pub use rows::{JournalRow, NamedRow};
 
 #[cfg(test)]
 mod tests;

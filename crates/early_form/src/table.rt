@@ -1,44 +1,33 @@
 //! Reading the rows of a file, one a line.
 
-ghost use Rattle.std.specs.Prelude.{◌≡◌, ◌<◌, ◌^◌, ℕ, List, [], ◌∷◌, ◌++◌, Option, IfOk, IfSome, length};
+ghost use Rattle.std.specs.Prelude.{◌≡◌, ◌<◌, ◌^◌, ℕ, List, Option, All, IfOk, IfSome, length};
 ghost use Rattle.early_form.specs.Rows.{rows_of, Gives};
 
 use crate::fault::FormFault;
 use crate::fields::cut;
-use desk_units::NoMem;
 use std::alloc::Global;
 
-/// The most airports of a day.
-pub(crate) const MOST_AIRPORTS: usize = 500;
+/// How a line of a file becomes a row.
+pub(crate) trait Table<Row> {
+    ghost reads: { Self → List ℕ → Option Row };
 
-/// How the lines of a file become rows. `Seen` is what is kept of the rows so far.
-pub(crate) trait Table<'a, Row, Seen> {
-    ghost reads: { Self → List Row → List ℕ → Option Row };
+    ghost holds: { Self → Row → Type 0 };
 
-    ghost knows: { Self → Seen → List Row → Type 0 };
-
-    ghost holds: { Self → List Row → Type 0 };
-
-    /// The row of a line behind the rows before it, or `None` where the line is refused.
-    fn next(&self, seen: &mut Seen, before: &[Row], line: &'a [u8]) -> Result<Option<Row>, NoMem>
-        requires { knows self.now seen.old before.now }
-        ensures exact { IfOk result (λ r. r ≡ reads self.now before.now line.now) }
-        ensures kept { IfOk result (λ r. IfSome r (λ x. knows self.now seen.new (before.now ++ x ∷ []))) }
-        ensures facts { IfOk result (λ r. IfSome r (λ x. holds self.now before.now → holds self.now (before.now ++ x ∷ []))) };
+    /// The row of a line, or `None` where the line is refused.
+    fn row(&self, line: &[u8]) -> Option<Row>
+        ensures exact { result ≡ reads self.now line.now }
+        ensures facts { IfSome result (λ row. holds self.now row) };
 }
 
 /// The rows of the bytes, or the first line that is refused.
-pub(crate) fn read_rows<'a, Row: Drop, Seen: Drop, T: Table<'a, Row, Seen>>(
+pub(crate) fn read_rows<Row: Drop, T: Table<Row>>(
     alloc: Global,
     table: &T,
-    mut seen: Seen,
-    bytes: &'a [u8],
+    bytes: &[u8],
 ) -> Result<Vec<Row>, FormFault>
-    requires size { length bytes.now < 2 ^ 32 }
-    requires nothing_seen { T.knows table.now seen [] }
-    requires no_rows { T.holds table.now [] }
+    requires { length bytes.now < 2 ^ 32 }
     ensures exact { Gives (λ v. v.items) result (rows_of (T.reads table.now) bytes.now) }
-    ensures facts { IfOk result (λ v. T.holds table.now v.items) }
+    ensures facts { IfOk result (λ v. All (λ row. T.holds table.now row) v.items) }
 {
     let mut rows = Vec::new(alloc);
     let mut rest = bytes;
@@ -47,7 +36,7 @@ pub(crate) fn read_rows<'a, Row: Drop, Seen: Drop, T: Table<'a, Row, Seen>>(
         let Some((text, after)) = cut(rest, b'\n') else {
             return Err(FormFault::Form { line });
         };
-        match table.next(&mut seen, &rows, text)? {
+        match table.row(text) {
             None => return Err(FormFault::Form { line }),
             Some(row) => rows.push(row)?,
         }

@@ -1,5 +1,5 @@
 -- The events of proposals can be asked.
-use Rattle.std.proofs.Common.{◌≡◌, ℕ, ◌<◌, ◌≤◌, ◌&&◌, eqb, List, [], map, bytes_eq, Option, Some, None, Result, Ok, Err, refl, sym, subst, ◌∙◌, arith, All}
+use Rattle.std.proofs.Common.{◌≡◌, ℕ, ◌<◌, ◌≤◌, ◌&&◌, eqb, List, [], length, map, bytes_eq, Option, Some, None, Result, Ok, Err, refl, sym, subst, ◌∙◌, arith, All}
 use Rattle.std.specs.Prelude.{IfOk}
 use Rattle.std.specs.List.{position}
 use Rattle.std.proofs.lemmas.List.{length-map}
@@ -29,7 +29,10 @@ use Rattle.early_join.specs.Join.{place_of, leg_place, row_of, step_of, event_of
 use Rattle.early_join.specs.Gives.{JoinGives}
 use Rattle.early_join.proofs.NamesLemmas.{position-map}
 use Rattle.early_join.proofs.JoinLemmas.{joins_of, joins-All}
-use Rattle.early_join.proofs.DayLemmas.{place_within}
+
+-- a place is among the names
+place_within : (names : List (List ℕ)) (name : List ℕ) (p : ℕ) → place_of names name ≡ Some p → p < length names
+place_within names name p e = (position-Some (bytes_eq name) names p [] e).0
 
 -- the place of a leg among the flights and days
 pub leg_place_is : (I : Situation) (flight : List ℕ) (day : ℕ) → position (is_leg flight day) (map (λ leg. (leg.flight, leg.day)) I.parts.legs) ≡ leg_place I flight day

@@ -1,15 +1,9 @@
 -- Rows that are joined, one at a time, and what holds of them all.
-use Rattle.std.proofs.Common.{◌≡◌, ℕ, zero, suc, ◌+◌, ◌<◌, ◌≤◌, Bool, true, false, cond, List, [], ◌∷◌, ◌++◌, length, drop, get_or, map, Option, Some, None, Result, Ok, Err, refl, sym, ap, subst, ◌∙◌, arith, drop-cons, All, AllPairs, append_assoc}
-use Rattle.std.specs.Prelude.{find}
-use Rattle.std.specs.List.{position, position_or_len}
+use Rattle.std.proofs.Common.{◌≡◌, ℕ, suc, ◌+◌, ◌<◌, List, [], ◌∷◌, ◌++◌, length, drop, get_or, Option, Some, None, Result, Ok, Err, refl, sym, ap, subst, ◌∙◌, arith, drop-cons, All, append_assoc}
 use Rattle.std.specs.Option.{option_map_or}
-use Rattle.std.proofs.lemmas.Bool.{ltb-false}
-use Rattle.std.proofs.lemmas.List.Quantifiers.{position-Some}
-use Rattle.std.proofs.lemmas.List.Sums.{fails_before_first}
-use Rattle.std.proofs.lemmas.List.{append-nil, length-map, get_or-map}
+use Rattle.std.proofs.lemmas.List.{append-nil}
 use Rattle.std.proofs.lemmas.List.Elements.{All-head, All-tail, All-cons, All-nil}
 use Rattle.early_join.specs.Join.{joined_from, joined}
-use Rattle.early_join.proofs.NamesLemmas.{position-map}
 
 module _ {A B : Type 0} (join : A → Option B) where
   -- a row that gives something goes on behind it, and one that gives nothing ends the join
@@ -66,62 +60,3 @@ module _ {A B : Type 0} (join : A → Option B) where
   joins-All P Q one [] (b ∷ bs) h j = absurd j
   joins-All P Q one (row ∷ rows) [] h j = absurd j
   joins-All P Q one (row ∷ rows) (b ∷ bs) h j = All-cons Q b bs (one row b (All-head P row rows h) j.0) (joins-All P Q one rows bs (All-tail P row rows h) j.1)
-
-  -- and so do keys that stay
-  pub joins-keys : {K : Type 0} (key : A → K) (key_of : B → K) → ((row : A) (b : B) → join row ≡ Some b → key row ≡ key_of b) → (rows : List A) (bs : List B) → Joins rows bs → map key rows ≡ map key_of bs
-  joins-keys key key_of one [] [] j = refl
-  joins-keys key key_of one [] (b ∷ bs) j = absurd j
-  joins-keys key key_of one (row ∷ rows) [] j = absurd j
-  joins-keys key key_of one (row ∷ rows) (b ∷ bs) j = λ i. one row b j.0 i ∷ joins-keys key key_of one rows bs j.1 i
-
--- pairs of keys are keys of pairs
-pub pairs_of_keys : {A K : Type 0} (R : K → K → Type 0) (key : A → K) (xs : List A) → AllPairs (λ a b. R (key a) (key b)) xs → AllPairs R (map key xs)
-pairs_of_keys R key [] h = λ i j d before within. absurd (omega arith)
-pairs_of_keys {A} R key (x ∷ xs) h = λ i j d before within.
-    let inside : j < length (x ∷ xs) = omega (arith, length-map (x ∷ xs) key) in
-    let earlier : i < length (x ∷ xs) = omega arith in
-    rw (get_or-map key (x ∷ xs) i x d earlier, get_or-map key (x ∷ xs) j x d inside) (h i j x before inside)
-
-pub keys_of_pairs : {A K : Type 0} (R : K → K → Type 0) (key : A → K) (xs : List A) → AllPairs R (map key xs) → AllPairs (λ a b. R (key a) (key b)) xs
-keys_of_pairs R key xs h = λ i j d before within.
-    let earlier : i < length xs = omega arith in
-    let inside : j < length (map key xs) = omega (arith, length-map xs key) in
-    rw (← get_or-map key xs i d (key d) earlier, ← get_or-map key xs j d (key d) within) (h i j (key d) before inside)
-
--- the first that passes is at the first place that passes
-find_first : {A : Type 0} (p : A → Bool) (xs : List A) (k : ℕ) (x : A) → k < length xs → x ≡ get_or xs k x → p x ≡ true → ((j : ℕ) → j < k → p (get_or xs j x) ≡ false) → find p xs ≡ Some x
-find_first p [] k x below is passes fail = absurd (omega arith)
-find_first p (y ∷ ys) zero x below is passes fail = ap (λ b. cond b (Some y) (find p ys)) (ap p (sym is) ∙ passes) ∙ ap (λ z. Some z) (sym is)
-find_first p (y ∷ ys) (suc k) x below is passes fail = ap (λ b. cond b (Some y) (find p ys)) (fail 0 (omega arith)) ∙ find_first p ys k x (omega arith) is passes (λ j lt. fail (suc j) (omega arith))
-
-find_never : {A : Type 0} (p : A → Bool) (xs : List A) → ((j : ℕ) (d : A) → j < length xs → p (get_or xs j d) ≡ false) → find p xs ≡ None
-find_never p [] fail = refl
-find_never p (y ∷ ys) fail = ap (λ b. cond b (Some y) (find p ys)) (fail 0 y (omega arith)) ∙ find_never p ys (λ j d lt. fail (suc j) d (omega arith))
-
-not_some : (b : Bool) (n : ℕ) → None ≡ cond b (Some n) None → b ≡ false
-not_some true n e = absurd cc
-not_some false n e = refl
-
-module _ {A B : Type 0} (seen : A → B) (test : B → Bool) where
-  pub find_at_place : (xs : List A) (k : ℕ) (x : A) → Some k ≡ position test (map seen xs) → x ≡ get_or xs k x → Some x ≡ find (λ y. test (seen y)) xs
-  find_at_place xs k x at is =
-      let found = position-Some (λ y. test (seen y)) xs k x (position-map seen test xs ∙ sym at) in
-      sym (find_first (λ y. test (seen y)) xs k x found.0 is (ap (λ y. test (seen y)) is ∙ found.1) found.2)
-
-  pub find_nowhere : (xs : List A) → None ≡ position test (map seen xs) → None ≡ find (λ y. test (seen y)) xs
-  find_nowhere xs at =
-      let past : length xs ≤ position_or_len (λ y. test (seen y)) xs = ltb-false _ _ (not_some _ _ (at ∙ sym (position-map seen test xs))) in
-      sym (find_never (λ y. test (seen y)) xs (λ j d lt. fails_before_first (λ y. test (seen y)) xs j d (omega arith)))
-
--- what is found is one of them, and passes
-found_by : {A : Type 0} (P : A → Type 0) (p : A → Bool) (y x : A) (b : Bool) (rest : Option A) → p y ≡ b → P y → (rest ≡ Some x → P x × (p x ≡ true)) → cond b (Some y) rest ≡ Some x → P x × (p x ≡ true)
-found_by P p y x true rest passes h more e = let same : y ≡ x = cc in (subst P same h, ap p (sym same) ∙ passes)
-found_by P p y x false rest passes h more e = more e
-
-pub found : {A : Type 0} (P : A → Type 0) (p : A → Bool) (xs : List A) (x : A) → All P xs → find p xs ≡ Some x → P x × (p x ≡ true)
-found P p [] x h e = absurd cc
-found P p (y ∷ ys) x h e = found_by P p y x (p y) (find p ys) refl (All-head P y ys h) (found P p ys x (All-tail P y ys h)) e
-
-pub found_some : {A : Type 0} (p : A → Bool) (xs : List A) (x : A) → find p xs ≡ Some x → 1 ≤ length xs
-found_some p [] x e = absurd cc
-found_some p (y ∷ ys) x e = omega arith

@@ -1,7 +1,3 @@
-mod DayLemmas
 mod EventLemmas
-mod FaultLemmas
 mod JoinLemmas
-mod LegLemmas
 mod NamesLemmas
-mod SeenLemmas

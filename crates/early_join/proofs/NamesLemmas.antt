@@ -33,7 +33,7 @@ names_of keys = map (λ k. k.now) keys
 abbrev pub legs_of : List (Bor (List ℕ) × ℕ) → List (List ℕ × ℕ)
 legs_of keys = map (λ k. (k.0.now, k.1)) keys
 
-pub any_now : (name : List ℕ) (keys : List (Bor (List ℕ))) → list_any (λ k. bytes_eq name k.now) keys ≡ list_any (bytes_eq name) (names_of keys)
+any_now : (name : List ℕ) (keys : List (Bor (List ℕ))) → list_any (λ k. bytes_eq name k.now) keys ≡ list_any (bytes_eq name) (names_of keys)
 any_now name keys = any_map (λ k. k.now) (bytes_eq name) keys
 
 pub now_with_name : (keys : List (Bor (List ℕ))) (k : Bor (List ℕ)) → names_of (cond (list_any (λ x. bytes_eq k.now x.now) keys) keys (keys ++ k ∷ [])) ≡ with_name (names_of keys) k.now

@@ -7,7 +7,7 @@ ghost use Rattle.early_join.specs.Join.{row_of, step_of, event_of, joined, event
 ghost use Rattle.early_join.specs.Gives.{JoinGives};
 
 use crate::fault::JoinFault;
-use crate::names::{Legs, Names, legs_of, names_of};
+use crate::names::{Legs, Names, legs_of, planes_of};
 use desk_data::{Instance, Move, Row, Step};
 use desk_model::Event;
 use desk_units::{Leg, List, NoMem, Plane};
@@ -31,7 +31,7 @@ impl<'a> Places<'a> {
         ensures { IfOk result (λ places. places.inst.now ≡ inst.now) }
     {
         let parts = inst.parts();
-        let planes = names_of(alloc, parts.planes.as_slice())?;
+        let planes = planes_of(alloc, parts.planes.as_slice())?;
         let legs = legs_of(alloc, parts.legs.as_slice())?;
         Ok(Places { inst, planes, legs })
     }

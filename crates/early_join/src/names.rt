@@ -1,18 +1,16 @@
-//! Names and legs in order, found by their bytes.
+//! The aircraft and the legs of an instance in order, found by their names.
 
-ghost use Rattle.std.specs.Prelude.{◌≡◌, ◌≢◌, ◌≤◌, ◌<◌, ◌^◌, [], IfOk, IfSome, not, length, map, position, bytes_eq, AllPairs};
-ghost use Rattle.std.specs.List.{list_any};
+ghost use Rattle.std.specs.Prelude.{◌≡◌, ◌≢◌, ◌≤◌, ◌<◌, ◌^◌, [], IfOk, IfSome, length, map, position, AllPairs};
 ghost use Rattle.early_join.specs.Join.{place_of};
 ghost use Rattle.early_join.specs.Names.{with_name, with_leg, is_leg};
 
 use desk_data::{LegInfo, PlaneInfo};
 use desk_units::NoMem;
-use early_form::{AircraftRow, FlightRow};
 use indexmap::IndexSet;
 use std::alloc::Global;
 use std::marker::Model;
 
-/// Different names in order of first sight, borrowed from the rows that they stand in.
+/// Different names in order of first sight, borrowed from what they name.
 #[derive(Drop)]
 pub(crate) struct Names<'a> {
     names: IndexSet<&'a [u8]>,
@@ -35,13 +33,12 @@ impl<'a> Names<'a> {
         }
     }
 
-    /// Adds a name, and says whether it is new.
-    pub(crate) fn insert(&mut self, name: &'a [u8]) -> Result<bool, NoMem>
-        ensures new { IfOk result (λ fresh. fresh ≡ not (list_any (bytes_eq name.now) self.old)) }
-        ensures names { IfOk result (λ _. self.new ≡ with_name self.old name.now) }
+    /// Adds a name, where it is new.
+    pub(crate) fn insert(&mut self, name: &'a [u8]) -> Result<(), NoMem>
+        ensures { IfOk result (λ _. self.new ≡ with_name self.old name.now) }
     {
-        let (_, fresh) = self.names.insert_full(name)?;
-        Ok(fresh)
+        let _ = self.names.insert_full(name)?;
+        Ok(())
     }
 
     /// The place of a name, from 0.
@@ -97,48 +94,14 @@ impl<'a> Legs<'a> {
     }
 }
 
-/// Rows that have a name.
-pub(crate) trait Named {
-    ghost use Rattle.std.specs.Prelude.{List, ℕ};
-
-    ghost named: { Self → List ℕ };
-
-    fn name(&self) -> &[u8]
-        ensures { result.now ≡ named self.now };
-}
-
-impl Named for FlightRow {
-    ghost named = { λ row. row.flight };
-
-    fn name(&self) -> &[u8] {
-        self.flight.as_slice()
-    }
-}
-
-impl Named for AircraftRow {
-    ghost named = { λ row. row.name };
-
-    fn name(&self) -> &[u8] {
-        self.name.as_slice()
-    }
-}
-
-impl Named for PlaneInfo {
-    ghost named = { λ plane. plane.name };
-
-    fn name(&self) -> &[u8] {
-        self.name.as_slice()
-    }
-}
-
-/// The names of rows, no two of which are named alike.
-pub(crate) fn names_of<'a, T: Named>(alloc: Global, rows: &'a [T]) -> Result<Names<'a>, NoMem>
-    requires { AllPairs (λ a b. T.named a ≢ T.named b) rows.now }
-    ensures { IfOk result (λ names. names ≡ map T.named rows.now) }
+/// The names of aircraft, no two of which are named alike.
+pub(crate) fn planes_of<'a>(alloc: Global, planes: &'a [PlaneInfo]) -> Result<Names<'a>, NoMem>
+    requires { AllPairs (λ a b. a.name ≢ b.name) planes.now }
+    ensures { IfOk result (λ names. names ≡ map (λ plane. plane.name) planes.now) }
 {
     let mut names = Names::new(alloc);
-    for row in rows {
-        let _ = names.insert(row.name())?;
+    for plane in planes {
+        names.insert(plane.name.as_slice())?;
     }
     Ok(names)
 }

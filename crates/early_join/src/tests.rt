@@ -1,26 +1,74 @@
-//! A day of two aircraft and three flights, and what is not known in it.
+//! A day of two aircraft and three legs, and what is not known in it.
 
-ghost use Rattle.std.specs.Prelude.{◌<◌, length};
-
-use crate::{JoinFault, join, join_journal};
-use desk_data::{Airport, Instance, Leg, Minute, Plane, Price, Row, Step};
+use crate::{JoinFault, join_journal};
+use desk_data::{
+    Airport, AirportInfo, Haul, Instance, Leg, LegInfo, List, Minute, Name, Parts, Plane,
+    PlaneInfo, Price, Row, Seats, Step, Tariff,
+};
 use desk_model::Event;
-use early_form::{read_aircraft, read_flights, read_journal, read_rotations};
+use early_form::read_journal;
 use std::alloc::Global;
+use std::process::Abort;
 use std::test::Fail;
 
-const ROTATIONS: &str = "F1 01/03/08 P1\nF2 01/03/08 P1\nF3 01/03/08 P2\n";
+fn name_of(bytes: &[u8]) -> Result<Name, Fail> {
+    Ok(Name::of(bytes).ok_or("a name has 1 to 32 bytes")?)
+}
 
-/// What these rotations give, with three flights and two aircraft.
-fn joined(alloc: Global, rotations: &str) -> Result<Result<Instance, JoinFault>, Fail>
-    requires { length rotations.now < 1000 }
-{
-    let text = b"F1 AAA BBB 08:00 09:00 0\nF2 BBB AAA 09:30 10:30 0\nF3 AAA BBB 12:00 13:00 0\n";
-    let flights = read_flights(alloc, text)?;
-    let rotations = read_rotations(alloc, rotations.as_bytes(), &flights)?;
-    let text = b"P1 M1 NB 0/0/10 600 100 30 20 AAA NULL\nP2 M1 NB 0/0/9 600 120 30 20 CCC NULL\n";
-    let aircraft = read_aircraft(alloc, text, &flights)?;
-    Ok(join(alloc, &flights, &rotations, &aircraft))
+fn plane_of(name: &[u8]) -> Result<PlaneInfo, Fail> {
+    Ok(PlaneInfo {
+        name: name_of(name)?,
+        model: name_of(b"M1")?,
+        family: name_of(b"NB")?,
+        seats: Seats { f: 0, b: 0, e: 10 },
+        range: 600,
+        hourly: Price(1_000_000),
+        turn: 30,
+        transit: 20,
+        origin: Airport(0),
+        maint: None,
+        surface: false,
+    })
+}
+
+fn leg_of(flight: &[u8], sched: u32, plane: u32) -> Result<LegInfo, Fail> {
+    Ok(LegInfo {
+        flight: name_of(flight)?,
+        day: 2_982,
+        origin: Airport(0),
+        dest: Airport(0),
+        sched: Minute(sched),
+        block: 60,
+        distance: 60,
+        haul: Haul::D,
+        plane: Plane(plane),
+        prev: None,
+    })
+}
+
+/// A day of one airport.
+fn day_of(rt: &impl Abort, alloc: Global) -> Result<Instance, Fail> {
+    let airport = AirportInfo {
+        name: name_of(b"AAA")?,
+        caps: List(Vec::new(alloc)),
+    };
+    let legs = vec![in alloc;
+        leg_of(b"F1", 4_294_560, 0)?,
+        leg_of(b"F2", 4_294_650, 0)?,
+        leg_of(b"F3", 4_294_800, 1)?,
+    ]?;
+    let parts = Parts {
+        airports: List(vec![in alloc; airport]?),
+        planes: List(vec![in alloc; plane_of(b"P1")?, plane_of(b"P2")?]?),
+        legs: List(legs),
+        res: List(Vec::new(alloc)),
+        from: Minute(4_294_440),
+        to: Minute(4_295_880),
+        positions: List(Vec::new(alloc)),
+        tariff: Tariff {},
+    };
+    assert!(rt; parts.are_valid(alloc)?);
+    Ok(Instance::of(alloc, parts)?)
 }
 
 /// The line that is refused, or 0 where all rows were joined.
@@ -30,58 +78,6 @@ fn refused<Joined: Drop>(joined: Result<Joined, JoinFault>) -> u32 {
         Err(JoinFault::Unknown { line }) => line,
         Err(JoinFault::Memory) => u32::MAX,
     }
-}
-
-/// The legs: flight, departure, origin, destination and aircraft.
-const LEGS: [(&str, u32, u32, u32, u32); 3] = [
-    ("F1", 4_294_560, 0, 1, 0),
-    ("F2", 4_294_650, 1, 0, 0),
-    ("F3", 4_294_800, 0, 1, 1),
-];
-
-#[test]
-fn rows_become_a_day(rt: HostRuntime) -> Result<(), Fail> {
-    let inst = joined(rt.alloc(), ROTATIONS)??;
-    let parts = inst.parts();
-    assert_eq!(rt; parts.legs.as_slice().len(), 3);
-    for (leg, (flight, sched, origin, dest, plane)) in parts.legs.as_slice().iter().zip(&LEGS) {
-        assert_eq!(rt; leg.flight.as_slice(), flight.as_bytes());
-        assert_eq!(rt; leg.sched, Minute(*sched));
-        assert_eq!(rt; (leg.origin, leg.dest), (Airport(*origin), Airport(*dest)));
-        assert_eq!(rt; leg.plane, Plane(*plane));
-        assert_eq!(rt; (leg.day, leg.block), (2_982, 60));
-    }
-    let planes = [("P1", 0, 1_000_000), ("P2", 2, 1_200_000)];
-    assert_eq!(rt; parts.planes.as_slice().len(), 2);
-    for (plane, (name, origin, hourly)) in parts.planes.as_slice().iter().zip(&planes) {
-        assert_eq!(rt; plane.name.as_slice(), name.as_bytes());
-        assert_eq!(rt; plane.origin, Airport(*origin));
-        assert_eq!(rt; plane.hourly, Price(*hourly));
-    }
-    assert_eq!(rt; parts.airports.as_slice().len(), 3);
-    for (airport, name) in parts.airports.as_slice().iter().zip(&["AAA", "BBB", "CCC"]) {
-        assert_eq!(rt; airport.name.as_slice(), name.as_bytes());
-    }
-    assert_eq!(rt; inst.window(), (Minute(0), Minute(52_500_000)));
-    Ok(())
-}
-
-const JOINED: [(&str, u32); 6] = [
-    ("", 0),
-    (ROTATIONS, 0),
-    ("F9 01/03/08 P1\n", 1),
-    ("F1 01/03/08 P1\nF9 01/03/08 P1\n", 2),
-    ("F1 01/03/08 P1\nF2 01/03/08 P9\n", 2),
-    ("F1 01/03/08 P1\nF1 02/03/08 P2\n", 0),
-];
-
-#[test]
-fn unknown_names_are_refused_at_their_line(rt: HostRuntime) -> Result<(), Fail> {
-    for (text, line) in &JOINED {
-        assert!(rt; text.len() < 1000);
-        assert_eq!(rt; refused(joined(rt.alloc(), text)?), *line, "{text}");
-    }
-    Ok(())
 }
 
 const JOURNALS: [(&str, u32); 7] = [
@@ -102,7 +98,7 @@ const JOURNALS: [(&str, u32); 7] = [
 
 #[test]
 fn proposals_become_events(rt: HostRuntime) -> Result<(), Fail> {
-    let inst = joined(rt.alloc(), ROTATIONS)??;
+    let inst = day_of(&rt, rt.alloc())?;
     for (text, line) in &JOURNALS {
         assert!(rt; text.len() < 1000);
         let rows = read_journal(rt.alloc(), text.as_bytes())?;

@@ -19,4 +19,5 @@ returns g c = record {
       c.in-Err-put_texts.ensures.wrote;
   cause = c.in-Err-put_texts.ensures.cause;
   only = c.in-Err-put_texts.ensures.only;
+  kept = c.in-Err-put_texts.ensures.kept;
 }

@@ -1,4 +1,4 @@
-use Rattle.std.proofs.Common.{◌≡◌, ◌≤◌, ◌+◌, length}
+use Rattle.std.proofs.Common.{◌≡◌, ◌≤◌, ◌+◌, All, length}
 use Rattle.early_form.specs.Rows.{rows_from, rows_of}
 use Rattle.early_form.proofs.RowLemmas.{pieces}
 use Rattle.early_form.proofs.table.read_rows.Given as goal
@@ -6,8 +6,7 @@ use Rattle.early_form.proofs.table.read_rows.Given as goal
 -- the rows so far, and those of what is left, are the rows of all
 abbrev pub invariant-loop-rest : goal.invariant-loop-rest
 invariant-loop-rest g l = record {
-  knows : g.T.Table.knows l.table l.seen l.rows.items;
-  holds : g.T.Table.holds l.table l.rows.items;
+  holds : All (λ row. g.T.Table.holds l.table row) l.rows.items;
   read : rows_from (g.T.Table.reads l.table) l.rows.items (pieces l.rest) ≡ rows_of (g.T.Table.reads l.table) l.bytes;
   room : length l.rows.items + length l.rest ≤ length l.bytes;
 }
