@@ -1,7 +1,7 @@
--- What the host's folder tells of itself: its counts of faults, and no bytes.
+-- What the host's folder and sink tell of themselves: their counts of faults, and no bytes.
 use Rattle.std.specs.Prelude.{◌≡◌, ℕ, List, None, slice_index}
 use Rattle.desk_folder.specs.Files.{file_number}
-use Rattle.desk_folder.specs.Outside.{Outside}
+use Rattle.desk_folder.specs.Outside.{Outside, SinkSide}
 use Rattle.desk_folder.specs.declared.files.File.{File}
 
 -- how many calls failed of `place`, and of `next` and `put` for each file by its number
@@ -20,6 +20,10 @@ counts_alone h = record {
   next_faults = λ file. slice_index h.next (file_number file);
   put_faults = λ file. slice_index h.put (file_number file);
 }
+
+-- the count of a sink is told, and nothing else
+abbrev pub faults_alone : ℕ → SinkSide
+faults_alone faults = record { written = None; faults = faults }
 
 -- nothing is told of directories and bytes, and no call has failed
 pub record TellsNoBytes (now : Outside) : Type 0 where

@@ -1,7 +1,7 @@
 //! The host's own folder and standard output. They tell no bytes: what the host does with a call is
 //! trusted, and the contracts speak of counts alone.
 ghost use Rattle.std.specs.Prelude.{◌≡◌, ◌≢◌, length, slice_index, if◌then◌else◌};
-ghost use Rattle.desk_folder.specs.Calls.{Counts};
+ghost use Rattle.desk_folder.specs.Calls.{Counts, CountsFailure};
 ghost use Rattle.desk_folder.specs.Files.{file_number, is_solution};
 ghost use Rattle.desk_folder.specs.declared.files.File.{File};
 
@@ -89,6 +89,7 @@ fn counted(
     requires { length counts.old ≡ FILES }
     ensures same { result ≡ answer }
     ensures counts { Counts (slice_index counts.old (file_number file)) (slice_index counts.new (file_number file)) answer }
+    ensures exact { CountsFailure (slice_index counts.old (file_number file)) (slice_index counts.new (file_number file)) answer }
     ensures others { (f : File) → f ≢ file → slice_index counts.new (file_number f) ≡ slice_index counts.old (file_number f) }
 {
     if answer == Err(FolderFault::Failed) {
@@ -105,11 +106,16 @@ fn source_directory<'a>(input: &'a str, output: &'a str, file: File) -> &'a str
 }
 
 impl<R: Files + Drop> Folder for HostFolder<R> {
+    ghost use Rattle.std.specs.Prelude.{◌<◌, length};
+    ghost use Rattle.desk_folder.specs.Calls.{CountsFailure, Places, Takes, Puts};
     ghost use Rattle.desk_folder.specs.Host.{counts_alone};
 
     ghost outside = { counts_alone };
 
-    fn place(&mut self, alloc: Global, input: &str, output: &str) -> Result<(), FolderFault> {
+    fn place(&mut self, alloc: Global, input: &str, output: &str) -> Result<(), FolderFault>
+        ensures places { Places (counts_alone self.old) (counts_alone self.new) input.now output.now result }
+        ensures counted { CountsFailure self.old.place self.new.place result }
+    {
         let input = String::from_str(alloc, input)?;
         let Ok(output) = String::from_str(alloc, output) else {
             return Err(FolderFault::Memory);
@@ -122,7 +128,11 @@ impl<R: Files + Drop> Folder for HostFolder<R> {
         Ok(())
     }
 
-    fn next(&mut self, alloc: Global, file: File, into: &mut [u8]) -> Result<usize, FolderFault> {
+    fn next(&mut self, alloc: Global, file: File, into: &mut [u8]) -> Result<usize, FolderFault>
+        requires { 0 < length into.old }
+        ensures takes { Takes (counts_alone self.old) (counts_alone self.new) file into.new result }
+        ensures counted { CountsFailure ((counts_alone self.old).next_faults file) ((counts_alone self.new).next_faults file) result }
+    {
         let source = &mut self.sources[file.number()];
         let (input, output) = (self.input.as_str(), self.output.as_str());
         let directory = source_directory(input, output, file);
@@ -130,7 +140,11 @@ impl<R: Files + Drop> Folder for HostFolder<R> {
         counted(&mut self.next_faults, file, answer)
     }
 
-    fn put(&mut self, alloc: Global, file: File, piece: &[u8]) -> Result<usize, FolderFault> {
+    fn put(&mut self, alloc: Global, file: File, piece: &[u8]) -> Result<usize, FolderFault>
+        requires { 0 < length piece.now }
+        ensures puts { Puts (counts_alone self.old) (counts_alone self.new) file piece.now result }
+        ensures counted { CountsFailure ((counts_alone self.old).put_faults file) ((counts_alone self.new).put_faults file) result }
+    {
         let target = &mut self.targets[file.number()];
         let directory = self.output.as_str();
         let emptied = &mut self.is_emptied;
@@ -166,11 +180,17 @@ impl<P: Print + Drop> HostSink<P> {
 }
 
 impl<P: Print + Drop> Sink for HostSink<P> {
-    ghost use Rattle.std.specs.Prelude.{None};
+    ghost use Rattle.std.specs.Prelude.{◌<◌, length};
+    ghost use Rattle.desk_folder.specs.Calls.{CountsFailure, PutsToSink};
+    ghost use Rattle.desk_folder.specs.Host.{faults_alone};
 
-    ghost report = { λ faults. record { written = None; faults = faults } };
+    ghost report = { faults_alone };
 
-    fn put(&mut self, _alloc: Global, piece: &[u8]) -> Result<usize, FolderFault> {
+    fn put(&mut self, _alloc: Global, piece: &[u8]) -> Result<usize, FolderFault>
+        requires { 0 < length piece.now }
+        ensures puts { PutsToSink (faults_alone self.old) (faults_alone self.new) piece.now result }
+        ensures counted { CountsFailure self.old self.new result }
+    {
         match self.rt.write_some(piece) {
             Ok(count) if count > 0 => Ok(count),
             _ => {

@@ -1,10 +1,13 @@
 use Rattle.desk_folder.proofs.HostLemmas.{Takes-untold}
 use Rattle.desk_folder.proofs.host.HostFolderFolder.next.Goals as goal
 
-pub returns : goal.returns
-returns g c =
+pub returns-clause-takes : goal.returns-clause-takes
+returns-clause-takes g c =
     let h = c.self.inside in
     let call = c.read_some-answer in
     let faults = c.counted.ensures in
     rw (← c.self.view_is, faults.same)
     (Takes-untold h.place_faults h.next_faults c.counted.new.counts h.put_faults c.args.file call.new.into call.result call.ensures faults.counts faults.others)
+
+pub returns-clause-counted : goal.returns-clause-counted
+returns-clause-counted g c = rw (← c.self.view_is, c.counted.ensures.same) c.counted.ensures.exact
