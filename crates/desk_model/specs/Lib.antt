@@ -1,6 +1,9 @@
 pub mod Numbers
 pub mod Rotations
 pub mod Rules
+pub mod Maintenance
+pub mod Slots
+pub mod Least
 pub mod Cost
 pub mod Steps
 pub mod States
