@@ -2,6 +2,7 @@
 #![tactic(auto)]
 
 mod broken;
+mod hours;
 mod info;
 mod instance;
 mod moves;
