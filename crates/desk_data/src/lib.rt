@@ -5,6 +5,7 @@ mod broken;
 mod hours;
 mod info;
 mod instance;
+mod kept;
 mod moves;
 mod orders;
 mod parts;
