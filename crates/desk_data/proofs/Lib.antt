@@ -1,3 +1,6 @@
+mod ChangeLemmas
+mod LastLemmas
 mod NameLemmas
 mod SaidLemmas
 mod ScheduleLemmas
+mod TouchLemmas
