@@ -12,7 +12,7 @@ use Rattle.desk_data.specs.declared.broken.Broken.TheVariants.{C2, C5, C6}
 use Rattle.desk_data.specs.Situation.{Situation, legs_of}
 use Rattle.desk_data.specs.PlanRows.{PlanRows}
 use Rattle.desk_model.specs.Numbers.{numbers}
-use Rattle.desk_model.specs.Rules.{breaks, items, least, leg}
+use Rattle.desk_model.specs.Least.{breaks, items, least, leg}
 use Rattle.desk_model.specs.Words.{Meets, IsFeasible, IsLeast}
 use Rattle.desk_model.proofs.RulesLaws.{breaks-holds, breaks-from}
 

@@ -10,7 +10,8 @@ use Rattle.desk_data.specs.Situation.{Situation, legs_of, leg_at, plane_at, fixe
 use Rattle.desk_data.specs.PlanRows.{PlanRows, row_at}
 use Rattle.desk_model.specs.Numbers.{each_below, none_below, implies}
 use Rattle.desk_model.specs.Rotations.{is_earlier, comes_before, precedes, follows, is_first, arr, ground}
-use Rattle.desk_model.specs.Rules.{departs_in_time, leaves_right, has_ground_time, keeps_c2, keeps_c5, keeps_c6, breaks, leg}
+use Rattle.desk_model.specs.Rules.{departs_in_time, leaves_right, has_ground_time, keeps_c2, keeps_c5, keeps_c6}
+use Rattle.desk_model.specs.Least.{breaks, leg}
 use Rattle.desk_model.specs.Words.{Flies, Precedes, Follows, IsFirst, MeetsC2, MeetsC5, LeavesRight, MeetsC6, Meets}
 use Rattle.desk_model.proofs.Tests.{each_below-holds, each_below-from, none_below-holds, none_below-from, implies-holds, implies-from}
 

@@ -1,5 +1,5 @@
 -- The rules of single legs as tests, C1 to C7.
-use Rattle.std.specs.Prelude.{ℕ, ◌+◌, Bool, true, false, ◌&&◌, ◌||◌, not, nat_lt, nat_le, ◌==◌, bytes_eq, Option, Some, None}
+use Rattle.std.specs.Prelude.{ℕ, ◌+◌, Bool, true, ◌&&◌, ◌||◌, not, nat_lt, nat_le, ◌==◌, bytes_eq, Option, Some, None}
 use Rattle.std.specs.List.{list_any}
 use Rattle.desk_units.specs.declared.numbers.Minute.{Minute}
 use Rattle.desk_data.specs.declared.row.Row.{Row}
@@ -8,18 +8,12 @@ use Rattle.desk_data.specs.Situation.{Situation, legs_of, leg_at, plane_at, fixe
 use Rattle.desk_data.specs.PlanRows.{PlanRows, row_at}
 use Rattle.desk_model.specs.Numbers.{each_below, implies}
 use Rattle.desk_model.specs.Rotations.{arr, follows, is_first, ground}
-
--- whether two rows are one
-abbrev pub is_same_row : Row → Row → Bool
-is_same_row (Flown plane dep) (Flown other at) = (plane.0 == other.0) && (dep.0 == at.0)
-is_same_row (Flown plane dep) Cancelled = false
-is_same_row Cancelled (Flown plane dep) = false
-is_same_row Cancelled Cancelled = true
+use Rattle.desk_model.specs.Steps.{is_row}
 
 -- C1: a fixed leg has the row that is due
 abbrev pub has_due_row : Option Row → Row → Bool
 has_due_row None row = true
-has_due_row (Some asked) row = is_same_row asked row
+has_due_row (Some asked) row = is_row asked row
 
 unfoldable pub keeps_c1 : Situation → PlanRows → ℕ → Bool
 keeps_c1 I P x = has_due_row (due I x) (row_at P x)

@@ -4,7 +4,7 @@ ghost use Rattle.std.specs.Prelude.{◌≡◌, Option, None, Some};
 ghost use Rattle.desk_data.specs.declared.broken.Broken.{Broken as Item};
 ghost use Rattle.desk_data.specs.Situation.{Situation};
 ghost use Rattle.desk_data.specs.PlanRows.{PlanRows};
-ghost use Rattle.desk_model.specs.Rules.{least};
+ghost use Rattle.desk_model.specs.Least.{least};
 ghost use Rattle.desk_model.specs.Words.{IsFeasible, IsLeast};
 
 /// A plan breaks no item exactly where it meets each rule, as the rules are written in words: it
