@@ -1,14 +1,22 @@
 //! The rules in words.
 
 ghost use Rattle.std.specs.Prelude.{◌≡◌, Option, None, Some};
+ghost use Rattle.std.specs.Option.{option_or};
 ghost use Rattle.desk_data.specs.declared.broken.Broken.{Broken as Item};
 ghost use Rattle.desk_data.specs.Situation.{Situation};
 ghost use Rattle.desk_data.specs.PlanRows.{PlanRows};
-ghost use Rattle.desk_model.specs.Least.{least};
+ghost use Rattle.desk_model.specs.Least.{least, least_rot, least_slots};
 ghost use Rattle.desk_model.specs.Words.{IsFeasible, IsLeast};
 
-/// A plan breaks no item exactly where it meets each rule, as the rules are written in words: it
-/// departs in time (C2), each leg leaves where its aircraft is (C5) and after its ground time (C6).
+/// A plan breaks no item exactly where it meets each rule, as the rules are written in words:
+///
+/// - C1: a fixed leg has the row that is due.
+/// - C2: a movable leg that is flown is not ordered off, and departs in time.
+/// - C3 and C4: a flown leg's aircraft is of the scheduled family, and the leg within its range.
+/// - C5 and C6: a leg leaves where its aircraft is, and after its ground time.
+/// - C7: a leg is flown while its aircraft is in service.
+/// - C8 and C9: an aircraft makes its maintenance, and flies no more minutes before it than stated.
+/// - C10 and C11: an airport has no more departures and arrivals in an hour than its caps.
 pub fn feasible_plans_meet_the_rules()
     ensures meets { (I : Situation) (P : PlanRows) → least I P ≡ None → IsFeasible I P }
     ensures only { (I : Situation) (P : PlanRows) → IsFeasible I P → least I P ≡ None }
@@ -18,4 +26,10 @@ pub fn feasible_plans_meet_the_rules()
 /// in the order of what it names, is not.
 pub fn the_first_broken_item_is_told()
     ensures { (I : Situation) (P : PlanRows) (item : Item) → least I P ≡ Some item → IsLeast I P item }
+{}
+
+/// The item that is told is the first that breaks C1 to C9, and where there is none the first that
+/// breaks C10 or C11: so the two can be looked for apart.
+pub fn the_least_is_of_rotations_before_slots()
+    ensures { (I : Situation) (P : PlanRows) → least I P ≡ option_or (least_rot I P) (least_slots I P) }
 {}
