@@ -1,6 +1,6 @@
 -- What the least broken item says of the rules.
-use Rattle.std.proofs.Common.{◌≡◌, ◌++◌, ℕ, ◌<◌, List, [], ◌∷◌, Bool, true, false, sym, ◌∙◌}
-use Rattle.std.specs.Prelude.{find, map, None, Some, Option}
+use Rattle.std.proofs.Common.{◌≡◌, ◌++◌, ℕ, ◌<◌, List, [], ◌∷◌, false, sym, ◌∙◌}
+use Rattle.std.specs.Prelude.{find, map, None, Some}
 use Rattle.std.specs.Option.{option_or}
 use Rattle.std.specs.List.{AllByRecursion}
 use Rattle.std.proofs.lemmas.Bool.{true≢false}

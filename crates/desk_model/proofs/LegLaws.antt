@@ -1,8 +1,8 @@
 -- The rules that speak of one leg's row: C1, C2, C3, C4 and C7.
-use Rattle.std.proofs.Common.{◌≡◌, ℕ, ◌+◌, ◌<◌, ◌≤◌, inl, inr, Bool, true, false, ◌&&◌, ◌||◌, not, ltb, eqb, leb, List, [], ◌∷◌, refl, sym, ap, subst, ◌∙◌}
+use Rattle.std.proofs.Common.{◌≡◌, ℕ, ◌+◌, ◌≤◌, inl, inr, Bool, true, false, ◌&&◌, ◌||◌, not, ltb, eqb, leb, List, [], ◌∷◌, refl, sym, ap, subst, ◌∙◌}
 use Rattle.std.specs.Prelude.{Option, None, Some, bytes_eq}
 use Rattle.std.specs.List.{AllByRecursion, list_any}
-use Rattle.std.proofs.lemmas.Bool.{and_parts, and_from, not-true, not_from_true, not_from_false, cases_Bool, or_cases, or_parts, or_from, or_left, or_right, true≢false, false_from_ne_true, ltb-true, eqb-true, leb-true, lt-ltb, eq-eqb, le-leb}
+use Rattle.std.proofs.lemmas.Bool.{and_parts, and_from, not-true, not_from_false, cases_Bool, or_cases, or_parts, or_from, or_left, or_right, true≢false, false_from_ne_true, ltb-true, eqb-true, leb-true, lt-ltb, eq-eqb, le-leb}
 use Rattle.std.proofs.lemmas.List.Elements.{All-from_recursion, recursion_from_All}
 use Rattle.std.proofs.lemmas.Slice.Eq.{bytes_eq-Decides}
 use Rattle.desk_units.specs.declared.numbers.Minute.{Minute}

@@ -1,5 +1,5 @@
 -- The rules of an aircraft's maintenance: C8 and C9.
-use Rattle.std.proofs.Common.{◌≡◌, ℕ, ◌+◌, ◌<◌, ◌≤◌, inl, inr, Bool, true, false, ◌&&◌, ◌||◌, ltb, eqb, leb, refl, sym, ap, subst, ◌∙◌}
+use Rattle.std.proofs.Common.{◌≡◌, ℕ, ◌<◌, ◌≤◌, inl, inr, Bool, true, ◌&&◌, ltb, eqb, leb, refl, sym, ap, subst, ◌∙◌}
 use Rattle.std.specs.Prelude.{Option, None, Some}
 use Rattle.std.proofs.lemmas.Bool.{and_parts, and_from, cases_Bool, or_cases, or_left, or_right, true≢false, ltb-true, eqb-true, leb-true, lt-ltb, eq-eqb, le-leb}
 use Rattle.desk_units.specs.declared.numbers.Plane.{Plane}
@@ -12,7 +12,7 @@ use Rattle.desk_model.specs.Numbers.{each_below, none_below, implies}
 use Rattle.desk_model.specs.Rotations.{departure, dep, arr, precedes}
 use Rattle.desk_model.specs.Rules.{meets_span}
 use Rattle.desk_model.specs.Maintenance.{is_flown_by, flies, departs_before, departs_from, is_last_before, is_left_at, is_free_for, makes_maintenance, minutes_before, is_within_minutes, keeps_c8, keeps_c9}
-use Rattle.desk_model.specs.Words.{Flies, Precedes, MeetsSpan, IsLastBefore, MakesMaintenance, MeetsC8, MeetsC9}
+use Rattle.desk_model.specs.Words.{Flies, MeetsSpan, IsLastBefore, MakesMaintenance, MeetsC8, MeetsC9}
 use Rattle.desk_model.proofs.Tests.{each_below-holds, each_below-from, none_below-holds, none_below-from, implies-holds, implies-from}
 use Rattle.desk_model.proofs.RotationLaws.{precedes-holds, precedes-from}
 use Rattle.desk_model.proofs.LegLaws.{meets_span-holds, meets_span-from}

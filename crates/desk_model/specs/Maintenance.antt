@@ -1,5 +1,5 @@
 -- The rules of an aircraft's maintenance as tests, C8 and C9.
-use Rattle.std.specs.Prelude.{ℕ, Bool, true, false, ◌&&◌, ◌||◌, not, nat_lt, nat_le, ◌==◌, if◌then◌else◌, sum_by, Option, Some, None}
+use Rattle.std.specs.Prelude.{ℕ, Bool, true, false, ◌&&◌, ◌||◌, nat_lt, nat_le, ◌==◌, if◌then◌else◌, sum_by, Option, Some, None}
 use Rattle.desk_data.specs.declared.row.Row.{Row}
 use Rattle.desk_data.specs.declared.row.Row.TheVariants.{Flown, Cancelled}
 use Rattle.desk_data.specs.declared.info.Maint.{Maint}

@@ -1,5 +1,5 @@
 -- The rules in words: what the tests of a plan say, as facts.
-use Rattle.std.specs.Prelude.{◌≡◌, ℕ, ◌+◌, ◌<◌, ◌≤◌, ◌⊎◌, false, List, ◌∷◌, ◌++◌, All, Option, Some}
+use Rattle.std.specs.Prelude.{◌≡◌, ℕ, ◌+◌, ◌*◌, ◌<◌, ◌≤◌, ◌⊎◌, false, List, ◌∷◌, ◌++◌, All, Some}
 use Rattle.desk_units.specs.declared.numbers.Minute.{Minute}
 use Rattle.desk_data.specs.declared.row.Row.{Row}
 use Rattle.desk_data.specs.declared.row.Row.TheVariants.{Flown}
@@ -93,9 +93,35 @@ MeetsC8 I P p =
     (plane_at I p).surface ≡ false → (maint : Maint) → (plane_at I p).maint ≡ Some maint
     → (x d : ℕ) → x < legs_of I → Flies P x p d → maint.from.0 ≤ d → MakesMaintenance I P p maint
 
+-- leg x of aircraft p departs before a moment
+pub record DepartsBefore (P : PlanRows) (p at x : ℕ) : Type 0 where
+  pub dep : ℕ
+  pub flown : Flies P x p dep
+  pub before : dep < at
+
 -- C9: an aircraft flies at most the stated block minutes before its maintenance
 abbrev pub MeetsC9 : Situation → PlanRows → ℕ → Type 0
 MeetsC9 I P p = (plane_at I p).surface ≡ false → (maint : Maint) → (plane_at I p).maint ≡ Some maint → minutes_before I P p maint.from.0 ≤ maint.minutes
+
+-- an aircraft that is no surface transport flies leg x from airport a, and departs in hour h
+pub record DepartsIn (I : Situation) (P : PlanRows) (a h x : ℕ) : Type 0 where
+  pub plane : ℕ
+  pub dep : ℕ
+  pub flown : Flies P x plane dep
+  pub air : (plane_at I plane).surface ≡ false
+  pub airport : (leg_at I x).origin.0 ≡ a
+  pub from : 60 * h ≤ dep
+  pub to : dep < 60 * h + 60
+
+-- the same of its arrival
+pub record ArrivesIn (I : Situation) (P : PlanRows) (a h x : ℕ) : Type 0 where
+  pub plane : ℕ
+  pub dep : ℕ
+  pub flown : Flies P x plane dep
+  pub air : (plane_at I plane).surface ≡ false
+  pub airport : (leg_at I x).dest.0 ≡ a
+  pub from : 60 * h ≤ dep + (leg_at I x).block
+  pub to : dep + (leg_at I x).block < 60 * h + 60
 
 -- C10 and C11: the departures from an airport in an hour, and the arrivals there, are at most its cap
 abbrev pub MeetsC10 : Situation → PlanRows → ℕ → ℕ → Type 0

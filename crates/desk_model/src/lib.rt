@@ -13,5 +13,5 @@ pub use desk_data::{Broken, Grains, Move};
 pub use histories::{legal_histories_keep_the_promises, runs_are_legal};
 pub use rules::{
     feasible_plans_meet_the_rules, the_first_broken_item_is_told,
-    the_least_is_of_rotations_before_slots,
+    the_least_is_of_rotations_before_slots, the_rules_count_legs_as_in_words,
 };

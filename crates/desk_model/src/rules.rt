@@ -1,12 +1,14 @@
 //! The rules in words.
 
-ghost use Rattle.std.specs.Prelude.{◌≡◌, Option, None, Some};
+ghost use Rattle.std.specs.Prelude.{◌≡◌, ◌↔◌, ℕ, true, Option, None, Some};
 ghost use Rattle.std.specs.Option.{option_or};
 ghost use Rattle.desk_data.specs.declared.broken.Broken.{Broken as Item};
 ghost use Rattle.desk_data.specs.Situation.{Situation};
 ghost use Rattle.desk_data.specs.PlanRows.{PlanRows};
 ghost use Rattle.desk_model.specs.Least.{least, least_rot, least_slots};
-ghost use Rattle.desk_model.specs.Words.{IsFeasible, IsLeast};
+ghost use Rattle.desk_model.specs.Maintenance.{departs_before};
+ghost use Rattle.desk_model.specs.Slots.{arrives_in, departs_in};
+ghost use Rattle.desk_model.specs.Words.{ArrivesIn, DepartsBefore, DepartsIn, IsFeasible, IsLeast};
 
 /// A plan breaks no item exactly where it meets each rule, as the rules are written in words:
 ///
@@ -26,6 +28,15 @@ pub fn feasible_plans_meet_the_rules()
 /// in the order of what it names, is not.
 pub fn the_first_broken_item_is_told()
     ensures { (I : Situation) (P : PlanRows) (item : Item) → least I P ≡ Some item → IsLeast I P item }
+{}
+
+/// What C9, C10 and C11 count, in words: an aircraft's legs that depart before a moment, and the
+/// legs that leave or reach an airport from minute 60 times the hour up to the next hour. Legs of
+/// surface transport are not counted by the hour.
+pub fn the_rules_count_legs_as_in_words()
+    ensures before { (P : PlanRows) (p at x : ℕ) → departs_before P p at x ≡ true ↔ DepartsBefore P p at x }
+    ensures departs { (I : Situation) (P : PlanRows) (a h x : ℕ) → departs_in I P a h x ≡ true ↔ DepartsIn I P a h x }
+    ensures arrives { (I : Situation) (P : PlanRows) (a h x : ℕ) → arrives_in I P a h x ≡ true ↔ ArrivesIn I P a h x }
 {}
 
 /// The item that is told is the first that breaks C1 to C9, and where there is none the first that
