@@ -131,4 +131,26 @@ impl Kept {
     {
         self.hours[airport.0 as usize] = changes;
     }
+    /// Keeps what an airport order says of the hours that its span touches.
+    fn limit(
+        &mut self,
+        alloc: Global,
+        airport: Airport,
+        from: Minute,
+        to: Minute,
+        cap: HourCap,
+    ) -> Result<(), NoMem>
+        requires place { airport.0 < length self.old.hours }
+        requires order { All AreInOrder self.old.hours }
+        ensures { IfOk result (λ _. Adds (Order.Field airport from to cap.deps cap.arrs ∷ []) self.old self.new) }
+    {
+        match hours_of(from, to) {
+            Some((first, behind)) => {
+                let changes = with_cap(alloc, self.hours(airport), first, behind, cap)?;
+                self.put_hours(airport, changes);
+                Ok(())
+            }
+            None => Ok(()),
+        }
+    }
 }
