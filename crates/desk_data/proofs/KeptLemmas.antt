@@ -4,8 +4,9 @@ use Rattle.std.specs.Option.{option_or}
 use Rattle.std.specs.Bool.{if◌then◌else◌}
 use Rattle.std.specs.List.{All, filter_map}
 use Rattle.std.proofs.lemmas.Bool.{cases_eq, eq-eqb, ne_eqb, and_right}
-use Rattle.std.proofs.lemmas.List.{append-nil}
-use Rattle.std.proofs.lemmas.List.Elements.{All-set, All-get_or, filter_map-append}
+use Rattle.std.proofs.lemmas.List.{append-nil, length-replicate, get_or-replicate}
+use Rattle.std.proofs.lemmas.List.Elements.{All-set, All-replicate, filter_map-append}
+use Rattle.std.proofs.lemmas.List.Sorted.{IsNonDecreasingBy-short}
 use Rattle.desk_units.specs.declared.numbers.Airport.{Airport}
 use Rattle.desk_units.specs.declared.numbers.Leg.{Leg}
 use Rattle.desk_units.specs.declared.numbers.Minute.{Minute}
@@ -14,9 +15,11 @@ use Rattle.desk_data.specs.declared.hours.Change.{Change}
 use Rattle.desk_data.specs.declared.hours.HourCap.{HourCap}
 use Rattle.desk_data.specs.declared.orders.Order.{Order}
 use Rattle.desk_data.specs.declared.orders.Order.TheVariants.{Flight, Aircraft, Field}
+use Rattle.desk_data.specs.declared.parts.Parts.{Parts}
 use Rattle.desk_data.specs.Situation.{Situation, said_of, last_said, span_of, spans}
 use Rattle.desk_data.specs.Hours.{last_word, touches, said_of_hour}
-use Rattle.desk_data.specs.KeptLists.{KeptLists, AreInOrder, kept_cap, kept_leg, kept_spans, kept_hours, Adds, Keeps}
+use Rattle.desk_data.specs.KeptLists.{KeptLists, AreInOrder, kept_cap, kept_leg, kept_spans, kept_hours, HasPlace, Adds, Keeps, nothing_kept}
+use Rattle.desk_data.specs.Valid.{IsOrder}
 use Rattle.desk_data.proofs.LastLemmas.{or_assoc, last_word-append}
 
 -- a row that was put, where it is asked for and where another is
@@ -93,3 +96,83 @@ adds_nothing old airport from to deps arrs order hours = record {
   in_order = order;
   hours = λ a h. rw (hours h, and_right (eqb airport.0 a) false refl);
 }
+
+pub adds_none : (kept : KeptLists) → All AreInOrder kept.hours → Adds [] kept kept
+unfolding last_said last_word
+adds_none kept order = record {
+  all_legs = refl;
+  all_planes = refl;
+  all_airports = refl;
+  legs = λ x. refl;
+  spans = λ p. sym (append-nil (kept_spans kept p));
+  in_order = order;
+  hours = λ a h. refl;
+}
+
+last_said_is : (x : ℕ) (orders : List Order) → last_said x orders ≡ last_word (said_of x) orders
+unfolding last_said last_word
+last_said_is x [] = refl
+last_said_is x (order ∷ orders) = ap (λ o. option_or o (said_of x order)) (last_said_is x orders)
+
+last_said-append : (x : ℕ) (xs ys : List Order) → last_said x (xs ++ ys) ≡ option_or (last_said x ys) (last_said x xs)
+last_said-append x xs ys = rw (last_said_is x (xs ++ ys), last_said_is x ys, last_said_is x xs) (last_word-append (said_of x) xs ys)
+
+-- one answer over another over what was there
+over_both : {Y : Type 0} (both late early was mid new : Option Y) → both ≡ option_or late early → mid ≡ option_or early was → new ≡ option_or late mid → new ≡ option_or both was
+over_both both late early was mid new b m n = n ∙ (ap (λ o. option_or late o) m ∙ (sym (or_assoc late early was) ∙ ap (λ o. option_or o was) (sym b)))
+
+-- one order behind others
+pub adds_more : (xs : List Order) (y : Order) (a b c : KeptLists) → Adds xs a b → Adds (y ∷ []) b c → Adds (xs ++ y ∷ []) a c
+adds_more xs y a b c first next = record {
+  all_legs = next.all_legs ∙ first.all_legs;
+  all_planes = next.all_planes ∙ first.all_planes;
+  all_airports = next.all_airports ∙ first.all_airports;
+  legs = λ x. over_both (last_said x (xs ++ y ∷ [])) (last_said x (y ∷ [])) (last_said x xs) (kept_leg a x) (kept_leg b x) (kept_leg c x) (last_said-append x xs (y ∷ [])) (first.legs x) (next.legs x);
+  spans = λ p.
+    next.spans p
+    ∙ (ap (λ s. s ++ filter_map (span_of p) (y ∷ [])) (first.spans p)
+    ∙ (append_assoc (kept_spans a p) (filter_map (span_of p) xs) (filter_map (span_of p) (y ∷ []))
+    ∙ ap (λ s. kept_spans a p ++ s) (sym (filter_map-append (span_of p) xs (y ∷ [])))));
+  in_order = next.in_order;
+  hours = λ a' h. over_both (last_word (said_of_hour a' h) (xs ++ y ∷ [])) (last_word (said_of_hour a' h) (y ∷ [])) (last_word (said_of_hour a' h) xs) (kept_cap (kept_hours a a') h) (kept_cap (kept_hours b a') h) (kept_cap (kept_hours c a') h) (last_word-append (said_of_hour a' h) xs (y ∷ [])) (first.hours a' h) (next.hours a' h);
+}
+
+-- an order has the same place in what is kept after others
+pub has_place-adds : (orders : List Order) (old new : KeptLists) (order : Order) → Adds orders old new → HasPlace old order → HasPlace new order
+has_place-adds orders old new (Flight leg delay) adds h = omega (arith, h, adds.all_legs)
+has_place-adds orders old new (Aircraft plane from to) adds h = omega (arith, h, adds.all_planes)
+has_place-adds orders old new (Field airport from to deps arrs) adds h = omega (arith, h, adds.all_airports)
+
+-- what is kept agrees with the orders, and goes on doing so
+pub keeps_nothing : (parts : Parts) → Keeps (record { parts = parts; orders = [] }) (nothing_kept parts)
+unfolding last_said last_word spans kept_cap
+keeps_nothing parts = record {
+  all_legs = length-replicate (length parts.legs) None;
+  all_planes = length-replicate (length parts.planes) [];
+  all_airports = length-replicate (length parts.airports) [];
+  legs = λ x within. get_or-replicate (length parts.legs) x None None within;
+  spans = λ p within. get_or-replicate (length parts.planes) p [] [] within;
+  in_order = All-replicate AreInOrder (length parts.airports) [] (IsNonDecreasingBy-short (λ (c : Change). c.hour) [] (omega arith));
+  hours = λ a h within. ap (λ (l : List Change). kept_cap l h) (get_or-replicate (length parts.airports) a [] [] within);
+}
+
+pub keeps_more : (I : Situation) (orders : List Order) (old new : KeptLists) → Keeps I old → Adds orders old new → Keeps (record I { orders = I.orders ++ orders }) new
+unfolding spans
+keeps_more I orders old new keeps adds = record {
+  all_legs = adds.all_legs ∙ keeps.all_legs;
+  all_planes = adds.all_planes ∙ keeps.all_planes;
+  all_airports = adds.all_airports ∙ keeps.all_airports;
+  legs = λ x within. adds.legs x ∙ (ap (λ o. option_or (last_said x orders) o) (keeps.legs x within) ∙ sym (last_said-append x I.orders orders));
+  spans = λ p within. adds.spans p ∙ (ap (λ s. s ++ filter_map (span_of p) orders) (keeps.spans p within) ∙ sym (filter_map-append (span_of p) I.orders orders));
+  in_order = adds.in_order;
+  hours = λ a h within. adds.hours a h ∙ (ap (λ o. option_or (last_word (said_of_hour a h) orders) o) (keeps.hours a h within) ∙ sym (last_word-append (said_of_hour a h) I.orders orders));
+}
+
+-- orders that an instance can take have a place
+has_place : (I : Situation) (kept : KeptLists) (order : Order) → Keeps I kept → IsOrder I.parts order → HasPlace kept order
+has_place I kept (Flight leg delay) keeps h = omega (arith, h.0, keeps.all_legs)
+has_place I kept (Aircraft plane from to) keeps h = omega (arith, h, keeps.all_planes)
+has_place I kept (Field airport from to deps arrs) keeps h = omega (arith, h, keeps.all_airports)
+
+pub have_places : (I : Situation) (kept : KeptLists) (orders : List Order) → Keeps I kept → All (IsOrder I.parts) orders → All (HasPlace kept) orders
+have_places I kept orders keeps h = λ k d below. has_place I kept (get_or orders k d) keeps (h k d below)

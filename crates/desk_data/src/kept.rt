@@ -107,6 +107,47 @@ fn copied_lists<T: Copy + Drop>(alloc: Global, lists: &[Vec<T>]) -> Result<Vec<V
 }
 
 impl Kept {
+    /// What is kept with these orders too.
+    pub fn with(&self, alloc: Global, orders: &[Order]) -> Result<Kept, NoMem>
+        requires place { All (HasPlace self.now) orders.now }
+        requires order { All AreInOrder self.now.hours }
+        ensures { IfOk result (λ kept. Adds orders.now self.now kept) }
+    {
+        let mut kept = self.copy(alloc)?;
+        for order in orders {
+            kept.take(alloc, order)?;
+        }
+        Ok(kept)
+    }
+
+    /// Keeps what an order says.
+    fn take(&mut self, alloc: Global, order: &Order) -> Result<(), NoMem>
+        requires place { HasPlace self.old order.now }
+        requires order { All AreInOrder self.old.hours }
+        ensures { IfOk result (λ _. Adds (order.now ∷ []) self.old self.new) }
+    {
+        match order {
+            Order::Flight { leg, delay } => {
+                self.put_leg(*leg, *delay);
+                Ok(())
+            }
+            Order::Aircraft { plane, from, to } => self.push_span(*plane, *from, *to),
+            Order::Field {
+                airport,
+                from,
+                to,
+                deps,
+                arrs,
+            } => {
+                let cap = HourCap {
+                    deps: *deps,
+                    arrs: *arrs,
+                };
+                self.limit(alloc, *airport, *from, *to, cap)
+            }
+        }
+    }
+
     /// Keeps what a flight order says of a leg.
     fn put_leg(&mut self, leg: Leg, said: Option<u32>)
         requires { leg.0 < length self.old.legs }
