@@ -137,12 +137,6 @@ adds_more xs y a b c first next = record {
   hours = λ a' h. over_both (last_word (said_of_hour a' h) (xs ++ y ∷ [])) (last_word (said_of_hour a' h) (y ∷ [])) (last_word (said_of_hour a' h) xs) (kept_cap (kept_hours a a') h) (kept_cap (kept_hours b a') h) (kept_cap (kept_hours c a') h) (last_word-append (said_of_hour a' h) xs (y ∷ [])) (first.hours a' h) (next.hours a' h);
 }
 
--- an order has the same place in what is kept after others
-pub has_place-adds : (orders : List Order) (old new : KeptLists) (order : Order) → Adds orders old new → HasPlace old order → HasPlace new order
-has_place-adds orders old new (Flight leg delay) adds h = omega (arith, h, adds.all_legs)
-has_place-adds orders old new (Aircraft plane from to) adds h = omega (arith, h, adds.all_planes)
-has_place-adds orders old new (Field airport from to deps arrs) adds h = omega (arith, h, adds.all_airports)
-
 -- what is kept agrees with the orders, and goes on doing so
 pub keeps_nothing : (parts : Parts) → Keeps (record { parts = parts; orders = [] }) (nothing_kept parts)
 unfolding last_said last_word spans kept_cap
