@@ -1,4 +1,6 @@
+mod BegunLemmas
 mod ChangeLemmas
+mod KeptLemmas
 mod LastLemmas
 mod NameLemmas
 mod SaidLemmas
