@@ -1,3 +1,8 @@
+mod BegunLemmas
+mod ChangeLemmas
+mod KeptLemmas
+mod LastLemmas
 mod NameLemmas
 mod SaidLemmas
 mod ScheduleLemmas
+mod TouchLemmas

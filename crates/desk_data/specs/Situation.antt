@@ -1,19 +1,23 @@
 -- A day as it is disrupted: the joined rows and the orders taken so far. Every word on it is total:
 -- what is out of range is a row of nothing.
-use Rattle.std.specs.Prelude.{ℕ, ◌+◌, Bool, false, ◌||◌, nat_lt, ◌==◌, if◌then◌else◌, List, [], ◌∷◌, Option, Some, None, length, map, slice_index_or, unwrap_or, is_none}
+use Rattle.std.specs.Prelude.{ℕ, ◌+◌, Bool, false, ◌&&◌, ◌||◌, nat_lt, ◌==◌, if◌then◌else◌, List, [], ◌∷◌, Option, Some, None, length, map, take, slice_index_or, unwrap_or, is_none}
+use Rattle.std.specs.List.{filter_map, prefix_len, starts_with}
 use Rattle.std.specs.Option.{option_or}
+use Rattle.desk_units.specs.declared.numbers.Cabin.{Cabin}
 use Rattle.desk_units.specs.declared.numbers.Haul.TheVariants.{D}
+use Rattle.desk_units.specs.declared.numbers.Leg.{Leg}
+use Rattle.desk_units.specs.declared.numbers.Minute.{Minute}
 use Rattle.desk_data.specs.declared.info.LegInfo.{LegInfo}
 use Rattle.desk_data.specs.declared.info.PlaneInfo.{PlaneInfo}
 use Rattle.desk_data.specs.declared.info.ResInfo.{ResInfo}
 use Rattle.desk_data.specs.declared.info.AirportInfo.{AirportInfo}
 use Rattle.desk_data.specs.declared.parts.Parts.{Parts}
 use Rattle.desk_data.specs.declared.orders.Order.{Order}
-use Rattle.desk_data.specs.declared.orders.Order.TheVariants.{Flight}
+use Rattle.desk_data.specs.declared.orders.Order.TheVariants.{Flight, Aircraft}
 use Rattle.desk_data.specs.declared.row.Row.{Row}
-use Rattle.desk_data.specs.declared.row.Row.TheVariants.{Flown}
+use Rattle.desk_data.specs.declared.row.Row.TheVariants.{Flown, Cancelled}
 use Rattle.desk_data.specs.declared.row.Group.{Group}
-use Rattle.desk_data.specs.PlanRows.{PlanRows}
+use Rattle.desk_data.specs.PlanRows.{PlanRows, cabin_rank}
 
 -- a day as it is disrupted
 pub record Situation : Type 0 where
@@ -91,6 +95,31 @@ ordered_off I x = is_off (last_said x I.orders)
 -- a leg is fixed if its scheduled aircraft is surface transport or it is scheduled before the window
 unfoldable pub fixed : Situation → ℕ → Bool
 fixed I x = (plane_at I (leg_at I x).plane.0).surface || nat_lt (leg_at I x).sched.0 I.parts.from.0
+
+-- the row that a fixed leg should have: it is cancelled if it is ordered off, and else flown by its scheduled aircraft at its earliest departure. A movable leg should have none
+unfoldable pub due : Situation → ℕ → Option Row
+due I x = if fixed I x then Some (if ordered_off I x then Cancelled else Flown (leg_at I x).plane (record { 0 = earliest I x })) else None
+
+-- the span that an order puts aircraft p out of service
+abbrev pub span_of : ℕ → Order → Option (Minute × Minute)
+span_of p (Aircraft plane from to) = if plane.0 == p then Some (from, to) else None
+span_of p order = None
+
+-- the spans in which aircraft p is out of service, in the order of the orders
+unfoldable pub spans : Situation → ℕ → List (Minute × Minute)
+spans I p = filter_map (span_of p) I.orders
+
+-- how many legs at the start of the scheduled path of reservation r are all scheduled to depart before the window
+unfoldable pub begun : Situation → ℕ → ℕ
+begun I r = prefix_len (λ pair. nat_lt (leg_at I pair.0.0).sched.0 I.parts.from.0) (res_at I r).path
+
+-- whether two pairs are the same leg and the same cabin
+abbrev pub same_pair : Leg × Cabin → Leg × Cabin → Bool
+same_pair a b = a.0.0 == b.0.0 && cabin_rank a.1 == cabin_rank b.1
+
+-- whether a path of reservation r begins with the legs of its scheduled path that have begun, in their cabins. The groups play no part
+unfoldable pub bound : Situation → ℕ → List Group → List (Leg × Cabin) → Bool
+bound I r groups path = starts_with same_pair path (take (begun I r) (res_at I r).path)
 
 -- a leg as scheduled
 abbrev pub scheduled_row : LegInfo → Row

@@ -2,8 +2,10 @@
 #![tactic(auto)]
 
 mod broken;
+mod hours;
 mod info;
 mod instance;
+mod kept;
 mod moves;
 mod orders;
 mod parts;

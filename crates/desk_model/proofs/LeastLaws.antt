@@ -1,97 +1,114 @@
 -- What the least broken item says of the rules.
-use Rattle.std.proofs.Common.{◌≡◌, ℕ, zero, suc, ◌<◌, ◌⊎◌, inl, inr, Bool, true, false, cond, List, [], ◌∷◌, ◌++◌, refl, sym, ap, subst, ◌∙◌, arith}
-use Rattle.std.specs.Prelude.{find, map, None, Some, Option}
+use Rattle.std.proofs.Common.{◌≡◌, ◌++◌, ℕ, ◌<◌, List, [], ◌∷◌, false, sym, ◌∙◌}
+use Rattle.std.specs.Prelude.{find, map, None, Some}
 use Rattle.std.specs.Option.{option_or}
 use Rattle.std.specs.List.{AllByRecursion}
 use Rattle.std.proofs.lemmas.Bool.{true≢false}
-use Rattle.std.proofs.lemmas.List.{map-append}
 use Rattle.std.proofs.lemmas.List.Folds.{find-append}
 use Rattle.std.proofs.lemmas.List.Elements.{All-from_recursion}
+use Rattle.desk_units.specs.declared.numbers.Leg.{Leg}
+use Rattle.desk_units.specs.declared.numbers.Plane.{Plane}
+use Rattle.desk_units.specs.declared.numbers.Airport.{Airport}
 use Rattle.desk_data.specs.declared.broken.Broken.{Broken}
-use Rattle.desk_data.specs.declared.broken.Broken.TheVariants.{C2, C5, C6}
-use Rattle.desk_data.specs.Situation.{Situation, legs_of}
+use Rattle.desk_data.specs.declared.broken.Broken.TheVariants.{C1, C2, C3, C4, C5, C6, C7, C8, C9, C10, C11}
+use Rattle.desk_data.specs.Situation.{Situation, legs_of, planes_of, airports_of}
 use Rattle.desk_data.specs.PlanRows.{PlanRows}
 use Rattle.desk_model.specs.Numbers.{numbers}
-use Rattle.desk_model.specs.Rules.{breaks, items, least, leg}
+use Rattle.desk_model.specs.Least.{breaks, all_hours, each_leg, each_plane, each_hour, rotation_items, slot_items, items, least, least_rot, least_slots, leg, plane, airport}
 use Rattle.desk_model.specs.Words.{Meets, IsFeasible, IsLeast}
+use Rattle.desk_model.proofs.FindLaws.{find_none-parts, find_none-both, none_of_numbers, numbers_none, none_of_lists, lists_none, found}
 use Rattle.desk_model.proofs.RulesLaws.{breaks-holds, breaks-from}
 
--- ---- finding
+-- the first broken item is one of rotations, and one of slots where there is none
+pub least-split : (I : Situation) (P : PlanRows) → least I P ≡ option_or (least_rot I P) (least_slots I P)
+unfolding least least_rot least_slots items
+least-split I P = find-append (breaks I P) (rotation_items I) (slot_items I)
 
-or_none : {X : Type 0} (a b : Option X) → option_or a b ≡ None → (a ≡ None) × (b ≡ None)
-or_none None b h = (refl, h)
-or_none (Some x) b h = absurd cc
+-- ---- items of hours
 
-pub find_none-parts : {X : Type 0} (p : X → Bool) (xs ys : List X) → find p (xs ++ ys) ≡ None → (find p xs ≡ None) × (find p ys ≡ None)
-find_none-parts p xs ys h = or_none (find p xs) (find p ys) (sym (find-append p xs ys) ∙ h)
+hour_kept : (I : Situation) (P : PlanRows) (item : Airport → ℕ → Broken) → find (breaks I P) (each_hour I item) ≡ None → (a h : ℕ) → a < airports_of I → h < all_hours → breaks I P (item (airport a) h) ≡ false
+hour_kept I P item none a h lt before =
+    none_of_numbers (breaks I P) (item (airport a)) all_hours
+    (none_of_lists (breaks I P) (λ b. map (item (airport b)) (numbers all_hours)) (airports_of I) none a lt) h before
 
-pub find_none-both : {X : Type 0} (p : X → Bool) (xs ys : List X) → find p xs ≡ None → find p ys ≡ None → find p (xs ++ ys) ≡ None
-find_none-both p xs ys a b = find-append p xs ys ∙ rw (a, b) refl
+hours_kept : (I : Situation) (P : PlanRows) (item : Airport → ℕ → Broken) → ((a h : ℕ) → a < airports_of I → h < all_hours → breaks I P (item (airport a) h) ≡ false) → find (breaks I P) (each_hour I item) ≡ None
+hours_kept I P item kept =
+    lists_none (breaks I P) (λ b. map (item (airport b)) (numbers all_hours)) (airports_of I)
+    (λ a lt. numbers_none (breaks I P) (item (airport a)) all_hours (λ h before. kept a h lt before))
 
-one_none : {X : Type 0} (b : Bool) (x : X) → cond b (Some x) None ≡ None → b ≡ false
-one_none true x h = absurd cc
-one_none false x h = refl
+-- ---- feasible plans
 
--- where none of the items of the numbers is found, each fails the test
-pub none_of_numbers : {X : Type 0} (p : X → Bool) (f : ℕ → X) (n : ℕ) → find p (map f (numbers n)) ≡ None → (k : ℕ) → k < n → p (f k) ≡ false
-none_of_numbers p f zero h k lt = absurd (omega arith)
-none_of_numbers p f (suc n) h k lt =
-    let parts = find_none-parts p (map f (numbers n)) (f n ∷ []) (ap (find p) (sym (map-append f (numbers n) (n ∷ []))) ∙ h) in
-    let cases : (k < n) ⊎ (k ≡ n) = grind arith in
-    elim cases [
-      | inl less ↦ none_of_numbers p f n parts.0 k less
-      | inr same ↦ subst (λ (j : ℕ). p (f j) ≡ false) (sym same) (one_none (p (f n)) (f n) parts.1)
-    ]
+-- the items of the legs up to a rule
+abbrev up_to_c2 : Situation → List Broken
+up_to_c2 I = each_leg I C1 ++ each_leg I C2
 
-pub numbers_none : {X : Type 0} (p : X → Bool) (f : ℕ → X) (n : ℕ) → ((k : ℕ) → k < n → p (f k) ≡ false) → find p (map f (numbers n)) ≡ None
-numbers_none p f zero h = refl
-numbers_none p f (suc n) h =
-    ap (find p) (map-append f (numbers n) (n ∷ []))
-    ∙ find_none-both p (map f (numbers n)) (f n ∷ []) (numbers_none p f n (λ k lt. h k (omega arith))) (rw (h n (omega arith)) refl)
+abbrev up_to_c3 : Situation → List Broken
+up_to_c3 I = up_to_c2 I ++ each_leg I C3
 
--- what is found passes the test, and nothing before it does
-pub record Found {X : Type 0} (p : X → Bool) (xs : List X) (x : X) : Type 0 where
-  pub before : List X
-  pub behind : List X
-  pub place : xs ≡ before ++ x ∷ behind
-  pub passed : AllByRecursion (λ y. p y ≡ false) before
-  pub holds : p x ≡ true
+abbrev up_to_c4 : Situation → List Broken
+up_to_c4 I = up_to_c3 I ++ each_leg I C4
 
-found_in : {X : Type 0} (p : X → Bool) (y : X) (ys : List X) (x : X) (b : Bool) → p y ≡ b → cond b (Some y) (find p ys) ≡ Some x → (find p ys ≡ Some x → Found p ys x) → Found p (y ∷ ys) x
-found_in p y ys x true test h more =
-    let same : y ≡ x = cc in
-    record { before = []; behind = ys; place = ap (λ z. z ∷ ys) same; passed = tt; holds = subst (λ z. p z ≡ true) same test }
-found_in p y ys x false test h more =
-    let rest = more h in
-    record { before = y ∷ rest.before; behind = rest.behind; place = ap (λ zs. y ∷ zs) rest.place; passed = (test, rest.passed); holds = rest.holds }
+abbrev up_to_c5 : Situation → List Broken
+up_to_c5 I = up_to_c4 I ++ each_leg I C5
 
-pub found : {X : Type 0} (p : X → Bool) (xs : List X) (x : X) → find p xs ≡ Some x → Found p xs x
-found p [] x h = absurd cc
-found p (y ∷ ys) x h = found_in p y ys x (p y) refl h (found p ys x)
+abbrev up_to_c6 : Situation → List Broken
+up_to_c6 I = up_to_c5 I ++ each_leg I C6
 
--- ---- the items
+abbrev up_to_c7 : Situation → List Broken
+up_to_c7 I = up_to_c6 I ++ each_leg I C7
+
+abbrev up_to_c8 : Situation → List Broken
+up_to_c8 I = up_to_c7 I ++ each_plane I C8
 
 pub feasible-holds : (I : Situation) (P : PlanRows) → least I P ≡ None → IsFeasible I P
-unfolding least items
+unfolding least items rotation_items slot_items
 feasible-holds I P h =
-    let n = legs_of I in
-    let outer = find_none-parts (breaks I P) (map (λ x. C2 (leg x)) (numbers n) ++ map (λ x. C5 (leg x)) (numbers n)) (map (λ x. C6 (leg x)) (numbers n)) h in
-    let inner = find_none-parts (breaks I P) (map (λ x. C2 (leg x)) (numbers n)) (map (λ x. C5 (leg x)) (numbers n)) outer.0 in
+    let both = find_none-parts (breaks I P) (rotation_items I) (slot_items I) h in
+    let slots = find_none-parts (breaks I P) (each_hour I C10) (each_hour I C11) both.1 in
+    let c9 = find_none-parts (breaks I P) (up_to_c8 I) (each_plane I C9) both.0 in
+    let c8 = find_none-parts (breaks I P) (up_to_c7 I) (each_plane I C8) c9.0 in
+    let c7 = find_none-parts (breaks I P) (up_to_c6 I) (each_leg I C7) c8.0 in
+    let c6 = find_none-parts (breaks I P) (up_to_c5 I) (each_leg I C6) c7.0 in
+    let c5 = find_none-parts (breaks I P) (up_to_c4 I) (each_leg I C5) c6.0 in
+    let c4 = find_none-parts (breaks I P) (up_to_c3 I) (each_leg I C4) c5.0 in
+    let c3 = find_none-parts (breaks I P) (up_to_c2 I) (each_leg I C3) c4.0 in
+    let c2 = find_none-parts (breaks I P) (each_leg I C1) (each_leg I C2) c3.0 in
     record {
-      c2 = λ x lt. breaks-holds I P (C2 (leg x)) (none_of_numbers (breaks I P) (λ x. C2 (leg x)) n inner.0 x lt);
-      c5 = λ x lt. breaks-holds I P (C5 (leg x)) (none_of_numbers (breaks I P) (λ x. C5 (leg x)) n inner.1 x lt);
-      c6 = λ x lt. breaks-holds I P (C6 (leg x)) (none_of_numbers (breaks I P) (λ x. C6 (leg x)) n outer.1 x lt);
+      c1 = λ x lt. breaks-holds I P (C1 (leg x)) (none_of_numbers (breaks I P) (λ x. C1 (leg x)) (legs_of I) c2.0 x lt);
+      c2 = λ x lt. breaks-holds I P (C2 (leg x)) (none_of_numbers (breaks I P) (λ x. C2 (leg x)) (legs_of I) c2.1 x lt);
+      c3 = λ x lt. breaks-holds I P (C3 (leg x)) (none_of_numbers (breaks I P) (λ x. C3 (leg x)) (legs_of I) c3.1 x lt);
+      c4 = λ x lt. breaks-holds I P (C4 (leg x)) (none_of_numbers (breaks I P) (λ x. C4 (leg x)) (legs_of I) c4.1 x lt);
+      c5 = λ x lt. breaks-holds I P (C5 (leg x)) (none_of_numbers (breaks I P) (λ x. C5 (leg x)) (legs_of I) c5.1 x lt);
+      c6 = λ x lt. breaks-holds I P (C6 (leg x)) (none_of_numbers (breaks I P) (λ x. C6 (leg x)) (legs_of I) c6.1 x lt);
+      c7 = λ x lt. breaks-holds I P (C7 (leg x)) (none_of_numbers (breaks I P) (λ x. C7 (leg x)) (legs_of I) c7.1 x lt);
+      c8 = λ p lt. breaks-holds I P (C8 (plane p)) (none_of_numbers (breaks I P) (λ p. C8 (plane p)) (planes_of I) c8.1 p lt);
+      c9 = λ p lt. breaks-holds I P (C9 (plane p)) (none_of_numbers (breaks I P) (λ p. C9 (plane p)) (planes_of I) c9.1 p lt);
+      c10 = λ a h lt before. breaks-holds I P (C10 (airport a) h) (hour_kept I P C10 slots.0 a h lt before);
+      c11 = λ a h lt before. breaks-holds I P (C11 (airport a) h) (hour_kept I P C11 slots.1 a h lt before);
     }
 
+legs_kept : (I : Situation) (P : PlanRows) (item : Leg → Broken) → ((x : ℕ) → x < legs_of I → Meets I P (item (leg x))) → find (breaks I P) (each_leg I item) ≡ None
+legs_kept I P item met = numbers_none (breaks I P) (λ x. item (leg x)) (legs_of I) (λ x lt. breaks-from I P (item (leg x)) (met x lt))
+
+planes_kept : (I : Situation) (P : PlanRows) (item : Plane → Broken) → ((p : ℕ) → p < planes_of I → Meets I P (item (plane p))) → find (breaks I P) (each_plane I item) ≡ None
+planes_kept I P item met = numbers_none (breaks I P) (λ p. item (plane p)) (planes_of I) (λ p lt. breaks-from I P (item (plane p)) (met p lt))
+
 pub feasible-from : (I : Situation) (P : PlanRows) → IsFeasible I P → least I P ≡ None
-unfolding least items
+unfolding least items rotation_items slot_items
 feasible-from I P h =
-    let n = legs_of I in
-    find_none-both (breaks I P) (map (λ x. C2 (leg x)) (numbers n) ++ map (λ x. C5 (leg x)) (numbers n)) (map (λ x. C6 (leg x)) (numbers n))
-    (find_none-both (breaks I P) (map (λ x. C2 (leg x)) (numbers n)) (map (λ x. C5 (leg x)) (numbers n))
-    (numbers_none (breaks I P) (λ x. C2 (leg x)) n (λ x lt. breaks-from I P (C2 (leg x)) (h.c2 x lt)))
-    (numbers_none (breaks I P) (λ x. C5 (leg x)) n (λ x lt. breaks-from I P (C5 (leg x)) (h.c5 x lt))))
-    (numbers_none (breaks I P) (λ x. C6 (leg x)) n (λ x lt. breaks-from I P (C6 (leg x)) (h.c6 x lt)))
+    let c2 = find_none-both (breaks I P) (each_leg I C1) (each_leg I C2) (legs_kept I P C1 h.c1) (legs_kept I P C2 h.c2) in
+    let c3 = find_none-both (breaks I P) (up_to_c2 I) (each_leg I C3) c2 (legs_kept I P C3 h.c3) in
+    let c4 = find_none-both (breaks I P) (up_to_c3 I) (each_leg I C4) c3 (legs_kept I P C4 h.c4) in
+    let c5 = find_none-both (breaks I P) (up_to_c4 I) (each_leg I C5) c4 (legs_kept I P C5 h.c5) in
+    let c6 = find_none-both (breaks I P) (up_to_c5 I) (each_leg I C6) c5 (legs_kept I P C6 h.c6) in
+    let c7 = find_none-both (breaks I P) (up_to_c6 I) (each_leg I C7) c6 (legs_kept I P C7 h.c7) in
+    let c8 = find_none-both (breaks I P) (up_to_c7 I) (each_plane I C8) c7 (planes_kept I P C8 h.c8) in
+    let c9 = find_none-both (breaks I P) (up_to_c8 I) (each_plane I C9) c8 (planes_kept I P C9 h.c9) in
+    let c10 = hours_kept I P C10 (λ a hour lt before. breaks-from I P (C10 (airport a) hour) (h.c10 a hour lt before)) in
+    let c11 = hours_kept I P C11 (λ a hour lt before. breaks-from I P (C11 (airport a) hour) (h.c11 a hour lt before)) in
+    find_none-both (breaks I P) (rotation_items I) (slot_items I) c9 (find_none-both (breaks I P) (each_hour I C10) (each_hour I C11) c10 c11)
+
+-- ---- the first broken item
 
 all_met : (I : Situation) (P : PlanRows) (xs : List Broken) → AllByRecursion (λ item. breaks I P item ≡ false) xs → AllByRecursion (Meets I P) xs
 all_met I P [] h = tt

@@ -1,5 +1,10 @@
 pub mod Tests
+pub mod RotationLaws
+pub mod LegLaws
+pub mod MaintenanceLaws
+pub mod SlotLaws
 pub mod RulesLaws
+pub mod FindLaws
 pub mod LeastLaws
 pub mod StateLaws
 pub mod HistoryLaws

@@ -10,7 +10,7 @@ use Rattle.desk_model.specs.declared.answer.Answer.{Answer}
 use Rattle.desk_model.specs.declared.answer.Answer.TheVariants.{Accepted, Breaks, Dearer, NoPlan, Full}
 use Rattle.desk_model.specs.declared.answer.Event.{Event}
 use Rattle.desk_model.specs.declared.answer.Event.TheVariants as event
-use Rattle.desk_model.specs.Rules.{least}
+use Rattle.desk_model.specs.Least.{least}
 use Rattle.desk_model.specs.Cost.{cost}
 use Rattle.desk_model.specs.Steps.{moved}
 use Rattle.desk_model.specs.States.{State, grains, opening, judged, proposed, answer, published, after}

@@ -1,8 +1,11 @@
 pub mod Numbers
 pub mod Rotations
-pub mod Rules
-pub mod Cost
 pub mod Steps
+pub mod Rules
+pub mod Maintenance
+pub mod Slots
+pub mod Least
+pub mod Cost
 pub mod States
 pub mod Histories
 pub mod Words

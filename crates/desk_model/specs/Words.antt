@@ -1,12 +1,18 @@
 -- The rules in words: what the tests of a plan say, as facts.
-use Rattle.std.specs.Prelude.{◌≡◌, ℕ, ◌+◌, ◌<◌, ◌≤◌, ◌⊎◌, false, List, ◌∷◌, ◌++◌, All}
+use Rattle.std.specs.Prelude.{◌≡◌, ℕ, ◌+◌, ◌*◌, ◌<◌, ◌≤◌, ◌⊎◌, false, List, ◌∷◌, ◌++◌, All, Some}
+use Rattle.desk_units.specs.declared.numbers.Minute.{Minute}
+use Rattle.desk_data.specs.declared.row.Row.{Row}
 use Rattle.desk_data.specs.declared.row.Row.TheVariants.{Flown}
+use Rattle.desk_data.specs.declared.info.Maint.{Maint}
 use Rattle.desk_data.specs.declared.broken.Broken.{Broken}
-use Rattle.desk_data.specs.declared.broken.Broken.TheVariants.{C2, C5, C6}
-use Rattle.desk_data.specs.Situation.{Situation, legs_of, leg_at, plane_at, fixed, ordered_off, earliest, latest}
+use Rattle.desk_data.specs.declared.broken.Broken.TheVariants.{C1, C2, C3, C4, C5, C6, C7, C8, C9, C10, C11}
+use Rattle.desk_data.specs.Situation.{Situation, legs_of, planes_of, airports_of, leg_at, plane_at, fixed, ordered_off, earliest, latest, due, spans}
+use Rattle.desk_data.specs.Hours.{dep_cap, arr_cap}
 use Rattle.desk_data.specs.PlanRows.{PlanRows, row_at}
 use Rattle.desk_model.specs.Rotations.{arr, ground}
-use Rattle.desk_model.specs.Rules.{items}
+use Rattle.desk_model.specs.Maintenance.{minutes_before}
+use Rattle.desk_model.specs.Slots.{departures, arrivals}
+use Rattle.desk_model.specs.Least.{items, all_hours}
 
 -- aircraft p flies leg x, departing at d
 abbrev pub Flies : PlanRows → ℕ → ℕ → ℕ → Type 0
@@ -30,9 +36,21 @@ pub record Follows (I : Situation) (P : PlanRows) (x y : ℕ) : Type 0 where
 abbrev pub IsFirst : Situation → PlanRows → ℕ → Type 0
 IsFirst I P y = (x : ℕ) → x < legs_of I → Precedes P x y → ⊥
 
+-- C1: a fixed leg has the row that is due: cancelled if it is ordered off, else flown by its scheduled aircraft at its earliest departure
+abbrev pub MeetsC1 : Situation → PlanRows → ℕ → Type 0
+MeetsC1 I P x = (row : Row) → due I x ≡ Some row → row_at P x ≡ row
+
 -- C2: a movable leg that is flown is not ordered off, and departs from its earliest to its latest departure
 abbrev pub MeetsC2 : Situation → PlanRows → ℕ → Type 0
 MeetsC2 I P x = fixed I x ≡ false → (p d : ℕ) → Flies P x p d → (ordered_off I x ≡ false) × (earliest I x ≤ d) × (d ≤ latest I x)
+
+-- C3: a flown leg's aircraft is of the family of its scheduled aircraft
+abbrev pub MeetsC3 : Situation → PlanRows → ℕ → Type 0
+MeetsC3 I P x = (p d : ℕ) → Flies P x p d → (plane_at I p).family ≡ (plane_at I (leg_at I x).plane.0).family
+
+-- C4: a flown leg is within its aircraft's range
+abbrev pub MeetsC4 : Situation → PlanRows → ℕ → Type 0
+MeetsC4 I P x = (p d : ℕ) → Flies P x p d → (leg_at I x).distance ≤ (plane_at I p).range
 
 -- C5: the first leg of an aircraft leaves the aircraft's origin
 -- and each follower leaves where the leg before it arrived
@@ -47,18 +65,99 @@ MeetsC5 I P y = (p d : ℕ) → Flies P y p d → (plane_at I p).surface ≡ fal
 abbrev pub MeetsC6 : Situation → PlanRows → ℕ → Type 0
 MeetsC6 I P y = (p d : ℕ) → Flies P y p d → (plane_at I p).surface ≡ false → (x : ℕ) → x < legs_of I → Follows I P x y → arr I P x + ground I p x y ≤ d
 
+-- leg x, departing at d, meets a span: it departs before the span's end, and the span starts before it arrives
+pub record MeetsSpan (I : Situation) (x d : ℕ) (from to : Minute) : Type 0 where
+  pub before_end : d < to.0
+  pub after_start : from.0 < d + (leg_at I x).block
+
+-- C7: no leg meets a span in which its aircraft is out of service
+abbrev pub MeetsC7 : Situation → PlanRows → ℕ → Type 0
+MeetsC7 I P x = (p d : ℕ) → Flies P x p d → (plane_at I p).surface ≡ false → All (λ span. MeetsSpan I x d span.0 span.1 → ⊥) (spans I p)
+
+-- leg x is the last leg of aircraft p that departs before a moment
+pub record IsLastBefore (I : Situation) (P : PlanRows) (p at x : ℕ) : Type 0 where
+  pub dep : ℕ
+  pub flown : Flies P x p dep
+  pub before : dep < at
+  pub last : (z d : ℕ) → z < legs_of I → Flies P z p d → d < at → Precedes P x z → ⊥
+
+-- the aircraft makes its maintenance: none of its legs meets it, and its last leg before it arrived at the maintenance's airport; where there is none, the aircraft began there
+pub record MakesMaintenance (I : Situation) (P : PlanRows) (p : ℕ) (maint : Maint) : Type 0 where
+  pub free : (x d : ℕ) → x < legs_of I → Flies P x p d → MeetsSpan I x d maint.from maint.to → ⊥
+  pub left : (x : ℕ) → x < legs_of I → IsLastBefore I P p maint.from.0 x → (leg_at I x).dest.0 ≡ maint.airport.0
+  pub began : ((x d : ℕ) → x < legs_of I → Flies P x p d → d < maint.from.0 → ⊥) → (plane_at I p).origin.0 ≡ maint.airport.0
+
+-- C8: an aircraft that flies a leg from the start of its maintenance on makes it
+abbrev pub MeetsC8 : Situation → PlanRows → ℕ → Type 0
+MeetsC8 I P p =
+    (plane_at I p).surface ≡ false → (maint : Maint) → (plane_at I p).maint ≡ Some maint
+    → (x d : ℕ) → x < legs_of I → Flies P x p d → maint.from.0 ≤ d → MakesMaintenance I P p maint
+
+-- leg x of aircraft p departs before a moment
+pub record DepartsBefore (P : PlanRows) (p at x : ℕ) : Type 0 where
+  pub dep : ℕ
+  pub flown : Flies P x p dep
+  pub before : dep < at
+
+-- C9: an aircraft flies at most the stated block minutes before its maintenance
+abbrev pub MeetsC9 : Situation → PlanRows → ℕ → Type 0
+MeetsC9 I P p = (plane_at I p).surface ≡ false → (maint : Maint) → (plane_at I p).maint ≡ Some maint → minutes_before I P p maint.from.0 ≤ maint.minutes
+
+-- an aircraft that is no surface transport flies leg x from airport a, and departs in hour h
+pub record DepartsIn (I : Situation) (P : PlanRows) (a h x : ℕ) : Type 0 where
+  pub plane : ℕ
+  pub dep : ℕ
+  pub flown : Flies P x plane dep
+  pub air : (plane_at I plane).surface ≡ false
+  pub airport : (leg_at I x).origin.0 ≡ a
+  pub from : 60 * h ≤ dep
+  pub to : dep < 60 * h + 60
+
+-- the same of its arrival
+pub record ArrivesIn (I : Situation) (P : PlanRows) (a h x : ℕ) : Type 0 where
+  pub plane : ℕ
+  pub dep : ℕ
+  pub flown : Flies P x plane dep
+  pub air : (plane_at I plane).surface ≡ false
+  pub airport : (leg_at I x).dest.0 ≡ a
+  pub from : 60 * h ≤ dep + (leg_at I x).block
+  pub to : dep + (leg_at I x).block < 60 * h + 60
+
+-- C10 and C11: the departures from an airport in an hour, and the arrivals there, are at most its cap
+abbrev pub MeetsC10 : Situation → PlanRows → ℕ → ℕ → Type 0
+MeetsC10 I P a h = (cap : ℕ) → dep_cap I a h ≡ Some cap → departures I P a h ≤ cap
+
+abbrev pub MeetsC11 : Situation → PlanRows → ℕ → ℕ → Type 0
+MeetsC11 I P a h = (cap : ℕ) → arr_cap I a h ≡ Some cap → arrivals I P a h ≤ cap
+
 -- what an item asks; what no rule is built for asks nothing
 abbrev pub Meets : Situation → PlanRows → Broken → Type 0
+Meets I P (C1 leg) = MeetsC1 I P leg.0
 Meets I P (C2 leg) = MeetsC2 I P leg.0
+Meets I P (C3 leg) = MeetsC3 I P leg.0
+Meets I P (C4 leg) = MeetsC4 I P leg.0
 Meets I P (C5 leg) = MeetsC5 I P leg.0
 Meets I P (C6 leg) = MeetsC6 I P leg.0
+Meets I P (C7 leg) = MeetsC7 I P leg.0
+Meets I P (C8 plane) = MeetsC8 I P plane.0
+Meets I P (C9 plane) = MeetsC9 I P plane.0
+Meets I P (C10 airport hour) = MeetsC10 I P airport.0 hour
+Meets I P (C11 airport hour) = MeetsC11 I P airport.0 hour
 Meets I P item = Unit {0}
 
 -- a plan that breaks no rule
 pub record IsFeasible (I : Situation) (P : PlanRows) : Type 0 where
+  pub c1 : (x : ℕ) → x < legs_of I → MeetsC1 I P x
   pub c2 : (x : ℕ) → x < legs_of I → MeetsC2 I P x
+  pub c3 : (x : ℕ) → x < legs_of I → MeetsC3 I P x
+  pub c4 : (x : ℕ) → x < legs_of I → MeetsC4 I P x
   pub c5 : (x : ℕ) → x < legs_of I → MeetsC5 I P x
   pub c6 : (x : ℕ) → x < legs_of I → MeetsC6 I P x
+  pub c7 : (x : ℕ) → x < legs_of I → MeetsC7 I P x
+  pub c8 : (p : ℕ) → p < planes_of I → MeetsC8 I P p
+  pub c9 : (p : ℕ) → p < planes_of I → MeetsC9 I P p
+  pub c10 : (a h : ℕ) → a < airports_of I → h < all_hours → MeetsC10 I P a h
+  pub c11 : (a h : ℕ) → a < airports_of I → h < all_hours → MeetsC11 I P a h
 
 -- the item is broken, and no item before it is
 pub record IsLeast (I : Situation) (P : PlanRows) (item : Broken) : Type 0 where

@@ -1,14 +1,25 @@
 //! The rules in words.
 
-ghost use Rattle.std.specs.Prelude.{◌≡◌, Option, None, Some};
+ghost use Rattle.std.specs.Prelude.{◌≡◌, ◌↔◌, ℕ, ◌<◌, true, Option, None, Some};
+ghost use Rattle.std.specs.Option.{option_or};
 ghost use Rattle.desk_data.specs.declared.broken.Broken.{Broken as Item};
 ghost use Rattle.desk_data.specs.Situation.{Situation};
 ghost use Rattle.desk_data.specs.PlanRows.{PlanRows};
-ghost use Rattle.desk_model.specs.Rules.{least};
-ghost use Rattle.desk_model.specs.Words.{IsFeasible, IsLeast};
+ghost use Rattle.desk_data.specs.Valid.{IsPlanFor, IsValid};
+ghost use Rattle.desk_model.specs.Least.{all_hours, least, least_rot, least_slots};
+ghost use Rattle.desk_model.specs.Maintenance.{departs_before};
+ghost use Rattle.desk_model.specs.Slots.{arrives_in, departs_in};
+ghost use Rattle.desk_model.specs.Words.{ArrivesIn, DepartsBefore, DepartsIn, IsFeasible, IsLeast};
 
-/// A plan breaks no item exactly where it meets each rule, as the rules are written in words: it
-/// departs in time (C2), each leg leaves where its aircraft is (C5) and after its ground time (C6).
+/// A plan breaks no item exactly where it meets each rule, as the rules are written in words:
+///
+/// - C1: a fixed leg has the row that is due.
+/// - C2: a movable leg that is flown is not ordered off, and departs in time.
+/// - C3 and C4: a flown leg's aircraft is of the scheduled family, and the leg within its range.
+/// - C5 and C6: a leg leaves where its aircraft is, and after its ground time.
+/// - C7: a leg is flown while its aircraft is in service.
+/// - C8 and C9: an aircraft makes its maintenance, and flies no more minutes before it than stated.
+/// - C10 and C11: an airport has no more departures and arrivals in an hour than its caps.
 pub fn feasible_plans_meet_the_rules()
     ensures meets { (I : Situation) (P : PlanRows) → least I P ≡ None → IsFeasible I P }
     ensures only { (I : Situation) (P : PlanRows) → IsFeasible I P → least I P ≡ None }
@@ -18,4 +29,26 @@ pub fn feasible_plans_meet_the_rules()
 /// in the order of what it names, is not.
 pub fn the_first_broken_item_is_told()
     ensures { (I : Situation) (P : PlanRows) (item : Item) → least I P ≡ Some item → IsLeast I P item }
+{}
+
+/// What C9, C10 and C11 count, in words: an aircraft's legs that depart before a moment, and the
+/// legs that leave or reach an airport from minute 60 times the hour up to the next hour. Legs of
+/// surface transport are not counted by the hour.
+pub fn the_rules_count_legs_as_in_words()
+    ensures before { (P : PlanRows) (p at x : ℕ) → departs_before P p at x ≡ true ↔ DepartsBefore P p at x }
+    ensures departs { (I : Situation) (P : PlanRows) (a h x : ℕ) → departs_in I P a h x ≡ true ↔ DepartsIn I P a h x }
+    ensures arrives { (I : Situation) (P : PlanRows) (a h x : ℕ) → arrives_in I P a h x ≡ true ↔ ArrivesIn I P a h x }
+{}
+
+/// No leg of a plan leaves or reaches an airport in an hour that no item can name: C10 and C11 hold
+/// of the hours behind the last one too, since nothing departs or arrives then.
+pub fn legs_are_within_the_hours()
+    ensures departs { (I : Situation) (P : PlanRows) (a h x : ℕ) → IsValid I → IsPlanFor I P → DepartsIn I P a h x → h < all_hours }
+    ensures arrives { (I : Situation) (P : PlanRows) (a h x : ℕ) → IsValid I → IsPlanFor I P → ArrivesIn I P a h x → h < all_hours }
+{}
+
+/// The item that is told is the first that breaks C1 to C9, and where there is none the first that
+/// breaks C10 or C11: so the two can be looked for apart.
+pub fn the_least_is_of_rotations_before_slots()
+    ensures { (I : Situation) (P : PlanRows) → least I P ≡ option_or (least_rot I P) (least_slots I P) }
 {}

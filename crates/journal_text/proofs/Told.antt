@@ -1,20 +1,24 @@
 -- Each entry of a legal history can be told.
 use Rattle.std.proofs.Common.{◌≡◌, ℕ, zero, suc, ◌<◌, Bool, true, false, cond, leb, List, [], ◌∷◌, ◌++◌, get_or, take, refl, sym, subst, ◌∙◌, arith}
 use Rattle.std.specs.Prelude.{find, map, None, Some, Option, All}
-use Rattle.std.specs.List.{AllByRecursion}
+use Rattle.std.specs.List.{AllByRecursion, flat_map}
 use Rattle.std.proofs.lemmas.List.{map-append}
+use Rattle.std.proofs.lemmas.List.Concat.{flat_map-append}
 use Rattle.std.proofs.lemmas.Option.{slice_get-get_or}
+use Rattle.desk_units.specs.declared.numbers.Leg.{Leg}
+use Rattle.desk_units.specs.declared.numbers.Plane.{Plane}
+use Rattle.desk_units.specs.declared.numbers.Airport.{Airport}
 use Rattle.desk_data.specs.declared.broken.Broken.{Broken}
-use Rattle.desk_data.specs.declared.broken.Broken.TheVariants.{C2, C5, C6}
+use Rattle.desk_data.specs.declared.broken.Broken.TheVariants.{C1, C2, C3, C4, C5, C6, C7, C8, C9, C10, C11}
 use Rattle.desk_data.specs.declared.moves.Move.{Move}
-use Rattle.desk_data.specs.Situation.{Situation, legs_of}
+use Rattle.desk_data.specs.Situation.{Situation, legs_of, planes_of, airports_of}
 use Rattle.desk_data.specs.PlanRows.{PlanRows}
 use Rattle.desk_model.specs.declared.answer.Answer.TheVariants.{Dearer, Accepted}
 use Rattle.desk_model.specs.declared.answer.Event.{Event}
 use Rattle.desk_model.specs.declared.answer.Event.TheVariants as event
 use Rattle.desk_model.specs.declared.answer.Entry.{Entry}
 use Rattle.desk_model.specs.Numbers.{numbers}
-use Rattle.desk_model.specs.Rules.{breaks, items, least, leg}
+use Rattle.desk_model.specs.Least.{breaks, leg, plane, airport, all_hours, each_leg, each_plane, each_hour, rotation_items, slot_items, items, least}
 use Rattle.desk_model.specs.Cost.{cost}
 use Rattle.desk_model.specs.Steps.{moved}
 use Rattle.desk_model.specs.States.{State, opening, grains, judged, proposed, answer}
@@ -44,15 +48,51 @@ found_among : {X : Type 0} (P : X → Type 0) (p : X → Bool) (xs : List X) (x 
 found_among P p [] x all h = absurd cc
 found_among P p (y ∷ ys) x all h = found_one P p x y ys (p y) h all.0 (found_among P p ys x all.1)
 
+all_of_lists : {X : Type 0} (P : X → Type 0) (f : ℕ → List X) (n : ℕ) → ((k : ℕ) → k < n → AllByRecursion P (f k)) → AllByRecursion P (flat_map f (numbers n))
+all_of_lists P f zero h = tt
+all_of_lists P f (suc n) h =
+    subst (AllByRecursion P) (sym (flat_map-append f (numbers n) (n ∷ [])))
+    (all_joined P (flat_map f (numbers n)) (f n ++ []) (all_of_lists P f n (λ k lt. h k (omega arith))) (all_joined P (f n) [] (h n (omega arith)) tt))
+
+legs_name : (I : Situation) (item : Leg → Broken) → ((x : ℕ) → x < legs_of I → Names I (item (leg x))) → AllByRecursion (Names I) (each_leg I item)
+legs_name I item h = all_of_numbers (Names I) (λ x. item (leg x)) (legs_of I) h
+
+planes_name : (I : Situation) (item : Plane → Broken) → ((p : ℕ) → p < planes_of I → Names I (item (plane p))) → AllByRecursion (Names I) (each_plane I item)
+planes_name I item h = all_of_numbers (Names I) (λ p. item (plane p)) (planes_of I) h
+
+hours_name : (I : Situation) (item : Airport → ℕ → Broken) → ((a h : ℕ) → a < airports_of I → h < all_hours → Names I (item (airport a) h)) → AllByRecursion (Names I) (each_hour I item)
+hours_name I item named =
+    all_of_lists (Names I) (λ a. map (item (airport a)) (numbers all_hours)) (airports_of I)
+    (λ a lt. all_of_numbers (Names I) (item (airport a)) all_hours (λ h before. named a h lt before))
+
+-- an hour that an item can name is within the hundred years
+within_years : (h : ℕ) → h < all_hours → h < 876600
+unfolding all_hours
+within_years h lt = lt
+
+rotation_items_name : (I : Situation) → AllByRecursion (Names I) (rotation_items I)
+unfolding rotation_items
+rotation_items_name I =
+    let c1 = legs_name I C1 (λ x lt. lt) in
+    let c2 = all_joined (Names I) (each_leg I C1) (each_leg I C2) c1 (legs_name I C2 (λ x lt. lt)) in
+    let c3 = all_joined (Names I) _ (each_leg I C3) c2 (legs_name I C3 (λ x lt. lt)) in
+    let c4 = all_joined (Names I) _ (each_leg I C4) c3 (legs_name I C4 (λ x lt. lt)) in
+    let c5 = all_joined (Names I) _ (each_leg I C5) c4 (legs_name I C5 (λ x lt. lt)) in
+    let c6 = all_joined (Names I) _ (each_leg I C6) c5 (legs_name I C6 (λ x lt. lt)) in
+    let c7 = all_joined (Names I) _ (each_leg I C7) c6 (legs_name I C7 (λ x lt. lt)) in
+    let c8 = all_joined (Names I) _ (each_plane I C8) c7 (planes_name I C8 (λ p lt. lt)) in
+    all_joined (Names I) _ (each_plane I C9) c8 (planes_name I C9 (λ p lt. lt))
+
+slot_items_name : (I : Situation) → AllByRecursion (Names I) (slot_items I)
+unfolding slot_items
+slot_items_name I =
+    all_joined (Names I) (each_hour I C10) (each_hour I C11)
+    (hours_name I C10 (λ a h lt before. (lt, within_years h before)))
+    (hours_name I C11 (λ a h lt before. (lt, within_years h before)))
+
 items_name : (I : Situation) → AllByRecursion (Names I) (items I)
 unfolding items
-items_name I =
-    let n = legs_of I in
-    all_joined (Names I) (map (λ x. C2 (leg x)) (numbers n) ++ map (λ x. C5 (leg x)) (numbers n)) (map (λ x. C6 (leg x)) (numbers n))
-    (all_joined (Names I) (map (λ x. C2 (leg x)) (numbers n)) (map (λ x. C5 (leg x)) (numbers n))
-    (all_of_numbers (Names I) (λ x. C2 (leg x)) n (λ x lt. lt))
-    (all_of_numbers (Names I) (λ x. C5 (leg x)) n (λ x lt. lt)))
-    (all_of_numbers (Names I) (λ x. C6 (leg x)) n (λ x lt. lt))
+items_name I = all_joined (Names I) (rotation_items I) (slot_items I) (rotation_items_name I) (slot_items_name I)
 
 -- the first broken item names what there is
 pub least-names : (I : Situation) (P : PlanRows) (item : Broken) → least I P ≡ Some item → Names I item

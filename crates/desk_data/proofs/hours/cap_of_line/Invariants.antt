@@ -1,0 +1,7 @@
+use Rattle.std.proofs.Common.{◌≡◌, take}
+use Rattle.desk_data.specs.Hours.{last_word, said_of_day}
+use Rattle.desk_data.proofs.hours.cap_of_line.Given as goal
+
+-- the last group so far decides
+abbrev pub invariant-loop-group : goal.invariant-loop-group
+invariant-loop-group l = l.last ≡ last_word (said_of_day l.minute) (take l.group-index l.groups)
