@@ -16,7 +16,7 @@ use Rattle.desk_model.proofs.FindLaws.{numbers_none, lists_none}
 use Rattle.rule_slots.specs.declared.slots.Slot.{Slot}
 use Rattle.rule_slots.specs.declared.slots.Movement.{Movement}
 use Rattle.rule_slots.specs.declared.slots.Movement.TheVariants.{Departure, Arrival}
-use Rattle.rule_slots.specs.Taken.{slot_cmp, item, is_overfull, IsLeastOver, IsLeastOverfull}
+use Rattle.rule_slots.specs.Taken.{slot_cmp, item, is_overfull, IsLeastOverfull}
 
 numbers-more : {X : Type 0} (p : X → Bool) (f : ℕ → X) (n : ℕ) → find p (map f (numbers (suc n))) ≡ option_or (find p (map f (numbers n))) (find p (f n ∷ []))
 numbers-more p f n = ap (find p) (map-append f (numbers n) (n ∷ [])) ∙ find-append p (map f (numbers n)) (f n ∷ [])

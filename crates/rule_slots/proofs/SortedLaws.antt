@@ -1,5 +1,5 @@
 -- What a place of sorted slots says of the slots that are overfull.
-use Rattle.std.proofs.Common.{◌≡◌, ℕ, suc, ◌+◌, ◌-◌, ◌<◌, ◌≤◌, inl, inr, Bool, true, false, ◌&&◌, not, eqb, leb, List, length, get_or, refl, sym, ap, ◌∙◌, subst, arith, is_lt, nat_cmp}
+use Rattle.std.proofs.Common.{◌≡◌, ℕ, suc, ◌+◌, ◌-◌, ◌<◌, ◌≤◌, inl, inr, Bool, true, false, ◌&&◌, not, eqb, leb, List, length, refl, sym, ◌∙◌, subst, arith, is_lt, nat_cmp}
 use Rattle.std.specs.Prelude.{Option, Some, None}
 use Rattle.std.specs.List.{All}
 use Rattle.std.specs.List.Sorted.{IsSorted}
@@ -16,7 +16,7 @@ use Rattle.rule_slots.specs.declared.slots.Slot.{Slot}
 use Rattle.rule_slots.specs.declared.slots.Movement.{Movement}
 use Rattle.rule_slots.specs.declared.slots.Movement.TheVariants.{Departure, Arrival}
 use Rattle.rule_slots.specs.Taken.{IsSlot, slot_cmp, is_at, cap, is_overfull, IsLeastOver, no_slot, slot_at, stands_at, is_one_too_many}
-use Rattle.rule_slots.proofs.PlaceLaws.{passed, run_passed, AreApart, passed_apart}
+use Rattle.rule_slots.proofs.PlaceLaws.{passed, run_passed, passed_apart}
 
 slot_total : IsTotalOrder slot_cmp
 slot_total = then_total (on_total (λ s. s.airport.0) nat_cmp_total) (on_total (λ s. s.hour) nat_cmp_total)

@@ -10,7 +10,7 @@ use desk_data::{Airport, Instance, Leg, NoMem, Plan, Row};
 use std::alloc::Global;
 
 /// What a leg does at an airport.
-#[derive(Clone, Copy, Debug, PartialEq, Eq)]
+#[derive(Clone, Copy)]
 pub(crate) enum Movement {
     Departure,
     Arrival,
