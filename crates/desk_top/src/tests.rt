@@ -1,7 +1,7 @@
 //! The desk over a folder and a sink in memory.
 
 use super::*;
-use crate::days::{DAY, Day, REFUSED, RUNS};
+use crate::days::{DAY, Day, REFUSED, RUNS, Run};
 use desk_data::NoMem;
 use desk_folder::{File, MemFolder, MemSink};
 use std::test::Fail;
