@@ -1,7 +1,7 @@
 //! The desk over a folder and a sink in memory.
 
 use super::*;
-use crate::days::{DAY, Day, REFUSED, RUNS};
+use crate::days::{CANCELLED, DAY, REFUSED, RUNS, Run};
 use desk_data::NoMem;
 use desk_folder::{File, MemFolder, MemSink};
 use std::test::Fail;
@@ -15,25 +15,28 @@ fn replay_words(alloc: Global) -> Result<Vec<String>, NoMem> {
     Ok(words)
 }
 
-/// A folder with the files of a day, of which these calls fail.
+/// The text of a file: the changed one, or else the usual one.
+fn text_of<'a>(changed: &[(File, &'a str)], file: File, usual: &'a str) -> &'a str {
+    for (other, text) in changed {
+        if *other == file {
+            return *text;
+        }
+    }
+    usual
+}
+
+/// A folder with the files of the usual day, but for those that are changed, of which
+/// these calls fail.
 fn folder_of(
     alloc: Global,
-    day: &Day,
+    changed: &[(File, &str)],
     fail_next: &[u64],
     fail_put: &[u64],
 ) -> Result<MemFolder, NoMem> {
     let mut inputs = Vec::new(alloc);
-    for (file, text) in [
-        (File::Config, day.config),
-        (File::Flights, day.flights),
-        (File::Rotations, day.rotations),
-        (File::Aircraft, day.aircraft),
-        (File::Airports, day.airports),
-        (File::Dist, day.dist),
-        (File::Position, day.position),
-        (File::Journal, day.journal),
-    ] {
-        inputs.push((file, Vec::from_slice(alloc, text.as_bytes())?))?;
+    for (file, usual) in &DAY {
+        let text = text_of(changed, *file, usual);
+        inputs.push((*file, Vec::from_slice(alloc, text.as_bytes())?))?;
     }
     let fail_next = Vec::from_slice(alloc, fail_next)?;
     let fail_put = Vec::from_slice(alloc, fail_put)?;
@@ -45,7 +48,7 @@ fn days_are_replayed(rt: HostRuntime) -> Result<(), Fail> {
     let alloc = rt.alloc();
     let words = replay_words(alloc)?;
     for (i, run) in RUNS.iter().enumerate() {
-        let mut folder = folder_of(alloc, &run.day, &[], &[])?;
+        let mut folder = folder_of(alloc, run.changed, &[], &[])?;
         let mut out = MemSink::new(Vec::new(alloc));
         let status = desk_main(alloc, words.as_slice(), &mut folder, &mut out, &FreeGate);
         assert_eq!(rt; status, run.status, "status of run {i}");
@@ -63,7 +66,7 @@ fn days_are_refused(rt: HostRuntime) -> Result<(), Fail> {
     let alloc = rt.alloc();
     let words = replay_words(alloc)?;
     for (i, refused) in REFUSED.iter().enumerate() {
-        let mut folder = folder_of(alloc, &refused.day, &[], &[])?;
+        let mut folder = folder_of(alloc, refused.changed, &[], &[])?;
         let mut out = MemSink::new(Vec::new(alloc));
         let status = desk_main(alloc, words.as_slice(), &mut folder, &mut out, &FreeGate);
         assert_eq!(rt; status, 3, "status of refusal {i}");
@@ -79,7 +82,7 @@ fn days_are_refused(rt: HostRuntime) -> Result<(), Fail> {
     Ok(())
 }
 
-/// A call that fails in the second of the runs above, with what the run must write.
+/// A call that fails in the run with a cancelled leg, with what the run must write.
 struct Fault {
     /// The number of the failing `next`, `put` and report line; 0 for none.
     next: u64,
@@ -252,7 +255,7 @@ fn each_failing_call_is_told_by_call_and_file(rt: HostRuntime) -> Result<(), Fai
     let alloc = rt.alloc();
     let words = replay_words(alloc)?;
     for (i, fault) in FAULTS.iter().enumerate() {
-        let mut folder = folder_of(alloc, &RUNS[1].day, &[fault.next], &[fault.put])?;
+        let mut folder = folder_of(alloc, CANCELLED.changed, &[fault.next], &[fault.put])?;
         let mut out = MemSink::new(Vec::from_slice(alloc, &[fault.report_line])?);
         let status = desk_main(alloc, words.as_slice(), &mut folder, &mut out, &FreeGate);
         assert_eq!(rt; status, fault.status, "status of fault {i}");
@@ -282,7 +285,7 @@ fn status_of_run(alloc: Global, run: &Run) -> Option<u8> {
     let Ok(words) = replay_words(alloc) else {
         return None;
     };
-    let Ok(mut folder) = folder_of(alloc, &run.day, &[], &[]) else {
+    let Ok(mut folder) = folder_of(alloc, run.changed, &[], &[]) else {
         return None;
     };
     let mut out = MemSink::new(Vec::new(alloc));
@@ -321,7 +324,7 @@ fn other_words_are_refused(rt: HostRuntime) -> Result<(), Fail> {
         for word in usage.iter() {
             words.push(String::from_str(alloc, word)?)?;
         }
-        let mut folder = folder_of(alloc, &DAY, &[], &[])?;
+        let mut folder = folder_of(alloc, &[], &[], &[])?;
         let mut out = MemSink::new(Vec::new(alloc));
         let status = desk_main(alloc, words.as_slice(), &mut folder, &mut out, &FreeGate);
         assert_eq!(rt; status, 2, "status of usage {i}");
