@@ -24,7 +24,7 @@ use Rattle.desk_model.specs.Rotations.{is_earlier}
 use Rattle.rule_rot.specs.declared.order.Turn.{Turn}
 use Rattle.rule_rot.specs.Before.{precedes_in, IsNearest, IsLastBefore, AreBefore}
 use Rattle.rule_rot.specs.Order.{turn_of, turns, turn_at, no_turn, neighbour}
-use Rattle.rule_rot.proofs.OrderLaws.{turns_cmp, is_ahead, in_order, ahead-from_cmp, ahead-asymmetric, ahead-from_order, order-from_ahead, ahead-irreflexive, between}
+use Rattle.rule_rot.proofs.OrderLaws.{not_both, turns_cmp, is_ahead, in_order, ahead-from_cmp, ahead-asymmetric, ahead-from_order, order-from_ahead, ahead-irreflexive, between}
 
 abbrev row_in : List Row → ℕ → Row
 row_in rows x = get_or rows x Cancelled
@@ -140,9 +140,6 @@ sorted_turns rows n made ts is shuffled up =
           (sorted_far (λ s t. is_lt (turn_cmp s t)) (ranks_by turn_total (λ t. t)) ts up i j no_turn (omega arith) within)
           (apart_from_distinct same_leg ts i j no_turn apart lt within);
     }
-
-not_both : (b : Bool) → b ≡ true → b ≡ false → ⊥
-not_both b t f = true≢false (sym t ∙ f)
 
 -- of two places the turn at the one is not ahead of that at the other unless it stands to the left
 pub left_of : (rows : List Row) (n : ℕ) (ts : List Turn) (i j : ℕ) → IsTurnOrder rows n ts → i < length ts → j < length ts → ahead (turn_at ts i) (turn_at ts j) ≡ true → i < j

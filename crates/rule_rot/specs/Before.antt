@@ -1,9 +1,11 @@
--- The leg before a leg on its aircraft.
-use Rattle.std.specs.Prelude.{◌≡◌, ℕ, ◌<◌, Bool, true, false, List, Option, Some, None, length, slice_index_or}
+-- The leg before a leg on its aircraft, and what the rules ask of it.
+use Rattle.std.specs.Prelude.{◌≡◌, ℕ, ◌+◌, ◌<◌, Bool, true, false, ◌||◌, ◌==◌, nat_le, List, Option, Some, None, length, slice_index_or}
 use Rattle.desk_units.specs.declared.numbers.Leg.{Leg}
 use Rattle.desk_data.specs.declared.row.Row.{Row}
-use Rattle.desk_data.specs.declared.row.Row.TheVariants.{Cancelled}
-use Rattle.desk_model.specs.Rotations.{comes_before}
+use Rattle.desk_data.specs.declared.row.Row.TheVariants.{Flown, Cancelled}
+use Rattle.desk_data.specs.Situation.{Situation, leg_at, plane_at}
+use Rattle.desk_data.specs.PlanRows.{PlanRows}
+use Rattle.desk_model.specs.Rotations.{comes_before, arr, ground}
 
 -- whether one aircraft flies legs x and y of these rows, x before y
 abbrev pub precedes_in : List Row → ℕ → ℕ → Bool
@@ -24,3 +26,22 @@ IsLastBefore rows n y (Some leg) = IsNearest rows n y leg.0
 pub record AreBefore (rows : List Row) (before : List (Option Leg)) : Type 0 where
   pub legs : length before ≡ length rows
   pub each : (y : ℕ) → y < length rows → IsLastBefore rows (length rows) y (slice_index_or before y None)
+
+-- the airport where aircraft p stands: where the leg before arrived, or else its origin
+abbrev pub stand : Situation → ℕ → Option Leg → ℕ
+stand I p None = (plane_at I p).origin.0
+stand I p (Some leg) = (leg_at I leg.0).dest.0
+
+-- whether leg y, which aircraft p flies at d, departs after the leg before and its ground time
+abbrev pub is_ready : Situation → PlanRows → ℕ → ℕ → ℕ → Option Leg → Bool
+is_ready I P y p d None = true
+is_ready I P y p d (Some leg) = nat_le (arr I P leg.0 + ground I p leg.0 y) d
+
+-- the rules C5 and C6 for the row of leg y, given the leg before it
+abbrev pub stands_there : Situation → ℕ → Option Leg → Row → Bool
+stands_there I y before (Flown plane dep) = (plane_at I plane.0).surface || ((leg_at I y).origin.0 == stand I plane.0 before)
+stands_there I y before Cancelled = true
+
+abbrev pub has_turned : Situation → PlanRows → ℕ → Option Leg → Row → Bool
+has_turned I P y before (Flown plane dep) = (plane_at I plane.0).surface || is_ready I P y plane.0 dep.0 before
+has_turned I P y before Cancelled = true

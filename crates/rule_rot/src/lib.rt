@@ -1,7 +1,12 @@
-//! The rules of a rotation: whether a plan departs in time, and each leg leaves where its aircraft
-//! is and after its ground time. The time of the check is near linear in the legs.
+//! The rules of a rotation: whether each leg of a plan departs in time, leaves where its aircraft
+//! is, and departs after its ground time. The time of the check is near linear in the legs.
 #![tactic(auto)]
 
+mod in_time;
+mod least;
 mod order;
+mod ready;
+mod stands;
 
+pub use least::least_rot;
 pub use order::legs_before;
