@@ -3,12 +3,13 @@
 ghost use Rattle.std.specs.Prelude.{◌≡◌, IfOk};
 ghost use Rattle.desk_data.specs.Valid.{IsPlanFor};
 ghost use Rattle.desk_model.specs.Rules.{least};
+ghost use Rattle.rule_rot.specs.Before.{AreBefore};
 
 use crate::in_time::first_untimely;
 use crate::order::legs_before;
 use crate::ready::first_unready;
 use crate::stands::first_misplaced;
-use desk_data::{Broken, Instance, NoMem, Plan};
+use desk_data::{Broken, Instance, Leg, NoMem, Plan};
 use std::alloc::Global;
 
 /// The first item that the plan breaks, by rule and then by leg, or `None` where it breaks none.
@@ -18,9 +19,22 @@ pub fn least_rot(alloc: Global, inst: &Instance, plan: &Plan) -> Result<Option<B
     requires { IsPlanFor inst.now plan.now }
     ensures { IfOk result (λ item. item ≡ least inst.now plan.now) }
 {
+    prove!(plan.rows().len() == inst.legs() as usize);
     let before = legs_before(alloc, plan.rows())?;
-    let item = first_untimely(inst, plan)
-        .or_else(|| first_misplaced(inst, plan, before.as_slice()))
-        .or_else(|| first_unready(inst, plan, before.as_slice()));
-    Ok(item)
+    Ok(first_broken(inst, plan, before.as_slice()))
+}
+
+/// The first item that the plan breaks, given the leg before each leg on its aircraft.
+fn first_broken(inst: &Instance, plan: &Plan, before: &[Option<Leg>]) -> Option<Broken>
+    requires plan { IsPlanFor inst.now plan.now }
+    requires before { AreBefore plan.now.rows before.now }
+    ensures { result ≡ least inst.now plan.now }
+{
+    if let Some(item) = first_untimely(inst, plan) {
+        return Some(item);
+    }
+    if let Some(item) = first_misplaced(inst, plan, before) {
+        return Some(item);
+    }
+    first_unready(inst, plan, before)
 }

@@ -13,11 +13,7 @@ ghost use Rattle.rule_rot.specs.Before.{AreBefore, IsLastBefore, is_ready};
 use desk_data::{Broken, Instance, Leg, Minute, Plan, Plane, Row};
 
 /// The first leg that breaks C6, given the leg before each leg on its aircraft.
-pub(crate) fn first_unready(
-    inst: &Instance,
-    plan: &Plan,
-    before: &[Option<Leg>],
-) -> Option<Broken>
+pub(crate) fn first_unready(inst: &Instance, plan: &Plan, before: &[Option<Leg>]) -> Option<Broken>
     requires plan { IsPlanFor inst.now plan.now }
     requires before { AreBefore plan.now.rows before.now }
     ensures { result ≡ find (breaks inst.now plan.now) (map (λ x. broken.C6 (leg x)) (numbers (legs_of inst.now))) }
