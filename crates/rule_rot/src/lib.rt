@@ -7,6 +7,8 @@ mod least;
 mod order;
 mod ready;
 mod stands;
+#[cfg(test)]
+mod tests;
 
 pub use least::least_rot;
 pub use order::legs_before;

@@ -8,7 +8,7 @@ use desk_data::{Leg, Minute, NoMem, Plane, Row};
 use std::alloc::Global;
 
 /// A flown leg, as it is sorted: by aircraft, then by departure, then by leg.
-#[derive(Clone, Copy, Debug, PartialEq, Eq, PartialOrd, Ord)]
+#[derive(Clone, Copy, PartialEq, Eq, PartialOrd, Ord)]
 pub(crate) struct Turn {
     plane: Plane,
     dep: Minute,
