@@ -19,6 +19,7 @@ pub fn least_rot(alloc: Global, inst: &Instance, plan: &Plan) -> Result<Option<B
     requires { IsPlanFor inst.now plan.now }
     ensures { IfOk result (λ item. item ≡ least inst.now plan.now) }
 {
+    // a plan has a row for each leg, and there are at most 20,000
     prove!(plan.rows().len() == inst.legs() as usize);
     let before = legs_before(alloc, plan.rows())?;
     Ok(first_broken(inst, plan, before.as_slice()))
