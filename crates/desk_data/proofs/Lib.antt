@@ -1,4 +1,5 @@
 mod ChangeLemmas
+mod KeptLemmas
 mod LastLemmas
 mod NameLemmas
 mod SaidLemmas

@@ -11,6 +11,7 @@ use Rattle.desk_data.specs.declared.orders.Order.TheVariants.{Flight, Aircraft, 
 use Rattle.desk_data.specs.declared.parts.Parts.{Parts}
 use Rattle.desk_data.specs.Situation.{Situation, legs_of, planes_of, airports_of, last_said, span_of, spans}
 use Rattle.desk_data.specs.Hours.{last_word, said_of_hour}
+use Rattle.desk_data.specs.Valid.{IsValid}
 
 -- by leg, what its last order says; by aircraft, its spans; by airport, the changes of what orders say of its hours
 pub record KeptLists : Type 0 where
@@ -68,3 +69,8 @@ pub record Adds (orders : List Order) (old new : KeptLists) : Type 0 where
 -- what is kept of no orders
 abbrev pub nothing_kept : Parts → KeptLists
 nothing_kept parts = record { legs = replicate (length parts.legs) None; spans = replicate (length parts.planes) []; hours = replicate (length parts.airports) [] }
+
+-- what the inside of an instance keeps
+pub record IsWhole (I : Situation) (kept : KeptLists) : Type 0 where
+  pub valid : IsValid I
+  pub keeps : Keeps I kept

@@ -1,13 +1,17 @@
 //! The instance: the joined rows, shared, and the disruption orders taken so far.
 
-ghost use Rattle.std.specs.Prelude.{◌≡◌, ◌<◌, ◌≤◌, ℕ, [], length, map, IfOk};
+ghost use Rattle.std.specs.Prelude.{◌≡◌, ◌<◌, ◌≤◌, ℕ, [], ◌++◌, length, map, All, IfOk, OnOk, OnErr, IfSome, nat_lt};
+ghost use Rattle.desk_data.specs.Hours.{hour_cap, dep_cap, arr_cap};
 ghost use Rattle.desk_data.specs.PlanRows.{row_at};
-ghost use Rattle.desk_data.specs.Situation.{legs_of, planes_of, airports_of, reservations_of, leg_at, plane_at, res_at, airport_at, earliest, latest, ordered_off, fixed, delay_of, said_of, last_said, scheduled_row, groups_of, schedule};
-ghost use Rattle.desk_data.specs.Valid.{AreParts, IsValid, IsLeg, IsPlane, IsReservation, IsAirport, IsPlanFor};
+ghost use Rattle.desk_data.specs.Situation.{legs_of, planes_of, airports_of, reservations_of, leg_at, plane_at, res_at, airport_at, earliest, latest, ordered_off, fixed, due, spans, begun, bound, delay_of, last_said, scheduled_row, groups_of, schedule};
+ghost use Rattle.desk_data.specs.Valid.{AreParts, IsValid, IsLeg, IsPlane, IsReservation, IsAirport, IsOrder, IsRowOf, IsPlanFor};
 
+use crate::hours::{HourCap, cap_at, cap_of_line};
 use crate::info::{AirportInfo, LegInfo, PlaneInfo, PositionInfo, ResInfo};
-use crate::orders::Order;
+use crate::kept::Kept;
+use crate::orders::{Batch, Order};
 use crate::parts::Parts;
+use crate::path::Path;
 use crate::plan::Plan;
 use crate::row::{Group, Row};
 use desk_units::{Airport, Leg, Minute, NoMem, Plane, Res, Tariff};
@@ -20,18 +24,20 @@ use std::sync::Arc;
 pub struct Instance {
     parts: Arc<Parts>,
     orders: Vec<Order>,
+    /// What the orders say.
+    kept: Kept,
 }
 
 impl Model for Instance {
     ghost use Rattle.desk_data.specs.Situation.{Situation};
-    ghost use Rattle.desk_data.specs.Valid.{IsValid};
+    ghost use Rattle.desk_data.specs.KeptLists.{IsWhole};
     ghost use Rattle.std.specs.Arc.{arc_value};
 
     ghost Value = { Situation };
 
     ghost view = { λ i. record { parts = arc_value i.parts; orders = i.orders.items } };
 
-    ghost invariant = { λ i. IsValid (record { parts = arc_value i.parts; orders = i.orders.items }) };
+    ghost invariant = { λ i. IsWhole (record { parts = arc_value i.parts; orders = i.orders.items }) i.kept };
 }
 
 impl Instance {
@@ -40,9 +46,14 @@ impl Instance {
         requires { AreParts parts }
         ensures { IfOk result (λ inst. inst ≡ record { parts = parts; orders = [] }) }
     {
+        let kept = Kept::nothing(alloc, &parts)?;
         let parts = Arc::new(alloc, parts)?;
         let orders = Vec::new(alloc);
-        Ok(Instance { parts, orders })
+        Ok(Instance {
+            parts,
+            orders,
+            kept,
+        })
     }
 
     /// The joined rows.
@@ -165,6 +176,83 @@ impl Instance {
         self.plane(info.plane).surface || info.sched.0 < self.parts.from.0
     }
 
+    /// The row that a fixed leg should have: cancelled if it is ordered off, else flown by its
+    /// scheduled aircraft at its earliest departure. `None` for a leg that may move.
+    #[tactic(auto, unfolding(crate::specs::Situation::due))]
+    pub fn due(&self, leg: Leg) -> Option<Row>
+        requires { leg.0 < legs_of self.now }
+        ensures due { result ≡ due self.now leg.0 }
+        ensures ranges { IfSome result (IsRowOf (planes_of self.now)) }
+    {
+        if !self.fixed(leg) {
+            return None;
+        }
+        if self.ordered_off(leg) {
+            return Some(Row::Cancelled);
+        }
+        Some(Row::Flown {
+            plane: self.leg(leg).plane,
+            dep: self.earliest(leg),
+        })
+    }
+
+    /// When an aircraft is out of service: spans from one moment up to but not including another,
+    /// in the order of its orders.
+    pub fn spans(&self, plane: Plane) -> &[(Minute, Minute)]
+        requires { plane.0 < planes_of self.now }
+        ensures { result.now ≡ spans self.now plane.0 }
+    {
+        self.kept.spans(plane)
+    }
+
+    /// How many departures an airport takes in an hour, which is counted from 2000-01-01 00:00: as
+    /// the last airport order says that has a minute in the hour, else as the last group of the
+    /// airport's line says that covers the hour of the day. `None` where it takes any number.
+    #[tactic(auto, unfolding(crate::specs::Hours::dep_cap))]
+    pub fn dep_cap(&self, airport: Airport, hour: u32) -> Option<u32>
+        requires { airport.0 < airports_of self.now }
+        ensures { result ≡ dep_cap self.now airport.0 hour }
+    {
+        self.hour_cap(airport, hour).map(|cap| cap.deps)
+    }
+
+    /// How many arrivals an airport takes in an hour, found as the departures are.
+    #[tactic(auto, unfolding(crate::specs::Hours::arr_cap))]
+    pub fn arr_cap(&self, airport: Airport, hour: u32) -> Option<u32>
+        requires { airport.0 < airports_of self.now }
+        ensures { result ≡ arr_cap self.now airport.0 hour }
+    {
+        self.hour_cap(airport, hour).map(|cap| cap.arrs)
+    }
+
+    /// How many legs at the start of a reservation's scheduled path are all scheduled to depart
+    /// before the window.
+    pub fn begun(&self, res: Res) -> u32
+        requires { res.0 < reservations_of self.now }
+        ensures begun { result ≡ begun self.now res.0 }
+        ensures limit { result ≤ length (res_at self.now res.0).path }
+    {
+        let path = self.res(res).path.as_slice();
+        for (place, pair) in path.iter().enumerate() {
+            if !self.has_begun(pair.0) {
+                return place as u32;
+            }
+        }
+        path.len() as u32
+    }
+
+    /// Whether a path of a reservation begins with the legs of its scheduled path that have begun.
+    /// Its groups play no part.
+    #[tactic(auto, unfolding(crate::specs::Situation::bound))]
+    pub fn bound(&self, res: Res, groups: &[Group], path: &Path) -> bool
+        requires { res.0 < reservations_of self.now }
+        ensures { result ≡ bound self.now res.0 groups.now path.now }
+    {
+        let begun = self.begun(res) as usize;
+        let scheduled = self.res(res).path.as_slice();
+        path.as_slice().starts_with(&scheduled[..begun])
+    }
+
     /// The window in which the desk may move legs: its start, and its end, which is not in it.
     pub fn window(&self) -> (Minute, Minute)
         ensures { result ≡ (self.now.parts.from, self.now.parts.to) }
@@ -192,7 +280,12 @@ impl Instance {
     {
         let parts = self.parts.clone()?;
         let orders = Vec::from_slice(alloc, self.orders.as_slice())?;
-        Ok(Instance { parts, orders })
+        let kept = self.kept.copy(alloc)?;
+        Ok(Instance {
+            parts,
+            orders,
+            kept,
+        })
     }
 
     /// The plan as scheduled: each leg by its scheduled aircraft at its scheduled departure, and
@@ -207,30 +300,49 @@ impl Instance {
         Ok(Plan::of(rows, groups))
     }
 
+    /// Takes the orders of a batch, behind those taken before. After an error the instance is as
+    /// before. `IsOrder`: the legs, aircraft and airports are in range, and delays at most 2,880.
+    pub fn add(&mut self, alloc: Global, batch: &Batch) -> Result<(), NoMem>
+        requires { All (IsOrder self.old.parts) batch.now.orders }
+        ensures ok { OnOk result (self.new ≡ record self.old { orders = self.old.orders ++ batch.now.orders }) }
+        ensures err { OnErr result (self.new ≡ self.old) }
+    {
+        let orders = batch.orders.as_slice();
+        let kept = self.kept.with(alloc, orders)?;
+        self.orders.extend_from_slice(orders)?;
+        self.kept = kept;
+        Ok(())
+    }
+
+    /// What an airport takes in an hour.
+    #[tactic(auto, unfolding(crate::specs::Hours::hour_cap))]
+    fn hour_cap(&self, airport: Airport, hour: u32) -> Option<HourCap>
+        requires { airport.0 < airports_of self.now }
+        ensures { result ≡ hour_cap self.now airport.0 hour }
+    {
+        let ordered = cap_at(self.kept.hours(airport), hour);
+        if ordered.is_some() {
+            return ordered;
+        }
+        cap_of_line(self.airport(airport).caps.as_slice(), 60 * (hour % 24))
+    }
+
+    /// Whether a leg is scheduled to depart before the window.
+    fn has_begun(&self, leg: Leg) -> bool
+        requires { leg.0 < legs_of self.now }
+        ensures { result ≡ nat_lt (leg_at self.now leg.0).sched.0 self.now.parts.from.0 }
+    {
+        self.leg(leg).sched.0 < self.parts.from.0
+    }
+
     /// What the last flight order of a leg says: a delay in minutes, or `None` inside where it is
-    /// off. For now this looks through all orders, of which there are none yet.
+    /// off.
     fn last_said(&self, leg: Leg) -> Option<Option<u32>>
+        requires { leg.0 < legs_of self.now }
         ensures said { result ≡ last_said leg.0 self.now.orders }
         ensures limit { delay_of result ≤ 2880 }
     {
-        let mut last = None;
-        for order in self.orders.iter() {
-            last = said_of_leg(leg, order).or(last);
-        }
-        last
-    }
-}
-
-/// What an order says of a leg.
-fn said_of_leg(leg: Leg, order: &Order) -> Option<Option<u32>>
-    ensures { result ≡ said_of leg.0 order.now }
-{
-    match order {
-        Order::Flight {
-            leg: ordered,
-            delay,
-        } if *ordered == leg => Some(*delay),
-        _ => None,
+        self.kept.leg(leg)
     }
 }
 

@@ -107,6 +107,47 @@ fn copied_lists<T: Copy + Drop>(alloc: Global, lists: &[Vec<T>]) -> Result<Vec<V
 }
 
 impl Kept {
+    /// What is kept with these orders too.
+    pub fn with(&self, alloc: Global, orders: &[Order]) -> Result<Kept, NoMem>
+        requires place { All (HasPlace self.now) orders.now }
+        requires order { All AreInOrder self.now.hours }
+        ensures { IfOk result (λ kept. Adds orders.now self.now kept) }
+    {
+        let mut kept = self.copy(alloc)?;
+        for order in orders {
+            kept.take(alloc, order)?;
+        }
+        Ok(kept)
+    }
+
+    /// Keeps what an order says.
+    fn take(&mut self, alloc: Global, order: &Order) -> Result<(), NoMem>
+        requires place { HasPlace self.old order.now }
+        requires order { All AreInOrder self.old.hours }
+        ensures { IfOk result (λ _. Adds (order.now ∷ []) self.old self.new) }
+    {
+        match order {
+            Order::Flight { leg, delay } => {
+                self.put_leg(*leg, *delay);
+                Ok(())
+            }
+            Order::Aircraft { plane, from, to } => self.push_span(*plane, *from, *to),
+            Order::Field {
+                airport,
+                from,
+                to,
+                deps,
+                arrs,
+            } => {
+                let cap = HourCap {
+                    deps: *deps,
+                    arrs: *arrs,
+                };
+                self.limit(alloc, *airport, *from, *to, cap)
+            }
+        }
+    }
+
     /// Keeps what a flight order says of a leg.
     fn put_leg(&mut self, leg: Leg, said: Option<u32>)
         requires { leg.0 < length self.old.legs }
@@ -130,5 +171,27 @@ impl Kept {
         ensures { self.new ≡ record self.old { hours = slice_set self.old.hours airport.0 changes.items } }
     {
         self.hours[airport.0 as usize] = changes;
+    }
+    /// Keeps what an airport order says of the hours that its span touches.
+    fn limit(
+        &mut self,
+        alloc: Global,
+        airport: Airport,
+        from: Minute,
+        to: Minute,
+        cap: HourCap,
+    ) -> Result<(), NoMem>
+        requires place { airport.0 < length self.old.hours }
+        requires order { All AreInOrder self.old.hours }
+        ensures { IfOk result (λ _. Adds (Order.Field airport from to cap.deps cap.arrs ∷ []) self.old self.new) }
+    {
+        match hours_of(from, to) {
+            Some((first, behind)) => {
+                let changes = with_cap(alloc, self.hours(airport), first, behind, cap)?;
+                self.put_hours(airport, changes);
+                Ok(())
+            }
+            None => Ok(()),
+        }
     }
 }

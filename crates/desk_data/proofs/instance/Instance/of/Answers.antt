@@ -1,0 +1,12 @@
+use Rattle.std.proofs.lemmas.List.Elements.{All-nil}
+use Rattle.desk_data.specs.Valid.{IsOrder}
+use Rattle.desk_data.proofs.KeptLemmas.{keeps_nothing}
+use Rattle.desk_data.proofs.instance.Instance.of.Goals as goal
+
+pub invariant_of-result : goal.invariant_of-result
+invariant_of-result c =
+    rw (c.new-orders.ensures.items, c.in_ok-kept.ensures, c.in_ok-parts.ensures.ok)
+    (record {
+      valid = record { parts = c.requires; orders = All-nil (IsOrder c.args.parts) };
+      keeps = keeps_nothing c.args.parts;
+    })
