@@ -26,18 +26,17 @@ in_order-append : (xs ys : List Change) (t : ℕ) → AreInOrder xs → AreInOrd
 in_order-append xs ys t up_xs up_ys below above = λ i j d le within.
     let len : length (xs ++ ys) ≡ length xs + length ys = length-append xs ys in
     ⊎_elim
-      (λ (j_left : j < length xs).
-        let i_left : i < length xs = omega arith in
-        rw (get_or_append_left xs ys d i i_left, get_or_append_left xs ys d j j_left) (up_xs i j d le j_left))
-      (λ (j_right : length xs ≤ j).
-        let j_in : j - length xs < length ys = omega arith in
-        rw (get_or-append_right xs ys (length xs) j d refl j_right)
-        (⊎_elim
-          (λ (i_left : i < length xs). rw (get_or_append_left xs ys d i i_left) (omega (arith, below i d i_left, above (j - length xs) d j_in)))
-          (λ (i_right : length xs ≤ i). rw (get_or-append_right xs ys (length xs) i d refl i_right) (up_ys (i - length xs) (j - length xs) d (omega arith) j_in))
-          (cases_lt i (length xs))))
-      (cases_lt j (length xs))
-
+    (λ (j_left : j < length xs).
+    let i_left : i < length xs = omega arith in
+    rw (get_or_append_left xs ys d i i_left, get_or_append_left xs ys d j j_left) (up_xs i j d le j_left))
+    (λ (j_right : length xs ≤ j).
+    let j_in : j - length xs < length ys = omega arith in
+    rw (get_or-append_right xs ys (length xs) j d refl j_right)
+    (⊎_elim
+    (λ (i_left : i < length xs). rw (get_or_append_left xs ys d i i_left) (omega (arith, below i d i_left, above (j - length xs) d j_in)))
+    (λ (i_right : length xs ≤ i). rw (get_or-append_right xs ys (length xs) i d refl i_right) (up_ys (i - length xs) (j - length xs) d (omega arith) j_in))
+    (cases_lt i (length xs))))
+    (cases_lt j (length xs))
 
 -- later changes say nothing of the hour
 silent : (xs : List Change) (h : ℕ) → All (λ c. h < c.hour) xs → All (λ c. said_from h c ≡ None) xs
@@ -152,11 +151,11 @@ spanned_behind xs start stop first behind cap cut h le =
 pub spanned_caps : (xs : List Change) (start stop first behind : ℕ) (cap : HourCap) → IsCut xs start stop first behind → (h : ℕ) → kept_cap (spanned xs start stop first behind cap) h ≡ (if leb first h && ltb h behind then Some cap else kept_cap xs h)
 spanned_caps xs start stop first behind cap cut h =
     ⊎_elim
-      (λ (lt : h < first). rw (lt-leb first h lt) (spanned_before xs start stop first behind cap cut h lt))
-      (λ (le : first ≤ h).
-        rw (le-leb first h le)
-        (⊎_elim
-          (λ (lt : h < behind). rw (lt-ltb h behind lt) (spanned_within xs start stop first behind cap cut h le lt))
-          (λ (far : behind ≤ h). rw (le-ltb h behind far) (spanned_behind xs start stop first behind cap cut h far))
-          (cases_lt h behind)))
-      (cases_lt h first)
+    (λ (lt : h < first). rw (lt-leb first h lt) (spanned_before xs start stop first behind cap cut h lt))
+    (λ (le : first ≤ h).
+    rw (le-leb first h le)
+    (⊎_elim
+    (λ (lt : h < behind). rw (lt-ltb h behind lt) (spanned_within xs start stop first behind cap cut h le lt))
+    (λ (far : behind ≤ h). rw (le-ltb h behind far) (spanned_behind xs start stop first behind cap cut h far))
+    (cases_lt h behind)))
+    (cases_lt h first)

@@ -36,7 +36,7 @@ adds_flight old leg delay within order = record {
   all_planes = refl;
   all_airports = refl;
   legs = λ x.
-    ⊎_elim
+      ⊎_elim
       (λ (same : leg.0 ≡ x). rw (eq-eqb leg.0 x same, put_same old.legs leg.0 x (Some delay) None within same))
       (λ (other : leg.0 ≡ x → ⊥). rw (ne_eqb leg.0 x other, put_other old.legs leg.0 x (Some delay) None other))
       (cases_eq leg.0 x);
@@ -53,7 +53,7 @@ adds_aircraft old plane from to within order = record {
   all_airports = refl;
   legs = λ x. refl;
   spans = λ p.
-    ⊎_elim
+      ⊎_elim
       (λ (same : plane.0 ≡ p). rw (eq-eqb plane.0 p same, put_same old.spans plane.0 p (kept_spans old plane.0 ++ (from, to) ∷ []) [] within same) (ap (λ (k : ℕ). kept_spans old k ++ (from, to) ∷ []) same))
       (λ (other : plane.0 ≡ p → ⊥). rw (ne_eqb plane.0 p other, put_other old.spans plane.0 p (kept_spans old plane.0 ++ (from, to) ∷ []) [] other) (sym (append-nil (kept_spans old p))))
       (cases_eq plane.0 p);
@@ -76,10 +76,10 @@ adds_field old airport from to cap first behind changes within order hours up ca
   spans = λ p. sym (append-nil (kept_spans old p));
   in_order = All-set AreInOrder old.hours airport.0 changes up order;
   hours = λ a h.
-    ⊎_elim
+      ⊎_elim
       (λ (same : airport.0 ≡ a).
-        rw (eq-eqb airport.0 a same, put_same old.hours airport.0 a changes [] within same, hours h)
-        (caps h ∙ (over (leb first h && ltb h behind) cap (kept_cap (kept_hours old airport.0) h) ∙ ap (λ (k : ℕ). option_or (if leb first h && ltb h behind then Some cap else None) (kept_cap (kept_hours old k) h)) same)))
+      rw (eq-eqb airport.0 a same, put_same old.hours airport.0 a changes [] within same, hours h)
+      (caps h ∙ (over (leb first h && ltb h behind) cap (kept_cap (kept_hours old airport.0) h) ∙ ap (λ (k : ℕ). option_or (if leb first h && ltb h behind then Some cap else None) (kept_cap (kept_hours old k) h)) same)))
       (λ (other : airport.0 ≡ a → ⊥). rw (ne_eqb airport.0 a other, put_other old.hours airport.0 a changes [] other))
       (cases_eq airport.0 a);
 }
@@ -129,10 +129,10 @@ adds_more xs y a b c first next = record {
   all_airports = next.all_airports ∙ first.all_airports;
   legs = λ x. over_both (last_said x (xs ++ y ∷ [])) (last_said x (y ∷ [])) (last_said x xs) (kept_leg a x) (kept_leg b x) (kept_leg c x) (last_said-append x xs (y ∷ [])) (first.legs x) (next.legs x);
   spans = λ p.
-    next.spans p
-    ∙ (ap (λ s. s ++ filter_map (span_of p) (y ∷ [])) (first.spans p)
-    ∙ (append_assoc (kept_spans a p) (filter_map (span_of p) xs) (filter_map (span_of p) (y ∷ []))
-    ∙ ap (λ s. kept_spans a p ++ s) (sym (filter_map-append (span_of p) xs (y ∷ [])))));
+      next.spans p
+      ∙ (ap (λ s. s ++ filter_map (span_of p) (y ∷ [])) (first.spans p)
+      ∙ (append_assoc (kept_spans a p) (filter_map (span_of p) xs) (filter_map (span_of p) (y ∷ []))
+      ∙ ap (λ s. kept_spans a p ++ s) (sym (filter_map-append (span_of p) xs (y ∷ [])))));
   in_order = next.in_order;
   hours = λ a' h. over_both (last_word (said_of_hour a' h) (xs ++ y ∷ [])) (last_word (said_of_hour a' h) (y ∷ [])) (last_word (said_of_hour a' h) xs) (kept_cap (kept_hours a a') h) (kept_cap (kept_hours b a') h) (kept_cap (kept_hours c a') h) (last_word-append (said_of_hour a' h) xs (y ∷ [])) (first.hours a' h) (next.hours a' h);
 }

@@ -1,3 +1,4 @@
+mod BegunLemmas
 mod ChangeLemmas
 mod KeptLemmas
 mod LastLemmas

@@ -1,5 +1,7 @@
 //! A small day, and what is asked of it.
 
+mod orders;
+
 use crate::info::{AirportInfo, Cap, LegInfo, PlaneInfo, ResInfo};
 use crate::instance::Instance;
 use crate::moves::{Move, Step, fits};

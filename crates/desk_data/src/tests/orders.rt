@@ -1,0 +1,407 @@
+//! Orders that a small day takes, and what is asked of it then.
+
+use super::{Sample, USUAL, parts_of};
+use crate::info::Cap;
+use crate::instance::Instance;
+use crate::orders::{Batch, Order};
+use crate::parts::Parts;
+use crate::path::Path;
+use crate::row::Row;
+use desk_units::{Airport, Cabin, Leg, List, Minute, Plane, Res};
+use std::alloc::Global;
+use std::test::Fail;
+
+const SAMPLE: Sample = Sample {
+    sched: 1_000,
+    ..USUAL
+};
+
+fn instance_of(alloc: Global, parts: Parts) -> Result<Instance, Fail> {
+    let made = if parts.are_valid(alloc)? {
+        Some(Instance::of(alloc, parts)?)
+    } else {
+        None
+    };
+    Ok(made.ok_or("these rows make no instance")?)
+}
+
+/// The orders are added in batches of one.
+fn with_orders(alloc: Global, mut inst: Instance, orders: &[Order]) -> Result<Instance, Fail> {
+    for order in orders {
+        let batch = Batch {
+            orders: List(vec![in alloc; *order]?),
+        };
+        let taken = inst.can_add(&batch);
+        if taken {
+            inst.add(alloc, &batch)?;
+        }
+        taken.then_some(()).ok_or("the order is out of range")?;
+    }
+    Ok(inst)
+}
+
+fn disrupted(alloc: Global, orders: &[Order]) -> Result<Instance, Fail> {
+    let inst = instance_of(alloc, parts_of(alloc, &SAMPLE)?)?;
+    with_orders(alloc, inst, orders)
+}
+
+/// Of leg 1, scheduled at minute 1,000: its earliest departure, and whether it is off.
+fn asked_of_leg(inst: &Instance) -> Option<(u32, bool)> {
+    if inst.legs() < 2 {
+        return None;
+    }
+    Some((inst.earliest(Leg(1)).0, inst.ordered_off(Leg(1))))
+}
+
+#[test]
+fn the_last_order_of_a_leg_decides(rt: HostRuntime) -> Result<(), Fail> {
+    // the delays that are ordered one after the other, the earliest departure, and whether it is off
+    let table = [
+        (Some(40), Some(40), 1_040, false),
+        (Some(40), Some(10), 1_010, false),
+        (Some(2_880), None, 1_000, true),
+        (None, Some(30), 1_030, false),
+        (None, None, 1_000, true),
+    ];
+    for (first, second, earliest, off) in table.iter() {
+        let orders = [
+            Order::Flight {
+                leg: Leg(1),
+                delay: *first,
+            },
+            Order::Flight {
+                leg: Leg(0),
+                delay: Some(7),
+            },
+            Order::Flight {
+                leg: Leg(1),
+                delay: *second,
+            },
+        ];
+        let inst = disrupted(rt.alloc(), orders.as_slice())?;
+        assert_eq!(rt; asked_of_leg(&inst), Some((*earliest, *off)));
+        let copy = inst.copy(rt.alloc())?;
+        assert_eq!(rt; asked_of_leg(&copy), Some((*earliest, *off)));
+    }
+    Ok(())
+}
+
+#[test]
+fn orders_have_edges(rt: HostRuntime) -> Result<(), Fail> {
+    let inst = disrupted(rt.alloc(), [].as_slice())?;
+    let span = (Minute(600), Minute(660));
+    let table = [
+        (0, 0, 0, 2_880, true),
+        (1, 1, 1, 0, true),
+        (2, 0, 0, 0, false),
+        (0, 2, 0, 0, false),
+        (0, 0, 2, 0, false),
+        (0, 0, 0, 2_881, false),
+    ];
+    for (leg, plane, airport, delay, expected) in table.iter() {
+        let batch = Batch {
+            orders: List(vec![in rt.alloc();
+                Order::Flight {
+                    leg: Leg(*leg),
+                    delay: Some(*delay)
+                },
+                Order::Aircraft {
+                    plane: Plane(*plane),
+                    from: span.0,
+                    to: span.1
+                },
+                Order::Field {
+                    airport: Airport(*airport),
+                    from: span.0,
+                    to: span.1,
+                    deps: 0,
+                    arrs: 0
+                },
+            ]?),
+        };
+        assert_eq!(rt; inst.can_add(&batch), *expected);
+    }
+    Ok(())
+}
+
+/// The spans of an aircraft, as numbers.
+fn spans_of(inst: &Instance, plane: Plane) -> Option<&[(Minute, Minute)]> {
+    if plane.0 < inst.planes() {
+        Some(inst.spans(plane))
+    } else {
+        None
+    }
+}
+
+#[test]
+fn spans_add_up_in_order(rt: HostRuntime) -> Result<(), Fail> {
+    let out = |plane: u32, from: u32, to: u32| Order::Aircraft {
+        plane: Plane(plane),
+        from: Minute(from),
+        to: Minute(to),
+    };
+    let orders = [out(1, 10, 20), out(0, 1, 2), out(1, 5, 7), out(1, 10, 20)];
+    let inst = disrupted(rt.alloc(), orders.as_slice())?;
+    let first = [(Minute(1), Minute(2))];
+    let second = [
+        (Minute(10), Minute(20)),
+        (Minute(5), Minute(7)),
+        (Minute(10), Minute(20)),
+    ];
+    assert_eq!(rt;
+        spans_of(&inst, Plane(0)).ok_or("aircraft")?,
+        first.as_slice()
+    );
+    assert_eq!(rt;
+        spans_of(&inst, Plane(1)).ok_or("aircraft")?,
+        second.as_slice()
+    );
+    Ok(())
+}
+
+/// The caps of airport 0 in an hour: departures, then arrivals.
+fn caps_of(inst: &Instance, hour: u32) -> (Option<u32>, Option<u32>) {
+    if inst.airports() < 1 {
+        return (None, None);
+    }
+    (
+        inst.dep_cap(Airport(0), hour),
+        inst.arr_cap(Airport(0), hour),
+    )
+}
+
+fn closure(from: u32, to: u32, deps: u32) -> Order {
+    Order::Field {
+        airport: Airport(0),
+        from: Minute(from),
+        to: Minute(to),
+        deps,
+        arrs: 100,
+    }
+}
+
+#[test]
+fn the_last_order_of_an_hour_decides(rt: HostRuntime) -> Result<(), Fail> {
+    // two spans with their departures, one ordered after the other, an hour, and its departures
+    let table = [
+        ((600, 660, 5), (0, 0, 0), 9, None),
+        ((600, 660, 5), (0, 0, 0), 10, Some(5)),
+        ((600, 660, 5), (0, 0, 0), 11, None),
+        // one minute of an hour is enough: its first, or its last
+        ((600, 661, 5), (0, 0, 0), 11, Some(5)),
+        ((659, 660, 5), (0, 0, 0), 10, Some(5)),
+        ((659, 660, 5), (0, 0, 0), 11, None),
+        ((660, 661, 5), (0, 0, 0), 10, None),
+        // a span with no minute
+        ((660, 660, 5), (0, 0, 0), 11, None),
+        ((700, 630, 5), (0, 0, 0), 11, None),
+        // the later order decides, with the greater cap and with the lesser
+        ((600, 720, 1), (630, 640, 9), 10, Some(9)),
+        ((600, 720, 1), (630, 640, 9), 11, Some(1)),
+        ((600, 720, 9), (690, 700, 1), 10, Some(9)),
+        ((600, 720, 9), (690, 700, 1), 11, Some(1)),
+        ((600, 720, 9), (690, 700, 1), 12, None),
+        ((630, 640, 9), (600, 720, 1), 10, Some(1)),
+        ((720, 780, 9), (600, 720, 1), 12, Some(9)),
+        // a whole century, before and after an hour of it
+        ((0, 52_596_000, 3), (600, 660, 1), 0, Some(3)),
+        ((0, 52_596_000, 3), (600, 660, 1), 10, Some(1)),
+        ((0, 52_596_000, 3), (600, 660, 1), 11, Some(3)),
+        ((600, 660, 1), (0, 52_596_000, 3), 10, Some(3)),
+        ((0, 52_596_000, 3), (0, 0, 0), 876_599, Some(3)),
+        ((0, 52_596_000, 3), (0, 0, 0), 876_600, None),
+    ];
+    for (first, second, hour, deps) in table.iter() {
+        let orders = [
+            closure(first.0, first.1, first.2),
+            closure(second.0, second.1, second.2),
+        ];
+        let inst = disrupted(rt.alloc(), orders.as_slice())?;
+        assert_eq!(rt;
+            caps_of(&inst, *hour),
+            (*deps, deps.map(|_| 100)),
+            "{first:?} {second:?} {hour}"
+        );
+    }
+    Ok(())
+}
+
+/// A day on which airport 0 has these groups: departures, from, to.
+fn with_groups(alloc: Global, groups: &[(u32, u32, u32)]) -> Result<Parts, Fail> {
+    let mut parts = parts_of(alloc, &SAMPLE)?;
+    let mut caps = Vec::new(alloc);
+    for (deps, from, to) in groups {
+        caps.push(Cap {
+            deps: *deps,
+            arrs: 100,
+            from: *from,
+            to: *to,
+        })?;
+    }
+    if let Some(airport) = parts.airports.0.first_mut() {
+        airport.caps = List(caps);
+    }
+    Ok(parts)
+}
+
+#[test]
+fn the_last_group_of_an_hour_decides(rt: HostRuntime) -> Result<(), Fail> {
+    // two groups of the line, an hour, and its departures
+    let none = (0, 1_439, 1_440);
+    let table = [
+        ((5, 360, 720), none, 5, None),
+        ((5, 360, 720), none, 6, Some(5)),
+        ((5, 360, 720), none, 11, Some(5)),
+        ((5, 360, 720), none, 12, None),
+        ((5, 360, 720), none, 30, Some(5)),
+        // the hour's first minute counts
+        ((5, 361, 720), none, 6, None),
+        ((5, 359, 361), none, 6, Some(5)),
+        // over midnight
+        ((5, 1_320, 240), none, 21, None),
+        ((5, 1_320, 240), none, 22, Some(5)),
+        ((5, 1_320, 240), none, 24, Some(5)),
+        ((5, 1_320, 240), none, 3, Some(5)),
+        ((5, 1_320, 240), none, 4, None),
+        // up to the day's end, as 24:00 and as 00:00
+        ((5, 1_320, 1_440), none, 23, Some(5)),
+        ((5, 1_320, 1_440), none, 0, None),
+        ((5, 1_320, 0), none, 23, Some(5)),
+        ((5, 1_320, 0), none, 0, None),
+        // from a time to the same: the whole day
+        ((5, 600, 600), none, 9, Some(5)),
+        ((5, 600, 600), none, 10, Some(5)),
+        ((5, 0, 0), none, 10, Some(5)),
+        // the later group decides
+        ((5, 0, 1_440), (7, 360, 720), 6, Some(7)),
+        ((5, 0, 1_440), (7, 360, 720), 12, Some(5)),
+        ((7, 360, 720), (5, 0, 1_440), 6, Some(5)),
+    ];
+    for (first, second, hour, deps) in table.iter() {
+        let groups = [*first, *second];
+        let parts = with_groups(rt.alloc(), groups.as_slice())?;
+        let inst = instance_of(rt.alloc(), parts)?;
+        assert_eq!(rt;
+            caps_of(&inst, *hour),
+            (*deps, deps.map(|_| 100)),
+            "{first:?} {second:?} {hour}"
+        );
+    }
+    Ok(())
+}
+
+#[test]
+fn orders_go_before_groups(rt: HostRuntime) -> Result<(), Fail> {
+    let groups = [(5, 360, 720)];
+    let inst = instance_of(rt.alloc(), with_groups(rt.alloc(), groups.as_slice())?)?;
+    let orders = [closure(600, 660, 9)];
+    let inst = with_orders(rt.alloc(), inst, orders.as_slice())?;
+    let table = [(9, Some(5)), (10, Some(9)), (11, Some(5)), (12, None)];
+    for (hour, deps) in table.iter() {
+        assert_eq!(rt; caps_of(&inst, *hour), (*deps, deps.map(|_| 100)));
+    }
+    Ok(())
+}
+
+/// A day whose window starts at a minute, with a reservation of legs 0 and 1, which are scheduled
+/// at minutes 0 and 1,000, or of leg 1 alone.
+fn with_window(alloc: Global, from: u32, both: bool) -> Result<Instance, Fail> {
+    let mut parts = parts_of(alloc, &SAMPLE)?;
+    parts.from = Minute(from);
+    let mut path = Vec::new(alloc);
+    if both {
+        path.push((Leg(0), Cabin::E))?;
+    }
+    path.push((Leg(1), Cabin::B))?;
+    if let Some(res) = parts.res.0.first_mut() {
+        res.path = Path { legs: List(path) };
+    }
+    instance_of(alloc, parts)
+}
+
+/// How much of reservation 0 has begun, and whether it is bound to a path.
+fn asked_of_res(inst: &Instance, path: &Path) -> Option<(u32, bool)> {
+    if inst.reservations() < 1 {
+        return None;
+    }
+    Some((inst.begun(Res(0)), inst.bound(Res(0), [].as_slice(), path)))
+}
+
+#[test]
+fn paths_begin_with_what_has_begun(rt: HostRuntime) -> Result<(), Fail> {
+    // the window's start, whether the path has both legs, another path, how many legs have begun,
+    // and whether the other path begins with them
+    let (first, second) = ((Leg(0), Cabin::E), (Leg(1), Cabin::B));
+    let none: [(Leg, Cabin); 0] = [];
+    let one = [first];
+    let both = [first, second];
+    let more = [first, second, first];
+    let other = [second];
+    let turned = [second, first];
+    let in_front = [(Leg(0), Cabin::F)];
+    let table = [
+        (0, true, none.as_slice(), 0, true),
+        (1, true, none.as_slice(), 1, false),
+        (1, true, one.as_slice(), 1, true),
+        (1_000, true, one.as_slice(), 1, true),
+        (1_001, true, one.as_slice(), 2, false),
+        (1_001, true, both.as_slice(), 2, true),
+        (1_001, true, more.as_slice(), 2, true),
+        (1_001, true, turned.as_slice(), 2, false),
+        (1, true, in_front.as_slice(), 1, false),
+        (1_000, false, none.as_slice(), 0, true),
+        (1_001, false, none.as_slice(), 1, false),
+        (1_001, false, other.as_slice(), 1, true),
+    ];
+    for (from, both, path, begun, bound) in table.iter() {
+        let inst = with_window(rt.alloc(), *from, *both)?;
+        let path = Path {
+            legs: List(Vec::from_slice(rt.alloc(), path)?),
+        };
+        assert_eq!(rt; asked_of_res(&inst, &path), Some((*begun, *bound)));
+    }
+    Ok(())
+}
+
+/// What is due of leg 1.
+fn due_of(inst: &Instance) -> Option<Row> {
+    if inst.legs() < 2 {
+        return None;
+    }
+    inst.due(Leg(1))
+}
+
+#[test]
+fn fixed_legs_are_due(rt: HostRuntime) -> Result<(), Fail> {
+    let late = Order::Flight {
+        leg: Leg(1),
+        delay: Some(30),
+    };
+    let off = Order::Flight {
+        leg: Leg(1),
+        delay: None,
+    };
+    let none: [Order; 0] = [];
+    let delayed = [late];
+    let cancelled = [off];
+    let restored = [off, late];
+    let flown = |dep: u32| Row::Flown {
+        plane: Plane(1),
+        dep: Minute(dep),
+    };
+    let table = [
+        (1_000, none.as_slice(), None),
+        (1_000, delayed.as_slice(), None),
+        (1_000, cancelled.as_slice(), None),
+        (1_001, none.as_slice(), Some(flown(1_000))),
+        (1_001, delayed.as_slice(), Some(flown(1_030))),
+        (1_001, cancelled.as_slice(), Some(Row::Cancelled)),
+        (1_001, restored.as_slice(), Some(flown(1_030))),
+    ];
+    for (from, orders, due) in table.iter() {
+        let inst = with_window(rt.alloc(), *from, true)?;
+        let inst = with_orders(rt.alloc(), inst, orders)?;
+        assert_eq!(rt; due_of(&inst), *due);
+    }
+    Ok(())
+}
