@@ -14,12 +14,12 @@ use Rattle.desk_model.proofs.Tests.{each_below-holds, each_below-from, none_belo
 use Rattle.rule_rot.specs.Before.{IsNearest, IsLastBefore, stands_there, has_turned}
 use Rattle.rule_rot.proofs.OrderLaws.{comes_before-total, not_both}
 
-same_tests : (a b : Bool) → (a ≡ true → b ≡ true) → (b ≡ true → a ≡ true) → a ≡ b
+pub same_tests : (a b : Bool) → (a ≡ true → b ≡ true) → (b ≡ true → a ≡ true) → a ≡ b
 same_tests true b h k = sym (h refl)
 same_tests false true h k = absurd (true≢false (sym (k refl)))
 same_tests false false h k = refl
 
-and_true : (a : Bool) → (a && true) ≡ a
+pub and_true : (a : Bool) → (a && true) ≡ a
 and_true true = refl
 and_true false = refl
 

@@ -2,3 +2,4 @@ pub mod OrderLaws
 pub mod TurnLaws
 pub mod BeforeLaws
 pub mod FindLaws
+pub mod UpkeepLaws

@@ -1,18 +1,18 @@
 //! C2: legs depart in time.
 
-ghost use Rattle.std.specs.Prelude.{◌≡◌, ◌<◌, ◌≤◌, map, find};
+ghost use Rattle.std.specs.Prelude.{◌≡◌, ◌<◌, ◌≤◌, find};
 ghost use Rattle.desk_data.specs.Situation.{legs_of};
 ghost use Rattle.desk_data.specs.Valid.{IsPlanFor};
 ghost use Rattle.desk_data.specs.declared.broken.Broken.TheVariants as broken;
-ghost use Rattle.desk_model.specs.Numbers.{numbers};
-ghost use Rattle.desk_model.specs.Rules.{keeps_c2, breaks, leg};
+ghost use Rattle.desk_model.specs.Rules.{keeps_c2};
+ghost use Rattle.desk_model.specs.Least.{breaks, each_leg};
 
 use desk_data::{Broken, Instance, Leg, Plan, Row};
 
 /// The first leg that breaks C2.
 pub(crate) fn first_untimely(inst: &Instance, plan: &Plan) -> Option<Broken>
     requires { IsPlanFor inst.now plan.now }
-    ensures { result ≡ find (breaks inst.now plan.now) (map (λ x. broken.C2 (leg x)) (numbers (legs_of inst.now))) }
+    ensures { result ≡ find (breaks inst.now plan.now) (each_leg inst.now broken.C2) }
 {
     for x in 0..inst.legs() {
         if !departs_in_time(inst, plan, Leg(x)) {

@@ -1,13 +1,13 @@
 //! C6: legs depart after the leg before and its ground time.
 
-ghost use Rattle.std.specs.Prelude.{◌≡◌, ◌<◌, ◌≤◌, map, find};
+ghost use Rattle.std.specs.Prelude.{◌≡◌, ◌<◌, ◌≤◌, find};
 ghost use Rattle.std.specs.Option.{ForSome};
 ghost use Rattle.desk_data.specs.Situation.{legs_of, planes_of};
 ghost use Rattle.desk_data.specs.Valid.{IsPlanFor};
 ghost use Rattle.desk_data.specs.declared.broken.Broken.TheVariants as broken;
-ghost use Rattle.desk_model.specs.Numbers.{numbers};
 ghost use Rattle.desk_model.specs.Rotations.{departure, ground};
-ghost use Rattle.desk_model.specs.Rules.{keeps_c6, breaks, leg};
+ghost use Rattle.desk_model.specs.Rules.{keeps_c6};
+ghost use Rattle.desk_model.specs.Least.{breaks, each_leg};
 ghost use Rattle.rule_rot.specs.Before.{AreBefore, IsLastBefore, is_ready};
 
 use desk_data::{Broken, Instance, Leg, Minute, Plan, Plane, Row};
@@ -16,7 +16,7 @@ use desk_data::{Broken, Instance, Leg, Minute, Plan, Plane, Row};
 pub(crate) fn first_unready(inst: &Instance, plan: &Plan, before: &[Option<Leg>]) -> Option<Broken>
     requires plan { IsPlanFor inst.now plan.now }
     requires before { AreBefore plan.now.rows before.now }
-    ensures { result ≡ find (breaks inst.now plan.now) (map (λ x. broken.C6 (leg x)) (numbers (legs_of inst.now))) }
+    ensures { result ≡ find (breaks inst.now plan.now) (each_leg inst.now broken.C6) }
 {
     for x in 0..inst.legs() {
         if !has_ground_time(inst, plan, Leg(x), before[x as usize]) {
@@ -65,7 +65,7 @@ fn is_ready_at(
 }
 
 /// When a row departs; a cancelled row at 0.
-fn departure_of(row: Row) -> u32
+pub(crate) fn departure_of(row: Row) -> u32
     ensures { result ≡ departure row }
 {
     match row {

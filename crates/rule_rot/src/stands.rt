@@ -1,12 +1,12 @@
 //! C5: legs leave where their aircraft is.
 
-ghost use Rattle.std.specs.Prelude.{◌≡◌, ◌<◌, map, find};
+ghost use Rattle.std.specs.Prelude.{◌≡◌, ◌<◌, find};
 ghost use Rattle.std.specs.Option.{ForSome};
 ghost use Rattle.desk_data.specs.Situation.{legs_of, planes_of};
 ghost use Rattle.desk_data.specs.Valid.{IsPlanFor};
 ghost use Rattle.desk_data.specs.declared.broken.Broken.TheVariants as broken;
-ghost use Rattle.desk_model.specs.Numbers.{numbers};
-ghost use Rattle.desk_model.specs.Rules.{keeps_c5, breaks, leg};
+ghost use Rattle.desk_model.specs.Rules.{keeps_c5};
+ghost use Rattle.desk_model.specs.Least.{breaks, each_leg};
 ghost use Rattle.rule_rot.specs.Before.{AreBefore, IsLastBefore, stand};
 
 use desk_data::{Airport, Broken, Instance, Leg, Plan, Plane, Row};
@@ -19,7 +19,7 @@ pub(crate) fn first_misplaced(
 ) -> Option<Broken>
     requires plan { IsPlanFor inst.now plan.now }
     requires before { AreBefore plan.now.rows before.now }
-    ensures { result ≡ find (breaks inst.now plan.now) (map (λ x. broken.C5 (leg x)) (numbers (legs_of inst.now))) }
+    ensures { result ≡ find (breaks inst.now plan.now) (each_leg inst.now broken.C5) }
 {
     for x in 0..inst.legs() {
         if !leaves_right(inst, plan, Leg(x), before[x as usize]) {
@@ -46,7 +46,7 @@ fn leaves_right(inst: &Instance, plan: &Plan, leg: Leg, before: Option<Leg>) -> 
 }
 
 /// Where an aircraft stands: where the leg before arrived, or else its origin.
-fn stand_of(inst: &Instance, plane: Plane, before: Option<Leg>) -> Airport
+pub(crate) fn stand_of(inst: &Instance, plane: Plane, before: Option<Leg>) -> Airport
     requires plane { plane.0 < planes_of inst.now }
     requires before { ForSome before (λ leg. leg.0 < legs_of inst.now) }
     ensures { result.0 ≡ stand inst.now plane.0 before }
