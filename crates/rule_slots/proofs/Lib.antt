@@ -1,0 +1,4 @@
+pub mod PlaceLaws
+pub mod SortedLaws
+pub mod TakenLaws
+pub mod ItemLaws

@@ -1,0 +1,22 @@
+use Rattle.std.proofs.Common.{◌≡◌, sym, ap, ◌∙◌, subst, IfOk}
+use Rattle.std.specs.Prelude.{find}
+use Rattle.std.specs.Option.{option_or}
+use Rattle.desk_model.specs.Least.{breaks, each_hour, least_slots}
+use Rattle.rule_slots.specs.declared.slots.Movement.TheVariants.{Arrival}
+use Rattle.rule_slots.specs.Taken.{item}
+use Rattle.rule_slots.proofs.ItemLaws.{least-by_rule}
+use Rattle.rule_slots.proofs.least.least_slots.Goals as goal
+
+pub returns-in-Some : goal.returns-in-Some
+returns-in-Some c =
+    let inst = c.args.inst.now in
+    let plan = c.args.plan.now in
+    sym (least-by_rule inst plan ∙ ap (λ first. option_or first (find (breaks inst plan) (each_hour inst (item Arrival)))) (sym c.in_ok-item.ensures ∙ c.in-Some.is))
+
+pub returns-in-None : goal.returns-in-None
+returns-in-None c =
+    let inst = c.args.inst.now in
+    let plan = c.args.plan.now in
+    let rest : least_slots inst plan ≡ find (breaks inst plan) (each_hour inst (item Arrival)) =
+    least-by_rule inst plan ∙ ap (λ first. option_or first (find (breaks inst plan) (each_hour inst (item Arrival)))) (sym c.in_ok-item.ensures ∙ c.in-None.is) in
+    subst (λ least. IfOk c.least_of_rule-in-None.result (λ item. item ≡ least)) (sym rest) c.least_of_rule-in-None.ensures

@@ -1,0 +1,11 @@
+//! The rules of an airport's hours: whether its departures and its arrivals in an hour are at most
+//! its caps. The time of the check is near linear in the legs.
+#![tactic(auto)]
+
+mod least;
+mod slots;
+#[cfg(test)]
+mod tests;
+mod walk;
+
+pub use least::least_slots;
