@@ -51,17 +51,17 @@ minutes-more I P p at n =
 
 last-skipped : (P : PlanRows) (p at n : ℕ) (last : Option Leg) → departs_before P p at n ≡ false → IsLastOf P p at n last → IsLastOf P p at (suc n) last
 last-skipped P p at n None off h = λ x lt. elim (below_cases x n lt) [
-      | inl less ↦ h x less
-      | inr same ↦ subst (λ (k : ℕ). departs_before P p at k ≡ false) (sym same) off
-    ]
+  | inl less ↦ h x less
+  | inr same ↦ subst (λ (k : ℕ). departs_before P p at k ≡ false) (sym same) off
+]
 last-skipped P p at n (Some leg) off h = record {
-      within = omega (arith, h.within);
-      before = h.before;
-      last = λ z lt before. elim (below_cases z n lt) [
-          | inl less ↦ h.last z less before
-          | inr same ↦ absurd (not_both (departs_before P p at z) before (subst (λ (k : ℕ). departs_before P p at k ≡ false) (sym same) off))
-        ];
-    }
+  within = omega (arith, h.within);
+  before = h.before;
+  last = λ z lt before. elim (below_cases z n lt) [
+    | inl less ↦ h.last z less before
+    | inr same ↦ absurd (not_both (departs_before P p at z) before (subst (λ (k : ℕ). departs_before P p at k ≡ false) (sym same) off))
+  ];
+}
 
 flies_of : (P : PlanRows) (p at x : ℕ) → departs_before P p at x ≡ true → flies P p x ≡ true
 flies_of P p at x h = (and_parts (flies P p x) (ltb (dep P x) at) h).0
@@ -83,12 +83,12 @@ skipped I P p maint n upkeep off h =
 
 -- the aircraft flies leg n
 pub flown : (I : Situation) (P : PlanRows) (p : ℕ) (maint : Maint) (n : ℕ) (upkeep more : Upkeep) → flies P p n ≡ true → IsUpkeep I P p maint n upkeep
-  → more.stops ≡ (upkeep.stops && not (leb maint.from.0 (dep P n)))
-  → more.free ≡ (upkeep.free && not (meets_span (dep P n) (arr I P n) maint.from maint.to))
-  → IsLastOf P p maint.from.0 (n + 1) more.last
-  → more.minutes ≡ upkeep.minutes + (if ltb (dep P n) maint.from.0 then (leg_at I n).block else 0)
-  → more.minutes ≤ 2880 * (n + 1)
-  → IsUpkeep I P p maint (n + 1) more
+    → more.stops ≡ (upkeep.stops && not (leb maint.from.0 (dep P n)))
+    → more.free ≡ (upkeep.free && not (meets_span (dep P n) (arr I P n) maint.from maint.to))
+    → IsLastOf P p maint.from.0 (n + 1) more.last
+    → more.minutes ≡ upkeep.minutes + (if ltb (dep P n) maint.from.0 then (leg_at I n).block else 0)
+    → more.minutes ≤ 2880 * (n + 1)
+    → IsUpkeep I P p maint (n + 1) more
 flown I P p maint n upkeep more on h stops free last minutes few =
     let at = maint.from.0 in
     subst (λ (k : ℕ). IsUpkeep I P p maint k more) (sym (add-one n))
@@ -116,10 +116,10 @@ nat_eq_cases p q = grind (arith, nat_tests)
 -- no aircraft with a maintenance flies leg n
 all-skipped : (I : Situation) (P : PlanRows) (n : ℕ) (upkeeps : List Upkeep) → ((p : ℕ) → p < planes_of I → ForSome (plane_at I p).maint (λ maint. flies P p n ≡ false)) → AreUpkeeps I P n upkeeps → AreUpkeeps I P (n + 1) upkeeps
 all-skipped I P n upkeeps off h = record {
-      planes = h.planes;
-      each = λ p lt maint is. subst (λ (k : ℕ). IsUpkeep I P p maint k (get_or upkeeps p no_upkeep)) (sym (add-one n))
-          (skipped I P p maint n (get_or upkeeps p no_upkeep) (off p lt maint is) (h.each p lt maint is));
-    }
+  planes = h.planes;
+  each = λ p lt maint is. subst (λ (k : ℕ). IsUpkeep I P p maint k (get_or upkeeps p no_upkeep)) (sym (add-one n))
+      (skipped I P p maint n (get_or upkeeps p no_upkeep) (off p lt maint is) (h.each p lt maint is));
+}
 
 pub none-flown : (I : Situation) (P : PlanRows) (n : ℕ) (upkeeps : List Upkeep) → row_at P n ≡ Cancelled → AreUpkeeps I P n upkeeps → AreUpkeeps I P (n + 1) upkeeps
 none-flown I P n upkeeps off h = all-skipped I P n upkeeps (λ p lt maint is. ap (is_flown_by p) off) h
@@ -147,9 +147,9 @@ one-at I P q n upkeeps more within on h new p lt maint is (inr apart) =
 -- aircraft q flies leg n
 pub one-flown : (I : Situation) (P : PlanRows) (q n : ℕ) (upkeeps : List Upkeep) (more : Upkeep) → q < planes_of I → flies P q n ≡ true → AreUpkeeps I P n upkeeps → ForSome (plane_at I q).maint (λ maint. IsUpkeep I P q maint (n + 1) more) → AreUpkeeps I P (n + 1) (set upkeeps q more)
 one-flown I P q n upkeeps more within on h new = record {
-      planes = length-set upkeeps q more ∙ h.planes;
-      each = λ p lt maint is. one-at I P q n upkeeps more within on h new p lt maint is (nat_eq_cases p q);
-    }
+  planes = length-set upkeeps q more ∙ h.planes;
+  each = λ p lt maint is. one-at I P q n upkeeps more within on h new p lt maint is (nat_eq_cases p q);
+}
 
 -- ---- the rules
 
@@ -182,9 +182,9 @@ left_asked : (I : Situation) (P : PlanRows) (p at airport : ℕ) (last : Option 
 left_asked I P p at airport None h =
     let none : none_below (legs_of I) (departs_before P p at) ≡ true = none_below-from (legs_of I) (departs_before P p at) (λ x lt before. not_both (departs_before P p at x) before (h x lt)) in
     let no_last : each_below (legs_of I) (λ x. implies (is_last_before I P p at x) (eqb (leg_at I x).dest.0 airport)) ≡ true =
-        each_below-from (legs_of I) (λ x. implies (is_last_before I P p at x) (eqb (leg_at I x).dest.0 airport)) (λ x lt.
-        implies-from (is_last_before I P p at x) (eqb (leg_at I x).dest.0 airport) (λ last.
-        absurd (not_both (departs_before P p at x) (and_parts (departs_before P p at x) (none_below (legs_of I) (is_later P p at x)) last).0 (h x lt)))) in
+    each_below-from (legs_of I) (λ x. implies (is_last_before I P p at x) (eqb (leg_at I x).dest.0 airport)) (λ x lt.
+    implies-from (is_last_before I P p at x) (eqb (leg_at I x).dest.0 airport) (λ last.
+    absurd (not_both (departs_before P p at x) (and_parts (departs_before P p at x) (none_below (legs_of I) (is_later P p at x)) last).0 (h x lt)))) in
     rw (none, no_last) (and_true (eqb (plane_at I p).origin.0 airport))
 left_asked I P p at airport (Some leg) h =
     let some : none_below (legs_of I) (departs_before P p at) ≡ false = elim (cases_Bool (none_below (legs_of I) (departs_before P p at))) [
