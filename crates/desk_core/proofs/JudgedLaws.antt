@@ -8,7 +8,7 @@ use Rattle.desk_data.specs.Situation.{Situation}
 use Rattle.desk_data.specs.PlanRows.{PlanRows}
 use Rattle.desk_data.specs.Valid.{IsPlanFor}
 use Rattle.desk_model.specs.declared.answer.Answer.TheVariants.{Breaks, Dearer, NoPlan}
-use Rattle.desk_model.specs.Rules.{least}
+use Rattle.desk_model.specs.Least.{least}
 use Rattle.desk_model.specs.Cost.{cost}
 use Rattle.desk_model.specs.Steps.{moved}
 use Rattle.desk_model.specs.States.{State, grains, answer}

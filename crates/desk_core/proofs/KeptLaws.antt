@@ -14,7 +14,7 @@ use Rattle.desk_model.specs.declared.answer.Answer.{Answer}
 use Rattle.desk_model.specs.declared.answer.Answer.TheVariants.{Accepted}
 use Rattle.desk_model.specs.declared.answer.Event.TheVariants as event
 use Rattle.desk_model.specs.declared.answer.Entry.{Entry}
-use Rattle.desk_model.specs.Rules.{least}
+use Rattle.desk_model.specs.Least.{least}
 use Rattle.desk_model.specs.Cost.{cost}
 use Rattle.desk_model.specs.States.{State, grains, opening, answer}
 use Rattle.desk_model.specs.Histories.{state, proposal_limit, Stands, changes, is_change}

@@ -5,5 +5,4 @@ pub use Rattle.desk_model.specs.Histories
 pub use Rattle.desk_model.specs.Promises
 pub mod Recorded
 pub mod BookParts
-pub mod Before
 pub mod Judged

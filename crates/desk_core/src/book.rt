@@ -4,10 +4,10 @@ ghost use Rattle.std.specs.Prelude.{◌≡◌, ◌≤◌, [], length, drop, IfOk
 
 use crate::cost::total_cost;
 use crate::judged::Judged;
-use crate::least::least_broken;
 use crate::moved::{copied_move, moved_plan};
 use desk_data::{Broken, Grains, Instance, Move, NoMem, Plan};
 use desk_model::{Answer, Entry, Event};
+use full_check::full_check;
 use std::alloc::Global;
 use std::marker::Model;
 
@@ -57,7 +57,7 @@ impl Book {
         ensures { IfOk result (λ book. book ≡ record { opening = inst; journal = [] }) }
     {
         let plan = inst.schedule(alloc)?;
-        let broken = least_broken(&inst, &plan);
+        let broken = full_check(alloc, &inst, &plan)?;
         let cost = total_cost(&inst, &plan);
         Ok(Book {
             inst,
@@ -119,7 +119,7 @@ impl Book {
             return Ok(Judged::Refused(Answer::NoPlan(item)));
         }
         let plan = moved_plan(alloc, &self.inst, &self.plan, m)?;
-        if let Some(item) = least_broken(&self.inst, &plan) {
+        if let Some(item) = full_check(alloc, &self.inst, &plan)? {
             return Ok(Judged::Refused(Answer::Breaks(item)));
         }
         let cost = total_cost(&self.inst, &plan);

@@ -4,7 +4,6 @@
 mod book;
 mod cost;
 mod judged;
-mod least;
 mod moved;
 #[cfg(test)]
 mod tests;

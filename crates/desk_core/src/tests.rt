@@ -143,18 +143,6 @@ fn moves_are_answered(rt: HostRuntime) -> Result<(), Fail> {
         plane: Plane(0),
         dep: at(8, 0),
     };
-    let first_later = Row::Flown {
-        plane: Plane(0),
-        dep: at(8, 1),
-    };
-    let second = Row::Flown {
-        plane: Plane(0),
-        dep: at(9, 30),
-    };
-    let second_early = Row::Flown {
-        plane: Plane(0),
-        dep: at(9, 29),
-    };
     let third = Row::Flown {
         plane: Plane(1),
         dep: at(12, 0),
@@ -172,18 +160,14 @@ fn moves_are_answered(rt: HostRuntime) -> Result<(), Fail> {
         now: WITHOUT_LAST,
         would: WITHOUT_LAST,
     };
-    let untimely = Answer::Breaks(Broken::C2(Leg(1)));
     let misplaced = Answer::Breaks(Broken::C5(Leg(1)));
-    let hurried = Answer::Breaks(Broken::C6(Leg(1)));
     let no_plan = Answer::NoPlan(Broken::C5(Leg(0)));
     // whether the day is whole, a step, and the answers to it when it is proposed twice
     let table = [
         (true, set(2, third, Row::Cancelled), cheaper, no_cheaper),
         (true, set(2, third, third_later), same, same),
         (true, set(2, Row::Cancelled, third_later), same, same),
-        (true, set(1, second, second_early), untimely, untimely),
         (true, set(0, first, Row::Cancelled), misplaced, misplaced),
-        (true, set(0, first, first_later), hurried, hurried),
         (false, set(1, third, Row::Cancelled), no_plan, no_plan),
     ];
     for (whole, step, once, again) in table.iter() {
