@@ -1,6 +1,7 @@
 -- What stands outside after a run, by its status.
-use Rattle.std.specs.Prelude.{◌≡◌, ◌≤◌, ◌⊎◌, ℕ, [], ◌++◌, take, Result, Ok, Err}
+use Rattle.std.specs.Prelude.{◌≡◌, ◌≤◌, ◌⊎◌, ℕ, List, [], ◌++◌, take, Result, Ok, Err}
 use Rattle.std.specs.Io.KnownBytes.{Appends, Keeps}
+use Rattle.desk_folder.specs.declared.files.File.{File}
 use Rattle.desk_folder.specs.declared.files.File.TheVariants as file
 use Rattle.desk_folder.specs.Outside.{Outside}
 use Rattle.desk_folder.specs.Calls.{AppendsPrefix, Rose}
@@ -17,16 +18,26 @@ abbrev pub finished_texts : Result Story Refusal → Texts
 finished_texts (Ok s) = texts_of s
 finished_texts (Err r) = record { rotations = []; journal = []; report = [] }
 
+-- an output file has got nothing, a beginning of its text, or all of it
+abbrev pub HasNothing : File → Outside → Outside → Type 0
+HasNothing f before now = Keeps (before.written f) (now.written f)
+
+abbrev pub HasBeginning : File → List ℕ → Outside → Outside → Type 0
+HasBeginning f text before now = AppendsPrefix (before.written f) (now.written f) text
+
+abbrev pub HasAll : File → List ℕ → Outside → Outside → Type 0
+HasAll f text before now = Appends (before.written f) (now.written f) text
+
 -- the output files, in their order: whole up to one, of which there is a beginning, and nothing behind it
 abbrev pub AreBegun : Outside → Outside → Texts → Type 0
 AreBegun before now t =
-    (AppendsPrefix (before.written file.SolRotations) (now.written file.SolRotations) t.rotations × Keeps (before.written file.Journal) (now.written file.Journal))
-    ⊎ (Appends (before.written file.SolRotations) (now.written file.SolRotations) t.rotations × AppendsPrefix (before.written file.Journal) (now.written file.Journal) t.journal)
+    (HasBeginning file.SolRotations t.rotations before now × HasNothing file.Journal before now)
+    ⊎ (HasAll file.SolRotations t.rotations before now × HasBeginning file.Journal t.journal before now)
 
--- both output files are whole
+-- both are whole
 pub record AreWhole (before now : Outside) (t : Texts) : Type 0 where
-  pub rotations : Appends (before.written file.SolRotations) (now.written file.SolRotations) t.rotations
-  pub journal : Appends (before.written file.Journal) (now.written file.Journal) t.journal
+  pub rotations : HasAll file.SolRotations t.rotations before now
+  pub journal : HasAll file.Journal t.journal before now
 
 -- the sink, at a status from 2 on: a beginning of what a finished run reports, and behind it a beginning of the line of a fault
 pub record IsToldLast (before now : World) (x : Inputs) (code : ℕ) : Type 0 where
