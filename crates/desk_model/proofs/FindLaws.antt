@@ -76,3 +76,28 @@ lists_none p f zero h = refl
 lists_none p f (suc n) h =
     ap (find p) (flat_map-append f (numbers n) (n ∷ []))
     ∙ find_none-both p (flat_map f (numbers n)) (f n ++ []) (lists_none p f n (λ k lt. h k (omega arith))) (find_none-both p (f n) [] (h n (omega arith)) refl)
+
+-- ---- the first of the numbers
+
+pub first_of_numbers : {X : Type 0} (p : X → Bool) (f : ℕ → X) (n k : ℕ) → k < n → p (f k) ≡ true → ((j : ℕ) → j < k → p (f j) ≡ false) → find p (map f (numbers n)) ≡ Some (f k)
+first_of_numbers p f zero k lt here before = absurd (omega arith)
+first_of_numbers p f (suc n) k lt here before =
+    let parts = ap (find p) (map-append f (numbers n) (n ∷ [])) ∙ find-append p (map f (numbers n)) (f n ∷ []) in
+    let cases : (k < n) ⊎ (k ≡ n) = grind arith in
+    elim cases [
+      | inl less ↦ parts ∙ rw (first_of_numbers p f n k less here before) refl
+      | inr same ↦ parts
+          ∙ rw (numbers_none p f n (λ j lt. before j (omega arith))) (subst (λ (j : ℕ). find p (f j ∷ []) ≡ Some (f k)) same (rw here refl))
+    ]
+
+pub first_of_lists : {X : Type 0} (p : X → Bool) (f : ℕ → List X) (n k : ℕ) (x : X) → k < n → find p (f k) ≡ Some x → ((j : ℕ) → j < k → find p (f j) ≡ None) → find p (flat_map f (numbers n)) ≡ Some x
+first_of_lists p f zero k x lt here before = absurd (omega arith)
+first_of_lists p f (suc n) k x lt here before =
+    let parts = ap (find p) (flat_map-append f (numbers n) (n ∷ [])) ∙ find-append p (flat_map f (numbers n)) (f n ++ []) in
+    let cases : (k < n) ⊎ (k ≡ n) = grind arith in
+    elim cases [
+      | inl less ↦ parts ∙ rw (first_of_lists p f n k x less here before) refl
+      | inr same ↦
+          let last : find p (f n ++ []) ≡ Some x = subst (λ (j : ℕ). find p (f j ++ []) ≡ Some x) same (find-append p (f k) [] ∙ rw here refl) in
+          parts ∙ rw (lists_none p f n (λ j lt. before j (omega arith)), last) refl
+    ]

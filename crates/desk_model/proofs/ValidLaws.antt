@@ -1,5 +1,5 @@
--- Plans stay plans for their instance, and what they cost is bounded.
-use Rattle.std.proofs.Common.{◌≡◌, ℕ, zero, suc, ◌+◌, ◌*◌, ◌≤◌, inl, inr, Bool, true, false, cond, List, [], ◌∷◌, length, refl, ap, subst, ◌∙◌, arith, length-append, ◌^◌}
+-- Plans stay plans for their instance, and what they cost and the hours of their legs are bounded.
+use Rattle.std.proofs.Common.{◌≡◌, ℕ, zero, suc, ◌+◌, ◌*◌, ◌<◌, ◌≤◌, inl, inr, Bool, true, false, cond, List, [], ◌∷◌, length, refl, ap, subst, ◌∙◌, arith, length-append, ◌^◌}
 use Rattle.std.specs.Prelude.{sum_by}
 use Rattle.std.specs.List.{AllByRecursion}
 use Rattle.std.proofs.Math.Nat.{mul-le-mul_left}
@@ -20,6 +20,9 @@ use Rattle.desk_model.specs.declared.answer.Answer.{Answer}
 use Rattle.desk_model.specs.declared.answer.Answer.TheVariants.{Accepted, Breaks, Dearer, NoPlan, Full}
 use Rattle.desk_model.specs.declared.answer.Event.TheVariants as event
 use Rattle.desk_model.specs.Numbers.{numbers}
+use Rattle.desk_model.specs.Rotations.{departure, dep, arr}
+use Rattle.desk_model.specs.Least.{all_hours}
+use Rattle.desk_model.specs.Words.{DepartsIn, ArrivesIn}
 use Rattle.desk_model.specs.Cost.{one, operating_of, operating, cost}
 use Rattle.desk_model.specs.Steps.{is_row, stepped, stepped_by, moved}
 use Rattle.desk_model.specs.States.{State, answer, published, after}
@@ -115,3 +118,33 @@ operating-sum-le I P n valid =
 pub cost-le : (I : Situation) (P : PlanRows) → IsValid I → cost I P ≤ 10 ^ 38
 unfolding cost
 cost-le I P valid = omega (arith, operating-sum-le I P (legs_of I) valid, valid.parts.few.legs)
+
+-- ---- hours
+
+departure-lt : (planes : ℕ) (row : Row) → IsRowOf planes row → departure row < 52500000
+departure-lt planes (Flown plane at) h = h.1
+departure-lt planes Cancelled h = omega arith
+
+-- a plan's legs depart before minute 52,500,000, and arrive at most 2,880 minutes later
+pub dep-lt : (I : Situation) (P : PlanRows) (x : ℕ) → IsPlanFor I P → dep P x < 52500000
+dep-lt I P x plan =
+    elim (cases_lt x (length P.rows)) [
+      | inl within ↦ departure-lt (planes_of I) (row_at P x) (All-get_or (IsRowOf (planes_of I)) P.rows x Cancelled within plan.rows)
+      | inr past ↦ rw (get_or_past P.rows x Cancelled past) (omega arith)
+    ]
+
+pub arr-lt : (I : Situation) (P : PlanRows) (x : ℕ) → IsValid I → IsPlanFor I P → arr I P x < 52502880
+arr-lt I P x valid plan = omega (arith, dep-lt I P x plan, block_le I x valid)
+
+-- so each hour in which one departs or arrives can be named
+pub departs_within : (I : Situation) (P : PlanRows) (a h x : ℕ) → IsPlanFor I P → DepartsIn I P a h x → h < all_hours
+unfolding all_hours
+departs_within I P a h x plan leg =
+    let same : dep P x ≡ leg.dep = ap departure leg.flown in
+    omega (arith, same, dep-lt I P x plan, leg.from)
+
+pub arrives_within : (I : Situation) (P : PlanRows) (a h x : ℕ) → IsValid I → IsPlanFor I P → ArrivesIn I P a h x → h < all_hours
+unfolding all_hours
+arrives_within I P a h x valid plan leg =
+    let same : arr I P x ≡ leg.dep + (leg_at I x).block = ap (λ (row : Row). departure row + (leg_at I x).block) leg.flown in
+    omega (arith, same, arr-lt I P x valid plan, leg.from)

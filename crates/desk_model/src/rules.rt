@@ -1,11 +1,12 @@
 //! The rules in words.
 
-ghost use Rattle.std.specs.Prelude.{◌≡◌, ◌↔◌, ℕ, true, Option, None, Some};
+ghost use Rattle.std.specs.Prelude.{◌≡◌, ◌↔◌, ℕ, ◌<◌, true, Option, None, Some};
 ghost use Rattle.std.specs.Option.{option_or};
 ghost use Rattle.desk_data.specs.declared.broken.Broken.{Broken as Item};
 ghost use Rattle.desk_data.specs.Situation.{Situation};
 ghost use Rattle.desk_data.specs.PlanRows.{PlanRows};
-ghost use Rattle.desk_model.specs.Least.{least, least_rot, least_slots};
+ghost use Rattle.desk_data.specs.Valid.{IsPlanFor, IsValid};
+ghost use Rattle.desk_model.specs.Least.{all_hours, least, least_rot, least_slots};
 ghost use Rattle.desk_model.specs.Maintenance.{departs_before};
 ghost use Rattle.desk_model.specs.Slots.{arrives_in, departs_in};
 ghost use Rattle.desk_model.specs.Words.{ArrivesIn, DepartsBefore, DepartsIn, IsFeasible, IsLeast};
@@ -37,6 +38,13 @@ pub fn the_rules_count_legs_as_in_words()
     ensures before { (P : PlanRows) (p at x : ℕ) → departs_before P p at x ≡ true ↔ DepartsBefore P p at x }
     ensures departs { (I : Situation) (P : PlanRows) (a h x : ℕ) → departs_in I P a h x ≡ true ↔ DepartsIn I P a h x }
     ensures arrives { (I : Situation) (P : PlanRows) (a h x : ℕ) → arrives_in I P a h x ≡ true ↔ ArrivesIn I P a h x }
+{}
+
+/// No leg of a plan leaves or reaches an airport in an hour that no item can name: C10 and C11 hold
+/// of the hours behind the last one too, since nothing departs or arrives then.
+pub fn legs_are_within_the_hours()
+    ensures departs { (I : Situation) (P : PlanRows) (a h x : ℕ) → IsValid I → IsPlanFor I P → DepartsIn I P a h x → h < all_hours }
+    ensures arrives { (I : Situation) (P : PlanRows) (a h x : ℕ) → IsValid I → IsPlanFor I P → ArrivesIn I P a h x → h < all_hours }
 {}
 
 /// The item that is told is the first that breaks C1 to C9, and where there is none the first that
