@@ -1,9 +1,8 @@
 -- The changes of what orders say of an airport's hours.
-use Rattle.std.proofs.Common.{◌≡◌, ℕ, ◌+◌, ◌-◌, ◌<◌, ◌≤◌, Bool, true, false, ◌&&◌, cond, leb, ltb, length, List, [], ◌∷◌, ◌++◌, Option, Some, None, refl, sym, ap, ◌∙◌, take, drop, get_or, arith, ⊎_elim, subst}
+use Rattle.std.proofs.Common.{◌≡◌, ℕ, ◌+◌, ◌-◌, ◌<◌, ◌≤◌, ◌&&◌, leb, ltb, length, List, [], ◌∷◌, ◌++◌, Option, Some, None, refl, sym, ap, ◌∙◌, take, drop, get_or, arith, ⊎_elim, subst}
 use Rattle.std.specs.Option.{option_or, option_flatten}
 use Rattle.std.specs.Bool.{if◌then◌else◌}
 use Rattle.std.specs.List.{All, AllWithin}
-use Rattle.std.specs.List.Sorted.{IsNonDecreasingBy, IsPartitionPoint}
 use Rattle.std.proofs.lemmas.Bool.{cases_lt, le-leb, lt-leb, lt-ltb, le-ltb}
 use Rattle.std.proofs.lemmas.List.{get_or-take, get_or-drop, length-take, length-drop, length-append, get_or_append_left, get_or-append_right, take-append-drop, take_more}
 use Rattle.std.proofs.lemmas.List.Elements.{All-append, All-cons, All-nil, All-weaker}
@@ -12,7 +11,7 @@ use Rattle.desk_data.specs.declared.hours.Change.{Change}
 use Rattle.desk_data.specs.declared.hours.HourCap.{HourCap}
 use Rattle.desk_data.specs.Hours.{last_word}
 use Rattle.desk_data.specs.KeptLists.{AreInOrder, said_from, kept_cap}
-use Rattle.desk_data.proofs.LastLemmas.{or_none, last_word-append, last_word-one, last_word_none, last_word_agree}
+use Rattle.desk_data.proofs.LastLemmas.{last_word-append, last_word-one, last_word_none, last_word_agree}
 
 -- what holds up to a place holds of the front, and what holds from it on of the rest
 pub All-front : {X : Type 0} (P : X → Type 0) (xs : List X) (i : ℕ) → AllWithin P xs 0 i → All P (take i xs)

@@ -6,7 +6,7 @@ use crate::instance::Instance;
 use crate::orders::{Batch, Order};
 use crate::parts::Parts;
 use crate::path::Path;
-use crate::row::Row;
+use crate::row::{Group, Row};
 use desk_units::{Airport, Cabin, Leg, List, Minute, Plane, Res};
 use std::alloc::Global;
 use std::test::Fail;
@@ -320,11 +320,11 @@ fn with_window(alloc: Global, from: u32, both: bool) -> Result<Instance, Fail> {
 }
 
 /// How much of reservation 0 has begun, and whether it is bound to a path.
-fn asked_of_res(inst: &Instance, path: &Path) -> Option<(u32, bool)> {
+fn asked_of_res(inst: &Instance, groups: &[Group], path: &Path) -> Option<(u32, bool)> {
     if inst.reservations() < 1 {
         return None;
     }
-    Some((inst.begun(Res(0)), inst.bound(Res(0), [].as_slice(), path)))
+    Some((inst.begun(Res(0)), inst.bound(Res(0), groups, path)))
 }
 
 #[test]
@@ -353,12 +353,16 @@ fn paths_begin_with_what_has_begun(rt: HostRuntime) -> Result<(), Fail> {
         (1_001, false, none.as_slice(), 1, false),
         (1_001, false, other.as_slice(), 1, true),
     ];
+    let groups: Vec<Group> = Vec::new(rt.alloc());
     for (from, both, path, begun, bound) in table.iter() {
         let inst = with_window(rt.alloc(), *from, *both)?;
         let path = Path {
             legs: List(Vec::from_slice(rt.alloc(), path)?),
         };
-        assert_eq!(rt; asked_of_res(&inst, &path), Some((*begun, *bound)));
+        assert_eq!(rt;
+            asked_of_res(&inst, groups.as_slice(), &path),
+            Some((*begun, *bound))
+        );
     }
     Ok(())
 }

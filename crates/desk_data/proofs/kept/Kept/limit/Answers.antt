@@ -1,8 +1,7 @@
-use Rattle.std.proofs.Common.{◌≡◌, ℕ, ◌&&◌, ltb, leb, List, [], ◌∷◌, Some, set, sym, subst, ap, ◌∙◌}
+use Rattle.std.proofs.Common.{◌≡◌, ℕ, ◌&&◌, ltb, leb, List, Some, ap, ◌∙◌}
 use Rattle.std.specs.Bool.{if◌then◌else◌}
 use Rattle.desk_data.specs.declared.hours.Change.{Change}
-use Rattle.desk_data.specs.declared.orders.Order.TheVariants.{Field}
-use Rattle.desk_data.specs.KeptLists.{KeptLists, kept_cap, kept_hours, Adds}
+use Rattle.desk_data.specs.KeptLists.{kept_cap, kept_hours}
 use Rattle.desk_data.proofs.KeptLemmas.{adds_field, adds_nothing}
 use Rattle.desk_data.proofs.kept.Kept.limit.Goals as goal
 

@@ -1,4 +1,4 @@
-use Rattle.std.proofs.Common.{List, [], ◌∷◌, subst, sym}
+use Rattle.std.proofs.Common.{[], ◌∷◌, subst, sym}
 use Rattle.std.proofs.lemmas.Result.{IfOk-weaker}
 use Rattle.desk_data.specs.declared.orders.Order.TheVariants.{Aircraft}
 use Rattle.desk_data.specs.KeptLists.{KeptLists, Adds}
