@@ -1,57 +1,19 @@
 -- The first broken item over the hours of the airports is that of the least overfull slot.
-use Rattle.std.proofs.Common.{◌≡◌, ℕ, zero, suc, ◌<◌, ◌⊎◌, inl, inr, Bool, true, false, List, [], ◌∷◌, ◌++◌, refl, sym, ap, ◌∙◌, arith, is_lt}
+use Rattle.std.proofs.Common.{◌≡◌, ℕ, ◌<◌, true, List, sym, ◌∙◌, arith, is_lt}
 use Rattle.std.specs.Prelude.{find, map, Option, None, Some}
-use Rattle.std.specs.List.{flat_map}
 use Rattle.std.specs.Option.{option_or}
 use Rattle.std.proofs.lemmas.Bool.Decides.{nat_tests}
-use Rattle.std.proofs.lemmas.List.{map-append, append-nil}
-use Rattle.std.proofs.lemmas.List.Concat.{flat_map-append}
 use Rattle.std.proofs.lemmas.List.Folds.{find-append}
 use Rattle.desk_data.specs.declared.broken.Broken.{Broken}
 use Rattle.desk_data.specs.PlanRows.{PlanRows}
 use Rattle.desk_data.specs.Situation.{Situation, airports_of}
 use Rattle.desk_model.specs.Least.{breaks, each_hour, all_hours, airport, slot_items, least_slots}
 use Rattle.desk_model.specs.Numbers.{numbers}
-use Rattle.desk_model.proofs.FindLaws.{numbers_none, lists_none}
+use Rattle.desk_model.proofs.FindLaws.{numbers_none, lists_none, first_of_numbers, first_of_lists}
 use Rattle.rule_slots.specs.declared.slots.Slot.{Slot}
 use Rattle.rule_slots.specs.declared.slots.Movement.{Movement}
 use Rattle.rule_slots.specs.declared.slots.Movement.TheVariants.{Departure, Arrival}
 use Rattle.rule_slots.specs.Taken.{slot_cmp, item, is_overfull, IsLeastOverfull}
-
-numbers-more : {X : Type 0} (p : X → Bool) (f : ℕ → X) (n : ℕ) → find p (map f (numbers (suc n))) ≡ option_or (find p (map f (numbers n))) (find p (f n ∷ []))
-numbers-more p f n = ap (find p) (map-append f (numbers n) (n ∷ [])) ∙ find-append p (map f (numbers n)) (f n ∷ [])
-
--- the first number whose item passes
-first_of_numbers : {X : Type 0} (p : X → Bool) (f : ℕ → X) (n x : ℕ) → x < n → ((k : ℕ) → k < x → p (f k) ≡ false) → p (f x) ≡ true → find p (map f (numbers n)) ≡ Some (f x)
-first_of_numbers p f zero x lt before holds = absurd (omega arith)
-first_of_numbers p f (suc n) x lt before holds =
-    let cases : (x < n) ⊎ (x ≡ n) = grind arith in
-    elim cases [
-      | inl less ↦ numbers-more p f n ∙ ap (λ o. option_or o (find p (f n ∷ []))) (first_of_numbers p f n x less before holds)
-      | inr same ↦ numbers-more p f n
-          ∙ ap (λ o. option_or o (find p (f n ∷ []))) (numbers_none p f n (λ k below. before k (omega arith)))
-          ∙ rw (← same, holds) refl
-    ]
-
-lists-more : {X : Type 0} (p : X → Bool) (f : ℕ → List X) (n : ℕ) → find p (flat_map f (numbers (suc n))) ≡ option_or (find p (flat_map f (numbers n))) (find p (f n))
-lists-more p f n =
-    ap (find p) (flat_map-append f (numbers n) (n ∷ []))
-    ∙ find-append p (flat_map f (numbers n)) (f n ++ [])
-    ∙ ap (λ xs. option_or (find p (flat_map f (numbers n))) (find p xs)) (append-nil (f n))
-
--- the first number in whose list an item passes
-first_of_lists : {X : Type 0} (p : X → Bool) (f : ℕ → List X) (n a : ℕ) (x : X) → a < n → ((k : ℕ) → k < a → find p (f k) ≡ None) → find p (f a) ≡ Some x → find p (flat_map f (numbers n)) ≡ Some x
-first_of_lists p f zero a x lt before here = absurd (omega arith)
-first_of_lists p f (suc n) a x lt before here =
-    let cases : (a < n) ⊎ (a ≡ n) = grind arith in
-    elim cases [
-      | inl less ↦ lists-more p f n ∙ ap (λ o. option_or o (find p (f n))) (first_of_lists p f n a x less before here)
-      | inr same ↦ lists-more p f n
-          ∙ ap (λ o. option_or o (find p (f n))) (lists_none p f n (λ k below. before k (omega arith)))
-          ∙ ap (λ k. find p (f k)) (sym same) ∙ here
-    ]
-
--- ---- the items of the slots
 
 abbrev slot : ℕ → ℕ → Slot
 slot a h = record { airport = airport a; hour = h }
@@ -73,11 +35,10 @@ least_item I P movement taken None same none =
     numbers_none (breaks I P) (item movement (airport a)) all_hours (λ h below. sym (same (slot a h)) ∙ none (slot a h)))
 least_item I P movement taken (Some s) same at =
     first_of_lists (breaks I P) (λ a. map (item movement (airport a)) (numbers all_hours)) (airports_of I) s.airport.0 (item movement s.airport s.hour) at.range.airport
+    (first_of_numbers (breaks I P) (item movement s.airport) all_hours s.hour at.range.hour (sym (same s) ∙ at.over)
+    (λ h less. sym (same (slot s.airport.0 h)) ∙ at.least (slot s.airport.0 h) (lesser_hour s.airport.0 h s.hour less)))
     (λ a less. numbers_none (breaks I P) (item movement (airport a)) all_hours (λ h below.
     sym (same (slot a h)) ∙ at.least (slot a h) (lesser_airport a s.airport.0 h s.hour less)))
-    (first_of_numbers (breaks I P) (item movement s.airport) all_hours s.hour at.range.hour
-    (λ h less. sym (same (slot s.airport.0 h)) ∙ at.least (slot s.airport.0 h) (lesser_hour s.airport.0 h s.hour less))
-    (sym (same s) ∙ at.over))
 
 -- the items of C10 stand before those of C11
 pub least-by_rule : (I : Situation) (P : PlanRows) → least_slots I P ≡ option_or (find (breaks I P) (each_hour I (item Departure))) (find (breaks I P) (each_hour I (item Arrival)))
