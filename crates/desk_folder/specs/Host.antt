@@ -1,19 +1,22 @@
--- What the host's folder and sink tell of themselves: their counts of faults, and no bytes.
-use Rattle.std.specs.Prelude.{◌≡◌, ℕ, List, None, slice_index}
+-- What the host's folder and sink tell of themselves: the directories, their counts of faults, and no bytes.
+use Rattle.std.specs.Prelude.{◌≡◌, ℕ, Bool, List, [], Some, None, slice_index}
 use Rattle.desk_folder.specs.Files.{file_number}
-use Rattle.desk_folder.specs.Outside.{Outside, SinkSide}
+use Rattle.desk_folder.specs.Outside.{Directories, Outside, SinkSide}
 use Rattle.desk_folder.specs.declared.files.File.{File}
 
--- how many calls failed of `place`, and of `next` and `put` for each file by its number
-pub record HostCounts : Type 0 where
+-- the directories last named, whether the output directory was emptied of what an earlier run wrote, and how many
+-- calls failed of `place`, and of `next` and `put` for each file by its number
+pub record HostSide : Type 0 where
+  pub directories : Directories
+  pub emptied : Bool
   pub place : ℕ
   pub next : List ℕ
   pub put : List ℕ
 
--- the counts are told, and nothing else
-abbrev pub counts_alone : HostCounts → Outside
-counts_alone h = record {
-  directories = None;
+-- the directories and the counts are told, and no bytes
+abbrev pub host_outside : HostSide → Outside
+host_outside h = record {
+  directories = Some h.directories;
   left = λ _. None;
   written = λ _. None;
   place_faults = h.place;
@@ -25,9 +28,9 @@ counts_alone h = record {
 abbrev pub faults_alone : ℕ → SinkSide
 faults_alone faults = record { written = None; faults = faults }
 
--- nothing is told of directories and bytes, and no call has failed
+-- no directory is named, nothing is told of bytes, and no call has failed
 pub record TellsNoBytes (now : Outside) : Type 0 where
-  pub directories : now.directories ≡ None
+  pub directories : now.directories ≡ Some (record { input = []; output = [] })
   pub left : (file : File) → now.left file ≡ None
   pub written : (file : File) → now.written file ≡ None
   pub place_faults : now.place_faults ≡ 0

@@ -1,5 +1,5 @@
 //! The host's own folder and standard output. They tell no bytes: what the host does with a call is
-//! trusted, and the contracts speak of counts alone.
+//! trusted, and the contracts speak of the directories and of counts alone.
 ghost use Rattle.std.specs.Prelude.{◌≡◌, ◌≢◌, length, slice_index, if◌then◌else◌};
 ghost use Rattle.desk_folder.specs.Calls.{Counts, CountsFailure};
 ghost use Rattle.desk_folder.specs.Files.{file_number, is_solution};
@@ -30,11 +30,18 @@ pub struct HostFolder<R: Files + Drop> {
 }
 
 impl<R: Files + Drop> Model for HostFolder<R> {
-    ghost use Rattle.desk_folder.specs.Host.{HostCounts};
+    ghost use Rattle.std.specs.String.{string_bytes};
+    ghost use Rattle.desk_folder.specs.Host.{HostSide};
 
-    ghost Value = { HostCounts };
+    ghost Value = { HostSide };
 
-    ghost view = { λ h. record { place = h.place_faults; next = h.next_faults; put = h.put_faults } };
+    ghost view = { λ h. record {
+      directories = record { input = string_bytes h.input; output = string_bytes h.output };
+      emptied = h.is_emptied;
+      place = h.place_faults;
+      next = h.next_faults;
+      put = h.put_faults;
+    } };
 }
 
 impl<R: Files + Drop> HostFolder<R> {
@@ -59,10 +66,14 @@ impl<R: Files + Drop> HostFolder<R> {
 }
 
 impl<R: Files + Drop> HostFolder<R> {
+    ghost use Rattle.std.specs.Prelude.{IsTrue, OnOk};
+    ghost use Rattle.desk_folder.specs.Host.{host_outside};
+
     /// For the end of a run that was done: where it has written nothing, empties what an earlier run
     /// wrote in the output directory, so that no stale plan is taken for one of this run.
     pub fn settle(&mut self, alloc: Global) -> Result<(), FolderFault>
-        ensures { self.new ≡ self.old }
+        ensures emptied { OnOk result (IsTrue self.new.emptied) }
+        ensures told { host_outside self.new ≡ host_outside self.old }
     {
         if !self.is_emptied {
             empty_outputs(&self.rt, alloc, self.output.as_str())?;
@@ -108,12 +119,12 @@ fn source_directory<'a>(input: &'a str, output: &'a str, file: File) -> &'a str
 impl<R: Files + Drop> Folder for HostFolder<R> {
     ghost use Rattle.std.specs.Prelude.{◌<◌, length};
     ghost use Rattle.desk_folder.specs.Calls.{CountsFailure, Places, Takes, Puts};
-    ghost use Rattle.desk_folder.specs.Host.{counts_alone};
+    ghost use Rattle.desk_folder.specs.Host.{host_outside};
 
-    ghost outside = { counts_alone };
+    ghost outside = { host_outside };
 
     fn place(&mut self, alloc: Global, input: &str, output: &str) -> Result<(), FolderFault>
-        ensures places { Places (counts_alone self.old) (counts_alone self.new) input.now output.now result }
+        ensures places { Places (host_outside self.old) (host_outside self.new) input.now output.now result }
         ensures counted { CountsFailure self.old.place self.new.place result }
     {
         let input = String::from_str(alloc, input)?;
@@ -130,8 +141,8 @@ impl<R: Files + Drop> Folder for HostFolder<R> {
 
     fn next(&mut self, alloc: Global, file: File, into: &mut [u8]) -> Result<usize, FolderFault>
         requires { 0 < length into.old }
-        ensures takes { Takes (counts_alone self.old) (counts_alone self.new) file into.new result }
-        ensures counted { CountsFailure ((counts_alone self.old).next_faults file) ((counts_alone self.new).next_faults file) result }
+        ensures takes { Takes (host_outside self.old) (host_outside self.new) file into.new result }
+        ensures counted { CountsFailure ((host_outside self.old).next_faults file) ((host_outside self.new).next_faults file) result }
     {
         let source = &mut self.sources[file.number()];
         let (input, output) = (self.input.as_str(), self.output.as_str());
@@ -142,8 +153,8 @@ impl<R: Files + Drop> Folder for HostFolder<R> {
 
     fn put(&mut self, alloc: Global, file: File, piece: &[u8]) -> Result<usize, FolderFault>
         requires { 0 < length piece.now }
-        ensures puts { Puts (counts_alone self.old) (counts_alone self.new) file piece.now result }
-        ensures counted { CountsFailure ((counts_alone self.old).put_faults file) ((counts_alone self.new).put_faults file) result }
+        ensures puts { Puts (host_outside self.old) (host_outside self.new) file piece.now result }
+        ensures counted { CountsFailure ((host_outside self.old).put_faults file) ((host_outside self.new).put_faults file) result }
     {
         let target = &mut self.targets[file.number()];
         let directory = self.output.as_str();
