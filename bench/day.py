@@ -38,7 +38,7 @@ def schedule_of(legs, airports):
     for p in range(legs // LEGS_OF_AIRCRAFT):
         home = airports[p % (len(airports) // 2)]
         away = "B" + home[1:]
-        aircraft.append("P%d M1 NB 0/0/150 600 1000 20 20 %s NULL" % (p, home))
+        aircraft.append("P%d M1 NB 0/0/150 1000 1000 20 20 %s NULL" % (p, home))
         for k in range(LEGS_OF_AIRCRAFT):
             dep = 65 * k
             ends = (home, away) if k % 2 == 0 else (away, home)
