@@ -1,0 +1,27 @@
+//! The check of a plan against the rules C1 to C11, near linear in the legs.
+#![tactic(auto)]
+
+ghost use Rattle.std.specs.Prelude.{◌≡◌, IfOk};
+ghost use Rattle.desk_data.specs.Valid.{IsPlanFor};
+ghost use Rattle.desk_model.specs.Least.{least};
+
+#[cfg(test)]
+mod tests;
+
+use desk_data::{Broken, Instance, NoMem, Plan};
+use rule_rot::least_rot;
+use rule_slots::least_slots;
+use std::alloc::Global;
+
+/// The first item of C1 to C11 that the plan breaks, by rule and then by what the items name, or
+/// `None` where it breaks none. The time is near linear in the legs: they are sorted once for the
+/// rotations, and once for departures and once for arrivals. The only error is want of memory.
+pub fn full_check(alloc: Global, inst: &Instance, plan: &Plan) -> Result<Option<Broken>, NoMem>
+    requires { IsPlanFor inst.now plan.now }
+    ensures { IfOk result (λ item. item ≡ least inst.now plan.now) }
+{
+    match least_rot(alloc, inst, plan)? {
+        Some(item) => Ok(Some(item)),
+        None => least_slots(alloc, inst, plan),
+    }
+}

@@ -1,0 +1,1 @@
+//! The first item of all rules.

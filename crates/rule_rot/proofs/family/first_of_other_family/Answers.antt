@@ -1,0 +1,22 @@
+use Rattle.std.proofs.Common.{◌≡◌, ◌<◌, arith, false}
+use Rattle.desk_data.specs.declared.broken.Broken.TheVariants.{C3}
+use Rattle.desk_data.specs.Situation.{legs_of}
+use Rattle.desk_model.specs.Rules.{keeps_c3}
+use Rattle.desk_model.specs.Least.{leg}
+use Rattle.rule_rot.proofs.FindLaws.{rule_c3, first_item, no_item}
+use Rattle.rule_rot.proofs.family.first_of_other_family.Goals as goal
+
+pub returns-then-not-keeps_family : goal.returns-then-not-keeps_family
+returns-then-not-keeps_family c =
+    let inst = c.args.inst.now in
+    let plan = c.args.plan.now in
+    let lt : c.loop-x.x < legs_of inst = omega arith in
+    let broken : keeps_c3 inst plan c.loop-x.x ≡ false = grind arith in
+    first_item inst plan (λ x. C3 (leg x)) (keeps_c3 inst plan) (legs_of inst) c.loop-x.x (rule_c3 inst plan) lt c.loop-x.invariant broken
+
+pub returns : goal.returns
+returns c =
+    let inst = c.args.inst.now in
+    let plan = c.args.plan.now in
+    let all : c.loop-x.x ≡ legs_of inst = omega arith in
+    no_item inst plan (λ x. C3 (leg x)) (keeps_c3 inst plan) (legs_of inst) (rule_c3 inst plan) (λ k below. c.loop-x.invariant k (omega arith))

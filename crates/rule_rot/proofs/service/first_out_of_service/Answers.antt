@@ -1,0 +1,22 @@
+use Rattle.std.proofs.Common.{◌≡◌, ◌<◌, arith, false}
+use Rattle.desk_data.specs.declared.broken.Broken.TheVariants.{C7}
+use Rattle.desk_data.specs.Situation.{legs_of}
+use Rattle.desk_model.specs.Rules.{keeps_c7}
+use Rattle.desk_model.specs.Least.{leg}
+use Rattle.rule_rot.proofs.FindLaws.{rule_c7, first_item, no_item}
+use Rattle.rule_rot.proofs.service.first_out_of_service.Goals as goal
+
+pub returns-then-not-flies_in_service : goal.returns-then-not-flies_in_service
+returns-then-not-flies_in_service c =
+    let inst = c.args.inst.now in
+    let plan = c.args.plan.now in
+    let lt : c.loop-x.x < legs_of inst = omega arith in
+    let broken : keeps_c7 inst plan c.loop-x.x ≡ false = grind arith in
+    first_item inst plan (λ x. C7 (leg x)) (keeps_c7 inst plan) (legs_of inst) c.loop-x.x (rule_c7 inst plan) lt c.loop-x.invariant broken
+
+pub returns : goal.returns
+returns c =
+    let inst = c.args.inst.now in
+    let plan = c.args.plan.now in
+    let all : c.loop-x.x ≡ legs_of inst = omega arith in
+    no_item inst plan (λ x. C7 (leg x)) (keeps_c7 inst plan) (legs_of inst) (rule_c7 inst plan) (λ k below. c.loop-x.invariant k (omega arith))

@@ -1,0 +1,4 @@
+pub mod Before
+pub mod Order
+pub mod Upkeep
+pub mod Items

@@ -1,0 +1,123 @@
+//! What the legs of each aircraft say of its maintenance, in one walk over all legs.
+
+ghost use Rattle.std.specs.Prelude.{◌≡◌, ◌+◌, ◌<◌, true, length, slice_index_or, IfOk};
+ghost use Rattle.std.specs.Option.{ForSome};
+ghost use Rattle.desk_data.specs.Situation.{legs_of, planes_of, leg_at, plane_at};
+ghost use Rattle.desk_data.specs.Valid.{IsPlanFor, IsMaint};
+ghost use Rattle.desk_model.specs.Maintenance.{flies};
+ghost use Rattle.desk_model.specs.Rotations.{dep};
+ghost use Rattle.rule_rot.specs.Upkeep.{AreUpkeeps, IsUpkeep, IsLastOf};
+
+use crate::ready::departure_of;
+use crate::service::meets;
+use desk_data::{Instance, Leg, Maint, Minute, NoMem, Plan, Plane, Row};
+use std::alloc::Global;
+
+/// What some legs say of an aircraft's maintenance.
+#[derive(Clone, Copy)]
+pub(crate) struct Upkeep {
+    /// Whether none of the aircraft's legs departs from the start of the maintenance on.
+    pub(crate) stops: bool,
+    /// Whether none meets the maintenance.
+    pub(crate) free: bool,
+    /// The last that departs before the start.
+    pub(crate) last: Option<Leg>,
+    /// The block minutes of those that depart before the start.
+    pub(crate) minutes: u32,
+}
+
+/// What the legs of a plan say of the maintenance of each aircraft.
+pub(crate) fn upkeeps_of(alloc: Global, inst: &Instance, plan: &Plan) -> Result<Vec<Upkeep>, NoMem>
+    requires { IsPlanFor inst.now plan.now }
+    ensures { IfOk result (λ upkeeps. AreUpkeeps inst.now plan.now (legs_of inst.now) upkeeps.items) }
+{
+    let nothing = Upkeep {
+        stops: true,
+        free: true,
+        last: None,
+        minutes: 0,
+    };
+    let mut upkeeps = vec![in alloc; nothing; inst.planes() as usize]?;
+    for x in 0..inst.legs() {
+        count_leg(inst, plan, Leg(x), upkeeps.as_mut_slice());
+    }
+    Ok(upkeeps)
+}
+
+/// Takes one more leg into account.
+fn count_leg(inst: &Instance, plan: &Plan, leg: Leg, upkeeps: &mut [Upkeep])
+    requires plan { IsPlanFor inst.now plan.now }
+    requires leg { leg.0 < legs_of inst.now }
+    requires so_far { AreUpkeeps inst.now plan.now leg.0 upkeeps.old }
+    ensures { AreUpkeeps inst.now plan.now (leg.0 + 1) upkeeps.new }
+{
+    match plan.read_row(leg) {
+        Row::Flown { plane, .. } => count_flown(inst, plan, plane, leg, upkeeps),
+        Row::Cancelled => {}
+    }
+}
+
+/// Takes one more leg into account, which an aircraft flies.
+fn count_flown(inst: &Instance, plan: &Plan, plane: Plane, leg: Leg, upkeeps: &mut [Upkeep])
+    requires plan { IsPlanFor inst.now plan.now }
+    requires plane { plane.0 < planes_of inst.now }
+    requires leg { leg.0 < legs_of inst.now }
+    requires flies { flies plan.now plane.0 leg.0 ≡ true }
+    requires so_far { AreUpkeeps inst.now plan.now leg.0 upkeeps.old }
+    ensures { AreUpkeeps inst.now plan.now (leg.0 + 1) upkeeps.new }
+{
+    if let Some(maint) = inst.plane(plane).maint {
+        let so_far = upkeeps[plane.0 as usize];
+        upkeeps[plane.0 as usize] = with_leg(inst, plan, plane, maint, leg, so_far);
+    }
+}
+
+/// What the legs up to and including one of the aircraft's say of its maintenance, given what those
+/// before it say.
+fn with_leg(
+    inst: &Instance,
+    plan: &Plan,
+    plane: Plane,
+    maint: Maint,
+    leg: Leg,
+    so_far: Upkeep,
+) -> Upkeep
+    requires plan { IsPlanFor inst.now plan.now }
+    requires leg { leg.0 < legs_of inst.now }
+    requires flies { flies plan.now plane.0 leg.0 ≡ true }
+    requires so_far { IsUpkeep inst.now plan.now plane.0 maint leg.0 so_far }
+    ensures { IsUpkeep inst.now plan.now plane.0 maint (leg.0 + 1) result }
+{
+    // there are at most 20,000 legs, so the minutes fit
+    prove!(leg.0 < inst.legs());
+    let departs = departure_of(plan.read_row(leg));
+    let block = inst.leg(leg).block;
+    let is_before = departs < maint.from.0;
+    Upkeep {
+        stops: so_far.stops && is_before,
+        free: so_far.free && !meets(departs, departs + block, maint.from, maint.to),
+        last: with_last(plan, plane, maint.from, leg, so_far.last),
+        minutes: if is_before {
+            so_far.minutes + block
+        } else {
+            so_far.minutes
+        },
+    }
+}
+
+/// The last leg of an aircraft that departs before a moment, given the last one up to a leg of it.
+fn with_last(plan: &Plan, plane: Plane, at: Minute, leg: Leg, last: Option<Leg>) -> Option<Leg>
+    requires leg { leg.0 < length plan.now.rows }
+    requires flies { flies plan.now plane.0 leg.0 ≡ true }
+    requires last { IsLastOf plan.now plane.0 at.0 leg.0 last }
+    ensures { IsLastOf plan.now plane.0 at.0 (leg.0 + 1) result }
+{
+    let departs = departure_of(plan.read_row(leg));
+    if at.0 <= departs {
+        return last;
+    }
+    match last {
+        Some(other) if departs < departure_of(plan.read_row(other)) => last,
+        _ => Some(leg),
+    }
+}
