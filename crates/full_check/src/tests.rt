@@ -67,10 +67,7 @@ fn parts_of(alloc: Global, deps: u32, back: u32) -> Result<Parts, Fail> {
             airport_of(alloc, b"BBB", 9)?,
         ]?),
         planes: List(vec![in alloc; plane_of()?]?),
-        legs: List(vec![in alloc;
-            leg_of(b"F1", (0, 1), 480)?,
-            leg_of(b"F2", (1, 0), back)?,
-        ]?),
+        legs: List(vec![in alloc; leg_of(b"F1", (0, 1), 480)?, leg_of(b"F2", (1, 0), back)?]?),
         res: List(Vec::new(alloc)),
         from: Minute(0),
         to: Minute(52_500_000),
