@@ -58,7 +58,7 @@ pub(crate) const CANCELLED: Run = Run {
     journal: "1,move,set F3 01/03/08 + P2 01/03/08 12:00 -,accepted 120000000000\n1,move,set F3 01/03/08 + P2 01/03/08 12:00 -,dearer 120000000000 120000000000\n",
 };
 
-pub(crate) const RUNS: [Run; 24] = [
+pub(crate) const RUNS: [Run; 31] = [
     // the schedule, and no proposals
     Run {
         changed: &[],
@@ -170,6 +170,92 @@ pub(crate) const RUNS: [Run; 24] = [
         status: 0,
         report: USUAL,
         rotations: SCHEDULED,
+        journal: "",
+    },
+    // 120 minutes of flight are one more than its maintenance allows before it starts
+    Run {
+        changed: &[(
+            File::Aircraft,
+            "P1 M1 NB 0/0/10 600 100 30 20 AAA AAA-01/03/08-11:00-01/03/08-13:00-119\nP2 M1 NB 0/0/9 600 120 30 20 AAA NULL\n",
+        )],
+        status: 1,
+        report: "changes 0\nno plan C9 P1\n",
+        rotations: "",
+        journal: "",
+    },
+    // and just as many as it allows
+    Run {
+        changed: &[(
+            File::Aircraft,
+            "P1 M1 NB 0/0/10 600 100 30 20 AAA AAA-01/03/08-11:00-01/03/08-13:00-120\nP2 M1 NB 0/0/9 600 120 30 20 AAA NULL\n",
+        )],
+        status: 0,
+        report: USUAL,
+        rotations: SCHEDULED,
+        journal: "",
+    },
+    // an aircraft that flies after its maintenance, which is not where it stood before
+    Run {
+        changed: &[(
+            File::Aircraft,
+            "P1 M1 NB 0/0/10 600 100 30 20 AAA NULL\nP2 M1 NB 0/0/9 600 120 30 20 AAA BBB-01/03/08-11:00-01/03/08-11:30-600\n",
+        )],
+        status: 1,
+        report: "changes 0\nno plan C8 P2\n",
+        rotations: "",
+        journal: "",
+    },
+    // an hour in which an airport takes no arrivals: the last of its groups counts
+    Run {
+        changed: &[(
+            File::Airports,
+            "AAA 10 10 00:00 24:00 10 0 10:00 11:00\nBBB 10 10 00:00 24:00\n",
+        )],
+        status: 1,
+        report: "changes 0\nno plan C11 AAA 01/03/08 10\n",
+        rotations: "",
+        journal: "",
+    },
+    // a leg scheduled before the window is fixed, which comes before the place of the next leg
+    Run {
+        changed: &[
+            (File::Config, "01/03/08 09:00 02/03/08 06:00\n"),
+            (
+                File::Journal,
+                "2,move,set F1 01/03/08 + P1 01/03/08 08:00 -\n",
+            ),
+        ],
+        status: 0,
+        report: USUAL,
+        rotations: SCHEDULED,
+        journal: "2,move,set F1 01/03/08 + P1 01/03/08 08:00 -,breaks C1 F1 01/03/08\n",
+    },
+    // an aircraft of another family than the scheduled one
+    Run {
+        changed: &[
+            (
+                File::Aircraft,
+                "P1 M1 NB 0/0/10 600 100 30 20 AAA NULL\nP2 M1 WB 0/0/9 600 120 30 20 AAA NULL\n",
+            ),
+            (
+                File::Journal,
+                "1,move,set F3 01/03/08 + P2 01/03/08 12:00 + P1 01/03/08 12:00\n",
+            ),
+        ],
+        status: 0,
+        report: USUAL,
+        rotations: SCHEDULED,
+        journal: "1,move,set F3 01/03/08 + P2 01/03/08 12:00 + P1 01/03/08 12:00,breaks C3 F3 01/03/08\n",
+    },
+    // a distance of 60 is out of a range of 59
+    Run {
+        changed: &[(
+            File::Aircraft,
+            "P1 M1 NB 0/0/10 600 100 30 20 AAA NULL\nP2 M1 NB 0/0/9 59 120 30 20 AAA NULL\n",
+        )],
+        status: 1,
+        report: "changes 0\nno plan C4 F3 01/03/08\n",
+        rotations: "",
         journal: "",
     },
     // a journal with its answers is read as one without

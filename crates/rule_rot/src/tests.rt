@@ -1,8 +1,8 @@
 //! The leg before each leg, and the first item that plans of a small day break.
 
-ghost use Rattle.std.specs.Prelude.{◌≡◌, ◌<◌, IfOk, OnOk};
-ghost use Rattle.desk_data.specs.Situation.{legs_of};
-ghost use Rattle.desk_data.specs.Valid.{IsPlanFor};
+ghost use Rattle.std.specs.Prelude.{◌≡◌, ◌<◌, IsTrue};
+ghost use Rattle.desk_data.specs.Situation.{legs_of, planes_of};
+ghost use Rattle.desk_data.specs.Valid.{IsPlanFor, IsRowOf};
 
 use crate::{least_rot, legs_before};
 use desk_data::{
@@ -147,38 +147,50 @@ fn day_of(
     Ok(Some(inst))
 }
 
-/// Gives a leg another row, and says whether the row is in range; else the plan stays.
-fn put(inst: &Instance, plan: &mut Plan, leg: Leg, row: Row) -> bool
-    requires plan { IsPlanFor inst.now plan.old }
-    requires leg { leg.0 < legs_of inst.now }
-    ensures { IsPlanFor inst.now plan.new }
+/// Whether a row is in range on that day.
+fn fits_day(inst: &Instance, row: Row) -> bool
+    ensures { IsTrue result → IsRowOf (planes_of inst.now) row }
 {
-    if let Row::Flown { plane, dep } = row {
-        if plane.0 >= inst.planes() || dep.0 >= 52_500_000 {
-            return false;
-        }
+    match row {
+        Row::Flown { plane, dep } => plane.0 < inst.planes() && dep.0 < 52_500_000,
+        Row::Cancelled => true,
     }
-    plan.put_row(leg, row);
-    true
 }
 
-/// What these rows break first on that day, unless something is out of range.
+/// Gives a leg another row.
+fn put(inst: &Instance, plan: &mut Plan, leg: Leg, row: Row)
+    requires plan { IsPlanFor inst.now plan.old }
+    requires leg { leg.0 < legs_of inst.now }
+    requires row { IsRowOf (planes_of inst.now) row }
+    ensures { IsPlanFor inst.now plan.new }
+{
+    plan.put_row(leg, row);
+}
+
+/// What these rows break first on a day, unless one is out of range.
+fn told_on(alloc: Global, inst: &Instance, rows: [Row; 4]) -> Result<Option<Option<Broken>>, Fail> {
+    let mut plan = inst.schedule(alloc)?;
+    for x in 0..4 {
+        if x as u32 >= inst.legs() || !fits_day(inst, rows[x]) {
+            return Ok(None);
+        }
+        put(inst, &mut plan, Leg(x as u32), rows[x]);
+    }
+    Ok(Some(least_rot(alloc, inst, &plan)?))
+}
+
+/// What these rows break first on the day with a maintenance of the first aircraft and an order,
+/// unless something is out of range.
 fn told_of(
     alloc: Global,
     maint: Option<Maint>,
     order: Option<Order>,
     rows: [Row; 4],
 ) -> Result<Option<Option<Broken>>, Fail> {
-    let Some(inst) = day_of(alloc, maint, order)? else {
-        return Ok(None);
-    };
-    let mut plan = inst.schedule(alloc)?;
-    for x in 0..4 {
-        if x as u32 >= inst.legs() || !put(&inst, &mut plan, Leg(x as u32), rows[x]) {
-            return Ok(None);
-        }
+    match day_of(alloc, maint, order)? {
+        Some(inst) => told_on(alloc, &inst, rows),
+        None => Ok(None),
     }
-    Ok(Some(least_rot(alloc, &inst, &plan)?))
 }
 
 const OFF: Row = Row::Cancelled;

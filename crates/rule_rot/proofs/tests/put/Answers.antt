@@ -1,4 +1,4 @@
-use Rattle.std.proofs.Common.{ℕ, ◌<◌, sym, ◌∙◌, subst, arith}
+use Rattle.std.proofs.Common.{ℕ, sym, ◌∙◌, subst}
 use Rattle.std.proofs.lemmas.List.{length-set}
 use Rattle.std.proofs.lemmas.List.Elements.{All-set}
 use Rattle.desk_data.specs.declared.row.Row.{Row}
@@ -23,4 +23,7 @@ put-valid I P x row fits h = record {
 }
 
 pub returns : goal.returns
-returns c = ?
+returns c = subst (IsPlanFor c.args.inst.now) (sym c.put_row.ensures) (put-valid c.args.inst.now c.args.plan.now c.args.leg.0 c.args.row c.requires.row c.requires.plan)
+
+pub put_row-requires-clause-row : goal.put_row-requires-clause-row
+put_row-requires-clause-row c = row_is_sound (planes_of c.args.inst.now) c.args.row c.requires.row
