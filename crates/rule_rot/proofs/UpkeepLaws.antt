@@ -1,5 +1,5 @@
 -- What one more leg says of an aircraft's maintenance, and what all legs say of the rules C8 and C9.
-use Rattle.std.proofs.Common.{◌≡◌, ◌≢◌, ℕ, zero, suc, ◌+◌, ◌*◌, ◌<◌, ◌≤◌, ◌⊎◌, inl, inr, Bool, true, false, not, ◌&&◌, ◌||◌, eqb, ltb, leb, List, [], ◌∷◌, length, get_or, set, refl, sym, ap, subst, ◌∙◌, arith, add-one}
+use Rattle.std.proofs.Common.{◌≡◌, ◌≢◌, ℕ, suc, ◌+◌, ◌*◌, ◌<◌, ◌≤◌, ◌⊎◌, inl, inr, Bool, true, false, not, ◌&&◌, ◌||◌, eqb, ltb, leb, List, [], ◌∷◌, length, get_or, set, refl, sym, ap, subst, ◌∙◌, arith, add-one}
 use Rattle.std.specs.Prelude.{Option, Some, None, if◌then◌else◌}
 use Rattle.std.specs.Option.{ForSome}
 use Rattle.std.proofs.lemmas.Bool.{cases_Bool, true≢false, and_parts, and_from}
@@ -13,9 +13,9 @@ use Rattle.desk_data.specs.declared.row.Row.TheVariants.{Flown, Cancelled}
 use Rattle.desk_data.specs.Situation.{Situation, legs_of, planes_of, leg_at, plane_at}
 use Rattle.desk_data.specs.PlanRows.{PlanRows, row_at}
 use Rattle.desk_model.specs.Numbers.{numbers, each_below, none_below, implies}
-use Rattle.desk_model.specs.Rotations.{departure, comes_before, dep, arr, precedes}
+use Rattle.desk_model.specs.Rotations.{comes_before, dep, arr, precedes}
 use Rattle.desk_model.specs.Rules.{meets_span}
-use Rattle.desk_model.specs.Maintenance.{is_flown_by, flies, departs_before, departs_from, is_last_before, is_left_at, is_free_for, makes_maintenance, is_within_minutes, keeps_c8, keeps_c9}
+use Rattle.desk_model.specs.Maintenance.{is_flown_by, flies, departs_before, departs_from, is_last_before, is_left_at, makes_maintenance, is_within_minutes, keeps_c8, keeps_c9}
 use Rattle.desk_model.proofs.Tests.{each_below-holds, each_below-from, none_below-holds, none_below-from, implies-holds, implies-from}
 use Rattle.rule_rot.specs.declared.upkeep.Upkeep.{Upkeep}
 use Rattle.rule_rot.specs.Before.{stand}

@@ -1,11 +1,9 @@
 //! What the legs of each aircraft say of its maintenance, in one walk over all legs.
 
-ghost use Rattle.std.specs.Prelude.{◌≡◌, ◌+◌, ◌<◌, true, length, slice_index_or, IfOk};
-ghost use Rattle.std.specs.Option.{ForSome};
-ghost use Rattle.desk_data.specs.Situation.{legs_of, planes_of, leg_at, plane_at};
-ghost use Rattle.desk_data.specs.Valid.{IsPlanFor, IsMaint};
+ghost use Rattle.std.specs.Prelude.{◌≡◌, ◌+◌, ◌<◌, true, length, IfOk};
+ghost use Rattle.desk_data.specs.Situation.{legs_of, planes_of};
+ghost use Rattle.desk_data.specs.Valid.{IsPlanFor};
 ghost use Rattle.desk_model.specs.Maintenance.{flies};
-ghost use Rattle.desk_model.specs.Rotations.{dep};
 ghost use Rattle.rule_rot.specs.Upkeep.{AreUpkeeps, IsUpkeep, IsLastOf};
 
 use crate::ready::departure_of;

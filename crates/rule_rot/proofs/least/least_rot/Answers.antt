@@ -1,4 +1,4 @@
-use Rattle.std.proofs.Common.{◌≡◌, refl, sym, subst}
+use Rattle.std.proofs.Common.{◌≡◌, refl, subst}
 use Rattle.std.specs.Prelude.{Option, IfOk, find}
 use Rattle.std.specs.Option.{option_or}
 use Rattle.desk_data.specs.declared.broken.Broken.{Broken}
