@@ -7,11 +7,13 @@ A day of 20,000 legs has 1,000 aircraft, 500 airports, 250,000 rows of distances
 positions; other days have as many less. Each aircraft flies 20 legs there and back between two
 airports. The day, one of half its rows and one of no rows are run with a journal whose one line names
 a leg that is not there, so that a run ends when all is read and joined; and the first two with an
-empty journal, so that the schedule is checked and written too. The day of no rows tells the start of
-the program apart. The desk runs on one processor.
+empty journal, so that the schedule is checked and written too; and with one of moves that change
+nothing, for each of which the plan is copied, checked by all rules and its cost summed. The day of no
+rows tells the start of the program apart. The desk runs on one processor.
 
-The last lines say how many bytes a second were read and joined, and how much longer twice the rows
-took. The status is 1 where that is less than 40 MB a second, or more than 2.3 times as long.
+The last lines say how many bytes a second were read and joined, how long a move takes, and how much
+longer twice the rows took. The status is 1 where that is less than 40 MB a second, more than 30 ms a
+move, or more than 2.3 times as long.
 """
 import os
 import subprocess
@@ -23,7 +25,10 @@ TOP = os.path.dirname(os.path.dirname(os.path.abspath(__file__)))
 PROGRAM = os.path.join(TOP, "crates", "desk_top", "out", "desk_top")
 LEGS_OF_AIRCRAFT = 20
 UNKNOWN = "1,move,set F0 02/03/08 - -\n"
+MOVES = 40
+UNCHANGED = "1,move,set F0 01/03/08 + P0 01/03/08 00:00 + P0 01/03/08 00:00\n" * MOVES
 LEAST_RATE = 40.0
+MOST_MILLISECONDS = 30.0
 MOST_RATIO = 2.3
 
 
@@ -98,13 +103,20 @@ def main():
     _, nothing = run(0, "read and joined", "")
     _, half = run(legs // 2, "read and joined", UNKNOWN)
     size, whole = run(legs, "read and joined", UNKNOWN)
-    run(legs // 2, "and checked", "")
-    run(legs, "and checked", "")
+    _, half_checked = run(legs // 2, "and checked", "")
+    _, whole_checked = run(legs, "and checked", "")
+    _, half_moved = run(legs // 2, "and moves answered", UNCHANGED)
+    _, whole_moved = run(legs, "and moves answered", UNCHANGED)
     rate = size / 1e6 / (whole - nothing)
     ratio = (whole - nothing) / (half - nothing)
+    move = 1000 * (whole_moved - whole_checked) / MOVES
+    move_ratio = (whole_moved - whole_checked) / (half_moved - half_checked)
     print("%.1f MB a second read and joined (at least %.0f)" % (rate, LEAST_RATE))
     print("%.2f times as long for twice the rows (at most %.1f)" % (ratio, MOST_RATIO))
-    return 0 if rate >= LEAST_RATE and ratio <= MOST_RATIO else 1
+    print("%.1f ms a move: copied, checked, its cost summed (at most %.0f)" % (move, MOST_MILLISECONDS))
+    print("%.2f times as long for twice the legs (at most %.1f)" % (move_ratio, MOST_RATIO))
+    held = rate >= LEAST_RATE and move <= MOST_MILLISECONDS and max(ratio, move_ratio) <= MOST_RATIO
+    return 0 if held else 1
 
 
 if __name__ == "__main__":
