@@ -4,8 +4,8 @@
 Usage: bench/day.py [LEGS]      LEGS, a multiple of 40, is 20,000 where it is left out
 
 A day of 20,000 legs has 1,000 aircraft, 500 airports, 250,000 rows of distances and 10,000 groups of
-positions; other days have as many less. Each aircraft flies 20 legs there and back between two
-airports. The day, one of half its rows and one of no rows are run with a journal whose one line names
+positions; other days have as many less, but for the airports, so that half the distances are of half
+the pairs. Each aircraft flies 20 legs there and back between two airports. The day, one of half its rows and one of no rows are run with a journal whose one line names
 a leg that is not there, so that a run ends when all is read and joined; and the first two with an
 empty journal, so that the schedule is checked and written too; and with one of moves that change
 nothing, for each of which the plan is copied, checked by all rules and its cost summed. The day of no
@@ -24,6 +24,7 @@ import time
 TOP = os.path.dirname(os.path.dirname(os.path.abspath(__file__)))
 PROGRAM = os.path.join(TOP, "crates", "desk_top", "out", "desk_top")
 LEGS_OF_AIRCRAFT = 20
+AIRPORTS = 500
 UNKNOWN = "1,move,set F0 02/03/08 - -\n"
 MOVES = 40
 UNCHANGED = "1,move,set F0 01/03/08 + P0 01/03/08 00:00 + P0 01/03/08 00:00\n" * MOVES
@@ -33,7 +34,7 @@ MOST_RATIO = 2.3
 
 
 def airports_of(legs):
-    pairs = legs // 80
+    pairs = AIRPORTS // 2 if legs else 0
     return ["A%03d" % i for i in range(pairs)] + ["B%03d" % i for i in range(pairs)]
 
 
@@ -64,7 +65,7 @@ def day_of(legs):
     """The text of each file but the journal."""
     airports = airports_of(legs)
     flights, rotations, aircraft = schedule_of(legs, airports)
-    groups = " ".join("M%d 0/0/150 1" % i for i in range(20))
+    groups = " ".join("M%d 0/0/150 1" % i for i in range(max(1, legs // 1000)))
     lines = {
         "config.csv": ["01/03/08 00:00 03/03/08 00:00"],
         "flights.csv": flights,
