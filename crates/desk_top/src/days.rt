@@ -58,7 +58,7 @@ pub(crate) const CANCELLED: Run = Run {
     journal: "1,move,set F3 01/03/08 + P2 01/03/08 12:00 -,accepted 120000000000\n1,move,set F3 01/03/08 + P2 01/03/08 12:00 -,dearer 120000000000 120000000000\n",
 };
 
-pub(crate) const RUNS: [Run; 31] = [
+pub(crate) const RUNS: [Run; 36] = [
     // the schedule, and no proposals
     Run {
         changed: &[],
@@ -400,6 +400,67 @@ pub(crate) const RUNS: [Run; 31] = [
         ],
         status: 0,
         report: "changes 0\ncost 0\n",
+        rotations: "",
+        journal: "",
+    },
+    // the leg before F2 arrives 1,440 minutes before it departs, so the transit time is enough
+    Run {
+        changed: &[
+            (
+                File::Flights,
+                "F1 AAA BBB 08:00 09:00 0\nF2 BBB AAA 09:00+1 10:00+1 F1\nF3 AAA BBB 12:00 13:00 0\n",
+            ),
+            (
+                File::Aircraft,
+                "P1 M1 NB 0/0/10 600 100 2880 20 AAA NULL\nP2 M1 NB 0/0/9 600 120 30 20 AAA NULL\n",
+            ),
+        ],
+        status: 0,
+        report: USUAL,
+        rotations: "F1 01/03/08 P1 01/03/08 08:00\nF2 01/03/08 P1 02/03/08 09:00\nF3 01/03/08 P2 01/03/08 12:00\n",
+        journal: "",
+    },
+    // and where it arrives 1,441 minutes before, it is not the leg before
+    Run {
+        changed: &[
+            (
+                File::Flights,
+                "F1 AAA BBB 08:00 09:00 0\nF2 BBB AAA 09:01+1 10:01+1 F1\nF3 AAA BBB 12:00 13:00 0\n",
+            ),
+            (
+                File::Aircraft,
+                "P1 M1 NB 0/0/10 600 100 2880 20 AAA NULL\nP2 M1 NB 0/0/9 600 120 30 20 AAA NULL\n",
+            ),
+        ],
+        status: 1,
+        report: "changes 0\nno plan C6 F2 01/03/08\n",
+        rotations: "",
+        journal: "",
+    },
+    // the previous flight stands behind in its file, and no leg of it is in time
+    Run {
+        changed: &[(
+            File::Flights,
+            "F1 AAA BBB 08:00 09:00 F2\nF2 BBB AAA 09:30 10:30 0\nF3 AAA BBB 12:00 13:00 0\n",
+        )],
+        status: 0,
+        report: USUAL,
+        rotations: SCHEDULED,
+        journal: "",
+    },
+    // of two distances the first counts
+    Run {
+        changed: &[(File::Dist, "AAA BBB 601 D\nAAA BBB 60 D\n")],
+        status: 1,
+        report: "changes 0\nno plan C4 F1 01/03/08\n",
+        rotations: "",
+        journal: "",
+    },
+    // and one from the origin to the destination before one the other way
+    Run {
+        changed: &[(File::Dist, "BBB AAA 601 D\nAAA BBB 60 D\n")],
+        status: 1,
+        report: "changes 0\nno plan C4 F2 01/03/08\n",
         rotations: "",
         journal: "",
     },

@@ -79,4 +79,6 @@ fn main(rt: HostRuntime) -> ExitCode {
 }
 
 #[cfg(test)]
+mod overfull;
+#[cfg(test)]
 mod tests;

@@ -7,7 +7,7 @@ use desk_folder::{File, MemFolder, MemSink};
 use std::test::Fail;
 
 /// The words of a replay.
-fn replay_words(alloc: Global) -> Result<Vec<String>, NoMem> {
+pub(crate) fn replay_words(alloc: Global) -> Result<Vec<String>, NoMem> {
     let mut words = Vec::new(alloc);
     for word in ["replay", "in", "out"] {
         words.push(String::from_str(alloc, word)?)?;
