@@ -11,7 +11,7 @@ use std::test::Fail;
 /// A file of so many rows, and how it is refused.
 struct Overfull {
     file: File,
-    rows: u32,
+    rows: usize,
     why: &'static str,
 }
 
@@ -50,7 +50,7 @@ const OVERFULL: [Overfull; 6] = [
 ];
 
 /// A row with this number that its file takes.
-fn row_of(alloc: Global, file: File, n: u32) -> Result<String, NoMem> {
+fn row_of(alloc: Global, file: File, n: usize) -> Result<String, NoMem> {
     let row = match file {
         File::Flights => format!(in alloc; "F{n} AAA BBB 08:00 09:00 0\n")?,
         File::Rotations => format!(in alloc; "F{n} 01/03/08 P1\n")?,
@@ -63,13 +63,13 @@ fn row_of(alloc: Global, file: File, n: u32) -> Result<String, NoMem> {
 }
 
 /// The usual text of a file, and behind it rows up to this number.
-fn text_up_to(alloc: Global, file: File, usual: &str, rows: u32) -> Result<Vec<u8>, NoMem> {
+fn text_up_to(alloc: Global, file: File, usual: &str, rows: usize) -> Result<Vec<u8>, NoMem> {
     let mut text = Vec::from_slice(alloc, usual.as_bytes())?;
     let there = usual
         .as_bytes()
         .iter()
         .filter(|byte| **byte == b'\n')
-        .count() as u32;
+        .count();
     for n in there..rows {
         let row = row_of(alloc, file, n + 1)?;
         text.extend_from_slice(row.as_bytes())?;
@@ -78,11 +78,11 @@ fn text_up_to(alloc: Global, file: File, usual: &str, rows: u32) -> Result<Vec<u
 }
 
 /// How many rows a file is to have at least. Rotations need as many flights.
-fn rows_of(overfull: &Overfull, file: File) -> u32 {
+fn rows_of(overfull: &Overfull, file: File) -> usize {
     if file == overfull.file {
         overfull.rows
     } else if file == File::Flights && overfull.file == File::Rotations {
-        overfull.rows - 1
+        overfull.rows.saturating_sub(1)
     } else {
         0
     }
