@@ -1,2 +1,3 @@
 pub mod NameFields
 pub mod Padded
+pub mod Ranks

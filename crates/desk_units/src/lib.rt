@@ -19,4 +19,4 @@ pub use money::{Grains, Price, Weight, per_hour, per_item};
 pub use name::Name;
 pub use numbers::{Airport, Cabin, Haul, Leg, Minute, Plane, Res, Seats};
 pub use steps::Steps;
-pub use tariff::Tariff;
+pub use tariff::{Tariff, TariffRow, Term};

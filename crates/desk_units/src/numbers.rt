@@ -1,5 +1,8 @@
 //! Moments, cabins, hauls, seats, and the numbers by which the rows of a day are named.
 
+ghost use Rattle.std.specs.Prelude.{◌≡◌, ◌<◌};
+ghost use Rattle.desk_units.specs.Ranks.{cabin_rank, haul_rank};
+
 /// A moment: whole minutes since 2000-01-01 00:00.
 #[derive(Clone, Copy, Debug, PartialEq, Eq, PartialOrd, Ord, Hash)]
 pub struct Minute(pub u32);
@@ -28,12 +31,42 @@ pub enum Cabin {
     E,
 }
 
+impl Cabin {
+    /// Its place among the cabins: 0 for first, 1 for business, 2 for economy. A cabin is below
+    /// another where its place is greater.
+    pub fn rank(self) -> usize
+        ensures place { result ≡ cabin_rank self }
+        ensures small { result < 3 }
+    {
+        match self {
+            Cabin::F => 0,
+            Cabin::B => 1,
+            Cabin::E => 2,
+        }
+    }
+}
+
 /// The haul of a leg: domestic, continental or intercontinental.
 #[derive(Clone, Copy, Debug, PartialEq, Eq, PartialOrd, Ord, Hash)]
 pub enum Haul {
     D,
     C,
     I,
+}
+
+impl Haul {
+    /// Its place among the hauls: 0 for domestic, 1 for continental, 2 for intercontinental. A haul
+    /// is above another where its place is greater.
+    pub fn rank(self) -> usize
+        ensures place { result ≡ haul_rank self }
+        ensures small { result < 3 }
+    {
+        match self {
+            Haul::D => 0,
+            Haul::C => 1,
+            Haul::I => 2,
+        }
+    }
 }
 
 /// The seats of an aircraft in each cabin, each from 0 to 999 in a day that was read.

@@ -1,0 +1,4 @@
+mod FirstLemmas
+mod KeyLemmas
+mod OwedLemmas
+mod StepLemmas

@@ -1,0 +1,16 @@
+use Rattle.std.proofs.Common.{sym, ◌∙◌, refl}
+use Rattle.std.proofs.lemmas.List.{take_all}
+use Rattle.tariff_prices.specs.Rows.{same_key}
+use Rattle.tariff_prices.proofs.KeyLemmas.{apart_more, not_apart}
+use Rattle.tariff_prices.proofs.validity.are_distinct.Goals as goal
+
+pub loop-i-preserved : goal.loop-i-preserved
+loop-i-preserved c =
+    apart_more same_key c.args.rows.now c.loop-i.i c.index-rows-i.result c.loop-i-test.true c.index-rows-i.is (sym c.says_the_same.ensures ∙ c.if-says_the_same.false) c.loop-i.invariant
+
+pub returns-then-says_the_same : goal.returns-then-says_the_same
+returns-then-says_the_same c =
+    (λ false_. cc, λ apart. absurd (not_apart same_key c.args.rows.now c.loop-i.i c.index-rows-i.result c.loop-i-test.true c.index-rows-i.is (sym c.says_the_same.ensures ∙ c.if-says_the_same.true) apart))
+
+pub returns : goal.returns
+returns c = (λ true_. rw (take_all _ _ c.loop-i-test.false) at c.loop-i.invariant, λ apart. refl)

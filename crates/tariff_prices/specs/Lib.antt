@@ -1,0 +1,4 @@
+pub mod Rows
+pub mod Prices
+pub mod Said
+pub mod Tables

@@ -1,0 +1,72 @@
+//! Tables by haul, by cabin and by term.
+
+ghost use Rattle.std.specs.Prelude.{◌≡◌};
+ghost use Rattle.tariff_prices.specs.Tables.{at_cabin, at_haul, at_term};
+
+use desk_units::{Cabin, Haul, Term};
+
+/// One of them for each cabin.
+#[derive(Debug, Drop)]
+pub struct ByCabin<T> {
+    pub f: T,
+    pub b: T,
+    pub e: T,
+}
+
+/// One of them for each haul.
+#[derive(Debug, Drop)]
+pub struct ByHaul<T> {
+    pub d: T,
+    pub c: T,
+    pub i: T,
+}
+
+/// One of them for each cost term.
+#[derive(Debug, Drop)]
+pub struct ByTerm<T> {
+    pub operating: T,
+    pub delay: T,
+    pub cancellation: T,
+    pub downgrade: T,
+    pub legal: T,
+    pub position: T,
+}
+
+impl<T> ByCabin<T> {
+    pub fn at(&self, cabin: Cabin) -> &T
+        ensures { result.now ≡ at_cabin self.now cabin }
+    {
+        match cabin {
+            Cabin::F => &self.f,
+            Cabin::B => &self.b,
+            Cabin::E => &self.e,
+        }
+    }
+}
+
+impl<T> ByHaul<T> {
+    pub fn at(&self, haul: Haul) -> &T
+        ensures { result.now ≡ at_haul self.now haul }
+    {
+        match haul {
+            Haul::D => &self.d,
+            Haul::C => &self.c,
+            Haul::I => &self.i,
+        }
+    }
+}
+
+impl<T> ByTerm<T> {
+    pub fn at(&self, term: Term) -> &T
+        ensures { result.now ≡ at_term self.now term }
+    {
+        match term {
+            Term::Operating => &self.operating,
+            Term::Delay => &self.delay,
+            Term::Cancellation => &self.cancellation,
+            Term::Downgrade => &self.downgrade,
+            Term::Legal => &self.legal,
+            Term::Position => &self.position,
+        }
+    }
+}
