@@ -4,6 +4,7 @@ use Rattle.std.specs.List.{filter_map}
 use Rattle.std.specs.List.Sorted.{IsNonDecreasingBy}
 use Rattle.std.specs.Option.{option_flatten, option_or}
 use Rattle.desk_units.specs.declared.numbers.Minute.{Minute}
+use Rattle.desk_units.specs.declared.tariff.TariffRow.{TariffRow}
 use Rattle.desk_data.specs.declared.hours.Change.{Change}
 use Rattle.desk_data.specs.declared.hours.HourCap.{HourCap}
 use Rattle.desk_data.specs.declared.orders.Order.{Order}
@@ -70,7 +71,8 @@ pub record Adds (orders : List Order) (old new : KeptLists) : Type 0 where
 abbrev pub nothing_kept : Parts → KeptLists
 nothing_kept parts = record { legs = replicate (length parts.legs) None; spans = replicate (length parts.planes) []; hours = replicate (length parts.airports) [] }
 
--- what the inside of an instance keeps
-pub record IsWhole (I : Situation) (kept : KeptLists) : Type 0 where
+-- what the inside of an instance keeps: the prices are those of its tariff
+pub record IsWhole (I : Situation) (kept : KeptLists) (prices : List TariffRow) : Type 0 where
   pub valid : IsValid I
   pub keeps : Keeps I kept
+  pub priced : prices ≡ I.parts.tariff.rows

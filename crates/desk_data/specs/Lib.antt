@@ -4,3 +4,5 @@ pub mod KeptLists
 pub mod PlanRows
 pub mod Valid
 pub mod Fits
+pub use Rattle.tariff_prices.specs.Rows
+pub use Rattle.tariff_prices.specs.Prices

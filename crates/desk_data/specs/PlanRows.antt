@@ -7,7 +7,7 @@ use Rattle.std.specs.declared.cmp.Ordering.{Ordering}
 use Rattle.std.specs.declared.cmp.Ordering.TheVariants.{Less}
 use Rattle.desk_units.specs.declared.numbers.Leg.{Leg}
 use Rattle.desk_units.specs.declared.numbers.Cabin.{Cabin}
-use Rattle.desk_units.specs.declared.numbers.Cabin.TheVariants as cabin
+use Rattle.desk_units.specs.Ranks.{cabin_rank}
 use Rattle.desk_data.specs.declared.row.Row.{Row}
 use Rattle.desk_data.specs.declared.row.Row.TheVariants.{Flown, Cancelled}
 use Rattle.desk_data.specs.declared.row.Group.{Group}
@@ -30,12 +30,6 @@ with_row P x row = record P { rows = slice_set P.rows x row }
 
 abbrev pub with_groups : PlanRows → ℕ → List Group → PlanRows
 with_groups P r groups = record P { groups = slice_set P.groups r groups }
-
--- first before business before economy
-abbrev pub cabin_rank : Cabin → ℕ
-cabin_rank cabin.F = 0
-cabin_rank cabin.B = 1
-cabin_rank cabin.E = 2
 
 -- pairs of leg and cabin are ordered by leg, then by cabin
 abbrev pub pair_cmp : Leg × Cabin → Leg × Cabin → Ordering

@@ -17,7 +17,8 @@ use Rattle.desk_data.specs.declared.orders.Order.TheVariants.{Flight, Aircraft}
 use Rattle.desk_data.specs.declared.row.Row.{Row}
 use Rattle.desk_data.specs.declared.row.Row.TheVariants.{Flown, Cancelled}
 use Rattle.desk_data.specs.declared.row.Group.{Group}
-use Rattle.desk_data.specs.PlanRows.{PlanRows, cabin_rank}
+use Rattle.desk_units.specs.Ranks.{cabin_rank}
+use Rattle.desk_data.specs.PlanRows.{PlanRows}
 
 -- a day as it is disrupted
 pub record Situation : Type 0 where

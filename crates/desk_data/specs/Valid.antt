@@ -5,6 +5,7 @@ use Rattle.std.specs.Option.{ForSome}
 use Rattle.desk_units.specs.declared.numbers.Leg.{Leg}
 use Rattle.desk_units.specs.declared.numbers.Cabin.{Cabin}
 use Rattle.desk_units.specs.declared.numbers.Seats.{Seats}
+use Rattle.tariff_prices.specs.Rows.{AreTariffRows, IsPrice}
 use Rattle.desk_data.specs.declared.info.LegInfo.{LegInfo}
 use Rattle.desk_data.specs.declared.info.PlaneInfo.{PlaneInfo}
 use Rattle.desk_data.specs.declared.info.Maint.{Maint}
@@ -28,9 +29,6 @@ IsSeen name = All (λ byte. (0x21 ≤ byte) × (byte ≤ 0x7e)) name
 -- a moment is within the hundred years from 2000
 abbrev pub IsMoment : ℕ → Type 0
 IsMoment at = at < 52596000
-
-abbrev pub IsPrice : ℕ → Type 0
-IsPrice price = price ≤ 9999999999999
 
 -- the legs of a path are among n legs
 abbrev pub IsPathOf : ℕ → List (Leg × Cabin) → Type 0
@@ -122,6 +120,7 @@ pub record AreParts (parts : Parts) : Type 0 where
   pub from : IsMoment parts.from.0
   pub to : IsMoment parts.to.0
   pub positions : All (IsPosition (length parts.airports)) parts.positions
+  pub tariff : AreTariffRows parts.tariff.rows
   pub distinct : AreDistinct parts
 
 -- an order that an instance can take

@@ -18,11 +18,13 @@ use desk_units::{Airport, Leg, Minute, NoMem, Plane, Res, Tariff};
 use std::alloc::Global;
 use std::marker::Model;
 use std::sync::Arc;
+use tariff_prices::Prices;
 
 /// A day with the orders taken so far. Contracts see it as its rows and its list of orders.
 #[derive(Debug, Drop)]
 pub struct Instance {
     parts: Arc<Parts>,
+    prices: Arc<Prices>,
     orders: Vec<Order>,
     /// What the orders say.
     kept: Kept,
@@ -37,7 +39,7 @@ impl Model for Instance {
 
     ghost view = { λ i. record { parts = arc_value i.parts; orders = i.orders.items } };
 
-    ghost invariant = { λ i. IsWhole (record { parts = arc_value i.parts; orders = i.orders.items }) i.kept };
+    ghost invariant = { λ i. IsWhole (record { parts = arc_value i.parts; orders = i.orders.items }) i.kept (arc_value i.prices) };
 }
 
 impl Instance {
@@ -47,10 +49,12 @@ impl Instance {
         ensures { IfOk result (λ inst. inst ≡ record { parts = parts; orders = [] }) }
     {
         let kept = Kept::nothing(alloc, &parts)?;
+        let prices = Arc::new(alloc, Prices::of(alloc, &parts.tariff)?)?;
         let parts = Arc::new(alloc, parts)?;
         let orders = Vec::new(alloc);
         Ok(Instance {
             parts,
+            prices,
             orders,
             kept,
         })
@@ -267,22 +271,31 @@ impl Instance {
         self.parts.positions.as_slice()
     }
 
-    /// The prices and weights of the cost terms.
+    /// The rows of the tariff, in the order of the file.
     pub fn tariff(&self) -> &Tariff
         ensures { result.now ≡ self.now.parts.tariff }
     {
         &self.parts.tariff
     }
 
-    /// An equal instance. The rows are shared.
+    /// The prices and weights of the cost terms, found by what they are for.
+    pub fn prices(&self) -> &Prices
+        ensures { result.now ≡ self.now.parts.tariff.rows }
+    {
+        &self.prices
+    }
+
+    /// An equal instance. The rows and the prices are shared.
     pub fn copy(&self, alloc: Global) -> Result<Instance, NoMem>
         ensures { IfOk result (λ copy. copy ≡ self.now) }
     {
         let parts = self.parts.clone()?;
+        let prices = self.prices.clone()?;
         let orders = Vec::from_slice(alloc, self.orders.as_slice())?;
         let kept = self.kept.copy(alloc)?;
         Ok(Instance {
             parts,
+            prices,
             orders,
             kept,
         })

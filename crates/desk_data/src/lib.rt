@@ -19,7 +19,7 @@ mod validity;
 pub use broken::Broken;
 pub use desk_units::{
     Airport, Cabin, Grains, Haul, Leg, List, Minute, Name, NoMem, Plane, Price, Res, Seats, Steps,
-    Tariff, Weight,
+    Tariff, TariffRow, Term, Weight,
 };
 pub use info::{AirportInfo, Cap, LegInfo, Maint, PlaneInfo, PositionInfo, ResInfo};
 pub use instance::Instance;
@@ -29,3 +29,4 @@ pub use parts::Parts;
 pub use path::Path;
 pub use plan::Plan;
 pub use row::{Group, Row};
+pub use tariff_prices::Prices;

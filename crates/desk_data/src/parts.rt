@@ -21,5 +21,6 @@ pub struct Parts {
     pub to: Minute,
     /// At most 10,000.
     pub positions: List<PositionInfo>,
+    /// At most 1,000 rows, of which no two say the same.
     pub tariff: Tariff,
 }

@@ -8,7 +8,9 @@ use crate::moves::{Move, Step, fits};
 use crate::parts::Parts;
 use crate::path::Path;
 use crate::row::Row;
-use desk_units::{Airport, Cabin, Haul, Leg, List, Minute, Name, Plane, Price, Seats, Tariff};
+use desk_units::{
+    Airport, Cabin, Haul, Leg, List, Minute, Name, Plane, Price, Seats, Tariff, TariffRow,
+};
 use std::alloc::Global;
 use std::test::Fail;
 
@@ -24,6 +26,8 @@ struct Sample {
     /// The passengers of the reservation, and how many legs its path has.
     count: u32,
     legs: usize,
+    /// How many times the tariff gives the price of a missing aircraft.
+    rows: usize,
 }
 
 const USUAL: Sample = Sample {
@@ -33,6 +37,7 @@ const USUAL: Sample = Sample {
     block: 60,
     count: 1,
     legs: 1,
+    rows: 1,
 };
 
 fn name_of(bytes: &[u8]) -> Result<Name, Fail> {
@@ -88,6 +93,10 @@ fn parts_of(alloc: Global, sample: &Sample) -> Result<Parts, Fail> {
     for _ in 0..sample.legs {
         path.push((Leg(1), Cabin::E))?;
     }
+    let mut rows = Vec::new(alloc);
+    for _ in 0..sample.rows {
+        rows.push(TariffRow::Position { price: Price(500) })?;
+    }
     let res = ResInfo {
         name: name_of(b"R1")?,
         inbound: true,
@@ -106,7 +115,7 @@ fn parts_of(alloc: Global, sample: &Sample) -> Result<Parts, Fail> {
         from: Minute(0),
         to: Minute(52_595_999),
         positions: List(Vec::new(alloc)),
-        tariff: Tariff {},
+        tariff: Tariff { rows: List(rows) },
     })
 }
 
@@ -176,6 +185,8 @@ fn ranges_have_edges(rt: HostRuntime) -> Result<(), Fail> {
         (Sample { legs: 0, ..USUAL }, false),
         (Sample { legs: 8, ..USUAL }, true),
         (Sample { legs: 9, ..USUAL }, false),
+        (Sample { rows: 0, ..USUAL }, true),
+        (Sample { rows: 2, ..USUAL }, false),
     ];
     for (sample, valid) in table.iter() {
         let parts = parts_of(rt.alloc(), sample)?;
@@ -196,6 +207,7 @@ fn plans_follow_the_schedule(rt: HostRuntime) -> Result<(), Fail> {
     };
     assert_eq!(rt; plan.rows().len(), 2);
     assert_eq!(rt; plan.read_row(Leg(1)), flown);
+    assert_eq!(rt; inst.copy(rt.alloc())?.prices().position(), Price(500));
     let kept = plan.copy(rt.alloc())?;
     plan.put_row(Leg(1), Row::Cancelled);
     assert_eq!(rt; plan.read_row(Leg(1)), Row::Cancelled);

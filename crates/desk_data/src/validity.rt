@@ -1,13 +1,15 @@
 //! The test whether rows make an instance.
 
 ghost use Rattle.std.specs.Prelude.{◌≡◌, ◌≢◌, ◌↔◌, ◌≤◌, ◌<◌, ℕ, List, if◌then◌else◌, IsTrue, IfOk, All, AllPairs, length};
-ghost use Rattle.desk_data.specs.Valid.{IsSeen, IsPathOf, IsMoment, IsPrice, AreSeats, IsCap, IsAirport, IsMaint, IsPlane, IsLeg, IsReservation, IsPosition, AreDistinct, AreWithinLimits, AreParts};
+ghost use Rattle.tariff_prices.specs.Rows.{IsPrice};
+ghost use Rattle.desk_data.specs.Valid.{IsSeen, IsPathOf, IsMoment, AreSeats, IsCap, IsAirport, IsMaint, IsPlane, IsLeg, IsReservation, IsPosition, AreDistinct, AreWithinLimits, AreParts};
 
 use crate::info::{AirportInfo, Cap, LegInfo, Maint, PlaneInfo, PositionInfo, ResInfo};
 use crate::parts::Parts;
 use desk_units::{Minute, Name, NoMem, Price, Seats};
 use std::alloc::Global;
 use std::collections::HashSet;
+use tariff_prices::are_tariff_rows;
 
 fn is_seen(name: &Name) -> bool
     ensures { IsTrue result ↔ IsSeen name.now }
@@ -269,8 +271,9 @@ fn is_window(from: Minute, to: Minute) -> bool
 
 impl Parts {
     /// Whether these rows make an instance: no list is longer than its limit, each number is in its
-    /// range, each name is of bytes from `!` to `~`, and no two airports, aircraft, legs (by flight
-    /// and day) or reservations (by name and direction) are named alike.
+    /// range, each name is of bytes from `!` to `~`, no two airports, aircraft, legs (by flight and
+    /// day) or reservations (by name and direction) are named alike, and no two rows of the tariff
+    /// say the same.
     pub fn are_valid(&self, alloc: Global) -> Result<bool, NoMem>
         ensures { IfOk result (λ valid. IsTrue valid ↔ AreParts self.now) }
     {
@@ -281,6 +284,7 @@ impl Parts {
             || !are_reservations(self)
             || !are_positions(self)
             || !is_window(self.from, self.to)
+            || !are_tariff_rows(self.tariff.rows.as_slice())
         {
             return Ok(false);
         }

@@ -17,4 +17,5 @@ invariant_of-self-2 c =
         orders = All-append (IsOrder old.parts) old.orders c.args.batch.now.orders c.self.invariant.valid.orders taken;
       };
       keeps = keeps_more old c.args.batch.now.orders c.self.inside.kept c.in_ok-kept.kept c.self.invariant.keeps adds;
+      priced = c.self.invariant.priced;
     })
