@@ -1,0 +1,9 @@
+-- The legs of the fields that are left, as a loop reads them.
+use Rattle.std.proofs.Common.{List, ◌++◌, Result, Ok, Err}
+use Rattle.desk_text.specs.declared.cause.Cause.{Cause}
+use Rattle.read_pax.specs.declared.rows.LegRow.{LegRow}
+
+-- these legs, and behind them those that are read
+abbrev pub behind : List LegRow → Result (List LegRow) Cause → Result (List LegRow) Cause
+behind before (Ok legs) = Ok (before ++ legs)
+behind before (Err cause) = Err cause

@@ -1,0 +1,47 @@
+-- The rows of the file of itineraries.
+use Rattle.std.specs.Prelude.{ℕ, ◌%◌, List, [], ◌∷◌, length, Result, Ok, Err, nat_lt, ◌==◌, ◌&&◌, if◌then◌else◌}
+use Rattle.desk_text.specs.declared.cause.Cause.{Cause}
+use Rattle.desk_text.specs.declared.cause.Cause.TheVariants as causes
+use Rattle.desk_text.specs.Fields.{name_of, number_of, price_of, date_of, inbound_of, cabin_of}
+use Rattle.desk_text.specs.Rows.{◌>>=◌, RowOf, taken}
+use Rattle.read_pax.specs.declared.rows.LegRow.{LegRow}
+use Rattle.read_pax.specs.declared.rows.ItineraryRow.{ItineraryRow}
+
+-- FLIGHT DATE CABIN
+unfoldable pub leg_of : List ℕ → List ℕ → List ℕ → Result LegRow Cause
+leg_of flight date class = do
+  name ← name_of flight
+  day ← date_of date
+  cabin ← cabin_of class
+  Ok (record { flight = name; day = day; cabin = cabin })
+
+-- this one before the others, where these are read
+abbrev pub before_all : LegRow → Result (List LegRow) Cause → Result (List LegRow) Cause
+before_all leg others = others >>= λ legs. Ok (leg ∷ legs)
+
+-- the legs of the fields, three to a leg
+unfoldable pub legs_of : List (List ℕ) → Result (List LegRow) Cause
+legs_of [] = Ok []
+legs_of (flight ∷ date ∷ class ∷ others) = do
+  leg ← leg_of flight date class
+  before_all leg (legs_of others)
+legs_of _ = Err causes.Fields
+
+-- the fields, where they are one or more whole groups of three
+abbrev pub groups_of_three : List (List ℕ) → Result (List (List ℕ)) Cause
+groups_of_three fields = if nat_lt 0 (length fields) && (length fields % 3 == 0) then Ok fields else Err causes.Fields
+
+-- RESERVATION TYPE PRICE COUNT, and one or more groups
+unfoldable pub itinerary_row : RowOf ItineraryRow
+itinerary_row line fields = do
+  first ← taken fields
+  second ← taken first.1
+  third ← taken second.1
+  fourth ← taken third.1
+  groups ← groups_of_three fourth.1
+  name ← name_of first.0
+  inbound ← inbound_of second.0
+  price ← price_of third.0
+  count ← number_of 1 999999999 fourth.0
+  legs ← legs_of groups
+  Ok (record { line = line; name = name; inbound = inbound; price = price; count = count; legs = legs })

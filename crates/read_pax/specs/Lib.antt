@@ -1,0 +1,2 @@
+pub mod Itineraries
+pub mod Facts

@@ -1,0 +1,13 @@
+//! The file of itineraries: reservations, with the legs that their passengers fly.
+#![tactic(auto)]
+
+mod itineraries;
+mod rows;
+
+pub use desk_text::{Cause, ReadFault};
+pub use desk_units::{Cabin, List, Name, Price};
+pub use itineraries::read_itineraries;
+pub use rows::{ItineraryRow, LegRow};
+
+#[cfg(test)]
+mod tests;
