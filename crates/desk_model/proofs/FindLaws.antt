@@ -22,6 +22,13 @@ one_none : {X : Type 0} (b : Bool) (x : X) → cond b (Some x) None ≡ None →
 one_none true x h = absurd cc
 one_none false x h = refl
 
+-- the first of a list, and those behind it
+pub none-cons : {X : Type 0} (p : X → Bool) (x : X) (xs : List X) → find p (x ∷ xs) ≡ None → (p x ≡ false) × (find p xs ≡ None)
+none-cons p x xs h = let parts = find_none-parts p (x ∷ []) xs h in (one_none (p x) x parts.0, parts.1)
+
+pub cons-none : {X : Type 0} (p : X → Bool) (x : X) (xs : List X) → p x ≡ false → find p xs ≡ None → find p (x ∷ xs) ≡ None
+cons-none p x xs here behind = rw here behind
+
 -- where none of the items of the numbers is found, each fails the test
 pub none_of_numbers : {X : Type 0} (p : X → Bool) (f : ℕ → X) (n : ℕ) → find p (map f (numbers n)) ≡ None → (k : ℕ) → k < n → p (f k) ≡ false
 none_of_numbers p f zero h k lt = absurd (omega arith)

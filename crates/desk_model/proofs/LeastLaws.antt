@@ -1,6 +1,6 @@
 -- What the least broken item says of the rules.
-use Rattle.std.proofs.Common.{◌≡◌, ◌++◌, ℕ, ◌<◌, List, [], ◌∷◌, false, sym, ◌∙◌}
-use Rattle.std.specs.Prelude.{find, map, None, Some}
+use Rattle.std.proofs.Common.{◌≡◌, ◌++◌, ℕ, ◌<◌, List, [], ◌∷◌, false, refl, sym, ◌∙◌}
+use Rattle.std.specs.Prelude.{find, map, Option, None, Some}
 use Rattle.std.specs.Option.{option_or}
 use Rattle.std.specs.List.{AllByRecursion}
 use Rattle.std.proofs.lemmas.Bool.{true≢false}
@@ -9,20 +9,29 @@ use Rattle.std.proofs.lemmas.List.Elements.{All-from_recursion}
 use Rattle.desk_units.specs.declared.numbers.Leg.{Leg}
 use Rattle.desk_units.specs.declared.numbers.Plane.{Plane}
 use Rattle.desk_units.specs.declared.numbers.Airport.{Airport}
+use Rattle.desk_units.specs.declared.numbers.Res.{Res}
+use Rattle.desk_units.specs.declared.numbers.Cabin.{Cabin}
+use Rattle.desk_units.specs.declared.numbers.Cabin.TheVariants.{F, B, E}
 use Rattle.desk_data.specs.declared.broken.Broken.{Broken}
-use Rattle.desk_data.specs.declared.broken.Broken.TheVariants.{C1, C2, C3, C4, C5, C6, C7, C8, C9, C10, C11}
-use Rattle.desk_data.specs.Situation.{Situation, legs_of, planes_of, airports_of}
+use Rattle.desk_data.specs.declared.broken.Broken.TheVariants.{C1, C2, C3, C4, C5, C6, C7, C8, C9, C10, C11, C12, C13, C14, C15}
+use Rattle.desk_data.specs.Situation.{Situation, legs_of, planes_of, airports_of, reservations_of}
 use Rattle.desk_data.specs.PlanRows.{PlanRows}
 use Rattle.desk_model.specs.Numbers.{numbers}
-use Rattle.desk_model.specs.Least.{breaks, all_hours, each_leg, each_plane, each_hour, rotation_items, slot_items, items, least, least_rot, least_slots, leg, plane, airport}
+use Rattle.desk_model.specs.Least.{breaks, all_hours, each_leg, each_plane, each_hour, each_cabin, each_res, rotation_items, slot_items, pax_items, items, least, least_rot, least_slots, least_pax, leg, plane, airport, res}
 use Rattle.desk_model.specs.Words.{Meets, IsFeasible, IsLeast}
-use Rattle.desk_model.proofs.FindLaws.{find_none-parts, find_none-both, none_of_numbers, numbers_none, none_of_lists, lists_none, found}
+use Rattle.desk_model.proofs.FindLaws.{find_none-parts, find_none-both, none_of_numbers, numbers_none, none_of_lists, lists_none, none-cons, cons-none, found}
 use Rattle.desk_model.proofs.RulesLaws.{breaks-holds, breaks-from}
 
--- the first broken item is one of rotations, and one of slots where there is none
-pub least-split : (I : Situation) (P : PlanRows) → least I P ≡ option_or (least_rot I P) (least_slots I P)
-unfolding least least_rot least_slots items
-least-split I P = find-append (breaks I P) (rotation_items I) (slot_items I)
+-- the first broken item is one of rotations, where there is none one of slots, and where there is none either one of passengers
+or_or : {X : Type 0} (a b c : Option X) → option_or (option_or a b) c ≡ option_or a (option_or b c)
+or_or None b c = refl
+or_or (Some x) b c = refl
+
+pub least-split : (I : Situation) (P : PlanRows) → least I P ≡ option_or (least_rot I P) (option_or (least_slots I P) (least_pax I P))
+unfolding least least_rot least_slots least_pax items
+least-split I P =
+    find-append (breaks I P) (rotation_items I ++ slot_items I) (pax_items I)
+    ∙ rw (find-append (breaks I P) (rotation_items I) (slot_items I)) (or_or (least_rot I P) (least_slots I P) (least_pax I P))
 
 -- ---- items of hours
 
@@ -35,6 +44,33 @@ hours_kept : (I : Situation) (P : PlanRows) (item : Airport → ℕ → Broken) 
 hours_kept I P item kept =
     lists_none (breaks I P) (λ b. map (item (airport b)) (numbers all_hours)) (airports_of I)
     (λ a lt. numbers_none (breaks I P) (item (airport a)) all_hours (λ h before. kept a h lt before))
+
+-- ---- items of cabins
+
+-- the items of the cabins of leg x
+abbrev cabins_of : (Leg → Cabin → Broken) → ℕ → List Broken
+cabins_of item x = item (leg x) F ∷ item (leg x) B ∷ item (leg x) E ∷ []
+
+one_cabin_kept : (I : Situation) (P : PlanRows) (item : Leg → Cabin → Broken) (x : ℕ) → find (breaks I P) (cabins_of item x) ≡ None → (c : Cabin) → breaks I P (item (leg x) c) ≡ false
+one_cabin_kept I P item x none F = (none-cons (breaks I P) (item (leg x) F) (item (leg x) B ∷ item (leg x) E ∷ []) none).0
+one_cabin_kept I P item x none B =
+    let first = none-cons (breaks I P) (item (leg x) F) (item (leg x) B ∷ item (leg x) E ∷ []) none in
+    (none-cons (breaks I P) (item (leg x) B) (item (leg x) E ∷ []) first.1).0
+one_cabin_kept I P item x none E =
+    let first = none-cons (breaks I P) (item (leg x) F) (item (leg x) B ∷ item (leg x) E ∷ []) none in
+    let second = none-cons (breaks I P) (item (leg x) B) (item (leg x) E ∷ []) first.1 in
+    (none-cons (breaks I P) (item (leg x) E) [] second.1).0
+
+cabin_kept : (I : Situation) (P : PlanRows) (item : Leg → Cabin → Broken) → find (breaks I P) (each_cabin I item) ≡ None → (x : ℕ) (c : Cabin) → x < legs_of I → breaks I P (item (leg x) c) ≡ false
+cabin_kept I P item none x c lt = one_cabin_kept I P item x (none_of_lists (breaks I P) (cabins_of item) (legs_of I) none x lt) c
+
+cabins_kept : (I : Situation) (P : PlanRows) (item : Leg → Cabin → Broken) → ((x : ℕ) (c : Cabin) → x < legs_of I → Meets I P (item (leg x) c)) → find (breaks I P) (each_cabin I item) ≡ None
+cabins_kept I P item met =
+    lists_none (breaks I P) (cabins_of item) (legs_of I)
+    (λ x lt.
+    let kept : (c : Cabin) → breaks I P (item (leg x) c) ≡ false = λ c. breaks-from I P (item (leg x) c) (met x c lt) in
+    cons-none (breaks I P) (item (leg x) F) (item (leg x) B ∷ item (leg x) E ∷ []) (kept F)
+    (cons-none (breaks I P) (item (leg x) B) (item (leg x) E ∷ []) (kept B) (cons-none (breaks I P) (item (leg x) E) [] (kept E) refl)))
 
 -- ---- feasible plans
 
@@ -60,10 +96,21 @@ up_to_c7 I = up_to_c6 I ++ each_leg I C7
 abbrev up_to_c8 : Situation → List Broken
 up_to_c8 I = up_to_c7 I ++ each_plane I C8
 
+-- and those of passengers
+abbrev up_to_c13 : Situation → List Broken
+up_to_c13 I = each_cabin I C12 ++ each_res I C13
+
+abbrev up_to_c14 : Situation → List Broken
+up_to_c14 I = up_to_c13 I ++ each_res I C14
+
 pub feasible-holds : (I : Situation) (P : PlanRows) → least I P ≡ None → IsFeasible I P
-unfolding least items rotation_items slot_items
+unfolding least items rotation_items slot_items pax_items
 feasible-holds I P h =
-    let both = find_none-parts (breaks I P) (rotation_items I) (slot_items I) h in
+    let all = find_none-parts (breaks I P) (rotation_items I ++ slot_items I) (pax_items I) h in
+    let both = find_none-parts (breaks I P) (rotation_items I) (slot_items I) all.0 in
+    let c15 = find_none-parts (breaks I P) (up_to_c14 I) (each_res I C15) all.1 in
+    let c14 = find_none-parts (breaks I P) (up_to_c13 I) (each_res I C14) c15.0 in
+    let c13 = find_none-parts (breaks I P) (each_cabin I C12) (each_res I C13) c14.0 in
     let slots = find_none-parts (breaks I P) (each_hour I C10) (each_hour I C11) both.1 in
     let c9 = find_none-parts (breaks I P) (up_to_c8 I) (each_plane I C9) both.0 in
     let c8 = find_none-parts (breaks I P) (up_to_c7 I) (each_plane I C8) c9.0 in
@@ -85,6 +132,10 @@ feasible-holds I P h =
       c9 = λ p lt. breaks-holds I P (C9 (plane p)) (none_of_numbers (breaks I P) (λ p. C9 (plane p)) (planes_of I) c9.1 p lt);
       c10 = λ a h lt before. breaks-holds I P (C10 (airport a) h) (hour_kept I P C10 slots.0 a h lt before);
       c11 = λ a h lt before. breaks-holds I P (C11 (airport a) h) (hour_kept I P C11 slots.1 a h lt before);
+      c12 = λ x c lt. breaks-holds I P (C12 (leg x) c) (cabin_kept I P C12 c13.0 x c lt);
+      c13 = λ r lt. breaks-holds I P (C13 (res r)) (none_of_numbers (breaks I P) (λ r. C13 (res r)) (reservations_of I) c13.1 r lt);
+      c14 = λ r lt. breaks-holds I P (C14 (res r)) (none_of_numbers (breaks I P) (λ r. C14 (res r)) (reservations_of I) c14.1 r lt);
+      c15 = λ r lt. breaks-holds I P (C15 (res r)) (none_of_numbers (breaks I P) (λ r. C15 (res r)) (reservations_of I) c15.1 r lt);
     }
 
 legs_kept : (I : Situation) (P : PlanRows) (item : Leg → Broken) → ((x : ℕ) → x < legs_of I → Meets I P (item (leg x))) → find (breaks I P) (each_leg I item) ≡ None
@@ -93,8 +144,11 @@ legs_kept I P item met = numbers_none (breaks I P) (λ x. item (leg x)) (legs_of
 planes_kept : (I : Situation) (P : PlanRows) (item : Plane → Broken) → ((p : ℕ) → p < planes_of I → Meets I P (item (plane p))) → find (breaks I P) (each_plane I item) ≡ None
 planes_kept I P item met = numbers_none (breaks I P) (λ p. item (plane p)) (planes_of I) (λ p lt. breaks-from I P (item (plane p)) (met p lt))
 
+all_res_kept : (I : Situation) (P : PlanRows) (item : Res → Broken) → ((r : ℕ) → r < reservations_of I → Meets I P (item (res r))) → find (breaks I P) (each_res I item) ≡ None
+all_res_kept I P item met = numbers_none (breaks I P) (λ r. item (res r)) (reservations_of I) (λ r lt. breaks-from I P (item (res r)) (met r lt))
+
 pub feasible-from : (I : Situation) (P : PlanRows) → IsFeasible I P → least I P ≡ None
-unfolding least items rotation_items slot_items
+unfolding least items rotation_items slot_items pax_items
 feasible-from I P h =
     let c2 = find_none-both (breaks I P) (each_leg I C1) (each_leg I C2) (legs_kept I P C1 h.c1) (legs_kept I P C2 h.c2) in
     let c3 = find_none-both (breaks I P) (up_to_c2 I) (each_leg I C3) c2 (legs_kept I P C3 h.c3) in
@@ -106,7 +160,11 @@ feasible-from I P h =
     let c9 = find_none-both (breaks I P) (up_to_c8 I) (each_plane I C9) c8 (planes_kept I P C9 h.c9) in
     let c10 = hours_kept I P C10 (λ a hour lt before. breaks-from I P (C10 (airport a) hour) (h.c10 a hour lt before)) in
     let c11 = hours_kept I P C11 (λ a hour lt before. breaks-from I P (C11 (airport a) hour) (h.c11 a hour lt before)) in
-    find_none-both (breaks I P) (rotation_items I) (slot_items I) c9 (find_none-both (breaks I P) (each_hour I C10) (each_hour I C11) c10 c11)
+    let slots = find_none-both (breaks I P) (each_hour I C10) (each_hour I C11) c10 c11 in
+    let c13 = find_none-both (breaks I P) (each_cabin I C12) (each_res I C13) (cabins_kept I P C12 h.c12) (all_res_kept I P C13 h.c13) in
+    let c14 = find_none-both (breaks I P) (up_to_c13 I) (each_res I C14) c13 (all_res_kept I P C14 h.c14) in
+    let c15 = find_none-both (breaks I P) (up_to_c14 I) (each_res I C15) c14 (all_res_kept I P C15 h.c15) in
+    find_none-both (breaks I P) (rotation_items I ++ slot_items I) (pax_items I) (find_none-both (breaks I P) (rotation_items I) (slot_items I) c9 slots) c15
 
 -- ---- the first broken item
 

@@ -1,12 +1,9 @@
 -- Plans stay plans for their instance, and what they cost and the hours of their legs are bounded.
-use Rattle.std.proofs.Common.{◌≡◌, ℕ, zero, suc, ◌+◌, ◌*◌, ◌<◌, ◌≤◌, inl, inr, Bool, true, false, cond, List, [], ◌∷◌, length, refl, ap, subst, ◌∙◌, arith, length-append, ◌^◌}
-use Rattle.std.specs.Prelude.{sum_by}
+use Rattle.std.proofs.Common.{◌≡◌, ℕ, zero, suc, ◌+◌, ◌<◌, ◌≤◌, inl, inr, Bool, true, false, cond, List, [], ◌∷◌, length, refl, ap, ◌∙◌, arith, length-append}
 use Rattle.std.specs.List.{AllByRecursion}
-use Rattle.std.proofs.Math.Nat.{mul-le-mul_left}
 use Rattle.std.proofs.lemmas.Bool.{cases_lt}
 use Rattle.std.proofs.lemmas.List.{length-set, get_or_past}
-use Rattle.std.proofs.lemmas.List.Sums.{sum_by-le}
-use Rattle.std.proofs.lemmas.List.Elements.{All-set, All-get_or, All-from_recursion, recursion_from_All}
+use Rattle.std.proofs.lemmas.List.Elements.{All-set, All-get_or, recursion_from_All}
 use Rattle.desk_data.specs.declared.row.Row.{Row}
 use Rattle.desk_data.specs.declared.row.Row.TheVariants.{Flown, Cancelled}
 use Rattle.desk_data.specs.declared.moves.Step.{Step}
@@ -23,7 +20,6 @@ use Rattle.desk_model.specs.Numbers.{numbers}
 use Rattle.desk_model.specs.Rotations.{departure, dep, arr}
 use Rattle.desk_model.specs.Least.{all_hours}
 use Rattle.desk_model.specs.Words.{DepartsIn, ArrivesIn}
-use Rattle.desk_model.specs.Cost.{one, operating_of, operating, cost}
 use Rattle.desk_model.specs.Steps.{is_row, stepped, stepped_by, moved}
 use Rattle.desk_model.specs.States.{State, answer, published, after}
 
@@ -76,10 +72,6 @@ pub length-numbers : (n : ℕ) → length (numbers n) ≡ n
 length-numbers zero = refl
 length-numbers (suc n) = length-append (numbers n) (n ∷ []) ∙ ap (λ (k : ℕ). k + 1) (length-numbers n) ∙ (let e : n + 1 ≡ suc n = omega arith in e)
 
--- the most that one leg can cost: 2,880 minutes at the greatest price
-abbrev pub most : ℕ
-most = 28799999999997120000
-
 block_le : (I : Situation) (x : ℕ) → IsValid I → (leg_at I x).block ≤ 2880
 unfolding no_leg
 block_le I x valid =
@@ -95,29 +87,6 @@ hourly_le I p valid =
       | inl within ↦ (All-get_or (IsPlane (airports_of I)) I.parts.planes p no_plane within valid.parts.planes).hourly
       | inr past ↦ rw (get_or_past I.parts.planes p no_plane past) (omega arith)
     ]
-
-pub operating_of-le : (I : Situation) (x : ℕ) (row : Row) → IsValid I → operating_of I x row ≤ most
-operating_of-le I x (Flown plane dep) valid =
-    let block = block_le I x valid in
-    let hourly = hourly_le I plane.0 valid in
-    let dear : one * (plane_at I plane.0).hourly.0 ≤ 9999999999999000 = omega (arith, hourly) in
-    let first = mul-le-mul_left (one * (plane_at I plane.0).hourly.0) block in
-    omega (arith, first, dear)
-operating_of-le I x Cancelled valid = omega arith
-
-operating_all : (I : Situation) (P : PlanRows) → IsValid I → (xs : List ℕ) → AllByRecursion (λ x. operating I P x ≤ most) xs
-operating_all I P valid [] = tt
-operating_all I P valid (x ∷ xs) = (operating_of-le I x (row_at P x) valid, operating_all I P valid xs)
-
--- what the first n legs cost
-pub operating-sum-le : (I : Situation) (P : PlanRows) (n : ℕ) → IsValid I → sum_by (operating I P) (numbers n) ≤ n * most
-operating-sum-le I P n valid =
-    let sum = sum_by-le (operating I P) most (numbers n) (All-from_recursion (λ x. operating I P x ≤ most) (numbers n) (operating_all I P valid (numbers n))) in
-    subst (λ (k : ℕ). sum_by (operating I P) (numbers n) ≤ k * most) (length-numbers n) sum
-
-pub cost-le : (I : Situation) (P : PlanRows) → IsValid I → cost I P ≤ 10 ^ 38
-unfolding cost
-cost-le I P valid = omega (arith, operating-sum-le I P (legs_of I) valid, valid.parts.few.legs)
 
 -- ---- hours
 

@@ -4,6 +4,8 @@ pub mod Steps
 pub mod Rules
 pub mod Maintenance
 pub mod Slots
+pub mod Passengers
+pub mod Carriage
 pub mod Least
 pub mod Cost
 pub mod States

@@ -1,17 +1,23 @@
 -- The rules in words: what the tests of a plan say, as facts.
-use Rattle.std.specs.Prelude.{◌≡◌, ℕ, ◌+◌, ◌*◌, ◌<◌, ◌≤◌, ◌⊎◌, false, List, ◌∷◌, ◌++◌, All, Some}
+use Rattle.std.specs.Prelude.{◌≡◌, ℕ, ◌+◌, ◌*◌, ◌<◌, ◌≤◌, ◌⊎◌, false, List, [], ◌∷◌, ◌++◌, length, take, All, Some, slice_index_or}
+use Rattle.desk_units.specs.declared.numbers.Leg.{Leg}
+use Rattle.desk_units.specs.declared.numbers.Cabin.{Cabin}
+use Rattle.desk_units.specs.declared.numbers.Haul.{Haul}
+use Rattle.desk_units.specs.declared.numbers.Haul.TheVariants as haul
 use Rattle.desk_units.specs.declared.numbers.Minute.{Minute}
+use Rattle.desk_units.specs.Ranks.{cabin_rank, haul_rank}
 use Rattle.desk_data.specs.declared.row.Row.{Row}
 use Rattle.desk_data.specs.declared.row.Row.TheVariants.{Flown}
 use Rattle.desk_data.specs.declared.info.Maint.{Maint}
 use Rattle.desk_data.specs.declared.broken.Broken.{Broken}
-use Rattle.desk_data.specs.declared.broken.Broken.TheVariants.{C1, C2, C3, C4, C5, C6, C7, C8, C9, C10, C11}
-use Rattle.desk_data.specs.Situation.{Situation, legs_of, planes_of, airports_of, leg_at, plane_at, fixed, ordered_off, earliest, latest, due, spans}
+use Rattle.desk_data.specs.declared.broken.Broken.TheVariants.{C1, C2, C3, C4, C5, C6, C7, C8, C9, C10, C11, C12, C13, C14, C15}
+use Rattle.desk_data.specs.Situation.{Situation, legs_of, planes_of, airports_of, reservations_of, leg_at, plane_at, fixed, ordered_off, earliest, latest, due, spans, begun}
 use Rattle.desk_data.specs.Hours.{dep_cap, arr_cap}
-use Rattle.desk_data.specs.PlanRows.{PlanRows, row_at}
-use Rattle.desk_model.specs.Rotations.{arr, ground}
+use Rattle.desk_data.specs.PlanRows.{PlanRows, row_at, groups_at}
+use Rattle.desk_model.specs.Rotations.{dep, arr, ground}
 use Rattle.desk_model.specs.Maintenance.{minutes_before}
 use Rattle.desk_model.specs.Slots.{departures, arrivals}
+use Rattle.desk_model.specs.Passengers.{no_pair, aboard, seats_in, leg_in, first_leg, last_leg, booked, origin_of, dest_of, booked_departure, booked_arrival, haul_of, arrival_of}
 use Rattle.desk_model.specs.Least.{items, all_hours}
 
 -- aircraft p flies leg x, departing at d
@@ -130,7 +136,71 @@ MeetsC10 I P a h = (cap : ℕ) → dep_cap I a h ≡ Some cap → departures I P
 abbrev pub MeetsC11 : Situation → PlanRows → ℕ → ℕ → Type 0
 MeetsC11 I P a h = (cap : ℕ) → arr_cap I a h ≡ Some cap → arrivals I P a h ≤ cap
 
--- what an item asks; what no rule is built for asks nothing
+-- a path has leg x in cabin c
+pub record HasLeg (path : List (Leg × Cabin)) (x : ℕ) (c : Cabin) : Type 0 where
+  pub place : ℕ
+  pub within : place < length path
+  pub pair : slice_index_or path place no_pair ≡ (record { 0 = x }, c)
+
+-- C12: the passengers of a flown leg in a cabin are no more than its aircraft's seats there
+abbrev pub MeetsC12 : Situation → PlanRows → ℕ → Cabin → Type 0
+MeetsC12 I P x c = (p d : ℕ) → Flies P x p d → aboard P x c ≤ seats_in (plane_at I p).seats c
+
+-- one aircraft flies leg x and leg y, and x is the previous leg of y: passengers stay aboard
+pub record StaysAboard (I : Situation) (P : PlanRows) (x y : ℕ) : Type 0 where
+  pub plane : ℕ
+  pub dep : ℕ
+  pub later : ℕ
+  pub first : Flies P x plane dep
+  pub second : Flies P y plane later
+  pub previous : (leg_at I y).prev ≡ Some (record { 0 = x })
+
+-- passengers of leg x go on with leg y: it leaves where x arrived, at least 30 minutes after that, or at once where they stay aboard
+pub record GoesOn (I : Situation) (P : PlanRows) (x y : ℕ) : Type 0 where
+  pub place : (leg_at I y).origin.0 ≡ (leg_at I x).dest.0
+  pub time : (arr I P x + 30 ≤ dep P y) ⊎ (StaysAboard I P x y × (arr I P x ≤ dep P y))
+
+-- leg x is flown
+pub record IsFlown (P : PlanRows) (x : ℕ) : Type 0 where
+  pub plane : ℕ
+  pub dep : ℕ
+  pub flown : Flies P x plane dep
+
+-- a path takes passengers of reservation r where they want to go: each leg is flown, it runs from their origin to their destination, each leg goes on from the one before, and the first leaves no earlier than booked
+pub record TakesThere (I : Situation) (P : PlanRows) (r : ℕ) (path : List (Leg × Cabin)) : Type 0 where
+  pub flown : All (λ pair. IsFlown P pair.0.0) path
+  pub origin : (leg_at I (first_leg path)).origin.0 ≡ origin_of I r
+  pub dest : (leg_at I (last_leg path)).dest.0 ≡ dest_of I r
+  pub goes_on : (i : ℕ) → i + 1 < length path → GoesOn I P (leg_in path i) (leg_in path (i + 1))
+  pub departs : booked_departure I r ≤ dep P (first_leg path)
+
+-- what holds of each path on which passengers of reservation r are carried
+abbrev pub EachCarried : PlanRows → ℕ → (List (Leg × Cabin) → Type 0) → Type 0
+EachCarried P r holds = All (λ group. (group.path ≡ [] → ⊥) → holds group.path) (groups_at P r)
+
+-- C13: a carried path takes its passengers there
+abbrev pub MeetsC13 : Situation → PlanRows → ℕ → Type 0
+MeetsC13 I P r = EachCarried P r (TakesThere I P r)
+
+-- a path arrives at most 1,080 minutes after the booked arrival, or 2,160 where the haul is intercontinental
+pub record ArrivesInTime (I : Situation) (P : PlanRows) (r : ℕ) (path : List (Leg × Cabin)) : Type 0 where
+  pub near : (haul_of I r ≡ haul.I → ⊥) → arrival_of I P path ≤ booked_arrival I r + 1080
+  pub far : haul_of I r ≡ haul.I → arrival_of I P path ≤ booked_arrival I r + 2160
+
+-- C14: a carried path whose legs are all flown arrives in time
+abbrev pub MeetsC14 : Situation → PlanRows → ℕ → Type 0
+MeetsC14 I P r = EachCarried P r (λ path. All (λ pair. IsFlown P pair.0.0) path → ArrivesInTime I P r path)
+
+-- a path is the legs of the booked path that have begun, in their cabins, and a rest
+pub record BeginsAsBegun (I : Situation) (r : ℕ) (path : List (Leg × Cabin)) : Type 0 where
+  pub rest : List (Leg × Cabin)
+  pub whole : path ≡ take (begun I r) (booked I r) ++ rest
+
+-- C15: a carried path begins with the legs of the booked path that have begun
+abbrev pub MeetsC15 : Situation → PlanRows → ℕ → Type 0
+MeetsC15 I P r = EachCarried P r (BeginsAsBegun I r)
+
+-- what an item asks
 abbrev pub Meets : Situation → PlanRows → Broken → Type 0
 Meets I P (C1 leg) = MeetsC1 I P leg.0
 Meets I P (C2 leg) = MeetsC2 I P leg.0
@@ -143,7 +213,59 @@ Meets I P (C8 plane) = MeetsC8 I P plane.0
 Meets I P (C9 plane) = MeetsC9 I P plane.0
 Meets I P (C10 airport hour) = MeetsC10 I P airport.0 hour
 Meets I P (C11 airport hour) = MeetsC11 I P airport.0 hour
-Meets I P item = Unit {0}
+Meets I P (C12 leg cabin) = MeetsC12 I P leg.0 cabin
+Meets I P (C13 res) = MeetsC13 I P res.0
+Meets I P (C14 res) = MeetsC14 I P res.0
+Meets I P (C15 res) = MeetsC15 I P res.0
+
+-- the number of an item's rule; the leg, aircraft, airport or reservation that it names; and the hour or the cabin, 0 where it names none
+abbrev pub rule_of : Broken → ℕ
+rule_of (C1 leg) = 1
+rule_of (C2 leg) = 2
+rule_of (C3 leg) = 3
+rule_of (C4 leg) = 4
+rule_of (C5 leg) = 5
+rule_of (C6 leg) = 6
+rule_of (C7 leg) = 7
+rule_of (C8 plane) = 8
+rule_of (C9 plane) = 9
+rule_of (C10 airport hour) = 10
+rule_of (C11 airport hour) = 11
+rule_of (C12 leg cabin) = 12
+rule_of (C13 res) = 13
+rule_of (C14 res) = 14
+rule_of (C15 res) = 15
+
+abbrev pub named_by : Broken → ℕ
+named_by (C1 leg) = leg.0
+named_by (C2 leg) = leg.0
+named_by (C3 leg) = leg.0
+named_by (C4 leg) = leg.0
+named_by (C5 leg) = leg.0
+named_by (C6 leg) = leg.0
+named_by (C7 leg) = leg.0
+named_by (C8 plane) = plane.0
+named_by (C9 plane) = plane.0
+named_by (C10 airport hour) = airport.0
+named_by (C11 airport hour) = airport.0
+named_by (C12 leg cabin) = leg.0
+named_by (C13 res) = res.0
+named_by (C14 res) = res.0
+named_by (C15 res) = res.0
+
+abbrev pub part_of : Broken → ℕ
+part_of (C10 airport hour) = hour
+part_of (C11 airport hour) = hour
+part_of (C12 leg cabin) = cabin_rank cabin
+part_of item = 0
+
+-- of two numbers each, by the first, then by the second
+abbrev pub IsLess : ℕ → ℕ → ℕ → ℕ → Type 0
+IsLess a b c d = (a < c) ⊎ ((a ≡ c) × (b < d))
+
+-- one item is told before another: by rule, then by what it names, then by hour or cabin
+abbrev pub IsToldBefore : Broken → Broken → Type 0
+IsToldBefore a b = (rule_of a < rule_of b) ⊎ ((rule_of a ≡ rule_of b) × IsLess (named_by a) (part_of a) (named_by b) (part_of b))
 
 -- a plan that breaks no rule
 pub record IsFeasible (I : Situation) (P : PlanRows) : Type 0 where
@@ -158,6 +280,10 @@ pub record IsFeasible (I : Situation) (P : PlanRows) : Type 0 where
   pub c9 : (p : ℕ) → p < planes_of I → MeetsC9 I P p
   pub c10 : (a h : ℕ) → a < airports_of I → h < all_hours → MeetsC10 I P a h
   pub c11 : (a h : ℕ) → a < airports_of I → h < all_hours → MeetsC11 I P a h
+  pub c12 : (x : ℕ) (c : Cabin) → x < legs_of I → MeetsC12 I P x c
+  pub c13 : (r : ℕ) → r < reservations_of I → MeetsC13 I P r
+  pub c14 : (r : ℕ) → r < reservations_of I → MeetsC14 I P r
+  pub c15 : (r : ℕ) → r < reservations_of I → MeetsC15 I P r
 
 -- the item is broken, and no item before it is
 pub record IsLeast (I : Situation) (P : PlanRows) (item : Broken) : Type 0 where
@@ -166,3 +292,25 @@ pub record IsLeast (I : Situation) (P : PlanRows) (item : Broken) : Type 0 where
   pub place : items I ≡ before ++ item ∷ behind
   pub kept : All (Meets I P) before
   pub broken : Meets I P item → ⊥
+
+-- the haul of one of a path's legs
+pub record IsHaulIn (I : Situation) (path : List (Leg × Cabin)) (h : Haul) : Type 0 where
+  pub place : ℕ
+  pub within : place < length path
+  pub same : (leg_at I (leg_in path place)).haul ≡ h
+
+-- the cabin of one of a path's legs
+pub record IsCabinIn (path : List (Leg × Cabin)) (c : Cabin) : Type 0 where
+  pub place : ℕ
+  pub within : place < length path
+  pub same : (slice_index_or path place no_pair).1 ≡ c
+
+-- the haul of one of a path's legs, and none of them has a higher one
+pub record IsHighestHaul (I : Situation) (path : List (Leg × Cabin)) (h : Haul) : Type 0 where
+  pub one : IsHaulIn I path h
+  pub highest : All (λ pair. haul_rank (leg_at I pair.0.0).haul ≤ haul_rank h) path
+
+-- the cabin of one of a path's legs, and none of them is in a higher one: of two cabins the one of lesser rank is higher
+pub record IsHighestCabin (path : List (Leg × Cabin)) (c : Cabin) : Type 0 where
+  pub one : IsCabinIn path c
+  pub highest : All (λ pair. cabin_rank c ≤ cabin_rank pair.1) path

@@ -12,6 +12,8 @@ pub use answer::{Answer, Entry, Event};
 pub use desk_data::{Broken, Grains, Move};
 pub use histories::{legal_histories_keep_the_promises, runs_are_legal};
 pub use rules::{
-    feasible_plans_meet_the_rules, legs_are_within_the_hours, the_first_broken_item_is_told,
-    the_least_is_of_rotations_before_slots, the_rules_count_legs_as_in_words,
+    costs_are_below_ten_to_the_38, feasible_plans_meet_the_rules, legs_are_within_the_hours,
+    passengers_are_aboard_where_their_path_has_the_leg, the_first_broken_item_is_told,
+    the_haul_and_the_cabin_are_the_highest_booked, the_items_are_in_order,
+    the_least_is_of_rotations_then_slots_then_passengers, the_rules_count_legs_as_in_words,
 };
