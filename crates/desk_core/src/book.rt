@@ -2,12 +2,12 @@
 
 ghost use Rattle.std.specs.Prelude.{◌≡◌, ◌≤◌, [], length, drop, IfOk, OnOk, OnErr};
 
-use crate::cost::total_cost;
 use crate::judged::Judged;
 use crate::moved::{copied_move, moved_plan};
 use desk_data::{Broken, Grains, Instance, Move, NoMem, Plan};
 use desk_model::{Answer, Entry, Event};
 use full_check::full_check;
+use full_cost::full_cost;
 use std::alloc::Global;
 use std::marker::Model;
 
@@ -58,7 +58,7 @@ impl Book {
     {
         let plan = inst.schedule(alloc)?;
         let broken = full_check(alloc, &inst, &plan)?;
-        let cost = total_cost(&inst, &plan);
+        let cost = full_cost(&inst, &plan);
         Ok(Book {
             inst,
             plan,
@@ -122,7 +122,7 @@ impl Book {
         if let Some(item) = full_check(alloc, &self.inst, &plan)? {
             return Ok(Judged::Refused(Answer::Breaks(item)));
         }
-        let cost = total_cost(&self.inst, &plan);
+        let cost = full_cost(&self.inst, &plan);
         if cost.0 >= self.cost.0 {
             return Ok(Judged::Refused(Answer::Dearer {
                 now: self.cost,

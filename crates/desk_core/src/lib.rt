@@ -2,7 +2,6 @@
 #![tactic(auto)]
 
 mod book;
-mod cost;
 mod judged;
 mod moved;
 #[cfg(test)]

@@ -98,7 +98,9 @@ fn parts_of(alloc: Global, whole: bool) -> Result<Parts, Fail> {
         from: Minute(0),
         to: Minute(52_500_000),
         positions: List(Vec::new(alloc)),
-        tariff: Tariff {},
+        tariff: Tariff {
+            rows: List(Vec::new(alloc)),
+        },
     })
 }
 

@@ -1,4 +1,5 @@
-//! The check of a plan against the rules C1 to C11, near linear in the legs.
+//! The check of a plan against the rules C1 to C15, near linear in the legs and the
+//! groups of passengers.
 #![tactic(auto)]
 
 ghost use Rattle.std.specs.Prelude.{◌≡◌, IfOk};
@@ -9,19 +10,24 @@ ghost use Rattle.desk_model.specs.Least.{least};
 mod tests;
 
 use desk_data::{Broken, Instance, NoMem, Plan};
+use rule_pax::least_pax;
 use rule_rot::least_rot;
 use rule_slots::least_slots;
 use std::alloc::Global;
 
-/// The first item of C1 to C11 that the plan breaks, by rule and then by what the items name, or
-/// `None` where it breaks none. The time is near linear in the legs: they are sorted once for the
-/// rotations, and once for departures and once for arrivals. The only error is want of memory.
+/// The first item of C1 to C15 that the plan breaks, by rule and then by what the items name, or
+/// `None` where it breaks none. The time is near linear in the legs and linear in the groups of
+/// passengers: the legs are sorted once for the rotations, and once for departures and once for
+/// arrivals. The only error is want of memory.
 pub fn full_check(alloc: Global, inst: &Instance, plan: &Plan) -> Result<Option<Broken>, NoMem>
     requires { IsPlanFor inst.now plan.now }
     ensures { IfOk result (λ item. item ≡ least inst.now plan.now) }
 {
     match least_rot(alloc, inst, plan)? {
         Some(item) => Ok(Some(item)),
-        None => least_slots(alloc, inst, plan),
+        None => match least_slots(alloc, inst, plan)? {
+            Some(slot) => Ok(Some(slot)),
+            None => least_pax(alloc, inst, plan),
+        },
     }
 }

@@ -1,9 +1,9 @@
-//! Which item of rotations and of hours a day of two legs breaks first.
+//! Which item of rotations, of hours and of passengers a day of two legs breaks first.
 
 use crate::full_check;
 use desk_data::{
-    Airport, AirportInfo, Broken, Cap, Haul, Instance, Leg, LegInfo, List, Minute, Name, Parts,
-    Plane, PlaneInfo, Price, Seats, Tariff,
+    Airport, AirportInfo, Broken, Cabin, Cap, Haul, Instance, Leg, LegInfo, List, Minute, Name,
+    Parts, Path, Plane, PlaneInfo, Price, ResInfo, Seats, Tariff,
 };
 use std::alloc::Global;
 use std::test::Fail;
@@ -59,8 +59,21 @@ fn leg_of(name: &[u8], between: (u32, u32), sched: u32) -> Result<LegInfo, Fail>
     })
 }
 
-/// There at minute 480, and back at another.
-fn parts_of(alloc: Global, deps: u32, back: u32) -> Result<Parts, Fail> {
+/// So many passengers there.
+fn reservation_of(alloc: Global, count: u32) -> Result<ResInfo, Fail> {
+    Ok(ResInfo {
+        name: name_of(b"R1")?,
+        inbound: false,
+        price: Price(0),
+        count,
+        path: Path {
+            legs: List(vec![in alloc; (Leg(0), Cabin::E)]?),
+        },
+    })
+}
+
+/// There at minute 480 with so many passengers, and back at another minute.
+fn parts_of(alloc: Global, deps: u32, back: u32, count: u32) -> Result<Parts, Fail> {
     Ok(Parts {
         airports: List(vec![in alloc;
             airport_of(alloc, b"AAA", deps)?,
@@ -68,11 +81,13 @@ fn parts_of(alloc: Global, deps: u32, back: u32) -> Result<Parts, Fail> {
         ]?),
         planes: List(vec![in alloc; plane_of()?]?),
         legs: List(vec![in alloc; leg_of(b"F1", (0, 1), 480)?, leg_of(b"F2", (1, 0), back)?]?),
-        res: List(Vec::new(alloc)),
+        res: List(vec![in alloc; reservation_of(alloc, count)?]?),
         from: Minute(0),
         to: Minute(52_500_000),
         positions: List(Vec::new(alloc)),
-        tariff: Tariff {},
+        tariff: Tariff {
+            rows: List(Vec::new(alloc)),
+        },
     })
 }
 
@@ -87,18 +102,19 @@ fn told_of(alloc: Global, parts: Parts) -> Result<Option<Option<Broken>>, Fail> 
 }
 
 #[test]
-fn rotations_come_before_hours(rt: HostRuntime) -> Result<(), Fail> {
+fn rotations_come_before_hours_and_hours_before_passengers(rt: HostRuntime) -> Result<(), Fail> {
     let alloc = rt.alloc();
-    // the departures that the first airport takes in an hour, when the second leg departs, and what
-    // is broken first
+    // the departures that the first airport takes in an hour, when the second leg departs, the
+    // passengers of the first leg, which has 9 seats, and what is broken first
     let table = [
-        (1, 570, None),
-        (0, 570, Some(Broken::C10(Airport(0), 8))),
-        (1, 569, Some(Broken::C6(Leg(1)))),
-        (0, 569, Some(Broken::C6(Leg(1)))),
+        (1, 570, 9, None),
+        (1, 570, 10, Some(Broken::C12(Leg(0), Cabin::E))),
+        (0, 570, 10, Some(Broken::C10(Airport(0), 8))),
+        (1, 569, 10, Some(Broken::C6(Leg(1)))),
+        (0, 569, 9, Some(Broken::C6(Leg(1)))),
     ];
-    for (deps, back, item) in table.iter() {
-        let parts = parts_of(alloc, *deps, *back)?;
+    for (deps, back, count, item) in table.iter() {
+        let parts = parts_of(alloc, *deps, *back, *count)?;
         assert_eq!(rt; told_of(alloc, parts)?, Some(*item));
     }
     Ok(())

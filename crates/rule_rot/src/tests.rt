@@ -119,7 +119,9 @@ fn parts_of(alloc: Global, maint: Option<Maint>) -> Result<Parts, Fail> {
         from: Minute(100),
         to: Minute(52_500_000),
         positions: List(Vec::new(alloc)),
-        tariff: Tariff {},
+        tariff: Tariff {
+            rows: List(Vec::new(alloc)),
+        },
     })
 }
 

@@ -88,7 +88,9 @@ fn parts_of(alloc: Global, caps: [(u32, u32); 2], flights: [Flight; 3]) -> Resul
         from: Minute(0),
         to: Minute(52_500_000),
         positions: List(Vec::new(alloc)),
-        tariff: Tariff {},
+        tariff: Tariff {
+            rows: List(Vec::new(alloc)),
+        },
     })
 }
 

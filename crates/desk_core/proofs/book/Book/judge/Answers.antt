@@ -24,14 +24,14 @@ returns-then-cost-self c =
     let made = c.in_ok-plan.ensures.moved in
     let feasible : least b.inst (moved b.inst b.plan c.args.m.now) ≡ None = ap (least b.inst) (sym made) ∙ sym c.in_ok-item.ensures ∙ c.in_default-2.is in
     let dear : cost b.inst b.plan ≤ cost b.inst (moved b.inst b.plan c.args.m.now) =
-    rw (← made, ap (λ g. g.0) (sym c.total_cost-cost.ensures), ap (λ g. g.0) (sym c.self.invariant.costs)) c.if-cost-self.true in
-    rw (← c.self.view_is, c.self.invariant.reached, c.total_cost-cost.ensures, made, c.self.invariant.costs) (judged_dearer b.inst b.plan b.broken c.args.m.now c.in_default.is feasible dear)
+    rw (← made, ap (λ g. g.0) (sym c.full_cost-cost.ensures.cost), ap (λ g. g.0) (sym c.self.invariant.costs)) c.if-cost-self.true in
+    rw (← c.self.view_is, c.self.invariant.reached, c.full_cost-cost.ensures.cost, made, c.self.invariant.costs) (judged_dearer b.inst b.plan b.broken c.args.m.now c.in_default.is feasible dear)
 
 pub returns : goal.returns
 returns c =
     let b = c.self.inside in
     let feasible : least b.inst c.in_ok-plan.plan ≡ None = sym c.in_ok-item.ensures ∙ c.in_default-2.is in
     let cheaper : cost b.inst c.in_ok-plan.plan < cost b.inst b.plan =
-    rw (ap (λ g. g.0) (sym c.total_cost-cost.ensures), ap (λ g. g.0) (sym c.self.invariant.costs)) c.if-cost-self.false in
-    rw (← c.self.view_is, c.self.invariant.reached, c.total_cost-cost.ensures)
+    rw (ap (λ g. g.0) (sym c.full_cost-cost.ensures.cost), ap (λ g. g.0) (sym c.self.invariant.costs)) c.if-cost-self.false in
+    rw (← c.self.view_is, c.self.invariant.reached, c.full_cost-cost.ensures.cost)
     (judged_published b.inst b.plan c.in_ok-plan.plan b.broken c.args.m.now c.in_default.is c.in_ok-plan.ensures.moved c.in_ok-plan.ensures.valid feasible cheaper)

@@ -1,0 +1,4 @@
+pub mod HighestLaws
+pub mod OwedLaws
+pub mod GroupLaws
+pub mod StandLaws

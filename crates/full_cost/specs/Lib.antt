@@ -1,0 +1,4 @@
+pub mod Weighed
+pub mod Booked
+pub mod Amounts
+pub mod Stands

@@ -1,0 +1,59 @@
+-- Where aircraft stand when the window ends.
+use Rattle.std.specs.Prelude.{◌≡◌, ℕ, ◌<◌, ◌≤◌, Bool, true, false, ◌==◌, if◌then◌else◌, List, filter, length, take, Option, Some, None, slice_index_or}
+use Rattle.desk_units.specs.declared.numbers.Airport.{Airport}
+use Rattle.desk_units.specs.declared.numbers.Leg.{Leg}
+use Rattle.desk_data.specs.declared.info.PositionInfo.{PositionInfo}
+use Rattle.desk_data.specs.Situation.{Situation, planes_of, leg_at, plane_at}
+use Rattle.desk_data.specs.PlanRows.{PlanRows}
+use Rattle.desk_model.specs.Numbers.{numbers}
+use Rattle.desk_model.specs.Rotations.{precedes}
+use Rattle.desk_model.specs.Maintenance.{departs_before}
+use Rattle.desk_model.specs.Cost.{is_wanted, ends_at}
+
+-- leg x is the last of the first n legs that aircraft p flies and that depart before a moment
+pub record IsLast (P : PlanRows) (p at n x : ℕ) : Type 0 where
+  pub within : x < n
+  pub before : departs_before P p at x ≡ true
+  pub last : (z : ℕ) → z < n → departs_before P p at z ≡ true → precedes P x z ≡ false
+
+-- the last of them, if there is one
+abbrev pub IsLastOf : PlanRows → ℕ → ℕ → ℕ → Option Leg → Type 0
+IsLastOf P p at n None = (x : ℕ) → x < n → departs_before P p at x ≡ false
+IsLastOf P p at n (Some leg) = IsLast P p at n leg.0
+
+-- for each aircraft the last of the first n legs that it flies and that depart before the window's end
+pub record AreLasts (I : Situation) (P : PlanRows) (n : ℕ) (lasts : List (Option Leg)) : Type 0 where
+  pub planes : length lasts ≡ planes_of I
+  pub each : (p : ℕ) → p < planes_of I → IsLastOf P p I.parts.to.0 n (slice_index_or lasts p None)
+
+-- where aircraft p stands, given its last leg: surface transport stands nowhere
+abbrev pub left_by : Situation → ℕ → Option Leg → Airport
+left_by I p None = (plane_at I p).origin
+left_by I p (Some leg) = (leg_at I leg.0).dest
+
+abbrev pub stand : Situation → ℕ → Option Leg → Option Airport
+stand I p last = if (plane_at I p).surface then None else Some (left_by I p last)
+
+-- whether that is an airport
+abbrev pub is_there : Option Airport → ℕ → Bool
+is_there None airport = false
+is_there (Some there) airport = there.0 == airport
+
+-- these are the places where aircraft end
+pub record AreStands (I : Situation) (P : PlanRows) (stands : List (Option Airport)) : Type 0 where
+  pub planes : length stands ≡ planes_of I
+  pub each : (p airport : ℕ) → p < planes_of I → is_there (slice_index_or stands p None) airport ≡ ends_at I P p airport
+
+-- those of the first n aircraft that end at an airport, in order
+abbrev pub ending : List (Option Airport) → ℕ → ℕ → List ℕ
+ending stands airport n = filter (λ p. is_there (slice_index_or stands p None) airport) (numbers n)
+
+-- the first of these numbers, so many, are the aircraft that end at an airport; there is room for all
+pub record AreHere (I : Situation) (stands : List (Option Airport)) (airport count : ℕ) (here : List ℕ) : Type 0 where
+  pub room : length here ≡ planes_of I
+  pub within : count ≤ length here
+  pub each : take count here ≡ ending stands airport (planes_of I)
+
+-- how many of some aircraft are of a position's model and seats
+abbrev pub wanted : Situation → PositionInfo → List ℕ → ℕ
+wanted I position planes = length (filter (λ p. is_wanted position (plane_at I p)) planes)

@@ -1,0 +1,35 @@
+//! Delay: the hours by which passengers arrive late.
+
+ghost use Rattle.std.specs.Prelude.{◌≡◌, ◌<◌, ◌≤◌};
+ghost use Rattle.desk_units.specs.declared.tariff.Term.TheVariants as term;
+ghost use Rattle.desk_model.specs.States.{grains};
+ghost use Rattle.full_cost.specs.Amounts.{delayed};
+ghost use Rattle.full_cost.specs.Booked.{IsBooked};
+ghost use Rattle.full_cost.specs.Weighed.{IsWeight};
+
+use crate::passengers::Booked;
+use desk_data::{Grains, Instance, Weight};
+use desk_units::per_hour;
+
+/// What it costs that some passengers of a reservation arrive so many minutes late, at the hourly
+/// price of what they booked.
+pub(crate) fn delay_cost(
+    inst: &Instance,
+    weight: Weight,
+    booked: Booked,
+    minutes: u32,
+    count: u32,
+) -> Grains
+    requires weight { IsWeight inst.now term.Delay weight }
+    requires booked { IsBooked inst.now booked }
+    requires minutes { minutes < 52502880 }
+    requires count { count ≤ 1000 }
+    ensures { result ≡ grains (delayed inst.now booked.res.0 minutes count) }
+{
+    // most passengers are in time
+    if minutes == 0 {
+        return Grains(0);
+    }
+    let hourly = inst.prices().delay(booked.haul, booked.cabin);
+    per_hour(hourly, weight, u64::from(count) * u64::from(minutes))
+}

@@ -1,0 +1,86 @@
+//! The terms that passengers cost: delay, cancellation, downgrade and legal.
+
+ghost use Rattle.std.specs.Prelude.{◌≡◌, ◌+◌, ◌*◌, ◌<◌, ◌≤◌, ◌^◌};
+ghost use Rattle.desk_data.specs.Situation.{reservations_of};
+ghost use Rattle.desk_data.specs.Valid.{IsPlanFor};
+ghost use Rattle.desk_model.specs.Cost.{delay_cost, cancellation_cost, downgrade_cost, legal_cost};
+ghost use Rattle.desk_model.specs.States.{grains};
+ghost use Rattle.full_cost.specs.Amounts.{group_cost, reservation_cost};
+ghost use Rattle.full_cost.specs.Booked.{IsBooked, IsGroupOf};
+ghost use Rattle.full_cost.specs.Weighed.{AreWeights};
+
+use crate::cancellation::cancellation_cost;
+use crate::delay::delay_cost;
+use crate::downgrade::downgrade_cost;
+use crate::legal::{late_cost, uncarried_cost};
+use crate::passengers::{Booked, all_flown, booked_of, is_carried, minutes_late};
+use crate::weights::{Weights, weights_of};
+use desk_data::{Grains, Group, Instance, Plan, Res};
+
+/// What the passengers cost. What each reservation booked is found once.
+pub(crate) fn passengers_cost(inst: &Instance, plan: &Plan) -> Grains
+    requires { IsPlanFor inst.now plan.now }
+    ensures cost { result.0 ≡ delay_cost inst.now plan.now + cancellation_cost inst.now plan.now + downgrade_cost inst.now plan.now + legal_cost inst.now plan.now }
+    ensures limit { result.0 ≤ 6 * 10 ^ 37 }
+{
+    let weights = weights_of(inst);
+    let _rows = inst.parts();
+    let mut total = Grains(0);
+    for r in 0..inst.reservations() {
+        total = total.plus(reservation_cost(inst, plan, weights, Res(r)));
+    }
+    total
+}
+
+/// What the passengers of a reservation cost.
+fn reservation_cost(inst: &Instance, plan: &Plan, weights: Weights, res: Res) -> Grains
+    requires plan { IsPlanFor inst.now plan.now }
+    requires weights { AreWeights inst.now weights }
+    requires res { res.0 < reservations_of inst.now }
+    ensures { result ≡ grains (reservation_cost inst.now plan.now res.0) }
+{
+    let booked = booked_of(inst, res);
+    let _rows = inst.parts();
+    let mut total = Grains(0);
+    for group in plan.groups(res) {
+        total = total.plus(group_cost(inst, plan, weights, booked, group));
+    }
+    total
+}
+
+/// What a group of a reservation costs. Those who are not carried cost their cancellation and what
+/// is owed to them. Those who are cost their downgrades and, where all their legs are flown, their
+/// delay and what is owed for it.
+fn group_cost(
+    inst: &Instance,
+    plan: &Plan,
+    weights: Weights,
+    booked: Booked,
+    group: &Group,
+) -> Grains
+    requires plan { IsPlanFor inst.now plan.now }
+    requires weights { AreWeights inst.now weights }
+    requires booked { IsBooked inst.now booked }
+    requires group { IsGroupOf inst.now group.now }
+    ensures { result ≡ grains (group_cost inst.now plan.now booked.res.0 group.now) }
+{
+    let _rows = inst.parts();
+    let path = group.path.as_slice();
+    let count = group.count;
+    if !is_carried(path) {
+        return cancellation_cost(inst, weights.cancellation, booked, count).plus(uncarried_cost(
+            inst,
+            weights.legal,
+            booked,
+            count,
+        ));
+    }
+    let downgrades = downgrade_cost(inst, weights.downgrade, booked, group);
+    if !all_flown(plan, path) {
+        return downgrades;
+    }
+    let minutes = minutes_late(inst, plan, booked, path);
+    downgrades
+        .plus(delay_cost(inst, weights.delay, booked, minutes, count))
+        .plus(late_cost(inst, weights.legal, booked, minutes, count))
+}

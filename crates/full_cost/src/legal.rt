@@ -1,0 +1,54 @@
+//! Legal: what is owed to passengers by law, and the price of a journey that is not made.
+
+ghost use Rattle.std.specs.Prelude.{◌≡◌, ◌<◌, ◌≤◌};
+ghost use Rattle.desk_model.specs.Cost.{owed_late, owed_uncarried};
+ghost use Rattle.desk_units.specs.declared.tariff.Term.TheVariants as term;
+ghost use Rattle.desk_model.specs.States.{grains};
+ghost use Rattle.full_cost.specs.Booked.{IsBooked};
+ghost use Rattle.full_cost.specs.Weighed.{IsWeight};
+
+use crate::passengers::Booked;
+use desk_data::{Grains, Instance, Weight};
+use desk_units::per_item;
+
+/// What is owed to some passengers of a reservation who arrive so many minutes late: care and
+/// compensation.
+pub(crate) fn late_cost(
+    inst: &Instance,
+    weight: Weight,
+    booked: Booked,
+    minutes: u32,
+    count: u32,
+) -> Grains
+    requires weight { IsWeight inst.now term.Legal weight }
+    requires booked { IsBooked inst.now booked }
+    requires count { count ≤ 1000 }
+    ensures { result ≡ grains (owed_late inst.now booked.res.0 minutes count) }
+{
+    let _rows = inst.parts();
+    // most passengers are in time, and no threshold is below one minute
+    if minutes == 0 {
+        return Grains(0);
+    }
+    let count = u64::from(count);
+    let care = inst.prices().care(booked.haul, minutes);
+    let compensation = inst.prices().compensation(booked.haul, minutes);
+    per_item(care, weight, count).plus(per_item(compensation, weight, count))
+}
+
+/// What is owed to some passengers of a reservation who are not carried: the price that they paid,
+/// care and compensation.
+pub(crate) fn uncarried_cost(inst: &Instance, weight: Weight, booked: Booked, count: u32) -> Grains
+    requires weight { IsWeight inst.now term.Legal weight }
+    requires booked { IsBooked inst.now booked }
+    requires count { count ≤ 1000 }
+    ensures { result ≡ grains (owed_uncarried inst.now booked.res.0 count) }
+{
+    let count = u64::from(count);
+    let paid = inst.res(booked.res).price;
+    let care = inst.prices().uncarried_care(booked.haul);
+    let compensation = inst.prices().uncarried_compensation(booked.haul);
+    per_item(paid, weight, count)
+        .plus(per_item(care, weight, count))
+        .plus(per_item(compensation, weight, count))
+}

@@ -1,0 +1,4 @@
+pub mod HaulLaws
+pub mod PathLaws
+pub mod SeatLaws
+pub mod ItemLaws

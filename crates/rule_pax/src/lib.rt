@@ -1,0 +1,15 @@
+//! The rules of passengers, C12 to C15: whether they have seats, whether the paths on which they are
+//! carried are flown and connect, arrive in time, and keep what was begun. The time of the check is
+//! linear in the legs and the groups of passengers.
+#![tactic(auto)]
+
+mod booking;
+mod carried;
+mod least;
+mod paths;
+mod seats;
+mod taken;
+#[cfg(test)]
+mod tests;
+
+pub use least::least_pax;

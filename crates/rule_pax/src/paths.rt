@@ -1,0 +1,101 @@
+//! Paths in a plan: whether they are flown and connect, when they leave, and when they arrive.
+
+ghost use Rattle.std.specs.Prelude.{◌≡◌, ◌<◌, ◌≤◌, length};
+ghost use Rattle.desk_data.specs.Situation.{legs_of};
+ghost use Rattle.desk_data.specs.Valid.{IsPathOf, IsPlanFor};
+ghost use Rattle.desk_model.specs.Passengers.{all_flown, connection, connects, is_flown, reaches, share_plane};
+ghost use Rattle.desk_model.specs.Rotations.{arr, dep};
+
+use desk_data::{Cabin, Instance, Leg, Plan, Row};
+
+/// Whether all legs of a path are flown.
+#[tactic(auto, unfolding(desk_model::specs::Passengers::all_flown))]
+pub(crate) fn all_flown(plan: &Plan, path: &[(Leg, Cabin)]) -> bool
+    requires { IsPathOf (length plan.now.rows) path.now }
+    ensures { result ≡ all_flown plan.now path.now }
+{
+    path.iter().all(|pair| is_flown(plan.read_row(pair.0)))
+}
+
+fn is_flown(row: Row) -> bool
+    ensures { result ≡ is_flown row }
+{
+    match row {
+        Row::Flown { .. } => true,
+        Row::Cancelled => false,
+    }
+}
+
+/// Whether each leg of a path but the first is reached from the one before it.
+pub(crate) fn connects(inst: &Instance, plan: &Plan, path: &[(Leg, Cabin)]) -> bool
+    requires plan { IsPlanFor inst.now plan.now }
+    requires path { IsPathOf (legs_of inst.now) path.now }
+    ensures { result ≡ connects inst.now plan.now path.now }
+{
+    for i in 1..path.len() {
+        if !reaches(inst, plan, path[i - 1].0, path[i].0) {
+            return false;
+        }
+    }
+    true
+}
+
+/// Whether passengers of a leg can go on with another: it leaves where the first arrived, and late
+/// enough.
+fn reaches(inst: &Instance, plan: &Plan, leg: Leg, next: Leg) -> bool
+    requires plan { IsPlanFor inst.now plan.now }
+    requires leg { leg.0 < legs_of inst.now }
+    requires next { next.0 < legs_of inst.now }
+    ensures { result ≡ reaches inst.now plan.now leg.0 next.0 }
+{
+    inst.leg(next).origin.0 == inst.leg(leg).dest.0
+        && arrival(inst, plan, leg) + connection(inst, plan, leg, next) <= departure(plan, next)
+}
+
+/// The minutes that passengers need from a leg to another: none where it is the previous leg of the
+/// other and one aircraft flies both, else 30.
+fn connection(inst: &Instance, plan: &Plan, leg: Leg, next: Leg) -> u32
+    requires plan { IsPlanFor inst.now plan.now }
+    requires leg { leg.0 < legs_of inst.now }
+    requires next { next.0 < legs_of inst.now }
+    ensures time { result ≡ connection inst.now plan.now leg.0 next.0 }
+    ensures limit { result ≤ 30 }
+{
+    if inst.leg(next).prev == Some(leg) && share_plane(plan.read_row(leg), plan.read_row(next)) {
+        0
+    } else {
+        30
+    }
+}
+
+/// Whether one aircraft flies both rows.
+fn share_plane(row: Row, other: Row) -> bool
+    ensures { result ≡ share_plane row other }
+{
+    match (row, other) {
+        (Row::Flown { plane, .. }, Row::Flown { plane: next, .. }) => plane.0 == next.0,
+        _ => false,
+    }
+}
+
+/// When a leg departs; 0 where it is cancelled.
+pub(crate) fn departure(plan: &Plan, leg: Leg) -> u32
+    requires { leg.0 < length plan.now.rows }
+    ensures departure { result ≡ dep plan.now leg.0 }
+    ensures limit { result < 52500000 }
+{
+    match plan.read_row(leg) {
+        Row::Flown { dep, .. } => dep.0,
+        Row::Cancelled => 0,
+    }
+}
+
+/// When a leg arrives.
+pub(crate) fn arrival(inst: &Instance, plan: &Plan, leg: Leg) -> u32
+    requires plan { IsPlanFor inst.now plan.now }
+    requires leg { leg.0 < legs_of inst.now }
+    ensures arrival { result ≡ arr inst.now plan.now leg.0 }
+    ensures limit { result < 52502880 }
+{
+    departure(plan, leg) + inst.leg(leg).block
+}
