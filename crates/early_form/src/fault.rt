@@ -1,6 +1,7 @@
 //! Why a file in the early form is refused.
 
-ghost use Rattle.std.specs.Prelude.{◌≡◌};
+ghost use Rattle.std.specs.Prelude.{◌≡◌, Some};
+ghost use Rattle.early_form.specs.Told.{fault_text};
 ghost use Rattle.early_form.specs.declared.fault.FormFault.TheVariants.{Memory};
 
 use desk_units::NoMem;
@@ -18,10 +19,12 @@ pub enum FormFault {
 }
 
 impl fmt::Display for FormFault {
+    ghost output = { λ fault. Some (fault_text fault) };
+
     fn fmt<W: fmt::Write>(&self, f: &mut fmt::Formatter<W>) -> fmt::Result {
         match self {
             FormFault::Form { line } => write!(f, "line {line} is not in the early form"),
-            FormFault::Memory => write!(f, "out of memory"),
+            FormFault::Memory => f.write_str("out of memory"),
         }
     }
 }

@@ -1,3 +1,4 @@
 pub mod Join
 pub mod Names
 pub mod Gives
+pub mod Told

@@ -1,6 +1,7 @@
 //! Why rows are not joined.
 
-ghost use Rattle.std.specs.Prelude.{◌≡◌};
+ghost use Rattle.std.specs.Prelude.{◌≡◌, Some};
+ghost use Rattle.early_join.specs.Told.{fault_text};
 ghost use Rattle.early_join.specs.declared.fault.JoinFault.TheVariants.{Memory};
 
 use desk_units::NoMem;
@@ -19,10 +20,12 @@ pub enum JoinFault {
 }
 
 impl fmt::Display for JoinFault {
+    ghost output = { λ fault. Some (fault_text fault) };
+
     fn fmt<W: fmt::Write>(&self, f: &mut fmt::Formatter<W>) -> fmt::Result {
         match self {
             JoinFault::Unknown { line } => write!(f, "line {line} names something unknown"),
-            JoinFault::Memory => write!(f, "out of memory"),
+            JoinFault::Memory => f.write_str("out of memory"),
         }
     }
 }

@@ -65,7 +65,9 @@ fn day_of(rt: &impl Abort, alloc: Global) -> Result<Instance, Fail> {
         from: Minute(4_294_440),
         to: Minute(4_295_880),
         positions: List(Vec::new(alloc)),
-        tariff: Tariff {},
+        tariff: Tariff {
+            rows: List(Vec::new(alloc)),
+        },
     };
     assert!(rt; parts.are_valid(alloc)?);
     Ok(Instance::of(alloc, parts)?)

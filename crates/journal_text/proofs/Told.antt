@@ -8,17 +8,20 @@ use Rattle.std.proofs.lemmas.Option.{slice_get-get_or}
 use Rattle.desk_units.specs.declared.numbers.Leg.{Leg}
 use Rattle.desk_units.specs.declared.numbers.Plane.{Plane}
 use Rattle.desk_units.specs.declared.numbers.Airport.{Airport}
+use Rattle.desk_units.specs.declared.numbers.Res.{Res}
+use Rattle.desk_units.specs.declared.numbers.Cabin.{Cabin}
+use Rattle.desk_units.specs.declared.numbers.Cabin.TheVariants.{F, B, E}
 use Rattle.desk_data.specs.declared.broken.Broken.{Broken}
-use Rattle.desk_data.specs.declared.broken.Broken.TheVariants.{C1, C2, C3, C4, C5, C6, C7, C8, C9, C10, C11}
+use Rattle.desk_data.specs.declared.broken.Broken.TheVariants.{C1, C2, C3, C4, C5, C6, C7, C8, C9, C10, C11, C12, C13, C14, C15}
 use Rattle.desk_data.specs.declared.moves.Move.{Move}
-use Rattle.desk_data.specs.Situation.{Situation, legs_of, planes_of, airports_of}
+use Rattle.desk_data.specs.Situation.{Situation, legs_of, planes_of, airports_of, reservations_of}
 use Rattle.desk_data.specs.PlanRows.{PlanRows}
 use Rattle.desk_model.specs.declared.answer.Answer.TheVariants.{Dearer, Accepted}
 use Rattle.desk_model.specs.declared.answer.Event.{Event}
 use Rattle.desk_model.specs.declared.answer.Event.TheVariants as event
 use Rattle.desk_model.specs.declared.answer.Entry.{Entry}
 use Rattle.desk_model.specs.Numbers.{numbers}
-use Rattle.desk_model.specs.Least.{breaks, leg, plane, airport, all_hours, each_leg, each_plane, each_hour, rotation_items, slot_items, items, least}
+use Rattle.desk_model.specs.Least.{breaks, leg, plane, airport, res, all_hours, each_leg, each_plane, each_hour, each_cabin, each_res, rotation_items, slot_items, pax_items, items, least}
 use Rattle.desk_model.specs.Cost.{cost}
 use Rattle.desk_model.specs.Steps.{moved}
 use Rattle.desk_model.specs.States.{State, opening, grains, judged, proposed, answer}
@@ -65,6 +68,14 @@ hours_name I item named =
     all_of_lists (Names I) (λ a. map (item (airport a)) (numbers all_hours)) (airports_of I)
     (λ a lt. all_of_numbers (Names I) (item (airport a)) all_hours (λ h before. named a h lt before))
 
+cabins_name : (I : Situation) (item : Leg → Cabin → Broken) → ((x : ℕ) (c : Cabin) → x < legs_of I → Names I (item (leg x) c)) → AllByRecursion (Names I) (each_cabin I item)
+cabins_name I item named =
+    all_of_lists (Names I) (λ x. item (leg x) F ∷ item (leg x) B ∷ item (leg x) E ∷ []) (legs_of I)
+    (λ x lt. (named x F lt, (named x B lt, (named x E lt, tt))))
+
+reservations_name : (I : Situation) (item : Res → Broken) → ((r : ℕ) → r < reservations_of I → Names I (item (res r))) → AllByRecursion (Names I) (each_res I item)
+reservations_name I item h = all_of_numbers (Names I) (λ r. item (res r)) (reservations_of I) h
+
 -- an hour that an item can name is within the hundred years
 within_years : (h : ℕ) → h < all_hours → h < 876600
 unfolding all_hours
@@ -90,9 +101,19 @@ slot_items_name I =
     (hours_name I C10 (λ a h lt before. (lt, within_years h before)))
     (hours_name I C11 (λ a h lt before. (lt, within_years h before)))
 
+pax_items_name : (I : Situation) → AllByRecursion (Names I) (pax_items I)
+unfolding pax_items
+pax_items_name I =
+    let c12 = cabins_name I C12 (λ x c lt. lt) in
+    let c13 = all_joined (Names I) (each_cabin I C12) (each_res I C13) c12 (reservations_name I C13 (λ r lt. lt)) in
+    let c14 = all_joined (Names I) _ (each_res I C14) c13 (reservations_name I C14 (λ r lt. lt)) in
+    all_joined (Names I) _ (each_res I C15) c14 (reservations_name I C15 (λ r lt. lt))
+
 items_name : (I : Situation) → AllByRecursion (Names I) (items I)
 unfolding items
-items_name I = all_joined (Names I) (rotation_items I) (slot_items I) (rotation_items_name I) (slot_items_name I)
+items_name I =
+    let slots = all_joined (Names I) (rotation_items I) (slot_items I) (rotation_items_name I) (slot_items_name I) in
+    all_joined (Names I) (rotation_items I ++ slot_items I) (pax_items I) slots (pax_items_name I)
 
 -- the first broken item names what there is
 pub least-names : (I : Situation) (P : PlanRows) (item : Broken) → least I P ≡ Some item → Names I item

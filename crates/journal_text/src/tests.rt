@@ -75,7 +75,9 @@ fn parts_of(alloc: Global) -> Result<Parts, Fail> {
         from: Minute(4_294_440),
         to: Minute(4_295_880),
         positions: List(Vec::new(alloc)),
-        tariff: Tariff {},
+        tariff: Tariff {
+            rows: List(Vec::new(alloc)),
+        },
     })
 }
 
