@@ -5,8 +5,12 @@ use Rattle.std.specs.Option.{option_map_or}
 use Rattle.desk_text.specs.declared.cause.Cause.{Cause}
 use Rattle.desk_build.specs.Refusals.{refused_from}
 
-module _ {Row : Type 0} (cause : ℕ → Row → Option Cause) (line : Row → ℕ) where
-  refused_row : (n : ℕ) (row : Row) (rows : List Row) → refused_from cause line n (row ∷ rows) ≡ option_map_or (λ why. Some (line row, why)) (cause n row) (refused_from cause line (n + 1) rows)
+-- a line that stands in the row, whatever stands before it
+abbrev pub of_row : {Row : Type 0} → (Row → ℕ) → ℕ → Row → ℕ
+of_row line n row = line row
+
+module _ {Row : Type 0} (cause : ℕ → Row → Option Cause) (line : ℕ → Row → ℕ) where
+  refused_row : (n : ℕ) (row : Row) (rows : List Row) → refused_from cause line n (row ∷ rows) ≡ option_map_or (λ why. Some (line n row, why)) (cause n row) (refused_from cause line (n + 1) rows)
   unfolding refused_from
   refused_row n row rows = refl
 
@@ -21,11 +25,11 @@ module _ {Row : Type 0} (cause : ℕ → Row → Option Cause) (line : Row → �
 
   -- the row at place n, and those behind it
   refused_at : (rows : List Row) (n : ℕ) (row : Row) (o : Option Cause) → n < length rows → row ≡ get_or rows n row → o ≡ cause n row
-      → refused_from cause line n (drop n rows) ≡ option_map_or (λ why. Some (line row, why)) o (refused_from cause line (n + 1) (drop (n + 1) rows))
+      → refused_from cause line n (drop n rows) ≡ option_map_or (λ why. Some (line n row, why)) o (refused_from cause line (n + 1) (drop (n + 1) rows))
   refused_at rows n row o below is why =
       ap (refused_from cause line n) (rest_at rows n row below is)
       ∙ refused_row n row (drop (n + 1) rows)
-      ∙ ap (λ o. option_map_or (λ why. Some (line row, why)) o (refused_from cause line (n + 1) (drop (n + 1) rows))) (sym why)
+      ∙ ap (λ o. option_map_or (λ why. Some (line n row, why)) o (refused_from cause line (n + 1) (drop (n + 1) rows))) (sym why)
 
   -- a row that is not refused
   pub refused_more : (rows : List Row) (n : ℕ) (row : Row) (whole : Option (ℕ × Cause)) → n < length rows → row ≡ get_or rows n row → None ≡ cause n row → refused_from cause line n (drop n rows) ≡ whole
@@ -34,7 +38,7 @@ module _ {Row : Type 0} (cause : ℕ → Row → Option Cause) (line : Row → �
 
   -- a row that is refused
   pub refused_here : (rows : List Row) (n : ℕ) (row : Row) (why : Cause) (whole : Option (ℕ × Cause)) → n < length rows → row ≡ get_or rows n row → Some why ≡ cause n row → refused_from cause line n (drop n rows) ≡ whole
-      → Some (line row, why) ≡ whole
+      → Some (line n row, why) ≡ whole
   refused_here rows n row why whole below is is_why so_far = sym (refused_at rows n row (Some why) below is is_why) ∙ so_far
 
   -- no more rows

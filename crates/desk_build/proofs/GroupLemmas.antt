@@ -1,8 +1,8 @@
--- How many groups the first rows of position.csv have.
-use Rattle.std.proofs.Common.{◌≡◌, ℕ, ◌+◌, ◌<◌, ◌≤◌, leb, ltb, List, length, take, get_or, sym, ap, subst, ◌∙◌, arith, inl, inr}
-use Rattle.std.specs.List.{sum_by}
+-- How many groups the first rows of position.csv have, and the positions that they make.
+use Rattle.std.proofs.Common.{◌≡◌, ℕ, ◌+◌, ◌<◌, ◌≤◌, leb, ltb, List, [], ◌∷◌, ◌++◌, length, take, get_or, sym, ap, subst, ◌∙◌, arith, inl, inr}
+use Rattle.std.specs.List.{sum_by, flat_map}
 use Rattle.std.proofs.lemmas.Bool.{cases_lt, lt-ltb, le-ltb, le-leb, lt-leb}
-use Rattle.std.proofs.lemmas.List.{take-take}
+use Rattle.std.proofs.lemmas.List.{take-take, take_more, flat_map_more}
 use Rattle.std.proofs.lemmas.List.Sums.{sum_by_more, sum_by-take-le}
 use Rattle.read_fleet.specs.declared.position.PositionRow.{PositionRow}
 use Rattle.desk_build.specs.Refusals.{groups_in}
@@ -20,3 +20,9 @@ past_at rows k left row below is so_far past n =
       | inl before ↦ (let few : groups_in (n + 1) rows ≤ groups_in k rows = fewer rows (n + 1) k (omega arith) in lt-leb k n before ∙ sym (le-ltb 10000 (groups_in (n + 1) rows) (omega arith)))
       | inr behind ↦ (let many : groups_in (k + 1) rows ≤ groups_in (n + 1) rows = fewer rows (k + 1) (n + 1) (omega arith) in le-leb k n behind ∙ sym (lt-ltb 10000 (groups_in (n + 1) rows) (omega arith)))
     ]
+
+-- the parts of the first rows, and that of the next row
+pub flat_map_next : {X A : Type 0} (f : X → List A) (rows : List X) (i : ℕ) (row : X) → i < length rows → row ≡ get_or rows i row → flat_map f (take i rows) ++ f row ≡ flat_map f (take (i + 1) rows)
+flat_map_next f rows i row below is =
+    flat_map_more f [] (take i rows) row
+    ∙ ap (flat_map f) (sym (take_more rows i row below ∙ ap (λ r. take i rows ++ r ∷ []) (sym is)))

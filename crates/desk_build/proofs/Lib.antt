@@ -1,11 +1,13 @@
 mod BeforeLemmas
 mod FlightLemmas
+mod TariffLemmas
 pub mod PlaceLemmas
 mod ValidFacts
 mod ValidJoined
 mod ValidLegs
 mod ValidNumbers
 mod ValidParts
+mod ValidPax
 mod ValidPlanes
 mod ValidRefused
 mod ValidRows

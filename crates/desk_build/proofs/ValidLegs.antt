@@ -1,5 +1,5 @@
 -- The legs of the day are in their ranges.
-use Rattle.std.proofs.Common.{◌≡◌, ◌≢◌, ◌&&◌, ℕ, ◌-◌, ◌<◌, ◌≤◌, List, length, map, get_or, bytes_eq, Option, Some, None, refl, sym, ap, subst, ◌∙◌, arith, All, AllPairs}
+use Rattle.std.proofs.Common.{◌≡◌, ◌≢◌, ◌&&◌, ℕ, ◌<◌, ◌≤◌, List, length, map, get_or, bytes_eq, Option, Some, None, refl, sym, ap, subst, ◌∙◌, arith, All, AllPairs}
 use Rattle.std.specs.Prelude.{option_map}
 use Rattle.std.specs.Option.{option_map_or, ForSome}
 use Rattle.std.proofs.lemmas.List.{length-map}
@@ -54,7 +54,7 @@ module _ (x : Files) (rows : AreFileRows x) where
   flight_within : (row : RotationRow) (f : FlightRow) → flight_named x.flights row.flight ≡ Some f → IsFlight f
   flight_within row f named = found IsFlight (λ f. bytes_eq row.flight f.flight) x.flights f rows.flights named
 
-  is_leg_by : (row : RotationRow) (f : FlightRow) → IsRotation row → IsJoined x row f → IsLeg (length (map airport_info x.airports)) (length (map (plane_info x.airports) x.aircraft)) (length x.rotations) (leg_by x row f)
+  is_leg_by : (row : RotationRow) (f : FlightRow) → IsRotation row → IsJoined x row f → IsLeg (length (map airport_info x.airports)) (length (map (plane_info x) x.aircraft)) (length x.rotations) (leg_by x row f)
   unfolding leg_by
   is_leg_by row f h joined =
       let flight = flight_within row f joined.named in
@@ -67,7 +67,7 @@ module _ (x : Files) (rows : AreFileRows x) where
         some = omega (arith, flight.later);
         block = omega (arith, flight.soon);
         distance = minutes_within (distance_between x.dist f.origin f.dest) (λ row named. found_either IsDistance (is_between f.origin f.dest) (is_between f.dest f.origin) x.dist row rows.dist named);
-        plane = rw (length-map x.aircraft (plane_info x.airports)) (known_within _ x.aircraft joined.aircraft);
+        plane = rw (length-map x.aircraft (plane_info x)) (known_within _ x.aircraft joined.aircraft);
         prev = leg_within (length x.rotations) (previous_place x f row.day) (λ k e. previous_within x f row.day k e);
       }
 
@@ -86,9 +86,9 @@ unfolding leg_by
 leg_day x row f named = ap (λ (leg : LegInfo). leg.day) (leg_is x row f named)
 
 module _ (x : Files) (rows : AreFileRows x) (e : refusal_of x ≡ None) where
-  pub are_legs : All (IsLeg (length (map airport_info x.airports)) (length (map (plane_info x.airports) x.aircraft)) (length x.rotations)) (map (leg_of x) x.rotations)
+  pub are_legs : All (IsLeg (length (map airport_info x.airports)) (length (map (plane_info x) x.aircraft)) (length x.rotations)) (map (leg_of x) x.rotations)
   are_legs =
-      let Fits : LegInfo → Type 0 = IsLeg (length (map airport_info x.airports)) (length (map (plane_info x.airports) x.aircraft)) (length x.rotations) in
+      let Fits : LegInfo → Type 0 = IsLeg (length (map airport_info x.airports)) (length (map (plane_info x) x.aircraft)) (length x.rotations) in
       All-map Fits (leg_of x) x.rotations (λ k d below.
       let row = get_or x.rotations k d in
       let joined = each_joined x e k d below in

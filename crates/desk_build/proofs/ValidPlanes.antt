@@ -47,9 +47,9 @@ is_maint_of airports (Some row) known h maint e =
     let same : maint_info airports row ≡ maint = cc in
     subst (IsMaint (length (map airport_info airports))) same (is_maint airports row known h)
 
-is_plane : (airports : List AirportRow) (row : AircraftRow) → is_some (airport_place airports row.origin) ≡ true → has_known_maintenance airports row.maint ≡ true → IsAircraft row → IsPlane (length (map airport_info airports)) (plane_info airports row)
+is_plane : (x : Files) (row : AircraftRow) → is_some (airport_place x.airports row.origin) ≡ true → has_known_maintenance x.airports row.maint ≡ true → IsAircraft row → IsPlane (length (map airport_info x.airports)) (plane_info x row)
 unfolding plane_info
-is_plane airports row origin maintenance h = record {
+is_plane x row origin maintenance h = record {
   name = h.name;
   model = h.model;
   family = h.family;
@@ -58,15 +58,15 @@ is_plane airports row origin maintenance h = record {
   hourly = h.hourly;
   turn = h.turn;
   transit = h.transit;
-  origin = airport_within airports row.origin origin;
-  maint = is_maint_of airports row.maint maintenance h.maint;
+  origin = airport_within x.airports row.origin origin;
+  maint = is_maint_of x.airports row.maint maintenance h.maint;
 }
 
 module _ (x : Files) (rows : AreFileRows x) (e : refusal_of x ≡ None) where
   pub are_airports : All IsAirport (map airport_info x.airports)
   are_airports = All-map IsAirport airport_info x.airports (λ k d below. is_airport (get_or x.airports k d) (rows.airports k d below))
 
-  pub are_planes : All (IsPlane (length (map airport_info x.airports))) (map (plane_info x.airports) x.aircraft)
-  are_planes = All-map (IsPlane (length (map airport_info x.airports))) (plane_info x.airports) x.aircraft (λ k d below.
+  pub are_planes : All (IsPlane (length (map airport_info x.airports))) (map (plane_info x) x.aircraft)
+  are_planes = All-map (IsPlane (length (map airport_info x.airports))) (plane_info x) x.aircraft (λ k d below.
       let passes = each_aircraft x e k d below in
-      is_plane x.airports (get_or x.aircraft k d) passes.origin passes.maintenance (rows.aircraft k d below))
+      is_plane x (get_or x.aircraft k d) passes.origin passes.maintenance (rows.aircraft k d below))

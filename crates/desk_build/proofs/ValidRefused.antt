@@ -29,23 +29,26 @@ pub held : {A : Type 0} (b : Bool) (why : A) → cond b None (Some why) ≡ None
 held true why e = refl
 held false why e = absurd cc
 
-module _ {Row : Type 0} (cause : ℕ → Row → Option Cause) (line : Row → ℕ) where
-  not_refused : (row : Row) (o : Option Cause) (rest : Option (ℕ × Cause)) → option_map_or (λ why. Some (line row, why)) o rest ≡ None → (o ≡ None) × (rest ≡ None)
-  not_refused row None rest e = (refl, e)
-  not_refused row (Some why) rest e = absurd cc
+not_refused : (line : ℕ) (o : Option Cause) (rest : Option (ℕ × Cause)) → option_map_or (λ why. Some (line, why)) o rest ≡ None → (o ≡ None) × (rest ≡ None)
+not_refused line None rest e = (refl, e)
+not_refused line (Some why) rest e = absurd cc
 
+module _ {Row : Type 0} (cause : ℕ → Row → Option Cause) (line : ℕ → Row → ℕ) where
   none_from : (n : ℕ) (rows : List Row) → refused_from cause line n rows ≡ None → (k : ℕ) (d : Row) → k < length rows → cause (n + k) (get_or rows k d) ≡ None
   unfolding refused_from
   none_from n [] e k d below = absurd (omega arith)
-  none_from n (row ∷ rows) e zero d below = let same : n ≡ n + 0 = omega arith in subst (λ (m : ℕ). cause m row ≡ None) same (not_refused row (cause n row) (refused_from cause line (n + 1) rows) e).0
+  none_from n (row ∷ rows) e zero d below = let same : n ≡ n + 0 = omega arith in subst (λ (m : ℕ). cause m row ≡ None) same (not_refused (line n row) (cause n row) (refused_from cause line (n + 1) rows) e).0
   none_from n (row ∷ rows) e (suc k) d below =
       let same : (n + 1) + k ≡ n + suc k = omega arith in
       let inside : k < length rows = omega arith in
-      subst (λ (m : ℕ). cause m (get_or rows k d) ≡ None) same (none_from (n + 1) rows (not_refused row (cause n row) (refused_from cause line (n + 1) rows) e).1 k d inside)
+      subst (λ (m : ℕ). cause m (get_or rows k d) ≡ None) same (none_from (n + 1) rows (not_refused (line n row) (cause n row) (refused_from cause line (n + 1) rows) e).1 k d inside)
 
   -- no row has a cause at its place
-  pub none_refused : (rows : List Row) → first_refused cause line rows ≡ None → (k : ℕ) (d : Row) → k < length rows → cause k (get_or rows k d) ≡ None
-  none_refused rows e k d below = let same : 0 + k ≡ k = omega arith in subst (λ (m : ℕ). cause m (get_or rows k d) ≡ None) same (none_from 0 rows e k d below)
+  pub none_refused_at : (rows : List Row) → refused_from cause line 0 rows ≡ None → (k : ℕ) (d : Row) → k < length rows → cause k (get_or rows k d) ≡ None
+  none_refused_at rows e k d below = let same : 0 + k ≡ k = omega arith in subst (λ (m : ℕ). cause m (get_or rows k d) ≡ None) same (none_from 0 rows e k d below)
+
+pub none_refused : {Row : Type 0} (cause : ℕ → Row → Option Cause) (line : Row → ℕ) (rows : List Row) → first_refused cause line rows ≡ None → (k : ℕ) (d : Row) → k < length rows → cause k (get_or rows k d) ≡ None
+none_refused cause line rows e k d below = none_refused_at cause (λ n row. line row) rows e k d below
 
 -- there are no more rows than the limit where each place is below it
 few_by : (limit count : ℕ) → ((k : ℕ) → k < count → leb limit k ≡ false) → (limit < count) → ⊥

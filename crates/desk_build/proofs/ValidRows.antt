@@ -1,17 +1,22 @@
 -- What holds of each row where nothing is refused.
-use Rattle.std.proofs.Common.{◌≡◌, ℕ, ◌<◌, ◌≤◌, true, false, ◌&&◌, leb, List, length, take, get_or, bytes_eq, None}
+use Rattle.std.proofs.Common.{◌≡◌, ℕ, ◌+◌, ◌<◌, ◌≤◌, true, false, ◌&&◌, ◌||◌, leb, ltb, List, [], ◌∷◌, length, take, get_or, bytes_eq, None, arith, subst}
 use Rattle.std.specs.Prelude.{is_some}
-use Rattle.std.specs.List.{list_any}
-use Rattle.std.proofs.lemmas.Bool.{and_parts, or_parts, not-false}
+use Rattle.std.specs.List.{list_any, sum_by}
+use Rattle.std.proofs.lemmas.Bool.{and_parts, or_parts, not-false, ltb-false}
+use Rattle.std.proofs.lemmas.List.{take_all}
 use Rattle.desk_folder.specs.declared.files.File.TheVariants as file
 use Rattle.read_net.specs.declared.rows.AirportRow.{AirportRow}
 use Rattle.read_legs.specs.declared.rows.FlightRow.{FlightRow}
 use Rattle.read_legs.specs.declared.rows.RotationRow.{RotationRow}
 use Rattle.read_fleet.specs.declared.aircraft.AircraftRow.{AircraftRow}
+use Rattle.read_fleet.specs.declared.position.PositionRow.{PositionRow}
+use Rattle.read_pax.specs.declared.rows.ItineraryRow.{ItineraryRow}
+use Rattle.desk_units.specs.declared.tariff.TariffRow.{TariffRow}
+use Rattle.tariff_prices.specs.Rows.{same_key}
 use Rattle.desk_build.specs.declared.files.Files.{Files}
 use Rattle.desk_build.specs.Names.{airport_place}
-use Rattle.desk_build.specs.Refusals.{first_refused, flight_cause, rotation_cause, aircraft_cause, airport_cause, refusal_of, has_good_previous, departs_late, is_known, has_distance, is_same_leg, has_known_maintenance, has_good_window}
-use Rattle.desk_build.proofs.ValidRefused.{neither, not_in_file, passed, held, none_refused, few_rows}
+use Rattle.desk_build.specs.Refusals.{first_refused, flight_cause, rotation_cause, aircraft_cause, airport_cause, itinerary_cause, groups_in, position_cause, tariff_cause, tariff_refused, refusal_of_schedule, refusal_of_demand, refusal_of, has_good_previous, departs_late, is_known, has_distance, is_same_leg, has_known_maintenance, has_good_window, is_same_reservation, has_known_legs}
+use Rattle.desk_build.proofs.ValidRefused.{neither, not_in_file, passed, held, none_refused, none_refused_at, few_rows}
 
 -- nothing is refused in any file
 pub record NoneRefused (x : Files) : Type 0 where
@@ -19,20 +24,29 @@ pub record NoneRefused (x : Files) : Type 0 where
   pub rotations : first_refused (rotation_cause x) (λ row. row.line) x.rotations ≡ None
   pub aircraft : first_refused (aircraft_cause x) (λ row. row.line) x.aircraft ≡ None
   pub airports : first_refused (airport_cause x.airports) (λ row. row.line) x.airports ≡ None
+  pub itineraries : first_refused (itinerary_cause x) (λ row. row.line) x.itineraries ≡ None
+  pub position : first_refused (position_cause x) (λ row. row.line) x.position ≡ None
+  pub tariff : tariff_refused x.tariff.rows ≡ None
 
 pub none_refused_in : (x : Files) → refusal_of x ≡ None → NoneRefused x
-unfolding refusal_of
+unfolding refusal_of refusal_of_schedule refusal_of_demand
 none_refused_in x e =
-    let window = neither _ _ e in
+    let both = neither (refusal_of_schedule x) (refusal_of_demand x) e in
+    let window = neither _ _ both.0 in
     let flights = neither _ _ window.1 in
     let rotations = neither _ _ flights.1 in
     let aircraft = neither _ _ rotations.1 in
     let airports = neither _ _ aircraft.1 in
+    let itineraries = neither _ _ both.1 in
+    let position = neither _ _ itineraries.1 in
     record {
       flights = not_in_file file.Flights _ flights.0;
       rotations = not_in_file file.Rotations _ rotations.0;
       aircraft = not_in_file file.Aircraft _ aircraft.0;
       airports = not_in_file file.Airports _ airports.0;
+      itineraries = not_in_file file.Itineraries _ itineraries.0;
+      position = not_in_file file.Position _ position.0;
+      tariff = not_in_file file.Tariff _ position.1;
     }
 
 -- what the causes of a file say of a row at its place
@@ -58,6 +72,21 @@ pub record AircraftPasses (x : Files) (n : ℕ) (row : AircraftRow) : Type 0 whe
 pub record AirportPasses (airports : List AirportRow) (n : ℕ) (row : AirportRow) : Type 0 where
   pub limit : leb 500 n ≡ false
   pub new : list_any (λ (a : AirportRow). bytes_eq row.airport a.airport) (take n airports) ≡ false
+
+pub record ItineraryPasses (x : Files) (n : ℕ) (row : ItineraryRow) : Type 0 where
+  pub limit : leb 100000 n ≡ false
+  pub count : ltb 1000 row.count ≡ false
+  pub short : ltb 8 (length row.legs) ≡ false
+  pub new : list_any (is_same_reservation row) (take n x.itineraries) ≡ false
+  pub known : has_known_legs x.rotations row ≡ true
+
+pub record PositionPasses (x : Files) (n : ℕ) (row : PositionRow) : Type 0 where
+  pub limit : ltb 10000 (groups_in (n + 1) x.position) ≡ false
+  pub known : is_some (airport_place x.airports row.airport) ≡ true
+
+pub record TariffPasses (rows : List TariffRow) (n : ℕ) (row : TariffRow) : Type 0 where
+  pub limit : leb 1000 n ≡ false
+  pub new : list_any (λ before. same_key before row) (take n rows) ≡ false
 
 flight_passes : (flights : List FlightRow) (n : ℕ) (row : FlightRow) → flight_cause flights n row ≡ None → FlightPasses flights n row
 unfolding flight_cause
@@ -92,6 +121,36 @@ airport_passes airports n row e =
     let new = passed _ _ _ limit.1 in
     record { limit = limit.0; new = new.0 }
 
+itinerary_passes : (x : Files) (n : ℕ) (row : ItineraryRow) → itinerary_cause x n row ≡ None → ItineraryPasses x n row
+unfolding itinerary_cause
+itinerary_passes x n row e =
+    let limit = passed _ _ _ e in
+    let new = passed _ _ _ limit.1 in
+    let within = or_parts (leb 100000 n) (ltb 1000 row.count || ltb 8 (length row.legs)) limit.0 in
+    let small = or_parts (ltb 1000 row.count) (ltb 8 (length row.legs)) within.1 in
+    record { limit = within.0; count = small.0; short = small.1; new = new.0; known = held _ _ new.1 }
+
+position_passes : (x : Files) (n : ℕ) (row : PositionRow) → position_cause x n row ≡ None → PositionPasses x n row
+unfolding position_cause
+position_passes x n row e =
+    let limit = passed _ _ _ e in
+    record { limit = limit.0; known = held _ _ limit.1 }
+
+pub tariff_passes : (rows : List TariffRow) (n : ℕ) (row : TariffRow) → tariff_cause rows n row ≡ None → TariffPasses rows n row
+unfolding tariff_cause
+tariff_passes rows n row e =
+    let limit = passed _ _ _ e in
+    let new = passed _ _ _ limit.1 in
+    record { limit = limit.0; new = new.0 }
+
+-- all groups are within the limit where those up to each row are
+few_groups : (rows : List PositionRow) → ((k : ℕ) (d : PositionRow) → k < length rows → ltb 10000 (groups_in (k + 1) rows) ≡ false) → sum_by (λ row. length row.groups) rows ≤ 10000
+few_groups [] each = omega arith
+few_groups (row ∷ rows) each =
+    let all : List PositionRow = row ∷ rows in
+    let last : groups_in (length rows + 1) all ≤ 10000 = ltb-false 10000 (groups_in (length rows + 1) all) (each (length rows) row (omega arith)) in
+    subst (λ (front : List PositionRow). sum_by (λ row. length row.groups) front ≤ 10000) (take_all (length rows + 1) all (omega arith)) last
+
 module _ (x : Files) (e : refusal_of x ≡ None) where
   pub each_flight : (k : ℕ) (d : FlightRow) → k < length x.flights → FlightPasses x.flights k (get_or x.flights k d)
   each_flight k d below = flight_passes x.flights k (get_or x.flights k d) (none_refused (flight_cause x.flights) (λ row. row.line) x.flights (none_refused_in x e).flights k d below)
@@ -105,6 +164,15 @@ module _ (x : Files) (e : refusal_of x ≡ None) where
   pub each_airport : (k : ℕ) (d : AirportRow) → k < length x.airports → AirportPasses x.airports k (get_or x.airports k d)
   each_airport k d below = airport_passes x.airports k (get_or x.airports k d) (none_refused (airport_cause x.airports) (λ row. row.line) x.airports (none_refused_in x e).airports k d below)
 
+  pub each_itinerary : (k : ℕ) (d : ItineraryRow) → k < length x.itineraries → ItineraryPasses x k (get_or x.itineraries k d)
+  each_itinerary k d below = itinerary_passes x k (get_or x.itineraries k d) (none_refused (itinerary_cause x) (λ row. row.line) x.itineraries (none_refused_in x e).itineraries k d below)
+
+  pub each_position : (k : ℕ) (d : PositionRow) → k < length x.position → PositionPasses x k (get_or x.position k d)
+  each_position k d below = position_passes x k (get_or x.position k d) (none_refused (position_cause x) (λ row. row.line) x.position (none_refused_in x e).position k d below)
+
+  pub each_tariff : (k : ℕ) (d : TariffRow) → k < length x.tariff.rows → TariffPasses x.tariff.rows k (get_or x.tariff.rows k d)
+  each_tariff k d below = tariff_passes x.tariff.rows k (get_or x.tariff.rows k d) (none_refused_at (tariff_cause x.tariff.rows) (λ n row. n + 1) x.tariff.rows (none_refused_in x e).tariff k d below)
+
   -- no file has more rows than its limit
   pub few_flights : length x.flights ≤ 20000
   few_flights = few_rows 20000 x.flights (λ k d below. (each_flight k d below).limit)
@@ -117,3 +185,12 @@ module _ (x : Files) (e : refusal_of x ≡ None) where
 
   pub few_airports : length x.airports ≤ 500
   few_airports = few_rows 500 x.airports (λ k d below. (each_airport k d below).limit)
+
+  pub few_itineraries : length x.itineraries ≤ 100000
+  few_itineraries = few_rows 100000 x.itineraries (λ k d below. (each_itinerary k d below).limit)
+
+  pub few_wanted : sum_by (λ row. length row.groups) x.position ≤ 10000
+  few_wanted = few_groups x.position (λ k d below. (each_position k d below).limit)
+
+  pub few_tariff : length x.tariff.rows ≤ 1000
+  few_tariff = few_rows 1000 x.tariff.rows (λ k d below. (each_tariff k d below).limit)

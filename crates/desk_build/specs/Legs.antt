@@ -1,5 +1,5 @@
 -- The legs of the rotations, one a row, and the leg before each.
-use Rattle.std.specs.Prelude.{ℕ, ◌+◌, ◌-◌, ◌*◌, Bool, not, ◌&&◌, ◌||◌, List, position, Option, Some, None, option_map, unwrap_or, bytes_eq, nat_le}
+use Rattle.std.specs.Prelude.{ℕ, ◌+◌, ◌-◌, ◌*◌, Bool, not, ◌&&◌, ◌||◌, List, position, Option, option_map, unwrap_or, bytes_eq, nat_le}
 use Rattle.std.specs.List.{list_all}
 use Rattle.std.specs.Option.{option_map_or}
 use Rattle.desk_text.specs.Fields.{◌>>=◌}
@@ -14,7 +14,7 @@ use Rattle.read_legs.specs.declared.rows.RotationRow.{RotationRow}
 use Rattle.read_net.specs.declared.rows.AirportRow.{AirportRow}
 use Rattle.read_net.specs.declared.rows.DistRow.{DistRow}
 use Rattle.desk_build.specs.declared.files.Files.{Files}
-use Rattle.desk_build.specs.Names.{flight_named, airport_place, aircraft_place, distance_between}
+use Rattle.desk_build.specs.Names.{flight_named, rotation_place, airport_place, aircraft_place, distance_between}
 use Rattle.desk_build.specs.Refusals.{departure_on}
 
 -- the scheduled arrival of a flight on a day
@@ -53,6 +53,9 @@ haul_of distance = option_map_or (λ row. row.haul) distance D
 
 abbrev pub leg_number : ℕ → Leg
 leg_number place = record { 0 = place }
+
+abbrev pub leg_at : List RotationRow → List ℕ → ℕ → Leg
+leg_at rotations flight day = leg_number (unwrap_or (rotation_place rotations flight day) 0)
 
 -- the leg of a rotation of this flight
 unfoldable pub leg_by : Files → RotationRow → FlightRow → LegInfo

@@ -6,3 +6,4 @@ pub mod Legs
 pub mod Joined
 pub mod Facts
 pub mod Numbered
+pub mod Told

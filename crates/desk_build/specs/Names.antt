@@ -1,7 +1,8 @@
 -- What the rows of the files name. A name stands for the first row that has it.
-use Rattle.std.specs.Prelude.{ℕ, List, Bool, ◌&&◌, find, position, Option, bytes_eq}
+use Rattle.std.specs.Prelude.{ℕ, List, Bool, ◌&&◌, ◌==◌, find, position, Option, bytes_eq}
 use Rattle.std.specs.Option.{option_or}
 use Rattle.read_legs.specs.declared.rows.FlightRow.{FlightRow}
+use Rattle.read_legs.specs.declared.rows.RotationRow.{RotationRow}
 use Rattle.read_fleet.specs.declared.aircraft.AircraftRow.{AircraftRow}
 use Rattle.read_net.specs.declared.rows.AirportRow.{AirportRow}
 use Rattle.read_net.specs.declared.rows.DistRow.{DistRow}
@@ -9,6 +10,10 @@ use Rattle.read_net.specs.declared.rows.DistRow.{DistRow}
 -- the flight of this name
 abbrev pub flight_named : List FlightRow → List ℕ → Option FlightRow
 flight_named flights name = find (λ f. bytes_eq name f.flight) flights
+
+-- the place of the rotation of a flight on a day, counted from 0
+abbrev pub rotation_place : List RotationRow → List ℕ → ℕ → Option ℕ
+rotation_place rotations flight day = position (λ row. bytes_eq flight row.flight && (day == row.day)) rotations
 
 -- the place of an airport and of an aircraft, counted from 0
 abbrev pub airport_place : List AirportRow → List ℕ → Option ℕ

@@ -1,6 +1,6 @@
 -- Why rows are not joined: the first refusal in the order of the files, then of their lines, then of the causes.
 use Rattle.std.specs.Prelude.{ℕ, ◌+◌, ◌*◌, Bool, true, false, not, ◌&&◌, ◌||◌, List, [], ◌∷◌, length, take, sum_by, Option, Some, None, is_some, option_map, bytes_eq, nat_lt, nat_le, ◌==◌, if◌then◌else◌}
-use Rattle.std.specs.List.{list_any}
+use Rattle.std.specs.List.{list_any, list_all}
 use Rattle.std.specs.Option.{option_map_or, option_or}
 use Rattle.desk_folder.specs.declared.files.File.{File}
 use Rattle.desk_folder.specs.declared.files.File.TheVariants as file
@@ -14,20 +14,24 @@ use Rattle.read_legs.specs.declared.rows.RotationRow.{RotationRow}
 use Rattle.read_fleet.specs.declared.maintenance.MaintRow.{MaintRow}
 use Rattle.read_fleet.specs.declared.aircraft.AircraftRow.{AircraftRow}
 use Rattle.read_fleet.specs.declared.position.PositionRow.{PositionRow}
+use Rattle.read_pax.specs.declared.rows.ItineraryRow.{ItineraryRow}
+use Rattle.desk_units.specs.declared.tariff.TariffRow.{TariffRow}
+use Rattle.tariff_prices.specs.Rows.{same_key}
+use Rattle.desk_build.specs.Keys.{type_number}
 use Rattle.desk_build.specs.declared.files.Files.{Files}
-use Rattle.desk_build.specs.Names.{flight_named, airport_place, aircraft_place, distance_between}
+use Rattle.desk_build.specs.Names.{flight_named, rotation_place, airport_place, aircraft_place, distance_between}
 
 -- a cause at a line of a file
 abbrev pub Refusal : Type 0
 Refusal = File × ℕ × Cause
 
--- the first row that has a cause, by its line; the cause may hang on how many rows stand before it
-unfoldable pub refused_from : {Row : Type 0} → (ℕ → Row → Option Cause) → (Row → ℕ) → ℕ → List Row → Option (ℕ × Cause)
+-- the first row that has a cause, by its line; the cause and the line may hang on how many rows stand before it
+unfoldable pub refused_from : {Row : Type 0} → (ℕ → Row → Option Cause) → (ℕ → Row → ℕ) → ℕ → List Row → Option (ℕ × Cause)
 refused_from cause line n [] = None
-refused_from cause line n (row ∷ rows) = option_map_or (λ why. Some (line row, why)) (cause n row) (refused_from cause line (n + 1) rows)
+refused_from cause line n (row ∷ rows) = option_map_or (λ why. Some (line n row, why)) (cause n row) (refused_from cause line (n + 1) rows)
 
 abbrev pub first_refused : {Row : Type 0} → (ℕ → Row → Option Cause) → (Row → ℕ) → List Row → Option (ℕ × Cause)
-first_refused cause line rows = refused_from cause line 0 rows
+first_refused cause line rows = refused_from cause (λ n row. line row) 0 rows
 
 -- config.csv: the window ends after its start
 abbrev pub window_refused : Window → Option (ℕ × Cause)
@@ -108,6 +112,22 @@ airport_cause airports n row =
 unfoldable pub dist_cause : ℕ → DistRow → Option Cause
 dist_cause n row = if nat_le 250000 n then Some Limit else None
 
+-- whether two rows are of one reservation: of one name and one type
+abbrev pub is_same_reservation : ItineraryRow → ItineraryRow → Bool
+is_same_reservation a b = bytes_eq a.name b.name && (type_number a.inbound == type_number b.inbound)
+
+-- whether there is a rotation of each leg
+abbrev pub has_known_legs : List RotationRow → ItineraryRow → Bool
+has_known_legs rotations row = list_all (λ leg. is_some (rotation_place rotations leg.flight leg.day)) row.legs
+
+-- itineraries.csv
+unfoldable pub itinerary_cause : Files → ℕ → ItineraryRow → Option Cause
+itinerary_cause x n row =
+    if nat_le 100000 n || (nat_lt 1000 row.count || nat_lt 8 (length row.legs)) then Some Limit
+    else (if list_any (is_same_reservation row) (take n x.itineraries) then Some Twice
+    else (if has_known_legs x.rotations row then None
+    else Some Unknown))
+
 -- how many groups the first n rows of position.csv have
 abbrev pub groups_in : ℕ → List PositionRow → ℕ
 groups_in n rows = sum_by (λ row. length row.groups) (take n rows)
@@ -119,17 +139,38 @@ position_cause x n row =
     else (if is_some (airport_place x.airports row.airport) then None
     else Some Unknown)
 
+-- tariff.csv: no two rows say the same
+unfoldable pub tariff_cause : List TariffRow → ℕ → TariffRow → Option Cause
+tariff_cause rows n row =
+    if nat_le 1000 n then Some Limit
+    else (if list_any (λ before. same_key before row) (take n rows) then Some Twice
+    else None)
+
+-- the first row of the tariff that has a cause; the rows' lines count from 1
+abbrev pub tariff_refused : List TariffRow → Option (ℕ × Cause)
+tariff_refused rows = refused_from (tariff_cause rows) (λ n row. n + 1) 0 rows
+
 -- a refusal in this file
 abbrev pub in_file : File → Option (ℕ × Cause) → Option Refusal
 in_file f refused = option_map (λ r. (f, r.0, r.1)) refused
 
--- the first refusal of the rows of all files, if there is one
-unfoldable pub refusal_of : Files → Option Refusal
-refusal_of x =
+-- the first refusal of the schedule: the window, flights and rotations, aircraft, airports and distances
+unfoldable pub refusal_of_schedule : Files → Option Refusal
+refusal_of_schedule x =
     option_or (in_file file.Config (window_refused x.config))
     (option_or (in_file file.Flights (first_refused (flight_cause x.flights) (λ row. row.line) x.flights))
     (option_or (in_file file.Rotations (first_refused (rotation_cause x) (λ row. row.line) x.rotations))
     (option_or (in_file file.Aircraft (first_refused (aircraft_cause x) (λ row. row.line) x.aircraft))
     (option_or (in_file file.Airports (first_refused (airport_cause x.airports) (λ row. row.line) x.airports))
-    (option_or (in_file file.Dist (first_refused dist_cause (λ row. row.line) x.dist))
-    (in_file file.Position (first_refused (position_cause x) (λ row. row.line) x.position)))))))
+    (in_file file.Dist (first_refused dist_cause (λ row. row.line) x.dist))))))
+
+-- and of what is asked of it: itineraries, positions and the tariff
+unfoldable pub refusal_of_demand : Files → Option Refusal
+refusal_of_demand x =
+    option_or (in_file file.Itineraries (first_refused (itinerary_cause x) (λ row. row.line) x.itineraries))
+    (option_or (in_file file.Position (first_refused (position_cause x) (λ row. row.line) x.position))
+    (in_file file.Tariff (tariff_refused x.tariff.rows)))
+
+-- the first refusal of the rows of all files, if there is one
+unfoldable pub refusal_of : Files → Option Refusal
+refusal_of x = option_or (refusal_of_schedule x) (refusal_of_demand x)

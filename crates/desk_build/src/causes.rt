@@ -30,7 +30,7 @@ const MOST_DISTANCES: usize = 250_000;
 const LATEST: u64 = 52_480_000;
 
 /// Whether the first row with a name or a key stands before this place.
-fn is_before(first: Option<usize>, place: usize) -> bool
+pub(crate) fn is_before(first: Option<usize>, place: usize) -> bool
     ensures { result ≡ option_map_or (λ k. nat_lt k place) first false }
 {
     first.is_some_and(|first| first < place)

@@ -1,6 +1,7 @@
 //! Why rows are not joined.
 
-ghost use Rattle.std.specs.Prelude.{◌≡◌};
+ghost use Rattle.std.specs.Prelude.{◌≡◌, Some};
+ghost use Rattle.desk_build.specs.Told.{fault_text};
 ghost use Rattle.desk_build.specs.declared.fault.BuildFault.TheVariants.{Memory};
 
 use desk_folder::File;
@@ -21,13 +22,15 @@ pub enum BuildFault {
 }
 
 impl fmt::Display for BuildFault {
+    ghost output = { λ fault. Some (fault_text fault) };
+
     fn fmt<W: fmt::Write>(&self, f: &mut fmt::Formatter<W>) -> fmt::Result {
         match self {
             BuildFault::Refused { file, line, cause } => {
                 let name = file.name();
                 write!(f, "line {line} of {name} is refused: {cause}")
             }
-            BuildFault::Memory => write!(f, "out of memory"),
+            BuildFault::Memory => f.write_str("out of memory"),
         }
     }
 }

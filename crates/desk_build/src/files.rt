@@ -1,9 +1,10 @@
 //! The rows of the input files.
 
-use desk_units::List;
+use desk_units::{List, Tariff};
 use read_fleet::{AircraftRow, PositionRow};
 use read_legs::{FlightRow, RotationRow};
 use read_net::{AirportRow, DistRow, Window};
+use read_pax::ItineraryRow;
 
 /// The rows of the input files, each list in the order of its file's lines.
 #[derive(Debug, Drop)]
@@ -20,6 +21,10 @@ pub struct Files {
     pub airports: List<AirportRow>,
     /// Of dist.csv, at most 250,000.
     pub dist: List<DistRow>,
+    /// Of itineraries.csv, at most 100,000.
+    pub itineraries: List<ItineraryRow>,
     /// Of position.csv, with at most 10,000 groups in all.
     pub position: List<PositionRow>,
+    /// Of tariff.csv, at most 1,000 rows.
+    pub tariff: Tariff,
 }

@@ -4,7 +4,7 @@ ghost use Rattle.std.specs.Prelude.{◌≡◌, ◌<◌, length, All, IsSome, IfS
 ghost use Rattle.read_legs.specs.Facts.{IsFlight, IsRotation};
 ghost use Rattle.desk_build.specs.Names.{flight_named, aircraft_place};
 ghost use Rattle.desk_build.specs.Numbered.{CanBeNumbered};
-ghost use Rattle.desk_build.specs.Legs.{last_in_time, previous_place, airport_of, leg_number, minutes_of, haul_of, leg_by, leg_of};
+ghost use Rattle.desk_build.specs.Legs.{last_in_time, previous_place, airport_of, leg_number, leg_at, minutes_of, haul_of, leg_by, leg_of};
 
 use crate::tables::Tables;
 use desk_data::LegInfo;
@@ -19,6 +19,15 @@ pub(crate) fn airport_of(tables: &Tables<'_>, name: &Name) -> Airport
 {
     let place = tables.airport_place(name).unwrap_or(0);
     Airport(place as u32)
+}
+
+/// The number of the leg of a flight on a day: the place of its rotation, or 0 where there is none.
+pub(crate) fn leg_at(tables: &Tables<'_>, flight: &Name, day: u32) -> Leg
+    requires { CanBeNumbered tables.now.files.now }
+    ensures { result ≡ leg_at tables.now.files.now.rotations flight.now day }
+{
+    let place = tables.rotation_place(flight, day).unwrap_or(0);
+    Leg(place as u32)
 }
 
 /// The place of the rotation of a flight that arrives last by this minute, and at most 1,440 minutes

@@ -5,14 +5,18 @@ mod causes;
 mod fault;
 mod files;
 mod first;
+mod itineraries;
 mod joining;
 mod legs;
 mod parts;
+mod passengers;
 mod places;
 mod positions;
 mod refusals;
 mod rows;
 mod tables;
+mod tariff;
+mod wanted;
 
 pub use desk_data::Instance;
 pub use desk_folder::File;

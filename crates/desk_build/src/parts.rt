@@ -1,4 +1,4 @@
-//! The rows of the day: airports, aircraft, legs and the window.
+//! The rows of the day: airports, aircraft and legs, and those that other modules make.
 
 ghost use Rattle.std.specs.Prelude.{◌≡◌, map, IfOk, option_map};
 ghost use Rattle.desk_build.specs.Facts.{AreFileRows};
@@ -7,7 +7,10 @@ ghost use Rattle.desk_build.specs.Legs.{leg_of};
 ghost use Rattle.desk_build.specs.Joined.{cap_info, airport_info, maint_info, plane_info, parts_of};
 
 use crate::legs::{airport_of, leg_of};
+use crate::passengers::reservations;
 use crate::tables::Tables;
+use crate::tariff::is_surface;
+use crate::wanted::positions;
 use desk_data::{AirportInfo, Cap, LegInfo, Maint, Parts, PlaneInfo};
 use desk_units::{List, NoMem, Tariff};
 use read_fleet::{AircraftRow, MaintRow};
@@ -82,7 +85,7 @@ fn maint_of(tables: &Tables<'_>, row: &AircraftRow) -> Option<Maint>
 #[tactic(auto, unfolding(crate::specs::Joined::plane_info))]
 fn plane_info(tables: &Tables<'_>, row: &AircraftRow) -> PlaneInfo
     requires { CanBeNumbered tables.now.files.now }
-    ensures { result ≡ plane_info tables.now.files.now.airports row.now }
+    ensures { result ≡ plane_info tables.now.files.now row.now }
 {
     PlaneInfo {
         name: row.name,
@@ -95,14 +98,14 @@ fn plane_info(tables: &Tables<'_>, row: &AircraftRow) -> PlaneInfo
         transit: row.transit,
         origin: airport_of(tables, &row.origin),
         maint: maint_of(tables, row),
-        surface: false,
+        surface: is_surface(tables.files.tariff.rows.as_slice(), &row.family),
     }
 }
 
 /// The aircraft, in the order of their lines.
 fn planes(alloc: Global, tables: &Tables<'_>) -> Result<Vec<PlaneInfo>, NoMem>
     requires { CanBeNumbered tables.now.files.now }
-    ensures { IfOk result (λ planes. planes.items ≡ map (plane_info tables.now.files.now.airports) tables.now.files.now.aircraft) }
+    ensures { IfOk result (λ planes. planes.items ≡ map (plane_info tables.now.files.now) tables.now.files.now.aircraft) }
 {
     let rows = tables.files.aircraft.as_slice();
     let planes = rows
@@ -138,14 +141,17 @@ pub(crate) fn parts(alloc: Global, tables: &Tables<'_>) -> Result<Parts, NoMem>
     let airports = airports(alloc, tables.files.airports.as_slice())?;
     let planes = planes(alloc, tables)?;
     let legs = legs(alloc, tables)?;
+    let res = reservations(alloc, tables)?;
+    let positions = positions(alloc, tables)?;
+    let tariff = Vec::from_slice(alloc, tables.files.tariff.rows.as_slice())?;
     Ok(Parts {
         airports: List(airports),
         planes: List(planes),
         legs: List(legs),
-        res: List(Vec::new(alloc)),
+        res: List(res),
         from: tables.files.config.from,
         to: tables.files.config.to,
-        positions: List(Vec::new(alloc)),
-        tariff: Tariff {},
+        positions: List(positions),
+        tariff: Tariff { rows: List(tariff) },
     })
 }

@@ -8,7 +8,7 @@ use desk_units::NoMem;
 use indexmap::IndexMap;
 use std::alloc::Global;
 
-/// What a row is found by: a name, two names, or a name and a day. What is not used is empty, or 0.
+/// What a row is found by: a name, two names, or a name and a number. What is not used is empty, or 0.
 pub(crate) type Key<'a> = (&'a [u8], &'a [u8], u32);
 
 /// A row that is found by a key.

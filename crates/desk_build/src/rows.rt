@@ -1,12 +1,14 @@
 //! What the rows of the files are found by, and their lines.
 
 ghost use Rattle.std.specs.Prelude.{[]};
+ghost use Rattle.desk_build.specs.Keys.{type_number};
 
 use crate::first::Lined;
 use crate::places::{Key, Keyed};
 use read_fleet::{AircraftRow, PositionRow};
 use read_legs::{FlightRow, RotationRow};
 use read_net::{AirportRow, DistRow};
+use read_pax::ItineraryRow;
 
 impl Keyed for FlightRow {
     ghost key_of = { λ row. (row.flight, [], 0) };
@@ -48,6 +50,14 @@ impl Keyed for DistRow {
     }
 }
 
+impl Keyed for ItineraryRow {
+    ghost key_of = { λ row. (row.name, [], type_number row.inbound) };
+
+    fn key(&self) -> Key<'_> {
+        (self.name.as_slice(), &[], u32::from(self.inbound))
+    }
+}
+
 impl Lined for FlightRow {
     ghost line_of = { λ row. row.line };
 
@@ -81,6 +91,14 @@ impl Lined for AirportRow {
 }
 
 impl Lined for DistRow {
+    ghost line_of = { λ row. row.line };
+
+    fn line(&self) -> u32 {
+        self.line
+    }
+}
+
+impl Lined for ItineraryRow {
     ghost line_of = { λ row. row.line };
 
     fn line(&self) -> u32 {

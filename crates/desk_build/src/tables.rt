@@ -1,9 +1,9 @@
 //! The rows of the files, found by their names.
 
 ghost use Rattle.std.specs.Prelude.{◌≡◌, [], IfOk, option_map, find, position, ◌==◌, ◌&&◌, bytes_eq};
-ghost use Rattle.desk_build.specs.Keys.{Key as RowKey, key_place};
+ghost use Rattle.desk_build.specs.Keys.{Key as RowKey, key_place, type_number};
 ghost use Rattle.desk_build.specs.Found.{place_in};
-ghost use Rattle.desk_build.specs.Names.{flight_named, airport_place, aircraft_place, is_between, distance_between};
+ghost use Rattle.desk_build.specs.Names.{flight_named, rotation_place, airport_place, aircraft_place, is_between, distance_between};
 
 use crate::files::Files;
 use crate::places::{Places, places_of};
@@ -21,11 +21,13 @@ pub(crate) struct Tables<'a> {
     aircraft: Places<'a>,
     airports: Places<'a>,
     dist: Places<'a>,
+    itineraries: Places<'a>,
     ghost flights_placed: { (key : RowKey) → place_in flights key ≡ key_place (λ row. (row.flight, [], 0)) files.now.flights key },
     ghost rotations_placed: { (key : RowKey) → place_in rotations key ≡ key_place (λ row. (row.flight, [], row.day)) files.now.rotations key },
     ghost aircraft_placed: { (key : RowKey) → place_in aircraft key ≡ key_place (λ row. (row.name, [], 0)) files.now.aircraft key },
     ghost airports_placed: { (key : RowKey) → place_in airports key ≡ key_place (λ row. (row.airport, [], 0)) files.now.airports key },
     ghost dist_placed: { (key : RowKey) → place_in dist key ≡ key_place (λ row. (row.origin, row.dest, 0)) files.now.dist key },
+    ghost itineraries_placed: { (key : RowKey) → place_in itineraries key ≡ key_place (λ row. (row.name, [], type_number row.inbound)) files.now.itineraries key },
 }
 
 impl<'a> Tables<'a> {
@@ -37,6 +39,7 @@ impl<'a> Tables<'a> {
         let aircraft = places_of(alloc, files.aircraft.as_slice())?;
         let airports = places_of(alloc, files.airports.as_slice())?;
         let dist = places_of(alloc, files.dist.as_slice())?;
+        let itineraries = places_of(alloc, files.itineraries.as_slice())?;
         Ok(Tables {
             files,
             flights,
@@ -44,6 +47,7 @@ impl<'a> Tables<'a> {
             aircraft,
             airports,
             dist,
+            itineraries,
         })
     }
 
@@ -64,7 +68,7 @@ impl<'a> Tables<'a> {
 
     /// The place of the rotation of a flight on a day.
     pub(crate) fn rotation_place(&self, flight: &Name, day: u32) -> Option<usize>
-        ensures { result ≡ position (λ row. bytes_eq flight.now row.flight && (day == row.day)) self.now.files.now.rotations }
+        ensures { result ≡ rotation_place self.now.files.now.rotations flight.now day }
     {
         self.rotations.place_of((flight.as_slice(), &[], day))
     }
@@ -81,6 +85,14 @@ impl<'a> Tables<'a> {
         ensures { result ≡ airport_place self.now.files.now.airports name.now }
     {
         self.airports.place_of((name.as_slice(), &[], 0))
+    }
+
+    /// The place of the first row of a reservation, by its name and its type.
+    pub(crate) fn itinerary_place(&self, name: &Name, inbound: bool) -> Option<usize>
+        ensures { result ≡ position (λ row. bytes_eq name.now row.name && (type_number inbound == type_number row.inbound)) self.now.files.now.itineraries }
+    {
+        let number = u32::from(inbound);
+        self.itineraries.place_of((name.as_slice(), &[], number))
     }
 
     /// The place of the first row from the one airport to the other.
