@@ -247,7 +247,9 @@ are_read_from before mid now same h = record {
   aircraft = read_on (before.left file.Aircraft) (mid.left file.Aircraft) (now.left file.Aircraft) (same file.Aircraft) h.aircraft;
   airports = read_on (before.left file.Airports) (mid.left file.Airports) (now.left file.Airports) (same file.Airports) h.airports;
   dist = read_on (before.left file.Dist) (mid.left file.Dist) (now.left file.Dist) (same file.Dist) h.dist;
+  itineraries = read_on (before.left file.Itineraries) (mid.left file.Itineraries) (now.left file.Itineraries) (same file.Itineraries) h.itineraries;
   position = read_on (before.left file.Position) (mid.left file.Position) (now.left file.Position) (same file.Position) h.position;
+  tariff = read_on (before.left file.Tariff) (mid.left file.Tariff) (now.left file.Tariff) (same file.Tariff) h.tariff;
   journal = read_on (before.left file.Journal) (mid.left file.Journal) (now.left file.Journal) (same file.Journal) h.journal;
 }
 
@@ -298,7 +300,9 @@ tells_after before placed x same h = record {
   aircraft = same file.Aircraft ∙ h.aircraft;
   airports = same file.Airports ∙ h.airports;
   dist = same file.Dist ∙ h.dist;
+  itineraries = same file.Itineraries ∙ h.itineraries;
   position = same file.Position ∙ h.position;
+  tariff = same file.Tariff ∙ h.tariff;
   journal = same file.Journal ∙ h.journal;
 }
 
@@ -317,7 +321,9 @@ prepared dirs before placed mid s ok names only reads read story = record {
     aircraft = read_before before placed file.Aircraft (mid.left file.Aircraft) (only.left file.Aircraft) read.aircraft;
     airports = read_before before placed file.Airports (mid.left file.Airports) (only.left file.Airports) read.airports;
     dist = read_before before placed file.Dist (mid.left file.Dist) (only.left file.Dist) read.dist;
+    itineraries = read_before before placed file.Itineraries (mid.left file.Itineraries) (only.left file.Itineraries) read.itineraries;
     position = read_before before placed file.Position (mid.left file.Position) (only.left file.Position) read.position;
+    tariff = read_before before placed file.Tariff (mid.left file.Tariff) (only.left file.Tariff) read.tariff;
     journal = read_before before placed file.Journal (mid.left file.Journal) (only.left file.Journal) read.journal;
   };
   story = λ x tells. story x (tells_after before placed x only.left tells);

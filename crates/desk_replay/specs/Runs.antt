@@ -36,7 +36,9 @@ pub record Tells (outside : Outside) (x : Inputs) : Type 0 where
   pub aircraft : outside.left file.Aircraft ≡ Some x.aircraft
   pub airports : outside.left file.Airports ≡ Some x.airports
   pub dist : outside.left file.Dist ≡ Some x.dist
+  pub itineraries : outside.left file.Itineraries ≡ Some x.itineraries
   pub position : outside.left file.Position ≡ Some x.position
+  pub tariff : outside.left file.Tariff ≡ Some x.tariff
   pub journal : outside.left file.Journal ≡ Some x.journal
 
 -- the file that has been read to its end
@@ -135,7 +137,9 @@ pub record AreRead (before now : Outside) : Type 0 where
   pub aircraft : IsRead before now file.Aircraft
   pub airports : IsRead before now file.Airports
   pub dist : IsRead before now file.Dist
+  pub itineraries : IsRead before now file.Itineraries
   pub position : IsRead before now file.Position
+  pub tariff : IsRead before now file.Tariff
   pub journal : IsRead before now file.Journal
 
 abbrev pub IsReadWhole : World → World → Ending → Type 0

@@ -13,6 +13,10 @@ use Rattle.read_net.specs.declared.rows.DistRow.{DistRow}
 use Rattle.read_net.specs.Config.{config_of}
 use Rattle.read_net.specs.Airports.{airport_row}
 use Rattle.read_net.specs.Dist.{dist_row}
+use Rattle.read_pax.specs.declared.rows.ItineraryRow.{ItineraryRow}
+use Rattle.read_pax.specs.Itineraries.{itinerary_row}
+use Rattle.read_tariff.specs.Tariff.{tariff_rows}
+use Rattle.desk_units.specs.declared.tariff.TariffRow.{TariffRow}
 use Rattle.read_legs.specs.declared.rows.FlightRow.{FlightRow}
 use Rattle.read_legs.specs.declared.rows.RotationRow.{RotationRow}
 use Rattle.read_legs.specs.Flights.{flight_row}
@@ -51,7 +55,9 @@ pub record Inputs : Type 0 where
   pub aircraft : List ℕ
   pub airports : List ℕ
   pub dist : List ℕ
+  pub itineraries : List ℕ
   pub position : List ℕ
+  pub tariff : List ℕ
   pub journal : List ℕ
 
 -- the rows of the window, the schedule and the aircraft
@@ -61,11 +67,13 @@ pub record ScheduleRows : Type 0 where
   pub rotations : List RotationRow
   pub aircraft : List AircraftRow
 
--- the rows of the network and the positions
+-- the rows of the network, the passengers, the positions and the prices
 pub record NetworkRows : Type 0 where
   pub airports : List AirportRow
   pub dist : List DistRow
+  pub itineraries : List ItineraryRow
   pub position : List PositionRow
+  pub tariff : List TariffRow
 
 -- the rows of the input files
 pub record Rows : Type 0 where
@@ -85,8 +93,10 @@ unfoldable pub network_rows : Inputs → Result NetworkRows Refusal
 network_rows x = do
   airports ← or_refused (in_file file.Airports) (text_rows 67108864 airport_row x.airports)
   dist ← or_refused (in_file file.Dist) (text_rows 67108864 dist_row x.dist)
+  itineraries ← or_refused (in_file file.Itineraries) (text_rows 67108864 itinerary_row x.itineraries)
   position ← or_refused (in_file file.Position) (text_rows 67108864 position_row x.position)
-  Ok (record { airports = airports; dist = dist; position = position })
+  tariff ← or_refused (in_file file.Tariff) (tariff_rows x.tariff)
+  Ok (record { airports = airports; dist = dist; itineraries = itineraries; position = position; tariff = tariff })
 
 -- the most bytes of the journal
 abbrev pub journal_limit : ℕ
@@ -108,7 +118,9 @@ files_of schedule network = record {
   aircraft = schedule.aircraft;
   airports = network.airports;
   dist = network.dist;
+  itineraries = network.itineraries;
   position = network.position;
+  tariff = record { rows = network.tariff };
 }
 
 -- the rows of all files, or the first refusal: each file is decided before the next one is looked at, the journal last

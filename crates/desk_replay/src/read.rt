@@ -13,6 +13,10 @@ ghost use Rattle.read_legs.specs.Facts.{IsFlight, IsRotation};
 ghost use Rattle.read_fleet.specs.Aircraft.{aircraft_row};
 ghost use Rattle.read_fleet.specs.Position.{position_row};
 ghost use Rattle.read_fleet.specs.Facts.{IsAircraft, IsPosition};
+ghost use Rattle.read_pax.specs.Itineraries.{itinerary_row};
+ghost use Rattle.read_pax.specs.Facts.{IsItinerary};
+ghost use Rattle.read_tariff.specs.Tariff.{tariff_rows};
+ghost use Rattle.tariff_prices.specs.Rows.{IsTariffRow};
 ghost use Rattle.early_form.specs.Facts.{AreProposals};
 ghost use Rattle.desk_replay.specs.Story.{or_refused, in_file, journal_rows};
 ghost use Rattle.desk_replay.specs.Reading.{ReadsRows};
@@ -21,12 +25,14 @@ ghost use Rattle.desk_replay.specs.ReadEnds.{end_of, row_end, form_end};
 use crate::ending::{Cause, Ending, Refusal};
 use desk_folder::{File, Folder};
 use desk_text::{Cause as RowCause, ReadFault};
-use desk_units::List;
+use desk_units::{List, Tariff};
 use early_form::{FormFault, JournalRow, read_journal};
 use folder_io::{ReadEnd, read_file};
 use read_fleet::{AircraftRow, PositionRow, read_aircraft, read_position};
 use read_legs::{FlightRow, RotationRow, read_flights, read_rotations};
 use read_net::{AirportRow, DistRow, Window, read_airports, read_config, read_dist};
+use read_pax::{ItineraryRow, read_itineraries};
+use read_tariff::read_tariff;
 use std::alloc::Global;
 
 /// The most bytes of a text file.
@@ -204,6 +210,41 @@ pub(crate) fn position_rows<F: Folder>(
     match read_position(alloc, bytes.as_slice()) {
         Ok(rows) => Ok(List(rows)),
         Err(fault) => Err(row_end(File::Position, fault)),
+    }
+}
+
+#[tactic(auto, unfolding(desk_text::specs::Rows::text_rows))]
+pub(crate) fn itinerary_rows<F: Folder>(
+    alloc: Global,
+    folder: &mut F,
+) -> Result<List<ItineraryRow>, Ending>
+    ensures reads { ReadsRows (F.outside folder.old) (F.outside folder.new) file.Itineraries
+        (λ bytes. or_refused (in_file file.Itineraries) (text_rows 67108864 itinerary_row bytes)) (λ rows. rows) result }
+    ensures rows { IfOk result (λ rows. All IsItinerary rows) }
+{
+    let bytes = match read_file(alloc, folder, File::Itineraries, TEXT_LIMIT) {
+        Ok(bytes) => bytes,
+        Err(end) => return Err(end_of(File::Itineraries, TOO_LONG, end)),
+    };
+    match read_itineraries(alloc, bytes.as_slice()) {
+        Ok(rows) => Ok(List(rows)),
+        Err(fault) => Err(row_end(File::Itineraries, fault)),
+    }
+}
+
+#[tactic(auto, unfolding(read_tariff::specs::Tariff::tariff_rows))]
+pub(crate) fn tariff<F: Folder>(alloc: Global, folder: &mut F) -> Result<Tariff, Ending>
+    ensures reads { ReadsRows (F.outside folder.old) (F.outside folder.new) file.Tariff
+        (λ bytes. or_refused (in_file file.Tariff) (tariff_rows bytes)) (λ tariff. tariff.rows) result }
+    ensures rows { IfOk result (λ tariff. All IsTariffRow tariff.rows) }
+{
+    let bytes = match read_file(alloc, folder, File::Tariff, TEXT_LIMIT) {
+        Ok(bytes) => bytes,
+        Err(end) => return Err(end_of(File::Tariff, TOO_LONG, end)),
+    };
+    match read_tariff(alloc, bytes.as_slice()) {
+        Ok(tariff) => Ok(tariff),
+        Err(fault) => Err(row_end(File::Tariff, fault)),
     }
 }
 

@@ -10,16 +10,17 @@ ghost use Rattle.desk_replay.specs.InputRows.{schedule_in, network_in, rows_in, 
 
 use crate::ending::Ending;
 use crate::read::{
-    aircraft_rows, airport_rows, dist_rows, flight_rows, journal_rows, position_rows,
-    rotation_rows, window,
+    aircraft_rows, airport_rows, dist_rows, flight_rows, itinerary_rows, journal_rows,
+    position_rows, rotation_rows, tariff, window,
 };
 use desk_build::Files;
 use desk_folder::Folder;
-use desk_units::List;
+use desk_units::{List, Tariff};
 use early_form::JournalRow;
 use read_fleet::{AircraftRow, PositionRow};
 use read_legs::{FlightRow, RotationRow};
 use read_net::{AirportRow, DistRow, Window};
+use read_pax::ItineraryRow;
 use std::alloc::Global;
 
 /// The rows of the window, the schedule and the aircraft.
@@ -31,12 +32,14 @@ pub(crate) struct Schedule {
     pub aircraft: List<AircraftRow>,
 }
 
-/// The rows of the network and the positions.
+/// The rows of the network, the passengers, the positions and the prices.
 #[derive(Drop)]
 pub(crate) struct Network {
     pub airports: List<AirportRow>,
     pub dist: List<DistRow>,
+    pub itineraries: List<ItineraryRow>,
     pub position: List<PositionRow>,
+    pub tariff: Tariff,
 }
 
 /// The rows of the input files.
@@ -68,7 +71,7 @@ fn read_schedule<F: Folder>(alloc: Global, folder: &mut F) -> Result<Schedule, E
     })
 }
 
-// Reads airports.csv, dist.csv and position.csv.
+// Reads airports.csv, dist.csv, itineraries.csv, position.csv and tariff.csv.
 #[tactic(auto, unfolding(crate::specs::Story::network_rows))]
 fn read_network<F: Folder>(alloc: Global, folder: &mut F) -> Result<Network, Ending>
     ensures exact { (x : Inputs) → TellsNetwork (F.outside folder.old) x → GivesRead network_in result (network_rows x) }
@@ -80,11 +83,15 @@ fn read_network<F: Folder>(alloc: Global, folder: &mut F) -> Result<Network, End
 {
     let airports = airport_rows(alloc, folder)?;
     let dist = dist_rows(alloc, folder)?;
+    let itineraries = itinerary_rows(alloc, folder)?;
     let position = position_rows(alloc, folder)?;
+    let tariff = tariff(alloc, folder)?;
     Ok(Network {
         airports,
         dist,
+        itineraries,
         position,
+        tariff,
     })
 }
 
@@ -104,7 +111,9 @@ fn files_of(schedule: Schedule, network: Network) -> Files
     let Network {
         airports,
         dist,
+        itineraries,
         position,
+        tariff,
     } = network;
     Files {
         config,
@@ -113,7 +122,9 @@ fn files_of(schedule: Schedule, network: Network) -> Files
         aircraft,
         airports,
         dist,
+        itineraries,
         position,
+        tariff,
     }
 }
 

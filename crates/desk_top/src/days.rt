@@ -5,8 +5,8 @@
 
 use desk_folder::File;
 
-/// The files of the usual day.
-pub(crate) const DAY: [(File, &str); 8] = [
+/// The files of the usual day, which has no passengers and no prices.
+pub(crate) const DAY: [(File, &str); 10] = [
     (File::Config, "01/03/08 06:00 02/03/08 06:00\n"),
     (
         File::Flights,
@@ -25,16 +25,18 @@ pub(crate) const DAY: [(File, &str); 8] = [
         "AAA 10 10 00:00 24:00\nBBB 10 10 00:00 24:00\n",
     ),
     (File::Dist, "AAA BBB 60 D\n"),
+    (File::Itineraries, ""),
     (File::Position, "AAA M1 0/0/10 1\nBBB M1 0/0/9 1\n"),
+    (File::Tariff, ""),
     (File::Journal, ""),
 ];
 
 /// The rotations as they are scheduled.
-const SCHEDULED: &str =
+pub(crate) const SCHEDULED: &str =
     "F1 01/03/08 P1 01/03/08 08:00\nF2 01/03/08 P1 01/03/08 09:30\nF3 01/03/08 P2 01/03/08 12:00\n";
 
 /// What it costs as scheduled.
-const USUAL: &str = "changes 0\ncost 192000000000\n";
+pub(crate) const USUAL: &str = "changes 0\ncost 192000000000\n";
 
 /// A run over the usual day, but for the files that are changed, with what it must write.
 #[derive(Clone, Copy)]

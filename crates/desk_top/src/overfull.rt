@@ -15,7 +15,7 @@ struct Overfull {
     why: &'static str,
 }
 
-const OVERFULL: [Overfull; 6] = [
+const OVERFULL: [Overfull; 8] = [
     Overfull {
         file: File::Flights,
         rows: 20_001,
@@ -47,6 +47,16 @@ const OVERFULL: [Overfull; 6] = [
         rows: 10_001,
         why: "refused position.csv 10001 Limit\n",
     },
+    Overfull {
+        file: File::Itineraries,
+        rows: 100_001,
+        why: "refused itineraries.csv 100001 Limit\n",
+    },
+    Overfull {
+        file: File::Tariff,
+        rows: 1_001,
+        why: "refused tariff.csv 1001 Limit\n",
+    },
 ];
 
 /// A row with this number that its file takes.
@@ -57,6 +67,8 @@ fn row_of(alloc: Global, file: File, n: usize) -> Result<String, NoMem> {
         File::Aircraft => format!(in alloc; "P{n} M1 NB 0/0/10 600 100 30 20 AAA NULL\n")?,
         File::Airports => format!(in alloc; "A{n} 10 10 00:00 24:00\n")?,
         File::Dist => String::from_str(alloc, "AAA BBB 60 D\n")?,
+        File::Itineraries => format!(in alloc; "R{n} A 100 1 F1 01/03/08 E\n")?,
+        File::Tariff => format!(in alloc; "surface,S{n}\n")?,
         _ => String::from_str(alloc, "AAA M1 0/0/10 1\n")?,
     };
     Ok(row)

@@ -1,6 +1,7 @@
 //! The desk over a folder and a sink in memory.
 
 use super::*;
+use crate::carried::{CARRIED, NOT_CARRIED};
 use crate::days::{CANCELLED, DAY, REFUSED, RUNS, Run};
 use desk_data::NoMem;
 use desk_folder::{File, MemFolder, MemSink};
@@ -82,6 +83,45 @@ fn days_are_refused(rt: HostRuntime) -> Result<(), Fail> {
     Ok(())
 }
 
+#[test]
+fn days_with_passengers_are_replayed(rt: HostRuntime) -> Result<(), Fail> {
+    let alloc = rt.alloc();
+    let words = replay_words(alloc)?;
+    for (i, run) in CARRIED.iter().enumerate() {
+        let mut folder = folder_of(alloc, run.changed, &[], &[])?;
+        let mut out = MemSink::new(Vec::new(alloc));
+        let status = desk_main(alloc, words.as_slice(), &mut folder, &mut out, &FreeGate);
+        assert_eq!(rt; status, run.status, "status of run {i}");
+        assert_eq!(rt; out.written(), run.report.as_bytes(), "report of run {i}");
+        let rotations = folder.written(File::SolRotations);
+        assert_eq!(rt; rotations, run.rotations.as_bytes(), "rotations of run {i}");
+        let journal = folder.written(File::Journal);
+        assert_eq!(rt; journal, run.journal.as_bytes(), "journal of run {i}");
+    }
+    Ok(())
+}
+
+#[test]
+fn days_whose_passengers_or_prices_are_wrong_are_refused(rt: HostRuntime) -> Result<(), Fail> {
+    let alloc = rt.alloc();
+    let words = replay_words(alloc)?;
+    for (i, refused) in NOT_CARRIED.iter().enumerate() {
+        let mut folder = folder_of(alloc, refused.changed, &[], &[])?;
+        let mut out = MemSink::new(Vec::new(alloc));
+        let status = desk_main(alloc, words.as_slice(), &mut folder, &mut out, &FreeGate);
+        assert_eq!(rt; status, 3, "status of refusal {i}");
+        assert_eq!(rt;
+            out.written(),
+            refused.why.as_bytes(),
+            "report of refusal {i}"
+        );
+        let is_empty = folder.written(File::SolRotations).is_empty()
+            && folder.written(File::Journal).is_empty();
+        assert!(rt; is_empty, "files of refusal {i}");
+    }
+    Ok(())
+}
+
 /// A call that fails in the run with a cancelled leg, with what the run must write.
 struct Fault {
     /// The number of the failing `next`, `put` and report line; 0 for none.
@@ -116,7 +156,7 @@ const JOURNAL_1: &str = "1,move,set F3 01/03/08 + P2 01/03/08 12:00 -,accepted 1
 const JOURNAL_2: &str =
     "1,move,set F3 01/03/08 + P2 01/03/08 12:00 -,accepted 120000000000\n1,move,set F3 01/03/08 + P2 01/03/08 12:00 -,dearer 120000000000 120000000000\n";
 
-const FAULTS: [Fault; 23] = [
+const FAULTS: [Fault; 25] = [
     Fault {
         next: 1,
         report: "read fault config.csv\n",
@@ -177,9 +217,10 @@ const FAULTS: [Fault; 23] = [
         report: "read fault dist.csv\n",
         ..READ_FAULT
     },
+    // a file of no bytes is read by one call
     Fault {
         next: 13,
-        report: "read fault position.csv\n",
+        report: "read fault itineraries.csv\n",
         ..READ_FAULT
     },
     Fault {
@@ -189,11 +230,21 @@ const FAULTS: [Fault; 23] = [
     },
     Fault {
         next: 15,
-        report: "read fault journal.csv\n",
+        report: "read fault position.csv\n",
         ..READ_FAULT
     },
     Fault {
         next: 16,
+        report: "read fault tariff.csv\n",
+        ..READ_FAULT
+    },
+    Fault {
+        next: 17,
+        report: "read fault journal.csv\n",
+        ..READ_FAULT
+    },
+    Fault {
+        next: 18,
         report: "read fault journal.csv\n",
         ..READ_FAULT
     },
