@@ -3,16 +3,17 @@
 
 Usage: bench/day.py [LEGS]      LEGS, a multiple of 40, is 20,000 where it is left out
 
-A day of 20,000 legs has 1,000 aircraft, 500 airports, 250,000 rows of distances and 10,000 groups of
-positions; other days have as many less, but for the airports, so that half the distances are of half
-the pairs. Each aircraft flies 20 legs there and back between two airports. The day, one of half its rows and one of no rows are run with a journal whose one line names
-a leg that is not there, so that a run ends when all is read and joined; and the first two with an
-empty journal, so that the schedule is checked and written too; and with one of moves that change
-nothing, for each of which the plan is copied, checked by all rules and its cost summed. The day of no
-rows tells the start of the program apart. The desk runs on one processor.
+A day of 20,000 legs has 1,000 aircraft, 500 airports, 250,000 rows of distances, 100,000 reservations
+of one to three legs, 10,000 groups of positions and a tariff of 100 rows; other days have as many less,
+but for the airports and the tariff, so that half the distances are of half the pairs. Each aircraft
+flies 20 legs there and back between two airports. The day, one of half its rows and one of no rows are
+run with a journal whose one line names a leg that is not there, so that a run ends when all is read and
+joined; and the first two with an empty journal, so that the schedule is checked and written too; and
+with one of moves that change nothing, for each of which the plan is copied, checked by all rules and its
+cost summed. The day of no rows tells the start of the program apart. The desk runs on one processor.
 
 The last lines say how many bytes a second were read and joined, how long a move takes, and how much
-longer twice the rows took. The status is 1 where that is less than 40 MB a second, more than 30 ms a
+longer twice the rows took. The status is 1 where that is less than 40 MB a second, more than 100 ms a
 move, or more than 2.3 times as long.
 """
 import os
@@ -29,7 +30,7 @@ UNKNOWN = "1,move,set F0 02/03/08 - -\n"
 MOVES = 40
 UNCHANGED = "1,move,set F0 01/03/08 + P0 01/03/08 00:00 + P0 01/03/08 00:00\n" * MOVES
 LEAST_RATE = 40.0
-MOST_MILLISECONDS = 30.0
+MOST_MILLISECONDS = 100.0
 MOST_RATIO = 2.3
 
 
@@ -44,13 +45,14 @@ def schedule_of(legs, airports):
     for p in range(legs // LEGS_OF_AIRCRAFT):
         home = airports[p % (len(airports) // 2)]
         away = "B" + home[1:]
-        aircraft.append("P%d M1 NB 0/0/150 1000 1000 20 20 %s NULL" % (p, home))
+        aircraft.append("P%d M1 NB 0/20/130 1000 1000 20 20 %s NULL" % (p, home))
         for k in range(LEGS_OF_AIRCRAFT):
             dep = 65 * k
             ends = (home, away) if k % 2 == 0 else (away, home)
             flight = "F%d" % (p * LEGS_OF_AIRCRAFT + k)
-            flights.append("%s %s %s %02d:%02d %02d:%02d 0" % (
-                flight, ends[0], ends[1], dep // 60, dep % 60, (dep + 40) // 60, (dep + 40) % 60))
+            previous = "F%d" % (p * LEGS_OF_AIRCRAFT + k - 1) if k else "0"
+            flights.append("%s %s %s %02d:%02d %02d:%02d %s" % (
+                flight, ends[0], ends[1], dep // 60, dep % 60, (dep + 40) // 60, (dep + 40) % 60, previous))
             rotations.append("%s 01/03/08 P%d" % (flight, p))
     return flights, rotations, aircraft
 
@@ -61,11 +63,34 @@ def distances_of(rows, airports):
     return ["%s %s %d D" % (airports[i // n % n], airports[i % n], 40 + i % 600) for i in range(rows)]
 
 
+def itineraries_of(legs):
+    """Five reservations that begin with each leg, and go on with the next one or two of its aircraft."""
+    lines = []
+    for i in range(legs * 5):
+        first = i // 5
+        last = min(first + i % 3, first // LEGS_OF_AIRCRAFT * LEGS_OF_AIRCRAFT + LEGS_OF_AIRCRAFT - 1)
+        cabin, count = ("B", 3) if i % 5 == 0 else ("E", 10)
+        path = " ".join("F%d 01/03/08 %s" % (x, cabin) for x in range(first, last + 1))
+        lines.append("R%d A %d.5 %d %s" % (i, 50 + i % 200, count, path))
+    return lines
+
+
+def tariff_of():
+    rows = ["position,500", "weight,delay,1.5"]
+    for h in "DCI":
+        for k in "FBE":
+            rows += ["delay,%s,%s,10" % (h, k), "cancel,%s,%s,200" % (h, k)]
+        rows += ["downgrade,%s,%s,%s,100" % (h, k, l) for k, l in ("FB", "FE", "BE")]
+        rows += ["care,%s,%d,%d" % (h, 60 * t, 10 * t) for t in range(1, 12)] + ["care,%s,none,10" % h]
+        rows += ["compensation,%s,%d,%d" % (h, 90 * t, 20 * t) for t in range(1, 12)]
+    return (rows + ["surface,BUS%d" % i for i in range(100)])[:100]
+
+
 def day_of(legs):
     """The text of each file but the journal."""
     airports = airports_of(legs)
     flights, rotations, aircraft = schedule_of(legs, airports)
-    groups = " ".join("M%d 0/0/150 1" % i for i in range(max(1, legs // 1000)))
+    groups = " ".join("M%d 0/20/130 1" % i for i in range(max(1, legs // 1000)))
     lines = {
         "config.csv": ["01/03/08 00:00 03/03/08 00:00"],
         "flights.csv": flights,
@@ -73,7 +98,9 @@ def day_of(legs):
         "aircraft.csv": aircraft,
         "airports.csv": ["%s 100 100 00:00 24:00" % a for a in airports],
         "dist.csv": distances_of(legs * 25 // 2, airports),
+        "itineraries.csv": itineraries_of(legs),
         "position.csv": ["%s %s" % (a, groups) for a in airports],
+        "tariff.csv": tariff_of() if legs else [],
     }
     return {name: "".join(line + "\n" for line in of) for name, of in lines.items()}
 

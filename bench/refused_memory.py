@@ -1,12 +1,13 @@
 #!/usr/bin/env python3
-"""Refuses each allocation of six runs of the built desk in turn, over the host's folder by the
-program, and over the folder in memory by its test, where that is built.
+"""Refuses each allocation of six runs of the built desk over the sample day in turn, over the host's
+folder by the program, and over the folder in memory by its test, where that is built.
 
 Each run must end with status 6 or with its own status, and with its own status it must write what it
 writes where nothing is refused. With status 6 the output files are whole up to one, which has a front
 of its text, and what the report has is a front of it, before the line `memory` or a front of that.
 """
 import os
+import shutil
 import subprocess
 import sys
 import tempfile
@@ -15,13 +16,13 @@ HERE = os.path.dirname(os.path.abspath(__file__))
 PROGRAM = os.path.join(os.path.dirname(HERE), "crates", "desk_top", "out", "desk_top")
 TESTS = PROGRAM + "_tests"
 TEST = "tests::want_of_memory_gives_status_6_or_the_runs_own"
-FLIGHTS = "F1 AAA BBB 08:00 09:00 0\nF2 BBB AAA 09:30 10:30 0\nF3 AAA BBB 12:00 13:00 0\n"
+DAY = os.path.join(os.path.dirname(HERE), "examples", "day")
 ROTATIONS = "F1 01/03/08 P1\nF2 01/03/08 P1\nF3 01/03/08 P2\n"
-AIRCRAFT = "P1 M1 NB 0/0/10 600 100 30 20 AAA NULL\nP2 M1 NB 0/0/9 600 120 30 20 AAA NULL\n"
+CHEAPER = "1,move,set F3 01/03/08 + P2 01/03/08 12:00 + P1 01/03/08 12:00\n"
 CANCEL = "1,move,set F3 01/03/08 + P2 01/03/08 12:00 -\n"
 RUNS = (
     (ROTATIONS, ""),
-    (ROTATIONS, CANCEL + CANCEL),
+    (ROTATIONS, CHEAPER + CANCEL),
     (ROTATIONS, "2,move,set F2 01/03/08 + P1 01/03/08 09:30 + P1 01/03/08 09:29\n"),
     (ROTATIONS, "2,move,set F1 01/03/08 + P1 01/03/08 08:00 -\n"),
     (ROTATIONS, "2,move,set F1 01/03/08 + P1 01/03/08 08:00 + P1 01/03/08 08:01\n"),
@@ -80,9 +81,8 @@ def main():
         out = os.path.join(folder, "out")
         tried, six, wrong = 0, 0, 0
         for rotations, journal in RUNS:
-            day = tempfile.mkdtemp(dir=folder)
-            for name, text in (("flights.csv", FLIGHTS), ("rotations.csv", rotations),
-                               ("aircraft.csv", AIRCRAFT), ("journal.csv", journal)):
+            day = shutil.copytree(DAY, tempfile.mkdtemp(dir=folder), dirs_exist_ok=True)
+            for name, text in (("rotations.csv", rotations), ("journal.csv", journal)):
                 with open(os.path.join(day, name), "w") as file:
                     file.write(text)
             status, report, written, calls = run(shim, day, out, 0)
