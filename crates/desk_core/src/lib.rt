@@ -4,8 +4,6 @@
 mod book;
 mod judged;
 mod moved;
-#[cfg(test)]
-mod tests;
 
 pub use book::Book;
 pub use desk_model::{Answer, Broken, Entry, Event, Grains, Move};

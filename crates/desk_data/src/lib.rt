@@ -12,8 +12,6 @@ mod parts;
 mod path;
 mod plan;
 mod row;
-#[cfg(test)]
-mod tests;
 mod validity;
 
 pub use broken::Broken;

@@ -18,6 +18,3 @@ pub use host::{HostFolder, HostSink};
 pub use memory::MemFolder;
 pub use memory_sink::MemSink;
 pub use traits::{Folder, FreeGate, Gate, Sink};
-
-#[cfg(test)]
-mod tests;

@@ -24,6 +24,3 @@ pub use texts::{
     written_days_read_back,
 };
 pub use values::{cabin, date, haul, inbound, name, number, price, seats, time, weight};
-
-#[cfg(test)]
-mod tests;

@@ -15,6 +15,3 @@ pub use desk_units::{Minute, Name, NoMem};
 pub use fault::FormFault;
 pub use journal::read_journal;
 pub use rows::{JournalRow, NamedRow};
-
-#[cfg(test)]
-mod tests;

@@ -4,8 +4,6 @@
 mod fault;
 mod journal;
 mod names;
-#[cfg(test)]
-mod tests;
 
 pub use fault::JoinFault;
 pub use journal::join_journal;

@@ -6,6 +6,3 @@ mod reads;
 
 pub use puts::{put_report, put_text};
 pub use reads::{ReadEnd, read_file};
-
-#[cfg(test)]
-mod tests;

@@ -6,9 +6,6 @@ ghost use Rattle.std.specs.Prelude.{◌≡◌, IfOk};
 ghost use Rattle.desk_data.specs.Valid.{IsPlanFor};
 ghost use Rattle.desk_model.specs.Least.{least};
 
-#[cfg(test)]
-mod tests;
-
 use desk_data::{Broken, Instance, NoMem, Plan};
 use rule_pax::least_pax;
 use rule_rot::least_rot;

@@ -1,4 +1,3 @@
-pub mod HighestLaws
 pub mod OwedLaws
 pub mod GroupLaws
 pub mod StandLaws

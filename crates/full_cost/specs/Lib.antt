@@ -1,4 +1,4 @@
 pub mod Weighed
-pub mod Booked
+pub mod Counted
 pub mod Amounts
 pub mod Stands

@@ -4,12 +4,12 @@ ghost use Rattle.std.specs.Prelude.{◌≡◌, ◌≤◌};
 ghost use Rattle.desk_units.specs.declared.tariff.Term.TheVariants as term;
 ghost use Rattle.desk_model.specs.States.{grains};
 ghost use Rattle.full_cost.specs.Amounts.{cancelled};
-ghost use Rattle.full_cost.specs.Booked.{IsBooked};
+ghost use Rattle.pax_paths.specs.Booked.{IsBooked};
 ghost use Rattle.full_cost.specs.Weighed.{IsWeight};
 
-use crate::passengers::Booked;
 use desk_data::{Grains, Instance, Weight};
 use desk_units::per_item;
+use pax_paths::Booked;
 
 /// What it costs that some passengers of a reservation are not carried, at the price of what they
 /// booked.

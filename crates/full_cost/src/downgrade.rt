@@ -5,12 +5,13 @@ ghost use Rattle.desk_data.specs.Situation.{legs_of};
 ghost use Rattle.desk_model.specs.Cost.{downgrade, downgrade_on};
 ghost use Rattle.desk_units.specs.declared.tariff.Term.TheVariants as term;
 ghost use Rattle.desk_model.specs.States.{grains};
-ghost use Rattle.full_cost.specs.Booked.{IsBooked, IsGroupOf};
+ghost use Rattle.full_cost.specs.Counted.{IsGroupOf};
+ghost use Rattle.pax_paths.specs.Booked.{IsBooked};
 ghost use Rattle.full_cost.specs.Weighed.{IsWeight};
 
-use crate::passengers::Booked;
 use desk_data::{Cabin, Grains, Group, Instance, Leg, Weight};
 use desk_units::per_item;
+use pax_paths::Booked;
 
 /// What the downgrades on the path of a group of a reservation cost.
 pub(crate) fn downgrade_cost(

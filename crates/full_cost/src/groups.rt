@@ -6,16 +6,17 @@ ghost use Rattle.desk_data.specs.Valid.{IsPlanFor};
 ghost use Rattle.desk_model.specs.Cost.{delay_cost, cancellation_cost, downgrade_cost, legal_cost};
 ghost use Rattle.desk_model.specs.States.{grains};
 ghost use Rattle.full_cost.specs.Amounts.{group_cost, reservation_cost};
-ghost use Rattle.full_cost.specs.Booked.{IsBooked, IsGroupOf};
+ghost use Rattle.full_cost.specs.Counted.{IsGroupOf};
+ghost use Rattle.pax_paths.specs.Booked.{IsBooked};
 ghost use Rattle.full_cost.specs.Weighed.{AreWeights};
 
 use crate::cancellation::cancellation_cost;
-use crate::delay::delay_cost;
+use crate::delay::{delay_cost, minutes_late};
 use crate::downgrade::downgrade_cost;
 use crate::legal::{late_cost, uncarried_cost};
-use crate::passengers::{Booked, all_flown, booked_of, is_carried, minutes_late};
 use crate::weights::{Weights, weights_of};
 use desk_data::{Grains, Group, Instance, Plan, Res};
+use pax_paths::{Booked, all_flown, booked_of, is_carried};
 
 /// What the passengers cost. What each reservation booked is found once.
 pub(crate) fn passengers_cost(inst: &Instance, plan: &Plan) -> Grains

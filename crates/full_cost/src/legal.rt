@@ -1,15 +1,15 @@
 //! Legal: what is owed to passengers by law, and the price of a journey that is not made.
 
-ghost use Rattle.std.specs.Prelude.{◌≡◌, ◌<◌, ◌≤◌};
+ghost use Rattle.std.specs.Prelude.{◌≡◌, ◌≤◌};
 ghost use Rattle.desk_model.specs.Cost.{owed_late, owed_uncarried};
 ghost use Rattle.desk_units.specs.declared.tariff.Term.TheVariants as term;
 ghost use Rattle.desk_model.specs.States.{grains};
-ghost use Rattle.full_cost.specs.Booked.{IsBooked};
+ghost use Rattle.pax_paths.specs.Booked.{IsBooked};
 ghost use Rattle.full_cost.specs.Weighed.{IsWeight};
 
-use crate::passengers::Booked;
 use desk_data::{Grains, Instance, Weight};
 use desk_units::per_item;
+use pax_paths::Booked;
 
 /// What is owed to some passengers of a reservation who arrive so many minutes late: care and
 /// compensation.

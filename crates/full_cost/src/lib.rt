@@ -8,12 +8,8 @@ mod downgrade;
 mod groups;
 mod legal;
 mod operating;
-mod passengers;
 mod position;
-mod rows;
 mod stands;
-#[cfg(test)]
-mod tests;
 mod weights;
 
 pub use cost::full_cost;

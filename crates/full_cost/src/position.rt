@@ -1,7 +1,7 @@
 //! Position: aircraft that are not where they are needed when the window ends.
 
 ghost use Rattle.std.specs.Prelude.{◌≡◌, ◌<◌, ◌≤◌, ◌^◌, length, All};
-ghost use Rattle.desk_data.specs.Situation.{planes_of, plane_at};
+ghost use Rattle.desk_data.specs.Situation.{planes_of};
 ghost use Rattle.desk_data.specs.Valid.{IsPlanFor};
 ghost use Rattle.desk_model.specs.Cost.{position_cost, is_wanted, same_seats};
 ghost use Rattle.desk_model.specs.States.{grains};

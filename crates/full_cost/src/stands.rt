@@ -7,8 +7,8 @@ ghost use Rattle.desk_data.specs.Valid.{IsPlanFor};
 ghost use Rattle.desk_model.specs.Maintenance.{flies};
 ghost use Rattle.full_cost.specs.Stands.{IsLastOf, AreLasts, AreStands, stand};
 
-use crate::rows::departure_of;
 use desk_data::{Airport, Instance, Leg, Minute, Plan, Plane, Row};
+use pax_paths::departure;
 
 /// Writes where each aircraft ends: its last leg that departs before the window's end arrived there,
 /// or it began there. In `lasts` it keeps these legs.
@@ -81,12 +81,12 @@ fn with_leg(plan: &Plan, plane: Plane, at: Minute, leg: Leg, last: Option<Leg>) 
     requires last { IsLastOf plan.now plane.0 at.0 leg.0 last }
     ensures { IsLastOf plan.now plane.0 at.0 (leg.0 + 1) result }
 {
-    let departs = departure_of(plan.read_row(leg));
+    let departs = departure(plan, leg);
     if at.0 <= departs {
         return last;
     }
     match last {
-        Some(other) if departs < departure_of(plan.read_row(other)) => last,
+        Some(other) if departs < departure(plan, other) => last,
         _ => Some(leg),
     }
 }

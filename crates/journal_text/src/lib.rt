@@ -9,8 +9,6 @@ mod answers;
 mod items;
 mod lines;
 mod steps;
-#[cfg(test)]
-mod tests;
 
 pub use desk_data::{Broken, Instance, NoMem};
 pub use desk_model::{Answer, Entry, Event};

@@ -4,8 +4,6 @@
 mod aircraft;
 mod maintenance;
 mod position;
-#[cfg(test)]
-mod tests;
 
 pub use aircraft::{AircraftRow, read_aircraft};
 pub use desk_text::{Cause, ReadFault};

@@ -10,6 +10,3 @@ pub use desk_units::Name;
 pub use flights::read_flights;
 pub use rotations::read_rotations;
 pub use rows::{FlightRow, RotationRow};
-
-#[cfg(test)]
-mod tests;

@@ -13,6 +13,3 @@ pub use desk_text::{Cause, ReadFault};
 pub use desk_units::{Haul, List, Minute, Name};
 pub use dist::read_dist;
 pub use rows::{AirportRow, CapRow, DistRow, Window};
-
-#[cfg(test)]
-mod tests;

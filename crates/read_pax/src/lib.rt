@@ -8,6 +8,3 @@ pub use desk_text::{Cause, ReadFault};
 pub use desk_units::{Cabin, List, Name, Price};
 pub use itineraries::read_itineraries;
 pub use rows::{ItineraryRow, LegRow};
-
-#[cfg(test)]
-mod tests;

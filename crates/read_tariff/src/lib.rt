@@ -10,6 +10,3 @@ mod tariff;
 pub use desk_text::{Cause, ReadFault};
 pub use desk_units::{Cabin, Haul, List, Name, Price, Tariff, TariffRow, Term, Weight};
 pub use tariff::read_tariff;
-
-#[cfg(test)]
-mod tests;

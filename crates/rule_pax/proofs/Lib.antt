@@ -1,4 +1,3 @@
-pub mod HaulLaws
 pub mod PathLaws
 pub mod SeatLaws
 pub mod ItemLaws

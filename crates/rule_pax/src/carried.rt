@@ -1,7 +1,7 @@
 //! C13, C14 and C15: the paths on which passengers are carried connect, arrive in time, and keep the
 //! legs that have begun.
 
-ghost use Rattle.std.specs.Prelude.{◌≡◌, ◌<◌, ◌≤◌, find, length, All, IsTrue, if◌then◌else◌};
+ghost use Rattle.std.specs.Prelude.{◌≡◌, ◌<◌, ◌≤◌, find, length, All, if◌then◌else◌};
 ghost use Rattle.std.specs.Option.{option_or};
 ghost use Rattle.desk_data.specs.PlanRows.{groups_at};
 ghost use Rattle.desk_data.specs.Situation.{legs_of, reservations_of};
@@ -9,12 +9,12 @@ ghost use Rattle.desk_data.specs.Valid.{IsPathOf, IsPlanFor};
 ghost use Rattle.desk_data.specs.declared.broken.Broken.TheVariants as broken;
 ghost use Rattle.desk_model.specs.Carriage.{is_good_path, is_in_time_path, keeps_c13, keeps_c14, keeps_c15};
 ghost use Rattle.desk_model.specs.Least.{breaks, each_res};
-ghost use Rattle.desk_model.specs.Passengers.{is_carried};
-ghost use Rattle.rule_pax.specs.Booked.{IsBooking};
+ghost use Rattle.desk_model.specs.Passengers.{longest_delay};
+ghost use Rattle.pax_paths.specs.Booked.{IsBooked};
 
-use crate::booking::{Booking, booking_of};
-use crate::paths::{all_flown, arrival, connects, departure};
-use desk_data::{Broken, Cabin, Group, Instance, Leg, Plan, Res};
+use crate::paths::connects;
+use desk_data::{Broken, Cabin, Group, Haul, Instance, Leg, Plan, Res};
+use pax_paths::{Booked, all_flown, arrival, booked_of, departure, is_carried};
 
 /// The first reservation that breaks C13, or else the first that breaks C14, or else the first that
 /// breaks C15. One pass over the reservations serves the three rules.
@@ -27,10 +27,10 @@ pub(crate) fn first_misled(inst: &Instance, plan: &Plan) -> Option<Broken>
     let mut unbound = None;
     for r in 0..inst.reservations() {
         let res = Res(r);
-        let booking = booking_of(inst, res);
+        let booked = booked_of(inst, res);
         let groups = plan.groups(res);
-        let good = are_good(inst, plan, res, &booking, groups);
-        let in_time = are_in_time(inst, plan, res, &booking, groups);
+        let good = are_good(inst, plan, booked, groups);
+        let in_time = are_in_time(inst, plan, booked, groups);
         misled = misled.or(unless(good, Broken::C13(res)));
         late = late.or(unless(in_time, Broken::C14(res)));
         unbound = unbound.or(unless(are_bound(inst, plan, res, groups), Broken::C15(res)));
@@ -47,31 +47,31 @@ fn unless(is_kept: bool, item: Broken) -> Option<Broken>
 
 /// Whether a reservation meets C13.
 #[tactic(auto, unfolding(desk_model::specs::Carriage::keeps_c13))]
-fn are_good(inst: &Instance, plan: &Plan, res: Res, booking: &Booking, groups: &[Group]) -> bool
+fn are_good(inst: &Instance, plan: &Plan, booked: Booked, groups: &[Group]) -> bool
     requires plan { IsPlanFor inst.now plan.now }
-    requires booking { IsBooking inst.now res.0 booking.now }
+    requires booked { IsBooked inst.now booked }
     requires paths { All (λ group. IsPathOf (legs_of inst.now) group.path) groups.now }
-    requires groups { groups.now ≡ groups_at plan.now res.0 }
-    ensures { result ≡ keeps_c13 inst.now plan.now res.0 }
+    requires groups { groups.now ≡ groups_at plan.now booked.res.0 }
+    ensures { result ≡ keeps_c13 inst.now plan.now booked.res.0 }
 {
     groups.iter().all(|group| {
         let path = group.path.as_slice();
-        !is_carried(path) || is_good_path(inst, plan, res, booking, path)
+        !is_carried(path) || is_good_path(inst, plan, booked, path)
     })
 }
 
 /// Whether a reservation meets C14.
 #[tactic(auto, unfolding(desk_model::specs::Carriage::keeps_c14))]
-fn are_in_time(inst: &Instance, plan: &Plan, res: Res, booking: &Booking, groups: &[Group]) -> bool
+fn are_in_time(inst: &Instance, plan: &Plan, booked: Booked, groups: &[Group]) -> bool
     requires plan { IsPlanFor inst.now plan.now }
-    requires booking { IsBooking inst.now res.0 booking.now }
+    requires booked { IsBooked inst.now booked }
     requires paths { All (λ group. IsPathOf (legs_of inst.now) group.path) groups.now }
-    requires groups { groups.now ≡ groups_at plan.now res.0 }
-    ensures { result ≡ keeps_c14 inst.now plan.now res.0 }
+    requires groups { groups.now ≡ groups_at plan.now booked.res.0 }
+    ensures { result ≡ keeps_c14 inst.now plan.now booked.res.0 }
 {
     groups.iter().all(|group| {
         let path = group.path.as_slice();
-        !is_carried(path) || is_in_time_path(inst, plan, res, booking, path)
+        !is_carried(path) || is_in_time_path(inst, plan, booked, path)
     })
 }
 
@@ -87,55 +87,47 @@ fn are_bound(inst: &Instance, plan: &Plan, res: Res, groups: &[Group]) -> bool
     })
 }
 
-/// Whether passengers on a path are carried: they are unless it is empty.
-fn is_carried(path: &[(Leg, Cabin)]) -> bool
-    ensures carried { result ≡ is_carried path.now }
-    ensures some { IsTrue result → 1 ≤ length path.now }
-{
-    !path.is_empty()
-}
-
 /// Whether a path is flown, runs from the reservation's origin to its destination, connects, and
 /// leaves no earlier than booked.
 #[tactic(auto, unfolding(desk_model::specs::Carriage::is_good_path))]
-fn is_good_path(
-    inst: &Instance,
-    plan: &Plan,
-    res: Res,
-    booking: &Booking,
-    path: &[(Leg, Cabin)],
-) -> bool
+fn is_good_path(inst: &Instance, plan: &Plan, booked: Booked, path: &[(Leg, Cabin)]) -> bool
     requires plan { IsPlanFor inst.now plan.now }
-    requires booking { IsBooking inst.now res.0 booking.now }
+    requires booked { IsBooked inst.now booked }
     requires path { IsPathOf (legs_of inst.now) path.now }
     requires some { 1 ≤ length path.now }
-    ensures { result ≡ is_good_path inst.now plan.now res.0 path.now }
+    ensures { result ≡ is_good_path inst.now plan.now booked.res.0 path.now }
 {
     let first = path[0].0;
     let last = path[path.len() - 1].0;
     all_flown(plan, path)
-        && inst.leg(first).origin.0 == booking.origin.0
-        && inst.leg(last).dest.0 == booking.dest.0
+        && inst.leg(first).origin.0 == booked.origin.0
+        && inst.leg(last).dest.0 == booked.dest.0
         && connects(inst, plan, path)
-        && booking.departure.0 <= departure(plan, first)
+        && booked.departure.0 <= departure(plan, first)
 }
 
 /// Whether a path arrives no later than the longest delay after the booked arrival, if its legs are
 /// all flown.
 #[tactic(auto, unfolding(desk_model::specs::Carriage::is_in_time_path))]
-fn is_in_time_path(
-    inst: &Instance,
-    plan: &Plan,
-    res: Res,
-    booking: &Booking,
-    path: &[(Leg, Cabin)],
-) -> bool
+fn is_in_time_path(inst: &Instance, plan: &Plan, booked: Booked, path: &[(Leg, Cabin)]) -> bool
     requires plan { IsPlanFor inst.now plan.now }
-    requires booking { IsBooking inst.now res.0 booking.now }
+    requires booked { IsBooked inst.now booked }
     requires path { IsPathOf (legs_of inst.now) path.now }
     requires some { 1 ≤ length path.now }
-    ensures { result ≡ is_in_time_path inst.now plan.now res.0 path.now }
+    ensures { result ≡ is_in_time_path inst.now plan.now booked.res.0 path.now }
 {
     let last = path[path.len() - 1].0;
-    !all_flown(plan, path) || arrival(inst, plan, last) <= booking.latest.0
+    !all_flown(plan, path)
+        || arrival(inst, plan, last) <= booked.arrival.0 + longest_delay(booked.haul)
+}
+
+/// The minutes after its booked arrival by which a reservation may arrive, by its haul.
+fn longest_delay(haul: Haul) -> u32
+    ensures delay { result ≡ longest_delay haul }
+    ensures limit { result ≤ 2160 }
+{
+    match haul {
+        Haul::D | Haul::C => 1_080,
+        Haul::I => 2_160,
+    }
 }

@@ -3,13 +3,10 @@
 //! linear in the legs and the groups of passengers.
 #![tactic(auto)]
 
-mod booking;
 mod carried;
 mod least;
 mod paths;
 mod seats;
 mod taken;
-#[cfg(test)]
-mod tests;
 
 pub use least::least_pax;

@@ -1,30 +1,12 @@
-//! Paths in a plan: whether they are flown and connect, when they leave, and when they arrive.
+//! Whether paths connect in a plan.
 
-ghost use Rattle.std.specs.Prelude.{◌≡◌, ◌<◌, ◌≤◌, length};
+ghost use Rattle.std.specs.Prelude.{◌≡◌, ◌<◌, ◌≤◌};
 ghost use Rattle.desk_data.specs.Situation.{legs_of};
 ghost use Rattle.desk_data.specs.Valid.{IsPathOf, IsPlanFor};
-ghost use Rattle.desk_model.specs.Passengers.{all_flown, connection, connects, is_flown, reaches, share_plane};
-ghost use Rattle.desk_model.specs.Rotations.{arr, dep};
+ghost use Rattle.desk_model.specs.Passengers.{connection, connects, reaches, share_plane};
 
 use desk_data::{Cabin, Instance, Leg, Plan, Row};
-
-/// Whether all legs of a path are flown.
-#[tactic(auto, unfolding(desk_model::specs::Passengers::all_flown))]
-pub(crate) fn all_flown(plan: &Plan, path: &[(Leg, Cabin)]) -> bool
-    requires { IsPathOf (length plan.now.rows) path.now }
-    ensures { result ≡ all_flown plan.now path.now }
-{
-    path.iter().all(|pair| is_flown(plan.read_row(pair.0)))
-}
-
-fn is_flown(row: Row) -> bool
-    ensures { result ≡ is_flown row }
-{
-    match row {
-        Row::Flown { .. } => true,
-        Row::Cancelled => false,
-    }
-}
+use pax_paths::{arrival, departure};
 
 /// Whether each leg of a path but the first is reached from the one before it.
 pub(crate) fn connects(inst: &Instance, plan: &Plan, path: &[(Leg, Cabin)]) -> bool
@@ -76,26 +58,4 @@ fn share_plane(row: Row, other: Row) -> bool
         (Row::Flown { plane, .. }, Row::Flown { plane: next, .. }) => plane.0 == next.0,
         _ => false,
     }
-}
-
-/// When a leg departs; 0 where it is cancelled.
-pub(crate) fn departure(plan: &Plan, leg: Leg) -> u32
-    requires { leg.0 < length plan.now.rows }
-    ensures departure { result ≡ dep plan.now leg.0 }
-    ensures limit { result < 52500000 }
-{
-    match plan.read_row(leg) {
-        Row::Flown { dep, .. } => dep.0,
-        Row::Cancelled => 0,
-    }
-}
-
-/// When a leg arrives.
-pub(crate) fn arrival(inst: &Instance, plan: &Plan, leg: Leg) -> u32
-    requires plan { IsPlanFor inst.now plan.now }
-    requires leg { leg.0 < legs_of inst.now }
-    ensures arrival { result ≡ arr inst.now plan.now leg.0 }
-    ensures limit { result < 52502880 }
-{
-    departure(plan, leg) + inst.leg(leg).block
 }

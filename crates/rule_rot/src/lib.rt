@@ -12,8 +12,6 @@ mod reach;
 mod ready;
 mod service;
 mod stands;
-#[cfg(test)]
-mod tests;
 mod upkeep;
 
 pub use least::least_rot;

@@ -4,8 +4,6 @@
 
 mod least;
 mod slots;
-#[cfg(test)]
-mod tests;
 mod walk;
 
 pub use least::least_slots;

@@ -5,8 +5,6 @@
 #![tactic(auto)]
 
 mod rotations;
-#[cfg(test)]
-mod tests;
 
 pub use desk_data::{Instance, NoMem, Plan};
 pub use rotations::rotations_text;

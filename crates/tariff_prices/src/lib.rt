@@ -5,8 +5,6 @@ mod by;
 mod prices;
 mod said;
 mod tables;
-#[cfg(test)]
-mod tests;
 mod validity;
 
 pub use desk_units::{Cabin, Haul, NoMem, Price, Tariff, TariffRow, Term, Weight};

@@ -1,0 +1,155 @@
+//! The texts of a small day: its rotations, and what its journal names.
+
+ghost use Rattle.std.specs.Prelude.{◌<◌};
+ghost use Rattle.desk_data.specs.Situation.{legs_of};
+ghost use Rattle.desk_data.specs.Valid.{IsPlanFor};
+ghost use Rattle.journal_text.specs.Told.{Names};
+
+use super::days::{flown, instance_of, leg_of, name_of, parts_of, set};
+use desk_data::{
+    Airport, Broken, Cabin, Grains, Instance, Leg, List, Move, Path, Plan, Plane, Price, Res,
+    ResInfo, Row, fits,
+};
+use desk_model::{Answer, Entry, Event};
+use journal_text::{journal_line, journal_text, push_broken};
+use sol_text::rotations_text;
+use std::alloc::Global;
+use std::process::Abort;
+use std::test::Fail;
+
+fn reservation_of(alloc: Global, inbound: bool) -> Result<ResInfo, Fail> {
+    Ok(ResInfo {
+        name: name_of(b"R7")?,
+        inbound,
+        price: Price(1),
+        count: 1,
+        path: Path {
+            legs: List(vec![in alloc; (Leg(0), Cabin::E)]?),
+        },
+    })
+}
+
+/// A day of two legs, which the second aircraft flies, and the two ways of one reservation.
+fn day_of(alloc: Global) -> Result<Instance, Fail> {
+    let legs = vec![in alloc; leg_of(b"F1", 4_294_080, 1)?, leg_of(b"F22", 4_295_519, 1)?]?;
+    let mut parts = parts_of(alloc, legs)?;
+    parts.res = List(vec![in alloc; reservation_of(alloc, false)?, reservation_of(alloc, true)?]?);
+    instance_of(alloc, parts)
+}
+
+/// Cancels a leg.
+fn cancel(inst: &Instance, plan: &mut Plan, leg: Leg)
+    requires plan { IsPlanFor inst.now plan.old }
+    requires leg { leg.0 < legs_of inst.now }
+    ensures { IsPlanFor inst.now plan.new }
+{
+    plan.put_row(leg, Row::Cancelled);
+}
+
+#[test]
+fn legs_have_lines(rt: HostRuntime) -> Result<(), Fail> {
+    let inst = day_of(rt.alloc())?;
+    assert!(rt; inst.legs() == 2);
+    let mut plan = inst.schedule(rt.alloc())?;
+    let text = rotations_text(rt.alloc(), &inst, &plan)?;
+    let lines = b"F1 01/03/08 P2 01/03/08 00:00\nF22 01/03/08 P2 01/03/08 23:59\n";
+    assert_eq!(rt; text.as_slice(), lines.as_slice());
+    cancel(&inst, &mut plan, Leg(1));
+    let text = rotations_text(rt.alloc(), &inst, &plan)?;
+    let lines = b"F1 01/03/08 P2 01/03/08 00:00\nF22 01/03/08 cancelled\n";
+    assert_eq!(rt; text.as_slice(), lines.as_slice());
+    Ok(())
+}
+
+fn expect_broken(
+    rt: &impl Abort,
+    alloc: Global,
+    inst: &Instance,
+    item: Broken,
+    expected: &[u8],
+) -> Result<(), Fail>
+    requires { Names inst.now item }
+{
+    let mut text = Vec::new(alloc);
+    push_broken(&mut text, inst, &item)?;
+    assert_eq!(rt; text.as_slice(), expected);
+    Ok(())
+}
+
+#[test]
+fn legs_and_aircraft_break(rt: HostRuntime) -> Result<(), Fail> {
+    let alloc = rt.alloc();
+    let inst = day_of(alloc)?;
+    assert!(rt; inst.legs() == 2);
+    assert!(rt; inst.planes() == 2);
+    expect_broken(&rt, alloc, &inst, Broken::C1(Leg(0)), b"C1 F1 01/03/08")?;
+    expect_broken(&rt, alloc, &inst, Broken::C2(Leg(1)), b"C2 F22 01/03/08")?;
+    expect_broken(&rt, alloc, &inst, Broken::C3(Leg(0)), b"C3 F1 01/03/08")?;
+    expect_broken(&rt, alloc, &inst, Broken::C4(Leg(0)), b"C4 F1 01/03/08")?;
+    expect_broken(&rt, alloc, &inst, Broken::C5(Leg(0)), b"C5 F1 01/03/08")?;
+    expect_broken(&rt, alloc, &inst, Broken::C6(Leg(0)), b"C6 F1 01/03/08")?;
+    expect_broken(&rt, alloc, &inst, Broken::C7(Leg(0)), b"C7 F1 01/03/08")?;
+    expect_broken(&rt, alloc, &inst, Broken::C8(Plane(0)), b"C8 P1")?;
+    expect_broken(&rt, alloc, &inst, Broken::C9(Plane(1)), b"C9 P2")
+}
+
+#[test]
+fn airports_and_reservations_break(rt: HostRuntime) -> Result<(), Fail> {
+    let alloc = rt.alloc();
+    let inst = day_of(alloc)?;
+    assert!(rt; inst.legs() == 2);
+    assert!(rt; inst.airports() == 1);
+    assert!(rt; inst.reservations() == 2);
+    expect_broken(
+        &rt,
+        alloc,
+        &inst,
+        Broken::C10(Airport(0), 71_568),
+        b"C10 AAA 01/03/08 00",
+    )?;
+    expect_broken(
+        &rt,
+        alloc,
+        &inst,
+        Broken::C11(Airport(0), 876_599),
+        b"C11 AAA 31/12/99 23",
+    )?;
+    expect_broken(
+        &rt,
+        alloc,
+        &inst,
+        Broken::C12(Leg(1), Cabin::B),
+        b"C12 F22 01/03/08 B",
+    )?;
+    expect_broken(&rt, alloc, &inst, Broken::C13(Res(0)), b"C13 R7 A")?;
+    expect_broken(&rt, alloc, &inst, Broken::C14(Res(1)), b"C14 R7 R")?;
+    expect_broken(&rt, alloc, &inst, Broken::C15(Res(1)), b"C15 R7 R")
+}
+
+#[test]
+fn entries_have_lines(rt: HostRuntime) -> Result<(), Fail> {
+    let alloc = rt.alloc();
+    let inst = day_of(alloc)?;
+    let first = set(0, flown(1, 4_294_080), Row::Cancelled);
+    let second = set(1, Row::Cancelled, flown(0, 4_295_519));
+    let asked = Move {
+        steps: List(vec![in alloc; first, second]?),
+    };
+    assert!(rt; fits(&inst, &asked));
+    let entry = Entry {
+        caller: 64,
+        event: Event::Move(asked),
+        answer: Answer::Dearer {
+            now: Grains(0),
+            would: Grains(192_000_000_000),
+        },
+    };
+    let line =
+        b"64,move,set F1 01/03/08 + P2 01/03/08 00:00 - set F22 01/03/08 - + P1 01/03/08 23:59,dearer 0 192000000000\n";
+    let text = journal_line(alloc, &inst, &entry)?;
+    assert_eq!(rt; text.as_slice(), line.as_slice());
+    let entries = [entry];
+    let whole = journal_text(alloc, &inst, &entries)?;
+    assert_eq!(rt; whole.as_slice(), line.as_slice());
+    Ok(())
+}

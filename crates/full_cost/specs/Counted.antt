@@ -1,0 +1,11 @@
+-- Groups whose cost is bounded.
+use Rattle.std.specs.Prelude.{◌≤◌, length}
+use Rattle.desk_data.specs.declared.row.Group.{Group}
+use Rattle.desk_data.specs.Situation.{Situation, legs_of}
+use Rattle.desk_data.specs.Valid.{IsPathOf}
+
+-- a group of at most 1,000 passengers, on at most 8 of the legs
+pub record IsGroupOf (I : Situation) (group : Group) : Type 0 where
+  pub few : group.count ≤ 1000
+  pub short : length group.path ≤ 8
+  pub path_of : IsPathOf (legs_of I) group.path

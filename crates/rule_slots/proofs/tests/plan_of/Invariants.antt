@@ -1,5 +1,0 @@
-use Rattle.desk_data.specs.Valid.{IsPlanFor}
-use Rattle.rule_slots.proofs.tests.plan_of.Given as goal
-
-abbrev pub invariant-loop-x : goal.invariant-loop-x
-invariant-loop-x l = IsPlanFor l.inst l.plan
