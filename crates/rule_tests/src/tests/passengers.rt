@@ -253,6 +253,26 @@ fn paths_are_told(rt: HostRuntime) -> Result<(), Fail> {
     Ok(())
 }
 
+#[test]
+fn each_reservation_keeps_what_it_began_itself(rt: HostRuntime) -> Result<(), Fail> {
+    // what the first booked has begun, and what the second booked has not
+    let day = Day {
+        from: 481,
+        booked: [(1, BOTH), (1, &[DIRECT])],
+        ..USUAL
+    };
+    // the path of the first reservation, and what is broken first
+    let table: [(Way, Option<Broken>); 2] = [(BOTH, None), (&[DIRECT], C15)];
+    for (way, item) in table.iter() {
+        let row = (1, flown(0, 570));
+        assert_eq!(rt;
+            told_of(rt.alloc(), &day, row, [*way, &[DIRECT]])?,
+            Some(*item)
+        );
+    }
+    Ok(())
+}
+
 /// The hauls of the two booked legs, a leg and when it departs, if it does, the path of the first
 /// reservation, and what is broken first. The second reservation is not carried. They are booked to
 /// depart at 480 and to arrive at 630.
