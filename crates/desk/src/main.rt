@@ -4,15 +4,9 @@
 //! order, and writes the journal with its answers and the rotations of the last plan to OUT.
 #![tactic(auto)]
 
-#[cfg(test)]
-mod carried;
-#[cfg(test)]
-mod days;
-mod desk;
-
-pub use desk::desk_main;
 use desk_data::NoMem;
 use desk_folder::{FolderFault, FreeGate, HostFolder, HostSink};
+use desk_top::desk_main;
 use folder_io::put_report;
 use std::alloc::Global;
 use std::env;
@@ -79,8 +73,3 @@ fn main(rt: HostRuntime) -> ExitCode {
     }
     ExitCode::from(settled(alloc, status, &mut folder, &mut out))
 }
-
-#[cfg(test)]
-mod overfull;
-#[cfg(test)]
-mod tests;
