@@ -1,6 +1,6 @@
 //! The instance: the joined rows, shared, and the disruption orders taken so far.
 
-ghost use Rattle.std.specs.Prelude.{◌≡◌, ◌↔◌, ◌<◌, ◌≤◌, ℕ, [], ◌++◌, length, map, All, IfOk, OnOk, OnErr, IfSome, IsTrue, nat_lt};
+ghost use Rattle.std.specs.Prelude.{◌≡◌, ◌<◌, ◌≤◌, ℕ, [], ◌++◌, length, map, All, IfOk, OnOk, OnErr, IfSome, nat_lt};
 ghost use Rattle.desk_data.specs.Hours.{hour_cap, dep_cap, arr_cap};
 ghost use Rattle.desk_data.specs.PlanRows.{row_at};
 ghost use Rattle.desk_data.specs.Situation.{legs_of, planes_of, airports_of, reservations_of, leg_at, plane_at, res_at, airport_at, earliest, latest, ordered_off, fixed, due, spans, begun, bound, delay_of, last_said, scheduled_row, groups_of, schedule};
@@ -43,7 +43,7 @@ impl Model for Instance {
 }
 
 impl Instance {
-    /// The instance of these rows, with no orders. `Parts::are_valid` tests its condition.
+    /// The instance of these rows, with no orders. `are_parts` of day_checks tests its condition.
     pub fn of(alloc: Global, parts: Parts) -> Result<Instance, NoMem>
         requires { AreParts parts }
         ensures { IfOk result (λ inst. inst ≡ record { parts = parts; orders = [] }) }
@@ -314,7 +314,7 @@ impl Instance {
     }
 
     /// Takes the orders of a batch, behind those taken before. After an error the instance is as
-    /// before. `Instance::can_add` tests its condition.
+    /// before. `can_add` of day_checks tests its condition.
     pub fn add(&mut self, alloc: Global, batch: &Batch) -> Result<(), NoMem>
         requires { All (IsOrder self.old.parts) batch.now.orders }
         ensures ok { OnOk result (self.new ≡ record self.old { orders = self.old.orders ++ batch.now.orders }) }
@@ -325,19 +325,6 @@ impl Instance {
         self.orders.extend_from_slice(orders)?;
         self.kept = kept;
         Ok(())
-    }
-
-    /// Whether the orders of a batch can be taken: their legs, aircraft and airports are in range,
-    /// and their delays at most 2,880.
-    pub fn can_add(&self, batch: &Batch) -> bool
-        ensures { IsTrue result ↔ All (IsOrder self.now.parts) batch.now.orders }
-    {
-        let parts = self.parts();
-        batch
-            .orders
-            .as_slice()
-            .iter()
-            .all(|order| is_order(parts, order))
     }
 
     /// What an airport takes in an hour.
@@ -369,19 +356,6 @@ impl Instance {
         ensures limit { delay_of result ≤ 2880 }
     {
         self.kept.leg(leg)
-    }
-}
-
-fn is_order(parts: &Parts, order: &Order) -> bool
-    ensures { IsTrue result ↔ IsOrder parts.now order.now }
-{
-    match order {
-        Order::Flight { leg, delay } => {
-            (leg.0 as usize) < parts.legs.as_slice().len()
-                && delay.is_none_or(|minutes| minutes <= 2_880)
-        }
-        Order::Aircraft { plane, .. } => (plane.0 as usize) < parts.planes.as_slice().len(),
-        Order::Field { airport, .. } => (airport.0 as usize) < parts.airports.as_slice().len(),
     }
 }
 

@@ -12,7 +12,6 @@ mod parts;
 mod path;
 mod plan;
 mod row;
-mod validity;
 
 pub use broken::Broken;
 pub use desk_units::{

@@ -1,12 +1,13 @@
-//! The test whether rows make an instance.
+//! Whether rows make a day.
 
 ghost use Rattle.std.specs.Prelude.{◌≡◌, ◌≢◌, ◌↔◌, ◌≤◌, ◌<◌, ℕ, List, if◌then◌else◌, IsTrue, IfOk, All, AllPairs, length};
 ghost use Rattle.tariff_prices.specs.Rows.{IsPrice};
 ghost use Rattle.desk_data.specs.Valid.{IsSeen, IsPathOf, IsMoment, AreSeats, IsCap, IsAirport, IsMaint, IsPlane, IsLeg, IsReservation, IsPosition, AreDistinct, AreWithinLimits, AreParts};
 
-use crate::info::{AirportInfo, Cap, LegInfo, Maint, PlaneInfo, PositionInfo, ResInfo};
-use crate::parts::Parts;
-use desk_units::{Minute, Name, NoMem, Price, Seats};
+use desk_data::{
+    AirportInfo, Cap, LegInfo, Maint, Minute, Name, NoMem, Parts, PlaneInfo, PositionInfo, Price,
+    ResInfo, Seats,
+};
 use std::alloc::Global;
 use std::collections::HashSet;
 use tariff_prices::are_tariff_rows;
@@ -269,25 +270,27 @@ fn is_window(from: Minute, to: Minute) -> bool
     is_moment(from) && is_moment(to)
 }
 
-impl Parts {
-    /// Whether these rows make an instance: no list is longer than its limit, each number is in its
-    /// range, each name is of bytes from `!` to `~`, no two airports, aircraft, legs (by flight and
-    /// day) or reservations (by name and direction) are named alike, and no two rows of the tariff
-    /// say the same.
-    pub fn are_valid(&self, alloc: Global) -> Result<bool, NoMem>
-        ensures { IfOk result (λ valid. IsTrue valid ↔ AreParts self.now) }
+/// Whether these rows make an instance: no list is longer than its limit, each number is in its
+/// range, each name is of bytes from `!` to `~`, no two airports, aircraft, legs (by flight and
+/// day) or reservations (by name and direction) are named alike, and no two rows of the tariff
+/// say the same.
+///
+/// # Errors
+///
+/// Memory was refused.
+pub fn are_parts(alloc: Global, parts: &Parts) -> Result<bool, NoMem>
+    ensures { IfOk result (λ valid. IsTrue valid ↔ AreParts parts.now) }
+{
+    if !are_within_limits(parts)
+        || !are_airports(parts)
+        || !are_planes(parts)
+        || !are_legs(parts)
+        || !are_reservations(parts)
+        || !are_positions(parts)
+        || !is_window(parts.from, parts.to)
+        || !are_tariff_rows(parts.tariff.rows.as_slice())
     {
-        if !are_within_limits(self)
-            || !are_airports(self)
-            || !are_planes(self)
-            || !are_legs(self)
-            || !are_reservations(self)
-            || !are_positions(self)
-            || !is_window(self.from, self.to)
-            || !are_tariff_rows(self.tariff.rows.as_slice())
-        {
-            return Ok(false);
-        }
-        are_distinct(alloc, self)
+        return Ok(false);
     }
+    are_distinct(alloc, parts)
 }

@@ -1,6 +1,6 @@
 use Rattle.std.proofs.Common.{refl}
 use Rattle.std.proofs.lemmas.Result.{IfOk-weaker}
-use Rattle.desk_data.proofs.parts.Parts.are_valid.Goals as goal
+use Rattle.day_checks.proofs.parts.are_parts.Goals as goal
 
 pub returns : goal.returns
 returns c =

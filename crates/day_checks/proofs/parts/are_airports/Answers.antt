@@ -6,7 +6,7 @@ use Rattle.std.proofs.lemmas.Iterator.Search.{true_from_All}
 use Rattle.std.proofs.lemmas.List.Elements.{All-from_all_within}
 use Rattle.desk_data.specs.declared.info.AirportInfo.{AirportInfo}
 use Rattle.desk_data.specs.Valid.{IsAirport}
-use Rattle.desk_data.proofs.validity.are_airports.Goals as goal
+use Rattle.day_checks.proofs.parts.are_airports.Goals as goal
 
 when_true : {P : Type 0} (Q : Type 0) (r : Bool) → MatchBool r P Q → r ≡ true → P
 when_true Q true h e = h

@@ -1,8 +1,8 @@
 use Rattle.std.proofs.Common.{◌≡◌, ℕ, Bool, true, false, not, List, take, refl, arith, ap, ◌∙◌, subst}
 use Rattle.std.specs.List.{list_any}
 use Rattle.std.proofs.lemmas.List.{take_all}
-use Rattle.desk_data.proofs.NameLemmas.{same_key, seen_more, apart_more, not_apart}
-use Rattle.desk_data.proofs.validity.are_named_apart.Goals as goal
+use Rattle.day_checks.proofs.NameLemmas.{same_key, seen_more, apart_more, not_apart}
+use Rattle.day_checks.proofs.parts.are_named_apart.Goals as goal
 
 pub loop-row-init : goal.loop-row-init
 loop-row-init g c = record {

@@ -2,8 +2,8 @@ use Rattle.std.proofs.Common.{◌≡◌, ◌≢◌, ℕ, List, take, eqb, ◌&&�
 use Rattle.std.specs.List.{AllPairs, list_any}
 use Rattle.std.specs.Str.{bytes_eq}
 use Rattle.std.specs.HashSet as bag
-use Rattle.desk_data.proofs.NameLemmas.{same_key}
-use Rattle.desk_data.proofs.validity.are_named_apart.Given as goal
+use Rattle.day_checks.proofs.NameLemmas.{same_key}
+use Rattle.day_checks.proofs.parts.are_named_apart.Given as goal
 
 -- the set has the names of the rows so far, and these are named apart
 abbrev pub invariant-loop-row : goal.invariant-loop-row
