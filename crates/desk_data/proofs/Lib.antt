@@ -1,7 +1,4 @@
 mod BegunLemmas
-mod ChangeLemmas
-mod KeptLemmas
-mod LastLemmas
+mod KeepsLemmas
 mod SaidLemmas
 mod ScheduleLemmas
-mod TouchLemmas

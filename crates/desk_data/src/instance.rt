@@ -1,19 +1,20 @@
 //! The instance: the joined rows, shared, and the disruption orders taken so far.
 
 ghost use Rattle.std.specs.Prelude.{◌≡◌, ◌<◌, ◌≤◌, ℕ, [], ◌++◌, length, map, All, IfOk, OnOk, OnErr, IfSome, nat_lt};
+ghost use Rattle.day_orders.specs.KeptLists.{nothing_kept};
+ghost use Rattle.day_orders.specs.Said.{last_said};
 ghost use Rattle.desk_data.specs.Hours.{hour_cap, dep_cap, arr_cap};
 ghost use Rattle.desk_data.specs.PlanRows.{row_at};
-ghost use Rattle.desk_data.specs.Situation.{legs_of, planes_of, airports_of, reservations_of, leg_at, plane_at, res_at, airport_at, earliest, latest, ordered_off, fixed, due, spans, begun, bound, delay_of, last_said, scheduled_row, groups_of, schedule};
+ghost use Rattle.desk_data.specs.Situation.{legs_of, planes_of, airports_of, reservations_of, leg_at, plane_at, res_at, airport_at, earliest, latest, ordered_off, fixed, due, spans, begun, bound, delay_of, scheduled_row, groups_of, schedule};
 ghost use Rattle.desk_data.specs.Valid.{AreParts, IsValid, IsLeg, IsPlane, IsReservation, IsAirport, IsOrder, IsRowOf, IsPlanFor};
 
-use crate::hours::{HourCap, cap_at, cap_of_line};
+use crate::hours::cap_of_line;
 use crate::info::{AirportInfo, LegInfo, PlaneInfo, PositionInfo, ResInfo};
-use crate::kept::Kept;
-use crate::orders::{Batch, Order};
 use crate::parts::Parts;
 use crate::path::Path;
 use crate::plan::Plan;
 use crate::row::{Group, Row};
+use day_orders::{Batch, HourCap, Kept, Order, cap_at};
 use desk_units::{Airport, Leg, Minute, NoMem, Plane, Res, Tariff};
 use std::alloc::Global;
 use std::marker::Model;
@@ -32,7 +33,7 @@ pub struct Instance {
 
 impl Model for Instance {
     ghost use Rattle.desk_data.specs.Situation.{Situation};
-    ghost use Rattle.desk_data.specs.KeptLists.{IsWhole};
+    ghost use Rattle.desk_data.specs.Keeps.{IsWhole};
     ghost use Rattle.std.specs.Arc.{arc_value};
 
     ghost Value = { Situation };
@@ -48,7 +49,7 @@ impl Instance {
         requires { AreParts parts }
         ensures { IfOk result (λ inst. inst ≡ record { parts = parts; orders = [] }) }
     {
-        let kept = Kept::nothing(alloc, &parts)?;
+        let kept = nothing_kept(alloc, &parts)?;
         let prices = Arc::new(alloc, Prices::of(alloc, &parts.tariff)?)?;
         let parts = Arc::new(alloc, parts)?;
         let orders = Vec::new(alloc);
@@ -357,6 +358,16 @@ impl Instance {
     {
         self.kept.leg(leg)
     }
+}
+
+/// What is kept of no orders.
+fn nothing_kept(alloc: Global, parts: &Parts) -> Result<Kept, NoMem>
+    ensures { IfOk result (λ kept. kept ≡ nothing_kept (length parts.now.legs) (length parts.now.planes) (length parts.now.airports)) }
+{
+    let legs = parts.legs.as_slice().len();
+    let planes = parts.planes.as_slice().len();
+    let airports = parts.airports.as_slice().len();
+    Kept::nothing(alloc, legs, planes, airports)
 }
 
 fn scheduled_rows(alloc: Global, legs: &[LegInfo]) -> Result<Vec<Row>, NoMem>
