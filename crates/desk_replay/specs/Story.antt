@@ -25,7 +25,7 @@ use Rattle.read_fleet.specs.declared.aircraft.AircraftRow.{AircraftRow}
 use Rattle.read_fleet.specs.declared.position.PositionRow.{PositionRow}
 use Rattle.read_fleet.specs.Aircraft.{aircraft_row}
 use Rattle.read_fleet.specs.Position.{position_row}
-use Rattle.desk_build.specs.declared.files.Files.{Files}
+use Rattle.build_tables.specs.declared.files.Files.{Files}
 use Rattle.desk_build.specs.Joined.{joined}
 use Rattle.early_form.specs.declared.rows.JournalRow.{JournalRow}
 use Rattle.early_form.specs.Journal.{moves_of}
