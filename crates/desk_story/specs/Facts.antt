@@ -1,6 +1,6 @@
 -- What holds of the rows and of the story that were read.
 use Rattle.std.specs.Prelude.{◌≡◌, []}
-use Rattle.desk_build.specs.Facts.{AreFileRows}
+use Rattle.build_tables.specs.Facts.{AreFileRows}
 use Rattle.early_form.specs.Facts.{AreProposals}
 use Rattle.desk_model.specs.Histories.{AreAskable}
 use Rattle.desk_story.specs.declared.rows.InputRows.{InputRows}

@@ -17,7 +17,7 @@ use Rattle.read_legs.specs.Flights.{flight_row}
 use Rattle.read_legs.specs.Rotations.{rotation_row}
 use Rattle.read_fleet.specs.Aircraft.{aircraft_row}
 use Rattle.read_fleet.specs.Position.{position_row}
-use Rattle.desk_build.specs.declared.files.Files.{Files}
+use Rattle.build_tables.specs.declared.files.Files.{Files}
 use Rattle.desk_build.specs.Joined.{joined}
 use Rattle.early_form.specs.declared.rows.JournalRow.{JournalRow}
 use Rattle.early_form.specs.Journal.{moves_of}
