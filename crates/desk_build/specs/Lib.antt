@@ -1,9 +1,4 @@
-pub mod Keys
-pub mod Found
-pub mod Names
-pub mod Refusals
-pub mod Legs
 pub mod Joined
-pub mod Facts
-pub mod Numbered
 pub mod Told
+pub use Rattle.build_tables.specs.Facts
+pub use Rattle.build_refusals.specs.Refusals

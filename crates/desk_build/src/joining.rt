@@ -1,14 +1,13 @@
 //! The join.
 
 ghost use Rattle.std.specs.Prelude.{◌≡◌, [], IfOk};
-ghost use Rattle.desk_build.specs.Facts.{AreFileRows};
+ghost use Rattle.build_tables.specs.Facts.{AreFileRows};
 ghost use Rattle.desk_build.specs.Joined.{joined, JoinGives};
 
 use crate::fault::BuildFault;
-use crate::files::Files;
-use crate::parts::parts;
-use crate::refusals::refusal;
-use crate::tables::Tables;
+use build_day::day_of;
+use build_refusals::first_refusal;
+use build_tables::{Files, Tables};
 use desk_data::Instance;
 use std::alloc::Global;
 
@@ -19,6 +18,19 @@ pub struct Built {
     pub inst: Instance,
 }
 
+/// The day of the rows of these tables, or the first refusal.
+fn join(alloc: Global, tables: &Tables<'_>) -> Result<Built, BuildFault>
+    requires { AreFileRows tables.now.files.now }
+    ensures exact { JoinGives result (joined tables.now.files.now) }
+    ensures fresh { IfOk result (λ built. built.inst.orders ≡ []) }
+{
+    if let Some((file, line, cause)) = first_refusal(tables) {
+        return Err(BuildFault::Refused { file, line, cause });
+    }
+    let inst = day_of(alloc, tables)?;
+    Ok(Built { inst })
+}
+
 /// The day of the rows, with no orders yet, or the first refusal in the order of the files, then of
 /// their lines, then of the causes. `BuildFault::Memory` may come at any time.
 pub fn build(alloc: Global, files: &Files) -> Result<Built, BuildFault>
@@ -27,10 +39,5 @@ pub fn build(alloc: Global, files: &Files) -> Result<Built, BuildFault>
     ensures fresh { IfOk result (λ built. built.inst.orders ≡ []) }
 {
     let tables = Tables::of(alloc, files)?;
-    if let Some((file, line, cause)) = refusal(&tables) {
-        return Err(BuildFault::Refused { file, line, cause });
-    }
-    let parts = parts(alloc, &tables)?;
-    let inst = Instance::of(alloc, parts)?;
-    Ok(Built { inst })
+    join(alloc, &tables)
 }

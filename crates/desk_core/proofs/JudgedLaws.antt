@@ -7,11 +7,11 @@ use Rattle.desk_data.specs.declared.moves.Move.{Move}
 use Rattle.desk_data.specs.Situation.{Situation}
 use Rattle.desk_data.specs.PlanRows.{PlanRows}
 use Rattle.desk_data.specs.Valid.{IsPlanFor}
+use Rattle.desk_rules.specs.Least.{least}
+use Rattle.desk_rules.specs.Cost.{cost, grains}
 use Rattle.desk_model.specs.declared.answer.Answer.TheVariants.{Breaks, Dearer, NoPlan}
-use Rattle.desk_model.specs.Least.{least}
-use Rattle.desk_model.specs.Cost.{cost}
 use Rattle.desk_model.specs.Steps.{moved}
-use Rattle.desk_model.specs.States.{State, grains, answer}
+use Rattle.desk_model.specs.States.{State, answer}
 use Rattle.desk_model.proofs.StateLaws.{accepted-from}
 use Rattle.desk_core.specs.declared.judged.Judged.TheVariants.{Published, Refused}
 use Rattle.desk_core.specs.Judged.{IsJudged}

@@ -10,13 +10,13 @@ use Rattle.desk_data.specs.Situation.{Situation, schedule}
 use Rattle.desk_data.specs.PlanRows.{PlanRows}
 use Rattle.desk_data.specs.Valid.{IsPlanFor}
 use Rattle.desk_data.specs.Fits.{Fits}
+use Rattle.desk_rules.specs.Least.{least}
+use Rattle.desk_rules.specs.Cost.{cost, grains}
 use Rattle.desk_model.specs.declared.answer.Answer.{Answer}
 use Rattle.desk_model.specs.declared.answer.Answer.TheVariants.{Accepted}
 use Rattle.desk_model.specs.declared.answer.Event.TheVariants as event
 use Rattle.desk_model.specs.declared.answer.Entry.{Entry}
-use Rattle.desk_model.specs.Least.{least}
-use Rattle.desk_model.specs.Cost.{cost}
-use Rattle.desk_model.specs.States.{State, grains, opening, answer}
+use Rattle.desk_model.specs.States.{State, opening, answer}
 use Rattle.desk_model.specs.Histories.{state, proposal_limit, Stands, changes, is_change}
 use Rattle.desk_model.proofs.StateLaws.{accepted-cause, after-accepted, after-unchanged}
 use Rattle.desk_model.proofs.HistoryLaws.{state-append, legal-append, legal-nil}

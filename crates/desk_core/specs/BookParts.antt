@@ -5,9 +5,9 @@ use Rattle.desk_data.specs.declared.broken.Broken.{Broken}
 use Rattle.desk_data.specs.Situation.{Situation}
 use Rattle.desk_data.specs.PlanRows.{PlanRows}
 use Rattle.desk_data.specs.Valid.{IsPlanFor}
+use Rattle.desk_rules.specs.Cost.{cost, grains}
 use Rattle.desk_model.specs.declared.answer.Entry.{Entry}
-use Rattle.desk_model.specs.Cost.{cost}
-use Rattle.desk_model.specs.States.{grains, opening}
+use Rattle.desk_model.specs.States.{opening}
 use Rattle.desk_model.specs.Histories.{state, proposal_limit, IsLegal, changes}
 
 -- the instance, the plan, the broken item, the stored cost and the count of changes are those of the journal h

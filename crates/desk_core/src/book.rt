@@ -43,8 +43,9 @@ impl Model for Book {
 impl Book {
     ghost use Rattle.desk_data.specs.Valid.{IsPlanFor};
     ghost use Rattle.desk_data.specs.Fits.{Fits};
+    ghost use Rattle.desk_rules.specs.Cost.{grains};
     ghost use Rattle.desk_model.specs.declared.answer.Event.TheVariants as event;
-    ghost use Rattle.desk_model.specs.States.{opening, grains};
+    ghost use Rattle.desk_model.specs.States.{opening};
     ghost use Rattle.desk_model.specs.Histories.{changes, IsLegal};
     ghost use Rattle.desk_model.specs.Promises.{cost_of, KeepsPromises};
     ghost use Rattle.desk_core.specs.Recorded.{Recorded, state_of, replied, recorded, accepted};

@@ -1,8 +1,4 @@
 mod BegunLemmas
-mod ChangeLemmas
-mod KeptLemmas
-mod LastLemmas
-mod NameLemmas
+mod KeepsLemmas
 mod SaidLemmas
 mod ScheduleLemmas
-mod TouchLemmas

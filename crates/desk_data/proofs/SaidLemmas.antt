@@ -4,10 +4,11 @@ use Rattle.std.specs.Bool.{if◌then◌else◌}
 use Rattle.std.specs.Option.{option_or, ForSome}
 use Rattle.std.specs.List.{All}
 use Rattle.std.proofs.lemmas.List.Elements.{All-head, All-tail}
-use Rattle.desk_data.specs.declared.orders.Order.{Order}
-use Rattle.desk_data.specs.declared.orders.Order.TheVariants.{Flight, Aircraft, Field}
+use Rattle.day_orders.specs.declared.orders.Order.{Order}
+use Rattle.day_orders.specs.declared.orders.Order.TheVariants.{Flight, Aircraft, Field}
 use Rattle.desk_data.specs.declared.parts.Parts.{Parts}
-use Rattle.desk_data.specs.Situation.{said_of, last_said, delay_of}
+use Rattle.day_orders.specs.Said.{said_of, last_said}
+use Rattle.desk_data.specs.Situation.{delay_of}
 use Rattle.desk_data.specs.Valid.{IsOrder}
 
 none_or : (o : Option (Option ℕ)) → o ≡ option_or o None

@@ -1,25 +1,10 @@
 -- How many departures and arrivals an airport takes in an hour. Hour h is the minutes from 60h to 60h + 59.
-use Rattle.std.specs.Prelude.{ℕ, ◌+◌, ◌*◌, ◌%◌, Bool, ◌&&◌, ◌||◌, nat_lt, nat_le, ◌==◌, if◌then◌else◌, List, [], ◌∷◌, Option, Some, None}
+use Rattle.std.specs.Prelude.{ℕ, ◌*◌, ◌%◌, Bool, ◌&&◌, ◌||◌, nat_lt, nat_le, ◌==◌, if◌then◌else◌, Option, Some, None}
 use Rattle.std.specs.Option.{option_or, option_map}
+use Rattle.day_orders.specs.declared.hours.HourCap.{HourCap}
+use Rattle.day_orders.specs.Said.{last_word, said_of_hour}
 use Rattle.desk_data.specs.declared.info.Cap.{Cap}
-use Rattle.desk_data.specs.declared.hours.HourCap.{HourCap}
-use Rattle.desk_data.specs.declared.orders.Order.{Order}
-use Rattle.desk_data.specs.declared.orders.Order.TheVariants.{Field}
 use Rattle.desk_data.specs.Situation.{Situation, airport_at}
-
--- the last row that says anything decides
-unfoldable pub last_word : {X Y : Type 0} → (X → Option Y) → List X → Option Y
-last_word says [] = None
-last_word says (row ∷ rows) = option_or (last_word says rows) (says row)
-
--- whether a span, from one minute up to but not including the other, has a minute in hour h: it has one at all, begins before the hour's end, and ends behind the hour's start
-unfoldable pub touches : ℕ → ℕ → ℕ → Bool
-touches h from to = nat_lt from to && (nat_lt from (60 * h + 60) && nat_lt (60 * h) to)
-
--- what an order says of airport a in hour h
-abbrev pub said_of_hour : ℕ → ℕ → Order → Option HourCap
-said_of_hour a h (Field airport from to deps arrs) = if airport.0 == a && touches h from.0 to.0 then Some (record { deps = deps; arrs = arrs }) else None
-said_of_hour a h order = None
 
 -- the minute of the day at which a group ends: 00:00 is the day's end, as 24:00 is
 abbrev pub end_of : Cap → ℕ

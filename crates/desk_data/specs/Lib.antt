@@ -1,6 +1,6 @@
 pub mod Situation
 pub mod Hours
-pub mod KeptLists
+pub mod Keeps
 pub mod PlanRows
 pub mod Valid
 pub mod Fits

@@ -2,18 +2,17 @@
 -- what is out of range is a row of nothing.
 use Rattle.std.specs.Prelude.{ℕ, ◌+◌, Bool, false, ◌&&◌, ◌||◌, nat_lt, ◌==◌, if◌then◌else◌, List, [], ◌∷◌, Option, Some, None, length, map, take, slice_index_or, unwrap_or, is_none}
 use Rattle.std.specs.List.{filter_map, prefix_len, starts_with}
-use Rattle.std.specs.Option.{option_or}
 use Rattle.desk_units.specs.declared.numbers.Cabin.{Cabin}
 use Rattle.desk_units.specs.declared.numbers.Haul.TheVariants.{D}
 use Rattle.desk_units.specs.declared.numbers.Leg.{Leg}
 use Rattle.desk_units.specs.declared.numbers.Minute.{Minute}
+use Rattle.day_orders.specs.declared.orders.Order.{Order}
+use Rattle.day_orders.specs.Said.{last_said, span_of}
 use Rattle.desk_data.specs.declared.info.LegInfo.{LegInfo}
 use Rattle.desk_data.specs.declared.info.PlaneInfo.{PlaneInfo}
 use Rattle.desk_data.specs.declared.info.ResInfo.{ResInfo}
 use Rattle.desk_data.specs.declared.info.AirportInfo.{AirportInfo}
 use Rattle.desk_data.specs.declared.parts.Parts.{Parts}
-use Rattle.desk_data.specs.declared.orders.Order.{Order}
-use Rattle.desk_data.specs.declared.orders.Order.TheVariants.{Flight, Aircraft}
 use Rattle.desk_data.specs.declared.row.Row.{Row}
 use Rattle.desk_data.specs.declared.row.Row.TheVariants.{Flown, Cancelled}
 use Rattle.desk_data.specs.declared.row.Group.{Group}
@@ -64,16 +63,6 @@ res_at I r = slice_index_or I.parts.res r no_res
 abbrev pub airport_at : Situation → ℕ → AirportInfo
 airport_at I a = slice_index_or I.parts.airports a no_airport
 
--- what an order says of leg x: a delay, or None inside where it is off
-abbrev pub said_of : ℕ → Order → Option (Option ℕ)
-said_of x (Flight leg delay) = if leg.0 == x then Some delay else None
-said_of x order = None
-
--- the last flight order of leg x decides
-unfoldable pub last_said : ℕ → List Order → Option (Option ℕ)
-last_said x [] = None
-last_said x (order ∷ orders) = option_or (last_said x orders) (said_of x order)
-
 -- the minutes by which the orders delay leg x
 unfoldable pub delay_of : Option (Option ℕ) → ℕ
 delay_of None = 0
@@ -100,11 +89,6 @@ fixed I x = (plane_at I (leg_at I x).plane.0).surface || nat_lt (leg_at I x).sch
 -- the row that a fixed leg should have: it is cancelled if it is ordered off, and else flown by its scheduled aircraft at its earliest departure. A movable leg should have none
 unfoldable pub due : Situation → ℕ → Option Row
 due I x = if fixed I x then Some (if ordered_off I x then Cancelled else Flown (leg_at I x).plane (record { 0 = earliest I x })) else None
-
--- the span that an order puts aircraft p out of service
-abbrev pub span_of : ℕ → Order → Option (Minute × Minute)
-span_of p (Aircraft plane from to) = if plane.0 == p then Some (from, to) else None
-span_of p order = None
 
 -- the spans in which aircraft p is out of service, in the order of the orders
 unfoldable pub spans : Situation → ℕ → List (Minute × Minute)

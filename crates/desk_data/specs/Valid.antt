@@ -5,6 +5,8 @@ use Rattle.std.specs.Option.{ForSome}
 use Rattle.desk_units.specs.declared.numbers.Leg.{Leg}
 use Rattle.desk_units.specs.declared.numbers.Cabin.{Cabin}
 use Rattle.desk_units.specs.declared.numbers.Seats.{Seats}
+use Rattle.day_orders.specs.declared.orders.Order.{Order}
+use Rattle.day_orders.specs.declared.orders.Order.TheVariants.{Flight, Aircraft, Field}
 use Rattle.tariff_prices.specs.Rows.{AreTariffRows, IsPrice}
 use Rattle.desk_data.specs.declared.info.LegInfo.{LegInfo}
 use Rattle.desk_data.specs.declared.info.PlaneInfo.{PlaneInfo}
@@ -14,8 +16,6 @@ use Rattle.desk_data.specs.declared.info.Cap.{Cap}
 use Rattle.desk_data.specs.declared.info.AirportInfo.{AirportInfo}
 use Rattle.desk_data.specs.declared.info.PositionInfo.{PositionInfo}
 use Rattle.desk_data.specs.declared.parts.Parts.{Parts}
-use Rattle.desk_data.specs.declared.orders.Order.{Order}
-use Rattle.desk_data.specs.declared.orders.Order.TheVariants.{Flight, Aircraft, Field}
 use Rattle.desk_data.specs.declared.row.Row.{Row}
 use Rattle.desk_data.specs.declared.row.Row.TheVariants.{Flown, Cancelled}
 use Rattle.desk_data.specs.declared.row.Group.{Group}

@@ -1,30 +1,11 @@
-//! How many departures and arrivals an airport takes in an hour: what its line says, and what
-//! airport orders say, kept as the hours at which that changes.
+//! How many departures and arrivals an airport takes in an hour by its line.
 
-ghost use Rattle.std.specs.Prelude.{◌≡◌, ◌≤◌, ◌<◌, ℕ, IfOk, Some, false, ◌&&◌, nat_le, nat_lt, if◌then◌else◌, IfSome, IfNone, All, length, take, drop};
-ghost use Rattle.desk_data.specs.Hours.{last_word, touches, covers, said_of_day};
-ghost use Rattle.desk_data.specs.KeptLists.{AreInOrder, kept_cap};
+ghost use Rattle.std.specs.Prelude.{◌≡◌};
+ghost use Rattle.day_orders.specs.Said.{last_word};
+ghost use Rattle.desk_data.specs.Hours.{covers, said_of_day};
 
 use crate::info::Cap;
-use desk_units::{Minute, NoMem};
-use std::alloc::Global;
-
-/// What an airport takes in an hour.
-#[derive(Clone, Copy, Debug)]
-pub struct HourCap {
-    /// Departures.
-    pub deps: u32,
-    /// Arrivals.
-    pub arrs: u32,
-}
-
-/// What the orders say of an airport from an hour on, up to the hour of the next change.
-#[derive(Clone, Copy, Debug)]
-pub struct Change {
-    pub hour: u32,
-    /// `None` where they say nothing.
-    pub cap: Option<HourCap>,
-}
+use day_orders::HourCap;
 
 /// What the last group of an airport's line says that covers a minute of the day.
 pub fn cap_of_line(groups: &[Cap], minute: u32) -> Option<HourCap>
@@ -60,80 +41,4 @@ fn covers(group: &Cap, minute: u32) -> bool
     } else {
         group.from <= minute || minute < end
     }
-}
-
-/// The hours that have a minute of a span: from the first up to but not including the second. `None`
-/// where the span has no minute.
-pub fn hours_of(from: Minute, to: Minute) -> Option<(u32, u32)>
-    ensures some { IfSome result (λ hours. (h : ℕ) → touches h from.0 to.0 ≡ (nat_le hours.0 h && nat_lt h hours.1)) }
-    ensures up { IfSome result (λ hours. hours.0 < hours.1) }
-    ensures none { IfNone result ((h : ℕ) → touches h from.0 to.0 ≡ false) }
-{
-    if from.0 < to.0 {
-        Some((from.0 / 60, (to.0 - 1) / 60 + 1))
-    } else {
-        None
-    }
-}
-
-/// How many changes stand before an hour.
-fn count_before(changes: &[Change], hour: u32) -> usize
-    requires { AreInOrder changes.now }
-    ensures within { result ≤ length changes.now }
-    ensures front { All (λ change. change.hour < hour) (take result changes.now) }
-    ensures rest { All (λ change. hour ≤ change.hour) (drop result changes.now) }
-{
-    changes.partition_point(|change| change.hour < hour)
-}
-
-/// How many changes stand at or before an hour.
-fn count_up_to(changes: &[Change], hour: u32) -> usize
-    requires { AreInOrder changes.now }
-    ensures within { result ≤ length changes.now }
-    ensures front { All (λ change. change.hour ≤ hour) (take result changes.now) }
-    ensures rest { All (λ change. hour < change.hour) (drop result changes.now) }
-{
-    changes.partition_point(|change| change.hour <= hour)
-}
-
-/// What the changes say of an hour: what the last one at or before it says.
-pub fn cap_at(changes: &[Change], hour: u32) -> Option<HourCap>
-    requires { AreInOrder changes.now }
-    ensures { result ≡ kept_cap changes.now hour }
-{
-    let next = count_up_to(changes, hour);
-    if next == 0 {
-        None
-    } else {
-        changes[next - 1].cap
-    }
-}
-
-/// The changes with this cap from one hour up to but not including the other.
-pub fn with_cap(
-    alloc: Global,
-    changes: &[Change],
-    first: u32,
-    behind: u32,
-    cap: HourCap,
-) -> Result<Vec<Change>, NoMem>
-    requires order { AreInOrder changes.now }
-    requires up { first < behind }
-    ensures order { IfOk result (λ new. AreInOrder new.items) }
-    ensures caps { IfOk result (λ new. (h : ℕ) → kept_cap new.items h ≡ (if nat_le first h && nat_lt h behind then Some cap else kept_cap changes.now h)) }
-{
-    let start = count_before(changes, first);
-    let end = count_up_to(changes, behind);
-    let resumed = cap_at(changes, behind);
-    let mut new = Vec::from_slice(alloc, &changes[..start])?;
-    new.push(Change {
-        hour: first,
-        cap: Some(cap),
-    })?;
-    new.push(Change {
-        hour: behind,
-        cap: resumed,
-    })?;
-    new.extend_from_slice(&changes[end..])?;
-    Ok(new)
 }

@@ -1,19 +1,20 @@
 //! The instance: the joined rows, shared, and the disruption orders taken so far.
 
-ghost use Rattle.std.specs.Prelude.{◌≡◌, ◌↔◌, ◌<◌, ◌≤◌, ℕ, [], ◌++◌, length, map, All, IfOk, OnOk, OnErr, IfSome, IsTrue, nat_lt};
+ghost use Rattle.std.specs.Prelude.{◌≡◌, ◌<◌, ◌≤◌, ℕ, [], ◌++◌, length, map, All, IfOk, OnOk, OnErr, IfSome, nat_lt};
+ghost use Rattle.day_orders.specs.KeptLists.{nothing_kept};
+ghost use Rattle.day_orders.specs.Said.{last_said};
 ghost use Rattle.desk_data.specs.Hours.{hour_cap, dep_cap, arr_cap};
 ghost use Rattle.desk_data.specs.PlanRows.{row_at};
-ghost use Rattle.desk_data.specs.Situation.{legs_of, planes_of, airports_of, reservations_of, leg_at, plane_at, res_at, airport_at, earliest, latest, ordered_off, fixed, due, spans, begun, bound, delay_of, last_said, scheduled_row, groups_of, schedule};
+ghost use Rattle.desk_data.specs.Situation.{legs_of, planes_of, airports_of, reservations_of, leg_at, plane_at, res_at, airport_at, earliest, latest, ordered_off, fixed, due, spans, begun, bound, delay_of, scheduled_row, groups_of, schedule};
 ghost use Rattle.desk_data.specs.Valid.{AreParts, IsValid, IsLeg, IsPlane, IsReservation, IsAirport, IsOrder, IsRowOf, IsPlanFor};
 
-use crate::hours::{HourCap, cap_at, cap_of_line};
+use crate::hours::cap_of_line;
 use crate::info::{AirportInfo, LegInfo, PlaneInfo, PositionInfo, ResInfo};
-use crate::kept::Kept;
-use crate::orders::{Batch, Order};
 use crate::parts::Parts;
 use crate::path::Path;
 use crate::plan::Plan;
 use crate::row::{Group, Row};
+use day_orders::{Batch, HourCap, Kept, Order, cap_at};
 use desk_units::{Airport, Leg, Minute, NoMem, Plane, Res, Tariff};
 use std::alloc::Global;
 use std::marker::Model;
@@ -32,7 +33,7 @@ pub struct Instance {
 
 impl Model for Instance {
     ghost use Rattle.desk_data.specs.Situation.{Situation};
-    ghost use Rattle.desk_data.specs.KeptLists.{IsWhole};
+    ghost use Rattle.desk_data.specs.Keeps.{IsWhole};
     ghost use Rattle.std.specs.Arc.{arc_value};
 
     ghost Value = { Situation };
@@ -43,12 +44,12 @@ impl Model for Instance {
 }
 
 impl Instance {
-    /// The instance of these rows, with no orders. `Parts::are_valid` tests its condition.
+    /// The instance of these rows, with no orders. `are_parts` of day_checks tests its condition.
     pub fn of(alloc: Global, parts: Parts) -> Result<Instance, NoMem>
         requires { AreParts parts }
         ensures { IfOk result (λ inst. inst ≡ record { parts = parts; orders = [] }) }
     {
-        let kept = Kept::nothing(alloc, &parts)?;
+        let kept = nothing_kept(alloc, &parts)?;
         let prices = Arc::new(alloc, Prices::of(alloc, &parts.tariff)?)?;
         let parts = Arc::new(alloc, parts)?;
         let orders = Vec::new(alloc);
@@ -314,7 +315,7 @@ impl Instance {
     }
 
     /// Takes the orders of a batch, behind those taken before. After an error the instance is as
-    /// before. `Instance::can_add` tests its condition.
+    /// before. `can_add` of day_checks tests its condition.
     pub fn add(&mut self, alloc: Global, batch: &Batch) -> Result<(), NoMem>
         requires { All (IsOrder self.old.parts) batch.now.orders }
         ensures ok { OnOk result (self.new ≡ record self.old { orders = self.old.orders ++ batch.now.orders }) }
@@ -325,19 +326,6 @@ impl Instance {
         self.orders.extend_from_slice(orders)?;
         self.kept = kept;
         Ok(())
-    }
-
-    /// Whether the orders of a batch can be taken: their legs, aircraft and airports are in range,
-    /// and their delays at most 2,880.
-    pub fn can_add(&self, batch: &Batch) -> bool
-        ensures { IsTrue result ↔ All (IsOrder self.now.parts) batch.now.orders }
-    {
-        let parts = self.parts();
-        batch
-            .orders
-            .as_slice()
-            .iter()
-            .all(|order| is_order(parts, order))
     }
 
     /// What an airport takes in an hour.
@@ -372,17 +360,14 @@ impl Instance {
     }
 }
 
-fn is_order(parts: &Parts, order: &Order) -> bool
-    ensures { IsTrue result ↔ IsOrder parts.now order.now }
+/// What is kept of no orders.
+fn nothing_kept(alloc: Global, parts: &Parts) -> Result<Kept, NoMem>
+    ensures { IfOk result (λ kept. kept ≡ nothing_kept (length parts.now.legs) (length parts.now.planes) (length parts.now.airports)) }
 {
-    match order {
-        Order::Flight { leg, delay } => {
-            (leg.0 as usize) < parts.legs.as_slice().len()
-                && delay.is_none_or(|minutes| minutes <= 2_880)
-        }
-        Order::Aircraft { plane, .. } => (plane.0 as usize) < parts.planes.as_slice().len(),
-        Order::Field { airport, .. } => (airport.0 as usize) < parts.airports.as_slice().len(),
-    }
+    let legs = parts.legs.as_slice().len();
+    let planes = parts.planes.as_slice().len();
+    let airports = parts.airports.as_slice().len();
+    Kept::nothing(alloc, legs, planes, airports)
 }
 
 fn scheduled_rows(alloc: Global, legs: &[LegInfo]) -> Result<Vec<Row>, NoMem>

@@ -5,16 +5,14 @@ mod broken;
 mod hours;
 mod info;
 mod instance;
-mod kept;
 mod moves;
-mod orders;
 mod parts;
 mod path;
 mod plan;
 mod row;
-mod validity;
 
 pub use broken::Broken;
+pub use day_orders::{Batch, Order};
 pub use desk_units::{
     Airport, Cabin, Grains, Haul, Leg, List, Minute, Name, NoMem, Plane, Price, Res, Seats, Steps,
     Tariff, TariffRow, Term, Weight,
@@ -22,7 +20,6 @@ pub use desk_units::{
 pub use info::{AirportInfo, Cap, LegInfo, Maint, PlaneInfo, PositionInfo, ResInfo};
 pub use instance::Instance;
 pub use moves::{Move, Step, fits};
-pub use orders::{Batch, Order};
 pub use parts::Parts;
 pub use path::Path;
 pub use plan::Plan;

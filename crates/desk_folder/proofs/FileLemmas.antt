@@ -30,3 +30,6 @@ file_at_place SolItineraries = refl
 
 pub numbers_differ : (f g : File) → f ≢ g → file_number f ≢ file_number g
 numbers_differ f g other same = other (sym (file_at_place f) ∙ ap (λ k. slice_index_or files k Config) same ∙ file_at_place g)
+
+pub same_number : (f g : File) → file_number f ≡ file_number g → f ≡ g
+same_number f g same = sym (file_at_place f) ∙ ap (λ k. slice_index_or files k Config) same ∙ file_at_place g

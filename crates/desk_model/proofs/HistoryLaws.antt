@@ -12,16 +12,17 @@ use Rattle.std.proofs.lemmas.List.Elements.{recursion_from_All}
 use Rattle.desk_data.specs.declared.moves.Move.{Move}
 use Rattle.desk_units.specs.declared.money.Grains.{Grains}
 use Rattle.desk_data.specs.Situation.{Situation}
+use Rattle.desk_rules.specs.Cost.{grains}
+use Rattle.desk_rules.proofs.LeastLaws.{feasible-holds, feasible-from, least-holds}
 use Rattle.desk_model.specs.declared.answer.Answer.TheVariants.{Accepted}
 use Rattle.desk_model.specs.declared.answer.Event.{Event}
 use Rattle.desk_model.specs.declared.answer.Event.TheVariants as event
 use Rattle.desk_model.specs.declared.answer.Entry.{Entry}
 use Rattle.desk_model.specs.Steps.{moved}
-use Rattle.desk_model.specs.States.{State, grains, opening, answer, after}
+use Rattle.desk_model.specs.States.{State, opening, answer, after}
 use Rattle.desk_model.specs.Histories.{state, has_room, IsAskable, AreAskable, Stands, IsLegal, is_change, changes, entry_of, entries, run}
 use Rattle.desk_model.specs.Promises.{state_at, cost_of, IsHonest, Improves, IsKept, KeepsPromises}
 use Rattle.desk_model.proofs.StateLaws.{accepted-cause, accepted-from, IsTold, after-told, opening-told, after-inst, after-unchanged, after-accepted, change-told, after-falls}
-use Rattle.desk_model.proofs.LeastLaws.{feasible-holds, feasible-from, least-holds}
 
 -- ---- the state after a history
 

@@ -1,15 +1,3 @@
-pub mod Tests
-pub mod RotationLaws
-pub mod LegLaws
-pub mod MaintenanceLaws
-pub mod SlotLaws
-pub mod CarriageLaws
-pub mod BookedLaws
-pub mod RulesLaws
-pub mod FindLaws
-pub mod LeastLaws
-pub mod OrderLaws
 pub mod StateLaws
 pub mod HistoryLaws
 pub mod ValidLaws
-pub mod CostLaws

@@ -6,14 +6,14 @@ use Rattle.desk_units.specs.declared.money.Grains.{Grains}
 use Rattle.desk_data.specs.declared.broken.Broken.{Broken}
 use Rattle.desk_data.specs.declared.moves.Move.{Move}
 use Rattle.desk_data.specs.Situation.{Situation, schedule}
+use Rattle.desk_rules.specs.Least.{least}
+use Rattle.desk_rules.specs.Cost.{cost, grains}
 use Rattle.desk_model.specs.declared.answer.Answer.{Answer}
 use Rattle.desk_model.specs.declared.answer.Answer.TheVariants.{Accepted, Breaks, Dearer, NoPlan, Full}
 use Rattle.desk_model.specs.declared.answer.Event.{Event}
 use Rattle.desk_model.specs.declared.answer.Event.TheVariants as event
-use Rattle.desk_model.specs.Least.{least}
-use Rattle.desk_model.specs.Cost.{cost}
 use Rattle.desk_model.specs.Steps.{moved}
-use Rattle.desk_model.specs.States.{State, grains, opening, judged, proposed, answer, published, after}
+use Rattle.desk_model.specs.States.{State, opening, judged, proposed, answer, published, after}
 use Rattle.desk_model.specs.Histories.{is_change}
 use Rattle.desk_model.specs.Promises.{cost_of}
 

@@ -1,14 +1,4 @@
-pub mod Numbers
-pub mod Rotations
 pub mod Steps
-pub mod Rules
-pub mod Maintenance
-pub mod Slots
-pub mod Passengers
-pub mod Carriage
-pub mod Least
-pub mod Cost
 pub mod States
 pub mod Histories
-pub mod Words
 pub mod Promises

@@ -4,14 +4,14 @@ use Rattle.desk_units.specs.declared.money.Grains.{Grains}
 use Rattle.desk_data.specs.declared.broken.Broken.{Broken}
 use Rattle.desk_data.specs.declared.moves.Move.{Move}
 use Rattle.desk_data.specs.Situation.{Situation}
+use Rattle.desk_rules.specs.Cost.{cost, grains}
+use Rattle.desk_rules.specs.Words.{IsFeasible, IsLeast}
 use Rattle.desk_model.specs.declared.answer.Answer.TheVariants.{Accepted}
 use Rattle.desk_model.specs.declared.answer.Event.TheVariants as event
 use Rattle.desk_model.specs.declared.answer.Entry.{Entry}
-use Rattle.desk_model.specs.Cost.{cost}
 use Rattle.desk_model.specs.Steps.{moved}
-use Rattle.desk_model.specs.States.{State, grains, opening}
+use Rattle.desk_model.specs.States.{State, opening}
 use Rattle.desk_model.specs.Histories.{state, changes, is_change}
-use Rattle.desk_model.specs.Words.{IsFeasible, IsLeast}
 
 -- the state after the first i entries
 abbrev pub state_at : Situation → List Entry → ℕ → State

@@ -1,16 +1,15 @@
 -- The state of the desk, and what it answers to an event.
 use Rattle.std.specs.Prelude.{ℕ, nat_le, if◌then◌else◌, Option, Some, None}
-use Rattle.desk_units.specs.declared.money.Grains.{Grains}
 use Rattle.desk_data.specs.declared.broken.Broken.{Broken}
 use Rattle.desk_data.specs.declared.moves.Move.{Move}
 use Rattle.desk_data.specs.Situation.{Situation, schedule}
 use Rattle.desk_data.specs.PlanRows.{PlanRows}
+use Rattle.desk_rules.specs.Least.{least}
+use Rattle.desk_rules.specs.Cost.{cost, grains}
 use Rattle.desk_model.specs.declared.answer.Answer.{Answer}
 use Rattle.desk_model.specs.declared.answer.Answer.TheVariants.{Accepted, Breaks, Dearer, NoPlan}
 use Rattle.desk_model.specs.declared.answer.Event.{Event}
 use Rattle.desk_model.specs.declared.answer.Event.TheVariants as event
-use Rattle.desk_model.specs.Least.{least}
-use Rattle.desk_model.specs.Cost.{cost}
 use Rattle.desk_model.specs.Steps.{moved}
 
 -- the instance as disrupted, the rows, and the item that they break: there is a plan where they break none
@@ -18,10 +17,6 @@ pub record State : Type 0 where
   pub inst : Situation
   pub plan : PlanRows
   pub broken : Option Broken
-
--- a sum of money
-abbrev pub grains : ℕ → Grains
-grains n = record { 0 = n }
 
 -- before anything has happened the plan is the schedule
 unfoldable pub opening : Situation → State

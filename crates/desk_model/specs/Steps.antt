@@ -1,19 +1,11 @@
 -- What steps and moves make of a plan. A step that finds nothing to do leaves the plan as it is.
-use Rattle.std.specs.Prelude.{Bool, true, false, ◌&&◌, ◌==◌, if◌then◌else◌, List, [], ◌∷◌}
-use Rattle.desk_data.specs.declared.row.Row.{Row}
-use Rattle.desk_data.specs.declared.row.Row.TheVariants.{Flown, Cancelled}
+use Rattle.std.specs.Prelude.{if◌then◌else◌, List, [], ◌∷◌}
 use Rattle.desk_data.specs.declared.moves.Step.{Step}
 use Rattle.desk_data.specs.declared.moves.Step.TheVariants.{Set}
 use Rattle.desk_data.specs.declared.moves.Move.{Move}
 use Rattle.desk_data.specs.Situation.{Situation}
 use Rattle.desk_data.specs.PlanRows.{PlanRows, row_at, with_row}
-
--- whether two rows are the same
-abbrev pub is_row : Row → Row → Bool
-is_row (Flown plane dep) (Flown other later) = (plane.0 == other.0) && (dep.0 == later.0)
-is_row Cancelled Cancelled = true
-is_row (Flown plane dep) Cancelled = false
-is_row Cancelled (Flown plane dep) = false
+use Rattle.desk_rules.specs.Rows.{is_row}
 
 -- Set: where the leg's row is `was` it becomes `new`
 unfoldable pub stepped : Situation → PlanRows → Step → PlanRows

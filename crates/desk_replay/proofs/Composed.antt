@@ -1,5 +1,5 @@
 -- Naming the directories, reading, taking the events and writing, one after another.
-use Rattle.std.proofs.Common.{◌≡◌, ℕ, List, [], refl, sym, subst, ◌∙◌, inl, inr}
+use Rattle.std.proofs.Common.{◌≡◌, ℕ, true, false, List, [], refl, sym, subst, ◌∙◌, inl, inr, arith}
 use Rattle.std.specs.Prelude.{Option, Some, None, IsSome, IfSome, Result, Ok, Err}
 use Rattle.std.specs.Io.KnownBytes.{Appends, Keeps}
 use Rattle.std.proofs.lemmas.Bool.{false≢true}
@@ -20,12 +20,16 @@ use Rattle.journal_text.specs.Lines.{journal_text}
 use Rattle.sol_text.specs.Rotations.{rotations_text}
 use Rattle.desk_replay.specs.declared.ending.Ending.{Ending}
 use Rattle.desk_replay.specs.declared.ending.Ending.TheVariants as ending
-use Rattle.desk_replay.specs.Story.{Inputs, Story, story_of}
+use Rattle.desk_story.specs.Inputs.{Inputs, replay_files, is_among, Tells}
+use Rattle.desk_story.specs.Story.{Story, story_of}
 use Rattle.desk_replay.specs.Outcome.{history, last, planned_rotations, report_text, Texts, texts_from, texts_of}
-use Rattle.desk_replay.specs.Runs.{World, Tells, AreRead, Headline, IsUnwritten, IsWritten, StopsInRotations, StopsInJournal, StopsInReport, Stops, StopsIn, Did, HasCause, AreNamed, IsReadWhole, IsSilent, Replays}
-use Rattle.desk_replay.specs.Reading.{OnlyReads}
+use Rattle.desk_replay.specs.Runs.{World, AreRead, Headline, IsUnwritten, IsWritten, StopsInRotations, StopsInJournal, StopsInReport, Stops, StopsIn, Did, HasCause, AreNamed, IsReadWhole, IsSilent, Replays}
+use Rattle.desk_story.specs.declared.fault.StoryFault.{StoryFault}
+use Rattle.desk_story.specs.declared.fault.StoryFault.TheVariants as fault
+use Rattle.desk_story.specs.Facts.{story_in}
+use Rattle.desk_story.specs.Reading.{IsUnread, ReadsAmong, HasReadCause, GivesStory}
 use Rattle.desk_replay.specs.Writing.{Wrote}
-use Rattle.desk_replay.specs.Finishing.{Told, Finishes}
+use Rattle.desk_replay.specs.Finishing.{story_end, Told, Finishes}
 
 -- ---- what was written is told of the story
 
@@ -193,9 +197,10 @@ pub record Prepared (dirs : Directories) (before mid : Outside) (s : Story) : Ty
   pub written : SameWritten before mid
   pub put_faults : (f : File) → mid.put_faults f ≡ before.put_faults f
   pub read : AreRead before mid
-  pub story : (x : Inputs) → Tells before x → story_of x ≡ Ok s
+  pub unread : (f : File) → is_among f replay_files ≡ false → IsUnread before mid f
+  pub story : (x : Inputs) → Tells replay_files before x → story_of x ≡ Ok s
 
-did_from : (dirs : Directories) (before mid now : Outside) (sink sink' : SinkSide) (s : Story) (how : Ending) (x : Inputs) → Prepared dirs before mid s → IsRunnable s → Told (record { folder = mid; sink = sink }) (record { folder = now; sink = sink' }) s how → Tells before x → Did (record { folder = before; sink = sink }) (record { folder = now; sink = sink' }) x how
+did_from : (dirs : Directories) (before mid now : Outside) (sink sink' : SinkSide) (s : Story) (how : Ending) (x : Inputs) → Prepared dirs before mid s → IsRunnable s → Told (record { folder = mid; sink = sink }) (record { folder = now; sink = sink' }) s how → Tells replay_files before x → Did (record { folder = before; sink = sink }) (record { folder = now; sink = sink' }) x how
 did_from dirs before mid now sink sink' s ending.Done x p runs h tells =
     (s, p.story x tells, h.0, (history s, headline (record { folder = before; sink = sink }) (record { folder = now; sink = sink' }) s runs (written_from before mid now sink sink' (texts_of s) p.written h.1)))
 did_from dirs before mid now sink sink' s ending.NoPlan x p runs h tells =
@@ -210,7 +215,7 @@ did_from dirs before mid now sink sink' s ending.PlaceFault x p runs h tells = a
 did_from dirs before mid now sink sink' s (ending.ReadFault f) x p runs h tells = absurd h
 
 cause_from : (dirs : Directories) (before mid now : Outside) (sink sink' : SinkSide) (s : Story) (how : Ending) → Prepared dirs before mid s → Told (record { folder = mid; sink = sink }) (record { folder = now; sink = sink' }) s how → HasCause (record { folder = mid; sink = sink }) (record { folder = now; sink = sink' }) how → HasCause (record { folder = before; sink = sink }) (record { folder = now; sink = sink' }) how
-cause_from dirs before mid now sink sink' s (ending.WriteFault f) p told h = subst (λ (n : ℕ). Rose n (now.put_faults f)) (p.put_faults f) h
+cause_from dirs before mid now sink sink' s (ending.WriteFault f) p told h = (h.0, subst (λ (n : ℕ). Rose n (now.put_faults f)) (p.put_faults f) h.1)
 cause_from dirs before mid now sink sink' s ending.ReportFault p told h = h
 cause_from dirs before mid now sink sink' s ending.PlaceFault p told h = absurd told
 cause_from dirs before mid now sink sink' s (ending.ReadFault f) p told h = absurd told
@@ -240,18 +245,7 @@ read_on None mid now e h = tt
 read_on (Some bytes) mid now e h = e ∙ h
 
 are_read_from : (before mid now : Outside) → ((f : File) → now.left f ≡ mid.left f) → AreRead before mid → AreRead before now
-are_read_from before mid now same h = record {
-  config = read_on (before.left file.Config) (mid.left file.Config) (now.left file.Config) (same file.Config) h.config;
-  flights = read_on (before.left file.Flights) (mid.left file.Flights) (now.left file.Flights) (same file.Flights) h.flights;
-  rotations = read_on (before.left file.Rotations) (mid.left file.Rotations) (now.left file.Rotations) (same file.Rotations) h.rotations;
-  aircraft = read_on (before.left file.Aircraft) (mid.left file.Aircraft) (now.left file.Aircraft) (same file.Aircraft) h.aircraft;
-  airports = read_on (before.left file.Airports) (mid.left file.Airports) (now.left file.Airports) (same file.Airports) h.airports;
-  dist = read_on (before.left file.Dist) (mid.left file.Dist) (now.left file.Dist) (same file.Dist) h.dist;
-  itineraries = read_on (before.left file.Itineraries) (mid.left file.Itineraries) (now.left file.Itineraries) (same file.Itineraries) h.itineraries;
-  position = read_on (before.left file.Position) (mid.left file.Position) (now.left file.Position) (same file.Position) h.position;
-  tariff = read_on (before.left file.Tariff) (mid.left file.Tariff) (now.left file.Tariff) (same file.Tariff) h.tariff;
-  journal = read_on (before.left file.Journal) (mid.left file.Journal) (now.left file.Journal) (same file.Journal) h.journal;
-}
+are_read_from before mid now same h f among = read_on (before.left f) (mid.left f) (now.left f) (same f) (h f among)
 
 read_whole_from : (before now : Outside) (sink sink' : SinkSide) (how : Ending) → AreRead before now → IsReadWhole (record { folder = before; sink = sink }) (record { folder = now; sink = sink' }) how
 read_whole_from before now sink sink' ending.Done h = h
@@ -284,7 +278,8 @@ replays-finished dirs before mid now sink sink' s how p runs h = record {
   read = read_whole_from before now sink sink' how (are_read_from before mid now h.only.left p.read);
   silent = silent_from before mid now sink sink' s how h.told;
   kept = h.kept;
-  others = λ f a b. h.only.written f a b ∙ p.written f;
+  unread = λ f other. record { left = h.only.left f ∙ (p.unread f other).left; faults = h.only.next_faults f ∙ (p.unread f other).faults };
+  unput = λ f other. record { written = (h.only.unput f other).written ∙ p.written f; faults = (h.only.unput f other).faults ∙ p.put_faults f };
 }
 
 -- naming the directories and reading prepare
@@ -292,39 +287,91 @@ named_by : (d now : Option Directories) (dirs : Directories) (ok : Unit {0}) →
 named_by None now dirs ok h = tt
 named_by (Some was) now dirs ok h = h
 
-tells_after : (before placed : Outside) (x : Inputs) → ((f : File) → placed.left f ≡ before.left f) → Tells before x → Tells placed x
-tells_after before placed x same h = record {
-  config = same file.Config ∙ h.config;
-  flights = same file.Flights ∙ h.flights;
-  rotations = same file.Rotations ∙ h.rotations;
-  aircraft = same file.Aircraft ∙ h.aircraft;
-  airports = same file.Airports ∙ h.airports;
-  dist = same file.Dist ∙ h.dist;
-  itineraries = same file.Itineraries ∙ h.itineraries;
-  position = same file.Position ∙ h.position;
-  tariff = same file.Tariff ∙ h.tariff;
-  journal = same file.Journal ∙ h.journal;
-}
-
 read_before : (before placed : Outside) (f : File) (now : Option (List ℕ)) → placed.left f ≡ before.left f → IfSome (placed.left f) (λ bytes. now ≡ Some []) → IfSome (before.left f) (λ bytes. now ≡ Some [])
 read_before before placed f now same h = subst (λ (o : Option (List ℕ)). IfSome o (λ bytes. now ≡ Some [])) same h
 
-pub prepared : (dirs : Directories) (before placed mid : Outside) (s : Story) (ok : Unit {0}) → Names before.directories placed.directories dirs (let r : Result (Unit {0}) FolderFault = Ok ok in r) → PlacesOnly before placed → OnlyReads placed mid → AreRead placed mid → ((x : Inputs) → Tells placed x → story_of x ≡ Ok s) → Prepared dirs before mid s
+pub prepared : (dirs : Directories) (before placed mid : Outside) (s : Story) (ok : Unit {0}) → Names before.directories placed.directories dirs (let r : Result (Unit {0}) FolderFault = Ok ok in r) → PlacesOnly before placed → ReadsAmong replay_files placed mid → AreRead placed mid → ((x : Inputs) → Tells replay_files placed x → story_of x ≡ Ok s) → Prepared dirs before mid s
 prepared dirs before placed mid s ok names only reads read story = record {
   named = some_named before.directories placed.directories mid.directories (Some dirs) reads.directories (named_by before.directories placed.directories dirs ok names);
   written = λ f. reads.written f ∙ only.written f;
   put_faults = λ f. reads.put_faults f ∙ only.put_faults f;
-  read = record {
-    config = read_before before placed file.Config (mid.left file.Config) (only.left file.Config) read.config;
-    flights = read_before before placed file.Flights (mid.left file.Flights) (only.left file.Flights) read.flights;
-    rotations = read_before before placed file.Rotations (mid.left file.Rotations) (only.left file.Rotations) read.rotations;
-    aircraft = read_before before placed file.Aircraft (mid.left file.Aircraft) (only.left file.Aircraft) read.aircraft;
-    airports = read_before before placed file.Airports (mid.left file.Airports) (only.left file.Airports) read.airports;
-    dist = read_before before placed file.Dist (mid.left file.Dist) (only.left file.Dist) read.dist;
-    itineraries = read_before before placed file.Itineraries (mid.left file.Itineraries) (only.left file.Itineraries) read.itineraries;
-    position = read_before before placed file.Position (mid.left file.Position) (only.left file.Position) read.position;
-    tariff = read_before before placed file.Tariff (mid.left file.Tariff) (only.left file.Tariff) read.tariff;
-    journal = read_before before placed file.Journal (mid.left file.Journal) (only.left file.Journal) read.journal;
-  };
-  story = λ x tells. story x (tells_after before placed x only.left tells);
+  read = λ f among. read_before before placed f (mid.left f) (only.left f) (read f among);
+  unread = λ f other. record { left = (reads.unread f other).left ∙ only.left f; faults = (reads.unread f other).faults ∙ only.next_faults f };
+  story = λ x tells. story x (λ f among. only.left f ∙ tells f among);
 }
+
+-- ---- where the input gave no story
+
+same_keeps : (was is : Option (List ℕ)) → is ≡ was → Keeps was is
+same_keeps None is e = tt
+same_keeps (Some xs) None e = absurd cc
+same_keeps (Some xs) (Some ys) e = cc
+
+-- the directories are named, and some of the files are read
+record Tried (dirs : Directories) (before now : Outside) : Type 0 where
+  named : IfSome before.directories (λ was. now.directories ≡ Some dirs)
+  written : SameWritten before now
+  unread : (f : File) → is_among f replay_files ≡ false → IsUnread before now f
+  put_faults : (f : File) → now.put_faults f ≡ before.put_faults f
+
+tried : (dirs : Directories) (before placed now : Outside) (ok : Unit {0}) → Names before.directories placed.directories dirs (let r : Result (Unit {0}) FolderFault = Ok ok in r) → PlacesOnly before placed → ReadsAmong replay_files placed now → Tried dirs before now
+tried dirs before placed now ok names only reads = record {
+  named = some_named before.directories placed.directories now.directories (Some dirs) reads.directories (named_by before.directories placed.directories dirs ok names);
+  written = λ f. reads.written f ∙ only.written f;
+  unread = λ f other. record { left = (reads.unread f other).left ∙ only.left f; faults = (reads.unread f other).faults ∙ only.next_faults f };
+  put_faults = λ f. reads.put_faults f ∙ only.put_faults f;
+}
+
+unwritten_by : (dirs : Directories) (before now : Outside) (sink : SinkSide) → Tried dirs before now → IsUnwritten (record { folder = before; sink = sink }) (record { folder = now; sink = sink })
+unwritten_by dirs before now sink t = record {
+  rotations = same_keeps (before.written file.SolRotations) (now.written file.SolRotations) (t.written file.SolRotations);
+  journal = same_keeps (before.written file.Journal) (now.written file.Journal) (t.written file.Journal);
+  sink = same_keeps sink.written sink.written refl;
+}
+
+-- a run that ends so has written nothing
+replays_tried : (dirs : Directories) (before now : Outside) (sink : SinkSide) (e : StoryFault) → Tried dirs before now → HasCause (record { folder = before; sink = sink }) (record { folder = now; sink = sink }) (story_end e)
+    → ((x : Inputs) → Tells replay_files before x → GivesStory story_in (Err e) x (story_of x)) → Replays dirs (record { folder = before; sink = sink }) (record { folder = now; sink = sink }) (story_end e)
+replays_tried dirs before now sink (fault.Refused r) t cause gives = record {
+  no_usage = λ e. absurd cc;
+  cause = cause;
+  did = λ x tells. (gives x tells, unwritten_by dirs before now sink t);
+  named = t.named;
+  read = tt;
+  silent = record { written = t.written; sink = refl };
+  kept = omega arith;
+  unread = t.unread;
+  unput = λ f other. record { written = t.written f; faults = t.put_faults f };
+}
+replays_tried dirs before now sink (fault.ReadFault g) t cause gives = record {
+  no_usage = λ e. absurd cc;
+  cause = cause;
+  did = λ x tells. (gives x tells, unwritten_by dirs before now sink t);
+  named = t.named;
+  read = tt;
+  silent = record { written = t.written; sink = refl };
+  kept = omega arith;
+  unread = t.unread;
+  unput = λ f other. record { written = t.written f; faults = t.put_faults f };
+}
+replays_tried dirs before now sink fault.Memory t cause gives = record {
+  no_usage = λ e. absurd cc;
+  cause = cause;
+  did = λ x tells. inl (unwritten_by dirs before now sink t);
+  named = tt;
+  read = tt;
+  silent = tt;
+  kept = omega arith;
+  unread = t.unread;
+  unput = λ f other. record { written = t.written f; faults = t.put_faults f };
+}
+
+fault_cause : (before placed now : Outside) (sink : SinkSide) (e : StoryFault) → PlacesOnly before placed → HasReadCause replay_files placed now e → HasCause (record { folder = before; sink = sink }) (record { folder = now; sink = sink }) (story_end e)
+fault_cause before placed now sink (fault.Refused r) only h = tt
+fault_cause before placed now sink (fault.ReadFault f) only h = (h.0, subst (λ (n : ℕ). Rose n (now.next_faults f)) (only.next_faults f) h.1)
+fault_cause before placed now sink fault.Memory only h = tt
+
+pub replays-faulted : (dirs : Directories) (before placed now : Outside) (sink : SinkSide) (e : StoryFault) (ok : Unit {0}) → Names before.directories placed.directories dirs (let r : Result (Unit {0}) FolderFault = Ok ok in r) → PlacesOnly before placed → ReadsAmong replay_files placed now → HasReadCause replay_files placed now e
+    → ((x : Inputs) → Tells replay_files placed x → GivesStory story_in (Err e) x (story_of x)) → Replays dirs (record { folder = before; sink = sink }) (record { folder = now; sink = sink }) (story_end e)
+replays-faulted dirs before placed now sink e ok names only reads cause gives =
+    replays_tried dirs before now sink e (tried dirs before placed now ok names only reads) (fault_cause before placed now sink e only cause) (λ x tells. gives x (λ f among. only.left f ∙ tells f among))

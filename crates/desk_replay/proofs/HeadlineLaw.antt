@@ -11,10 +11,11 @@ use Rattle.folder_io.specs.Texts.{TextAppends, PutsReport}
 use Rattle.desk_model.specs.declared.answer.Entry.{Entry}
 use Rattle.desk_replay.specs.declared.ending.Ending.{Ending}
 use Rattle.desk_replay.specs.declared.ending.Ending.TheVariants as ending
-use Rattle.desk_replay.specs.Story.{Inputs, Story}
+use Rattle.desk_story.specs.Inputs.{Inputs, replay_files, Tells}
+use Rattle.desk_story.specs.Story.{Story}
 use Rattle.desk_replay.specs.Outcome.{fault_text}
 use Rattle.desk_replay.specs.Commands.{command}
-use Rattle.desk_replay.specs.Runs.{World, Tells, Did, Headline, IsUntouched, Replays, Runs, status_after, IsDone}
+use Rattle.desk_replay.specs.Runs.{World, Did, Headline, IsUntouched, Replays, Runs, status_after, IsDone}
 
 -- nothing is put behind what was put
 nothing_more : (before mid now : Option (List ℕ)) (text : List ℕ) (answer : Result (Unit {0}) FolderFault) → Appends before mid text → TextAppends mid now [] answer → Appends before now text
@@ -79,7 +80,7 @@ usage_status (Ok done) le = omega arith
 usage_status (Err fault.Failed) le = omega arith
 usage_status (Err fault.Memory) le = omega arith
 
-by_command : (dirs : Option Directories) (before now : World) (sink : SinkSide) (x : Inputs) (how : Ending) (answer : Result (Unit {0}) FolderFault) → Tells before.folder x → status_after how answer ≤ 1
+by_command : (dirs : Option Directories) (before now : World) (sink : SinkSide) (x : Inputs) (how : Ending) (answer : Result (Unit {0}) FolderFault) → Tells replay_files before.folder x → status_after how answer ≤ 1
     → MatchOption dirs ((how ≡ ending.Usage) × IsUntouched before (record { folder = now.folder; sink = sink })) (λ dirs. Replays dirs before (record { folder = now.folder; sink = sink }) how)
     → PutsReport sink now.sink (fault_text how) answer → IsDone before now x
 by_command None before now sink x how answer tells le ends line =
@@ -87,6 +88,6 @@ by_command None before now sink x how answer tells le ends line =
 by_command (Some dirs) before now sink x how answer tells le ends line = by_ending before now sink x how answer le (ends.did x tells) line
 
 -- where the folder tells its input, status 0 and 1 carry the headline
-pub headline-of : (words : List (List ℕ)) (before now : World) (code : ℕ) → Runs words before now code → (x : Inputs) → Tells before.folder x → code ≤ 1 → IsDone before now x
+pub headline-of : (words : List (List ℕ)) (before now : World) (code : ℕ) → Runs words before now code → (x : Inputs) → Tells replay_files before.folder x → code ≤ 1 → IsDone before now x
 headline-of words before now code run x tells le =
     by_command (command words) before now run.sink x run.how run.answer tells (subst (λ (n : ℕ). n ≤ 1) run.status le) run.ends run.line

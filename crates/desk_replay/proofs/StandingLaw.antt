@@ -1,5 +1,5 @@
 -- What stands outside after a run, from how it ended.
-use Rattle.std.proofs.Common.{◌≡◌, ◌≢◌, ℕ, ◌≤◌, List, [], length, take, refl, sym, subst, ap, ◌∙◌, arith, inl, inr, ◌⊎◌}
+use Rattle.std.proofs.Common.{◌≡◌, ℕ, false, ◌≤◌, List, [], length, take, refl, sym, subst, ap, ◌∙◌, arith, inl, inr, ◌⊎◌}
 use Rattle.std.specs.Prelude.{Option, Some, None, Result, Ok, Err, nat_le}
 use Rattle.std.specs.Io.KnownBytes.{Appends, Keeps}
 use Rattle.std.proofs.KnownBytes.{Appends-trans}
@@ -12,13 +12,15 @@ use Rattle.desk_folder.specs.declared.faults.FolderFault.TheVariants as fault
 use Rattle.desk_folder.specs.Outside.{Outside, SinkSide, Directories}
 use Rattle.desk_folder.specs.Calls.{AppendsPrefix, Rose}
 use Rattle.folder_io.specs.Texts.{PutsReport}
-use Rattle.desk_replay.specs.declared.ending.Refusal.{Refusal}
+use Rattle.desk_story.specs.declared.refusal.Refusal.{Refusal}
 use Rattle.desk_replay.specs.declared.ending.Ending.{Ending}
 use Rattle.desk_replay.specs.declared.ending.Ending.TheVariants as ending
-use Rattle.desk_replay.specs.Story.{Inputs, Story, story_of}
+use Rattle.desk_story.specs.Inputs.{Inputs, replay_files, is_among, Tells}
+use Rattle.desk_story.specs.Reading.{IsUnread}
+use Rattle.desk_story.specs.Story.{Story, story_of}
 use Rattle.desk_replay.specs.Outcome.{Texts, texts_of, fault_text, status_of}
-use Rattle.desk_replay.specs.Commands.{command}
-use Rattle.desk_replay.specs.Runs.{World, Tells, IsUnwritten, IsWritten, Stops, StopsIn, IsTold, Did, HasCause, IsUntouched, Replays, Runs, status_after}
+use Rattle.desk_replay.specs.Commands.{command, files_read, files_written}
+use Rattle.desk_replay.specs.Runs.{World, IsUnput, IsUnwritten, IsWritten, Stops, StopsIn, IsTold, Did, HasCause, IsUntouched, Replays, Runs, status_after}
 use Rattle.desk_replay.specs.Standing.{finished_texts, AreBegun, AreWhole, IsToldLast}
 use Rattle.desk_replay.proofs.CausesLaw.{EndsBy, status_cases, cause_after}
 use Rattle.desk_replay.proofs.Composed.{written-of}
@@ -101,7 +103,7 @@ stand_did before mid x ending.NoPlan did = stand_told before mid x did.0 did.1 (
 stand_did before mid x ending.Usage did = absurd did
 stand_did before mid x (ending.Refused r) did = inl did.1
 stand_did before mid x ending.PlaceFault did = inl did
-stand_did before mid x (ending.ReadFault f) did = inl did
+stand_did before mid x (ending.ReadFault f) did = inl did.1
 stand_did before mid x (ending.WriteFault f) did = stand_told before mid x did.0 did.1 (inr (inl (stops_in before mid (texts_of did.0) f did.2)))
 stand_did before mid x ending.ReportFault did = stand_told before mid x did.0 did.1 (inr (inl (inr (inr did.2))))
 stand_did before mid x ending.Memory (inl h) = inl h
@@ -114,7 +116,7 @@ untouched before mid h = record {
   sink = same_kept before.sink.written mid.sink.written (ap (λ (s : SinkSide). s.written) h.sink);
 }
 
-stand_by : (dirs : Option Directories) (before mid : World) (x : Inputs) (how : Ending) → Tells before.folder x → EndsBy dirs before mid how → Stand before mid (finished_texts (story_of x))
+stand_by : (dirs : Option Directories) (before mid : World) (x : Inputs) (how : Ending) → Tells replay_files before.folder x → EndsBy dirs before mid how → Stand before mid (finished_texts (story_of x))
 stand_by None before mid x how tells ends = inl (untouched before mid ends.1)
 stand_by (Some dirs) before mid x how tells ends = stand_did before mid x how (ends.did x tells)
 
@@ -147,18 +149,25 @@ unwritten-of words before now code run low high f =
       | inr e ↦ absurd (omega (arith, e))
     ]
 
--- ---- no other file is written
+-- ---- no other file is read or written
 
-others_by : (dirs : Option Directories) (before mid : World) (how : Ending) → EndsBy dirs before mid how → (f : File) → f ≢ file.SolRotations → f ≢ file.Journal → mid.folder.written f ≡ before.folder.written f
-others_by None before mid how ends f a b = ap (λ (o : Outside). o.written f) ends.1.folder
-others_by (Some dirs) before mid how ends f a b = ends.others f a b
+unread_by : (dirs : Option Directories) (before mid : World) (how : Ending) → EndsBy dirs before mid how → (f : File) → is_among f (files_read dirs) ≡ false → IsUnread before.folder mid.folder f
+unread_by None before mid how ends f other = record { left = ap (λ (o : Outside). o.left f) ends.1.folder; faults = ap (λ (o : Outside). o.next_faults f) ends.1.folder }
+unread_by (Some dirs) before mid how ends f other = ends.unread f other
 
-pub others-of : (words : List (List ℕ)) (before now : World) (code : ℕ) → Runs words before now code → (f : File) → f ≢ file.SolRotations → f ≢ file.Journal → now.folder.written f ≡ before.folder.written f
-others-of words before now code run f a b = others_by (command words) before (record { folder = now.folder; sink = run.sink }) run.how run.ends f a b
+pub unread-of : (words : List (List ℕ)) (before now : World) (code : ℕ) → Runs words before now code → (f : File) → is_among f (files_read (command words)) ≡ false → IsUnread before.folder now.folder f
+unread-of words before now code run f other = unread_by (command words) before (record { folder = now.folder; sink = run.sink }) run.how run.ends f other
+
+unput_by : (dirs : Option Directories) (before mid : World) (how : Ending) → EndsBy dirs before mid how → (f : File) → is_among f (files_written dirs) ≡ false → IsUnput before.folder mid.folder f
+unput_by None before mid how ends f other = record { written = ap (λ (o : Outside). o.written f) ends.1.folder; faults = ap (λ (o : Outside). o.put_faults f) ends.1.folder }
+unput_by (Some dirs) before mid how ends f other = ends.unput f other
+
+pub unput-of : (words : List (List ℕ)) (before now : World) (code : ℕ) → Runs words before now code → (f : File) → is_among f (files_written (command words)) ≡ false → IsUnput before.folder now.folder f
+unput-of words before now code run f other = unput_by (command words) before (record { folder = now.folder; sink = run.sink }) run.how run.ends f other
 
 -- ---- the output files, at any status
 
-pub begun-of : (words : List (List ℕ)) (before now : World) (code : ℕ) → Runs words before now code → (x : Inputs) → Tells before.folder x → AreBegun before.folder now.folder (finished_texts (story_of x))
+pub begun-of : (words : List (List ℕ)) (before now : World) (code : ℕ) → Runs words before now code → (x : Inputs) → Tells replay_files before.folder x → AreBegun before.folder now.folder (finished_texts (story_of x))
 begun-of words before now code run x tells =
     let mid : World = record { folder = now.folder; sink = run.sink } in
     are_begun before mid (finished_texts (story_of x)) (stand_by (command words) before mid x run.how tells run.ends)
@@ -186,7 +195,7 @@ caused_by : (dirs : Option Directories) (before mid : World) (how : Ending) → 
 caused_by None before mid how ends = subst (λ (e : Ending). HasCause before mid e) (sym ends.0) tt
 caused_by (Some dirs) before mid how ends = ends.cause
 
-refused_in : (dirs : Option Directories) (before mid : World) (x : Inputs) (how : Ending) → Tells before.folder x → EndsBy dirs before mid how → (r : Refusal) → how ≡ ending.Refused r → story_of x ≡ Err r
+refused_in : (dirs : Option Directories) (before mid : World) (x : Inputs) (how : Ending) → Tells replay_files before.folder x → EndsBy dirs before mid how → (r : Refusal) → how ≡ ending.Refused r → story_of x ≡ Err r
 refused_in None before mid x how tells ends r is = absurd (let two : 2 ≡ 3 = ap status_of (sym ends.0 ∙ is) in omega (arith, two))
 refused_in (Some dirs) before mid x how tells ends r is = (subst (λ (e : Ending). Did before mid x e) is (ends.did x tells)).0
 
@@ -197,7 +206,7 @@ early code = elim (cases_Bool (nat_le code 4)) [
 ]
 
 -- with status 2, 3 or 4 none of the report stands there
-report_of : (dirs : Option Directories) (before mid : World) (x : Inputs) (how : Ending) (code : ℕ) → 2 ≤ code → (code ≡ status_of how) ⊎ (code ≡ 6) → Tells before.folder x → EndsBy dirs before mid how
+report_of : (dirs : Option Directories) (before mid : World) (x : Inputs) (how : Ending) (code : ℕ) → 2 ≤ code → (code ≡ status_of how) ⊎ (code ≡ 6) → Tells replay_files before.folder x → EndsBy dirs before mid how
     → (h : Reported before mid (finished_texts (story_of x))) × (code ≤ 4 → h.reported ≡ 0)
 unfolding unreported
 report_of dirs before mid x how code low (inr e) tells ends = (reported_of before mid (finished_texts (story_of x)) (stand_by dirs before mid x how tells ends), λ le. absurd (omega (arith, e, le)))
@@ -206,7 +215,7 @@ report_of dirs before mid x how code low (inl e) tells ends = elim (early code) 
   | inr gt ↦ (reported_of before mid (finished_texts (story_of x)) (stand_by dirs before mid x how tells ends), λ le. absurd (omega (arith, gt, le)))
 ]
 
-pub told-last : (words : List (List ℕ)) (before now : World) (code : ℕ) → Runs words before now code → (x : Inputs) → Tells before.folder x → 2 ≤ code → IsToldLast before now x code
+pub told-last : (words : List (List ℕ)) (before now : World) (code : ℕ) → Runs words before now code → (x : Inputs) → Tells replay_files before.folder x → 2 ≤ code → IsToldLast before now x code
 told-last words before now code run x tells low =
     let mid : World = record { folder = now.folder; sink = run.sink } in
     let status = status_cases run.how run.answer code run.status in

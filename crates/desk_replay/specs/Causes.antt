@@ -1,5 +1,5 @@
 -- When each status comes.
-use Rattle.std.specs.Prelude.{◌≡◌, ◌⊎◌, ℕ, Option, Some, None, Result, Ok, Err}
+use Rattle.std.specs.Prelude.{◌≡◌, ◌≤◌, ◌⊎◌, ℕ, true, Option, Some, None, Result, Ok, Err}
 use Rattle.std.specs.Io.KnownBytes.{Keeps}
 use Rattle.desk_folder.specs.declared.files.File.{File}
 use Rattle.desk_folder.specs.declared.files.File.TheVariants as file
@@ -8,9 +8,12 @@ use Rattle.desk_folder.specs.Outside.{SinkSide}
 use Rattle.desk_folder.specs.Calls.{Rose}
 use Rattle.folder_io.specs.Texts.{PutsReport}
 use Rattle.desk_data.specs.declared.broken.Broken.{Broken}
-use Rattle.desk_replay.specs.declared.ending.Refusal.{Refusal}
+use Rattle.desk_story.specs.declared.refusal.Refusal.{Refusal}
 use Rattle.desk_replay.specs.declared.ending.Ending.{Ending}
-use Rattle.desk_replay.specs.Story.{Inputs, Story, story_of}
+use Rattle.desk_folder.specs.Files.{file_number}
+use Rattle.desk_story.specs.Inputs.{Inputs, replay_files, is_among}
+use Rattle.desk_story.specs.Story.{Rows, Story, rows_of, story_of}
+use Rattle.desk_replay.specs.Commands.{output_files}
 use Rattle.desk_replay.specs.Outcome.{last, refusal_text, fault_text, status_of}
 use Rattle.desk_replay.specs.Runs.{World, IsTold, HasCause}
 
@@ -50,16 +53,22 @@ pub record HasFault (before now : World) (code : ℕ) : Type 0 where
   pub answer : Result (Unit {0}) FolderFault
   pub line : PutsReport sink now.sink (fault_text how) answer
 
--- the directories were named and the input was read without a failing call
-pub record IsReadable (before now : World) : Type 0 where
-  pub place : Rose before.folder.place_faults now.folder.place_faults → ⊥
-  pub next : (f : File) → Rose (before.folder.next_faults f) (now.folder.next_faults f) → ⊥
+-- a file that is read before it is known what comes of reading the input: up to the one whose grammar refuses it, or else
+-- each that the command reads
+abbrev pub IsNeeded : File → Result Rows Refusal → Type 0
+IsNeeded f (Ok rows) = is_among f replay_files ≡ true
+IsNeeded f (Err r) = (is_among f replay_files ≡ true) × (file_number f ≤ file_number r.file)
 
--- no call failed: no count of faults rose
+-- the directories were named, and so much of these inputs was read, without a failing call
+pub record IsReadable (before now : World) (x : Inputs) : Type 0 where
+  pub place : Rose before.folder.place_faults now.folder.place_faults → ⊥
+  pub next : (f : File) → IsNeeded f (rows_of x) → Rose (before.folder.next_faults f) (now.folder.next_faults f) → ⊥
+
+-- no call failed: no count of faults rose, of the files that the command reads and writes
 pub record IsFaultless (before now : World) : Type 0 where
   pub place : Rose before.folder.place_faults now.folder.place_faults → ⊥
-  pub next : (f : File) → Rose (before.folder.next_faults f) (now.folder.next_faults f) → ⊥
-  pub put : (f : File) → Rose (before.folder.put_faults f) (now.folder.put_faults f) → ⊥
+  pub next : (f : File) → is_among f replay_files ≡ true → Rose (before.folder.next_faults f) (now.folder.next_faults f) → ⊥
+  pub put : (f : File) → is_among f output_files ≡ true → Rose (before.folder.put_faults f) (now.folder.put_faults f) → ⊥
   pub sink : Rose before.sink.faults now.sink.faults → ⊥
 
 -- what the input asks for where no call fails: 0 or 1 where it is accepted, and 3 where it is refused

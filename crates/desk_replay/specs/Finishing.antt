@@ -2,10 +2,18 @@
 use Rattle.std.specs.Prelude.{◌≡◌, ◌≤◌, ◌⊎◌, None, IsSome}
 use Rattle.desk_replay.specs.declared.ending.Ending.{Ending}
 use Rattle.desk_replay.specs.declared.ending.Ending.TheVariants as ending
-use Rattle.desk_replay.specs.Story.{Story}
+use Rattle.desk_story.specs.declared.fault.StoryFault.{StoryFault}
+use Rattle.desk_story.specs.declared.fault.StoryFault.TheVariants as fault
+use Rattle.desk_story.specs.Story.{Story}
 use Rattle.desk_replay.specs.Outcome.{last, texts_of}
 use Rattle.desk_replay.specs.Runs.{World, HasCause, IsUnwritten, IsWritten, Stops, StopsIn, StopsInReport}
 use Rattle.desk_replay.specs.Writing.{OnlyWrites}
+
+-- how a run ends where its input gave no story
+abbrev pub story_end : StoryFault → Ending
+story_end (fault.Refused r) = ending.Refused r
+story_end (fault.ReadFault f) = ending.ReadFault f
+story_end fault.Memory = ending.Memory
 
 -- what was written of a story, by the ending
 abbrev pub Told : World → World → Story → Ending → Type 0

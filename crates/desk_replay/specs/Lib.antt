@@ -1,13 +1,7 @@
-pub mod Story
 pub mod Outcome
 pub mod Commands
 pub mod Runs
 pub mod Causes
 pub mod Standing
-pub mod Reading
-pub mod Groups
-pub mod ReadEnds
 pub mod Writing
 pub mod Finishing
-pub mod InputRows
-pub mod InputStory

@@ -1,7 +1,6 @@
 -- What a replay writes.
 use Rattle.std.specs.Prelude.{ℕ, List, [], ◌∷◌, ◌++◌, Option, Some, None, codes, decimal}
 use Rattle.desk_folder.specs.Files.{file_name}
-use Rattle.desk_text.specs.Causes.{cause_name as row_cause_name}
 use Rattle.desk_data.specs.Situation.{Situation}
 use Rattle.desk_data.specs.declared.broken.Broken.{Broken}
 use Rattle.desk_model.specs.declared.answer.Entry.{Entry}
@@ -11,12 +10,10 @@ use Rattle.desk_model.specs.Promises.{cost_of}
 use Rattle.journal_text.specs.Items.{broken_text}
 use Rattle.journal_text.specs.Lines.{journal_text}
 use Rattle.sol_text.specs.Rotations.{rotations_text}
-use Rattle.desk_replay.specs.declared.ending.Cause.{Cause}
-use Rattle.desk_replay.specs.declared.ending.Cause.TheVariants.{Form, Row}
-use Rattle.desk_replay.specs.declared.ending.Refusal.{Refusal}
+use Rattle.desk_story.specs.declared.refusal.Refusal.{Refusal}
 use Rattle.desk_replay.specs.declared.ending.Ending.{Ending}
 use Rattle.desk_replay.specs.declared.ending.Ending.TheVariants as ending
-use Rattle.desk_replay.specs.Story.{Story}
+use Rattle.desk_story.specs.Story.{cause_name, Story}
 
 -- the history of the events from the opening of the day, and the state that it ends in
 unfoldable pub history : Story → List Entry
@@ -59,11 +56,6 @@ texts_from I h =
 
 abbrev pub texts_of : Story → Texts
 texts_of s = texts_from s.day (history s)
-
--- a cause by its name
-abbrev pub cause_name : Cause → List ℕ
-cause_name Form = codes "Form"
-cause_name (Row cause) = row_cause_name cause
 
 -- the line of a refusal
 abbrev pub refusal_text : Refusal → List ℕ

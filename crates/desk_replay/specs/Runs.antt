@@ -1,5 +1,5 @@
 -- What a run does to the outside, by how it ends.
-use Rattle.std.specs.Prelude.{◌≡◌, ◌≢◌, ◌≤◌, ◌⊎◌, ℕ, List, [], Some, None, IfSome, IsSome, Result, Ok, Err, MatchOption}
+use Rattle.std.specs.Prelude.{◌≡◌, ◌≢◌, ◌≤◌, ◌⊎◌, ℕ, true, false, List, [], Some, None, IfSome, IsSome, Result, Ok, Err, MatchOption}
 use Rattle.std.specs.Io.KnownBytes.{Appends, Keeps}
 use Rattle.desk_folder.specs.declared.files.File.{File}
 use Rattle.desk_folder.specs.declared.files.File.TheVariants as file
@@ -16,9 +16,11 @@ use Rattle.journal_text.specs.Lines.{journal_text}
 use Rattle.sol_text.specs.Rotations.{rotations_text}
 use Rattle.desk_replay.specs.declared.ending.Ending.{Ending}
 use Rattle.desk_replay.specs.declared.ending.Ending.TheVariants as ending
-use Rattle.desk_replay.specs.Story.{Inputs, Story, story_of}
+use Rattle.desk_story.specs.Inputs.{Inputs, replay_files, is_among, Tells}
+use Rattle.desk_story.specs.Story.{Story, rows_of, story_of}
+use Rattle.desk_story.specs.Reading.{IsRead, IsUnread, StandsFirst}
 use Rattle.desk_replay.specs.Outcome.{last, Texts, texts_of, report_text, fault_text, status_of}
-use Rattle.desk_replay.specs.Commands.{command}
+use Rattle.desk_replay.specs.Commands.{output_files, command}
 
 -- the folder and the sink
 pub record World : Type 0 where
@@ -27,23 +29,6 @@ pub record World : Type 0 where
 
 abbrev pub world : Outside → SinkSide → World
 world folder sink = record { folder = folder; sink = sink }
-
--- the folder tells the bytes of the input files
-pub record Tells (outside : Outside) (x : Inputs) : Type 0 where
-  pub config : outside.left file.Config ≡ Some x.config
-  pub flights : outside.left file.Flights ≡ Some x.flights
-  pub rotations : outside.left file.Rotations ≡ Some x.rotations
-  pub aircraft : outside.left file.Aircraft ≡ Some x.aircraft
-  pub airports : outside.left file.Airports ≡ Some x.airports
-  pub dist : outside.left file.Dist ≡ Some x.dist
-  pub itineraries : outside.left file.Itineraries ≡ Some x.itineraries
-  pub position : outside.left file.Position ≡ Some x.position
-  pub tariff : outside.left file.Tariff ≡ Some x.tariff
-  pub journal : outside.left file.Journal ≡ Some x.journal
-
--- the file that has been read to its end
-abbrev pub IsRead : Outside → Outside → File → Type 0
-IsRead before now f = IfSome (before.left f) (λ bytes. now.left f ≡ Some [])
 
 -- the promise of the desk, for a run that was done: the history behind what was written
 pub record Headline (before now : World) (s : Story) (h : List Entry) : Type 0 where
@@ -99,27 +84,32 @@ StopsIn file.SolRotations before now t = StopsInRotations before now t
 StopsIn file.Journal before now t = StopsInJournal before now t
 StopsIn f before now t = ⊥
 
+-- nothing of a file was written, and no writing of it failed
+pub record IsUnput (before now : Outside) (f : File) : Type 0 where
+  pub written : now.written f ≡ before.written f
+  pub faults : now.put_faults f ≡ before.put_faults f
+
 -- the story that the input tells
 abbrev pub IsTold : Inputs → Story → Type 0
 IsTold x s = story_of x ≡ Ok s
 
--- what a run did on these inputs, by its ending
+-- what a run did on these inputs, by its ending; where a file could not be read, no grammar refuses one before it
 abbrev pub Did : World → World → Inputs → Ending → Type 0
 Did before now x ending.Done = (s : Story) × IsTold x s × ((last s).broken ≡ None) × ((h : List Entry) × Headline before now s h)
 Did before now x ending.NoPlan = (s : Story) × IsTold x s × IsSome (last s).broken × ((h : List Entry) × Headline before now s h)
 Did before now x ending.Usage = ⊥
 Did before now x (ending.Refused r) = (story_of x ≡ Err r) × IsUnwritten before now
 Did before now x ending.PlaceFault = IsUnwritten before now
-Did before now x (ending.ReadFault f) = IsUnwritten before now
+Did before now x (ending.ReadFault f) = StandsFirst f (rows_of x) × IsUnwritten before now
 Did before now x (ending.WriteFault f) = (s : Story) × IsTold x s × StopsIn f before now (texts_of s)
 Did before now x ending.ReportFault = (s : Story) × IsTold x s × StopsInReport before now (texts_of s)
 Did before now x ending.Memory = IsUnwritten before now ⊎ ((s : Story) × IsTold x s × Stops before now (texts_of s))
 
--- only a fault of the outside ends a run so: its count of that very call and file rose
+-- only a fault of the outside ends a run so: its count of that very call and file rose, and the command reads or writes the file
 abbrev pub HasCause : World → World → Ending → Type 0
 HasCause before now ending.PlaceFault = Rose before.folder.place_faults now.folder.place_faults
-HasCause before now (ending.ReadFault f) = Rose (before.folder.next_faults f) (now.folder.next_faults f)
-HasCause before now (ending.WriteFault f) = Rose (before.folder.put_faults f) (now.folder.put_faults f)
+HasCause before now (ending.ReadFault f) = (is_among f replay_files ≡ true) × Rose (before.folder.next_faults f) (now.folder.next_faults f)
+HasCause before now (ending.WriteFault f) = (is_among f output_files ≡ true) × Rose (before.folder.put_faults f) (now.folder.put_faults f)
 HasCause before now ending.ReportFault = Rose before.sink.faults now.sink.faults
 HasCause before now other = Unit {0}
 
@@ -129,18 +119,9 @@ AreNamed dirs before now ending.PlaceFault = Unit {0}
 AreNamed dirs before now ending.Memory = Unit {0}
 AreNamed dirs before now other = IfSome before.folder.directories (λ was. now.folder.directories ≡ Some dirs)
 
--- all input files were read to their end
-pub record AreRead (before now : Outside) : Type 0 where
-  pub config : IsRead before now file.Config
-  pub flights : IsRead before now file.Flights
-  pub rotations : IsRead before now file.Rotations
-  pub aircraft : IsRead before now file.Aircraft
-  pub airports : IsRead before now file.Airports
-  pub dist : IsRead before now file.Dist
-  pub itineraries : IsRead before now file.Itineraries
-  pub position : IsRead before now file.Position
-  pub tariff : IsRead before now file.Tariff
-  pub journal : IsRead before now file.Journal
+-- all files of the command were read to their end
+abbrev pub AreRead : Outside → Outside → Type 0
+AreRead before now = (f : File) → is_among f replay_files ≡ true → IsRead before now f
 
 abbrev pub IsReadWhole : World → World → Ending → Type 0
 IsReadWhole before now ending.Done = AreRead before.folder now.folder
@@ -163,13 +144,14 @@ IsSilent before now other = Unit {0}
 pub record Replays (dirs : Directories) (before now : World) (how : Ending) : Type 0 where
   pub no_usage : how ≢ ending.Usage
   pub cause : HasCause before now how
-  pub did : (x : Inputs) → Tells before.folder x → Did before now x how
+  pub did : (x : Inputs) → Tells replay_files before.folder x → Did before now x how
   pub named : AreNamed dirs before now how
   pub read : IsReadWhole before now how
   pub silent : IsSilent before now how
   pub kept : before.sink.faults ≤ now.sink.faults
-  -- no other file is written
-  pub others : (f : File) → f ≢ file.SolRotations → f ≢ file.Journal → now.folder.written f ≡ before.folder.written f
+  -- no other file is read, and none but the outputs is written
+  pub unread : (f : File) → is_among f replay_files ≡ false → IsUnread before.folder now.folder f
+  pub unput : (f : File) → is_among f output_files ≡ false → IsUnput before.folder now.folder f
 
 -- nothing was called
 pub record IsUntouched (before now : World) : Type 0 where

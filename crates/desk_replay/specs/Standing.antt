@@ -5,10 +5,11 @@ use Rattle.desk_folder.specs.declared.files.File.{File}
 use Rattle.desk_folder.specs.declared.files.File.TheVariants as file
 use Rattle.desk_folder.specs.Outside.{Outside}
 use Rattle.desk_folder.specs.Calls.{AppendsPrefix, Rose}
-use Rattle.desk_replay.specs.declared.ending.Refusal.{Refusal}
+use Rattle.desk_story.specs.declared.refusal.Refusal.{Refusal}
 use Rattle.desk_replay.specs.declared.ending.Ending.{Ending}
 use Rattle.desk_replay.specs.declared.ending.Ending.TheVariants as ending
-use Rattle.desk_replay.specs.Story.{Inputs, Story, story_of}
+use Rattle.desk_story.specs.Inputs.{Inputs}
+use Rattle.desk_story.specs.Story.{Story, story_of}
 use Rattle.desk_replay.specs.Outcome.{Texts, texts_of, fault_text, status_of}
 use Rattle.desk_replay.specs.Runs.{World, HasCause}
 use Rattle.desk_replay.specs.Causes.{IsUnlessMemory}

@@ -1,5 +1,5 @@
 -- What writing the texts does to the outside.
-use Rattle.std.specs.Prelude.{◌≡◌, ◌≢◌, ◌≤◌, Result, Ok, Err, IfErr}
+use Rattle.std.specs.Prelude.{◌≡◌, ◌≤◌, false, Result, Ok, Err, IfErr}
 use Rattle.desk_folder.specs.declared.files.File.{File}
 use Rattle.desk_folder.specs.declared.files.File.TheVariants as file
 use Rattle.desk_folder.specs.Outside.{Outside}
@@ -7,7 +7,9 @@ use Rattle.desk_replay.specs.declared.ending.Ending.{Ending}
 use Rattle.desk_replay.specs.declared.ending.Ending.TheVariants as ending
 use Rattle.desk_replay.specs.declared.write.OutputTexts.{OutputTexts}
 use Rattle.desk_replay.specs.Outcome.{Texts}
-use Rattle.desk_replay.specs.Runs.{World, HasCause, IsWritten, Stops, StopsIn, StopsInReport}
+use Rattle.desk_story.specs.Inputs.{is_among}
+use Rattle.desk_replay.specs.Commands.{output_files}
+use Rattle.desk_replay.specs.Runs.{World, HasCause, IsWritten, IsUnput, Stops, StopsIn, StopsInReport}
 
 -- the texts, wherever they lie in memory
 abbrev pub texts_in : OutputTexts → Texts
@@ -21,14 +23,13 @@ Wrote before now t (Err ending.ReportFault) = StopsInReport before now t
 Wrote before now t (Err ending.Memory) = Stops before now t
 Wrote before now t (Err other) = ⊥
 
--- nothing but what is written of the two files, and the counts of failed writes, is other than before
+-- nothing but what is written of the output files, and their counts of failed writes, is other than before
 pub record OnlyWrites (before now : Outside) : Type 0 where
   pub directories : now.directories ≡ before.directories
   pub left : (f : File) → now.left f ≡ before.left f
-  pub written : (f : File) → f ≢ file.SolRotations → f ≢ file.Journal → now.written f ≡ before.written f
+  pub unput : (f : File) → is_among f output_files ≡ false → IsUnput before now f
   pub place_faults : now.place_faults ≡ before.place_faults
   pub next_faults : (f : File) → now.next_faults f ≡ before.next_faults f
-  pub kept : (f : File) → before.put_faults f ≤ now.put_faults f
 
 -- the texts are put one after another
 pub record PutsTexts (before now : World) (t : Texts) (answer : Result (Unit {0}) Ending) : Type 0 where

@@ -1,26 +1,10 @@
 //! How a run of the desk ends.
 
+ghost use Rattle.std.specs.Prelude.{◌≡◌};
+ghost use Rattle.desk_replay.specs.Finishing.{story_end};
+
 use desk_folder::File;
-use desk_text::Cause as RowCause;
-
-/// Why a line of a file is refused.
-#[derive(Clone, Copy, Debug, PartialEq, Eq)]
-pub enum Cause {
-    /// The line of journal.csv is not in its early form; at line 0 the file has more bytes than its
-    /// limit.
-    Form,
-    /// A cause of the text files; of journal.csv only that a name is unknown.
-    Row(RowCause),
-}
-
-/// The first line that is refused.
-#[derive(Clone, Copy, Debug, PartialEq, Eq)]
-pub struct Refusal {
-    pub file: File,
-    /// Counted from 1, or 0 for the file as a whole.
-    pub line: u32,
-    pub cause: Cause,
-}
+use desk_story::{Refusal, StoryFault};
 
 /// How a run ends.
 #[derive(Clone, Copy, Debug, PartialEq, Eq)]
@@ -43,4 +27,16 @@ pub enum Ending {
     ReportFault,
     /// Memory ran out.
     Memory,
+}
+
+impl From<StoryFault> for Ending {
+    ghost from_gives = { λ fault e. e ≡ story_end fault };
+
+    fn from(fault: StoryFault) -> Ending {
+        match fault {
+            StoryFault::Refused(refusal) => Ending::Refused(refusal),
+            StoryFault::ReadFault(file) => Ending::ReadFault(file),
+            StoryFault::Memory => Ending::Memory,
+        }
+    }
 }

@@ -2,25 +2,14 @@
 
 ghost use Rattle.std.specs.Prelude.{◌≡◌, ◌++◌, IfOk};
 ghost use Rattle.std.specs.String.{string_bytes};
-ghost use Rattle.desk_replay.specs.Outcome.{cause_name, line, refusal_text, fault_text, status_of};
+ghost use Rattle.desk_replay.specs.Outcome.{line, refusal_text, fault_text, status_of};
 ghost use Rattle.desk_folder.specs.Files.{file_name};
 
-use crate::ending::{Cause, Ending, Refusal};
+use crate::ending::Ending;
 use desk_data::NoMem;
 use desk_folder::File;
+use desk_story::Refusal;
 use std::alloc::Global;
-
-impl Cause {
-    /// Its name, as it is printed.
-    pub fn name(self) -> &'static str
-        ensures { result.now ≡ cause_name self }
-    {
-        match self {
-            Cause::Form => "Form",
-            Cause::Row(cause) => cause.name(),
-        }
-    }
-}
 
 impl Ending {
     /// The status that the program ends with.

@@ -3,16 +3,14 @@
 
 mod ending;
 mod fault;
-mod read;
-mod rows;
 mod run;
-mod story;
 mod texts;
 mod whole;
 mod words;
 mod write;
 
-pub use ending::{Cause, Ending, Refusal};
+pub use desk_story::{Cause, Refusal};
+pub use ending::Ending;
 pub use fault::fault_text;
 pub use whole::replay;
 pub use words::command;

@@ -2,16 +2,16 @@
 
 ghost use Rattle.std.specs.Prelude.{◌≡◌};
 ghost use Rattle.desk_replay.specs.Commands.{directories};
-ghost use Rattle.desk_replay.specs.InputStory.{story_in, CanBeRun};
+ghost use Rattle.desk_story.specs.Facts.{story_in, CanBeRun};
 ghost use Rattle.desk_replay.specs.Runs.{world, Replays};
 ghost use Rattle.desk_replay.specs.Finishing.{Finishes};
 
 use crate::ending::Ending;
 use crate::run::run_events;
-use crate::story::{InputStory, read_story};
 use crate::texts::output_texts;
 use crate::write::put_texts;
 use desk_folder::{Folder, FolderFault, Sink};
+use desk_story::{InputStory, read_story};
 use std::alloc::Global;
 
 // Takes the events of a story, and writes what came of them.
@@ -64,6 +64,6 @@ pub fn replay<F: Folder, O: Sink>(
     }
     match read_story(alloc, folder) {
         Ok(story) => finish(alloc, story, folder, out),
-        Err(end) => end,
+        Err(fault) => Ending::from(fault),
     }
 }

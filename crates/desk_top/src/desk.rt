@@ -1,16 +1,17 @@
 //! The top call.
 
-ghost use Rattle.std.specs.Prelude.{◌≡◌, ◌≢◌, ◌≤◌, map};
+ghost use Rattle.std.specs.Prelude.{◌≡◌, ◌≤◌, false, map};
 ghost use Rattle.std.specs.String.{string_bytes};
 ghost use Rattle.desk_folder.specs.declared.files.File.{File};
-ghost use Rattle.desk_folder.specs.declared.files.File.TheVariants as file;
 ghost use Rattle.desk_folder.specs.Outside.{Directories};
-ghost use Rattle.desk_replay.specs.Commands.{command};
-ghost use Rattle.desk_replay.specs.Story.{Inputs, story_of};
-ghost use Rattle.desk_replay.specs.Runs.{world, Tells, Ends, IsDone, Runs};
+ghost use Rattle.desk_story.specs.Inputs.{Inputs, replay_files, is_among, Tells};
+ghost use Rattle.desk_story.specs.Story.{story_of};
+ghost use Rattle.desk_story.specs.Reading.{IsUnread};
+ghost use Rattle.desk_replay.specs.Commands.{command, files_read, files_written};
+ghost use Rattle.desk_replay.specs.Runs.{world, Ends, IsDone, IsUnput, Runs};
 ghost use Rattle.desk_replay.specs.Causes.{IsUnlessMemory, IsDoneWith, IsRefused, HasFault, IsReadable, IsFaultless, Answers};
 ghost use Rattle.desk_replay.specs.Standing.{finished_texts, AreBegun, IsToldLast};
-ghost use Rattle.desk_replay.specs.declared.ending.Refusal.{Refusal as Refused};
+ghost use Rattle.desk_story.specs.declared.refusal.Refusal.{Refusal as Refused};
 
 use desk_folder::{Folder, FolderFault, Gate, Sink};
 use desk_replay::{Ending, command, fault_text, replay};
@@ -62,36 +63,39 @@ pub fn desk_main<F: Folder, O: Sink, G: Gate>(
 
     // The headline: where the folder tells the bytes of its input, each run that was done has written
     // the journal of a legal history of the events that it read, and the last plan of that history.
-    ensures headline { (x : Inputs) → Tells (F.outside folder.old) x → result ≤ 1 →
+    ensures headline { (x : Inputs) → Tells replay_files (F.outside folder.old) x → result ≤ 1 →
         IsDone (world (F.outside folder.old) (O.report out.old))
         (world (F.outside folder.new) (O.report out.new)) x }
 
     // 0 and 1: the input is accepted, and its last state has a plan, or has none.
-    ensures done { (x : Inputs) → Tells (F.outside folder.old) x → result ≤ 1 → IsDoneWith x result }
+    ensures done { (x : Inputs) → Tells replay_files (F.outside folder.old) x → result ≤ 1 → IsDoneWith x result }
 
     // 2: exactly where the words are no command.
     ensures usage { command (map string_bytes words.now) ≡ None → IsUnlessMemory result 2 }
     ensures usage_only { result ≡ 2 → command (map string_bytes words.now) ≡ None }
 
-    // 3: exactly where the input is refused and no call failed that names the directories or reads.
-    ensures refused_where { (x : Inputs) → Tells (F.outside folder.old) x → (dirs : Directories) →
+    // 3: exactly where the input is refused and no call failed that stands before this refusal: the one
+    // that names the directories, and those that read the files up to the one that its grammar refuses,
+    // or all files of the command where their rows do not fit together.
+    ensures refused_where { (x : Inputs) → Tells replay_files (F.outside folder.old) x → (dirs : Directories) →
         command (map string_bytes words.now) ≡ Some dirs →
         IsReadable (world (F.outside folder.old) (O.report out.old))
-        (world (F.outside folder.new) (O.report out.new)) →
+        (world (F.outside folder.new) (O.report out.new)) x →
         (refusal : Refused) → story_of x ≡ Err refusal → IsUnlessMemory result 3 }
 
     // 3: the input is refused; its first refusal is told, and no file is written.
-    ensures refused { (x : Inputs) → Tells (F.outside folder.old) x → result ≡ 3 →
+    ensures refused { (x : Inputs) → Tells replay_files (F.outside folder.old) x → result ≡ 3 →
         IsRefused (world (F.outside folder.old) (O.report out.old))
         (world (F.outside folder.new) (O.report out.new)) x }
 
-    // 4 and 5: the count of faults of the call that is told rose in this run.
+    // 4 and 5: the count of faults of the call that is told rose in this run, and the command reads or
+    // writes the file that is told.
     ensures fault { 4 ≤ result → result ≤ 5 →
         HasFault (world (F.outside folder.old) (O.report out.old))
         (world (F.outside folder.new) (O.report out.new)) result }
 
     // Where no call failed, the input alone decides between 0, 1 and 3, but for want of memory.
-    ensures complete { (x : Inputs) → Tells (F.outside folder.old) x → (dirs : Directories) →
+    ensures complete { (x : Inputs) → Tells replay_files (F.outside folder.old) x → (dirs : Directories) →
         command (map string_bytes words.now) ≡ Some dirs →
         IsFaultless (world (F.outside folder.old) (O.report out.old))
         (world (F.outside folder.new) (O.report out.new)) →
@@ -103,17 +107,20 @@ pub fn desk_main<F: Folder, O: Sink, G: Gate>(
 
     // At any status the output files are whole up to one, of which there is a beginning, and there is
     // nothing behind it.
-    ensures begun { (x : Inputs) → Tells (F.outside folder.old) x →
+    ensures begun { (x : Inputs) → Tells replay_files (F.outside folder.old) x →
         AreBegun (F.outside folder.old) (F.outside folder.new) (finished_texts (story_of x)) }
 
-    // And no other file is written.
-    ensures others { (f : File) → f ≢ file.SolRotations → f ≢ file.Journal →
-        (F.outside folder.new).written f ≡ (F.outside folder.old).written f }
+    // Of each file that the command does not read the bytes and the count of failed reads stay, and of
+    // each that it does not write the bytes and the count of failed writes.
+    ensures unread { (f : File) → is_among f (files_read (command (map string_bytes words.now))) ≡ false →
+        IsUnread (F.outside folder.old) (F.outside folder.new) f }
+    ensures unput { (f : File) → is_among f (files_written (command (map string_bytes words.now))) ≡ false →
+        IsUnput (F.outside folder.old) (F.outside folder.new) f }
 
     // From 2 on the sink has got a beginning of the report, which is empty at 2, 3 and 4 and where an
     // output file is not whole, and the line of the fault, of which a rest is missing only at 6 and
     // where the sink failed.
-    ensures told_last { (x : Inputs) → Tells (F.outside folder.old) x → 2 ≤ result →
+    ensures told_last { (x : Inputs) → Tells replay_files (F.outside folder.old) x → 2 ≤ result →
         IsToldLast (world (F.outside folder.old) (O.report out.old))
         (world (F.outside folder.new) (O.report out.new)) x result }
 {

@@ -4,7 +4,7 @@
 
 ghost use Rattle.std.specs.Prelude.{◌≡◌, IfOk};
 ghost use Rattle.desk_data.specs.Valid.{IsPlanFor};
-ghost use Rattle.desk_model.specs.Least.{least};
+ghost use Rattle.desk_rules.specs.Least.{least};
 
 use desk_data::{Broken, Instance, NoMem, Plan};
 use rule_pax::least_pax;

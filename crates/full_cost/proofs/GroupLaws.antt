@@ -11,10 +11,10 @@ use Rattle.desk_data.specs.declared.row.Group.{Group}
 use Rattle.desk_data.specs.Situation.{Situation, legs_of, reservations_of}
 use Rattle.desk_data.specs.PlanRows.{PlanRows, IsGroup, AreGroups, groups_at}
 use Rattle.desk_data.specs.Valid.{IsValid, IsPathOf, IsPlanFor}
-use Rattle.desk_model.specs.Numbers.{numbers}
-use Rattle.desk_model.specs.Passengers.{is_carried, all_flown, minutes_late}
-use Rattle.desk_model.specs.Cost.{delay, cancellation, downgrade, legal, owed_late, owed_uncarried}
-use Rattle.desk_model.proofs.CostLaws.{delay_most, item_most, downgrade_most, legal_most, IsAtMost, count-le, delay-le, cancellation-le, downgrade-le, legal-le, reservation-le, reservations-le as all-le}
+use Rattle.desk_rules.specs.Numbers.{numbers}
+use Rattle.desk_rules.specs.Passengers.{is_carried, all_flown, minutes_late}
+use Rattle.desk_rules.specs.Cost.{delay, cancellation, downgrade, legal, owed_late, owed_uncarried}
+use Rattle.desk_rules.proofs.CostLaws.{delay_most, item_most, downgrade_most, legal_most, IsAtMost, count-le, delay-le, cancellation-le, downgrade-le, legal-le, reservation-le, reservations-le as all-le}
 use Rattle.full_cost.specs.Counted.{IsGroupOf}
 use Rattle.full_cost.specs.Amounts.{delayed, cancelled, group_cost, reservation_cost}
 

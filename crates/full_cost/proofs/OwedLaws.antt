@@ -13,7 +13,7 @@ use Rattle.tariff_prices.specs.Rows.{IsTariffRow, same_haul}
 use Rattle.tariff_prices.specs.Prices.{Owed, care_in, compensation_in, is_owed_at, owed_at, care_price, compensation_price}
 use Rattle.desk_data.specs.Situation.{Situation}
 use Rattle.desk_data.specs.Valid.{IsValid}
-use Rattle.desk_model.specs.Cost.{rows_of, owed_late}
+use Rattle.desk_rules.specs.Cost.{rows_of, owed_late}
 
 -- at least a minute
 abbrev IsLate : Owed → Type 0

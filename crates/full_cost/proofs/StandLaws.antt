@@ -15,11 +15,11 @@ use Rattle.desk_data.specs.declared.row.Row.{Row}
 use Rattle.desk_data.specs.declared.row.Row.TheVariants.{Flown, Cancelled}
 use Rattle.desk_data.specs.Situation.{Situation, legs_of, planes_of, leg_at, plane_at}
 use Rattle.desk_data.specs.PlanRows.{PlanRows, row_at}
-use Rattle.desk_model.specs.Numbers.{numbers, each_below, none_below, implies}
-use Rattle.desk_model.specs.Rotations.{comes_before, dep, precedes}
-use Rattle.desk_model.specs.Maintenance.{is_flown_by, flies, departs_before, is_last_before, is_left_at}
-use Rattle.desk_model.specs.Cost.{is_wanted, ends_at, at_hand}
-use Rattle.desk_model.proofs.Tests.{each_below-holds, each_below-from, none_below-holds, none_below-from, implies-holds, implies-from}
+use Rattle.desk_rules.specs.Numbers.{numbers, each_below, none_below, implies}
+use Rattle.desk_rules.specs.Rotations.{comes_before, dep, precedes}
+use Rattle.desk_rules.specs.Maintenance.{is_flown_by, flies, departs_before, is_last_before, is_left_at}
+use Rattle.desk_rules.specs.Cost.{is_wanted, ends_at, at_hand}
+use Rattle.desk_rules.proofs.Tests.{each_below-holds, each_below-from, none_below-holds, none_below-from, implies-holds, implies-from}
 use Rattle.full_cost.specs.Stands.{IsLast, IsLastOf, AreLasts, left_by, stand, is_there, AreStands, ending, AreHere, wanted}
 
 not_both : (b : Bool) → b ≡ true → b ≡ false → ⊥

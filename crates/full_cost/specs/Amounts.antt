@@ -5,8 +5,8 @@ use Rattle.tariff_prices.specs.Prices.{delay_price, cancel_price}
 use Rattle.desk_data.specs.declared.row.Group.{Group}
 use Rattle.desk_data.specs.Situation.{Situation}
 use Rattle.desk_data.specs.PlanRows.{PlanRows, groups_at}
-use Rattle.desk_model.specs.Passengers.{haul_of, reference_of}
-use Rattle.desk_model.specs.Cost.{rows_of, weight, by_hour, by_item, delay, cancellation, downgrade, legal}
+use Rattle.desk_rules.specs.Passengers.{haul_of, reference_of}
+use Rattle.desk_rules.specs.Cost.{rows_of, weight, by_hour, by_item, delay, cancellation, downgrade, legal}
 
 -- the delay of so many passengers of reservation r who arrive so many minutes late
 abbrev pub delayed : Situation → ℕ → ℕ → ℕ → ℕ

@@ -5,10 +5,10 @@ use Rattle.desk_units.specs.declared.numbers.Leg.{Leg}
 use Rattle.desk_data.specs.declared.info.PositionInfo.{PositionInfo}
 use Rattle.desk_data.specs.Situation.{Situation, planes_of, leg_at, plane_at}
 use Rattle.desk_data.specs.PlanRows.{PlanRows}
-use Rattle.desk_model.specs.Numbers.{numbers}
-use Rattle.desk_model.specs.Rotations.{precedes}
-use Rattle.desk_model.specs.Maintenance.{departs_before}
-use Rattle.desk_model.specs.Cost.{is_wanted, ends_at}
+use Rattle.desk_rules.specs.Numbers.{numbers}
+use Rattle.desk_rules.specs.Rotations.{precedes}
+use Rattle.desk_rules.specs.Maintenance.{departs_before}
+use Rattle.desk_rules.specs.Cost.{is_wanted, ends_at}
 
 -- leg x is the last of the first n legs that aircraft p flies and that depart before a moment
 pub record IsLast (P : PlanRows) (p at n x : ℕ) : Type 0 where

@@ -4,7 +4,7 @@ use Rattle.desk_units.specs.declared.money.Weight.{Weight}
 use Rattle.desk_units.specs.declared.tariff.Term.{Term}
 use Rattle.desk_units.specs.declared.tariff.Term.TheVariants as term
 use Rattle.desk_data.specs.Situation.{Situation}
-use Rattle.desk_model.specs.Cost.{weight}
+use Rattle.desk_rules.specs.Cost.{weight}
 use Rattle.full_cost.specs.declared.weights.Weights.{Weights}
 
 -- this is the weight of a term

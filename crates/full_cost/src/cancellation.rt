@@ -2,7 +2,7 @@
 
 ghost use Rattle.std.specs.Prelude.{◌≡◌, ◌≤◌};
 ghost use Rattle.desk_units.specs.declared.tariff.Term.TheVariants as term;
-ghost use Rattle.desk_model.specs.States.{grains};
+ghost use Rattle.desk_rules.specs.Cost.{grains};
 ghost use Rattle.full_cost.specs.Amounts.{cancelled};
 ghost use Rattle.pax_paths.specs.Booked.{IsBooked};
 ghost use Rattle.full_cost.specs.Weighed.{IsWeight};

@@ -2,8 +2,7 @@
 
 ghost use Rattle.std.specs.Prelude.{◌≡◌, ◌<◌, ◌^◌};
 ghost use Rattle.desk_data.specs.Valid.{IsPlanFor};
-ghost use Rattle.desk_model.specs.Cost.{cost};
-ghost use Rattle.desk_model.specs.States.{grains};
+ghost use Rattle.desk_rules.specs.Cost.{cost, grains};
 
 use crate::groups::passengers_cost;
 use crate::operating::operating_cost;

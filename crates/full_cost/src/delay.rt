@@ -3,9 +3,9 @@
 ghost use Rattle.std.specs.Prelude.{◌≡◌, ◌<◌, ◌≤◌, length};
 ghost use Rattle.desk_data.specs.Situation.{legs_of};
 ghost use Rattle.desk_data.specs.Valid.{IsPathOf, IsPlanFor};
-ghost use Rattle.desk_model.specs.Passengers.{minutes_late};
+ghost use Rattle.desk_rules.specs.Passengers.{minutes_late};
 ghost use Rattle.desk_units.specs.declared.tariff.Term.TheVariants as term;
-ghost use Rattle.desk_model.specs.States.{grains};
+ghost use Rattle.desk_rules.specs.Cost.{grains};
 ghost use Rattle.full_cost.specs.Amounts.{delayed};
 ghost use Rattle.pax_paths.specs.Booked.{IsBooked};
 ghost use Rattle.full_cost.specs.Weighed.{IsWeight};
@@ -38,7 +38,7 @@ pub(crate) fn delay_cost(
 }
 
 /// How many minutes after the booked arrival a path arrives, 0 if not later.
-#[tactic(auto, unfolding(desk_model::specs::Passengers::minutes_late))]
+#[tactic(auto, unfolding(desk_rules::specs::Passengers::minutes_late))]
 pub(crate) fn minutes_late(
     inst: &Instance,
     plan: &Plan,

@@ -2,9 +2,8 @@
 
 ghost use Rattle.std.specs.Prelude.{◌≡◌, ◌<◌, ◌≤◌};
 ghost use Rattle.desk_data.specs.Situation.{legs_of};
-ghost use Rattle.desk_model.specs.Cost.{downgrade, downgrade_on};
+ghost use Rattle.desk_rules.specs.Cost.{downgrade, downgrade_on, grains};
 ghost use Rattle.desk_units.specs.declared.tariff.Term.TheVariants as term;
-ghost use Rattle.desk_model.specs.States.{grains};
 ghost use Rattle.full_cost.specs.Counted.{IsGroupOf};
 ghost use Rattle.pax_paths.specs.Booked.{IsBooked};
 ghost use Rattle.full_cost.specs.Weighed.{IsWeight};
@@ -35,7 +34,7 @@ pub(crate) fn downgrade_cost(
 
 /// What some passengers cost who take a leg in a cabin: nothing, unless the cabin is below the
 /// highest that they booked.
-#[tactic(auto, unfolding(desk_model::specs::Cost::downgrade_on))]
+#[tactic(auto, unfolding(desk_rules::specs::Cost::downgrade_on))]
 fn leg_cost(
     inst: &Instance,
     weight: Weight,

@@ -3,8 +3,7 @@
 ghost use Rattle.std.specs.Prelude.{◌≡◌, ◌+◌, ◌*◌, ◌<◌, ◌≤◌, ◌^◌};
 ghost use Rattle.desk_data.specs.Situation.{reservations_of};
 ghost use Rattle.desk_data.specs.Valid.{IsPlanFor};
-ghost use Rattle.desk_model.specs.Cost.{delay_cost, cancellation_cost, downgrade_cost, legal_cost};
-ghost use Rattle.desk_model.specs.States.{grains};
+ghost use Rattle.desk_rules.specs.Cost.{delay_cost, cancellation_cost, downgrade_cost, legal_cost, grains};
 ghost use Rattle.full_cost.specs.Amounts.{group_cost, reservation_cost};
 ghost use Rattle.full_cost.specs.Counted.{IsGroupOf};
 ghost use Rattle.pax_paths.specs.Booked.{IsBooked};

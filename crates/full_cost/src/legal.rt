@@ -1,9 +1,8 @@
 //! Legal: what is owed to passengers by law, and the price of a journey that is not made.
 
 ghost use Rattle.std.specs.Prelude.{◌≡◌, ◌≤◌};
-ghost use Rattle.desk_model.specs.Cost.{owed_late, owed_uncarried};
+ghost use Rattle.desk_rules.specs.Cost.{owed_late, owed_uncarried, grains};
 ghost use Rattle.desk_units.specs.declared.tariff.Term.TheVariants as term;
-ghost use Rattle.desk_model.specs.States.{grains};
 ghost use Rattle.pax_paths.specs.Booked.{IsBooked};
 ghost use Rattle.full_cost.specs.Weighed.{IsWeight};
 

@@ -3,8 +3,7 @@
 ghost use Rattle.std.specs.Prelude.{◌≡◌, ◌<◌, ◌≤◌, ◌^◌};
 ghost use Rattle.desk_data.specs.Situation.{legs_of};
 ghost use Rattle.desk_data.specs.Valid.{IsPlanFor};
-ghost use Rattle.desk_model.specs.Cost.{operating, operating_cost};
-ghost use Rattle.desk_model.specs.States.{grains};
+ghost use Rattle.desk_rules.specs.Cost.{operating, operating_cost, grains};
 ghost use Rattle.full_cost.specs.Weighed.{IsWeight};
 
 use crate::weights::weight_of;
@@ -12,7 +11,7 @@ use desk_data::{Grains, Instance, Leg, Plan, Row, Term, Weight};
 use desk_units::per_hour;
 
 /// What the legs cost that are flown.
-#[tactic(auto, unfolding(desk_model::specs::Cost::operating_cost))]
+#[tactic(auto, unfolding(desk_rules::specs::Cost::operating_cost))]
 pub(crate) fn operating_cost(inst: &Instance, plan: &Plan) -> Grains
     requires { IsPlanFor inst.now plan.now }
     ensures cost { result ≡ grains (operating_cost inst.now plan.now) }

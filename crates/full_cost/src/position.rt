@@ -3,8 +3,7 @@
 ghost use Rattle.std.specs.Prelude.{◌≡◌, ◌<◌, ◌≤◌, ◌^◌, length, All};
 ghost use Rattle.desk_data.specs.Situation.{planes_of};
 ghost use Rattle.desk_data.specs.Valid.{IsPlanFor};
-ghost use Rattle.desk_model.specs.Cost.{position_cost, is_wanted, same_seats};
-ghost use Rattle.desk_model.specs.States.{grains};
+ghost use Rattle.desk_rules.specs.Cost.{position_cost, is_wanted, same_seats, grains};
 ghost use Rattle.full_cost.specs.Stands.{is_there, AreHere, wanted};
 
 use crate::stands::put_stands;
@@ -46,7 +45,7 @@ pub(crate) fn position_cost(inst: &Instance, plan: &Plan) -> Grains
 /// What the missing aircraft cost, with room for the last leg, the stand and the number of each
 /// aircraft. The groups of one line of the file stand one after another, so the aircraft that end at
 /// an airport are gathered once for all groups of a line.
-#[tactic(auto, unfolding(desk_model::specs::Cost::position_cost))]
+#[tactic(auto, unfolding(desk_rules::specs::Cost::position_cost))]
 fn missing_cost(
     inst: &Instance,
     plan: &Plan,

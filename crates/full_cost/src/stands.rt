@@ -4,7 +4,7 @@ ghost use Rattle.std.specs.Prelude.{◌≡◌, ◌+◌, ◌<◌, true, length};
 ghost use Rattle.std.specs.Option.{ForSome};
 ghost use Rattle.desk_data.specs.Situation.{legs_of, planes_of};
 ghost use Rattle.desk_data.specs.Valid.{IsPlanFor};
-ghost use Rattle.desk_model.specs.Maintenance.{flies};
+ghost use Rattle.desk_rules.specs.Maintenance.{flies};
 ghost use Rattle.full_cost.specs.Stands.{IsLastOf, AreLasts, AreStands, stand};
 
 use desk_data::{Airport, Instance, Leg, Minute, Plan, Plane, Row};

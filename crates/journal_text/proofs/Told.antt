@@ -16,15 +16,15 @@ use Rattle.desk_data.specs.declared.broken.Broken.TheVariants.{C1, C2, C3, C4, C
 use Rattle.desk_data.specs.declared.moves.Move.{Move}
 use Rattle.desk_data.specs.Situation.{Situation, legs_of, planes_of, airports_of, reservations_of}
 use Rattle.desk_data.specs.PlanRows.{PlanRows}
+use Rattle.desk_rules.specs.Numbers.{numbers}
+use Rattle.desk_rules.specs.Least.{breaks, leg, plane, airport, res, all_hours, each_leg, each_plane, each_hour, each_cabin, each_res, rotation_items, slot_items, pax_items, items, least}
+use Rattle.desk_rules.specs.Cost.{cost, grains}
 use Rattle.desk_model.specs.declared.answer.Answer.TheVariants.{Dearer, Accepted}
 use Rattle.desk_model.specs.declared.answer.Event.{Event}
 use Rattle.desk_model.specs.declared.answer.Event.TheVariants as event
 use Rattle.desk_model.specs.declared.answer.Entry.{Entry}
-use Rattle.desk_model.specs.Numbers.{numbers}
-use Rattle.desk_model.specs.Least.{breaks, leg, plane, airport, res, all_hours, each_leg, each_plane, each_hour, each_cabin, each_res, rotation_items, slot_items, pax_items, items, least}
-use Rattle.desk_model.specs.Cost.{cost}
 use Rattle.desk_model.specs.Steps.{moved}
-use Rattle.desk_model.specs.States.{State, opening, grains, judged, proposed, answer}
+use Rattle.desk_model.specs.States.{State, opening, judged, proposed, answer}
 use Rattle.desk_model.specs.Histories.{state, IsAskable, Stands, IsLegal}
 use Rattle.desk_model.proofs.StateLaws.{IsTold, opening-told}
 use Rattle.desk_model.proofs.HistoryLaws.{state-told, state-inst}

@@ -7,7 +7,7 @@ use Rattle.desk_units.specs.declared.numbers.Cabin.TheVariants as cabin
 use Rattle.desk_units.specs.declared.numbers.Haul.{Haul}
 use Rattle.desk_units.specs.declared.numbers.Haul.TheVariants as haul
 use Rattle.desk_data.specs.Situation.{Situation, leg_at}
-use Rattle.desk_model.specs.Passengers.{higher_haul, highest_haul, higher_cabin, highest_cabin}
+use Rattle.desk_rules.specs.Passengers.{higher_haul, highest_haul, higher_cabin, highest_cabin}
 
 -- ---- hauls
 

@@ -1,7 +1,7 @@
 -- What a reservation booked.
 use Rattle.std.specs.Prelude.{◌≡◌, ◌<◌, ◌≤◌}
 use Rattle.desk_data.specs.Situation.{Situation, reservations_of}
-use Rattle.desk_model.specs.Passengers.{origin_of, dest_of, booked_departure, booked_arrival, haul_of, reference_of}
+use Rattle.desk_rules.specs.Passengers.{origin_of, dest_of, booked_departure, booked_arrival, haul_of, reference_of}
 use Rattle.pax_paths.specs.declared.booked.Booked.{Booked}
 
 -- this is what a reservation booked

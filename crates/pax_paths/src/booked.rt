@@ -3,7 +3,7 @@
 ghost use Rattle.std.specs.Prelude.{◌≡◌, ◌<◌};
 ghost use Rattle.desk_data.specs.Situation.{legs_of, reservations_of};
 ghost use Rattle.desk_data.specs.Valid.{IsPathOf};
-ghost use Rattle.desk_model.specs.Passengers.{higher_haul, highest_haul, higher_cabin, highest_cabin};
+ghost use Rattle.desk_rules.specs.Passengers.{higher_haul, highest_haul, higher_cabin, highest_cabin};
 ghost use Rattle.pax_paths.specs.Booked.{IsBooked};
 
 use desk_data::{Airport, Cabin, Haul, Instance, Leg, Minute, Res};
@@ -27,7 +27,7 @@ pub struct Booked {
 }
 
 /// What a reservation booked, from its scheduled path: in a walk over its legs.
-#[tactic(auto, unfolding(desk_model::specs::Passengers::origin_of, desk_model::specs::Passengers::dest_of, desk_model::specs::Passengers::booked_departure, desk_model::specs::Passengers::booked_arrival, desk_model::specs::Passengers::haul_of, desk_model::specs::Passengers::reference_of))]
+#[tactic(auto, unfolding(desk_rules::specs::Passengers::origin_of, desk_rules::specs::Passengers::dest_of, desk_rules::specs::Passengers::booked_departure, desk_rules::specs::Passengers::booked_arrival, desk_rules::specs::Passengers::haul_of, desk_rules::specs::Passengers::reference_of))]
 pub fn booked_of(inst: &Instance, res: Res) -> Booked
     requires { res.0 < reservations_of inst.now }
     ensures booked { IsBooked inst.now result }

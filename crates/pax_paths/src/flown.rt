@@ -3,8 +3,8 @@
 ghost use Rattle.std.specs.Prelude.{◌≡◌, ◌<◌, ◌≤◌, IsTrue, length};
 ghost use Rattle.desk_data.specs.Situation.{legs_of};
 ghost use Rattle.desk_data.specs.Valid.{IsPathOf, IsPlanFor};
-ghost use Rattle.desk_model.specs.Passengers.{all_flown, is_carried, is_flown};
-ghost use Rattle.desk_model.specs.Rotations.{arr, dep};
+ghost use Rattle.desk_rules.specs.Passengers.{all_flown, is_carried, is_flown};
+ghost use Rattle.desk_rules.specs.Rotations.{arr, dep};
 
 use desk_data::{Cabin, Instance, Leg, Plan, Row};
 
@@ -17,7 +17,7 @@ pub fn is_carried(path: &[(Leg, Cabin)]) -> bool
 }
 
 /// Whether all legs of a path are flown; those of the empty path are.
-#[tactic(auto, unfolding(desk_model::specs::Passengers::all_flown))]
+#[tactic(auto, unfolding(desk_rules::specs::Passengers::all_flown))]
 pub fn all_flown(plan: &Plan, path: &[(Leg, Cabin)]) -> bool
     requires { IsPathOf (length plan.now.rows) path.now }
     ensures { result ≡ all_flown plan.now path.now }

@@ -8,9 +8,9 @@ use Rattle.desk_data.specs.declared.broken.Broken.{Broken}
 use Rattle.desk_data.specs.declared.broken.Broken.TheVariants.{C12, C13, C14, C15}
 use Rattle.desk_data.specs.Situation.{Situation}
 use Rattle.desk_data.specs.PlanRows.{PlanRows}
-use Rattle.desk_model.specs.Numbers.{numbers}
-use Rattle.desk_model.specs.Carriage.{keeps_c13, keeps_c14, keeps_c15}
-use Rattle.desk_model.specs.Least.{breaks, each_cabin, each_res, pax_items, least_pax, res}
+use Rattle.desk_rules.specs.Numbers.{numbers}
+use Rattle.desk_rules.specs.Carriage.{keeps_c13, keeps_c14, keeps_c15}
+use Rattle.desk_rules.specs.Least.{breaks, each_cabin, each_res, pax_items, least_pax, res}
 
 -- one more number, whose item is broken unless its rule is kept
 found-more : (I : Situation) (P : PlanRows) (item : ℕ → Broken) (n : ℕ) (kept : Bool) → breaks I P (item n) ≡ not kept → find (breaks I P) (map item (numbers (n + 1))) ≡ option_or (find (breaks I P) (map item (numbers n))) (cond kept None (Some (item n)))

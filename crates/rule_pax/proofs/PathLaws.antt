@@ -6,8 +6,8 @@ use Rattle.desk_units.specs.declared.numbers.Leg.{Leg}
 use Rattle.desk_units.specs.declared.numbers.Cabin.{Cabin}
 use Rattle.desk_data.specs.Situation.{Situation}
 use Rattle.desk_data.specs.PlanRows.{PlanRows}
-use Rattle.desk_model.specs.Passengers.{no_pair, leg_in, reaches, connects}
-use Rattle.desk_model.proofs.Tests.{each_below-holds, each_below-from}
+use Rattle.desk_rules.specs.Passengers.{no_pair, leg_in, reaches, connects}
+use Rattle.desk_rules.proofs.Tests.{each_below-holds, each_below-from}
 
 -- the legs up to leg i are reached, and there is no further
 pub all_reached : (I : Situation) (P : PlanRows) (path : List (Leg × Cabin)) (i : ℕ) → length path ≤ i → ((k : ℕ) → k + 1 < i → reaches I P (leg_in path k) (leg_in path (k + 1)) ≡ true) → true ≡ connects I P path

@@ -13,7 +13,7 @@ use Rattle.desk_units.specs.Ranks.{cabin_rank}
 use Rattle.desk_data.specs.declared.row.Group.{Group}
 use Rattle.desk_data.specs.Situation.{Situation, legs_of, reservations_of}
 use Rattle.desk_data.specs.PlanRows.{PlanRows, groups_at}
-use Rattle.desk_model.specs.Passengers.{seats_in, takes, aboard_of, aboard}
+use Rattle.desk_rules.specs.Passengers.{seats_in, takes, aboard_of, aboard}
 use Rattle.rule_pax.specs.Taken.{no_seats, taken_in, all_of, AreTaken}
 
 -- ---- one more pair of a path

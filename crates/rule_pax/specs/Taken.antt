@@ -5,7 +5,7 @@ use Rattle.desk_units.specs.declared.numbers.Seats.{Seats}
 use Rattle.desk_data.specs.declared.row.Group.{Group}
 use Rattle.desk_data.specs.Situation.{Situation, legs_of}
 use Rattle.desk_data.specs.PlanRows.{PlanRows}
-use Rattle.desk_model.specs.Passengers.{seats_in, aboard_of}
+use Rattle.desk_rules.specs.Passengers.{seats_in, aboard_of}
 
 -- no seats
 abbrev pub no_seats : Seats

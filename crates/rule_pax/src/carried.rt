@@ -7,9 +7,9 @@ ghost use Rattle.desk_data.specs.PlanRows.{groups_at};
 ghost use Rattle.desk_data.specs.Situation.{legs_of, reservations_of};
 ghost use Rattle.desk_data.specs.Valid.{IsPathOf, IsPlanFor};
 ghost use Rattle.desk_data.specs.declared.broken.Broken.TheVariants as broken;
-ghost use Rattle.desk_model.specs.Carriage.{is_good_path, is_in_time_path, keeps_c13, keeps_c14, keeps_c15};
-ghost use Rattle.desk_model.specs.Least.{breaks, each_res};
-ghost use Rattle.desk_model.specs.Passengers.{longest_delay};
+ghost use Rattle.desk_rules.specs.Carriage.{is_good_path, is_in_time_path, keeps_c13, keeps_c14, keeps_c15};
+ghost use Rattle.desk_rules.specs.Least.{breaks, each_res};
+ghost use Rattle.desk_rules.specs.Passengers.{longest_delay};
 ghost use Rattle.pax_paths.specs.Booked.{IsBooked};
 
 use crate::paths::connects;
@@ -46,7 +46,7 @@ fn unless(is_kept: bool, item: Broken) -> Option<Broken>
 }
 
 /// Whether a reservation meets C13.
-#[tactic(auto, unfolding(desk_model::specs::Carriage::keeps_c13))]
+#[tactic(auto, unfolding(desk_rules::specs::Carriage::keeps_c13))]
 fn are_good(inst: &Instance, plan: &Plan, booked: Booked, groups: &[Group]) -> bool
     requires plan { IsPlanFor inst.now plan.now }
     requires booked { IsBooked inst.now booked }
@@ -61,7 +61,7 @@ fn are_good(inst: &Instance, plan: &Plan, booked: Booked, groups: &[Group]) -> b
 }
 
 /// Whether a reservation meets C14.
-#[tactic(auto, unfolding(desk_model::specs::Carriage::keeps_c14))]
+#[tactic(auto, unfolding(desk_rules::specs::Carriage::keeps_c14))]
 fn are_in_time(inst: &Instance, plan: &Plan, booked: Booked, groups: &[Group]) -> bool
     requires plan { IsPlanFor inst.now plan.now }
     requires booked { IsBooked inst.now booked }
@@ -76,7 +76,7 @@ fn are_in_time(inst: &Instance, plan: &Plan, booked: Booked, groups: &[Group]) -
 }
 
 /// Whether a reservation meets C15.
-#[tactic(auto, unfolding(desk_model::specs::Carriage::keeps_c15))]
+#[tactic(auto, unfolding(desk_rules::specs::Carriage::keeps_c15))]
 fn are_bound(inst: &Instance, plan: &Plan, res: Res, groups: &[Group]) -> bool
     requires res { res.0 < reservations_of inst.now }
     requires groups { groups.now ≡ groups_at plan.now res.0 }
@@ -89,7 +89,7 @@ fn are_bound(inst: &Instance, plan: &Plan, res: Res, groups: &[Group]) -> bool
 
 /// Whether a path is flown, runs from the reservation's origin to its destination, connects, and
 /// leaves no earlier than booked.
-#[tactic(auto, unfolding(desk_model::specs::Carriage::is_good_path))]
+#[tactic(auto, unfolding(desk_rules::specs::Carriage::is_good_path))]
 fn is_good_path(inst: &Instance, plan: &Plan, booked: Booked, path: &[(Leg, Cabin)]) -> bool
     requires plan { IsPlanFor inst.now plan.now }
     requires booked { IsBooked inst.now booked }
@@ -108,7 +108,7 @@ fn is_good_path(inst: &Instance, plan: &Plan, booked: Booked, path: &[(Leg, Cabi
 
 /// Whether a path arrives no later than the longest delay after the booked arrival, if its legs are
 /// all flown.
-#[tactic(auto, unfolding(desk_model::specs::Carriage::is_in_time_path))]
+#[tactic(auto, unfolding(desk_rules::specs::Carriage::is_in_time_path))]
 fn is_in_time_path(inst: &Instance, plan: &Plan, booked: Booked, path: &[(Leg, Cabin)]) -> bool
     requires plan { IsPlanFor inst.now plan.now }
     requires booked { IsBooked inst.now booked }

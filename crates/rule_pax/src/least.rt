@@ -2,7 +2,7 @@
 
 ghost use Rattle.std.specs.Prelude.{◌≡◌, IfOk};
 ghost use Rattle.desk_data.specs.Valid.{IsPlanFor};
-ghost use Rattle.desk_model.specs.Least.{least_pax};
+ghost use Rattle.desk_rules.specs.Least.{least_pax};
 
 use crate::carried::first_misled;
 use crate::seats::first_overfull;

@@ -3,7 +3,7 @@
 ghost use Rattle.std.specs.Prelude.{◌≡◌, ◌<◌, ◌≤◌};
 ghost use Rattle.desk_data.specs.Situation.{legs_of};
 ghost use Rattle.desk_data.specs.Valid.{IsPathOf, IsPlanFor};
-ghost use Rattle.desk_model.specs.Passengers.{connection, connects, reaches, share_plane};
+ghost use Rattle.desk_rules.specs.Passengers.{connection, connects, reaches, share_plane};
 
 use desk_data::{Cabin, Instance, Leg, Plan, Row};
 use pax_paths::{arrival, departure};

@@ -5,8 +5,8 @@ ghost use Rattle.desk_units.specs.declared.numbers.Cabin.{Cabin};
 ghost use Rattle.desk_data.specs.Situation.{legs_of};
 ghost use Rattle.desk_data.specs.Valid.{IsPlanFor};
 ghost use Rattle.desk_data.specs.declared.broken.Broken.TheVariants as broken;
-ghost use Rattle.desk_model.specs.Least.{breaks, each_cabin};
-ghost use Rattle.desk_model.specs.Passengers.{aboard, seats_in};
+ghost use Rattle.desk_rules.specs.Least.{breaks, each_cabin};
+ghost use Rattle.desk_rules.specs.Passengers.{aboard, seats_in};
 
 use crate::taken::taken_seats;
 use desk_data::{Broken, Cabin, Instance, Leg, NoMem, Plan, Row, Seats};
@@ -31,7 +31,7 @@ pub(crate) fn first_overfull(
 }
 
 /// The first cabin of a leg that breaks C12, given the seats that passengers take.
-#[tactic(auto, unfolding(desk_model::specs::Least::breaks, desk_model::specs::Carriage::keeps_c12))]
+#[tactic(auto, unfolding(desk_rules::specs::Least::breaks, desk_rules::specs::Carriage::keeps_c12))]
 fn first_of_leg(inst: &Instance, plan: &Plan, leg: Leg, taken: Seats) -> Option<Broken>
     requires plan { IsPlanFor inst.now plan.now }
     requires leg { leg.0 < legs_of inst.now }

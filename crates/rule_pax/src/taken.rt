@@ -5,7 +5,7 @@ ghost use Rattle.desk_units.specs.Ranks.{cabin_rank};
 ghost use Rattle.desk_units.specs.declared.numbers.Cabin.{Cabin};
 ghost use Rattle.desk_data.specs.Situation.{reservations_of};
 ghost use Rattle.desk_data.specs.Valid.{IsPathOf, IsPlanFor};
-ghost use Rattle.desk_model.specs.Passengers.{aboard_of, seats_in, takes};
+ghost use Rattle.desk_rules.specs.Passengers.{aboard_of, seats_in, takes};
 ghost use Rattle.rule_pax.specs.Taken.{AreTaken, all_of, taken_in};
 
 use desk_data::{Cabin, Group, Instance, Leg, NoMem, Plan, Res, Seats};

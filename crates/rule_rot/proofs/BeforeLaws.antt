@@ -7,10 +7,10 @@ use Rattle.desk_data.specs.declared.row.Row.{Row}
 use Rattle.desk_data.specs.declared.row.Row.TheVariants.{Flown, Cancelled}
 use Rattle.desk_data.specs.Situation.{Situation, legs_of, leg_at, plane_at}
 use Rattle.desk_data.specs.PlanRows.{PlanRows, row_at}
-use Rattle.desk_model.specs.Numbers.{each_below, none_below, implies}
-use Rattle.desk_model.specs.Rotations.{precedes, follows, is_first, arr, ground}
-use Rattle.desk_model.specs.Rules.{leaves_right, has_ground_time, keeps_c5, keeps_c6}
-use Rattle.desk_model.proofs.Tests.{each_below-holds, each_below-from, none_below-holds, none_below-from, implies-holds, implies-from}
+use Rattle.desk_rules.specs.Numbers.{each_below, none_below, implies}
+use Rattle.desk_rules.specs.Rotations.{precedes, follows, is_first, arr, ground}
+use Rattle.desk_rules.specs.Rules.{leaves_right, has_ground_time, keeps_c5, keeps_c6}
+use Rattle.desk_rules.proofs.Tests.{each_below-holds, each_below-from, none_below-holds, none_below-from, implies-holds, implies-from}
 use Rattle.rule_rot.specs.Before.{IsNearest, IsLastBefore, stands_there, has_turned}
 use Rattle.rule_rot.proofs.OrderLaws.{comes_before-total, not_both}
 

@@ -9,11 +9,11 @@ use Rattle.desk_data.specs.declared.broken.Broken.{Broken}
 use Rattle.desk_data.specs.declared.broken.Broken.TheVariants.{C1, C2, C3, C4, C5, C6, C7, C8, C9}
 use Rattle.desk_data.specs.Situation.{Situation}
 use Rattle.desk_data.specs.PlanRows.{PlanRows}
-use Rattle.desk_model.specs.Numbers.{numbers}
-use Rattle.desk_model.specs.Rules.{keeps_c1, keeps_c2, keeps_c3, keeps_c4, keeps_c5, keeps_c6, keeps_c7}
-use Rattle.desk_model.specs.Maintenance.{keeps_c8, keeps_c9}
-use Rattle.desk_model.specs.Least.{breaks, each_leg, each_plane, rotation_items, least_rot, leg, plane}
-use Rattle.desk_model.proofs.FindLaws.{numbers_none}
+use Rattle.desk_rules.specs.Numbers.{numbers}
+use Rattle.desk_rules.specs.Rules.{keeps_c1, keeps_c2, keeps_c3, keeps_c4, keeps_c5, keeps_c6, keeps_c7}
+use Rattle.desk_rules.specs.Maintenance.{keeps_c8, keeps_c9}
+use Rattle.desk_rules.specs.Least.{breaks, each_leg, each_plane, rotation_items, least_rot, leg, plane}
+use Rattle.desk_rules.proofs.FindLaws.{numbers_none}
 use Rattle.rule_rot.specs.Items.{leg_items}
 
 found-more : {X : Type 0} (p : X → Bool) (f : ℕ → X) (n : ℕ) → find p (map f (numbers (suc n))) ≡ option_or (find p (map f (numbers n))) (find p (f n ∷ []))

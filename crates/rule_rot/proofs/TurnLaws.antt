@@ -19,8 +19,8 @@ use Rattle.desk_units.specs.declared.numbers.Plane.{Plane}
 use Rattle.desk_units.specs.declared.numbers.Minute.{Minute}
 use Rattle.desk_data.specs.declared.row.Row.{Row}
 use Rattle.desk_data.specs.declared.row.Row.TheVariants.{Flown, Cancelled}
-use Rattle.desk_model.specs.Numbers.{numbers}
-use Rattle.desk_model.specs.Rotations.{is_earlier}
+use Rattle.desk_rules.specs.Numbers.{numbers}
+use Rattle.desk_rules.specs.Rotations.{is_earlier}
 use Rattle.rule_rot.specs.declared.order.Turn.{Turn}
 use Rattle.rule_rot.specs.Before.{precedes_in, IsNearest, IsLastBefore, AreBefore}
 use Rattle.rule_rot.specs.Order.{turn_of, turns, turn_at, no_turn, neighbour}

@@ -12,11 +12,11 @@ use Rattle.desk_data.specs.declared.row.Row.{Row}
 use Rattle.desk_data.specs.declared.row.Row.TheVariants.{Flown, Cancelled}
 use Rattle.desk_data.specs.Situation.{Situation, legs_of, planes_of, leg_at, plane_at}
 use Rattle.desk_data.specs.PlanRows.{PlanRows, row_at}
-use Rattle.desk_model.specs.Numbers.{numbers, each_below, none_below, implies}
-use Rattle.desk_model.specs.Rotations.{comes_before, dep, arr, precedes}
-use Rattle.desk_model.specs.Rules.{meets_span}
-use Rattle.desk_model.specs.Maintenance.{is_flown_by, flies, departs_before, departs_from, is_last_before, is_left_at, makes_maintenance, is_within_minutes, keeps_c8, keeps_c9}
-use Rattle.desk_model.proofs.Tests.{each_below-holds, each_below-from, none_below-holds, none_below-from, implies-holds, implies-from}
+use Rattle.desk_rules.specs.Numbers.{numbers, each_below, none_below, implies}
+use Rattle.desk_rules.specs.Rotations.{comes_before, dep, arr, precedes}
+use Rattle.desk_rules.specs.Rules.{meets_span}
+use Rattle.desk_rules.specs.Maintenance.{is_flown_by, flies, departs_before, departs_from, is_last_before, is_left_at, makes_maintenance, is_within_minutes, keeps_c8, keeps_c9}
+use Rattle.desk_rules.proofs.Tests.{each_below-holds, each_below-from, none_below-holds, none_below-from, implies-holds, implies-from}
 use Rattle.rule_rot.specs.declared.upkeep.Upkeep.{Upkeep}
 use Rattle.rule_rot.specs.Before.{stand}
 use Rattle.rule_rot.specs.Upkeep.{no_upkeep, meets_maint, minutes_of, IsLast, IsLastOf, IsUpkeep, AreUpkeeps, makes_it, is_within}

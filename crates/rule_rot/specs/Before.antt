@@ -5,7 +5,7 @@ use Rattle.desk_data.specs.declared.row.Row.{Row}
 use Rattle.desk_data.specs.declared.row.Row.TheVariants.{Flown, Cancelled}
 use Rattle.desk_data.specs.Situation.{Situation, leg_at, plane_at}
 use Rattle.desk_data.specs.PlanRows.{PlanRows}
-use Rattle.desk_model.specs.Rotations.{comes_before, arr, ground}
+use Rattle.desk_rules.specs.Rotations.{comes_before, arr, ground}
 
 -- whether one aircraft flies legs x and y of these rows, x before y
 abbrev pub precedes_in : List Row → ℕ → ℕ → Bool

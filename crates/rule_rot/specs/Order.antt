@@ -4,7 +4,7 @@ use Rattle.std.specs.List.{filter_map}
 use Rattle.desk_data.specs.declared.row.Row.{Row}
 use Rattle.desk_data.specs.declared.row.Row.TheVariants.{Flown, Cancelled}
 use Rattle.desk_units.specs.declared.numbers.Leg.{Leg}
-use Rattle.desk_model.specs.Numbers.{numbers}
+use Rattle.desk_rules.specs.Numbers.{numbers}
 use Rattle.rule_rot.specs.declared.order.Turn.{Turn}
 
 -- the turn of leg x, if its row is flown

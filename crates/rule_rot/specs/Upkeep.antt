@@ -5,10 +5,10 @@ use Rattle.desk_units.specs.declared.numbers.Leg.{Leg}
 use Rattle.desk_data.specs.declared.info.Maint.{Maint}
 use Rattle.desk_data.specs.Situation.{Situation, planes_of, leg_at, plane_at}
 use Rattle.desk_data.specs.PlanRows.{PlanRows}
-use Rattle.desk_model.specs.Numbers.{numbers, none_below}
-use Rattle.desk_model.specs.Rotations.{dep, arr, precedes}
-use Rattle.desk_model.specs.Rules.{meets_span}
-use Rattle.desk_model.specs.Maintenance.{flies, departs_before, departs_from}
+use Rattle.desk_rules.specs.Numbers.{numbers, none_below}
+use Rattle.desk_rules.specs.Rotations.{dep, arr, precedes}
+use Rattle.desk_rules.specs.Rules.{meets_span}
+use Rattle.desk_rules.specs.Maintenance.{flies, departs_before, departs_from}
 use Rattle.rule_rot.specs.declared.upkeep.Upkeep.{Upkeep}
 use Rattle.rule_rot.specs.Before.{stand}
 

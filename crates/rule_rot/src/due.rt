@@ -4,8 +4,8 @@ ghost use Rattle.std.specs.Prelude.{◌≡◌, ◌<◌, find};
 ghost use Rattle.desk_data.specs.Situation.{legs_of};
 ghost use Rattle.desk_data.specs.Valid.{IsPlanFor};
 ghost use Rattle.desk_data.specs.declared.broken.Broken.TheVariants as broken;
-ghost use Rattle.desk_model.specs.Rules.{keeps_c1};
-ghost use Rattle.desk_model.specs.Least.{breaks, each_leg};
+ghost use Rattle.desk_rules.specs.Rules.{keeps_c1};
+ghost use Rattle.desk_rules.specs.Least.{breaks, each_leg};
 
 use desk_data::{Broken, Instance, Leg, Plan};
 
@@ -23,7 +23,7 @@ pub(crate) fn first_undue(inst: &Instance, plan: &Plan) -> Option<Broken>
 }
 
 /// Whether a leg meets C1: it is movable, or has the row that is due.
-#[tactic(auto, unfolding(desk_model::specs::Rules::keeps_c1))]
+#[tactic(auto, unfolding(desk_rules::specs::Rules::keeps_c1))]
 fn is_as_due(inst: &Instance, plan: &Plan, leg: Leg) -> bool
     requires plan { IsPlanFor inst.now plan.now }
     requires leg { leg.0 < legs_of inst.now }

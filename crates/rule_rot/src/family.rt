@@ -4,8 +4,8 @@ ghost use Rattle.std.specs.Prelude.{◌≡◌, ◌<◌, find};
 ghost use Rattle.desk_data.specs.Situation.{legs_of};
 ghost use Rattle.desk_data.specs.Valid.{IsPlanFor};
 ghost use Rattle.desk_data.specs.declared.broken.Broken.TheVariants as broken;
-ghost use Rattle.desk_model.specs.Rules.{keeps_c3};
-ghost use Rattle.desk_model.specs.Least.{breaks, each_leg};
+ghost use Rattle.desk_rules.specs.Rules.{keeps_c3};
+ghost use Rattle.desk_rules.specs.Least.{breaks, each_leg};
 
 use desk_data::{Broken, Instance, Leg, Plan, Row};
 
@@ -24,7 +24,7 @@ pub(crate) fn first_of_other_family(inst: &Instance, plan: &Plan) -> Option<Brok
 
 /// Whether a leg meets C3: it is cancelled, or flown by an aircraft of the family of its scheduled
 /// aircraft.
-#[tactic(auto, unfolding(desk_model::specs::Rules::keeps_c3))]
+#[tactic(auto, unfolding(desk_rules::specs::Rules::keeps_c3))]
 fn keeps_family(inst: &Instance, plan: &Plan, leg: Leg) -> bool
     requires plan { IsPlanFor inst.now plan.now }
     requires leg { leg.0 < legs_of inst.now }

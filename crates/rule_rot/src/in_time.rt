@@ -4,8 +4,8 @@ ghost use Rattle.std.specs.Prelude.{◌≡◌, ◌<◌, ◌≤◌, find};
 ghost use Rattle.desk_data.specs.Situation.{legs_of};
 ghost use Rattle.desk_data.specs.Valid.{IsPlanFor};
 ghost use Rattle.desk_data.specs.declared.broken.Broken.TheVariants as broken;
-ghost use Rattle.desk_model.specs.Rules.{keeps_c2};
-ghost use Rattle.desk_model.specs.Least.{breaks, each_leg};
+ghost use Rattle.desk_rules.specs.Rules.{keeps_c2};
+ghost use Rattle.desk_rules.specs.Least.{breaks, each_leg};
 
 use desk_data::{Broken, Instance, Leg, Plan, Row};
 
@@ -24,7 +24,7 @@ pub(crate) fn first_untimely(inst: &Instance, plan: &Plan) -> Option<Broken>
 
 /// Whether a leg meets C2: it is fixed, or cancelled, or not ordered off and departs from its
 /// earliest to its latest departure.
-#[tactic(auto, unfolding(desk_model::specs::Rules::keeps_c2))]
+#[tactic(auto, unfolding(desk_rules::specs::Rules::keeps_c2))]
 fn departs_in_time(inst: &Instance, plan: &Plan, leg: Leg) -> bool
     requires plan { IsPlanFor inst.now plan.now }
     requires leg { leg.0 < legs_of inst.now }

@@ -2,7 +2,7 @@
 
 ghost use Rattle.std.specs.Prelude.{◌≡◌, find, IfOk};
 ghost use Rattle.desk_data.specs.Valid.{IsPlanFor};
-ghost use Rattle.desk_model.specs.Least.{breaks, least_rot};
+ghost use Rattle.desk_rules.specs.Least.{breaks, least_rot};
 ghost use Rattle.rule_rot.specs.Before.{AreBefore};
 ghost use Rattle.rule_rot.specs.Items.{leg_items};
 

@@ -5,7 +5,7 @@ ghost use Rattle.std.specs.Option.{ForSome, option_or};
 ghost use Rattle.desk_data.specs.Situation.{legs_of, planes_of, plane_at};
 ghost use Rattle.desk_data.specs.Valid.{IsPlanFor};
 ghost use Rattle.desk_data.specs.declared.broken.Broken.TheVariants as broken;
-ghost use Rattle.desk_model.specs.Least.{breaks, each_plane};
+ghost use Rattle.desk_rules.specs.Least.{breaks, each_plane};
 ghost use Rattle.rule_rot.specs.Upkeep.{makes_it, is_within};
 
 use crate::stands::stand_of;

@@ -5,9 +5,9 @@ ghost use Rattle.std.specs.Option.{ForSome};
 ghost use Rattle.desk_data.specs.Situation.{legs_of, planes_of};
 ghost use Rattle.desk_data.specs.Valid.{IsPlanFor};
 ghost use Rattle.desk_data.specs.declared.broken.Broken.TheVariants as broken;
-ghost use Rattle.desk_model.specs.Rotations.{departure, ground};
-ghost use Rattle.desk_model.specs.Rules.{keeps_c6};
-ghost use Rattle.desk_model.specs.Least.{breaks, each_leg};
+ghost use Rattle.desk_rules.specs.Rotations.{departure, ground};
+ghost use Rattle.desk_rules.specs.Rules.{keeps_c6};
+ghost use Rattle.desk_rules.specs.Least.{breaks, each_leg};
 ghost use Rattle.rule_rot.specs.Before.{AreBefore, IsLastBefore, is_ready};
 
 use desk_data::{Broken, Instance, Leg, Minute, Plan, Plane, Row};
@@ -27,7 +27,7 @@ pub(crate) fn first_unready(inst: &Instance, plan: &Plan, before: &[Option<Leg>]
 }
 
 /// Whether a leg meets C6, given the leg before it on its aircraft.
-#[tactic(auto, unfolding(desk_model::specs::Rules::keeps_c6))]
+#[tactic(auto, unfolding(desk_rules::specs::Rules::keeps_c6))]
 fn has_ground_time(inst: &Instance, plan: &Plan, leg: Leg, before: Option<Leg>) -> bool
     requires plan { IsPlanFor inst.now plan.now }
     requires leg { leg.0 < legs_of inst.now }

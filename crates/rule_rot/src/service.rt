@@ -5,8 +5,8 @@ ghost use Rattle.std.specs.List.{list_any};
 ghost use Rattle.desk_data.specs.Situation.{legs_of};
 ghost use Rattle.desk_data.specs.Valid.{IsPlanFor};
 ghost use Rattle.desk_data.specs.declared.broken.Broken.TheVariants as broken;
-ghost use Rattle.desk_model.specs.Rules.{keeps_c7, meets_span};
-ghost use Rattle.desk_model.specs.Least.{breaks, each_leg};
+ghost use Rattle.desk_rules.specs.Rules.{keeps_c7, meets_span};
+ghost use Rattle.desk_rules.specs.Least.{breaks, each_leg};
 
 use desk_data::{Broken, Instance, Leg, Minute, Plan, Row};
 
@@ -25,7 +25,7 @@ pub(crate) fn first_out_of_service(inst: &Instance, plan: &Plan) -> Option<Broke
 
 /// Whether a leg meets C7: it is cancelled or flown by surface transport, or meets no span in which
 /// its aircraft is out of service.
-#[tactic(auto, unfolding(desk_model::specs::Rules::keeps_c7))]
+#[tactic(auto, unfolding(desk_rules::specs::Rules::keeps_c7))]
 fn flies_in_service(inst: &Instance, plan: &Plan, leg: Leg) -> bool
     requires plan { IsPlanFor inst.now plan.now }
     requires leg { leg.0 < legs_of inst.now }

@@ -5,8 +5,8 @@ ghost use Rattle.std.specs.Option.{ForSome};
 ghost use Rattle.desk_data.specs.Situation.{legs_of, planes_of};
 ghost use Rattle.desk_data.specs.Valid.{IsPlanFor};
 ghost use Rattle.desk_data.specs.declared.broken.Broken.TheVariants as broken;
-ghost use Rattle.desk_model.specs.Rules.{keeps_c5};
-ghost use Rattle.desk_model.specs.Least.{breaks, each_leg};
+ghost use Rattle.desk_rules.specs.Rules.{keeps_c5};
+ghost use Rattle.desk_rules.specs.Least.{breaks, each_leg};
 ghost use Rattle.rule_rot.specs.Before.{AreBefore, IsLastBefore, stand};
 
 use desk_data::{Airport, Broken, Instance, Leg, Plan, Plane, Row};
@@ -30,7 +30,7 @@ pub(crate) fn first_misplaced(
 }
 
 /// Whether a leg meets C5, given the leg before it on its aircraft.
-#[tactic(auto, unfolding(desk_model::specs::Rules::keeps_c5))]
+#[tactic(auto, unfolding(desk_rules::specs::Rules::keeps_c5))]
 fn leaves_right(inst: &Instance, plan: &Plan, leg: Leg, before: Option<Leg>) -> bool
     requires plan { IsPlanFor inst.now plan.now }
     requires leg { leg.0 < legs_of inst.now }

@@ -3,7 +3,7 @@
 ghost use Rattle.std.specs.Prelude.{◌≡◌, ◌+◌, ◌<◌, true, length, IfOk};
 ghost use Rattle.desk_data.specs.Situation.{legs_of, planes_of};
 ghost use Rattle.desk_data.specs.Valid.{IsPlanFor};
-ghost use Rattle.desk_model.specs.Maintenance.{flies};
+ghost use Rattle.desk_rules.specs.Maintenance.{flies};
 ghost use Rattle.rule_rot.specs.Upkeep.{AreUpkeeps, IsUpkeep, IsLastOf};
 
 use crate::ready::departure_of;

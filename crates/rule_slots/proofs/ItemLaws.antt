@@ -7,9 +7,9 @@ use Rattle.std.proofs.lemmas.List.Folds.{find-append}
 use Rattle.desk_data.specs.declared.broken.Broken.{Broken}
 use Rattle.desk_data.specs.PlanRows.{PlanRows}
 use Rattle.desk_data.specs.Situation.{Situation, airports_of}
-use Rattle.desk_model.specs.Least.{breaks, each_hour, all_hours, airport, slot_items, least_slots}
-use Rattle.desk_model.specs.Numbers.{numbers}
-use Rattle.desk_model.proofs.FindLaws.{numbers_none, lists_none, first_of_numbers, first_of_lists}
+use Rattle.desk_rules.specs.Least.{breaks, each_hour, all_hours, airport, slot_items, least_slots}
+use Rattle.desk_rules.specs.Numbers.{numbers}
+use Rattle.desk_rules.proofs.FindLaws.{numbers_none, lists_none, first_of_numbers, first_of_lists}
 use Rattle.rule_slots.specs.declared.slots.Slot.{Slot}
 use Rattle.rule_slots.specs.declared.slots.Movement.{Movement}
 use Rattle.rule_slots.specs.declared.slots.Movement.TheVariants.{Departure, Arrival}

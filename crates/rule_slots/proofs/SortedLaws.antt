@@ -11,7 +11,7 @@ use Rattle.std.proofs.lemmas.Bool.Decides.{nat_tests}
 use Rattle.std.proofs.lemmas.Cmp.{then_total, on_total}
 use Rattle.std.proofs.lemmas.List.Sorted.{ranks_by, sorted_far}
 use Rattle.desk_data.specs.Situation.{Situation}
-use Rattle.desk_model.specs.Slots.{is_within}
+use Rattle.desk_rules.specs.Slots.{is_within}
 use Rattle.rule_slots.specs.declared.slots.Slot.{Slot}
 use Rattle.rule_slots.specs.declared.slots.Movement.{Movement}
 use Rattle.rule_slots.specs.declared.slots.Movement.TheVariants.{Departure, Arrival}

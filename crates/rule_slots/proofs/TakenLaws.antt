@@ -11,9 +11,9 @@ use Rattle.std.proofs.lemmas.List.Sums.{length-filter}
 use Rattle.desk_data.specs.Hours.{dep_cap, arr_cap}
 use Rattle.desk_data.specs.PlanRows.{PlanRows, row_at}
 use Rattle.desk_data.specs.Situation.{Situation, legs_of}
-use Rattle.desk_model.specs.Least.{breaks}
-use Rattle.desk_model.specs.Numbers.{numbers}
-use Rattle.desk_model.specs.Slots.{is_in_the_air, hour_of, is_within, keeps_c10, keeps_c11}
+use Rattle.desk_rules.specs.Least.{breaks}
+use Rattle.desk_rules.specs.Numbers.{numbers}
+use Rattle.desk_rules.specs.Slots.{is_in_the_air, hour_of, is_within, keeps_c10, keeps_c11}
 use Rattle.rule_slots.specs.declared.slots.Slot.{Slot}
 use Rattle.rule_slots.specs.declared.slots.Movement.{Movement}
 use Rattle.rule_slots.specs.declared.slots.Movement.TheVariants.{Departure, Arrival}

@@ -9,10 +9,10 @@ use Rattle.desk_data.specs.declared.broken.Broken.TheVariants.{C10, C11}
 use Rattle.desk_data.specs.Situation.{Situation, airports_of, leg_at}
 use Rattle.desk_data.specs.Hours.{dep_cap, arr_cap}
 use Rattle.desk_data.specs.PlanRows.{PlanRows, row_at}
-use Rattle.desk_model.specs.Numbers.{numbers}
-use Rattle.desk_model.specs.Rotations.{dep, arr}
-use Rattle.desk_model.specs.Slots.{is_in_the_air, hour_of, is_within}
-use Rattle.desk_model.specs.Least.{all_hours}
+use Rattle.desk_rules.specs.Numbers.{numbers}
+use Rattle.desk_rules.specs.Rotations.{dep, arr}
+use Rattle.desk_rules.specs.Slots.{is_in_the_air, hour_of, is_within}
+use Rattle.desk_rules.specs.Least.{all_hours}
 use Rattle.rule_slots.specs.declared.slots.Slot.{Slot}
 use Rattle.rule_slots.specs.declared.slots.Movement.{Movement}
 use Rattle.rule_slots.specs.declared.slots.Movement.TheVariants.{Departure, Arrival}

@@ -2,7 +2,7 @@
 
 ghost use Rattle.std.specs.Prelude.{◌≡◌, IfOk, find};
 ghost use Rattle.desk_data.specs.Valid.{IsPlanFor};
-ghost use Rattle.desk_model.specs.Least.{breaks, each_hour, least_slots};
+ghost use Rattle.desk_rules.specs.Least.{breaks, each_hour, least_slots};
 ghost use Rattle.rule_slots.specs.Taken.{item};
 
 use crate::slots::{Movement, Slot, taken_slots};

@@ -45,7 +45,7 @@ pub(crate) fn taken_slots(
 }
 
 /// The slot that a leg takes: none where it is cancelled or flown by surface transport.
-#[tactic(auto, unfolding(desk_model::specs::Least::all_hours))]
+#[tactic(auto, unfolding(desk_rules::specs::Least::all_hours))]
 fn slot_of_leg(inst: &Instance, plan: &Plan, movement: Movement, leg: Leg) -> Option<Slot>
     requires plan { IsPlanFor inst.now plan.now }
     requires leg { leg.0 < legs_of inst.now }

@@ -1,8 +1,8 @@
 use Rattle.std.proofs.Common.{◌≡◌, ◌∙◌, None, Some, refl, sym, subst}
 use Rattle.std.specs.Prelude.{Option, IfOk}
 use Rattle.desk_data.specs.declared.broken.Broken.{Broken}
-use Rattle.desk_model.specs.Least.{least, least_rot, least_slots, least_pax}
-use Rattle.desk_model.proofs.LeastLaws.{least-split}
+use Rattle.desk_rules.specs.Least.{least, least_rot, least_slots, least_pax}
+use Rattle.desk_rules.proofs.LeastLaws.{least-split}
 use Rattle.full_check.proofs.full_check.Goals as goal
 
 pub returns-in-Some : goal.returns-in-Some

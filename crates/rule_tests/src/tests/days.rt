@@ -5,6 +5,7 @@ ghost use Rattle.std.specs.Option.{ForSome};
 ghost use Rattle.desk_data.specs.Situation.{legs_of, planes_of, reservations_of};
 ghost use Rattle.desk_data.specs.Valid.{IsPathOf, IsPlanFor, IsRowOf};
 
+use day_checks::are_parts;
 use desk_data::{
     Airport, AirportInfo, Cabin, Cap, Group, Haul, Instance, Leg, LegInfo, List, Minute, Name,
     NoMem, Parts, Path, Plan, Plane, PlaneInfo, Price, Res, ResInfo, Row, Seats, Tariff,
@@ -125,7 +126,7 @@ pub(super) fn parts_of(
 pub(super) fn instance_of(alloc: Global, parts: Parts) -> Result<Option<Instance>, Fail>
     ensures { IfOk result (λ made. ForSome made (λ inst. inst.orders ≡ [])) }
 {
-    if !parts.are_valid(alloc)? {
+    if !are_parts(alloc, &parts)? {
         return Ok(None);
     }
     Ok(Some(Instance::of(alloc, parts)?))

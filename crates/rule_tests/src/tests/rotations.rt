@@ -3,6 +3,7 @@
 use super::days::{
     OFF, airport_of, flown, instance_of, leg_of, name_of, parts_of, plan_with, plane_of,
 };
+use day_checks::can_add;
 use desk_data::{
     Airport, Batch, Broken, Instance, Leg, LegInfo, List, Maint, Minute, Order, Parts, Plane,
     PlaneInfo, Row,
@@ -94,7 +95,7 @@ fn day_of(
     let batch = Batch {
         orders: List(vec![in alloc; order]?),
     };
-    if !inst.can_add(&batch) {
+    if !can_add(&inst, &batch) {
         return Ok(None);
     }
     inst.add(alloc, &batch)?;

@@ -1,6 +1,6 @@
 use Rattle.std.proofs.Common.{arith}
 use Rattle.std.proofs.lemmas.Grind.{common_steps}
-use Rattle.desk_data.proofs.LastLemmas.{last_word-push, last_word-nil}
+use Rattle.day_orders.proofs.LastLemmas.{last_word-push, last_word-nil}
 use Rattle.desk_data.proofs.hours.cap_of_line.Goals as goal
 
 pub loop-group-init : goal.loop-group-init

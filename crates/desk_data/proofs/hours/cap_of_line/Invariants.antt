@@ -1,5 +1,6 @@
 use Rattle.std.proofs.Common.{◌≡◌, take}
-use Rattle.desk_data.specs.Hours.{last_word, said_of_day}
+use Rattle.day_orders.specs.Said.{last_word}
+use Rattle.desk_data.specs.Hours.{said_of_day}
 use Rattle.desk_data.proofs.hours.cap_of_line.Given as goal
 
 -- the last group so far decides

@@ -3,7 +3,7 @@ use Rattle.desk_model.specs.declared.answer.Event.{Event}
 use Rattle.desk_model.specs.States.{opening}
 use Rattle.desk_model.specs.Histories.{run}
 use Rattle.desk_core.specs.Recorded.{Recorded}
-use Rattle.desk_replay.specs.InputStory.{story_in}
+use Rattle.desk_story.specs.Facts.{story_in}
 use Rattle.desk_replay.specs.Outcome.{history, texts_from}
 use Rattle.desk_replay.specs.Writing.{texts_in}
 use Rattle.desk_replay.proofs.Composed.{told-from}

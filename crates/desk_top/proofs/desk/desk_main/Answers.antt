@@ -3,7 +3,7 @@ use Rattle.std.specs.String.{string_bytes}
 use Rattle.desk_replay.specs.Runs.{world}
 use Rattle.desk_replay.proofs.HeadlineLaw.{headline-of}
 use Rattle.desk_replay.proofs.CausesLaw.{usage-from, usage-only, done-with, refused-from, refused-of, fault-of, complete-of}
-use Rattle.desk_replay.proofs.StandingLaw.{unwritten-of, begun-of, others-of, told-last}
+use Rattle.desk_replay.proofs.StandingLaw.{unwritten-of, begun-of, unread-of, unput-of, told-last}
 use Rattle.desk_top.proofs.desk.desk_main.Goals as goal
 
 pub returns : goal.returns
@@ -25,6 +25,7 @@ returns g c =
       complete = complete-of words before now code run;
       unwritten = unwritten-of words before now code run;
       begun = begun-of words before now code run;
-      others = others-of words before now code run;
+      unread = unread-of words before now code run;
+      unput = unput-of words before now code run;
       told_last = told-last words before now code run;
     }

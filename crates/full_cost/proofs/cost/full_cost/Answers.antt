@@ -1,6 +1,5 @@
 use Rattle.std.proofs.Common.{◌≡◌, ap, arith}
-use Rattle.desk_model.specs.Cost.{cost, operating_cost, position_cost}
-use Rattle.desk_model.specs.States.{grains}
+use Rattle.desk_rules.specs.Cost.{cost, operating_cost, position_cost, grains}
 use Rattle.full_cost.proofs.cost.full_cost.Goals as goal
 
 pub returns-clause-cost : goal.returns-clause-cost

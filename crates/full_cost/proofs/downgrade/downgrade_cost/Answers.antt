@@ -4,8 +4,8 @@ use Rattle.std.proofs.lemmas.List.Sums.{sum_by_more_le}
 use Rattle.desk_units.specs.declared.numbers.Leg.{Leg}
 use Rattle.desk_units.specs.declared.numbers.Cabin.{Cabin}
 use Rattle.desk_units.specs.declared.numbers.Cabin.TheVariants as cabin
-use Rattle.desk_model.specs.Cost.{downgrade_on}
-use Rattle.desk_model.proofs.CostLaws.{downgrade_most, downgrade-le}
+use Rattle.desk_rules.specs.Cost.{downgrade_on}
+use Rattle.desk_rules.proofs.CostLaws.{downgrade_most, downgrade-le}
 use Rattle.full_cost.proofs.downgrade.downgrade_cost.Goals as goal
 
 pub plus-total-requires : goal.plus-total-requires

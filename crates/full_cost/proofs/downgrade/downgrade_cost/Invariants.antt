@@ -1,6 +1,6 @@
 use Rattle.std.proofs.Common.{◌≡◌, take}
 use Rattle.std.specs.Prelude.{sum_by}
-use Rattle.desk_model.specs.Cost.{downgrade_on}
+use Rattle.desk_rules.specs.Cost.{downgrade_on}
 use Rattle.full_cost.proofs.downgrade.downgrade_cost.Given as goal
 
 -- what the legs so far cost

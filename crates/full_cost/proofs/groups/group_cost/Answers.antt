@@ -1,7 +1,6 @@
 use Rattle.std.proofs.Common.{◌≡◌, true, false, sym, ap, ◌∙◌, arith}
-use Rattle.desk_model.specs.Passengers.{is_carried, all_flown, minutes_late}
-use Rattle.desk_model.specs.Cost.{downgrade, owed_late, owed_uncarried}
-use Rattle.desk_model.specs.States.{grains}
+use Rattle.desk_rules.specs.Passengers.{is_carried, all_flown, minutes_late}
+use Rattle.desk_rules.specs.Cost.{downgrade, owed_late, owed_uncarried, grains}
 use Rattle.full_cost.specs.Amounts.{delayed, cancelled, group_cost}
 use Rattle.full_cost.proofs.GroupLaws.{group-lt, uncarried_is, stopped_is, arrived_is}
 use Rattle.full_cost.proofs.groups.group_cost.Goals as goal

@@ -1,9 +1,9 @@
 use Rattle.std.proofs.Common.{◌≡◌, ◌+◌, ap, ◌∙◌, arith}
 use Rattle.std.specs.Prelude.{sum_by}
 use Rattle.desk_data.specs.Situation.{reservations_of}
-use Rattle.desk_model.specs.Numbers.{numbers}
-use Rattle.desk_model.specs.Cost.{delay_cost, cancellation_cost, downgrade_cost, legal_cost}
-use Rattle.desk_model.proofs.CostLaws.{sum-more}
+use Rattle.desk_rules.specs.Numbers.{numbers}
+use Rattle.desk_rules.specs.Cost.{delay_cost, cancellation_cost, downgrade_cost, legal_cost}
+use Rattle.desk_rules.proofs.CostLaws.{sum-more}
 use Rattle.full_cost.specs.Amounts.{reservation_cost}
 use Rattle.full_cost.proofs.GroupLaws.{reservations-le, reservations_are}
 use Rattle.full_cost.proofs.groups.passengers_cost.Goals as goal

@@ -1,6 +1,6 @@
 use Rattle.std.proofs.Common.{◌≡◌}
 use Rattle.std.specs.Prelude.{sum_by}
-use Rattle.desk_model.specs.Numbers.{numbers}
+use Rattle.desk_rules.specs.Numbers.{numbers}
 use Rattle.full_cost.specs.Amounts.{reservation_cost}
 use Rattle.full_cost.proofs.groups.passengers_cost.Given as goal
 

@@ -1,7 +1,7 @@
 use Rattle.std.proofs.Common.{◌≡◌, ◌<◌, ◌≤◌, length, get_or, ap, ◌∙◌, arith}
 use Rattle.std.proofs.lemmas.List.Sums.{sum_by_more}
 use Rattle.desk_data.specs.PlanRows.{groups_at}
-use Rattle.desk_model.specs.States.{grains}
+use Rattle.desk_rules.specs.Cost.{grains}
 use Rattle.full_cost.specs.Amounts.{group_cost}
 use Rattle.full_cost.proofs.GroupLaws.{group-fits, some-groups-lt, all-groups}
 use Rattle.full_cost.proofs.groups.reservation_cost.Goals as goal

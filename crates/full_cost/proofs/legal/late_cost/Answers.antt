@@ -1,6 +1,5 @@
 use Rattle.std.proofs.Common.{sym, ap, ◌∙◌}
-use Rattle.desk_model.specs.States.{grains}
-use Rattle.desk_model.specs.Cost.{owed_late}
+use Rattle.desk_rules.specs.Cost.{owed_late, grains}
 use Rattle.full_cost.proofs.OwedLaws.{nothing_late}
 use Rattle.full_cost.proofs.legal.late_cost.Goals as goal
 

@@ -1,5 +1,5 @@
 use Rattle.std.proofs.Common.{arith}
-use Rattle.desk_model.proofs.CostLaws.{by_item-le}
+use Rattle.desk_rules.proofs.CostLaws.{by_item-le}
 use Rattle.full_cost.proofs.legal.uncarried_cost.Goals as goal
 
 pub plus-requires-2 : goal.plus-requires-2

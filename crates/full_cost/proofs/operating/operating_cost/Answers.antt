@@ -1,10 +1,9 @@
 use Rattle.std.proofs.Common.{◌≡◌, ◌+◌, ap, ◌∙◌, arith}
 use Rattle.std.specs.Prelude.{sum_by}
 use Rattle.desk_data.specs.Situation.{legs_of}
-use Rattle.desk_model.specs.Numbers.{numbers}
-use Rattle.desk_model.specs.Cost.{operating, operating_cost}
-use Rattle.desk_model.specs.States.{grains}
-use Rattle.desk_model.proofs.CostLaws.{operating-sum-le, sum-more}
+use Rattle.desk_rules.specs.Numbers.{numbers}
+use Rattle.desk_rules.specs.Cost.{operating, operating_cost, grains}
+use Rattle.desk_rules.proofs.CostLaws.{operating-sum-le, sum-more}
 use Rattle.full_cost.proofs.operating.operating_cost.Goals as goal
 
 pub plus-total-requires : goal.plus-total-requires

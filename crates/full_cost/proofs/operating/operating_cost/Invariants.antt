@@ -1,7 +1,7 @@
 use Rattle.std.proofs.Common.{◌≡◌}
 use Rattle.std.specs.Prelude.{sum_by}
-use Rattle.desk_model.specs.Numbers.{numbers}
-use Rattle.desk_model.specs.Cost.{operating}
+use Rattle.desk_rules.specs.Numbers.{numbers}
+use Rattle.desk_rules.specs.Cost.{operating}
 use Rattle.full_cost.proofs.operating.operating_cost.Given as goal
 
 -- what the legs so far cost

@@ -1,8 +1,8 @@
 use Rattle.std.proofs.Common.{◌≡◌, ◌-◌, ◌<◌, length, get_or, ap, ◌∙◌, arith}
 use Rattle.std.proofs.lemmas.List.Sums.{sum_by_more, sum_by_more_le, sum_by-take-le}
 use Rattle.tariff_prices.specs.Prices.{position_price}
-use Rattle.desk_model.specs.Cost.{rows_of, by_item, at_hand, missing}
-use Rattle.desk_model.proofs.CostLaws.{missing-sum-le}
+use Rattle.desk_rules.specs.Cost.{rows_of, by_item, at_hand, missing}
+use Rattle.desk_rules.proofs.CostLaws.{missing-sum-le}
 use Rattle.full_cost.proofs.StandLaws.{here_at_hand, here_below}
 use Rattle.full_cost.proofs.position.missing_cost.Goals as goal
 

@@ -1,6 +1,6 @@
 use Rattle.std.proofs.Common.{◌≡◌, take}
 use Rattle.std.specs.Prelude.{sum_by}
-use Rattle.desk_model.specs.Cost.{missing}
+use Rattle.desk_rules.specs.Cost.{missing}
 use Rattle.full_cost.specs.Stands.{AreHere}
 use Rattle.full_cost.proofs.position.missing_cost.Given as goal
 

@@ -2,7 +2,7 @@ use Rattle.std.proofs.Common.{◌+◌, ◌≤◌, drop, length, sym, ap, ◌∙�
 use Rattle.desk_units.specs.declared.numbers.Leg.{Leg}
 use Rattle.desk_units.specs.declared.numbers.Cabin.{Cabin}
 use Rattle.desk_units.specs.declared.numbers.Cabin.TheVariants as cabin
-use Rattle.desk_model.specs.Passengers.{higher_cabin, highest_cabin}
+use Rattle.desk_rules.specs.Passengers.{higher_cabin, highest_cabin}
 use Rattle.pax_paths.proofs.HighestLaws.{cabin_more, cabin_all}
 use Rattle.pax_paths.proofs.booked.highest_cabin.Goals as goal
 

@@ -1,5 +1,5 @@
 use Rattle.std.proofs.Common.{◌≡◌, drop}
-use Rattle.desk_model.specs.Passengers.{higher_cabin, highest_cabin}
+use Rattle.desk_rules.specs.Passengers.{higher_cabin, highest_cabin}
 use Rattle.pax_paths.proofs.booked.highest_cabin.Given as goal
 
 -- with the legs behind, the highest so far is the highest of all

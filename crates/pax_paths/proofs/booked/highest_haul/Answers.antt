@@ -3,7 +3,7 @@ use Rattle.desk_units.specs.declared.numbers.Leg.{Leg}
 use Rattle.desk_units.specs.declared.numbers.Cabin.{Cabin}
 use Rattle.desk_units.specs.declared.numbers.Cabin.TheVariants as cabin
 use Rattle.desk_data.specs.Situation.{leg_at}
-use Rattle.desk_model.specs.Passengers.{higher_haul, highest_haul}
+use Rattle.desk_rules.specs.Passengers.{higher_haul, highest_haul}
 use Rattle.pax_paths.proofs.HighestLaws.{haul_more, haul_all}
 use Rattle.pax_paths.proofs.booked.highest_haul.Goals as goal
 

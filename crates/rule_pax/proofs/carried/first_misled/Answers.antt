@@ -1,6 +1,6 @@
 use Rattle.std.proofs.Common.{◌≡◌, ap, ◌∙◌, arith}
 use Rattle.desk_data.specs.Situation.{reservations_of}
-use Rattle.desk_model.specs.Carriage.{keeps_c13, keeps_c14}
+use Rattle.desk_rules.specs.Carriage.{keeps_c13, keeps_c14}
 use Rattle.rule_pax.proofs.ItemLaws.{found-more_c13, found-more_c14, found-more_c15}
 use Rattle.rule_pax.proofs.carried.first_misled.Goals as goal
 

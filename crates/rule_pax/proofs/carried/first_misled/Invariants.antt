@@ -1,8 +1,8 @@
 use Rattle.std.proofs.Common.{◌≡◌}
 use Rattle.std.specs.Prelude.{find, map}
 use Rattle.desk_data.specs.declared.broken.Broken.TheVariants.{C13, C14, C15}
-use Rattle.desk_model.specs.Least.{breaks, res}
-use Rattle.desk_model.specs.Numbers.{numbers}
+use Rattle.desk_rules.specs.Least.{breaks, res}
+use Rattle.desk_rules.specs.Numbers.{numbers}
 use Rattle.rule_pax.proofs.carried.first_misled.Given as goal
 
 abbrev pub invariant-loop-r : goal.invariant-loop-r

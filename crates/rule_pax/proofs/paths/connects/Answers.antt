@@ -1,5 +1,5 @@
 use Rattle.std.proofs.Common.{sym, ◌∙◌, arith}
-use Rattle.desk_model.specs.Passengers.{no_pair}
+use Rattle.desk_rules.specs.Passengers.{no_pair}
 use Rattle.rule_pax.proofs.PathLaws.{all_reached, one_reached, one_missed}
 use Rattle.rule_pax.proofs.paths.connects.Goals as goal
 

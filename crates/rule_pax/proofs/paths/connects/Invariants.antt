@@ -1,5 +1,5 @@
 use Rattle.std.proofs.Common.{◌≡◌, ℕ, ◌+◌, ◌<◌, true}
-use Rattle.desk_model.specs.Passengers.{leg_in, reaches}
+use Rattle.desk_rules.specs.Passengers.{leg_in, reaches}
 use Rattle.rule_pax.proofs.paths.connects.Given as goal
 
 abbrev pub invariant-loop-i : goal.invariant-loop-i

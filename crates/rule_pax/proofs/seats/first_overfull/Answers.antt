@@ -3,8 +3,8 @@ use Rattle.desk_units.specs.declared.numbers.Cabin.TheVariants.{F, B, E}
 use Rattle.desk_data.specs.declared.broken.Broken.{Broken}
 use Rattle.desk_data.specs.declared.broken.Broken.TheVariants.{C12}
 use Rattle.desk_data.specs.Situation.{legs_of}
-use Rattle.desk_model.specs.Least.{breaks, leg}
-use Rattle.desk_model.proofs.FindLaws.{first_of_lists, lists_none}
+use Rattle.desk_rules.specs.Least.{breaks, leg}
+use Rattle.desk_rules.proofs.FindLaws.{first_of_lists, lists_none}
 use Rattle.rule_pax.proofs.SeatLaws.{all_seated}
 use Rattle.rule_pax.proofs.seats.first_overfull.Goals as goal
 

@@ -2,7 +2,7 @@ use Rattle.std.proofs.Common.{◌≡◌, ℕ, ◌<◌, [], ◌∷◌}
 use Rattle.std.specs.Prelude.{find, None}
 use Rattle.desk_units.specs.declared.numbers.Cabin.TheVariants.{F, B, E}
 use Rattle.desk_data.specs.declared.broken.Broken.TheVariants.{C12}
-use Rattle.desk_model.specs.Least.{breaks, leg}
+use Rattle.desk_rules.specs.Least.{breaks, leg}
 use Rattle.rule_pax.proofs.seats.first_overfull.Given as goal
 
 abbrev pub invariant-loop-x : goal.invariant-loop-x

@@ -1,6 +1,6 @@
 use Rattle.std.proofs.Common.{◌<◌, length, sym, arith, ◌+◌, ◌≤◌, take, subst}
 use Rattle.desk_data.specs.declared.row.Group.{Group}
-use Rattle.desk_model.specs.Passengers.{aboard_of}
+use Rattle.desk_rules.specs.Passengers.{aboard_of}
 use Rattle.rule_pax.specs.Taken.{all_of}
 use Rattle.rule_pax.proofs.SeatLaws.{room_more}
 use Rattle.rule_pax.proofs.taken.seat_groups.Goals as goal

@@ -1,6 +1,6 @@
 use Rattle.std.proofs.Common.{◌≡◌, ℕ, ◌+◌, take}
 use Rattle.desk_units.specs.declared.numbers.Cabin.{Cabin}
-use Rattle.desk_model.specs.Passengers.{aboard_of}
+use Rattle.desk_rules.specs.Passengers.{aboard_of}
 use Rattle.rule_pax.specs.Taken.{taken_in}
 use Rattle.rule_pax.proofs.taken.seat_groups.Given as goal
 

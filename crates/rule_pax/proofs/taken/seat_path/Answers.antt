@@ -1,7 +1,7 @@
 use Rattle.std.proofs.Common.{◌≡◌, ◌<◌, ◌+◌, ℕ, length, get_or, take, cond, List, sym, subst, ◌∙◌, arith}
 use Rattle.desk_units.specs.declared.numbers.Cabin.{Cabin}
 use Rattle.desk_units.specs.declared.numbers.Seats.{Seats}
-use Rattle.desk_model.specs.Passengers.{takes, no_pair}
+use Rattle.desk_rules.specs.Passengers.{takes, no_pair}
 use Rattle.rule_pax.specs.Taken.{taken_in}
 use Rattle.rule_pax.proofs.SeatLaws.{known_pair, new_pair}
 use Rattle.rule_pax.proofs.taken.seat_path.Goals as goal

@@ -1,6 +1,6 @@
 use Rattle.std.proofs.Common.{◌≡◌, ℕ, ◌+◌, take, if◌then◌else◌}
 use Rattle.desk_units.specs.declared.numbers.Cabin.{Cabin}
-use Rattle.desk_model.specs.Passengers.{takes}
+use Rattle.desk_rules.specs.Passengers.{takes}
 use Rattle.rule_pax.specs.Taken.{taken_in}
 use Rattle.rule_pax.proofs.taken.seat_path.Given as goal
 

@@ -1,8 +1,8 @@
 use Rattle.std.proofs.Common.{◌≡◌, ◌<◌, arith, false}
 use Rattle.desk_data.specs.declared.broken.Broken.TheVariants.{C1}
 use Rattle.desk_data.specs.Situation.{legs_of}
-use Rattle.desk_model.specs.Rules.{keeps_c1}
-use Rattle.desk_model.specs.Least.{leg}
+use Rattle.desk_rules.specs.Rules.{keeps_c1}
+use Rattle.desk_rules.specs.Least.{leg}
 use Rattle.rule_rot.proofs.FindLaws.{rule_c1, first_item, no_item}
 use Rattle.rule_rot.proofs.due.first_undue.Goals as goal
 

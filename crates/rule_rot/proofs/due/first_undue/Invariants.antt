@@ -1,5 +1,5 @@
 use Rattle.std.proofs.Common.{◌≡◌, ℕ, ◌<◌, true}
-use Rattle.desk_model.specs.Rules.{keeps_c1}
+use Rattle.desk_rules.specs.Rules.{keeps_c1}
 use Rattle.rule_rot.proofs.due.first_undue.Given as goal
 
 abbrev pub invariant-loop-x : goal.invariant-loop-x

@@ -1,5 +1,5 @@
 use Rattle.std.proofs.Common.{◌≡◌, ℕ, ◌<◌, true}
-use Rattle.desk_model.specs.Rules.{keeps_c2}
+use Rattle.desk_rules.specs.Rules.{keeps_c2}
 use Rattle.rule_rot.proofs.in_time.first_untimely.Given as goal
 
 abbrev pub invariant-loop-x : goal.invariant-loop-x

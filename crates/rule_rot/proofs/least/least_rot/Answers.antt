@@ -3,7 +3,7 @@ use Rattle.std.specs.Prelude.{Option, IfOk, find}
 use Rattle.std.specs.Option.{option_or}
 use Rattle.desk_data.specs.declared.broken.Broken.{Broken}
 use Rattle.desk_data.specs.declared.broken.Broken.TheVariants.{C8, C9}
-use Rattle.desk_model.specs.Least.{breaks, each_plane, least_rot}
+use Rattle.desk_rules.specs.Least.{breaks, each_plane, least_rot}
 use Rattle.rule_rot.proofs.FindLaws.{least_by_kind}
 use Rattle.rule_rot.proofs.least.least_rot.Goals as goal
 

@@ -2,8 +2,8 @@ use Rattle.std.proofs.Common.{◌≡◌, ◌<◌, ◌∙◌, ℕ, sym, true, fal
 use Rattle.desk_data.specs.declared.broken.Broken.TheVariants.{C8, C9}
 use Rattle.std.specs.Prelude.{find}
 use Rattle.desk_data.specs.Situation.{planes_of, plane_at}
-use Rattle.desk_model.specs.Least.{breaks, each_plane, plane}
-use Rattle.desk_model.specs.Maintenance.{keeps_c8, keeps_c9}
+use Rattle.desk_rules.specs.Least.{breaks, each_plane, plane}
+use Rattle.desk_rules.specs.Maintenance.{keeps_c8, keeps_c9}
 use Rattle.rule_rot.proofs.FindLaws.{rule_c8, rule_c9, first_item, no_item}
 use Rattle.rule_rot.proofs.UpkeepLaws.{whole_at, last-within, keeps_c8-made, keeps_c9-counted}
 use Rattle.rule_rot.proofs.maintenance.first_by_plane.Goals as goal

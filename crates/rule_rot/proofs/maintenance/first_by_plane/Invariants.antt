@@ -1,5 +1,5 @@
 use Rattle.std.proofs.Common.{◌≡◌, ℕ, ◌<◌, true}
-use Rattle.desk_model.specs.Maintenance.{keeps_c8, keeps_c9}
+use Rattle.desk_rules.specs.Maintenance.{keeps_c8, keeps_c9}
 use Rattle.rule_rot.proofs.maintenance.first_by_plane.Given as goal
 
 abbrev pub invariant-missed : goal.invariant-missed

@@ -1,8 +1,8 @@
 use Rattle.std.proofs.Common.{◌≡◌, ◌<◌, arith, false}
 use Rattle.desk_data.specs.declared.broken.Broken.TheVariants.{C4}
 use Rattle.desk_data.specs.Situation.{legs_of}
-use Rattle.desk_model.specs.Rules.{keeps_c4}
-use Rattle.desk_model.specs.Least.{leg}
+use Rattle.desk_rules.specs.Rules.{keeps_c4}
+use Rattle.desk_rules.specs.Least.{leg}
 use Rattle.rule_rot.proofs.FindLaws.{rule_c4, first_item, no_item}
 use Rattle.rule_rot.proofs.reach.first_too_far.Goals as goal
 

@@ -1,8 +1,8 @@
 use Rattle.std.proofs.Common.{◌≡◌, ◌<◌, arith, false}
 use Rattle.desk_data.specs.declared.broken.Broken.TheVariants.{C7}
 use Rattle.desk_data.specs.Situation.{legs_of}
-use Rattle.desk_model.specs.Rules.{keeps_c7}
-use Rattle.desk_model.specs.Least.{leg}
+use Rattle.desk_rules.specs.Rules.{keeps_c7}
+use Rattle.desk_rules.specs.Least.{leg}
 use Rattle.rule_rot.proofs.FindLaws.{rule_c7, first_item, no_item}
 use Rattle.rule_rot.proofs.service.first_out_of_service.Goals as goal
 

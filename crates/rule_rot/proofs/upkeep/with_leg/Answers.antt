@@ -2,8 +2,8 @@ use Rattle.std.proofs.Common.{◌≡◌, ◌+◌, ◌*◌, ◌≤◌, not, ◌&&
 use Rattle.std.specs.Prelude.{if◌then◌else◌}
 use Rattle.std.proofs.lemmas.Bool.Decides.{nat_tests}
 use Rattle.desk_data.specs.Situation.{leg_at}
-use Rattle.desk_model.specs.Rotations.{departure, dep, arr}
-use Rattle.desk_model.specs.Rules.{meets_span}
+use Rattle.desk_rules.specs.Rotations.{departure, dep, arr}
+use Rattle.desk_rules.specs.Rules.{meets_span}
 use Rattle.rule_rot.proofs.UpkeepLaws.{flown}
 use Rattle.rule_rot.proofs.upkeep.with_leg.Goals as goal
 

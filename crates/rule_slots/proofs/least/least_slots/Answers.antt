@@ -1,7 +1,7 @@
 use Rattle.std.proofs.Common.{◌≡◌, sym, ap, ◌∙◌, subst, IfOk}
 use Rattle.std.specs.Prelude.{find}
 use Rattle.std.specs.Option.{option_or}
-use Rattle.desk_model.specs.Least.{breaks, each_hour, least_slots}
+use Rattle.desk_rules.specs.Least.{breaks, each_hour, least_slots}
 use Rattle.rule_slots.specs.declared.slots.Movement.TheVariants.{Arrival}
 use Rattle.rule_slots.specs.Taken.{item}
 use Rattle.rule_slots.proofs.ItemLaws.{least-by_rule}

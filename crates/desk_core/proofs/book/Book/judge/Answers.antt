@@ -1,7 +1,7 @@
 use Rattle.std.proofs.Common.{◌≡◌, ◌<◌, ◌≤◌, sym, ap, ◌∙◌}
 use Rattle.std.specs.Prelude.{Some, None}
-use Rattle.desk_model.specs.Least.{least}
-use Rattle.desk_model.specs.Cost.{cost}
+use Rattle.desk_rules.specs.Least.{least}
+use Rattle.desk_rules.specs.Cost.{cost}
 use Rattle.desk_model.specs.Steps.{moved}
 use Rattle.desk_core.proofs.JudgedLaws.{judged_without_plan, judged_breaks, judged_dearer, judged_published}
 use Rattle.desk_core.proofs.book.Book.judge.Goals as goal

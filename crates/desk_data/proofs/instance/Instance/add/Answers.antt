@@ -2,7 +2,7 @@ use Rattle.std.specs.Arc.{arc_value}
 use Rattle.std.proofs.lemmas.List.Elements.{All-append}
 use Rattle.desk_data.specs.Situation.{Situation}
 use Rattle.desk_data.specs.Valid.{IsOrder}
-use Rattle.desk_data.proofs.KeptLemmas.{keeps_more}
+use Rattle.desk_data.proofs.KeepsLemmas.{keeps_more}
 use Rattle.desk_data.proofs.instance.Instance.add.Goals as goal
 
 pub invariant_of-self-2 : goal.invariant_of-self-2

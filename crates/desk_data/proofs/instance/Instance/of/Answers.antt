@@ -1,6 +1,6 @@
 use Rattle.std.proofs.lemmas.List.Elements.{All-nil}
 use Rattle.desk_data.specs.Valid.{IsOrder}
-use Rattle.desk_data.proofs.KeptLemmas.{keeps_nothing}
+use Rattle.desk_data.proofs.KeepsLemmas.{keeps_nothing}
 use Rattle.desk_data.proofs.instance.Instance.of.Goals as goal
 
 pub invariant_of-result : goal.invariant_of-result

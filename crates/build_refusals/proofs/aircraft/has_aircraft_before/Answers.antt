@@ -1,0 +1,10 @@
+use Rattle.std.proofs.Common.{bytes_eq, ltb, false, ap, ◌∙◌}
+use Rattle.std.specs.Option.{option_map_or}
+use Rattle.build_refusals.proofs.BeforeLemmas.{stood_before}
+use Rattle.build_refusals.proofs.aircraft.has_aircraft_before.Goals as goal
+
+pub returns : goal.returns
+returns c =
+    c.is_before.ensures
+    ∙ ap (λ first. option_map_or (λ k. ltb k c.args.place) first false) c.aircraft_place.ensures
+    ∙ stood_before (λ a. bytes_eq c.args.name.now a.name) c.args.place c.args.tables.now.files.now.aircraft

@@ -1,0 +1,11 @@
+pub mod First
+pub mod Config
+pub mod Flights
+pub mod Rotations
+pub mod Aircraft
+pub mod Airports
+pub mod Dist
+pub mod Itineraries
+pub mod Position
+pub mod Tariff
+pub mod Refusals

@@ -1,0 +1,93 @@
+//! The first refusal of the rows of all files.
+
+ghost use Rattle.std.specs.Prelude.{◌≡◌, IfNone};
+ghost use Rattle.build_tables.specs.Fitting.{FitTogether};
+ghost use Rattle.build_refusals.specs.First.{first_refused};
+ghost use Rattle.build_refusals.specs.Refusals.{in_file, refusal_of_schedule, refusal_of_demand, refusal_of};
+
+use crate::config::window_refused;
+use crate::first::{Check, Lined, first_refused};
+use crate::position::Positions;
+use crate::tariff::tariff_refused;
+use build_tables::Tables;
+use desk_folder::File;
+use desk_text::Cause;
+
+/// A refusal in this file.
+fn in_file(file: File, refused: Option<(u32, Cause)>) -> Option<(File, u32, Cause)>
+    ensures { result ≡ in_file file refused }
+{
+    let (line, cause) = refused?;
+    Some((file, line, cause))
+}
+
+/// The first refusal of the rows of a file.
+fn in_rows<Row: Lined, C: Check<Row>>(
+    file: File,
+    check: &C,
+    rows: &[Row],
+) -> Option<(File, u32, Cause)>
+    ensures { result ≡ in_file file (first_refused (C.cause_of check.now) Row.line_of rows.now) }
+{
+    in_file(file, first_refused(check, rows))
+}
+
+/// The first refusal in the files of the schedule.
+#[tactic(auto, unfolding(crate::specs::Refusals::refusal_of_schedule))]
+fn refusal_in_schedule(tables: &Tables<'_>) -> Option<(File, u32, Cause)>
+    ensures { result ≡ refusal_of_schedule tables.now.files.now }
+{
+    let files = tables.files;
+    if let Some(refusal) = in_file(File::Config, window_refused(&files.config)) {
+        return Some(refusal);
+    }
+    if let Some(refusal) = in_rows(File::Flights, tables, files.flights.as_slice()) {
+        return Some(refusal);
+    }
+    if let Some(refusal) = in_rows(File::Rotations, tables, files.rotations.as_slice()) {
+        return Some(refusal);
+    }
+    if let Some(refusal) = in_rows(File::Aircraft, tables, files.aircraft.as_slice()) {
+        return Some(refusal);
+    }
+    if let Some(refusal) = in_rows(File::Airports, tables, files.airports.as_slice()) {
+        return Some(refusal);
+    }
+    in_rows(File::Dist, tables, files.dist.as_slice())
+}
+
+/// The first refusal in the files of what is asked of the schedule.
+#[tactic(auto, unfolding(crate::specs::Refusals::refusal_of_demand))]
+fn refusal_in_demand(tables: &Tables<'_>) -> Option<(File, u32, Cause)>
+    ensures { result ≡ refusal_of_demand tables.now.files.now }
+{
+    let files = tables.files;
+    if let Some(refusal) = in_rows(File::Itineraries, tables, files.itineraries.as_slice()) {
+        return Some(refusal);
+    }
+    let positions = Positions::of(tables);
+    if let Some(refusal) = in_rows(File::Position, &positions, files.position.as_slice()) {
+        return Some(refusal);
+    }
+    in_file(File::Tariff, tariff_refused(files.tariff.rows.as_slice()))
+}
+
+/// The first refusal in all files.
+#[tactic(auto, unfolding(crate::specs::Refusals::refusal_of))]
+fn refusal(tables: &Tables<'_>) -> Option<(File, u32, Cause)>
+    ensures { result ≡ refusal_of tables.now.files.now }
+{
+    match refusal_in_schedule(tables) {
+        Some(refusal) => Some(refusal),
+        None => refusal_in_demand(tables),
+    }
+}
+
+/// The first refusal: in the order of the files, then of their lines, which count from 1, then of
+/// the causes. Where there is none, the rows fit together.
+pub fn first_refusal(tables: &Tables<'_>) -> Option<(File, u32, Cause)>
+    ensures exact { result ≡ refusal_of tables.now.files.now }
+    ensures fit { IfNone result (FitTogether tables.now.files.now) }
+{
+    refusal(tables)
+}

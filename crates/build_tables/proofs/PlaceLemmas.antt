@@ -1,0 +1,136 @@
+-- What stands at the first place that passes a test, and what a table of places keeps.
+use Rattle.std.proofs.Common.{◌≡◌, ℕ, zero, suc, ◌+◌, ◌<◌, ◌≤◌, Bool, true, false, cond, ◌&&◌, inl, inr, not, eqb, ltb, List, [], ◌∷◌, ◌++◌, length, take, get_or, bytes_eq, Option, Some, None, refl, sym, ap, ◌∙◌, arith, Bor}
+use Rattle.std.specs.Prelude.{find, option_map, option_copied, is_some}
+use Rattle.std.specs.Option.{option_or}
+use Rattle.std.specs.List.{position, position_or_len}
+use Rattle.std.specs.Map.{lookup}
+use Rattle.std.proofs.lemmas.Bool.{ltb-false, lt-ltb, le-ltb, cond-true, cond-false, cases_lt, cases_Bool, and_parts, eqb-true, false≢true}
+use Rattle.std.proofs.lemmas.List.{take_more, length-take}
+use Rattle.std.proofs.lemmas.List.Quantifiers.{position-Some}
+use Rattle.std.proofs.lemmas.List.Sums.{fails_before_first}
+use Rattle.std.proofs.lemmas.Slice.Eq.{bytes_eq-Decides}
+use Rattle.std.proofs.Math.Bool.{and_assoc}
+use Rattle.build_tables.specs.Keys.{Key, is_key, key_place}
+
+-- the first that passes is at the first place that passes
+find_first : {A : Type 0} (p : A → Bool) (xs : List A) (k : ℕ) (x : A) → k < length xs → x ≡ get_or xs k x → p x ≡ true → ((j : ℕ) → j < k → p (get_or xs j x) ≡ false) → find p xs ≡ Some x
+find_first p [] k x below is passes fail = absurd (omega arith)
+find_first p (y ∷ ys) zero x below is passes fail = ap (λ b. cond b (Some y) (find p ys)) (ap p (sym is) ∙ passes) ∙ ap (λ z. Some z) (sym is)
+find_first p (y ∷ ys) (suc k) x below is passes fail = ap (λ b. cond b (Some y) (find p ys)) (fail 0 (omega arith)) ∙ find_first p ys k x (omega arith) is passes (λ j lt. fail (suc j) (omega arith))
+
+find_never : {A : Type 0} (p : A → Bool) (xs : List A) → ((j : ℕ) (d : A) → j < length xs → p (get_or xs j d) ≡ false) → find p xs ≡ None
+find_never p [] fail = refl
+find_never p (y ∷ ys) fail = ap (λ b. cond b (Some y) (find p ys)) (fail 0 y (omega arith)) ∙ find_never p ys (λ j d lt. fail (suc j) d (omega arith))
+
+not_some : (b : Bool) (n : ℕ) → None ≡ cond b (Some n) None → b ≡ false
+not_some true n e = absurd cc
+not_some false n e = refl
+
+-- what is found stands at the place
+pub find_at_place : {A : Type 0} (p : A → Bool) (xs : List A) (k : ℕ) (x : A) → Some k ≡ position p xs → x ≡ get_or xs k x → Some x ≡ find p xs
+find_at_place p xs k x at is =
+    let found = position-Some p xs k x (sym at) in
+    sym (find_first p xs k x found.0 is (ap p is ∙ found.1) found.2)
+
+-- and nothing is found where there is no place
+pub find_nowhere : {A : Type 0} (p : A → Bool) (xs : List A) → None ≡ position p xs → None ≡ find p xs
+find_nowhere p xs at =
+    let past : length xs ≤ position_or_len p xs = ltb-false _ _ (not_some _ _ at) in
+    sym (find_never p xs (λ j d lt. fails_before_first p xs j d (omega arith)))
+
+-- the first place, from the first row on
+place_by : (b : Bool) (m n : ℕ) → cond (ltb (cond (not b) (1 + m) 0) (suc n)) (Some (cond (not b) (1 + m) 0)) None ≡ cond b (Some 0) (option_map suc (cond (ltb m n) (Some m) None))
+place_by true m n = cond-true (ltb 0 (suc n)) (Some 0) None (lt-ltb 0 (suc n) (omega arith))
+place_by false m n = elim (cases_lt m n) [
+  | inl below ↦ cond-true (ltb (1 + m) (suc n)) (Some (1 + m)) None (lt-ltb (1 + m) (suc n) (omega arith)) ∙ ap (λ k. Some k) (omega arith) ∙ sym (ap (option_map suc) (cond-true (ltb m n) (Some m) None (lt-ltb m n below)))
+  | inr past ↦ cond-false (ltb (1 + m) (suc n)) (Some (1 + m)) None (le-ltb (1 + m) (suc n) (omega arith)) ∙ sym (ap (option_map suc) (cond-false (ltb m n) (Some m) None (le-ltb m n past)))
+]
+
+pub position-cons : {A : Type 0} (p : A → Bool) (x : A) (xs : List A) → position p (x ∷ xs) ≡ cond (p x) (Some 0) (option_map suc (position p xs))
+position-cons p x xs = place_by (p x) (position_or_len p xs) (length xs)
+
+-- with one more row at the end
+next_place : (b c : Bool) (n : ℕ) (o : Option ℕ) → cond b (Some 0) (option_map suc (option_or o (cond c (Some n) None))) ≡ option_or (cond b (Some 0) (option_map suc o)) (cond c (Some (suc n)) None)
+next_place true c n o = refl
+next_place false c n (Some k) = refl
+next_place false true n None = refl
+next_place false false n None = refl
+
+position_push : {A : Type 0} (p : A → Bool) (xs : List A) (x : A) → position p (xs ++ x ∷ []) ≡ option_or (position p xs) (cond (p x) (Some (length xs)) None)
+position_push p [] x = position-cons p x []
+position_push p (y ∷ ys) x =
+    position-cons p y (ys ++ x ∷ [])
+    ∙ ap (λ o. cond (p y) (Some 0) (option_map suc o)) (position_push p ys x)
+    ∙ next_place (p y) (p x) (length ys) (position p ys)
+    ∙ ap (λ o. option_or o (cond (p x) (Some (suc (length ys))) None)) (sym (position-cons p y ys))
+
+lookup_by : {X : Type 0} (b : Bool) (x : X) (o r : Option X) → cond b (Some x) (option_or o r) ≡ option_or (cond b (Some x) o) r
+lookup_by true x o r = refl
+lookup_by false x o r = refl
+
+lookup_push : {K X : Type 0} (t : K → Bool) (es : List (K × X)) (k : K) (v : X) → lookup t (es ++ (k, v) ∷ []) ≡ option_or (lookup t es) (cond (t k) (Some v) None)
+lookup_push t [] k v = refl
+lookup_push t (e ∷ es) k v = ap (cond (t e.0) (Some e.1)) (lookup_push t es k v) ∙ lookup_by (t e.0) e.1 (lookup t es) (cond (t k) (Some v) None)
+
+-- a key that passes is the same
+pub same_key : (a b : Key) → is_key a b ≡ true → a ≡ b
+same_key a b h =
+    let parts = and_parts (bytes_eq a.0 b.0) (bytes_eq a.1 b.1 && eqb a.2 b.2) h in
+    let others = and_parts (bytes_eq a.1 b.1) (eqb a.2 b.2) parts.1 in
+    let first : a.0 ≡ b.0 = (bytes_eq-Decides a.0 b.0).0 parts.0 in
+    let second : a.1 ≡ b.1 = (bytes_eq-Decides a.1 b.1).0 others.0 in
+    let third : a.2 ≡ b.2 = eqb-true a.2 b.2 others.1 in
+    λ i. (first i, second i, third i)
+
+or_none : {X : Type 0} (o : Option X) → option_or o None ≡ o
+or_none None = refl
+or_none (Some x) = refl
+
+or_some : {X : Type 0} (o r : Option X) → is_some o ≡ true → option_or o r ≡ o
+or_some None r h = absurd (false≢true h)
+or_some (Some x) r h = refl
+
+-- a table of places, with one more row
+module _ {Row : Type 0} (key_of : Row → Key) (rows : List Row) (i : ℕ) (row : Row) (below : i < length rows) (is : row ≡ get_or rows i row) where
+  places_push : (key : Key) → key_place key_of (take (i + 1) rows) key ≡ option_or (key_place key_of (take i rows) key) (cond (is_key key (key_of row)) (Some i) None)
+  places_push key =
+      ap (λ rs. key_place key_of rs key) (take_more rows i row below ∙ ap (λ r. take i rows ++ r ∷ []) (sym is))
+      ∙ position_push (λ r. is_key key (key_of r)) (take i rows) row
+      ∙ ap (λ n. option_or (key_place key_of (take i rows) key) (cond (is_key key (key_of row)) (Some n) None)) (omega (arith, length-take i rows))
+
+  -- whose key is new
+  pub place_new : {K : Type 0} (seen : K → Key) (es : List (K × ℕ)) (k : K) → seen k ≡ key_of row → (key : Key) → lookup (λ x. is_key key (seen x)) es ≡ key_place key_of (take i rows) key
+      → lookup (λ x. is_key key (seen x)) (es ++ (k, i) ∷ []) ≡ key_place key_of (take (i + 1) rows) key
+  place_new seen es k same key so_far =
+      lookup_push (λ x. is_key key (seen x)) es k i
+      ∙ (λ j. option_or (so_far j) (cond (is_key key (same j)) (Some i) None))
+      ∙ sym (places_push key)
+
+  -- whose key stood before
+  pub place_kept : is_some (key_place key_of (take i rows) (key_of row)) ≡ true → (key : Key) → key_place key_of (take i rows) key ≡ key_place key_of (take (i + 1) rows) key
+  place_kept stood key = elim (cases_Bool (is_key key (key_of row))) [
+    | inl same ↦ sym (places_push key ∙ or_some (key_place key_of (take i rows) key) (cond (is_key key (key_of row)) (Some i) None) (ap (λ k. is_some (key_place key_of (take i rows) k)) (same_key key (key_of row) same) ∙ stood))
+    | inr differs ↦ sym (places_push key ∙ ap (λ b. option_or (key_place key_of (take i rows) key) (cond b (Some i) None)) differs ∙ or_none (key_place key_of (take i rows) key))
+  ]
+
+-- what is copied is there where it was
+pub copied_stands : {X : Type 0} (o : Option (Bor X)) → is_some (option_copied o) ≡ is_some o
+copied_stands None = refl
+copied_stands (Some x) = refl
+
+pub not_there : {X : Type 0} (o : Option X) → is_some o ≡ false → o ≡ None
+not_there None h = refl
+not_there (Some x) h = absurd (false≢true (sym h))
+
+-- a borrowed key, and whether two are the same
+abbrev pub Borrowed : Type 0
+Borrowed = Bor (List ℕ) × Bor (List ℕ) × ℕ
+
+abbrev pub seen : Borrowed → Key
+seen k = (k.0.now, k.1.now, k.2)
+
+abbrev pub same_borrowed : Borrowed → Borrowed → Bool
+same_borrowed a b = bytes_eq a.0.now b.0.now && bytes_eq a.1.now b.1.now && eqb a.2 b.2
+
+pub lookup_seen : {X : Type 0} (k : Borrowed) (es : List (Borrowed × X)) → lookup (same_borrowed k) es ≡ lookup (λ x. is_key (seen k) (seen x)) es
+lookup_seen k es = ap (λ (t : Borrowed → Bool). lookup t es) (λ i x. and_assoc (bytes_eq k.0.now x.0.now) (bytes_eq k.1.now x.1.now) (eqb k.2 x.2) i)

@@ -1,0 +1,20 @@
+-- What the readers say of their rows.
+use Rattle.std.specs.Prelude.{All}
+use Rattle.read_legs.specs.Facts.{IsFlight, IsRotation}
+use Rattle.read_net.specs.Facts.{IsWindow, IsAirport, IsDistance}
+use Rattle.read_fleet.specs.Facts.{IsAircraft, IsPosition}
+use Rattle.read_pax.specs.Facts.{IsItinerary}
+use Rattle.tariff_prices.specs.Rows.{IsTariffRow}
+use Rattle.build_tables.specs.declared.files.Files.{Files}
+
+-- rows that their readers can answer
+pub record AreFileRows (x : Files) : Type 0 where
+  pub window : IsWindow x.config
+  pub flights : All IsFlight x.flights
+  pub rotations : All IsRotation x.rotations
+  pub aircraft : All IsAircraft x.aircraft
+  pub airports : All IsAirport x.airports
+  pub dist : All IsDistance x.dist
+  pub itineraries : All IsItinerary x.itineraries
+  pub position : All IsPosition x.position
+  pub tariff : All IsTariffRow x.tariff.rows

@@ -1,0 +1,59 @@
+-- Rows that fit together, so that they make a day.
+use Rattle.std.specs.Prelude.{◌≡◌, ◌≢◌, ◌≤◌, false, List, length, sum_by, All, Some, IsSome}
+use Rattle.std.specs.List.{AllPairs}
+use Rattle.std.specs.Option.{ForSome}
+use Rattle.read_net.specs.declared.rows.AirportRow.{AirportRow}
+use Rattle.read_legs.specs.declared.rows.FlightRow.{FlightRow}
+use Rattle.read_legs.specs.declared.rows.RotationRow.{RotationRow}
+use Rattle.read_fleet.specs.declared.aircraft.AircraftRow.{AircraftRow}
+use Rattle.read_pax.specs.declared.rows.ItineraryRow.{ItineraryRow}
+use Rattle.tariff_prices.specs.Rows.{same_key}
+use Rattle.build_tables.specs.declared.files.Files.{Files}
+use Rattle.build_tables.specs.Departures.{departure_on}
+use Rattle.build_tables.specs.Limits.{most_flights, most_aircraft, most_airports, most_itineraries, most_passengers, most_legs, most_groups, most_tariff_rows, latest_departure}
+use Rattle.build_tables.specs.Names.{flight_named, rotation_place, airport_place, aircraft_place}
+
+-- no file has more rows than its limit
+pub record AreFew (x : Files) : Type 0 where
+  pub rotations : length x.rotations ≤ most_flights
+  pub aircraft : length x.aircraft ≤ most_aircraft
+  pub airports : length x.airports ≤ most_airports
+  pub itineraries : length x.itineraries ≤ most_itineraries
+  pub groups : sum_by (λ row. length row.groups) x.position ≤ most_groups
+  pub tariff : length x.tariff.rows ≤ most_tariff_rows
+
+-- no two rows of a file are of one name; rotations are named by flight and day, reservations by name and type
+pub record AreApart (x : Files) : Type 0 where
+  pub rotations : AllPairs (λ a b. a.flight ≡ b.flight → a.day ≢ b.day) x.rotations
+  pub aircraft : AllPairs (λ a b. a.name ≢ b.name) x.aircraft
+  pub airports : AllPairs (λ a b. a.airport ≢ b.airport) x.airports
+  pub itineraries : AllPairs (λ a b. a.name ≡ b.name → a.inbound ≢ b.inbound) x.itineraries
+  pub tariff : AllPairs (λ a b. same_key a b ≡ false) x.tariff.rows
+
+-- the flight of a rotation is this one, whose airports are known, as the aircraft is, and it departs in time
+pub record IsRotationOf (x : Files) (row : RotationRow) (flight : FlightRow) : Type 0 where
+  pub named : flight_named x.flights row.flight ≡ Some flight
+  pub origin : IsSome (airport_place x.airports flight.origin)
+  pub dest : IsSome (airport_place x.airports flight.dest)
+  pub aircraft : IsSome (aircraft_place x.aircraft row.aircraft)
+  pub soon : departure_on flight row.day ≤ latest_departure
+
+-- the airports of an aircraft are known: its origin, and that of its maintenance
+pub record HasKnownAirports (airports : List AirportRow) (row : AircraftRow) : Type 0 where
+  pub origin : IsSome (airport_place airports row.origin)
+  pub maint : ForSome row.maint (λ maint. IsSome (airport_place airports maint.airport))
+
+-- a reservation has no more passengers and legs than it may have, and there is a rotation of each of its legs
+pub record IsOnRotations (rotations : List RotationRow) (row : ItineraryRow) : Type 0 where
+  pub count : row.count ≤ most_passengers
+  pub short : length row.legs ≤ most_legs
+  pub legs : All (λ leg. IsSome (rotation_place rotations leg.flight leg.day)) row.legs
+
+-- the rows are few, no two are alike, and each name in them is known
+pub record FitTogether (x : Files) : Type 0 where
+  pub few : AreFew x
+  pub apart : AreApart x
+  pub rotations : All (λ row. (flight : FlightRow) × IsRotationOf x row flight) x.rotations
+  pub aircraft : All (HasKnownAirports x.airports) x.aircraft
+  pub itineraries : All (IsOnRotations x.rotations) x.itineraries
+  pub position : All (λ row. IsSome (airport_place x.airports row.airport)) x.position

@@ -1,0 +1,7 @@
+pub mod Keys
+pub mod Found
+pub mod Names
+pub mod Limits
+pub mod Departures
+pub mod Facts
+pub mod Fitting

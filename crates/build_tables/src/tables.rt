@@ -1,0 +1,151 @@
+//! The rows of the files, found by their names.
+
+ghost use Rattle.std.specs.Prelude.{◌≡◌, [], IfOk, option_map, find, position, ◌==◌, ◌&&◌, bytes_eq};
+ghost use Rattle.build_tables.specs.Keys.{type_number};
+ghost use Rattle.build_tables.specs.Found.{ArePlacesOf};
+ghost use Rattle.build_tables.specs.Names.{flight_named, rotation_place, airport_place, aircraft_place, is_between, distance_between};
+
+use crate::files::Files;
+use crate::places::{Places, places_of};
+use desk_units::{Name, NoMem};
+use read_legs::FlightRow;
+use read_net::DistRow;
+use std::alloc::Global;
+
+/// The rows of the files, found by their names. A name stands for the first row that has it.
+#[derive(Drop)]
+pub struct Tables<'a> {
+    /// The rows.
+    pub files: &'a Files,
+    flights: Places<'a>,
+    rotations: Places<'a>,
+    aircraft: Places<'a>,
+    airports: Places<'a>,
+    dist: Places<'a>,
+    itineraries: Places<'a>,
+    ghost flights_placed: { ArePlacesOf (λ row. (row.flight, [], 0)) files.now.flights flights },
+    ghost rotations_placed: { ArePlacesOf (λ row. (row.flight, [], row.day)) files.now.rotations rotations },
+    ghost aircraft_placed: { ArePlacesOf (λ row. (row.name, [], 0)) files.now.aircraft aircraft },
+    ghost airports_placed: { ArePlacesOf (λ row. (row.airport, [], 0)) files.now.airports airports },
+    ghost dist_placed: { ArePlacesOf (λ row. (row.origin, row.dest, 0)) files.now.dist dist },
+    ghost itineraries_placed: { ArePlacesOf (λ row. (row.name, [], type_number row.inbound)) files.now.itineraries itineraries },
+}
+
+/// The places of flights, rotations and aircraft.
+fn places_of_schedule<'a>(
+    alloc: Global,
+    files: &'a Files,
+) -> Result<(Places<'a>, Places<'a>, Places<'a>), NoMem>
+    ensures flights { IfOk result (λ places. ArePlacesOf (λ row. (row.flight, [], 0)) files.now.flights places.0) }
+    ensures rotations { IfOk result (λ places. ArePlacesOf (λ row. (row.flight, [], row.day)) files.now.rotations places.1) }
+    ensures aircraft { IfOk result (λ places. ArePlacesOf (λ row. (row.name, [], 0)) files.now.aircraft places.2) }
+{
+    let flights = places_of(alloc, files.flights.as_slice())?;
+    let rotations = places_of(alloc, files.rotations.as_slice())?;
+    let aircraft = places_of(alloc, files.aircraft.as_slice())?;
+    Ok((flights, rotations, aircraft))
+}
+
+/// The places of airports, distances and reservations.
+fn places_of_network<'a>(
+    alloc: Global,
+    files: &'a Files,
+) -> Result<(Places<'a>, Places<'a>, Places<'a>), NoMem>
+    ensures airports { IfOk result (λ places. ArePlacesOf (λ row. (row.airport, [], 0)) files.now.airports places.0) }
+    ensures dist { IfOk result (λ places. ArePlacesOf (λ row. (row.origin, row.dest, 0)) files.now.dist places.1) }
+    ensures itineraries { IfOk result (λ places. ArePlacesOf (λ row. (row.name, [], type_number row.inbound)) files.now.itineraries places.2) }
+{
+    let airports = places_of(alloc, files.airports.as_slice())?;
+    let dist = places_of(alloc, files.dist.as_slice())?;
+    let itineraries = places_of(alloc, files.itineraries.as_slice())?;
+    Ok((airports, dist, itineraries))
+}
+
+impl<'a> Tables<'a> {
+    /// The tables of these rows.
+    pub fn of(alloc: Global, files: &'a Files) -> Result<Tables<'a>, NoMem>
+        ensures { IfOk result (λ tables. tables.files.now ≡ files.now) }
+    {
+        let (flights, rotations, aircraft) = places_of_schedule(alloc, files)?;
+        let (airports, dist, itineraries) = places_of_network(alloc, files)?;
+        Ok(Tables {
+            files,
+            flights,
+            rotations,
+            aircraft,
+            airports,
+            dist,
+            itineraries,
+        })
+    }
+
+    /// The place of a flight.
+    pub fn flight_place(&self, name: &Name) -> Option<usize>
+        ensures { result ≡ position (λ f. bytes_eq name.now f.flight) self.now.files.now.flights }
+    {
+        self.flights.place_of((name.as_slice(), &[], 0))
+    }
+
+    /// The flight of this name.
+    pub fn flight(&self, name: &Name) -> Option<&'a FlightRow>
+        ensures { option_map (λ row. row.now) result ≡ flight_named self.now.files.now.flights name.now }
+    {
+        let place = self.flight_place(name)?;
+        Some(&self.files.flights.as_slice()[place])
+    }
+
+    /// The place of the rotation of a flight on a day.
+    pub fn rotation_place(&self, flight: &Name, day: u32) -> Option<usize>
+        ensures { result ≡ rotation_place self.now.files.now.rotations flight.now day }
+    {
+        self.rotations.place_of((flight.as_slice(), &[], day))
+    }
+
+    /// The place of an aircraft.
+    pub fn aircraft_place(&self, name: &Name) -> Option<usize>
+        ensures { result ≡ aircraft_place self.now.files.now.aircraft name.now }
+    {
+        self.aircraft.place_of((name.as_slice(), &[], 0))
+    }
+
+    /// The place of an airport.
+    pub fn airport_place(&self, name: &Name) -> Option<usize>
+        ensures { result ≡ airport_place self.now.files.now.airports name.now }
+    {
+        self.airports.place_of((name.as_slice(), &[], 0))
+    }
+
+    /// The place of the first row of a reservation, by its name and its type.
+    pub fn itinerary_place(&self, name: &Name, inbound: bool) -> Option<usize>
+        ensures { result ≡ position (λ row. bytes_eq name.now row.name && (type_number inbound == type_number row.inbound)) self.now.files.now.itineraries }
+    {
+        let number = u32::from(inbound);
+        self.itineraries.place_of((name.as_slice(), &[], number))
+    }
+
+    /// The place of the first row from the one airport to the other.
+    fn dist_place(&self, origin: &Name, dest: &Name) -> Option<usize>
+        ensures { result ≡ position (is_between origin.now dest.now) self.now.files.now.dist }
+    {
+        self.dist.place_of((origin.as_slice(), dest.as_slice(), 0))
+    }
+
+    /// The first row from the one airport to the other.
+    fn distance_from(&self, origin: &Name, dest: &Name) -> Option<&'a DistRow>
+        ensures { option_map (λ row. row.now) result ≡ find (is_between origin.now dest.now) self.now.files.now.dist }
+    {
+        let place = self.dist_place(origin, dest)?;
+        Some(&self.files.dist.as_slice()[place])
+    }
+
+    /// The distance between two airports: the first row from the one to the other, else the first
+    /// row the other way.
+    pub fn distance(&self, origin: &Name, dest: &Name) -> Option<&'a DistRow>
+        ensures { option_map (λ row. row.now) result ≡ distance_between self.now.files.now.dist origin.now dest.now }
+    {
+        match self.distance_from(origin, dest) {
+            Some(row) => Some(row),
+            None => self.distance_from(dest, origin),
+        }
+    }
+}

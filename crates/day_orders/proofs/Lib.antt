@@ -1,0 +1,4 @@
+pub mod LastLemmas
+mod ChangeLemmas
+mod TouchLemmas
+pub mod KeptLemmas

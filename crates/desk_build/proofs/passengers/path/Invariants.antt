@@ -1,7 +1,0 @@
-use Rattle.std.proofs.Common.{◌≡◌, map, take}
-use Rattle.desk_build.specs.Joined.{path_leg}
-use Rattle.desk_build.proofs.passengers.path.Given as goal
-
--- the legs of the rows so far
-abbrev pub invariant-loop-row : goal.invariant-loop-row
-invariant-loop-row l = l.legs.items ≡ map (path_leg l.tables.files.now.rotations) (take l.row-index l.rows)

@@ -1,5 +1,0 @@
-use Rattle.desk_model.proofs.BookedLaws.{takes-holds, takes-from}
-use Rattle.desk_model.proofs.rules.passengers_are_aboard_where_their_path_has_the_leg.Goals as goal
-
-pub returns : goal.returns
-returns c path x cabin = (takes-holds x cabin path, takes-from x cabin path)

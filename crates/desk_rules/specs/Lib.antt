@@ -1,0 +1,12 @@
+pub mod Numbers
+pub mod Rows
+pub mod Rotations
+pub mod Rules
+pub mod Maintenance
+pub mod Slots
+pub mod Passengers
+pub mod Carriage
+pub mod Least
+pub mod Order
+pub mod Words
+pub mod Cost

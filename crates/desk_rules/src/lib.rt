@@ -1,0 +1,14 @@
+//! The rules that a plan has to meet, and what it costs, as definitions.
+//!
+//! The definitions stand in `specs/`. The code here is laws: each is a public function with an empty
+//! body, whose contract is the law.
+#![tactic(auto)]
+
+mod laws;
+
+pub use laws::{
+    costs_are_below_ten_to_the_38, feasible_plans_meet_the_rules, legs_are_within_the_hours,
+    passengers_are_aboard_where_their_path_has_the_leg, the_first_broken_item_is_told,
+    the_haul_and_the_cabin_are_the_highest_booked, the_items_are_in_order,
+    the_least_is_of_rotations_then_slots_then_passengers, the_rules_count_legs_as_in_words,
+};

@@ -1,0 +1,127 @@
+-- A file is read, and then those behind it.
+use Rattle.std.proofs.Common.{◌≡◌, ◌≢◌, ◌⊎◌, ℕ, ◌<◌, ◌≤◌, ◌==◌, Bool, true, false, List, [], ◌∷◌, refl, sym, ap, subst, ◌∙◌, arith, inl, inr, eqb-true, eq-eqb}
+use Rattle.std.specs.Prelude.{Option, Some, None, IfSome, Result, Ok, Err}
+use Rattle.std.proofs.lemmas.Bool.{cases_Bool}
+use Rattle.desk_folder.specs.declared.files.File.{File}
+use Rattle.desk_folder.specs.Files.{file_number}
+use Rattle.desk_folder.specs.Outside.{Outside, ReadsOnly}
+use Rattle.desk_folder.specs.Calls.{Rose}
+use Rattle.desk_folder.proofs.FileLemmas.{same_number}
+use Rattle.desk_story.specs.declared.fault.StoryFault.{StoryFault}
+use Rattle.desk_story.specs.declared.fault.StoryFault.TheVariants as fault
+use Rattle.desk_story.specs.declared.rows.InputRows.{InputRows}
+use Rattle.desk_story.specs.Inputs.{Inputs, is_among, are_in_order, Tells}
+use Rattle.desk_story.specs.Story.{Rows, read_as, read_all}
+use Rattle.desk_story.specs.Reading.{IsRead, IsUnread, ReadsAmong, StandsFirst, GivesRead, HasReadCause}
+use Rattle.desk_story.specs.Facts.{rows_in}
+use Rattle.desk_story.proofs.Orders.{behind, among_rest, among_first, stands-first}
+
+-- ---- a file and a list of files
+
+-- the same place, or another
+same_or_other : (f g : File) → (f ≡ g) ⊎ (f ≢ g)
+same_or_other f g = elim (cases_Bool (file_number g == file_number f)) [
+  | inl same ↦ inl (same_number f g (sym (eqb-true (file_number g) (file_number f) same)))
+  | inr other ↦ inr (λ e. let t : (file_number g == file_number f) ≡ true = eq-eqb (file_number g) (file_number f) (ap file_number (sym e)) in let no : true ≡ false = sym t ∙ other in cc)
+]
+
+not_first : (f g : File) (files : List File) → is_among f (g ∷ files) ≡ false → f ≢ g
+not_first f g files e same = let t : is_among f (g ∷ files) ≡ true = among_first f g files same in let no : true ≡ false = sym t ∙ e in cc
+
+not_rest : (f g : File) (files : List File) → is_among f (g ∷ files) ≡ false → is_among f files ≡ false
+not_rest f g files e = elim (cases_Bool (is_among f files)) [
+  | inl t ↦ let all : is_among f (g ∷ files) ≡ true = among_rest f g files t in absurd (let no : true ≡ false = sym all ∙ e in cc)
+  | inr t ↦ t
+]
+
+among_either : (f g : File) (files : List File) → is_among f (g ∷ files) ≡ true → (f ≡ g) ⊎ (is_among f files ≡ true)
+among_either f g files e = elim (cases_Bool (file_number g == file_number f)) [
+  | inl same ↦ inl (same_number f g (sym (eqb-true (file_number g) (file_number f) same)))
+  | inr other ↦ inr (rw other at e)
+]
+
+first_not_rest : (g : File) (files : List File) → are_in_order (g ∷ files) ≡ true → is_among g files ≡ false
+first_not_rest g files order = elim (cases_Bool (is_among g files)) [
+  | inl t ↦ absurd (omega (arith, behind g g files order t))
+  | inr t ↦ t
+]
+
+rest_not_first : (f g : File) (files : List File) → are_in_order (g ∷ files) ≡ true → is_among f files ≡ true → f ≢ g
+rest_not_first f g files order among same = let lt : file_number g < file_number f = behind f g files order among in let e : file_number f ≡ file_number g = ap file_number same in omega (arith, lt, e)
+
+-- ---- what is told
+
+pub tells-rest : (g : File) (files : List File) (before mid : Outside) (x : Inputs) → are_in_order (g ∷ files) ≡ true → ReadsOnly g before mid → Tells (g ∷ files) before x → Tells files mid x
+tells-rest g files before mid x order only tells f among = only.left f (rest_not_first f g files order among) ∙ tells f (among_rest f g files among)
+
+pub tells-first : (g : File) (files : List File) (before : Outside) (x : Inputs) → Tells (g ∷ files) before x → before.left g ≡ Some (x g)
+tells-first g files before x tells = tells g (among_first g g files refl)
+
+-- ---- what is read
+
+pub exact-rest : (g : File) (files : List File) (x : Inputs) (rows more : Rows) (answer : Result InputRows StoryFault) → read_as g (x g) rows ≡ Ok more → GivesRead rows_in answer (read_all files x more) → GivesRead rows_in answer (read_all (g ∷ files) x rows)
+unfolding read_all
+exact-rest g files x rows more answer is h = rw is h
+
+abbrev Answer : Type 0
+Answer = Result InputRows StoryFault
+
+pub exact-first : (g : File) (files : List File) (before now : Outside) (x : Inputs) (rows : Rows) (e : StoryFault) → are_in_order (g ∷ files) ≡ true → HasReadCause (g ∷ []) before now e → GivesRead rows_in (Err e) (read_as g (x g) rows) → GivesRead rows_in (Err e) (read_all (g ∷ files) x rows)
+unfolding read_all
+exact-first g files before now x rows (fault.Refused r) order cause h = rw h refl
+exact-first g files before now x rows (fault.ReadFault f) order cause h =
+    elim (among_either f g [] cause.0) [
+      | inl same ↦ stands-first f g files x rows (ap file_number same) order h
+      | inr none ↦ absurd (let no : false ≡ true = none in cc)
+    ]
+exact-first g files before now x rows fault.Memory order cause h = tt
+
+-- ---- what is other than before
+
+read_stays : (o mid now : Option (List ℕ)) → now ≡ mid → IfSome o (λ _. mid ≡ Some []) → IfSome o (λ _. now ≡ Some [])
+read_stays o mid now same h = subst (λ (v : Option (List ℕ)). IfSome o (λ _. v ≡ Some [])) (sym same) h
+
+pub all-read : (g : File) (files : List File) (before mid now : Outside) → are_in_order (g ∷ files) ≡ true → ReadsOnly g before mid → IsRead before mid g → ReadsAmong files mid now → ((f : File) → is_among f files ≡ true → IsRead mid now f) → (f : File) → is_among f (g ∷ files) ≡ true → IsRead before now f
+all-read g files before mid now order only first rest others f among =
+    elim (among_either f g files among) [
+      | inl same ↦ subst (λ (h : File). IsRead before now h) (sym same)
+          (read_stays (before.left g) (mid.left g) (now.left g) (rest.unread g (first_not_rest g files order)).left first)
+      | inr in_rest ↦ subst (λ (o : Option (List ℕ)). IfSome o (λ _. now.left f ≡ Some [])) (only.left f (rest_not_first f g files order in_rest)) (others f in_rest)
+    ]
+
+kept_through : (g f : File) (files : List File) (before mid now : Outside) → ReadsOnly g before mid → before.next_faults g ≤ mid.next_faults g → mid.next_faults f ≤ now.next_faults f → before.next_faults f ≤ now.next_faults f
+kept_through g f files before mid now only kept rest = elim (same_or_other f g) [
+  | inl same ↦ let first : before.next_faults f ≤ mid.next_faults f = subst (λ (h : File). before.next_faults h ≤ mid.next_faults h) (sym same) kept in omega (arith, first, rest)
+  | inr other ↦ let first : mid.next_faults f ≡ before.next_faults f = only.next_faults f other in omega (arith, first, rest)
+]
+
+pub reads-first : (g : File) (files : List File) (before mid : Outside) → ReadsOnly g before mid → before.next_faults g ≤ mid.next_faults g → ReadsAmong (g ∷ files) before mid
+reads-first g files before mid only kept = record {
+  unread = λ f not_there. record { left = only.left f (not_first f g files not_there); faults = only.next_faults f (not_first f g files not_there) };
+  kept = λ f. kept_through g f files before mid mid only kept (omega arith);
+  directories = only.directories;
+  written = only.written;
+  place_faults = only.place_faults;
+  put_faults = only.put_faults;
+}
+
+pub reads-rest : (g : File) (files : List File) (before mid now : Outside) → ReadsOnly g before mid → before.next_faults g ≤ mid.next_faults g → ReadsAmong files mid now → ReadsAmong (g ∷ files) before now
+reads-rest g files before mid now only kept rest = record {
+  unread = λ f not_there. record {
+    left = (rest.unread f (not_rest f g files not_there)).left ∙ only.left f (not_first f g files not_there);
+    faults = (rest.unread f (not_rest f g files not_there)).faults ∙ only.next_faults f (not_first f g files not_there);
+  };
+  kept = λ f. kept_through g f files before mid now only kept (rest.kept f);
+  directories = rest.directories ∙ only.directories;
+  written = λ f. rest.written f ∙ only.written f;
+  place_faults = rest.place_faults ∙ only.place_faults;
+  put_faults = λ f. rest.put_faults f ∙ only.put_faults f;
+}
+
+pub cause-rest : (g : File) (files : List File) (before mid now : Outside) (e : StoryFault) → ReadsOnly g before mid → before.next_faults g ≤ mid.next_faults g → HasReadCause files mid now e → HasReadCause (g ∷ files) before now e
+cause-rest g files before mid now (fault.Refused r) only kept h = tt
+cause-rest g files before mid now (fault.ReadFault f) only kept h =
+    let le : before.next_faults f ≤ mid.next_faults f = kept_through g f files before mid mid only kept (omega arith) in
+    let rose : Rose (mid.next_faults f) (now.next_faults f) = h.1 in
+    (among_rest f g files h.0, omega (arith, le, rose))
+cause-rest g files before mid now fault.Memory only kept h = tt

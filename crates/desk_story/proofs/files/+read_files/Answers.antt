@@ -1,0 +1,59 @@
+use Rattle.std.proofs.Common.{◌≡◌, ℕ, true, List, ◌∷◌, sym, subst}
+use Rattle.std.specs.Prelude.{Result, Ok, Err, OnOk, IsTrue}
+use Rattle.desk_folder.specs.declared.files.File.{File}
+use Rattle.desk_folder.specs.Outside.{Outside}
+use Rattle.desk_story.specs.declared.rows.InputRows.{InputRows}
+use Rattle.desk_story.specs.declared.fault.StoryFault.{StoryFault}
+use Rattle.desk_story.specs.Inputs.{Inputs, is_among, are_in_order, Tells}
+use Rattle.desk_story.specs.Story.{read_all}
+use Rattle.desk_story.specs.Reading.{IsRead, ReadsAmong, GivesRead, HasReadCause}
+use Rattle.desk_story.specs.Facts.{rows_in}
+use Rattle.desk_story.proofs.Chain.{tells-rest, tells-first, exact-rest, exact-first, all-read, reads-first, reads-rest}
+use Rattle.desk_story.proofs.files.+read_files.Goals as goal
+
+-- what follows at Ok, from what is known there
+on_ok : {A B : Type 0} (answer : Result InputRows StoryFault) → (A → B) → OnOk answer A → OnOk answer B
+on_ok (Ok rows) f h = f h
+on_ok (Err e) f h = tt
+
+pub returns-in-Err-clause-only : goal.returns-in-Err-clause-only
+returns-in-Err-clause-only g t c =
+    let outside = g.F.Folder.outside in
+    subst (λ (fs : List File). ReadsAmong fs (outside c.args.folder.now) (outside c.read_one.new.folder)) (sym c.in-Some.ensures)
+    (reads-first c.in-Some.file c.in-Some.others.now (outside c.args.folder.now) (outside c.read_one.new.folder) c.read_one.ensures.only c.read_one.ensures.kept)
+
+pub returns-clause-only : goal.returns-clause-only
+returns-clause-only g t c =
+    let outside = g.F.Folder.outside in
+    subst (λ (fs : List File). ReadsAmong fs (outside c.args.folder.now) (outside c.read_files.new.folder)) (sym c.in-Some.ensures)
+    (reads-rest c.in-Some.file c.in-Some.others.now (outside c.args.folder.now) (outside c.read_one.new.folder) (outside c.read_files.new.folder)
+    c.read_one.ensures.only c.read_one.ensures.kept c.read_files.ensures.only)
+
+pub returns-clause-read : goal.returns-clause-read
+returns-clause-read g t c =
+    let outside = g.F.Folder.outside in
+    let order : are_in_order (c.in-Some.file ∷ c.in-Some.others.now) ≡ true = subst (λ (fs : List File). are_in_order fs ≡ true) c.in-Some.ensures c.requires.order in
+    on_ok c.read_files.result (λ rest.
+    subst (λ (fs : List File). (f : File) → is_among f fs ≡ true → IsRead (outside c.args.folder.now) (outside c.read_files.new.folder) f) (sym c.in-Some.ensures)
+    (all-read c.in-Some.file c.in-Some.others.now (outside c.args.folder.now) (outside c.read_one.new.folder) (outside c.read_files.new.folder) order
+    c.read_one.ensures.only c.in-Ok.ensures.read c.read_files.ensures.only rest))
+    c.read_files.ensures.read
+
+pub returns-in-Err-clause-exact : goal.returns-in-Err-clause-exact
+returns-in-Err-clause-exact g t c = λ x tells.
+    let outside = g.F.Folder.outside in
+    let order : are_in_order (c.in-Some.file ∷ c.in-Some.others.now) ≡ true = subst (λ (fs : List File). are_in_order fs ≡ true) c.in-Some.ensures c.requires.order in
+    let told : Tells (c.in-Some.file ∷ c.in-Some.others.now) (outside c.args.folder.now) x = subst (λ (fs : List File). Tells fs (outside c.args.folder.now) x) c.in-Some.ensures tells in
+    subst (λ (fs : List File). GivesRead rows_in (Err c.in-Err.fault) (read_all fs x (rows_in c.args.rows))) (sym c.in-Some.ensures)
+    (exact-first c.in-Some.file c.in-Some.others.now (outside c.args.folder.now) (outside c.read_one.new.folder) x (rows_in c.args.rows) c.in-Err.fault order
+    c.in-Err.ensures.cause (c.in-Err.ensures.exact (x c.in-Some.file) (tells-first c.in-Some.file c.in-Some.others.now (outside c.args.folder.now) x told)))
+
+pub returns-clause-exact : goal.returns-clause-exact
+returns-clause-exact g t c = λ x tells.
+    let outside = g.F.Folder.outside in
+    let order : are_in_order (c.in-Some.file ∷ c.in-Some.others.now) ≡ true = subst (λ (fs : List File). are_in_order fs ≡ true) c.in-Some.ensures c.requires.order in
+    let told : Tells (c.in-Some.file ∷ c.in-Some.others.now) (outside c.args.folder.now) x = subst (λ (fs : List File). Tells fs (outside c.args.folder.now) x) c.in-Some.ensures tells in
+    subst (λ (fs : List File). GivesRead rows_in c.read_files.result (read_all fs x (rows_in c.args.rows))) (sym c.in-Some.ensures)
+    (exact-rest c.in-Some.file c.in-Some.others.now x (rows_in c.args.rows) (rows_in c.in-Ok.rows) c.read_files.result
+    (c.in-Ok.ensures.exact (x c.in-Some.file) (tells-first c.in-Some.file c.in-Some.others.now (outside c.args.folder.now) x told))
+    (c.read_files.ensures.exact x (tells-rest c.in-Some.file c.in-Some.others.now (outside c.args.folder.now) (outside c.read_one.new.folder) x order c.read_one.ensures.only told)))

@@ -1,0 +1,5 @@
+pub mod Inputs
+pub mod Story
+pub mod Reading
+pub mod Faults
+pub mod Facts

@@ -1,0 +1,168 @@
+-- What the input files say: the day that is read, and the events that are taken, or the first refusal.
+use Rattle.std.specs.Prelude.{ℕ, List, [], ◌∷◌, length, Result, Ok, Err, nat_lt, if◌then◌else◌, codes}
+use Rattle.desk_folder.specs.declared.files.File.{File}
+use Rattle.desk_folder.specs.declared.files.File.TheVariants as file
+use Rattle.desk_text.specs.declared.cause.Cause.{Cause as RowCause}
+use Rattle.desk_text.specs.declared.cause.Cause.TheVariants.{Size, Unknown}
+use Rattle.desk_text.specs.Causes.{cause_name as row_cause_name}
+use Rattle.desk_text.specs.Rows.{◌>>=◌, text_rows}
+use Rattle.desk_data.specs.Situation.{Situation}
+use Rattle.desk_model.specs.declared.answer.Event.{Event}
+use Rattle.read_net.specs.Config.{config_of}
+use Rattle.read_net.specs.Airports.{airport_row}
+use Rattle.read_net.specs.Dist.{dist_row}
+use Rattle.read_pax.specs.Itineraries.{itinerary_row}
+use Rattle.read_tariff.specs.Tariff.{tariff_rows}
+use Rattle.read_legs.specs.Flights.{flight_row}
+use Rattle.read_legs.specs.Rotations.{rotation_row}
+use Rattle.read_fleet.specs.Aircraft.{aircraft_row}
+use Rattle.read_fleet.specs.Position.{position_row}
+use Rattle.build_tables.specs.declared.files.Files.{Files}
+use Rattle.desk_build.specs.Joined.{joined}
+use Rattle.early_form.specs.declared.rows.JournalRow.{JournalRow}
+use Rattle.early_form.specs.Journal.{moves_of}
+use Rattle.early_join.specs.Join.{events_of}
+use Rattle.desk_story.specs.declared.refusal.Cause.{Cause}
+use Rattle.desk_story.specs.declared.refusal.Cause.TheVariants.{Form, Row}
+use Rattle.desk_story.specs.declared.refusal.Refusal.{Refusal}
+use Rattle.desk_story.specs.Inputs.{Inputs, replay_files}
+
+-- ---- refusals
+
+-- the refusal of a line
+abbrev pub refusal : File → Cause → ℕ → Refusal
+refusal file cause line = record { file = file; line = line; cause = cause }
+
+-- what was read, or why it was not, told in other words
+abbrev pub or_refused : {A Why Told : Type 0} → (Why → Told) → Result A Why → Result A Told
+or_refused told (Ok x) = Ok x
+or_refused told (Err why) = Err (told why)
+
+-- a line of a text file with its cause, and a line of the journal that is not in its form
+abbrev pub in_text : ℕ × RowCause → ℕ × Cause
+in_text at = (at.0, Row at.1)
+
+abbrev pub not_in_form : ℕ → ℕ × Cause
+not_in_form line = (line, Form)
+
+-- a line with its cause, told of a file
+abbrev pub in_file : File → ℕ × Cause → Refusal
+in_file file at = refusal file at.1 at.0
+
+-- a line of a file that does not fit the others
+abbrev pub not_joined : File × ℕ × RowCause → Refusal
+not_joined at = refusal at.0 (Row at.2) at.1
+
+-- a line of the journal that names a leg or an aircraft that is not there
+abbrev pub not_known : ℕ → Refusal
+not_known line = refusal file.Journal (Row Unknown) line
+
+-- a cause by its name
+abbrev pub cause_name : Cause → List ℕ
+cause_name Form = codes "Form"
+cause_name (Row cause) = row_cause_name cause
+
+-- ---- the rows of the files
+
+-- the rows that were read so far
+pub record Rows : Type 0 where
+  pub files : Files
+  pub journal : List JournalRow
+
+-- before any file is read
+abbrev pub no_rows : Rows
+no_rows = record {
+  files = record {
+    config = record { from = record { 0 = 0 }; to = record { 0 = 0 }; line = 0 };
+    flights = [];
+    rotations = [];
+    aircraft = [];
+    airports = [];
+    dist = [];
+    itineraries = [];
+    position = [];
+    tariff = record { rows = [] };
+  };
+  journal = [];
+}
+
+-- the most bytes of a text file, and of the journal
+abbrev pub text_limit : ℕ
+text_limit = 67108864
+
+abbrev pub byte_limit : File → ℕ
+byte_limit file.Journal = 268435456
+byte_limit other = text_limit
+
+-- why a file with more bytes is refused
+abbrev pub too_long : File → Cause
+too_long file.Journal = Form
+too_long other = Row Size
+
+-- the rows with those of one file more, by its grammar; a file that has none here changes nothing
+unfoldable pub with_rows : File → List ℕ → Rows → Result Rows (ℕ × Cause)
+with_rows file.Config bytes rows = do
+  config ← or_refused in_text (config_of bytes)
+  Ok (record rows { files = record rows.files { config = config } })
+with_rows file.Flights bytes rows = do
+  flights ← or_refused in_text (text_rows text_limit flight_row bytes)
+  Ok (record rows { files = record rows.files { flights = flights } })
+with_rows file.Rotations bytes rows = do
+  rotations ← or_refused in_text (text_rows text_limit rotation_row bytes)
+  Ok (record rows { files = record rows.files { rotations = rotations } })
+with_rows file.Aircraft bytes rows = do
+  aircraft ← or_refused in_text (text_rows text_limit aircraft_row bytes)
+  Ok (record rows { files = record rows.files { aircraft = aircraft } })
+with_rows file.Airports bytes rows = do
+  airports ← or_refused in_text (text_rows text_limit airport_row bytes)
+  Ok (record rows { files = record rows.files { airports = airports } })
+with_rows file.Dist bytes rows = do
+  dist ← or_refused in_text (text_rows text_limit dist_row bytes)
+  Ok (record rows { files = record rows.files { dist = dist } })
+with_rows file.Itineraries bytes rows = do
+  itineraries ← or_refused in_text (text_rows text_limit itinerary_row bytes)
+  Ok (record rows { files = record rows.files { itineraries = itineraries } })
+with_rows file.Position bytes rows = do
+  position ← or_refused in_text (text_rows text_limit position_row bytes)
+  Ok (record rows { files = record rows.files { position = position } })
+with_rows file.Tariff bytes rows = do
+  tariff ← or_refused in_text (tariff_rows bytes)
+  Ok (record rows { files = record rows.files { tariff = record { rows = tariff } } })
+with_rows file.Journal bytes rows = do
+  journal ← or_refused not_in_form (moves_of bytes)
+  Ok (record rows { journal = journal })
+with_rows other bytes rows = Ok rows
+
+-- the same for a file of any length: one of too many bytes is refused at line 0, whatever they are
+abbrev pub within_limit : File → List ℕ → Result Rows (ℕ × Cause) → Result Rows (ℕ × Cause)
+within_limit f bytes read = if nat_lt (byte_limit f) (length bytes) then Err (0, too_long f) else read
+
+unfoldable pub read_as : File → List ℕ → Rows → Result Rows Refusal
+read_as f bytes rows = or_refused (in_file f) (within_limit f bytes (with_rows f bytes rows))
+
+-- the rows with those of these files: each file is decided before the next one is looked at
+unfoldable pub read_all : List File → Inputs → Rows → Result Rows Refusal
+read_all [] x rows = Ok rows
+read_all (f ∷ files) x rows = read_as f (x f) rows >>= read_all files x
+
+-- the rows of all files, or the first refusal by a grammar
+abbrev pub rows_of : Inputs → Result Rows Refusal
+rows_of x = read_all replay_files x no_rows
+
+-- ---- the story
+
+-- a day, and the events that are taken on it in order, each with its caller
+pub record Story : Type 0 where
+  pub day : Situation
+  pub events : List (ℕ × Event)
+
+-- the files are joined, and then the journal
+unfoldable pub story_of_rows : Rows → Result Story Refusal
+story_of_rows rows = do
+  day ← or_refused not_joined (joined rows.files)
+  events ← or_refused not_known (events_of day rows.journal)
+  Ok (record { day = day; events = events })
+
+-- the grammar of each file comes before the join of any
+unfoldable pub story_of : Inputs → Result Story Refusal
+story_of x = rows_of x >>= story_of_rows

@@ -1,0 +1,105 @@
+//! Why there is no story, and why a file gave no rows.
+
+ghost use Rattle.std.specs.Prelude.{◌≡◌};
+ghost use Rattle.desk_story.specs.declared.fault.StoryFault.TheVariants as fault;
+ghost use Rattle.desk_story.specs.declared.fault.FileFault.TheVariants as of_file;
+ghost use Rattle.desk_story.specs.Faults.{row_fault, form_fault, build_fault, join_fault, file_fault};
+
+use crate::refusal::{Cause, Refusal};
+use desk_build::BuildFault;
+use desk_folder::File;
+use desk_text::{Cause as RowCause, ReadFault};
+use early_form::FormFault;
+use early_join::JoinFault;
+
+/// Why the input gave no story.
+#[derive(Clone, Copy, Debug, PartialEq, Eq)]
+pub enum StoryFault {
+    /// The input is refused.
+    Refused(Refusal),
+    /// A file could not be read: its count of failed reads rose.
+    ReadFault(File),
+    /// No memory could be had.
+    Memory,
+}
+
+/// Why the bytes of a file gave no rows.
+#[derive(Clone, Copy, Debug, PartialEq, Eq)]
+pub(crate) enum FileFault {
+    /// This line is refused.
+    Refused { line: u32, cause: Cause },
+    /// No memory could be had.
+    Memory,
+}
+
+impl FileFault {
+    /// The same, told of this file.
+    pub(crate) fn of(self, file: File) -> StoryFault
+        ensures { result ≡ file_fault file self }
+    {
+        match self {
+            FileFault::Refused { line, cause } => {
+                StoryFault::Refused(Refusal { file, line, cause })
+            }
+            FileFault::Memory => StoryFault::Memory,
+        }
+    }
+}
+
+impl From<ReadFault> for FileFault {
+    ghost from_gives = { λ fault e. e ≡ row_fault fault };
+
+    fn from(fault: ReadFault) -> FileFault {
+        match fault {
+            ReadFault::Refused { line, cause } => FileFault::Refused {
+                line,
+                cause: Cause::Row(cause),
+            },
+            ReadFault::Memory => FileFault::Memory,
+        }
+    }
+}
+
+impl From<FormFault> for FileFault {
+    ghost from_gives = { λ fault e. e ≡ form_fault fault };
+
+    fn from(fault: FormFault) -> FileFault {
+        match fault {
+            FormFault::Form { line } => FileFault::Refused {
+                line,
+                cause: Cause::Form,
+            },
+            FormFault::Memory => FileFault::Memory,
+        }
+    }
+}
+
+impl From<BuildFault> for StoryFault {
+    ghost from_gives = { λ fault e. e ≡ build_fault fault };
+
+    fn from(fault: BuildFault) -> StoryFault {
+        match fault {
+            BuildFault::Refused { file, line, cause } => StoryFault::Refused(Refusal {
+                file,
+                line,
+                cause: Cause::Row(cause),
+            }),
+            BuildFault::Memory => StoryFault::Memory,
+        }
+    }
+}
+
+impl From<JoinFault> for StoryFault {
+    ghost from_gives = { λ fault e. e ≡ join_fault fault };
+
+    fn from(fault: JoinFault) -> StoryFault {
+        match fault {
+            JoinFault::Unknown { line } => StoryFault::Refused(Refusal {
+                file: File::Journal,
+                line,
+                cause: Cause::Row(RowCause::Unknown),
+            }),
+            JoinFault::Memory => StoryFault::Memory,
+        }
+    }
+}

@@ -1,0 +1,131 @@
+//! Reading the input files, one after another.
+
+ghost use Rattle.std.specs.Prelude.{◌≡◌, ℕ, true, List, [], ◌∷◌, ◌≤◌, Some, MatchOption, IfOk, OnOk, IfErr, IsTrue};
+ghost use Rattle.desk_folder.specs.declared.files.File.{File as AnyFile};
+ghost use Rattle.desk_folder.specs.Outside.{ReadsOnly};
+ghost use Rattle.desk_story.specs.Inputs.{Inputs, is_among, are_in_order, Tells};
+ghost use Rattle.desk_story.specs.Story.{byte_limit, too_long, read_as, read_all};
+ghost use Rattle.desk_story.specs.Reading.{IsRead, ReadsAmong, GivesRead, HasReadCause};
+ghost use Rattle.desk_story.specs.Facts.{rows_in, AreInputRows};
+
+use crate::fault::StoryFault;
+use crate::refusal::{Cause, Refusal};
+use crate::rows::InputRows;
+use desk_folder::{File, Folder};
+use desk_text::Cause as RowCause;
+use folder_io::{ReadEnd, read_file};
+use std::alloc::Global;
+
+/// The files that `replay` reads, in file order.
+pub const REPLAY_FILES: [File; 10] = [
+    File::Config,
+    File::Flights,
+    File::Rotations,
+    File::Aircraft,
+    File::Airports,
+    File::Dist,
+    File::Itineraries,
+    File::Position,
+    File::Tariff,
+    File::Journal,
+];
+
+/// The most bytes of a text file.
+const TEXT_LIMIT: u32 = 67_108_864;
+
+/// The most bytes of the journal.
+const JOURNAL_LIMIT: u32 = 268_435_456;
+
+// The most bytes of a file.
+fn byte_limit(file: File) -> u32
+    ensures { result ≡ byte_limit file }
+{
+    match file {
+        File::Journal => JOURNAL_LIMIT,
+        _ => TEXT_LIMIT,
+    }
+}
+
+// Why a file with more bytes is refused.
+fn too_long(file: File) -> Cause
+    ensures { result ≡ too_long file }
+{
+    match file {
+        File::Journal => Cause::Form,
+        _ => Cause::Row(RowCause::Size),
+    }
+}
+
+// The rows with those of one file more, which is read to its end.
+#[tactic(auto, unfolding(crate::specs::Story::read_as))]
+fn read_one<F: Folder>(
+    alloc: Global,
+    folder: &mut F,
+    file: File,
+    mut rows: InputRows,
+) -> Result<InputRows, StoryFault>
+    requires facts { AreInputRows rows }
+    ensures exact { (bytes : List ℕ) → (F.outside folder.old).left file ≡ Some bytes →
+        GivesRead rows_in result (read_as file bytes (rows_in rows)) }
+    ensures read { OnOk result (IsRead (F.outside folder.old) (F.outside folder.new) file) }
+    ensures cause { IfErr result (HasReadCause (file ∷ []) (F.outside folder.old) (F.outside folder.new)) }
+    ensures only { ReadsOnly file (F.outside folder.old) (F.outside folder.new) }
+    ensures kept { (F.outside folder.old).next_faults file ≤ (F.outside folder.new).next_faults file }
+    ensures facts { IfOk result AreInputRows }
+{
+    let bytes = match read_file(alloc, folder, file, byte_limit(file)) {
+        Ok(bytes) => bytes,
+        Err(ReadEnd::Failed) => return Err(StoryFault::ReadFault(file)),
+        Err(ReadEnd::Memory) => return Err(StoryFault::Memory),
+        Err(ReadEnd::Size) => {
+            let cause = too_long(file);
+            return Err(StoryFault::Refused(Refusal {
+                file,
+                line: 0,
+                cause,
+            }));
+        }
+    };
+    match rows.take(alloc, file, bytes.as_slice()) {
+        Ok(()) => Ok(rows),
+        Err(fault) => Err(fault.of(file)),
+    }
+}
+
+// The first file and the others, where there is one.
+fn first_and_others(files: &[File]) -> Option<(File, &[File])>
+    ensures { MatchOption result (files.now ≡ []) (λ p. files.now ≡ p.0 ∷ p.1.now) }
+{
+    match files {
+        [] => None,
+        [file, others @ ..] => Some((*file, others)),
+    }
+}
+
+/// The rows with those of these files, which are read one after another. The first that is refused
+/// ends the reading.
+#[tactic(auto, unfolding(crate::specs::Story::read_all))]
+pub(crate) fn read_files<F: Folder>(
+    alloc: Global,
+    folder: &mut F,
+    files: &[File],
+    rows: InputRows,
+) -> Result<InputRows, StoryFault>
+    requires order { IsTrue (are_in_order files.now) }
+    requires facts { AreInputRows rows }
+    ensures exact { (x : Inputs) → Tells files.now (F.outside folder.old) x →
+        GivesRead rows_in result (read_all files.now x (rows_in rows)) }
+    ensures read { OnOk result ((f : AnyFile) → is_among f files.now ≡ true → IsRead (F.outside folder.old) (F.outside folder.new) f) }
+    ensures cause { IfErr result (HasReadCause files.now (F.outside folder.old) (F.outside folder.new)) }
+    ensures only { ReadsAmong files.now (F.outside folder.old) (F.outside folder.new) }
+    ensures facts { IfOk result AreInputRows }
+{
+    let Some((file, others)) = first_and_others(files) else {
+        return Ok(rows);
+    };
+    let rows = match read_one(alloc, folder, file, rows) {
+        Ok(rows) => rows,
+        Err(fault) => return Err(fault),
+    };
+    read_files(alloc, folder, others, rows)
+}

@@ -1,0 +1,82 @@
+//! The rows of the input files, taken file by file.
+
+ghost use Rattle.std.specs.Prelude.{◌≡◌, ◌<◌, ◌^◌, length, OnOk};
+ghost use Rattle.desk_story.specs.Story.{no_rows, with_rows};
+ghost use Rattle.desk_story.specs.Facts.{rows_in, AreInputRows};
+ghost use Rattle.desk_story.specs.Faults.{GivesRows};
+
+use crate::fault::FileFault;
+use desk_build::Files;
+use desk_folder::File;
+use desk_units::{List, Minute, Tariff};
+use early_form::{JournalRow, read_journal};
+use read_fleet::{read_aircraft, read_position};
+use read_legs::{read_flights, read_rotations};
+use read_net::{Window, read_airports, read_config, read_dist};
+use read_pax::read_itineraries;
+use read_tariff::read_tariff;
+use std::alloc::Global;
+
+/// The rows of the input files that were read so far.
+#[derive(Drop)]
+pub(crate) struct InputRows {
+    pub files: Files,
+    /// The proposed moves of journal.csv.
+    pub journal: Vec<JournalRow>,
+}
+
+impl InputRows {
+    /// Before any file is read: no rows, and a window of no length.
+    pub(crate) fn new(alloc: Global) -> InputRows
+        ensures rows { rows_in result ≡ no_rows }
+        ensures facts { AreInputRows result }
+    {
+        let config = Window {
+            from: Minute(0),
+            to: Minute(0),
+            line: 0,
+        };
+        InputRows {
+            files: Files {
+                config,
+                flights: List(Vec::new(alloc)),
+                rotations: List(Vec::new(alloc)),
+                aircraft: List(Vec::new(alloc)),
+                airports: List(Vec::new(alloc)),
+                dist: List(Vec::new(alloc)),
+                itineraries: List(Vec::new(alloc)),
+                position: List(Vec::new(alloc)),
+                tariff: Tariff {
+                    rows: List(Vec::new(alloc)),
+                },
+            },
+            journal: Vec::new(alloc),
+        }
+    }
+
+    /// Takes the rows of a file from its bytes, by its grammar, or tells the first line that it
+    /// refuses. A file that has no grammar here changes nothing.
+    #[tactic(auto, unfolding(crate::specs::Story::with_rows))]
+    pub(crate) fn take(&mut self, alloc: Global, file: File, bytes: &[u8]) -> Result<(), FileFault>
+        requires facts { AreInputRows self.old }
+        requires small { length bytes.now < 2 ^ 32 }
+        ensures exact { GivesRows result (with_rows file bytes.now (rows_in self.old)) (rows_in self.new) }
+        ensures facts { OnOk result (AreInputRows self.new) }
+    {
+        let files = &mut self.files;
+        match file {
+            File::Config => files.config = read_config(bytes)?,
+            File::Flights => files.flights = List(read_flights(alloc, bytes)?),
+            File::Rotations => files.rotations = List(read_rotations(alloc, bytes)?),
+            File::Aircraft => files.aircraft = List(read_aircraft(alloc, bytes)?),
+            File::Airports => files.airports = List(read_airports(alloc, bytes)?),
+            File::Dist => files.dist = List(read_dist(alloc, bytes)?),
+            File::Itineraries => files.itineraries = List(read_itineraries(alloc, bytes)?),
+            File::Position => files.position = List(read_position(alloc, bytes)?),
+            File::Tariff => files.tariff = read_tariff(alloc, bytes)?,
+            File::Journal => self.journal = read_journal(alloc, bytes)?,
+            _ => {}
+        }
+        Ok(())
+    }
+}

@@ -1,0 +1,58 @@
+//! The day and the events that the input files tell.
+
+ghost use Rattle.std.specs.Prelude.{◌≡◌, true, IfOk, OnOk, IfErr};
+ghost use Rattle.desk_folder.specs.declared.files.File.{File as AnyFile};
+ghost use Rattle.desk_story.specs.Inputs.{Inputs, is_among, replay_files, Tells};
+ghost use Rattle.desk_story.specs.Story.{story_of_rows, story_of};
+ghost use Rattle.desk_story.specs.Reading.{IsRead, ReadsAmong, GivesRead, GivesStory, HasReadCause, NeedsNoFault};
+ghost use Rattle.desk_story.specs.Facts.{rows_in, AreInputRows, story_in, CanBeRun};
+
+use crate::fault::StoryFault;
+use crate::files::{REPLAY_FILES, read_files};
+use crate::rows::InputRows;
+use desk_build::{Built, build};
+use desk_data::Instance;
+use desk_folder::Folder;
+use desk_model::Event;
+use early_join::join_journal;
+use std::alloc::Global;
+
+/// A day, and the events that are taken on it, each with its caller.
+#[derive(Drop)]
+pub struct InputStory {
+    /// The joined day, with no orders yet.
+    pub inst: Instance,
+    /// The recorded events in their order, each with its caller from 0 to 64.
+    pub events: Vec<(u32, Event)>,
+}
+
+// Joins the rows, and then the journal.
+#[tactic(auto, unfolding(crate::specs::Story::story_of_rows))]
+fn joined_story(alloc: Global, rows: &InputRows) -> Result<InputStory, StoryFault>
+    requires { AreInputRows rows.now }
+    ensures exact { GivesRead story_in result (story_of_rows (rows_in rows.now)) }
+    ensures runs { IfOk result CanBeRun }
+    ensures cause { IfErr result NeedsNoFault }
+{
+    let Built { inst } = build(alloc, &rows.files)?;
+    let events = join_journal(alloc, &inst, rows.journal.as_slice())?;
+    Ok(InputStory { inst, events })
+}
+
+/// Reads the files of `replay` in file order and joins their rows: each file's grammar is decided
+/// before the next file is read, and all of them before any name is looked up.
+///
+/// # Errors
+/// `Refused` with the first refusal of the input; `ReadFault` only where the count of failed reads of
+/// that file rose, and no file before it is refused by its grammar; `Memory` at any time.
+#[tactic(auto, unfolding(crate::specs::Story::story_of))]
+pub fn read_story<F: Folder>(alloc: Global, folder: &mut F) -> Result<InputStory, StoryFault>
+    ensures exact { (x : Inputs) → Tells replay_files (F.outside folder.old) x → GivesStory story_in result x (story_of x) }
+    ensures read { OnOk result ((f : AnyFile) → is_among f replay_files ≡ true → IsRead (F.outside folder.old) (F.outside folder.new) f) }
+    ensures cause { IfErr result (HasReadCause replay_files (F.outside folder.old) (F.outside folder.new)) }
+    ensures only { ReadsAmong replay_files (F.outside folder.old) (F.outside folder.new) }
+    ensures runs { IfOk result CanBeRun }
+{
+    let rows = read_files(alloc, folder, &REPLAY_FILES, InputRows::new(alloc))?;
+    joined_story(alloc, &rows)
+}
