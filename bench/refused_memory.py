@@ -13,7 +13,7 @@ import sys
 import tempfile
 
 HERE = os.path.dirname(os.path.abspath(__file__))
-PROGRAM = os.path.join(os.path.dirname(HERE), "crates", "desk_top", "out", "desk_top")
+PROGRAM = os.path.join(os.path.dirname(HERE), "crates", "desk", "out", "desk")
 TESTS = PROGRAM + "_tests"
 TEST = "tests::want_of_memory_gives_status_6_or_the_runs_own"
 DAY = os.path.join(os.path.dirname(HERE), "examples", "day")
