@@ -5,7 +5,7 @@
 #![tactic(auto)]
 
 use desk_data::NoMem;
-use desk_folder::{FolderFault, FreeGate, HostFolder, HostSink};
+use desk_folder::{File, FreeGate, HostFolder, HostSink};
 use desk_top::desk_main;
 use folder_io::put_report;
 use std::alloc::Global;
@@ -36,21 +36,29 @@ fn words_of<R: Env + Alloc<A = Global>>(rt: &R) -> Result<Vec<String>, NoMem> {
     Ok(words)
 }
 
-// The status of a run that was done, after what an earlier run wrote is emptied where this one has
-// written nothing.
-fn settled<R: Files + Drop, P: Print + Drop>(
-    alloc: Global,
-    status: u8,
-    folder: &mut HostFolder<R>,
-    out: &mut HostSink<P>,
-) -> u8 {
-    match folder.settle(alloc) {
-        Ok(()) => status,
-        Err(FolderFault::Failed) => {
-            let _ = put_report(alloc, out, b"write fault sol_rotations.csv\n");
-            5
+// The files that the command of these words may write.
+fn outputs_of(words: &[String]) -> &'static [File] {
+    match words {
+        [word, ..] if word.as_str() == "replay" => {
+            &[File::SolRotations, File::SolItineraries, File::Journal]
         }
-        Err(FolderFault::Memory) => out_of_memory(alloc, out),
+        _ => &[],
+    }
+}
+
+// Empties what an earlier run left in these files, where this run has written none of them, so that
+// nobody takes it for this run's. A file that can't be emptied is told on standard error.
+fn settle<R: Files + Drop>(
+    rt: &impl Eprint,
+    alloc: Global,
+    folder: &mut HostFolder<R>,
+    outputs: &[File],
+) {
+    for file in outputs {
+        if !folder.settle(alloc, *file) {
+            let _ = rt.eprint("desk: warning: what an earlier run left can't be emptied: ");
+            let _ = rt.eprintln(file.name());
+        }
     }
 }
 
@@ -62,14 +70,16 @@ fn out_of_memory<P: Print + Drop>(alloc: Global, out: &mut HostSink<P>) -> u8 {
 
 fn main(rt: HostRuntime) -> ExitCode {
     let alloc = rt.alloc();
-    let mut folder = HostFolder::new(rt, alloc);
     let mut out = HostSink::new(rt);
     let Ok(words) = words_of(&rt) else {
         return ExitCode::from(out_of_memory(alloc, &mut out));
     };
+    let outputs = outputs_of(words.as_slice());
+    let mut folder = HostFolder::new(rt, alloc).with_outputs(outputs);
     let status = desk_main(alloc, words.as_slice(), &mut folder, &mut out, &FreeGate);
-    if status > 1 {
-        return ExitCode::from(status);
+    // a run that was refused has read, and touches nothing
+    if !matches!(status, 2..=4) {
+        settle(&rt, alloc, &mut folder, outputs);
     }
-    ExitCode::from(settled(alloc, status, &mut folder, &mut out))
+    ExitCode::from(status)
 }

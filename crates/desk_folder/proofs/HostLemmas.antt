@@ -1,10 +1,10 @@
 -- A call of the host's folder changes no more than its directories and counts.
-use Rattle.std.proofs.Common.{◌≡◌, ◌≢◌, ℕ, ◌<◌, ◌≤◌, List, [], ◌∷◌, Bool, Result, Ok, Err, IfOk, length, slice_index, refl, arith}
+use Rattle.std.proofs.Common.{◌≡◌, ◌≢◌, ℕ, ◌<◌, ◌≤◌, List, [], ◌∷◌, Result, Ok, Err, IfOk, length, slice_index, refl, arith}
 use Rattle.std.specs.Io.{ReadsAtMost}
 use Rattle.desk_folder.specs.Calls.{Counts, Places, PutAppends, Puts, Takes}
 use Rattle.desk_folder.specs.Files.{file_number}
 use Rattle.desk_folder.specs.Outside.{Directories}
-use Rattle.desk_folder.specs.Host.{HostSide, host_outside}
+use Rattle.desk_folder.specs.Host.{host_outside}
 use Rattle.desk_folder.specs.declared.faults.FolderFault.{FolderFault}
 use Rattle.desk_folder.specs.declared.faults.FolderFault.TheVariants.{Failed, Memory}
 use Rattle.desk_folder.specs.declared.files.File.{File}
@@ -25,10 +25,10 @@ puts-untold (Ok n) piece = tt
 puts-untold (Err Failed) piece = (0, tt)
 puts-untold (Err Memory) piece = tt
 
-pub Takes-untold : (named : Directories) (was is : Bool) (place : ℕ) (next nexts put : List ℕ) (file : File) (buffer : List ℕ) (answer : Result ℕ FolderFault) → ReadsAtMost answer buffer
+pub Takes-untold : (named : Directories) (next nexts put : List ℕ) (file : File) (buffer : List ℕ) (answer : Result ℕ FolderFault) → ReadsAtMost answer buffer
     → Counts (slice_index next (file_number file)) (slice_index nexts (file_number file)) answer → OthersStay file next nexts
-    → Takes (host_outside (record { directories = named; emptied = was; place = place; next = next; put = put })) (host_outside (record { directories = named; emptied = is; place = place; next = nexts; put = put })) file buffer answer
-Takes-untold named was is place next nexts put file buffer answer fits faults others = record {
+    → Takes (host_outside (record { directories = named; next = next; put = put })) (host_outside (record { directories = named; next = nexts; put = put })) file buffer answer
+Takes-untold named next nexts put file buffer answer fits faults others = record {
   fits = fits;
   bytes = reads-untold answer buffer;
   faults = faults;
@@ -42,10 +42,10 @@ Takes-untold named was is place next nexts put file buffer answer fits faults ot
   };
 }
 
-pub Puts-untold : (named : Directories) (was is : Bool) (place : ℕ) (next put puts : List ℕ) (file : File) (piece : List ℕ) (answer : Result ℕ FolderFault) → IfOk answer (λ n. (0 < n) × (n ≤ length piece))
+pub Puts-untold : (named : Directories) (next put puts : List ℕ) (file : File) (piece : List ℕ) (answer : Result ℕ FolderFault) → IfOk answer (λ n. (0 < n) × (n ≤ length piece))
     → Counts (slice_index put (file_number file)) (slice_index puts (file_number file)) answer → OthersStay file put puts
-    → Puts (host_outside (record { directories = named; emptied = was; place = place; next = next; put = put })) (host_outside (record { directories = named; emptied = is; place = place; next = next; put = puts })) file piece answer
-Puts-untold named was is place next put puts file piece answer count faults others = record {
+    → Puts (host_outside (record { directories = named; next = next; put = put })) (host_outside (record { directories = named; next = next; put = puts })) file piece answer
+Puts-untold named next put puts file piece answer count faults others = record {
   count = count;
   bytes = puts-untold answer piece;
   faults = faults;
@@ -59,9 +59,9 @@ Puts-untold named was is place next put puts file piece answer count faults othe
   };
 }
 
-pub Places-untold : (was : Directories) (i o input output : List ℕ) (before now : Bool) (place : ℕ) (next put : List ℕ) → i ≡ input → o ≡ output
-    → Places (host_outside (record { directories = was; emptied = before; place = place; next = next; put = put })) (host_outside (record { directories = record { input = i; output = o }; emptied = now; place = place; next = next; put = put })) input output (Ok tt)
-Places-untold was i o input output before now place next put i_is o_is = record {
+pub Places-untold : (was : Directories) (i o input output next put : List ℕ) → i ≡ input → o ≡ output
+    → Places (host_outside (record { directories = was; next = next; put = put })) (host_outside (record { directories = record { input = i; output = o }; next = next; put = put })) input output (Ok tt)
+Places-untold was i o input output next put i_is o_is = record {
   names = rw (i_is, o_is) refl;
   faults = record { kept = omega arith; rose = λ e. absurd (cc) };
   others = record { left = λ f. refl; written = λ f. refl; next_faults = λ f. refl; put_faults = λ f. refl };

@@ -1,25 +1,22 @@
 -- What the host's folder and sink tell of themselves: the directories, their counts of faults, and no bytes.
-use Rattle.std.specs.Prelude.{◌≡◌, ℕ, Bool, List, [], Some, None, slice_index}
+use Rattle.std.specs.Prelude.{◌≡◌, ℕ, List, [], Some, None, slice_index}
 use Rattle.desk_folder.specs.Files.{file_number}
 use Rattle.desk_folder.specs.Outside.{Directories, Outside, SinkSide}
 use Rattle.desk_folder.specs.declared.files.File.{File}
 
--- the directories last named, whether the output directory was emptied of what an earlier run wrote, and how many
--- calls failed of `place`, and of `next` and `put` for each file by its number
+-- the directories last named, and how many calls of `next` and of `put` failed for each file by its number
 pub record HostSide : Type 0 where
   pub directories : Directories
-  pub emptied : Bool
-  pub place : ℕ
   pub next : List ℕ
   pub put : List ℕ
 
--- the directories and the counts are told, and no bytes
+-- the directories and the counts are told, and no bytes; naming directories never fails
 abbrev pub host_outside : HostSide → Outside
 host_outside h = record {
   directories = Some h.directories;
   left = λ _. None;
   written = λ _. None;
-  place_faults = h.place;
+  place_faults = 0;
   next_faults = λ file. slice_index h.next (file_number file);
   put_faults = λ file. slice_index h.put (file_number file);
 }

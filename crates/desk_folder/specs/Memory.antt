@@ -6,20 +6,23 @@ use Rattle.desk_folder.specs.Files.{file_number}
 use Rattle.desk_folder.specs.Outside.{Directories, Outside}
 use Rattle.desk_folder.specs.declared.files.File.{File}
 
--- how many calls of `next` and `put` were made, and the numbers of those that fail
+-- whether the next call of `place` fails, how many calls of `next` and `put` were made, and the numbers of those that
+-- fail
 pub record CallPlan : Type 0 where
+  pub place_fails : Bool
   pub next_calls : ℕ
   pub put_calls : ℕ
   pub fail_next : List ℕ
   pub fail_put : List ℕ
 
 -- a folder in memory: the directories last named, its input files, and of each file, by its number, how many bytes
--- are taken, what is written, and how many reads and writes failed
+-- are taken, what is written, and how many reads and writes failed, and how many namings did
 pub record MemoryFolder : Type 0 where
   pub directories : Directories
   pub inputs : List (File × List ℕ)
   pub taken : List ℕ
   pub written : List (List ℕ)
+  pub place_faults : ℕ
   pub next_faults : List ℕ
   pub put_faults : List ℕ
   pub calls : CallPlan
@@ -30,7 +33,7 @@ memory_outside m = record {
   directories = Some m.directories;
   left = λ file. Some (drop (slice_index m.taken (file_number file)) (entry_of file m.inputs));
   written = λ file. Some (text_at m.written (file_number file));
-  place_faults = 0;
+  place_faults = m.place_faults;
   next_faults = λ file. slice_index m.next_faults (file_number file);
   put_faults = λ file. slice_index m.put_faults (file_number file);
 }

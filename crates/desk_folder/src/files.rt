@@ -44,6 +44,26 @@ pub enum File {
 /// How many files there are.
 pub const FILES: usize = 16;
 
+/// All files, in file order.
+pub(crate) const IN_ORDER: [File; FILES] = [
+    File::Config,
+    File::Flights,
+    File::Rotations,
+    File::Aircraft,
+    File::Airports,
+    File::Dist,
+    File::Itineraries,
+    File::Position,
+    File::AltFlights,
+    File::AltAircraft,
+    File::AltAirports,
+    File::Tariff,
+    File::Feed,
+    File::Journal,
+    File::SolRotations,
+    File::SolItineraries,
+];
+
 impl File {
     /// The file's name in its directory.
     pub fn name(self) -> &'static str

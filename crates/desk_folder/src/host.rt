@@ -6,7 +6,8 @@ ghost use Rattle.desk_folder.specs.Files.{file_number, is_solution};
 ghost use Rattle.desk_folder.specs.declared.files.File.{File};
 
 use crate::entries::raise;
-use crate::host_files::{empty_outputs, read_some, write_some};
+use crate::files::IN_ORDER;
+use crate::host_files::{empty, read_some, write_some};
 use crate::{FILES, File, Folder, FolderFault, Sink};
 use std::alloc::Global;
 use std::io::Print;
@@ -14,17 +15,21 @@ use std::marker::Model;
 use std::rt::Files;
 
 /// Two directories of the host. Each file is opened at the first call that reads or writes it, and stays
-/// open. A missing `feed.csv` or `journal.csv` reads as empty. The first `put` after `place` makes the
-/// output directory where it is missing, and empties what an earlier run wrote there.
+/// open. A missing `feed.csv` or `journal.csv` reads as empty. The first `put` into a file makes the
+/// output directory where it is missing.
+///
+/// What an earlier run left in the outputs of this one (`with_outputs`) goes, so that nobody takes it for
+/// what this run wrote: the first `put` into a file, before it writes, and `settle` at the end empty each
+/// output that this run has not begun and has not read from there. All other files stay as they are. Where
+/// an output can't be emptied, no `put` into another file fails for that, and `settle` tells it.
 #[derive(Drop)]
 pub struct HostFolder<R: Files + Drop> {
     rt: R,
     input: String,
     output: String,
+    is_output: [bool; FILES],
     sources: [Option<R::File>; FILES],
     targets: [Option<R::File>; FILES],
-    is_emptied: bool,
-    place_faults: u64,
     next_faults: [u64; FILES],
     put_faults: [u64; FILES],
 }
@@ -37,17 +42,16 @@ impl<R: Files + Drop> Model for HostFolder<R> {
 
     ghost view = { λ h. record {
       directories = record { input = string_bytes h.input; output = string_bytes h.output };
-      emptied = h.is_emptied;
-      place = h.place_faults;
       next = h.next_faults;
       put = h.put_faults;
     } };
 }
 
 impl<R: Files + Drop> HostFolder<R> {
-    ghost use Rattle.desk_folder.specs.Host.{TellsNoBytes};
+    ghost use Rattle.std.specs.Prelude.{◌≡◌};
+    ghost use Rattle.desk_folder.specs.Host.{TellsNoBytes, host_outside};
 
-    /// A folder over the host's files, with no directory named.
+    /// A folder over the host's files, with no directory named and no outputs.
     pub fn new(rt: R, alloc: Global) -> HostFolder<R>
         ensures { TellsNoBytes (⟦<HostFolder<R> as Folder>⟧.outside result) }
     {
@@ -55,32 +59,63 @@ impl<R: Files + Drop> HostFolder<R> {
             rt,
             input: String::new(alloc),
             output: String::new(alloc),
+            is_output: [false; FILES],
             sources: closed(),
             targets: closed(),
-            is_emptied: false,
-            place_faults: 0,
             next_faults: [0; FILES],
             put_faults: [0; FILES],
         }
     }
-}
 
-impl<R: Files + Drop> HostFolder<R> {
-    ghost use Rattle.std.specs.Prelude.{IsTrue, OnOk};
-    ghost use Rattle.desk_folder.specs.Host.{host_outside};
+    /// The folder with these outputs: the files that the run may write.
+    pub fn with_outputs(mut self, outputs: &[File]) -> HostFolder<R>
+        ensures { result ≡ self }
+    {
+        self.is_output = marked(outputs);
+        self
+    }
 
-    /// For the end of a run that was done: where it has written nothing, empties what an earlier run
-    /// wrote in the output directory, so that no stale plan is taken for one of this run.
-    pub fn settle(&mut self, alloc: Global) -> Result<(), FolderFault>
-        ensures emptied { OnOk result (IsTrue self.new.emptied) }
+    /// For the end of a run that was not refused: empties what an earlier run left in a file, if that is an
+    /// output that this run has not begun, and answers whether nothing is left. It makes no file and no
+    /// directory. The directories and counts that the folder tells stay as they were.
+    pub fn settle(&mut self, alloc: Global, file: File) -> bool
         ensures told { host_outside self.new ≡ host_outside self.old }
     {
-        if !self.is_emptied {
-            empty_outputs(&self.rt, alloc, self.output.as_str())?;
-            self.is_emptied = true;
-        }
-        Ok(())
+        self.empty_output(alloc, file)
     }
+
+    // Whether an earlier run may have left bytes in a file that are to go: it is an output, and this run
+    // has neither written it nor read it from there.
+    fn is_left_over(&self, file: File) -> bool {
+        let (input, output) = (self.input.as_str(), self.output.as_str());
+        let is_read = self.sources[file.number()].is_some()
+            && source_directory(input, output, file) == output;
+        let is_begun = self.targets[file.number()].is_some();
+        !output.is_empty() && self.is_output[file.number()] && !is_begun && !is_read
+    }
+
+    // Empties an output that an earlier run left, and answers whether nothing is left of it.
+    fn empty_output(&self, alloc: Global, file: File) -> bool {
+        !self.is_left_over(file) || empty(&self.rt, alloc, self.output.as_str(), file)
+    }
+
+    // Empties all outputs that an earlier run left but one. Where one can't be emptied, `settle` tells it.
+    fn empty_others(&self, alloc: Global, file: File) {
+        for other in IN_ORDER {
+            if other != file {
+                self.empty_output(alloc, other);
+            }
+        }
+    }
+}
+
+// Whether each file, by its number, stands in a list.
+fn marked(files: &[File]) -> [bool; FILES] {
+    let mut marks = [false; FILES];
+    for file in files {
+        marks[file.number()] = true;
+    }
+    marks
 }
 
 // No file is open.
@@ -117,7 +152,8 @@ fn source_directory<'a>(input: &'a str, output: &'a str, file: File) -> &'a str
 }
 
 impl<R: Files + Drop> Folder for HostFolder<R> {
-    ghost use Rattle.std.specs.Prelude.{◌<◌, length};
+    ghost use Rattle.std.specs.Prelude.{◌<◌, length, IsOkUnless};
+    ghost use Rattle.desk_folder.specs.declared.faults.FolderFault.TheVariants.{Memory};
     ghost use Rattle.desk_folder.specs.Calls.{CountsFailure, Places, Takes, Puts};
     ghost use Rattle.desk_folder.specs.Host.{host_outside};
 
@@ -125,7 +161,7 @@ impl<R: Files + Drop> Folder for HostFolder<R> {
 
     fn place(&mut self, alloc: Global, input: &str, output: &str) -> Result<(), FolderFault>
         ensures places { Places (host_outside self.old) (host_outside self.new) input.now output.now result }
-        ensures counted { CountsFailure self.old.place self.new.place result }
+        ensures never_fails { IsOkUnless result Memory }
     {
         let input = String::from_str(alloc, input)?;
         let Ok(output) = String::from_str(alloc, output) else {
@@ -135,7 +171,6 @@ impl<R: Files + Drop> Folder for HostFolder<R> {
         self.output = output;
         self.sources = closed();
         self.targets = closed();
-        self.is_emptied = false;
         Ok(())
     }
 
@@ -156,10 +191,12 @@ impl<R: Files + Drop> Folder for HostFolder<R> {
         ensures puts { Puts (host_outside self.old) (host_outside self.new) file piece.now result }
         ensures counted { CountsFailure ((host_outside self.old).put_faults file) ((host_outside self.new).put_faults file) result }
     {
+        if self.targets[file.number()].is_none() {
+            self.empty_others(alloc, file);
+        }
         let target = &mut self.targets[file.number()];
         let directory = self.output.as_str();
-        let emptied = &mut self.is_emptied;
-        let answer = write_some(&self.rt, alloc, target, emptied, directory, file, piece);
+        let answer = write_some(&self.rt, alloc, target, directory, file, piece);
         counted(&mut self.put_faults, file, answer)
     }
 }

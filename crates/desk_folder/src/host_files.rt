@@ -46,51 +46,50 @@ pub(crate) fn read_some<R: Files>(
     }
 }
 
-/// Makes an output directory where it is missing, and empties the output files of an earlier run in it.
-pub(crate) fn empty_outputs<R: Files>(
+/// Empties a file of a directory, where it is there and has bytes, and answers whether it is empty now.
+pub(crate) fn empty<R: Files>(rt: &R, alloc: Global, directory: &str, file: File) -> bool {
+    let Ok(path) = path_of(alloc, directory, file) else {
+        return false;
+    };
+    match fs::metadata(rt, path.as_str()) {
+        Ok(found) if found.is_file() && found.len() == 0 => true,
+        Ok(_) => {
+            let mut options = OpenOptions::new();
+            options.write(true).truncate(true);
+            options.open(rt, path.as_str()).is_ok()
+        }
+        Err(error) => matches!(error.kind(), ErrorKind::NotFound | ErrorKind::NotADirectory),
+    }
+}
+
+// Creates an empty file in a directory, and makes the directory before where it is missing.
+fn create<R: Files>(
     rt: &R,
     alloc: Global,
     directory: &str,
-) -> Result<(), FolderFault> {
+    file: File,
+) -> Result<R::File, FolderFault> {
+    let path = path_of(alloc, directory, file)?;
     if !directory.is_empty() && fs::create_dir_all(rt, directory).is_err() {
         return Err(FolderFault::Failed);
     }
-    for file in [File::Journal, File::SolRotations, File::SolItineraries] {
-        let path = path_of(alloc, directory, file)?;
-        let mut options = OpenOptions::new();
-        options.write(true).truncate(true);
-        match options.open(rt, path.as_str()) {
-            Ok(_) => {}
-            Err(error) if error.kind() == ErrorKind::NotFound => {}
-            Err(_) => return Err(FolderFault::Failed),
-        }
-    }
-    Ok(())
+    fs::create(rt, path.as_str()).map_err(|_| FolderFault::Failed)
 }
 
-/// Writes at least one byte of a piece at the end of a file in an output directory. The first write in a
-/// directory empties the output files of an earlier run, and the first of a file creates it.
+/// Writes at least one byte of a piece at the end of a file in a directory, and creates the file before
+/// where this is the first write.
 pub(crate) fn write_some<R: Files>(
     rt: &R,
     alloc: Global,
     target: &mut Option<R::File>,
-    is_emptied: &mut bool,
     directory: &str,
     file: File,
     piece: &[u8],
 ) -> Result<usize, FolderFault>
     ensures { IfOk result (λ n. (0 < n) × (n ≤ length piece.now)) }
 {
-    if !*is_emptied {
-        empty_outputs(rt, alloc, directory)?;
-        *is_emptied = true;
-    }
     if target.is_none() {
-        let path = path_of(alloc, directory, file)?;
-        match fs::create(rt, path.as_str()) {
-            Ok(created) => *target = Some(created),
-            Err(_) => return Err(FolderFault::Failed),
-        }
+        *target = Some(create(rt, alloc, directory, file)?);
     }
     let Some(created) = target else {
         return Err(FolderFault::Failed);

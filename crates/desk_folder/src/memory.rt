@@ -6,7 +6,8 @@ use std::marker::Model;
 
 /// A folder in memory. It tells its directories, what is left and what is written, takes each piece
 /// whole, and fails the calls of `next` and `put` with the numbers that it was given, counted from 1
-/// over all files. A call that fails takes and writes nothing.
+/// over all files, and the call of `place` behind each `fail_place`. A call that fails names, takes and
+/// writes nothing.
 #[derive(Drop)]
 pub struct MemFolder {
     inputs: Vec<(File, Vec<u8>)>,
@@ -14,10 +15,12 @@ pub struct MemFolder {
     outputs: [Vec<u8>; FILES],
     input: String,
     output: String,
+    place_fails: bool,
     next_calls: u64,
     put_calls: u64,
     fail_next: Vec<u64>,
     fail_put: Vec<u64>,
+    place_faults: u64,
     next_faults: [u64; FILES],
     put_faults: [u64; FILES],
 }
@@ -34,14 +37,15 @@ impl Model for MemFolder {
       inputs = named_texts m.inputs.items;
       taken = m.taken;
       written = texts_of m.outputs;
+      place_faults = m.place_faults;
       next_faults = m.next_faults;
       put_faults = m.put_faults;
-      calls = record { next_calls = m.next_calls; put_calls = m.put_calls; fail_next = m.fail_next.items; fail_put = m.fail_put.items };
+      calls = record { place_fails = m.place_fails; next_calls = m.next_calls; put_calls = m.put_calls; fail_next = m.fail_next.items; fail_put = m.fail_put.items };
     } };
 }
 
 impl MemFolder {
-    ghost use Rattle.std.specs.Prelude.{◌≡◌, Some};
+    ghost use Rattle.std.specs.Prelude.{◌≡◌, Some, true, false};
     ghost use Rattle.desk_folder.specs.Entries.{named_texts};
     ghost use Rattle.desk_folder.specs.Memory.{IsNew, memory_outside};
 
@@ -49,7 +53,7 @@ impl MemFolder {
     /// empty. The calls of `next` and of `put` with the listed numbers will fail.
     pub fn new(inputs: Vec<(File, Vec<u8>)>, fail_next: Vec<u64>, fail_put: Vec<u64>) -> MemFolder
         ensures outside { IsNew (named_texts inputs.items) (memory_outside result) }
-        ensures calls { result.calls ≡ record { next_calls = 0; put_calls = 0; fail_next = fail_next.items; fail_put = fail_put.items } }
+        ensures calls { result.calls ≡ record { place_fails = false; next_calls = 0; put_calls = 0; fail_next = fail_next.items; fail_put = fail_put.items } }
     {
         let alloc = *inputs.allocator();
         MemFolder {
@@ -75,13 +79,22 @@ impl MemFolder {
             ],
             input: String::new(alloc),
             output: String::new(alloc),
+            place_fails: false,
             next_calls: 0,
             put_calls: 0,
             fail_next,
             fail_put,
+            place_faults: 0,
             next_faults: [0; FILES],
             put_faults: [0; FILES],
         }
+    }
+
+    /// Makes the next call of `place` fail.
+    pub fn fail_place(&mut self)
+        ensures { self.new ≡ record self.old { calls = record self.old.calls { place_fails = true } } }
+    {
+        self.place_fails = true;
     }
 
     /// The bytes written to a file so far.
@@ -93,7 +106,7 @@ impl MemFolder {
 }
 
 impl Folder for MemFolder {
-    ghost use Rattle.std.specs.Prelude.{◌≡◌, ◌<◌, length, IsOk, IsOkUnless, OnErr};
+    ghost use Rattle.std.specs.Prelude.{◌≡◌, ◌<◌, length, false, IsOk, IsOkUnless, OnErr};
     ghost use Rattle.std.specs.Bool.{MatchBool};
     ghost use Rattle.desk_folder.specs.declared.faults.FolderFault.TheVariants.{Failed, Memory};
     ghost use Rattle.desk_folder.specs.Calls.{CountsFailure, Places, Takes, Puts};
@@ -103,10 +116,15 @@ impl Folder for MemFolder {
 
     fn place(&mut self, alloc: Global, input: &str, output: &str) -> Result<(), FolderFault>
         ensures places { Places (memory_outside self.old) (memory_outside self.new) input.now output.now result }
-        ensures calls { self.new.calls ≡ self.old.calls }
-        ensures never_fails { IsOkUnless result Memory }
+        ensures calls { self.new.calls ≡ record self.old.calls { place_fails = false } }
+        ensures fails { MatchBool self.old.calls.place_fails (result ≡ Err Failed) (IsOkUnless result Memory) }
         ensures counted { CountsFailure (memory_outside self.old).place_faults (memory_outside self.new).place_faults result }
     {
+        if self.place_fails {
+            self.place_fails = false;
+            self.place_faults = self.place_faults.saturating_add(1);
+            return Err(FolderFault::Failed);
+        }
         let input = String::from_str(alloc, input)?;
         let output = String::from_str(alloc, output)?;
         self.input = input;

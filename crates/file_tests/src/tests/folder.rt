@@ -5,6 +5,7 @@ use desk_folder::{File, Folder, FolderFault, HostFolder, HostSink, MemFolder, Me
 use std::alloc::Global;
 use std::fs;
 use std::process::Abort;
+use std::rt::Files;
 use std::test::Fail;
 
 /// Each row is a call of `next`, with a buffer of four bytes, and the bytes that it gives.
@@ -96,6 +97,16 @@ fn a_sink_keeps_what_is_put(rt: HostRuntime) -> Result<(), Fail> {
 }
 
 #[test]
+fn a_folder_in_memory_fails_the_next_naming(rt: HostRuntime) -> Result<(), Fail> {
+    let alloc = rt.alloc();
+    let mut folder = MemFolder::new(Vec::new(alloc), Vec::new(alloc), Vec::new(alloc));
+    folder.fail_place();
+    assert_eq!(rt; folder.place(alloc, "in", "out"), Err(Failed));
+    assert_eq!(rt; folder.place(alloc, "in", "out"), Ok(()));
+    Ok(())
+}
+
+#[test]
 fn the_host_reads_what_it_wrote(rt: HostRuntime) -> Result<(), Fail> {
     let (outer, inner) = ("folder_of_a_test", "folder_of_a_test/out");
     let first = [
@@ -120,11 +131,158 @@ fn the_host_reads_what_it_wrote(rt: HostRuntime) -> Result<(), Fail> {
         (inner, journal.as_slice(), second.as_slice()),
         (inner, emptied.as_slice(), [].as_slice()),
     ] {
-        let mut folder = HostFolder::new(rt, rt.alloc());
-        folder.place(rt.alloc(), input, inner)?;
+        let mut folder = folder_of(rt, input, inner)?;
         reads(&rt, rt.alloc(), &mut folder, before);
         puts(&rt, rt.alloc(), &mut folder, after);
     }
     fs::remove_dir_all(&rt, outer)?;
+    Ok(())
+}
+
+/// A directory of a test, with an old text in each of these files.
+fn old_files<R: Files + Alloc<A = Global>>(
+    rt: &R,
+    directory: &str,
+    files: &[File],
+) -> Result<(), Fail> {
+    fs::create_dir_all(rt, directory)?;
+    for file in files {
+        let path = format!(in rt.alloc(); "{directory}/{file}")?;
+        fs::write(rt, path.as_str(), "old\n")?;
+    }
+    Ok(())
+}
+
+/// Each row is a file of a directory and its text, none where there is no such file.
+fn holds<R: Abort + Files + Alloc<A = Global>>(
+    rt: &R,
+    directory: &str,
+    rows: &[(File, Option<&str>)],
+) -> Result<(), Fail> {
+    for (file, want) in rows {
+        let path = format!(in rt.alloc(); "{directory}/{file}")?;
+        let text = fs::read_to_string(rt, path.as_str()).ok();
+        assert_eq!(rt; text.as_deref(), *want, "{file}");
+    }
+    Ok(())
+}
+
+/// A folder whose outputs are three files.
+fn folder_of(rt: HostRuntime, input: &str, output: &str) -> Result<HostFolder<HostRuntime>, Fail> {
+    let outputs = [File::SolRotations, File::SolItineraries, File::Journal];
+    let mut folder = HostFolder::new(rt, rt.alloc()).with_outputs(&outputs);
+    folder.place(rt.alloc(), input, output)?;
+    Ok(folder)
+}
+
+#[test]
+fn the_first_put_empties_the_outputs_of_an_earlier_run(rt: HostRuntime) -> Result<(), Fail> {
+    let directory = "emptied_by_put";
+    old_files(
+        &rt,
+        directory,
+        &[File::SolRotations, File::Journal, File::Position],
+    )?;
+    let mut folder = folder_of(rt, "other", directory)?;
+    puts(
+        &rt,
+        rt.alloc(),
+        &mut folder,
+        &[(File::SolRotations, "a\n", Ok(2))],
+    );
+    let after = [
+        (File::SolRotations, Some("a\n")),
+        (File::SolItineraries, None),
+        (File::Journal, Some("")),
+        (File::Position, Some("old\n")),
+    ];
+    holds(&rt, directory, &after)?;
+    fs::remove_dir_all(&rt, directory)?;
+    Ok(())
+}
+
+#[test]
+fn a_run_that_writes_nothing_is_settled(rt: HostRuntime) -> Result<(), Fail> {
+    let directory = "emptied_at_the_end";
+    old_files(
+        &rt,
+        directory,
+        &[File::SolRotations, File::Journal, File::Position],
+    )?;
+    let mut folder = folder_of(rt, "other", directory)?;
+    for file in [
+        File::SolRotations,
+        File::SolItineraries,
+        File::Journal,
+        File::Position,
+    ] {
+        assert!(rt; folder.settle(rt.alloc(), file), "{file}");
+    }
+    let after = [
+        (File::SolRotations, Some("")),
+        (File::SolItineraries, None),
+        (File::Journal, Some("")),
+        (File::Position, Some("old\n")),
+    ];
+    holds(&rt, directory, &after)?;
+    fs::remove_dir_all(&rt, directory)?;
+    let mut folder = folder_of(rt, "other", directory)?;
+    assert!(rt; folder.settle(rt.alloc(), File::SolRotations));
+    assert!(rt; fs::metadata(&rt, directory).is_err());
+    Ok(())
+}
+
+#[test]
+fn an_output_that_cannot_be_emptied_fails_no_other(rt: HostRuntime) -> Result<(), Fail> {
+    let directory = "not_emptied";
+    old_files(&rt, directory, &[File::Journal])?;
+    fs::create_dir_all(&rt, "not_emptied/sol_itineraries.csv")?;
+    let mut folder = folder_of(rt, "other", directory)?;
+    let rows = [
+        (File::SolRotations, "a\n", Ok(2)),
+        (File::SolItineraries, "b\n", Err(Failed)),
+    ];
+    puts(&rt, rt.alloc(), &mut folder, &rows);
+    for (file, is_settled) in [
+        (File::SolRotations, true),
+        (File::SolItineraries, false),
+        (File::Journal, true),
+    ] {
+        assert_eq!(rt; folder.settle(rt.alloc(), file), is_settled, "{file}");
+    }
+    holds(
+        &rt,
+        directory,
+        &[(File::SolRotations, Some("a\n")), (File::Journal, Some(""))],
+    )?;
+    fs::remove_dir_all(&rt, directory)?;
+    Ok(())
+}
+
+#[test]
+fn an_output_that_was_read_is_not_emptied(rt: HostRuntime) -> Result<(), Fail> {
+    let directory = "read_before";
+    old_files(&rt, directory, &[File::SolRotations, File::Journal])?;
+    let mut folder = folder_of(rt, directory, directory)?;
+    reads(
+        &rt,
+        rt.alloc(),
+        &mut folder,
+        &[(File::Journal, Ok("old\n"))],
+    );
+    puts(
+        &rt,
+        rt.alloc(),
+        &mut folder,
+        &[(File::SolItineraries, "b\n", Ok(2))],
+    );
+    assert!(rt; folder.settle(rt.alloc(), File::Journal));
+    let after = [
+        (File::SolRotations, Some("")),
+        (File::SolItineraries, Some("b\n")),
+        (File::Journal, Some("old\n")),
+    ];
+    holds(&rt, directory, &after)?;
+    fs::remove_dir_all(&rt, directory)?;
     Ok(())
 }

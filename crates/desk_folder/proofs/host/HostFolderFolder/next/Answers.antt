@@ -7,7 +7,7 @@ returns-clause-takes g c =
     let call = c.read_some-answer in
     let faults = c.counted.ensures in
     rw (← c.self.view_is, faults.same)
-    (Takes-untold _ h.is_emptied h.is_emptied h.place_faults h.next_faults c.counted.new.counts h.put_faults c.args.file call.new.into call.result call.ensures faults.counts faults.others)
+    (Takes-untold _ h.next_faults c.counted.new.counts h.put_faults c.args.file call.new.into call.result call.ensures faults.counts faults.others)
 
 pub returns-clause-counted : goal.returns-clause-counted
 returns-clause-counted g c = rw (← c.self.view_is, c.counted.ensures.same) c.counted.ensures.exact
