@@ -1,8 +1,8 @@
 //! The lines of a journal.
 //!
-//! A line is `CALLER,EVENT,DETAIL,REPLY`, ended by LF. In this form of the files names are letters
-//! and digits, so that no field needs quotes; quoting comes with the reader of files whose fields
-//! are separated by commas.
+//! A line is `CALLER,EVENT,DETAIL,REPLY`, ended by LF. The bytes of names are from 0x21 to 0x7e, a
+//! comma among them, and no field has quotes: a line that names something with a comma can't be read
+//! again.
 #![tactic(auto)]
 
 mod answers;
