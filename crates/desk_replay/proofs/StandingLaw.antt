@@ -160,7 +160,7 @@ unread-of words before now code run f other = unread_by (command words) before (
 
 in_order_by : (dirs : Option Directories) (before mid : World) (how : Ending) → EndsBy dirs before mid how → (x : Inputs) → Tells replay_files before.folder x → (r : Refusal) → rows_of x ≡ Err r → StopsAt r.file before.folder mid.folder
 in_order_by None before mid how ends x tells r refused g lt = record { left = ap (λ (o : Outside). o.left g) ends.1.folder; faults = ap (λ (o : Outside). o.next_faults g) ends.1.folder }
-in_order_by (Some dirs) before mid how ends x tells r refused = ends.in_order x tells r refused
+in_order_by (Some dirs) before mid how ends x tells r refused g lt = ends.in_order x tells r refused g lt
 
 pub in-order : (words : List (List ℕ)) (before now : World) (code : ℕ) → Runs words before now code → (x : Inputs) → Tells replay_files before.folder x → (r : Refusal) → rows_of x ≡ Err r → StopsAt r.file before.folder now.folder
 in-order words before now code run x tells r refused = in_order_by (command words) before (record { folder = now.folder; sink = run.sink }) run.how run.ends x tells r refused
