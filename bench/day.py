@@ -23,7 +23,7 @@ import tempfile
 import time
 
 TOP = os.path.dirname(os.path.dirname(os.path.abspath(__file__)))
-PROGRAM = os.path.join(TOP, "crates", "desk_top", "out", "desk_top")
+PROGRAM = os.path.join(TOP, "crates", "desk", "out", "desk")
 # the script `desk` asks for large pages too
 AS_DESK = {**os.environ, "GLIBC_TUNABLES": "glibc.malloc.hugetlb=1"}
 LEGS_OF_AIRCRAFT = 20

@@ -13,8 +13,9 @@ import sys
 import tempfile
 
 HERE = os.path.dirname(os.path.abspath(__file__))
-PROGRAM = os.path.join(os.path.dirname(HERE), "crates", "desk_top", "out", "desk_top")
-TESTS = PROGRAM + "_tests"
+CRATES = os.path.join(os.path.dirname(HERE), "crates")
+PROGRAM = os.path.join(CRATES, "desk", "out", "desk")
+TESTS = os.path.join(CRATES, "desk_top", "out", "desk_top_tests")
 TEST = "tests::want_of_memory_gives_status_6_or_the_runs_own"
 DAY = os.path.join(os.path.dirname(HERE), "examples", "day")
 ROTATIONS = "F1 01/03/08 P1\nF2 01/03/08 P1\nF3 01/03/08 P2\n"

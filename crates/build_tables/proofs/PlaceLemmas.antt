@@ -1,5 +1,5 @@
 -- What stands at the first place that passes a test, and what a table of places keeps.
-use Rattle.std.proofs.Common.{◌≡◌, ℕ, zero, suc, ◌+◌, ◌<◌, ◌≤◌, Bool, true, false, cond, ◌&&◌, inl, inr, not, eqb, ltb, List, [], ◌∷◌, ◌++◌, length, take, get_or, bytes_eq, Option, Some, None, refl, sym, ap, ◌∙◌, arith, Bor}
+use Rattle.std.proofs.Common.{◌≡◌, ℕ, zero, suc, ◌+◌, ◌<◌, ◌≤◌, Bool, true, false, cond, inl, inr, not, eqb, ltb, List, [], ◌∷◌, ◌++◌, length, take, get_or, bytes_eq, Option, Some, None, refl, sym, ap, ◌∙◌, arith, Bor}
 use Rattle.std.specs.Prelude.{find, option_map, option_copied, is_some}
 use Rattle.std.specs.Option.{option_or}
 use Rattle.std.specs.List.{position, position_or_len}
@@ -9,8 +9,11 @@ use Rattle.std.proofs.lemmas.List.{take_more, length-take}
 use Rattle.std.proofs.lemmas.List.Quantifiers.{position-Some}
 use Rattle.std.proofs.lemmas.List.Sums.{fails_before_first}
 use Rattle.std.proofs.lemmas.Slice.Eq.{bytes_eq-Decides}
-use Rattle.std.proofs.Math.Bool.{and_assoc}
-use Rattle.build_tables.specs.Keys.{Key, is_key, key_place}
+use Rattle.build_tables.specs.contracts.places.KeyPartialEq.TheImpl.{eq-value}
+use Rattle.build_tables.specs.declared.places.Key.{Key as Borrowed}
+use Rattle.build_tables.specs.declared.places.Key.TheVariants as borrowed
+use Rattle.build_tables.specs.Found.{seen}
+use Rattle.build_tables.specs.Keys.{Key, named, on_day, between, booked, type_number, is_key, key_place}
 
 -- the first that passes is at the first place that passes
 find_first : {A : Type 0} (p : A → Bool) (xs : List A) (k : ℕ) (x : A) → k < length xs → x ≡ get_or xs k x → p x ≡ true → ((j : ℕ) → j < k → p (get_or xs j x) ≡ false) → find p xs ≡ Some x
@@ -72,15 +75,43 @@ lookup_push : {K X : Type 0} (t : K → Bool) (es : List (K × X)) (k : K) (v : 
 lookup_push t [] k v = refl
 lookup_push t (e ∷ es) k v = ap (cond (t e.0) (Some e.1)) (lookup_push t es k v) ∙ lookup_by (t e.0) e.1 (lookup t es) (cond (t k) (Some v) None)
 
+-- reservations of one type are on one way
+same_type : (a b : Bool) → eqb (type_number a) (type_number b) ≡ true → a ≡ b
+same_type true true h = refl
+same_type false false h = refl
+same_type true false h = absurd (false≢true h)
+same_type false true h = absurd (false≢true h)
+
 -- a key that passes is the same
 pub same_key : (a b : Key) → is_key a b ≡ true → a ≡ b
-same_key a b h =
-    let parts = and_parts (bytes_eq a.0 b.0) (bytes_eq a.1 b.1 && eqb a.2 b.2) h in
-    let others = and_parts (bytes_eq a.1 b.1) (eqb a.2 b.2) parts.1 in
-    let first : a.0 ≡ b.0 = (bytes_eq-Decides a.0 b.0).0 parts.0 in
-    let second : a.1 ≡ b.1 = (bytes_eq-Decides a.1 b.1).0 others.0 in
-    let third : a.2 ≡ b.2 = eqb-true a.2 b.2 others.1 in
-    λ i. (first i, second i, third i)
+same_key (named a) (named b) h = ap named ((bytes_eq-Decides a b).0 h)
+same_key (on_day a n) (on_day b m) h =
+    let parts = and_parts (bytes_eq a b) (eqb n m) h in
+    let first = (bytes_eq-Decides a b).0 parts.0 in
+    let second = eqb-true n m parts.1 in
+    λ i. on_day (first i) (second i)
+same_key (between a c) (between b d) h =
+    let parts = and_parts (bytes_eq a b) (bytes_eq c d) h in
+    let first = (bytes_eq-Decides a b).0 parts.0 in
+    let second = (bytes_eq-Decides c d).0 parts.1 in
+    λ i. between (first i) (second i)
+same_key (booked a n) (booked b m) h =
+    let parts = and_parts (bytes_eq a b) (eqb (type_number n) (type_number m)) h in
+    let first = (bytes_eq-Decides a b).0 parts.0 in
+    let second = same_type n m parts.1 in
+    λ i. booked (first i) (second i)
+same_key (named a) (on_day b m) h = absurd (false≢true h)
+same_key (named a) (between b d) h = absurd (false≢true h)
+same_key (named a) (booked b m) h = absurd (false≢true h)
+same_key (on_day a n) (named b) h = absurd (false≢true h)
+same_key (on_day a n) (between b d) h = absurd (false≢true h)
+same_key (on_day a n) (booked b m) h = absurd (false≢true h)
+same_key (between a c) (named b) h = absurd (false≢true h)
+same_key (between a c) (on_day b m) h = absurd (false≢true h)
+same_key (between a c) (booked b m) h = absurd (false≢true h)
+same_key (booked a n) (named b) h = absurd (false≢true h)
+same_key (booked a n) (on_day b m) h = absurd (false≢true h)
+same_key (booked a n) (between b d) h = absurd (false≢true h)
 
 or_none : {X : Type 0} (o : Option X) → option_or o None ≡ o
 or_none None = refl
@@ -122,15 +153,27 @@ pub not_there : {X : Type 0} (o : Option X) → is_some o ≡ false → o ≡ No
 not_there None h = refl
 not_there (Some x) h = absurd (false≢true (sym h))
 
--- a borrowed key, and whether two are the same
-abbrev pub Borrowed : Type 0
-Borrowed = Bor (List ℕ) × Bor (List ℕ) × ℕ
+-- two keys are the same as borrowed where they are
+same_seen : (a b : Borrowed) → eq-value.it a b ≡ is_key (seen a) (seen b)
+same_seen (borrowed.Named a) (borrowed.Named b) = refl
+same_seen (borrowed.Named a) (borrowed.OnDay b m) = refl
+same_seen (borrowed.Named a) (borrowed.Between b d) = refl
+same_seen (borrowed.Named a) (borrowed.Booked b m) = refl
+same_seen (borrowed.OnDay a n) (borrowed.Named b) = refl
+same_seen (borrowed.OnDay a n) (borrowed.OnDay b m) = refl
+same_seen (borrowed.OnDay a n) (borrowed.Between b d) = refl
+same_seen (borrowed.OnDay a n) (borrowed.Booked b m) = refl
+same_seen (borrowed.Between a c) (borrowed.Named b) = refl
+same_seen (borrowed.Between a c) (borrowed.OnDay b m) = refl
+same_seen (borrowed.Between a c) (borrowed.Between b d) = refl
+same_seen (borrowed.Between a c) (borrowed.Booked b m) = refl
+same_seen (borrowed.Booked a n) (borrowed.Named b) = refl
+same_seen (borrowed.Booked a n) (borrowed.OnDay b m) = refl
+same_seen (borrowed.Booked a n) (borrowed.Between b d) = refl
+same_seen (borrowed.Booked a true) (borrowed.Booked b true) = refl
+same_seen (borrowed.Booked a true) (borrowed.Booked b false) = refl
+same_seen (borrowed.Booked a false) (borrowed.Booked b true) = refl
+same_seen (borrowed.Booked a false) (borrowed.Booked b false) = refl
 
-abbrev pub seen : Borrowed → Key
-seen k = (k.0.now, k.1.now, k.2)
-
-abbrev pub same_borrowed : Borrowed → Borrowed → Bool
-same_borrowed a b = bytes_eq a.0.now b.0.now && bytes_eq a.1.now b.1.now && eqb a.2 b.2
-
-pub lookup_seen : {X : Type 0} (k : Borrowed) (es : List (Borrowed × X)) → lookup (same_borrowed k) es ≡ lookup (λ x. is_key (seen k) (seen x)) es
-lookup_seen k es = ap (λ (t : Borrowed → Bool). lookup t es) (λ i x. and_assoc (bytes_eq k.0.now x.0.now) (bytes_eq k.1.now x.1.now) (eqb k.2 x.2) i)
+pub lookup_seen : {X : Type 0} (k : Borrowed) (es : List (Borrowed × X)) → lookup (eq-value.it k) es ≡ lookup (λ x. is_key (seen k) (seen x)) es
+lookup_seen k es = ap (λ (t : Borrowed → Bool). lookup t es) (λ i x. same_seen k x i)

@@ -1,12 +1,21 @@
 -- What a table of places gives for a key.
 use Rattle.std.specs.Prelude.{◌≡◌, ℕ, List, Option}
 use Rattle.indexmap.specs.IndexMap.{get_by}
+use Rattle.build_tables.specs.declared.places.Key.{Key as Borrowed}
+use Rattle.build_tables.specs.declared.places.Key.TheVariants as borrowed
 use Rattle.build_tables.specs.declared.places.Places.{Places}
-use Rattle.build_tables.specs.Keys.{Key, is_key, key_place}
+use Rattle.build_tables.specs.Keys.{Key, named, on_day, between, booked, is_key, key_place}
+
+-- the key that is borrowed
+abbrev pub seen : Borrowed → Key
+seen (borrowed.Named name) = named name.now
+seen (borrowed.OnDay flight day) = on_day flight.now day
+seen (borrowed.Between origin dest) = between origin.now dest.now
+seen (borrowed.Booked name inbound) = booked name.now inbound
 
 -- the place that is kept for this key
 abbrev pub place_in : Places → Key → Option ℕ
-place_in p key = get_by (λ k. is_key key (k.0.now, k.1.now, k.2)) p.places
+place_in p key = get_by (λ k. is_key key (seen k)) p.places
 
 -- these are the places of these rows by their keys
 abbrev pub ArePlacesOf : {Row : Type 0} → (Row → Key) → List Row → Places → Type 0

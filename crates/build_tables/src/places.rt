@@ -1,24 +1,35 @@
 //! The places of rows, found by the names that they have.
 
 ghost use Rattle.std.specs.Prelude.{◌≡◌, IfOk};
-ghost use Rattle.build_tables.specs.Found.{ArePlacesOf, place_in};
+ghost use Rattle.build_tables.specs.Found.{ArePlacesOf, place_in, seen};
 
-use desk_units::NoMem;
+use desk_units::{List, NoMem};
 use indexmap::IndexMap;
 use std::alloc::Global;
 
-/// What a row is found by: a name, two names, or a name and a number. What is not used is empty, or 0.
-pub(crate) type Key<'a> = (&'a [u8], &'a [u8], u32);
+/// What a row is found by.
+#[derive(Clone, Copy, PartialEq, Eq, Hash)]
+pub(crate) enum Key<'a> {
+    /// A flight, an aircraft or an airport, by its name.
+    Named(&'a [u8]),
+    /// A rotation, by its flight and its day.
+    OnDay(&'a [u8], u32),
+    /// A distance, by the two airports.
+    Between(&'a [u8], &'a [u8]),
+    /// A reservation, by its name and whether it is the way back.
+    Booked(&'a [u8], bool),
+}
 
 /// A row that is found by a key.
 pub(crate) trait Keyed {
     ghost use Rattle.build_tables.specs.Keys.{Key as RowKey};
+    ghost use Rattle.build_tables.specs.Found.{seen};
 
     ghost key_of: { Self → RowKey };
 
     /// Its key.
     fn key(&self) -> Key<'_>
-        ensures { (result.0.now, result.1.now, result.2) ≡ key_of self.now };
+        ensures { seen result ≡ key_of self.now };
 }
 
 /// The places of rows by their keys, counted from 0. A key stands for the first row that has it.
@@ -30,14 +41,14 @@ pub(crate) struct Places<'a> {
 impl<'a> Places<'a> {
     /// The place of the first row with this key.
     pub(crate) fn place_of(&self, key: Key<'_>) -> Option<usize>
-        ensures { result ≡ place_in self.now (key.entry.0.now, key.entry.1.now, key.entry.2) }
+        ensures { result ≡ place_in self.now (seen key.entry) }
     {
         self.places.get(&key).copied()
     }
 }
 
 /// The places of these rows.
-pub(crate) fn places_of<'a, T: Keyed>(alloc: Global, rows: &'a [T]) -> Result<Places<'a>, NoMem>
+fn places_of<'a, T: Keyed>(alloc: Global, rows: &'a [T]) -> Result<Places<'a>, NoMem>
     ensures { IfOk result (ArePlacesOf T.key_of rows.now) }
 {
     let mut places = IndexMap::new(alloc);
@@ -48,4 +59,11 @@ pub(crate) fn places_of<'a, T: Keyed>(alloc: Global, rows: &'a [T]) -> Result<Pl
         }
     }
     Ok(Places { places })
+}
+
+/// The places of the rows of a list.
+pub(crate) fn places_in<'a, T: Keyed>(alloc: Global, rows: &'a List<T>) -> Result<Places<'a>, NoMem>
+    ensures { IfOk result (ArePlacesOf T.key_of rows.now) }
+{
+    places_of(alloc, rows.as_slice())
 }

@@ -1,7 +1,6 @@
 //! What the rows of the files are found by.
 
-ghost use Rattle.std.specs.Prelude.{[]};
-ghost use Rattle.build_tables.specs.Keys.{type_number};
+ghost use Rattle.build_tables.specs.Keys.{named, on_day, between, booked};
 
 use crate::places::{Key, Keyed};
 use read_fleet::AircraftRow;
@@ -10,49 +9,49 @@ use read_net::{AirportRow, DistRow};
 use read_pax::ItineraryRow;
 
 impl Keyed for FlightRow {
-    ghost key_of = { λ row. (row.flight, [], 0) };
+    ghost key_of = { λ row. named row.flight };
 
     fn key(&self) -> Key<'_> {
-        (self.flight.as_slice(), &[], 0)
+        Key::Named(self.flight.as_slice())
     }
 }
 
 impl Keyed for RotationRow {
-    ghost key_of = { λ row. (row.flight, [], row.day) };
+    ghost key_of = { λ row. on_day row.flight row.day };
 
     fn key(&self) -> Key<'_> {
-        (self.flight.as_slice(), &[], self.day)
+        Key::OnDay(self.flight.as_slice(), self.day)
     }
 }
 
 impl Keyed for AircraftRow {
-    ghost key_of = { λ row. (row.name, [], 0) };
+    ghost key_of = { λ row. named row.name };
 
     fn key(&self) -> Key<'_> {
-        (self.name.as_slice(), &[], 0)
+        Key::Named(self.name.as_slice())
     }
 }
 
 impl Keyed for AirportRow {
-    ghost key_of = { λ row. (row.airport, [], 0) };
+    ghost key_of = { λ row. named row.airport };
 
     fn key(&self) -> Key<'_> {
-        (self.airport.as_slice(), &[], 0)
+        Key::Named(self.airport.as_slice())
     }
 }
 
 impl Keyed for DistRow {
-    ghost key_of = { λ row. (row.origin, row.dest, 0) };
+    ghost key_of = { λ row. between row.origin row.dest };
 
     fn key(&self) -> Key<'_> {
-        (self.origin.as_slice(), self.dest.as_slice(), 0)
+        Key::Between(self.origin.as_slice(), self.dest.as_slice())
     }
 }
 
 impl Keyed for ItineraryRow {
-    ghost key_of = { λ row. (row.name, [], type_number row.inbound) };
+    ghost key_of = { λ row. booked row.name row.inbound };
 
     fn key(&self) -> Key<'_> {
-        (self.name.as_slice(), &[], u32::from(self.inbound))
+        Key::Booked(self.name.as_slice(), self.inbound)
     }
 }

@@ -1,12 +1,12 @@
 //! The rows of the files, found by their names.
 
-ghost use Rattle.std.specs.Prelude.{◌≡◌, [], IfOk, option_map, find, position, ◌==◌, ◌&&◌, bytes_eq};
-ghost use Rattle.build_tables.specs.Keys.{type_number};
+ghost use Rattle.std.specs.Prelude.{◌≡◌, IfOk, option_map, find, position, ◌==◌, ◌&&◌, bytes_eq};
+ghost use Rattle.build_tables.specs.Keys.{named, on_day, between, booked, type_number};
 ghost use Rattle.build_tables.specs.Found.{ArePlacesOf};
 ghost use Rattle.build_tables.specs.Names.{flight_named, rotation_place, airport_place, aircraft_place, is_between, distance_between};
 
 use crate::files::Files;
-use crate::places::{Places, places_of};
+use crate::places::{Key, Places, places_in};
 use desk_units::{Name, NoMem};
 use read_legs::FlightRow;
 use read_net::DistRow;
@@ -23,12 +23,12 @@ pub struct Tables<'a> {
     airports: Places<'a>,
     dist: Places<'a>,
     itineraries: Places<'a>,
-    ghost flights_placed: { ArePlacesOf (λ row. (row.flight, [], 0)) files.now.flights flights },
-    ghost rotations_placed: { ArePlacesOf (λ row. (row.flight, [], row.day)) files.now.rotations rotations },
-    ghost aircraft_placed: { ArePlacesOf (λ row. (row.name, [], 0)) files.now.aircraft aircraft },
-    ghost airports_placed: { ArePlacesOf (λ row. (row.airport, [], 0)) files.now.airports airports },
-    ghost dist_placed: { ArePlacesOf (λ row. (row.origin, row.dest, 0)) files.now.dist dist },
-    ghost itineraries_placed: { ArePlacesOf (λ row. (row.name, [], type_number row.inbound)) files.now.itineraries itineraries },
+    ghost flights_placed: { ArePlacesOf (λ row. named row.flight) files.now.flights flights },
+    ghost rotations_placed: { ArePlacesOf (λ row. on_day row.flight row.day) files.now.rotations rotations },
+    ghost aircraft_placed: { ArePlacesOf (λ row. named row.name) files.now.aircraft aircraft },
+    ghost airports_placed: { ArePlacesOf (λ row. named row.airport) files.now.airports airports },
+    ghost dist_placed: { ArePlacesOf (λ row. between row.origin row.dest) files.now.dist dist },
+    ghost itineraries_placed: { ArePlacesOf (λ row. booked row.name row.inbound) files.now.itineraries itineraries },
 }
 
 /// The places of flights, rotations and aircraft.
@@ -36,13 +36,13 @@ fn places_of_schedule<'a>(
     alloc: Global,
     files: &'a Files,
 ) -> Result<(Places<'a>, Places<'a>, Places<'a>), NoMem>
-    ensures flights { IfOk result (λ places. ArePlacesOf (λ row. (row.flight, [], 0)) files.now.flights places.0) }
-    ensures rotations { IfOk result (λ places. ArePlacesOf (λ row. (row.flight, [], row.day)) files.now.rotations places.1) }
-    ensures aircraft { IfOk result (λ places. ArePlacesOf (λ row. (row.name, [], 0)) files.now.aircraft places.2) }
+    ensures flights { IfOk result (λ places. ArePlacesOf (λ row. named row.flight) files.now.flights places.0) }
+    ensures rotations { IfOk result (λ places. ArePlacesOf (λ row. on_day row.flight row.day) files.now.rotations places.1) }
+    ensures aircraft { IfOk result (λ places. ArePlacesOf (λ row. named row.name) files.now.aircraft places.2) }
 {
-    let flights = places_of(alloc, files.flights.as_slice())?;
-    let rotations = places_of(alloc, files.rotations.as_slice())?;
-    let aircraft = places_of(alloc, files.aircraft.as_slice())?;
+    let flights = places_in(alloc, &files.flights)?;
+    let rotations = places_in(alloc, &files.rotations)?;
+    let aircraft = places_in(alloc, &files.aircraft)?;
     Ok((flights, rotations, aircraft))
 }
 
@@ -51,13 +51,13 @@ fn places_of_network<'a>(
     alloc: Global,
     files: &'a Files,
 ) -> Result<(Places<'a>, Places<'a>, Places<'a>), NoMem>
-    ensures airports { IfOk result (λ places. ArePlacesOf (λ row. (row.airport, [], 0)) files.now.airports places.0) }
-    ensures dist { IfOk result (λ places. ArePlacesOf (λ row. (row.origin, row.dest, 0)) files.now.dist places.1) }
-    ensures itineraries { IfOk result (λ places. ArePlacesOf (λ row. (row.name, [], type_number row.inbound)) files.now.itineraries places.2) }
+    ensures airports { IfOk result (λ places. ArePlacesOf (λ row. named row.airport) files.now.airports places.0) }
+    ensures dist { IfOk result (λ places. ArePlacesOf (λ row. between row.origin row.dest) files.now.dist places.1) }
+    ensures itineraries { IfOk result (λ places. ArePlacesOf (λ row. booked row.name row.inbound) files.now.itineraries places.2) }
 {
-    let airports = places_of(alloc, files.airports.as_slice())?;
-    let dist = places_of(alloc, files.dist.as_slice())?;
-    let itineraries = places_of(alloc, files.itineraries.as_slice())?;
+    let airports = places_in(alloc, &files.airports)?;
+    let dist = places_in(alloc, &files.dist)?;
+    let itineraries = places_in(alloc, &files.itineraries)?;
     Ok((airports, dist, itineraries))
 }
 
@@ -83,7 +83,7 @@ impl<'a> Tables<'a> {
     pub fn flight_place(&self, name: &Name) -> Option<usize>
         ensures { result ≡ position (λ f. bytes_eq name.now f.flight) self.now.files.now.flights }
     {
-        self.flights.place_of((name.as_slice(), &[], 0))
+        self.flights.place_of(Key::Named(name.as_slice()))
     }
 
     /// The flight of this name.
@@ -98,36 +98,37 @@ impl<'a> Tables<'a> {
     pub fn rotation_place(&self, flight: &Name, day: u32) -> Option<usize>
         ensures { result ≡ rotation_place self.now.files.now.rotations flight.now day }
     {
-        self.rotations.place_of((flight.as_slice(), &[], day))
+        self.rotations.place_of(Key::OnDay(flight.as_slice(), day))
     }
 
     /// The place of an aircraft.
     pub fn aircraft_place(&self, name: &Name) -> Option<usize>
         ensures { result ≡ aircraft_place self.now.files.now.aircraft name.now }
     {
-        self.aircraft.place_of((name.as_slice(), &[], 0))
+        self.aircraft.place_of(Key::Named(name.as_slice()))
     }
 
     /// The place of an airport.
     pub fn airport_place(&self, name: &Name) -> Option<usize>
         ensures { result ≡ airport_place self.now.files.now.airports name.now }
     {
-        self.airports.place_of((name.as_slice(), &[], 0))
+        self.airports.place_of(Key::Named(name.as_slice()))
     }
 
     /// The place of the first row of a reservation, by its name and its type.
     pub fn itinerary_place(&self, name: &Name, inbound: bool) -> Option<usize>
         ensures { result ≡ position (λ row. bytes_eq name.now row.name && (type_number inbound == type_number row.inbound)) self.now.files.now.itineraries }
     {
-        let number = u32::from(inbound);
-        self.itineraries.place_of((name.as_slice(), &[], number))
+        self.itineraries
+            .place_of(Key::Booked(name.as_slice(), inbound))
     }
 
     /// The place of the first row from the one airport to the other.
     fn dist_place(&self, origin: &Name, dest: &Name) -> Option<usize>
         ensures { result ≡ position (is_between origin.now dest.now) self.now.files.now.dist }
     {
-        self.dist.place_of((origin.as_slice(), dest.as_slice(), 0))
+        self.dist
+            .place_of(Key::Between(origin.as_slice(), dest.as_slice()))
     }
 
     /// The first row from the one airport to the other.

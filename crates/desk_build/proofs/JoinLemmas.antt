@@ -1,5 +1,5 @@
 -- The join of rows: the first refusal, or else the day.
-use Rattle.std.proofs.Common.{◌≡◌, Some, None, Result, Ok, Err, [], sym, ap, ◌∙◌}
+use Rattle.std.proofs.Common.{◌≡◌, Some, None, Result, Ok, Err, sym, ap, ◌∙◌}
 use Rattle.std.specs.Prelude.{IsErrAnd}
 use Rattle.desk_data.specs.Situation.{Situation}
 use Rattle.build_tables.specs.declared.files.Files.{Files}

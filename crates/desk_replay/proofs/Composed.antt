@@ -21,14 +21,15 @@ use Rattle.sol_text.specs.Rotations.{rotations_text}
 use Rattle.desk_replay.specs.declared.ending.Ending.{Ending}
 use Rattle.desk_replay.specs.declared.ending.Ending.TheVariants as ending
 use Rattle.desk_story.specs.Inputs.{Inputs, replay_files, is_among, Tells}
-use Rattle.desk_story.specs.Story.{Story, story_of}
+use Rattle.desk_story.specs.Story.{Story, rows_of, story_of}
 use Rattle.desk_replay.specs.Outcome.{history, last, planned_rotations, report_text, Texts, texts_from, texts_of}
 use Rattle.desk_replay.specs.Runs.{World, AreRead, Headline, IsUnwritten, IsWritten, StopsInRotations, StopsInJournal, StopsInReport, Stops, StopsIn, Did, HasCause, AreNamed, IsReadWhole, IsSilent, Replays}
 use Rattle.desk_story.specs.declared.fault.StoryFault.{StoryFault}
 use Rattle.desk_story.specs.declared.fault.StoryFault.TheVariants as fault
 use Rattle.desk_story.specs.Facts.{story_in}
-use Rattle.desk_story.specs.Reading.{IsUnread, ReadsAmong, HasReadCause, GivesStory}
-use Rattle.desk_replay.specs.Writing.{Wrote}
+use Rattle.desk_story.specs.declared.refusal.Refusal.{Refusal}
+use Rattle.desk_story.specs.Reading.{IsUnread, StopsAt, StopsAtFault, ReadsAmong, HasReadCause, GivesStory}
+use Rattle.desk_replay.specs.Writing.{Wrote, OnlyWrites}
 use Rattle.desk_replay.specs.Finishing.{story_end, Told, Finishes}
 
 -- ---- what was written is told of the story
@@ -184,10 +185,10 @@ stops_in_from before mid now sink sink' t file.Tariff same h = absurd h
 stops_in_from before mid now sink sink' t file.Feed same h = absurd h
 stops_in_from before mid now sink sink' t file.SolItineraries same h = absurd h
 
-stops_from : (before mid now : Outside) (sink sink' : SinkSide) (t : Texts) → SameWritten before mid → Stops (record { folder = mid; sink = sink }) (record { folder = now; sink = sink' }) t → Stops (record { folder = before; sink = sink }) (record { folder = now; sink = sink' }) t
-stops_from before mid now sink sink' t same (inl h) = inl (stops_in_rotations_from before mid now sink sink' t same h)
-stops_from before mid now sink sink' t same (inr (inl h)) = inr (inl (stops_in_journal_from before mid now sink sink' t same h))
-stops_from before mid now sink sink' t same (inr (inr h)) = inr (inr (stops_in_report_from before mid now sink sink' t same h))
+stopped_from : (before mid now : Outside) (sink sink' : SinkSide) (t : Texts) → SameWritten before mid → Stops (record { folder = mid; sink = sink }) (record { folder = now; sink = sink' }) t → Stops (record { folder = before; sink = sink }) (record { folder = now; sink = sink' }) t
+stopped_from before mid now sink sink' t same (inl h) = inl (stops_in_rotations_from before mid now sink sink' t same h)
+stopped_from before mid now sink sink' t same (inr (inl h)) = inr (inl (stops_in_journal_from before mid now sink sink' t same h))
+stopped_from before mid now sink sink' t same (inr (inr h)) = inr (inr (stops_in_report_from before mid now sink sink' t same h))
 
 -- ---- the whole
 
@@ -198,6 +199,7 @@ pub record Prepared (dirs : Directories) (before mid : Outside) (s : Story) : Ty
   pub put_faults : (f : File) → mid.put_faults f ≡ before.put_faults f
   pub read : AreRead before mid
   pub unread : (f : File) → is_among f replay_files ≡ false → IsUnread before mid f
+  pub in_order : (x : Inputs) → Tells replay_files before x → (r : Refusal) → rows_of x ≡ Err r → StopsAt r.file before mid
   pub story : (x : Inputs) → Tells replay_files before x → story_of x ≡ Ok s
 
 did_from : (dirs : Directories) (before mid now : Outside) (sink sink' : SinkSide) (s : Story) (how : Ending) (x : Inputs) → Prepared dirs before mid s → IsRunnable s → Told (record { folder = mid; sink = sink }) (record { folder = now; sink = sink' }) s how → Tells replay_files before x → Did (record { folder = before; sink = sink }) (record { folder = now; sink = sink' }) x how
@@ -208,7 +210,7 @@ did_from dirs before mid now sink sink' s ending.NoPlan x p runs h tells =
 did_from dirs before mid now sink sink' s (ending.WriteFault f) x p runs h tells = (s, p.story x tells, stops_in_from before mid now sink sink' (texts_of s) f p.written h)
 did_from dirs before mid now sink sink' s ending.ReportFault x p runs h tells = (s, p.story x tells, stops_in_report_from before mid now sink sink' (texts_of s) p.written h)
 did_from dirs before mid now sink sink' s ending.Memory x p runs (inl h) tells = inl (unwritten_from before mid now sink sink' p.written h)
-did_from dirs before mid now sink sink' s ending.Memory x p runs (inr h) tells = inr (s, p.story x tells, stops_from before mid now sink sink' (texts_of s) p.written h)
+did_from dirs before mid now sink sink' s ending.Memory x p runs (inr h) tells = inr (s, p.story x tells, stopped_from before mid now sink sink' (texts_of s) p.written h)
 did_from dirs before mid now sink sink' s ending.Usage x p runs h tells = absurd h
 did_from dirs before mid now sink sink' s (ending.Refused r) x p runs h tells = absurd h
 did_from dirs before mid now sink sink' s ending.PlaceFault x p runs h tells = absurd h
@@ -269,6 +271,9 @@ silent_from before mid now sink sink' s (ending.WriteFault f) told = tt
 silent_from before mid now sink sink' s ending.ReportFault told = tt
 silent_from before mid now sink sink' s ending.Memory told = tt
 
+unread_on : (before mid now : Outside) (f : File) → OnlyWrites mid now → IsUnread before mid f → IsUnread before now f
+unread_on before mid now f only h = record { left = only.left f ∙ h.left; faults = only.next_faults f ∙ h.faults }
+
 pub replays-finished : (dirs : Directories) (before mid now : Outside) (sink sink' : SinkSide) (s : Story) (how : Ending) → Prepared dirs before mid s → IsRunnable s → Finishes (record { folder = mid; sink = sink }) (record { folder = now; sink = sink' }) s how → Replays dirs (record { folder = before; sink = sink }) (record { folder = now; sink = sink' }) how
 replays-finished dirs before mid now sink sink' s how p runs h = record {
   no_usage = λ e. subst (λ (e : Ending). Told (record { folder = mid; sink = sink }) (record { folder = now; sink = sink' }) s e) e h.told;
@@ -278,7 +283,8 @@ replays-finished dirs before mid now sink sink' s how p runs h = record {
   read = read_whole_from before now sink sink' how (are_read_from before mid now h.only.left p.read);
   silent = silent_from before mid now sink sink' s how h.told;
   kept = h.kept;
-  unread = λ f other. record { left = h.only.left f ∙ (p.unread f other).left; faults = h.only.next_faults f ∙ (p.unread f other).faults };
+  unread = λ f other. unread_on before mid now f h.only (p.unread f other);
+  in_order = λ x tells r refused g lt. unread_on before mid now g h.only (p.in_order x tells r refused g lt);
   unput = λ f other. record { written = (h.only.unput f other).written ∙ p.written f; faults = (h.only.unput f other).faults ∙ p.put_faults f };
 }
 
@@ -290,13 +296,21 @@ named_by (Some was) now dirs ok h = h
 read_before : (before placed : Outside) (f : File) (now : Option (List ℕ)) → placed.left f ≡ before.left f → IfSome (placed.left f) (λ bytes. now ≡ Some []) → IfSome (before.left f) (λ bytes. now ≡ Some [])
 read_before before placed f now same h = subst (λ (o : Option (List ℕ)). IfSome o (λ bytes. now ≡ Some [])) same h
 
-pub prepared : (dirs : Directories) (before placed mid : Outside) (s : Story) (ok : Unit {0}) → Names before.directories placed.directories dirs (let r : Result (Unit {0}) FolderFault = Ok ok in r) → PlacesOnly before placed → ReadsAmong replay_files placed mid → AreRead placed mid → ((x : Inputs) → Tells replay_files placed x → story_of x ≡ Ok s) → Prepared dirs before mid s
-prepared dirs before placed mid s ok names only reads read story = record {
+-- no file is read behind one that its grammar refuses
+abbrev pub InOrder : Outside → Outside → Type 0
+InOrder before now = (x : Inputs) → Tells replay_files before x → (r : Refusal) → rows_of x ≡ Err r → StopsAt r.file before now
+
+unread_from : (before placed now : Outside) (f : File) → PlacesOnly before placed → IsUnread placed now f → IsUnread before now f
+unread_from before placed now f only h = record { left = h.left ∙ only.left f; faults = h.faults ∙ only.next_faults f }
+
+pub prepared : (dirs : Directories) (before placed mid : Outside) (s : Story) (ok : Unit {0}) → Names before.directories placed.directories dirs (let r : Result (Unit {0}) FolderFault = Ok ok in r) → PlacesOnly before placed → ReadsAmong replay_files placed mid → InOrder placed mid → AreRead placed mid → ((x : Inputs) → Tells replay_files placed x → story_of x ≡ Ok s) → Prepared dirs before mid s
+prepared dirs before placed mid s ok names only reads order read story = record {
   named = some_named before.directories placed.directories mid.directories (Some dirs) reads.directories (named_by before.directories placed.directories dirs ok names);
   written = λ f. reads.written f ∙ only.written f;
   put_faults = λ f. reads.put_faults f ∙ only.put_faults f;
   read = λ f among. read_before before placed f (mid.left f) (only.left f) (read f among);
-  unread = λ f other. record { left = (reads.unread f other).left ∙ only.left f; faults = (reads.unread f other).faults ∙ only.next_faults f };
+  unread = λ f other. unread_from before placed mid f only (reads.unread f other);
+  in_order = λ x tells r refused g lt. unread_from before placed mid g only (order x (λ f among. only.left f ∙ tells f among) r refused g lt);
   story = λ x tells. story x (λ f among. only.left f ∙ tells f among);
 }
 
@@ -312,13 +326,15 @@ record Tried (dirs : Directories) (before now : Outside) : Type 0 where
   named : IfSome before.directories (λ was. now.directories ≡ Some dirs)
   written : SameWritten before now
   unread : (f : File) → is_among f replay_files ≡ false → IsUnread before now f
+  in_order : InOrder before now
   put_faults : (f : File) → now.put_faults f ≡ before.put_faults f
 
-tried : (dirs : Directories) (before placed now : Outside) (ok : Unit {0}) → Names before.directories placed.directories dirs (let r : Result (Unit {0}) FolderFault = Ok ok in r) → PlacesOnly before placed → ReadsAmong replay_files placed now → Tried dirs before now
-tried dirs before placed now ok names only reads = record {
+tried : (dirs : Directories) (before placed now : Outside) (ok : Unit {0}) → Names before.directories placed.directories dirs (let r : Result (Unit {0}) FolderFault = Ok ok in r) → PlacesOnly before placed → ReadsAmong replay_files placed now → InOrder placed now → Tried dirs before now
+tried dirs before placed now ok names only reads order = record {
   named = some_named before.directories placed.directories now.directories (Some dirs) reads.directories (named_by before.directories placed.directories dirs ok names);
   written = λ f. reads.written f ∙ only.written f;
-  unread = λ f other. record { left = (reads.unread f other).left ∙ only.left f; faults = (reads.unread f other).faults ∙ only.next_faults f };
+  unread = λ f other. unread_from before placed now f only (reads.unread f other);
+  in_order = λ x tells r refused g lt. unread_from before placed now g only (order x (λ f among. only.left f ∙ tells f among) r refused g lt);
   put_faults = λ f. reads.put_faults f ∙ only.put_faults f;
 }
 
@@ -330,9 +346,9 @@ unwritten_by dirs before now sink t = record {
 }
 
 -- a run that ends so has written nothing
-replays_tried : (dirs : Directories) (before now : Outside) (sink : SinkSide) (e : StoryFault) → Tried dirs before now → HasCause (record { folder = before; sink = sink }) (record { folder = now; sink = sink }) (story_end e)
+replays_tried : (dirs : Directories) (before now : Outside) (sink : SinkSide) (e : StoryFault) → Tried dirs before now → HasCause (record { folder = before; sink = sink }) (record { folder = now; sink = sink }) (story_end e) → StopsAtFault before now e
     → ((x : Inputs) → Tells replay_files before x → GivesStory story_in (Err e) x (story_of x)) → Replays dirs (record { folder = before; sink = sink }) (record { folder = now; sink = sink }) (story_end e)
-replays_tried dirs before now sink (fault.Refused r) t cause gives = record {
+replays_tried dirs before now sink (fault.Refused r) t cause stops gives = record {
   no_usage = λ e. absurd cc;
   cause = cause;
   did = λ x tells. (gives x tells, unwritten_by dirs before now sink t);
@@ -341,20 +357,22 @@ replays_tried dirs before now sink (fault.Refused r) t cause gives = record {
   silent = record { written = t.written; sink = refl };
   kept = omega arith;
   unread = t.unread;
+  in_order = t.in_order;
   unput = λ f other. record { written = t.written f; faults = t.put_faults f };
 }
-replays_tried dirs before now sink (fault.ReadFault g) t cause gives = record {
+replays_tried dirs before now sink (fault.ReadFault g) t cause stops gives = record {
   no_usage = λ e. absurd cc;
   cause = cause;
   did = λ x tells. (gives x tells, unwritten_by dirs before now sink t);
   named = t.named;
   read = tt;
-  silent = record { written = t.written; sink = refl };
+  silent = (record { written = t.written; sink = refl }, stops);
   kept = omega arith;
   unread = t.unread;
+  in_order = t.in_order;
   unput = λ f other. record { written = t.written f; faults = t.put_faults f };
 }
-replays_tried dirs before now sink fault.Memory t cause gives = record {
+replays_tried dirs before now sink fault.Memory t cause stops gives = record {
   no_usage = λ e. absurd cc;
   cause = cause;
   did = λ x tells. inl (unwritten_by dirs before now sink t);
@@ -363,6 +381,7 @@ replays_tried dirs before now sink fault.Memory t cause gives = record {
   silent = tt;
   kept = omega arith;
   unread = t.unread;
+  in_order = t.in_order;
   unput = λ f other. record { written = t.written f; faults = t.put_faults f };
 }
 
@@ -371,7 +390,12 @@ fault_cause before placed now sink (fault.Refused r) only h = tt
 fault_cause before placed now sink (fault.ReadFault f) only h = (h.0, subst (λ (n : ℕ). Rose n (now.next_faults f)) (only.next_faults f) h.1)
 fault_cause before placed now sink fault.Memory only h = tt
 
-pub replays-faulted : (dirs : Directories) (before placed now : Outside) (sink : SinkSide) (e : StoryFault) (ok : Unit {0}) → Names before.directories placed.directories dirs (let r : Result (Unit {0}) FolderFault = Ok ok in r) → PlacesOnly before placed → ReadsAmong replay_files placed now → HasReadCause replay_files placed now e
+stops_from : (before placed now : Outside) (e : StoryFault) → PlacesOnly before placed → StopsAtFault placed now e → StopsAtFault before now e
+stops_from before placed now (fault.Refused r) only h = tt
+stops_from before placed now (fault.ReadFault f) only h = λ g lt. unread_from before placed now g only (h g lt)
+stops_from before placed now fault.Memory only h = tt
+
+pub replays-faulted : (dirs : Directories) (before placed now : Outside) (sink : SinkSide) (e : StoryFault) (ok : Unit {0}) → Names before.directories placed.directories dirs (let r : Result (Unit {0}) FolderFault = Ok ok in r) → PlacesOnly before placed → ReadsAmong replay_files placed now → InOrder placed now → StopsAtFault placed now e → HasReadCause replay_files placed now e
     → ((x : Inputs) → Tells replay_files placed x → GivesStory story_in (Err e) x (story_of x)) → Replays dirs (record { folder = before; sink = sink }) (record { folder = now; sink = sink }) (story_end e)
-replays-faulted dirs before placed now sink e ok names only reads cause gives =
-    replays_tried dirs before now sink e (tried dirs before placed now ok names only reads) (fault_cause before placed now sink e only cause) (λ x tells. gives x (λ f among. only.left f ∙ tells f among))
+replays-faulted dirs before placed now sink e ok names only reads order stops cause gives =
+    replays_tried dirs before now sink e (tried dirs before placed now ok names only reads order) (fault_cause before placed now sink e only cause) (stops_from before placed now e only stops) (λ x tells. gives x (λ f among. only.left f ∙ tells f among))

@@ -16,8 +16,8 @@ use Rattle.desk_story.specs.declared.refusal.Refusal.{Refusal}
 use Rattle.desk_replay.specs.declared.ending.Ending.{Ending}
 use Rattle.desk_replay.specs.declared.ending.Ending.TheVariants as ending
 use Rattle.desk_story.specs.Inputs.{Inputs, replay_files, is_among, Tells}
-use Rattle.desk_story.specs.Reading.{IsUnread}
-use Rattle.desk_story.specs.Story.{Story, story_of}
+use Rattle.desk_story.specs.Reading.{IsUnread, StopsAt}
+use Rattle.desk_story.specs.Story.{Story, rows_of, story_of}
 use Rattle.desk_replay.specs.Outcome.{Texts, texts_of, fault_text, status_of}
 use Rattle.desk_replay.specs.Commands.{command, files_read, files_written}
 use Rattle.desk_replay.specs.Runs.{World, IsUnput, IsUnwritten, IsWritten, Stops, StopsIn, IsTold, Did, HasCause, IsUntouched, Replays, Runs, status_after}
@@ -129,8 +129,8 @@ record Silent (before mid : World) : Type 0 where
 
 silent_by : (dirs : Directories) (before mid : World) (how : Ending) → 2 ≤ status_of how → status_of how ≤ 4 → Replays dirs before mid how → Silent before mid
 silent_by dirs before mid (ending.Refused r) low high run = record { written = run.silent.written; sink = run.silent.sink }
-silent_by dirs before mid ending.PlaceFault low high run = record { written = run.silent.written; sink = run.silent.sink }
-silent_by dirs before mid (ending.ReadFault f) low high run = record { written = run.silent.written; sink = run.silent.sink }
+silent_by dirs before mid ending.PlaceFault low high run = record { written = run.silent.0.written; sink = run.silent.0.sink }
+silent_by dirs before mid (ending.ReadFault f) low high run = record { written = run.silent.0.written; sink = run.silent.0.sink }
 silent_by dirs before mid ending.Usage low high run = absurd (run.no_usage refl)
 silent_by dirs before mid ending.Done low high run = absurd (omega arith)
 silent_by dirs before mid ending.NoPlan low high run = absurd (omega arith)
@@ -157,6 +157,13 @@ unread_by (Some dirs) before mid how ends f other = ends.unread f other
 
 pub unread-of : (words : List (List ℕ)) (before now : World) (code : ℕ) → Runs words before now code → (f : File) → is_among f (files_read (command words)) ≡ false → IsUnread before.folder now.folder f
 unread-of words before now code run f other = unread_by (command words) before (record { folder = now.folder; sink = run.sink }) run.how run.ends f other
+
+in_order_by : (dirs : Option Directories) (before mid : World) (how : Ending) → EndsBy dirs before mid how → (x : Inputs) → Tells replay_files before.folder x → (r : Refusal) → rows_of x ≡ Err r → StopsAt r.file before.folder mid.folder
+in_order_by None before mid how ends x tells r refused g lt = record { left = ap (λ (o : Outside). o.left g) ends.1.folder; faults = ap (λ (o : Outside). o.next_faults g) ends.1.folder }
+in_order_by (Some dirs) before mid how ends x tells r refused g lt = ends.in_order x tells r refused g lt
+
+pub in-order : (words : List (List ℕ)) (before now : World) (code : ℕ) → Runs words before now code → (x : Inputs) → Tells replay_files before.folder x → (r : Refusal) → rows_of x ≡ Err r → StopsAt r.file before.folder now.folder
+in-order words before now code run x tells r refused = in_order_by (command words) before (record { folder = now.folder; sink = run.sink }) run.how run.ends x tells r refused
 
 unput_by : (dirs : Option Directories) (before mid : World) (how : Ending) → EndsBy dirs before mid how → (f : File) → is_among f (files_written dirs) ≡ false → IsUnput before.folder mid.folder f
 unput_by None before mid how ends f other = record { written = ap (λ (o : Outside). o.written f) ends.1.folder; faults = ap (λ (o : Outside). o.put_faults f) ends.1.folder }

@@ -18,7 +18,8 @@ use Rattle.desk_replay.specs.declared.ending.Ending.{Ending}
 use Rattle.desk_replay.specs.declared.ending.Ending.TheVariants as ending
 use Rattle.desk_story.specs.Inputs.{Inputs, replay_files, is_among, Tells}
 use Rattle.desk_story.specs.Story.{Story, rows_of, story_of}
-use Rattle.desk_story.specs.Reading.{IsRead, IsUnread, StandsFirst}
+use Rattle.desk_story.specs.declared.refusal.Refusal.{Refusal}
+use Rattle.desk_story.specs.Reading.{IsRead, IsUnread, StopsAt, StandsFirst}
 use Rattle.desk_replay.specs.Outcome.{last, Texts, texts_of, report_text, fault_text, status_of}
 use Rattle.desk_replay.specs.Commands.{output_files, command}
 
@@ -133,11 +134,12 @@ pub record IsUntold (before now : World) : Type 0 where
   pub written : (f : File) → now.folder.written f ≡ before.folder.written f
   pub sink : now.sink ≡ before.sink
 
--- where a run ends before the events are taken, nothing is written or reported
+-- where a run ends before the events are taken, nothing is written or reported; where the directories could not be named,
+-- nothing was read, and where a file could not be read, none behind it was
 abbrev pub IsSilent : World → World → Ending → Type 0
 IsSilent before now (ending.Refused r) = IsUntold before now
-IsSilent before now ending.PlaceFault = IsUntold before now
-IsSilent before now (ending.ReadFault f) = IsUntold before now
+IsSilent before now ending.PlaceFault = IsUntold before now × ((f : File) → IsUnread before.folder now.folder f)
+IsSilent before now (ending.ReadFault f) = IsUntold before now × StopsAt f before.folder now.folder
 IsSilent before now other = Unit {0}
 
 -- a replay from and to these directories
@@ -149,6 +151,8 @@ pub record Replays (dirs : Directories) (before now : World) (how : Ending) : Ty
   pub read : IsReadWhole before now how
   pub silent : IsSilent before now how
   pub kept : before.sink.faults ≤ now.sink.faults
+  -- no file is read behind one that its grammar refuses
+  pub in_order : (x : Inputs) → Tells replay_files before.folder x → (r : Refusal) → rows_of x ≡ Err r → StopsAt r.file before.folder now.folder
   -- no other file is read, and none but the outputs is written
   pub unread : (f : File) → is_among f replay_files ≡ false → IsUnread before.folder now.folder f
   pub unput : (f : File) → is_among f output_files ≡ false → IsUnput before.folder now.folder f

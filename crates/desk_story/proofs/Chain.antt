@@ -12,9 +12,10 @@ use Rattle.desk_story.specs.declared.fault.StoryFault.TheVariants as fault
 use Rattle.desk_story.specs.declared.rows.InputRows.{InputRows}
 use Rattle.desk_story.specs.Inputs.{Inputs, is_among, are_in_order, Tells}
 use Rattle.desk_story.specs.Story.{Rows, read_as, read_all}
-use Rattle.desk_story.specs.Reading.{IsRead, IsUnread, ReadsAmong, StandsFirst, GivesRead, HasReadCause}
+use Rattle.desk_story.specs.declared.refusal.Refusal.{Refusal}
+use Rattle.desk_story.specs.Reading.{IsRead, IsUnread, ReadsAmong, StopsAt, StopsAtFault, GivesRead, HasReadCause}
 use Rattle.desk_story.specs.Facts.{rows_in}
-use Rattle.desk_story.proofs.Orders.{behind, among_rest, among_first, stands-first}
+use Rattle.desk_story.proofs.Orders.{behind, among_rest, among_first, refused_among, stands-first}
 
 -- ---- a file and a list of files
 
@@ -125,3 +126,49 @@ cause-rest g files before mid now (fault.ReadFault f) only kept h =
     let rose : Rose (mid.next_faults f) (now.next_faults f) = h.1 in
     (among_rest f g files h.0, omega (arith, le, rose))
 cause-rest g files before mid now fault.Memory only kept h = tt
+
+-- ---- no file behind one that is refused, or that could not be read
+
+unread_first : (f g : File) (before mid : Outside) → ReadsOnly f before mid → file_number f < file_number g → IsUnread before mid g
+unread_first f g before mid only lt =
+    let other : g ≢ f = λ same. let e : file_number g ≡ file_number f = ap file_number same in omega (arith, lt, e) in
+    record { left = only.left g other; faults = only.next_faults g other }
+
+unread_both : (g : File) (before mid now : Outside) → IsUnread before mid g → IsUnread mid now g → IsUnread before now g
+unread_both g before mid now first rest = record { left = rest.left ∙ first.left; faults = rest.faults ∙ first.faults }
+
+not_before : (f r : File) (files : List File) → are_in_order (f ∷ files) ≡ true → is_among r (f ∷ files) ≡ true → file_number f ≤ file_number r
+not_before f r files order among = elim (among_either r f files among) [
+  | inl same ↦ let e : file_number r ≡ file_number f = ap file_number same in omega (arith, e)
+  | inr rest ↦ let lt : file_number f < file_number r = behind r f files order rest in omega (arith, lt)
+]
+
+-- where the first could not be taken
+pub order-first : (f : File) (files : List File) (before mid : Outside) (x : Inputs) (rows : Rows) (r : Refusal) → are_in_order (f ∷ files) ≡ true → ReadsOnly f before mid → read_all (f ∷ files) x rows ≡ Err r → StopsAt r.file before mid
+order-first f files before mid x rows r order only e g lt =
+    let le : file_number f ≤ file_number r.file = not_before f r.file files order (refused_among (f ∷ files) x rows r e) in
+    unread_first f g before mid only (omega (arith, le, lt))
+
+-- and where it was
+pub order-rest : (f : File) (files : List File) (before mid now : Outside) (x : Inputs) (rows more : Rows) (r : Refusal) → are_in_order (f ∷ files) ≡ true → ReadsOnly f before mid → read_as f (x f) rows ≡ Ok more
+    → (read_all files x more ≡ Err r → StopsAt r.file mid now) → read_all (f ∷ files) x rows ≡ Err r → StopsAt r.file before now
+unfolding read_all
+order-rest f files before mid now x rows more r order only is rest e g lt =
+    let refused : read_all files x more ≡ Err r = rw is at e in
+    let after : file_number f < file_number r.file = behind r.file f files order (refused_among files x more r refused) in
+    unread_both g before mid now (unread_first f g before mid only (omega (arith, after, lt))) (rest refused g lt)
+
+pub stops-first : (f : File) (before mid : Outside) (e : StoryFault) → ReadsOnly f before mid → HasReadCause (f ∷ []) before mid e → StopsAtFault before mid e
+stops-first f before mid (fault.Refused r) only cause = tt
+stops-first f before mid (fault.ReadFault h) only cause = λ g lt. elim (among_either h f [] cause.0) [
+  | inl same ↦ let e : file_number h ≡ file_number f = ap file_number same in unread_first f g before mid only (omega (arith, e, lt))
+  | inr none ↦ absurd (let no : false ≡ true = none in cc)
+]
+stops-first f before mid fault.Memory only cause = tt
+
+pub stops-rest : (f : File) (files : List File) (before mid now : Outside) (e : StoryFault) → are_in_order (f ∷ files) ≡ true → ReadsOnly f before mid → HasReadCause files mid now e → StopsAtFault mid now e → StopsAtFault before now e
+stops-rest f files before mid now (fault.Refused r) order only cause h = tt
+stops-rest f files before mid now (fault.ReadFault k) order only cause h = λ g lt.
+    let after : file_number f < file_number k = behind k f files order cause.0 in
+    unread_both g before mid now (unread_first f g before mid only (omega (arith, after, lt))) (h g lt)
+stops-rest f files before mid now fault.Memory order only cause h = tt

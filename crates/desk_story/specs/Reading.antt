@@ -1,5 +1,5 @@
 -- What reading the input does to the outside.
-use Rattle.std.specs.Prelude.{◌≡◌, ◌≤◌, ℕ, Bool, true, false, List, [], ◌∷◌, Some, IfSome, Result, Ok, Err}
+use Rattle.std.specs.Prelude.{◌≡◌, ◌<◌, ◌≤◌, ℕ, Bool, true, false, List, [], ◌∷◌, Some, IfSome, Result, Ok, Err}
 use Rattle.desk_folder.specs.declared.files.File.{File}
 use Rattle.desk_folder.specs.Files.{file_number}
 use Rattle.desk_folder.specs.Outside.{Outside}
@@ -27,6 +27,16 @@ pub record ReadsAmong (files : List File) (before now : Outside) : Type 0 where
   pub written : (f : File) → now.written f ≡ before.written f
   pub place_faults : now.place_faults ≡ before.place_faults
   pub put_faults : (f : File) → now.put_faults f ≡ before.put_faults f
+
+-- no file that stands behind this one was read
+abbrev pub StopsAt : File → Outside → Outside → Type 0
+StopsAt f before now = (g : File) → file_number f < file_number g → IsUnread before now g
+
+-- where the reading of a file failed, none behind it was read
+abbrev pub StopsAtFault : Outside → Outside → StoryFault → Type 0
+StopsAtFault before now (fault.ReadFault f) = StopsAt f before now
+StopsAtFault before now (fault.Refused r) = Unit {0}
+StopsAtFault before now fault.Memory = Unit {0}
 
 -- no grammar refuses a file that stands before this one
 abbrev pub StandsFirst : {X : Type 0} → File → Result X Refusal → Type 0

@@ -1,11 +1,12 @@
 //! Reading the input files, one after another.
 
-ghost use Rattle.std.specs.Prelude.{◌≡◌, ℕ, true, List, [], ◌∷◌, ◌≤◌, Some, MatchOption, IfOk, OnOk, IfErr, IsTrue};
+ghost use Rattle.std.specs.Prelude.{◌≡◌, ℕ, true, List, [], ◌∷◌, ◌≤◌, Some, MatchOption, Err, IfOk, OnOk, IfErr, IsTrue};
 ghost use Rattle.desk_folder.specs.declared.files.File.{File as AnyFile};
 ghost use Rattle.desk_folder.specs.Outside.{ReadsOnly};
 ghost use Rattle.desk_story.specs.Inputs.{Inputs, is_among, are_in_order, Tells};
 ghost use Rattle.desk_story.specs.Story.{byte_limit, too_long, read_as, read_all};
-ghost use Rattle.desk_story.specs.Reading.{IsRead, ReadsAmong, GivesRead, HasReadCause};
+ghost use Rattle.desk_story.specs.declared.refusal.Refusal.{Refusal as Refused};
+ghost use Rattle.desk_story.specs.Reading.{IsRead, ReadsAmong, StopsAt, StopsAtFault, GivesRead, HasReadCause};
 ghost use Rattle.desk_story.specs.Facts.{rows_in, AreInputRows};
 
 use crate::fault::StoryFault;
@@ -118,6 +119,9 @@ pub(crate) fn read_files<F: Folder>(
     ensures read { OnOk result ((f : AnyFile) → is_among f files.now ≡ true → IsRead (F.outside folder.old) (F.outside folder.new) f) }
     ensures cause { IfErr result (HasReadCause files.now (F.outside folder.old) (F.outside folder.new)) }
     ensures only { ReadsAmong files.now (F.outside folder.old) (F.outside folder.new) }
+    ensures in_order { (x : Inputs) → Tells files.now (F.outside folder.old) x → (r : Refused) →
+        read_all files.now x (rows_in rows) ≡ Err r → StopsAt r.file (F.outside folder.old) (F.outside folder.new) }
+    ensures stops { IfErr result (StopsAtFault (F.outside folder.old) (F.outside folder.new)) }
     ensures facts { IfOk result AreInputRows }
 {
     let Some((file, others)) = first_and_others(files) else {

@@ -1,10 +1,11 @@
 //! The day and the events that the input files tell.
 
-ghost use Rattle.std.specs.Prelude.{◌≡◌, true, IfOk, OnOk, IfErr};
+ghost use Rattle.std.specs.Prelude.{◌≡◌, true, Err, IfOk, OnOk, IfErr};
 ghost use Rattle.desk_folder.specs.declared.files.File.{File as AnyFile};
 ghost use Rattle.desk_story.specs.Inputs.{Inputs, is_among, replay_files, Tells};
-ghost use Rattle.desk_story.specs.Story.{story_of_rows, story_of};
-ghost use Rattle.desk_story.specs.Reading.{IsRead, ReadsAmong, GivesRead, GivesStory, HasReadCause, NeedsNoFault};
+ghost use Rattle.desk_story.specs.declared.refusal.Refusal.{Refusal as Refused};
+ghost use Rattle.desk_story.specs.Story.{rows_of, story_of_rows, story_of};
+ghost use Rattle.desk_story.specs.Reading.{IsRead, ReadsAmong, StopsAt, StopsAtFault, GivesRead, GivesStory, HasReadCause, NeedsNoFault};
 ghost use Rattle.desk_story.specs.Facts.{rows_in, AreInputRows, story_in, CanBeRun};
 
 use crate::fault::StoryFault;
@@ -44,13 +45,17 @@ fn joined_story(alloc: Global, rows: &InputRows) -> Result<InputStory, StoryFaul
 ///
 /// # Errors
 /// `Refused` with the first refusal of the input; `ReadFault` only where the count of failed reads of
-/// that file rose, and no file before it is refused by its grammar; `Memory` at any time.
+/// that file rose, and no file before it is refused by its grammar; `Memory` at any time. No file is
+/// read behind one that its grammar refuses, or that could not be read.
 #[tactic(auto, unfolding(crate::specs::Story::story_of))]
 pub fn read_story<F: Folder>(alloc: Global, folder: &mut F) -> Result<InputStory, StoryFault>
     ensures exact { (x : Inputs) → Tells replay_files (F.outside folder.old) x → GivesStory story_in result x (story_of x) }
     ensures read { OnOk result ((f : AnyFile) → is_among f replay_files ≡ true → IsRead (F.outside folder.old) (F.outside folder.new) f) }
     ensures cause { IfErr result (HasReadCause replay_files (F.outside folder.old) (F.outside folder.new)) }
     ensures only { ReadsAmong replay_files (F.outside folder.old) (F.outside folder.new) }
+    ensures in_order { (x : Inputs) → Tells replay_files (F.outside folder.old) x → (r : Refused) →
+        rows_of x ≡ Err r → StopsAt r.file (F.outside folder.old) (F.outside folder.new) }
+    ensures stops { IfErr result (StopsAtFault (F.outside folder.old) (F.outside folder.new)) }
     ensures runs { IfOk result CanBeRun }
 {
     let rows = read_files(alloc, folder, &REPLAY_FILES, InputRows::new(alloc))?;

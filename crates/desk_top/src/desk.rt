@@ -5,8 +5,8 @@ ghost use Rattle.std.specs.String.{string_bytes};
 ghost use Rattle.desk_folder.specs.declared.files.File.{File};
 ghost use Rattle.desk_folder.specs.Outside.{Directories};
 ghost use Rattle.desk_story.specs.Inputs.{Inputs, replay_files, is_among, Tells};
-ghost use Rattle.desk_story.specs.Story.{story_of};
-ghost use Rattle.desk_story.specs.Reading.{IsUnread};
+ghost use Rattle.desk_story.specs.Story.{rows_of, story_of};
+ghost use Rattle.desk_story.specs.Reading.{IsUnread, StopsAt};
 ghost use Rattle.desk_replay.specs.Commands.{command, files_read, files_written};
 ghost use Rattle.desk_replay.specs.Runs.{world, Ends, IsDone, IsUnput, Runs};
 ghost use Rattle.desk_replay.specs.Causes.{IsUnlessMemory, IsDoneWith, IsRefused, HasFault, IsReadable, IsFaultless, Answers};
@@ -110,10 +110,15 @@ pub fn desk_main<F: Folder, O: Sink, G: Gate>(
     ensures begun { (x : Inputs) → Tells replay_files (F.outside folder.old) x →
         AreBegun (F.outside folder.old) (F.outside folder.new) (finished_texts (story_of x)) }
 
-    // Of each file that the command does not read the bytes and the count of failed reads stay, and of
-    // each that it does not write the bytes and the count of failed writes.
+    // Of each file that the command does not read the bytes and the count of failed reads stay.
     ensures unread { (f : File) → is_among f (files_read (command (map string_bytes words.now))) ≡ false →
         IsUnread (F.outside folder.old) (F.outside folder.new) f }
+
+    // Files are read in file order: none behind one that its grammar refuses.
+    ensures in_order { (x : Inputs) → Tells replay_files (F.outside folder.old) x → (refusal : Refused) →
+        rows_of x ≡ Err refusal → StopsAt refusal.file (F.outside folder.old) (F.outside folder.new) }
+
+    // Of each file that the command does not write the bytes and the count of failed writes stay.
     ensures unput { (f : File) → is_among f (files_written (command (map string_bytes words.now))) ≡ false →
         IsUnput (F.outside folder.old) (F.outside folder.new) f }
 

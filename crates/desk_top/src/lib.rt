@@ -1,13 +1,9 @@
 //! The top call: what the words of the program ask for, over a folder and a sink.
+//!
+//! Its runs stand in `desk_rows`, as files.
 #![tactic(auto)]
 
-#[cfg(test)]
-mod carried;
-#[cfg(test)]
-mod days;
 mod desk;
-#[cfg(test)]
-mod overfull;
 #[cfg(test)]
 mod tests;
 

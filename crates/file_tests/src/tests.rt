@@ -2,9 +2,7 @@
 
 mod fleet;
 mod folder;
-mod helpers;
 mod journal;
-mod legs;
 mod loops;
 mod net;
 mod passengers;

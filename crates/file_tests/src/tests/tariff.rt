@@ -1,8 +1,6 @@
 //! Tests of the reader of the tariff.
 
-use super::helpers::{long_text, refusal};
-use desk_text::MOST_BYTES;
-use read_tariff::{Cabin, Cause, Haul, Price, TariffRow, Term, Weight, read_tariff};
+use read_tariff::{Cabin, Haul, Price, TariffRow, Term, Weight, read_tariff};
 use std::process::Abort;
 use std::test::Fail;
 
@@ -63,118 +61,6 @@ fn records_in_their_form_are_read(rt: HostRuntime) {
             Ok(*count),
             "{text}"
         );
-    }
-}
-
-/// Texts that are refused, each with the line and the cause.
-const REFUSED: [(&str, u32, Cause); 100] = [
-    ("surface,X\x7f", 1, Cause::Byte),
-    ("surface,X\x1f", 1, Cause::Byte),
-    ("surface,X\t", 1, Cause::Byte),
-    ("surface,\u{80}", 1, Cause::Byte),
-    ("position,500,\x7f", 1, Cause::Byte),
-    ("position,500,x,\"\n\"", 1, Cause::Byte),
-    ("position,\"500\nposition,500", 1, Cause::Byte),
-    ("x\0,x", 1, Cause::Byte),
-    ("delay,D\x7f", 1, Cause::Byte),
-    ("surface,,\0", 1, Cause::Byte),
-    ("\u{feff}\u{feff}surface,X", 1, Cause::Byte),
-    ("position,500\n\n\r\nposition,500,\x7f\nx", 2, Cause::Byte),
-    ("x", 1, Cause::Word),
-    (",", 1, Cause::Word),
-    ("\"\"", 1, Cause::Word),
-    ("#", 1, Cause::Word),
-    ("Surface,X", 1, Cause::Word),
-    (" surface,X", 1, Cause::Word),
-    ("surface ,X", 1, Cause::Word),
-    ("sur\"face\",X", 1, Cause::Word),
-    ("surface", 1, Cause::Fields),
-    ("weight", 1, Cause::Fields),
-    ("weight,x", 1, Cause::Fields),
-    ("delay", 1, Cause::Fields),
-    ("delay,x", 1, Cause::Fields),
-    ("delay,x,x", 1, Cause::Fields),
-    ("cancel", 1, Cause::Fields),
-    ("cancel,x", 1, Cause::Fields),
-    ("cancel,x,x", 1, Cause::Fields),
-    ("downgrade", 1, Cause::Fields),
-    ("downgrade,x", 1, Cause::Fields),
-    ("downgrade,x,x", 1, Cause::Fields),
-    ("downgrade,x,x,x", 1, Cause::Fields),
-    ("care", 1, Cause::Fields),
-    ("care,x", 1, Cause::Fields),
-    ("care,x,x", 1, Cause::Fields),
-    ("compensation", 1, Cause::Fields),
-    ("compensation,x", 1, Cause::Fields),
-    ("compensation,x,x", 1, Cause::Fields),
-    ("position", 1, Cause::Fields),
-    ("position\n,500", 1, Cause::Fields),
-    ("surface,", 1, Cause::Size),
-    ("surface,\"\"", 1, Cause::Size),
-    ("surface,abcdefghijklmnopqrstuvwxyz0123456", 1, Cause::Size),
-    ("weight,x,1", 1, Cause::Word),
-    ("weight,Legal,1", 1, Cause::Word),
-    ("weight,,x", 1, Cause::Word),
-    ("weight,legal,", 1, Cause::Number),
-    ("weight,legal,1000000", 1, Cause::Number),
-    ("weight,legal,1.0001", 1, Cause::Number),
-    ("weight,legal, 1", 1, Cause::Number),
-    ("delay,x,E,1", 1, Cause::Word),
-    ("delay,F,x,x", 1, Cause::Word),
-    ("delay,D,x,1", 1, Cause::Word),
-    ("delay,D,D,x", 1, Cause::Word),
-    ("delay,D,E,x", 1, Cause::Number),
-    ("delay,D,E,1000000000", 1, Cause::Number),
-    ("delay,D,E,1.00001", 1, Cause::Number),
-    ("cancel,d,E,1", 1, Cause::Word),
-    ("cancel,D,e,1", 1, Cause::Word),
-    ("cancel,D,,x", 1, Cause::Word),
-    ("cancel,D,E,-1", 1, Cause::Number),
-    ("cancel,D,E,", 1, Cause::Number),
-    ("downgrade,x,F,B,1", 1, Cause::Word),
-    ("downgrade,D,x,B,1", 1, Cause::Word),
-    ("downgrade,D,F,x,1", 1, Cause::Word),
-    ("downgrade,D,F,F,1", 1, Cause::Word),
-    ("downgrade,D,B,B,1", 1, Cause::Word),
-    ("downgrade,D,E,E,1", 1, Cause::Word),
-    ("downgrade,D,B,F,1", 1, Cause::Word),
-    ("downgrade,D,E,B,1", 1, Cause::Word),
-    ("downgrade,D,E,F,x", 1, Cause::Word),
-    ("downgrade,D,F,F,x", 1, Cause::Word),
-    ("downgrade,D,F,B,x", 1, Cause::Number),
-    ("care,x,1,1", 1, Cause::Word),
-    ("care,none,0,x", 1, Cause::Word),
-    ("care,D,x,1", 1, Cause::Number),
-    ("care,D,0,1", 1, Cause::Number),
-    ("care,D,10001,1", 1, Cause::Number),
-    ("care,D,0000000001,1", 1, Cause::Number),
-    ("care,D,1.0,1", 1, Cause::Number),
-    ("care,D,,1", 1, Cause::Number),
-    ("care,D,None,1", 1, Cause::Number),
-    ("care,D,none ,1", 1, Cause::Number),
-    ("care,D,1,x", 1, Cause::Number),
-    ("care,D,none,x", 1, Cause::Number),
-    ("compensation,E,1,1", 1, Cause::Word),
-    ("compensation,x,x,x", 1, Cause::Word),
-    ("compensation,D,0,1", 1, Cause::Number),
-    ("compensation,D,10001,1", 1, Cause::Number),
-    ("compensation,D,1,1.", 1, Cause::Number),
-    ("position,", 1, Cause::Number),
-    ("position,x", 1, Cause::Number),
-    ("position,1000000000", 1, Cause::Number),
-    ("position,1\nposition,1\nposition,x\nx", 3, Cause::Number),
-    ("\n\nposition,1\r\n\r\nposition\n", 2, Cause::Fields),
-    ("position,1\rposition,1\rsurface,", 3, Cause::Size),
-    ("position,1\n\rposition,1\n\rx", 3, Cause::Word),
-    ("\u{feff}position,1\n\u{feff}", 2, Cause::Byte),
-    ("surface,\"X\"\n\"\"\n", 2, Cause::Word),
-];
-
-#[test]
-fn others_are_refused_at_their_record(rt: HostRuntime) {
-    for (text, line, cause) in &REFUSED {
-        let fault = read_tariff(rt.alloc(), text.as_bytes()).err();
-        assert_eq!(rt; fault, refusal(*line, *cause), "{text}");
     }
 }
 
@@ -283,16 +169,5 @@ fn rows_have_what_their_fields_say(rt: HostRuntime) -> Result<(), Fail> {
             }
         )
     );
-    Ok(())
-}
-
-#[test]
-fn a_text_of_too_many_bytes_is_refused_as_a_whole(rt: HostRuntime) -> Result<(), Fail> {
-    let most = long_text(rt.alloc(), b"x\n", MOST_BYTES)?;
-    let fault = read_tariff(rt.alloc(), &most).err();
-    assert_eq!(rt; fault, refusal(1, Cause::Word));
-    let bytes = long_text(rt.alloc(), b"x\n", MOST_BYTES + 1)?;
-    let fault = read_tariff(rt.alloc(), &bytes).err();
-    assert_eq!(rt; fault, refusal(0, Cause::Size));
     Ok(())
 }

@@ -4,15 +4,12 @@ ghost use Rattle.std.specs.Prelude.{Ok, ◌<◌, ◌≤◌, length};
 ghost use Rattle.desk_text.specs.Fields.{name_of, number_of};
 ghost use Rattle.desk_text.specs.Rows.{◌>>=◌ as and_then, taken};
 
-use super::helpers::line_and_cause;
 use desk_text::{
-    Cause, Fields, Grammar, Minute, NoMem, ReadFault, RowFault, are_text, cabin, date, day_of,
-    haul, inbound, lines, moment, name, number, price, push_date, push_moment, push_number,
-    read_rows, seats, time, weight,
+    Cause, Fields, Grammar, Minute, NoMem, ReadFault, RowFault, are_text, cabin, day_of, haul,
+    inbound, lines, moment, name, number, push_moment, push_number, read_rows,
 };
 use desk_units::{Cabin, Haul};
 use std::alloc::Global;
-use std::process::Abort;
 use std::test::Fail;
 
 /// The lines of a text with their numbers and fields, as `1:first,second|`.
@@ -97,35 +94,8 @@ const NUMBERS: [(&str, Result<u32, Cause>); 12] = [
     ("3a", Err(Cause::Number)),
 ];
 
-const DATES: [(&str, Result<u32, Cause>); 24] = [
-    ("01/01/00", Ok(0)),
-    ("1/1/2000", Ok(0)),
-    ("29/02/00", Ok(59)),
-    ("29/2/2000", Ok(59)),
-    ("29/02/96", Ok(35_123)),
-    ("31/12/00", Ok(365)),
-    ("01/03/08", Ok(2982)),
-    ("1/3/08", Ok(2982)),
-    ("01/03/2008", Ok(2982)),
-    ("31/12/99", Ok(36524)),
-    ("31/12/2099", Ok(36524)),
-    ("31/12/1999", Err(Cause::Date)),
-    ("01/01/2100", Err(Cause::Date)),
-    ("29/02/01", Err(Cause::Date)),
-    ("31/04/08", Err(Cause::Date)),
-    ("00/03/08", Err(Cause::Date)),
-    ("01/00/08", Err(Cause::Date)),
-    ("01/13/08", Err(Cause::Date)),
-    ("001/03/08", Err(Cause::Date)),
-    ("01/03/8", Err(Cause::Date)),
-    ("01/03/008", Err(Cause::Date)),
-    ("01/03", Err(Cause::Date)),
-    ("01/03/08/", Err(Cause::Date)),
-    ("01-03-08", Err(Cause::Date)),
-];
-
 #[test]
-fn numbers_and_dates(rt: HostRuntime) {
+fn numbers(rt: HostRuntime) {
     assert_eq!(rt; number(b"999999999", 0, 999_999_999), Ok(999_999_999));
     assert_eq!(rt; number(b"1000000000", 0, u32::MAX), Err(Cause::Number));
     assert_eq!(rt; day_of(300, 1, 0), None);
@@ -133,29 +103,7 @@ fn numbers_and_dates(rt: HostRuntime) {
     for (text, expected) in &NUMBERS {
         assert_eq!(rt; number(text.as_bytes(), 3, 2880), *expected, "{text}");
     }
-    for (text, expected) in &DATES {
-        assert_eq!(rt; date(text.as_bytes()), *expected, "{text}");
-    }
 }
-
-const TIMES: [(&str, Result<(u32, Option<u32>), Cause>); 16] = [
-    ("00:00", Ok((0, None))),
-    ("8:05", Ok((485, None))),
-    ("08:05", Ok((485, None))),
-    ("23:59", Ok((1439, None))),
-    ("24:00", Err(Cause::Time)),
-    ("08:60", Err(Cause::Time)),
-    ("23:59+1", Ok((1439, Some(1)))),
-    ("00:10+0", Ok((10, Some(0)))),
-    ("00:10+9", Ok((10, Some(9)))),
-    ("00:10+", Err(Cause::Time)),
-    ("00:10+10", Err(Cause::Time)),
-    ("00:10-1", Err(Cause::Time)),
-    ("008:05", Err(Cause::Time)),
-    (":05", Err(Cause::Time)),
-    ("08:5", Err(Cause::Time)),
-    ("0805", Err(Cause::Time)),
-];
 
 const MOMENTS: [(&str, &str, Result<u32, Cause>); 8] = [
     ("01/01/00", "00:00", Ok(0)),
@@ -173,90 +121,14 @@ fn minutes_of(day: &str, time: &str) -> Result<u32, Cause> {
 }
 
 #[test]
-fn times(rt: HostRuntime) {
+fn moments(rt: HostRuntime) {
     for (day, time, expected) in &MOMENTS {
         assert_eq!(rt; minutes_of(day, time), *expected, "{day} {time}");
     }
-    for (text, expected) in &TIMES {
-        assert_eq!(rt; time(text.as_bytes()), *expected, "{text}");
-    }
-}
-
-fn ten_thousandths(text: &str) -> Result<u64, Cause> {
-    Ok(price(text.as_bytes())?.0)
-}
-
-fn thousandths(text: &str) -> Result<u32, Cause> {
-    Ok(weight(text.as_bytes())?.0)
-}
-
-const PRICES: [(&str, Result<u64, Cause>); 11] = [
-    ("0", Ok(0)),
-    ("50.5", Ok(505_000)),
-    ("50.05", Ok(500_500)),
-    ("0.0001", Ok(1)),
-    ("999999999.9999", Ok(9_999_999_999_999)),
-    ("0000000001", Err(Cause::Number)),
-    ("1.00000", Err(Cause::Number)),
-    ("1.", Err(Cause::Number)),
-    (".5", Err(Cause::Number)),
-    ("1.2.3", Err(Cause::Number)),
-    ("1,5", Err(Cause::Number)),
-];
-
-const WEIGHTS: [(&str, Result<u32, Cause>); 8] = [
-    ("1", Ok(1_000)),
-    ("0.5", Ok(500)),
-    ("0.05", Ok(50)),
-    ("0.005", Ok(5)),
-    ("999999.999", Ok(999_999_999)),
-    ("1000000", Err(Cause::Number)),
-    ("0.0005", Err(Cause::Number)),
-    ("1.", Err(Cause::Number)),
-];
-
-#[test]
-fn prices_and_weights(rt: HostRuntime) {
-    for (text, expected) in &PRICES {
-        assert_eq!(rt; ten_thousandths(text), *expected, "{text}");
-    }
-    for (text, expected) in &WEIGHTS {
-        assert_eq!(rt; thousandths(text), *expected, "{text}");
-    }
-}
-
-fn seat_list(text: &str) -> Result<(u32, u32, u32), Cause> {
-    let seats = seats(text.as_bytes())?;
-    Ok((seats.f, seats.b, seats.e))
-}
-
-const SEATS: [(&str, Result<(u32, u32, u32), Cause>); 10] = [
-    ("0/20/100", Ok((0, 20, 100))),
-    ("999/999/999", Ok((999, 999, 999))),
-    ("0001/2/3", Ok((1, 2, 3))),
-    ("1000/0/0", Err(Cause::Number)),
-    ("0/1000/0", Err(Cause::Number)),
-    ("0/0/1000", Err(Cause::Number)),
-    ("0/0/-1", Err(Cause::Number)),
-    ("0/0", Err(Cause::Number)),
-    ("0/0/0/0", Err(Cause::Number)),
-    ("0//0", Err(Cause::Number)),
-];
-
-#[test]
-fn seats_and_names(rt: HostRuntime) {
-    for (text, expected) in &SEATS {
-        assert_eq!(rt; seat_list(text), *expected, "{text}");
-    }
-    let longest = b"abcdefghijklmnopqrstuvwxyz-12345";
-    assert!(rt; name(b"P1").is_ok());
-    assert!(rt; name(longest.as_slice()).is_ok());
-    assert!(rt; name(b"abcdefghijklmnopqrstuvwxyz-123456").is_err());
-    assert!(rt; name(b"").is_err());
 }
 
 #[test]
-fn words(rt: HostRuntime) {
+fn words_and_names(rt: HostRuntime) {
     assert_eq!(rt; haul(b"D"), Ok(Haul::D));
     assert_eq!(rt; haul(b"C"), Ok(Haul::C));
     assert_eq!(rt; haul(b"I"), Ok(Haul::I));
@@ -268,6 +140,8 @@ fn words(rt: HostRuntime) {
     assert_eq!(rt; inbound(b"A"), Ok(false));
     assert_eq!(rt; inbound(b"R"), Ok(true));
     assert_eq!(rt; inbound(b""), Err(Cause::Word));
+    assert!(rt; name(b"P1").is_ok());
+    assert!(rt; name(b"").is_err());
 }
 
 /// Lines of a number from 1 to 9 and a name, of which the number is kept.
@@ -285,6 +159,14 @@ impl Grammar<u32> for Sample {
         let number = number(first, 1, 9)?;
         name(second)?;
         Ok(number)
+    }
+}
+
+/// The line that is refused, and the name of its cause.
+fn line_and_cause(fault: ReadFault) -> (u32, &'static str) {
+    match fault {
+        ReadFault::Refused { line, cause } => (line, cause.name()),
+        ReadFault::Memory => (0, "memory"),
     }
 }
 
@@ -353,28 +235,6 @@ fn rows_or_the_first_line_that_is_refused(rt: HostRuntime) {
     for (text, expected) in &TEXTS {
         assert_eq!(rt; read(rt.alloc(), text.as_bytes()), *expected, "{text}");
     }
-}
-
-/// What a day is written as.
-fn expect_date(rt: &impl Abort, alloc: Global, day: u32, text: &[u8]) -> Result<(), Fail>
-    requires { day < 36525 }
-{
-    let mut out = Vec::new(alloc);
-    push_date(&mut out, day)?;
-    assert_eq!(rt; out.as_slice(), text);
-    Ok(())
-}
-
-#[test]
-fn dates(rt: HostRuntime) -> Result<(), Fail> {
-    let alloc = rt.alloc();
-    expect_date(&rt, alloc, 0, b"01/01/00")?;
-    expect_date(&rt, alloc, 59, b"29/02/00")?;
-    expect_date(&rt, alloc, 60, b"01/03/00")?;
-    expect_date(&rt, alloc, 365, b"31/12/00")?;
-    expect_date(&rt, alloc, 366, b"01/01/01")?;
-    expect_date(&rt, alloc, 2_982, b"01/03/08")?;
-    expect_date(&rt, alloc, 36_524, b"31/12/99")
 }
 
 #[test]

@@ -2,9 +2,10 @@ use Rattle.std.proofs.Common.{◌≡◌, true, not, ap, sym, ◌∙◌, take}
 use Rattle.std.specs.Prelude.{option_copied, is_some}
 use Rattle.std.specs.Map.{lookup}
 use Rattle.indexmap.proofs.CallerLemmas.{insert_entry-new}
+use Rattle.build_tables.specs.contracts.places.KeyPartialEq.TheImpl.{eq-value}
 use Rattle.build_tables.specs.Keys.{is_key, key_place}
-use Rattle.build_tables.specs.Found.{place_in}
-use Rattle.build_tables.proofs.PlaceLemmas.{place_new, place_kept, copied_stands, not_there, seen, same_borrowed, lookup_seen}
+use Rattle.build_tables.specs.Found.{place_in, seen}
+use Rattle.build_tables.proofs.PlaceLemmas.{place_new, place_kept, copied_stands, not_there, lookup_seen}
 use Rattle.build_tables.proofs.places.places_of.Goals as goal
 use Rattle.build_tables.proofs.places.places_of.Goals.{then-is_none+in_ok-insert, else-is_none}
 
@@ -20,7 +21,7 @@ loop-place-preserved g c = λ key.
     elim c.if-is_none.branch [
       | then-is_none+in_ok-insert w ↦ (
           let absent = not_there (option_copied c.get.result) (stands ∙ ap not w.if-is_none.true) in
-          let new = insert_entry-new same_borrowed here.places k here.place (sym c.get.ensures.value ∙ absent) in
+          let new = insert_entry-new eq-value.it here.places k here.place (sym c.get.ensures.value ∙ absent) in
           ap (λ m. lookup (λ x. is_key key (seen x)) m.entries) w.places-is
           ∙ ap (lookup (λ x. is_key key (seen x))) (w.in_ok-insert.ensures.entries ∙ new)
           ∙ place_new key_of rows here.place row c.loop-place-test.true c.index-rows-place.is seen here.places.entries k c.key-key.ensures key (here.invariant key))

@@ -1,14 +1,15 @@
 use Rattle.std.proofs.Common.{◌≡◌, ℕ, true, List, ◌∷◌, sym, subst}
-use Rattle.std.specs.Prelude.{Result, Ok, Err, OnOk, IsTrue}
+use Rattle.std.specs.Prelude.{Result, Ok, Err, OnOk, IfErr}
 use Rattle.desk_folder.specs.declared.files.File.{File}
 use Rattle.desk_folder.specs.Outside.{Outside}
 use Rattle.desk_story.specs.declared.rows.InputRows.{InputRows}
 use Rattle.desk_story.specs.declared.fault.StoryFault.{StoryFault}
 use Rattle.desk_story.specs.Inputs.{Inputs, is_among, are_in_order, Tells}
 use Rattle.desk_story.specs.Story.{read_all}
-use Rattle.desk_story.specs.Reading.{IsRead, ReadsAmong, GivesRead, HasReadCause}
+use Rattle.desk_story.specs.declared.refusal.Refusal.{Refusal}
+use Rattle.desk_story.specs.Reading.{IsRead, ReadsAmong, StopsAt, StopsAtFault, GivesRead, HasReadCause}
 use Rattle.desk_story.specs.Facts.{rows_in}
-use Rattle.desk_story.proofs.Chain.{tells-rest, tells-first, exact-rest, exact-first, all-read, reads-first, reads-rest}
+use Rattle.desk_story.proofs.Chain.{tells-rest, tells-first, exact-rest, exact-first, all-read, reads-first, reads-rest, order-first, order-rest, stops-first, stops-rest}
 use Rattle.desk_story.proofs.files.+read_files.Goals as goal
 
 -- what follows at Ok, from what is known there
@@ -57,3 +58,39 @@ returns-clause-exact g t c = λ x tells.
     (exact-rest c.in-Some.file c.in-Some.others.now x (rows_in c.args.rows) (rows_in c.in-Ok.rows) c.read_files.result
     (c.in-Ok.ensures.exact (x c.in-Some.file) (tells-first c.in-Some.file c.in-Some.others.now (outside c.args.folder.now) x told))
     (c.read_files.ensures.exact x (tells-rest c.in-Some.file c.in-Some.others.now (outside c.args.folder.now) (outside c.read_one.new.folder) x order c.read_one.ensures.only told)))
+
+pub returns-in-Err-clause-in_order : goal.returns-in-Err-clause-in_order
+returns-in-Err-clause-in_order g t c = λ x tells r refused.
+    let outside = g.F.Folder.outside in
+    let order : are_in_order (c.in-Some.file ∷ c.in-Some.others.now) ≡ true = subst (λ (fs : List File). are_in_order fs ≡ true) c.in-Some.ensures c.requires.order in
+    order-first c.in-Some.file c.in-Some.others.now (outside c.args.folder.now) (outside c.read_one.new.folder) x (rows_in c.args.rows) r order c.read_one.ensures.only
+    (subst (λ (fs : List File). read_all fs x (rows_in c.args.rows) ≡ Err r) c.in-Some.ensures refused)
+
+pub returns-clause-in_order : goal.returns-clause-in_order
+returns-clause-in_order g t c = λ x tells r refused.
+    let outside = g.F.Folder.outside in
+    let order : are_in_order (c.in-Some.file ∷ c.in-Some.others.now) ≡ true = subst (λ (fs : List File). are_in_order fs ≡ true) c.in-Some.ensures c.requires.order in
+    let told : Tells (c.in-Some.file ∷ c.in-Some.others.now) (outside c.args.folder.now) x = subst (λ (fs : List File). Tells fs (outside c.args.folder.now) x) c.in-Some.ensures tells in
+    order-rest c.in-Some.file c.in-Some.others.now (outside c.args.folder.now) (outside c.read_one.new.folder) (outside c.read_files.new.folder) x (rows_in c.args.rows) (rows_in c.in-Ok.rows) r order
+    c.read_one.ensures.only (c.in-Ok.ensures.exact (x c.in-Some.file) (tells-first c.in-Some.file c.in-Some.others.now (outside c.args.folder.now) x told))
+    (c.read_files.ensures.in_order x (tells-rest c.in-Some.file c.in-Some.others.now (outside c.args.folder.now) (outside c.read_one.new.folder) x order c.read_one.ensures.only told) r)
+    (subst (λ (fs : List File). read_all fs x (rows_in c.args.rows) ≡ Err r) c.in-Some.ensures refused)
+
+pub returns-in-Err-clause-stops : goal.returns-in-Err-clause-stops
+returns-in-Err-clause-stops g t c =
+    let outside = g.F.Folder.outside in
+    stops-first c.in-Some.file (outside c.args.folder.now) (outside c.read_one.new.folder) c.in-Err.fault c.read_one.ensures.only c.in-Err.ensures.cause
+
+-- what follows of an error, from two facts that are known of it
+on_err : {A B C : StoryFault → Type 0} (answer : Result InputRows StoryFault) → ((e : StoryFault) → A e → B e → C e) → IfErr answer A → IfErr answer B → IfErr answer C
+on_err (Ok rows) f h k = h
+on_err (Err e) f h k = f e h k
+
+pub returns-clause-stops : goal.returns-clause-stops
+returns-clause-stops g t c =
+    let outside = g.F.Folder.outside in
+    let order : are_in_order (c.in-Some.file ∷ c.in-Some.others.now) ≡ true = subst (λ (fs : List File). are_in_order fs ≡ true) c.in-Some.ensures c.requires.order in
+    on_err {A = HasReadCause c.in-Some.others.now (outside c.read_one.new.folder) (outside c.read_files.new.folder)} {B = StopsAtFault (outside c.read_one.new.folder) (outside c.read_files.new.folder)}
+    {C = StopsAtFault (outside c.args.folder.now) (outside c.read_files.new.folder)} c.read_files.result
+    (λ e. stops-rest c.in-Some.file c.in-Some.others.now (outside c.args.folder.now) (outside c.read_one.new.folder) (outside c.read_files.new.folder) e order c.read_one.ensures.only)
+    c.read_files.ensures.cause c.read_files.ensures.stops

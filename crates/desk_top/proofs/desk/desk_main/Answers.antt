@@ -3,7 +3,7 @@ use Rattle.std.specs.String.{string_bytes}
 use Rattle.desk_replay.specs.Runs.{world}
 use Rattle.desk_replay.proofs.HeadlineLaw.{headline-of}
 use Rattle.desk_replay.proofs.CausesLaw.{usage-from, usage-only, done-with, refused-from, refused-of, fault-of, complete-of}
-use Rattle.desk_replay.proofs.StandingLaw.{unwritten-of, begun-of, unread-of, unput-of, told-last}
+use Rattle.desk_replay.proofs.StandingLaw.{unwritten-of, begun-of, unread-of, in-order, unput-of, told-last}
 use Rattle.desk_top.proofs.desk.desk_main.Goals as goal
 
 pub returns : goal.returns
@@ -26,6 +26,7 @@ returns g c =
       unwritten = unwritten-of words before now code run;
       begun = begun-of words before now code run;
       unread = unread-of words before now code run;
+      in_order = in-order words before now code run;
       unput = unput-of words before now code run;
       told_last = told-last words before now code run;
     }

@@ -1,0 +1,132 @@
+#!/usr/bin/env python3
+"""Runs cases of crates/desk_rows by hand, with ./desk over a folder of the disk.
+
+Usage: bench/row.py NAME ..
+
+Prints each transcript as it comes, and ends with 1 where one is not as it stands in the case. A run
+whose calls are to fail, or whose sink has little room, can't be made so: it is left out, with its answer.
+"""
+import os
+import re
+import shutil
+import subprocess
+import sys
+import tempfile
+
+TOP = os.path.dirname(os.path.dirname(os.path.abspath(__file__)))
+DATA = os.path.join(TOP, "crates", "desk_rows", "data")
+WRITTEN = ("journal.csv", "sol_rotations.csv")
+ESCAPES = {b"n": b"\n", b"r": b"\r", b"t": b"\t"}
+
+
+def unescaped(text):
+    def byte(mark):
+        name = mark.group(1)
+        return bytes([int(name[1:], 16)]) if name[:1] == b"x" else ESCAPES.get(name, name)
+
+    return re.sub(rb"\\(x..|.)", byte, text.encode())
+
+
+def read(path):
+    if not os.path.exists(path):
+        return b""
+    with open(path, "rb") as file:
+        return file.read()
+
+
+def write(path, text):
+    with open(path, "wb") as file:
+        file.write(text)
+
+
+def shown(text):
+    return text + (b"\\\n" if text and not text.endswith(b"\n") else b"")
+
+
+def new_day(case, folder):
+    """A folder with the files of the usual day, and over them those of the case."""
+    day = tempfile.mkdtemp(dir=folder)
+    os.mkdir(os.path.join(day, "in"))
+    for source in (os.path.join(DATA, "usual"), case):
+        for name in os.listdir(source):
+            if name.endswith(".csv"):
+                shutil.copy(os.path.join(source, name), os.path.join(day, "in", name))
+    return day
+
+
+def change(day, before, words):
+    """Does a command that is about the next run."""
+    verb, _, rest = words.partition(" ")
+    name, _, rest = rest.partition(" ")
+    path = os.path.join(day, "in", name)
+    if verb == "text":
+        write(path, unescaped(rest))
+    elif verb == "rows":
+        first, last, row = rest.split(" ", 2)
+        row = unescaped(row)
+        rows = (row.replace(b"{}", b"%d" % n, 1) for n in range(int(first), int(last) + 1))
+        write(path, read(path) + b"".join(rows))
+    elif verb == "take":
+        write(path, before.get(name, b""))
+    else:
+        sys.exit("no command: " + words)
+
+
+def desk(day, words):
+    """What a run gives, and what it wrote."""
+    words = ["" if word == "''" else word for word in words.split()]
+    if len(words) == 3 and words[1]:
+        os.rename(os.path.join(day, "in"), os.path.join(day, words[1]))
+    done = subprocess.run([os.path.join(TOP, "desk")] + words, cwd=day, stdout=subprocess.PIPE)
+    out = os.path.join(day, words[2]) if len(words) == 3 else day
+    written = {name: read(os.path.join(out, name)) for name in WRITTEN}
+    told = b"status %d\n" % done.returncode + shown(done.stdout)
+    for name in WRITTEN:
+        if written[name]:
+            told += name.encode() + b":\n" + shown(written[name])
+    return told, written
+
+
+def given_below(lines, at):
+    """The lines of an answer that stands in the transcript."""
+    end = at
+    while end < len(lines) and lines[end] and not lines[end].startswith(("#", "$ ")):
+        end += 1
+    return "".join(line + "\n" for line in lines[at:end]).encode()
+
+
+def play(case, folder):
+    """The transcript of a case as it comes."""
+    lines = read(os.path.join(case, "transcript")).decode().splitlines()
+    played, before, changes = b"", {}, []
+    for at, line in enumerate(lines):
+        if not line or line.startswith(("#", "$ ")):
+            played += line.encode() + b"\n"
+        if line.startswith("$ ./desk"):
+            by_hand = not any(words.startswith(("fail ", "room ")) for words in changes)
+            if by_hand:
+                day = new_day(case, folder)
+                for words in changes:
+                    change(day, before, words)
+                told, before = desk(day, line[len("$ ./desk"):])
+            played += told if by_hand else given_below(lines, at + 1)
+            changes = []
+        elif line.startswith("$ "):
+            changes.append(line[2:])
+    return played
+
+
+def main():
+    others = 0
+    for name in sys.argv[1:]:
+        case = os.path.join(DATA, name)
+        with tempfile.TemporaryDirectory() as folder:
+            played = play(case, folder)
+        is_other = played != read(os.path.join(case, "transcript"))
+        others += is_other
+        print(played.decode(errors="replace") + ("other than expected" if is_other else "as expected"))
+    sys.exit(1 if others or len(sys.argv) == 1 else 0)
+
+
+if __name__ == "__main__":
+    main()

@@ -1,0 +1,56 @@
+//! The cases: folders with a transcript, and with the files that differ from those of the usual day.
+
+use crate::lines::file_of;
+use crate::play::play;
+use crate::texts::Texts;
+use std::io::ErrorKind;
+use std::{fs, io};
+
+// The names of the folders in a folder, or of the files, in order.
+fn names_in(rt: &HostRuntime, folder: &str, of_folders: bool) -> io::Result<Vec<String>> {
+    let alloc = rt.alloc();
+    let mut names = Vec::new(alloc);
+    for entry in fs::read_dir(rt, folder)? {
+        let entry = entry?;
+        if entry.file_type()?.is_dir() == of_folders {
+            names.push(String::from_str(alloc, entry.file_name())?)?;
+        }
+    }
+    names.sort()?;
+    Ok(names)
+}
+
+/// The names of the cases, in order.
+pub(crate) fn case_names(rt: &HostRuntime) -> io::Result<Vec<String>> {
+    let mut names = names_in(rt, ".", true)?;
+    names.retain(|name| name.as_str() != "usual");
+    Ok(names)
+}
+
+// Adds the texts of the files of a folder. Its transcript is left out; another file is an error.
+fn add_folder(rt: &HostRuntime, texts: &mut Texts, folder: &str) -> io::Result<()> {
+    let alloc = rt.alloc();
+    for name in &names_in(rt, folder, false)? {
+        if name.as_str() != "transcript" {
+            let file = file_of(name.as_str()).ok_or(io::Error::from(ErrorKind::InvalidFilename))?;
+            let path = format!(in alloc; "{folder}/{name}")?;
+            texts.push((file, fs::read(rt, path.as_str())?))?;
+        }
+    }
+    Ok(())
+}
+
+/// Plays a case: none where it gives what its transcript says, and else the transcript as it came.
+pub(crate) fn play_case(rt: &HostRuntime, name: &str) -> io::Result<Option<String>> {
+    let alloc = rt.alloc();
+    let mut day = Vec::new(alloc);
+    add_folder(rt, &mut day, name)?;
+    add_folder(rt, &mut day, "usual")?;
+    let path = format!(in alloc; "{name}/transcript")?;
+    let transcript = fs::read_to_string(rt, path.as_str())?;
+    let played = play(alloc, day, transcript.as_str())?;
+    if played.as_slice() == transcript.as_bytes() {
+        return Ok(None);
+    }
+    Ok(Some(String::from_utf8_lossy(alloc, played.as_slice())?))
+}

@@ -1,0 +1,178 @@
+//! The lines of a transcript.
+
+use desk_folder::{FILES, File};
+use std::alloc::{AllocError, Global};
+
+/// A kind of call that can be told to fail.
+#[derive(Clone, Copy)]
+pub(crate) enum Call {
+    Place,
+    Next,
+    Put,
+    Report,
+}
+
+/// What a command does. All but `Desk` are about the next run alone.
+#[derive(Clone, Copy)]
+pub(crate) enum Command<'a> {
+    /// `./desk WORD ..`: runs the desk; `''` is a word of no bytes
+    Desk(&'a str),
+    /// `text FILE TEXT`: the file has this text, in which `\n`, `\r`, `\t`, `\\` and `\xNN` are one byte each
+    Text(File, &'a str),
+    /// `rows FILE FROM TO TEXT`: the file has this text behind its own for each number from FROM to TO,
+    /// which stands in the place of `{}`
+    Rows(File, u64, u64, &'a str),
+    /// `take FILE`: the file has what the run before wrote
+    Take(File),
+    /// `fail CALL NUMBER`: the call of this number fails, counted from 1
+    Fail(Call, u64),
+    /// `room NUMBER`: the sink takes so many bytes, and then fails
+    Room(u64),
+}
+
+/// A line of a transcript.
+#[derive(Clone, Copy)]
+pub(crate) enum Line<'a> {
+    /// an empty line, or one that begins with `#`
+    Note,
+    /// `$ ` and a command
+    Command(Command<'a>),
+    /// `$ ` and no command
+    Unknown,
+    /// what a run gave
+    Given,
+}
+
+/// All files, in file order.
+pub(crate) const ALL: [File; FILES] = [
+    File::Config,
+    File::Flights,
+    File::Rotations,
+    File::Aircraft,
+    File::Airports,
+    File::Dist,
+    File::Itineraries,
+    File::Position,
+    File::AltFlights,
+    File::AltAircraft,
+    File::AltAirports,
+    File::Tariff,
+    File::Feed,
+    File::Journal,
+    File::SolRotations,
+    File::SolItineraries,
+];
+
+/// The file of a name.
+pub(crate) fn file_of(name: &str) -> Option<File> {
+    for file in ALL {
+        if file.name() == name {
+            return Some(file);
+        }
+    }
+    None
+}
+
+fn call_of(name: &str) -> Option<Call> {
+    match name {
+        "place" => Some(Call::Place),
+        "next" => Some(Call::Next),
+        "put" => Some(Call::Put),
+        "report" => Some(Call::Report),
+        _ => None,
+    }
+}
+
+// The front of a text up to its first blank, and what is behind it.
+fn cut_word(text: &str) -> (&str, &str) {
+    text.split_once(' ').unwrap_or((text, ""))
+}
+
+fn rows_of(words: &str) -> Option<Command<'_>> {
+    let (name, rest) = cut_word(words);
+    let (from, rest) = cut_word(rest);
+    let (to, text) = cut_word(rest);
+    let file = file_of(name)?;
+    Some(Command::Rows(file, from.parse().ok()?, to.parse().ok()?, text))
+}
+
+fn fail_of(words: &str) -> Option<Command<'_>> {
+    let (name, number) = cut_word(words);
+    Some(Command::Fail(call_of(name)?, number.parse().ok()?))
+}
+
+fn text_of(words: &str) -> Option<Command<'_>> {
+    let (name, text) = cut_word(words);
+    Some(Command::Text(file_of(name)?, text))
+}
+
+fn command_of(words: &str) -> Option<Command<'_>> {
+    let (verb, rest) = cut_word(words);
+    match verb {
+        "./desk" => Some(Command::Desk(rest)),
+        "text" => text_of(rest),
+        "rows" => rows_of(rest),
+        "take" => Some(Command::Take(file_of(rest)?)),
+        "fail" => fail_of(rest),
+        "room" => Some(Command::Room(rest.parse().ok()?)),
+        _ => None,
+    }
+}
+
+/// What a line of a transcript is.
+pub(crate) fn line_of(line: &str) -> Line<'_> {
+    if line.is_empty() || line.starts_with('#') {
+        return Line::Note;
+    }
+    match line.strip_prefix("$ ") {
+        None => Line::Given,
+        Some(words) => command_of(words).map_or(Line::Unknown, Line::Command),
+    }
+}
+
+// Where the reading of a text with escapes is: at a byte, behind a backslash, behind its `x`, and behind
+// the first digit, of this value.
+#[derive(Clone, Copy)]
+enum At {
+    Byte,
+    Mark,
+    High,
+    Low(u8),
+}
+
+// The value of a hexadecimal digit.
+fn digit(byte: u8) -> u8 {
+    match byte {
+        b'0'..=b'9' => byte - b'0',
+        b'a'..=b'f' => byte - b'a' + 10,
+        _ => 0,
+    }
+}
+
+// The byte that is now complete, and where the reading is behind this one.
+fn step(at: At, byte: u8) -> (Option<u8>, At) {
+    match (at, byte) {
+        (At::Byte, b'\\') => (None, At::Mark),
+        (At::Mark, b'x') => (None, At::High),
+        (At::High, _) => (None, At::Low(digit(byte))),
+        (At::Low(high), _) => (Some(high.wrapping_mul(16) | digit(byte)), At::Byte),
+        (At::Mark, b'n') => (Some(b'\n'), At::Byte),
+        (At::Mark, b'r') => (Some(b'\r'), At::Byte),
+        (At::Mark, b't') => (Some(b'\t'), At::Byte),
+        (At::Byte | At::Mark, _) => (Some(byte), At::Byte),
+    }
+}
+
+/// The bytes of a text in which `\n`, `\r`, `\t`, `\\` and `\xNN` stand for one byte each.
+pub(crate) fn unescaped(alloc: Global, text: &str) -> Result<Vec<u8>, AllocError> {
+    let mut bytes = Vec::new(alloc);
+    let mut at = At::Byte;
+    for byte in text.as_bytes() {
+        let (complete, behind) = step(at, *byte);
+        if let Some(complete) = complete {
+            bytes.push(complete)?;
+        }
+        at = behind;
+    }
+    Ok(bytes)
+}

@@ -1,0 +1,188 @@
+//! Plays a transcript: runs the desk as its commands say, and puts what each run gave behind them.
+
+use crate::lines::{ALL, Call, Command, Line, line_of, unescaped};
+use crate::sink::ReportSink;
+use crate::texts::{Texts, add_all, push_rows, text_of, written_texts};
+use desk_folder::{File, FreeGate, MemFolder};
+use desk_top::desk_main;
+use std::alloc::{AllocError, Global};
+
+// The calls of the next run that are to fail, and the bytes that its sink takes.
+#[derive(Drop)]
+struct Faults {
+    place: Vec<u64>,
+    next: Vec<u64>,
+    put: Vec<u64>,
+    report: Vec<u64>,
+    room: usize,
+}
+
+fn no_faults(alloc: Global) -> Faults {
+    Faults {
+        place: Vec::new(alloc),
+        next: Vec::new(alloc),
+        put: Vec::new(alloc),
+        report: Vec::new(alloc),
+        room: usize::MAX,
+    }
+}
+
+/// A transcript that is played.
+#[derive(Drop)]
+pub(crate) struct Player {
+    alloc: Global,
+    /// the texts with which each run begins
+    day: Texts,
+    /// the texts of the next run that are changed
+    changed: Texts,
+    faults: Faults,
+    /// what the run before wrote
+    written: Texts,
+    runs: u64,
+    played: Vec<u8>,
+}
+
+/// Plays a transcript over a day, and answers it with what came.
+pub(crate) fn play(alloc: Global, day: Texts, transcript: &str) -> Result<Vec<u8>, AllocError> {
+    let mut player = Player {
+        alloc,
+        day,
+        changed: Vec::new(alloc),
+        faults: no_faults(alloc),
+        written: Vec::new(alloc),
+        runs: 0,
+        played: Vec::new(alloc),
+    };
+    for line in transcript.lines() {
+        player.play_line(line)?;
+    }
+    if player.runs == 0 {
+        player.push("nothing was run\n")?;
+    }
+    Ok(player.played)
+}
+
+// The words of a run; `''` is one of no bytes.
+fn words_of(alloc: Global, text: &str) -> Result<Vec<String>, AllocError> {
+    let mut words = Vec::new(alloc);
+    for word in text.split_whitespace() {
+        let word = if word == "''" { "" } else { word };
+        words.push(String::from_str(alloc, word)?)?;
+    }
+    Ok(words)
+}
+
+impl Player {
+    fn push(&mut self, text: &str) -> Result<(), AllocError> {
+        self.played.extend_from_slice(text.as_bytes())
+    }
+
+    // Adds a text of whole lines; a backslash tells that the last one has no end.
+    fn push_text(&mut self, text: &[u8]) -> Result<(), AllocError> {
+        self.played.extend_from_slice(text)?;
+        match text.last() {
+            None | Some(b'\n') => Ok(()),
+            Some(_) => self.push("\\\n"),
+        }
+    }
+
+    fn play_line(&mut self, line: &str) -> Result<(), AllocError> {
+        let meaning = line_of(line);
+        if matches!(meaning, Line::Given) {
+            return Ok(());
+        }
+        self.push(line)?;
+        self.push("\n")?;
+        match meaning {
+            Line::Command(command) => self.obey(command),
+            Line::Unknown => self.push("no command\n"),
+            Line::Note | Line::Given => Ok(()),
+        }
+    }
+
+    fn obey(&mut self, command: Command<'_>) -> Result<(), AllocError> {
+        match command {
+            Command::Desk(words) => self.run(words),
+            Command::Text(file, text) => {
+                let text = unescaped(self.alloc, text)?;
+                self.change(file, text)
+            }
+            Command::Rows(file, from, to, row) => {
+                let mut text = self.text_now(file)?;
+                let row = unescaped(self.alloc, row)?;
+                push_rows(&mut text, row.as_slice(), from, to)?;
+                self.change(file, text)
+            }
+            Command::Take(file) => {
+                let text = Vec::from_slice(self.alloc, text_of(self.written.as_slice(), file))?;
+                self.change(file, text)
+            }
+            Command::Fail(call, number) => self.fail(call, number),
+            Command::Room(room) => {
+                self.faults.room = room as usize;
+                Ok(())
+            }
+        }
+    }
+
+    // The text of a file as the next run would have it.
+    fn text_now(&self, file: File) -> Result<Vec<u8>, AllocError> {
+        let is_changed = self.changed.iter().any(|(other, _)| *other == file);
+        let texts = if is_changed { &self.changed } else { &self.day };
+        Vec::from_slice(self.alloc, text_of(texts.as_slice(), file))
+    }
+
+    // Gives a file this text for the next run.
+    fn change(&mut self, file: File, text: Vec<u8>) -> Result<(), AllocError> {
+        self.changed.retain(|(other, _)| *other != file);
+        self.changed.push((file, text))?;
+        Ok(())
+    }
+
+    fn fail(&mut self, call: Call, number: u64) -> Result<(), AllocError> {
+        let numbers = match call {
+            Call::Place => &mut self.faults.place,
+            Call::Next => &mut self.faults.next,
+            Call::Put => &mut self.faults.put,
+            Call::Report => &mut self.faults.report,
+        };
+        numbers.push(number)?;
+        Ok(())
+    }
+
+    fn run(&mut self, words: &str) -> Result<(), AllocError> {
+        let alloc = self.alloc;
+        let words = words_of(alloc, words)?;
+        let mut inputs = std::mem::replace(&mut self.changed, Vec::new(alloc));
+        add_all(&mut inputs, self.day.as_slice())?;
+        let faults = std::mem::replace(&mut self.faults, no_faults(alloc));
+        let mut folder = MemFolder::new(inputs, faults.next, faults.put);
+        let mut sink = ReportSink {
+            bytes: Vec::new(alloc),
+            room: faults.room,
+            fail: faults.report,
+            calls: 0,
+            faults: 0,
+        };
+        let status = desk_main(alloc, words.as_slice(), &mut folder, &mut sink, &FreeGate);
+        self.runs = self.runs.saturating_add(1);
+        self.tell(status, sink.bytes.as_slice(), &folder)
+    }
+
+    // Adds what a run gave, and keeps what it wrote.
+    fn tell(&mut self, status: u8, report: &[u8], folder: &MemFolder) -> Result<(), AllocError> {
+        let told = format!(in self.alloc; "status {status}\n")?;
+        self.push(told.as_str())?;
+        self.push_text(report)?;
+        for file in ALL {
+            let text = folder.written(file);
+            if !text.is_empty() {
+                self.push(file.name())?;
+                self.push(":\n")?;
+                self.push_text(text)?;
+            }
+        }
+        self.written = written_texts(self.alloc, folder, &ALL)?;
+        Ok(())
+    }
+}
