@@ -29,7 +29,7 @@ last_within : (flight : FlightRow) (at : ℕ) (rotations : List RotationRow) (k 
 unfolding last_in_time
 last_within flight at rotations k e = place_within (λ row. is_in_time flight at row && is_last_in_time flight at rotations row) rotations k e
 
--- the leg before a leg is one of the legs
+-- the previous leg of a leg is one of the legs
 previous_by : (x : Files) (at : ℕ) (o : Option FlightRow) (k : ℕ) → (o >>= (λ previous. last_in_time previous at x.rotations)) ≡ Some k → k < length x.rotations
 previous_by x at None k e = absurd cc
 previous_by x at (Some previous) k e = last_within previous at x.rotations k e

@@ -1,4 +1,4 @@
--- The legs of the rotations, one a row, and the leg before each.
+-- The legs of the rotations, one a row, and the previous leg of each.
 use Rattle.std.specs.Prelude.{ℕ, ◌+◌, ◌-◌, ◌*◌, Bool, not, ◌&&◌, ◌||◌, List, position, Option, option_map, unwrap_or, bytes_eq, nat_le, All, IsSome}
 use Rattle.std.specs.List.{list_all}
 use Rattle.std.specs.Option.{option_map_or}
@@ -33,7 +33,7 @@ is_last_in_time flight at rotations row = list_all (λ other. not (is_in_time fl
 unfoldable pub last_in_time : FlightRow → ℕ → List RotationRow → Option ℕ
 last_in_time flight at rotations = position (λ row. is_in_time flight at row && is_last_in_time flight at rotations row) rotations
 
--- the place of the leg before a leg of the flight on a day: the last in time of the previous flight that the flight names
+-- the place of the previous leg of the flight's leg on a day: the last in time of the previous flight that the flight names
 unfoldable pub previous_place : Files → FlightRow → ℕ → Option ℕ
 previous_place x flight day = do
   name ← flight.prev

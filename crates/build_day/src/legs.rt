@@ -1,4 +1,4 @@
-//! The leg of a rotation, and the leg before it.
+//! The leg of a rotation, and its previous leg.
 
 ghost use Rattle.std.specs.Prelude.{◌≡◌, ◌<◌, length, All, IsSome, IfSome, option_map, unwrap_or};
 ghost use Rattle.read_legs.specs.Facts.{IsFlight, IsRotation};
@@ -51,7 +51,7 @@ fn last_in_time(tables: &Tables<'_>, flight: &FlightRow, at: u32) -> Option<usiz
     tables.rotation_place(&flight.flight, day - 1)
 }
 
-/// The place of the leg before a leg of the flight on a day.
+/// The place of the previous leg of the flight's leg on a day.
 #[tactic(auto, unfolding(crate::specs::Legs::previous_place))]
 fn previous_place(tables: &Tables<'_>, flight: &FlightRow, day: u32) -> Option<usize>
     requires flight { IsFlight flight.now }
@@ -64,7 +64,7 @@ fn previous_place(tables: &Tables<'_>, flight: &FlightRow, day: u32) -> Option<u
     last_in_time(tables, previous, 1_440 * day + flight.dep)
 }
 
-/// The leg before a leg of the flight on a day.
+/// The previous leg of the flight's leg on a day.
 fn previous_leg(tables: &Tables<'_>, flight: &FlightRow, day: u32) -> Option<Leg>
     requires few { AreFew tables.now.files.now }
     requires flight { IsFlight flight.now }

@@ -19,7 +19,7 @@ fn has_flight_before(tables: &Tables<'_>, name: &Name, place: usize) -> bool
     is_before(tables.flight_place(name), place)
 }
 
-/// Whether the flight before a flight is in the file and ends where this one starts, or the
+/// Whether the previous flight of a flight is in the file and ends where this one starts, or the
 /// flight names none.
 fn has_good_previous(tables: &Tables<'_>, row: &FlightRow) -> bool
     ensures { result ≡ has_good_previous tables.now.files.now.flights row.now }

@@ -6,7 +6,8 @@ use read_legs::{FlightRow, RotationRow};
 use read_net::{AirportRow, DistRow, Window};
 use read_pax::ItineraryRow;
 
-/// The rows of the input files, each list in the order of its file's lines.
+/// The rows of the input files, each list in the order of its file's lines. A day takes at most as many
+/// as each field says; a row past that is refused with `Limit` when the rows are joined.
 #[derive(Debug, Drop)]
 pub struct Files {
     /// Of config.csv.

@@ -47,6 +47,10 @@ fn finish<F: Folder, O: Sink>(
 /// Reads a day and a journal from the input directory, answers each recorded move in order, and
 /// writes the journal with its answers, the rotations of the last plan where there is one, and the
 /// report.
+///
+/// It ends with `Done` or `NoPlan` when all is written, and with `Refused` or a fault of naming or
+/// reading when nothing is. A write that fails ends it with that fault, and `Memory` may come at any
+/// time: what is written by then is a beginning of the texts, in their order.
 pub fn replay<F: Folder, O: Sink>(
     alloc: Global,
     input: &str,

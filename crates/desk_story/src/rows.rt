@@ -55,7 +55,8 @@ impl InputRows {
     }
 
     /// Takes the rows of a file from its bytes, by its grammar, or tells the first line that it
-    /// refuses. A file that has no grammar here changes nothing.
+    /// refuses. A file that has no grammar here changes nothing. After an error the
+    /// rows are given up.
     #[tactic(auto, unfolding(crate::specs::Story::with_rows))]
     pub(crate) fn take(&mut self, alloc: Global, file: File, bytes: &[u8]) -> Result<(), FileFault>
         requires facts { AreInputRows self.old }

@@ -17,7 +17,7 @@ pub struct FlightRow {
     pub dep: u32,
     /// The arrival, in minutes after the same midnight, 1 to 2,880 minutes after the departure.
     pub arr: u32,
-    /// The flight before it, or `None` where the file has `0`.
+    /// Its previous flight, or `None` where the file has `0`.
     pub prev: Option<Name>,
 }
 
