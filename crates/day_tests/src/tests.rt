@@ -2,7 +2,7 @@
 
 mod data;
 mod days;
-mod events;
 mod orders;
+mod steps;
 mod tariffs;
 mod texts;

@@ -3,10 +3,9 @@
 use desk_folder::{FILES, File};
 use std::alloc::{AllocError, Global};
 
-/// A kind of call that can be told to fail.
+/// A kind of call of which some can be told to fail.
 #[derive(Clone, Copy)]
 pub(crate) enum Call {
-    Place,
     Next,
     Put,
     Report,
@@ -24,6 +23,8 @@ pub(crate) enum Command<'a> {
     Rows(File, u64, u64, &'a str),
     /// `take FILE`: the file has what the run before wrote
     Take(File),
+    /// `fail place`: the naming of the directories fails
+    FailPlace,
     /// `fail CALL NUMBER`: the call of this number fails, counted from 1
     Fail(Call, u64),
     /// `room NUMBER`: the sink takes so many bytes, and then fails
@@ -75,7 +76,6 @@ pub(crate) fn file_of(name: &str) -> Option<File> {
 
 fn call_of(name: &str) -> Option<Call> {
     match name {
-        "place" => Some(Call::Place),
         "next" => Some(Call::Next),
         "put" => Some(Call::Put),
         "report" => Some(Call::Report),
@@ -97,6 +97,9 @@ fn rows_of(words: &str) -> Option<Command<'_>> {
 }
 
 fn fail_of(words: &str) -> Option<Command<'_>> {
+    if words == "place" {
+        return Some(Command::FailPlace);
+    }
     let (name, number) = cut_word(words);
     Some(Command::Fail(call_of(name)?, number.parse().ok()?))
 }

@@ -10,7 +10,7 @@ use std::alloc::{AllocError, Global};
 // The calls of the next run that are to fail, and the bytes that its sink takes.
 #[derive(Drop)]
 struct Faults {
-    place: Vec<u64>,
+    place: bool,
     next: Vec<u64>,
     put: Vec<u64>,
     report: Vec<u64>,
@@ -19,7 +19,7 @@ struct Faults {
 
 fn no_faults(alloc: Global) -> Faults {
     Faults {
-        place: Vec::new(alloc),
+        place: false,
         next: Vec::new(alloc),
         put: Vec::new(alloc),
         report: Vec::new(alloc),
@@ -29,7 +29,7 @@ fn no_faults(alloc: Global) -> Faults {
 
 /// A transcript that is played.
 #[derive(Drop)]
-pub(crate) struct Player {
+struct Player {
     alloc: Global,
     /// the texts with which each run begins
     day: Texts,
@@ -117,6 +117,10 @@ impl Player {
                 let text = Vec::from_slice(self.alloc, text_of(self.written.as_slice(), file))?;
                 self.change(file, text)
             }
+            Command::FailPlace => {
+                self.faults.place = true;
+                Ok(())
+            }
             Command::Fail(call, number) => self.fail(call, number),
             Command::Room(room) => {
                 self.faults.room = room as usize;
@@ -141,7 +145,6 @@ impl Player {
 
     fn fail(&mut self, call: Call, number: u64) -> Result<(), AllocError> {
         let numbers = match call {
-            Call::Place => &mut self.faults.place,
             Call::Next => &mut self.faults.next,
             Call::Put => &mut self.faults.put,
             Call::Report => &mut self.faults.report,
@@ -157,6 +160,9 @@ impl Player {
         add_all(&mut inputs, self.day.as_slice())?;
         let faults = std::mem::replace(&mut self.faults, no_faults(alloc));
         let mut folder = MemFolder::new(inputs, faults.next, faults.put);
+        if faults.place {
+            folder.fail_place();
+        }
         let mut sink = ReportSink {
             bytes: Vec::new(alloc),
             room: faults.room,

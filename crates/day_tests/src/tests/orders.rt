@@ -224,55 +224,6 @@ fn with_groups(alloc: Global, groups: &[(u32, u32, u32)]) -> Result<Parts, Fail>
     Ok(parts)
 }
 
-/// A group that covers no hour's first minute.
-const NONE: (u32, u32, u32) = (0, 1_439, 1_440);
-
-/// Two groups of the line, an hour, and its departures.
-const GROUPS: [((u32, u32, u32), (u32, u32, u32), u32, Option<u32>); 22] = [
-    ((5, 360, 720), NONE, 5, None),
-    ((5, 360, 720), NONE, 6, Some(5)),
-    ((5, 360, 720), NONE, 11, Some(5)),
-    ((5, 360, 720), NONE, 12, None),
-    ((5, 360, 720), NONE, 30, Some(5)),
-    // the hour's first minute counts
-    ((5, 361, 720), NONE, 6, None),
-    ((5, 359, 361), NONE, 6, Some(5)),
-    // over midnight
-    ((5, 1_320, 240), NONE, 21, None),
-    ((5, 1_320, 240), NONE, 22, Some(5)),
-    ((5, 1_320, 240), NONE, 24, Some(5)),
-    ((5, 1_320, 240), NONE, 3, Some(5)),
-    ((5, 1_320, 240), NONE, 4, None),
-    // up to the day's end, as 24:00 and as 00:00
-    ((5, 1_320, 1_440), NONE, 23, Some(5)),
-    ((5, 1_320, 1_440), NONE, 0, None),
-    ((5, 1_320, 0), NONE, 23, Some(5)),
-    ((5, 1_320, 0), NONE, 0, None),
-    // from a time to the same: the whole day
-    ((5, 600, 600), NONE, 9, Some(5)),
-    ((5, 600, 600), NONE, 10, Some(5)),
-    ((5, 0, 0), NONE, 10, Some(5)),
-    // the later group decides
-    ((5, 0, 1_440), (7, 360, 720), 6, Some(7)),
-    ((5, 0, 1_440), (7, 360, 720), 12, Some(5)),
-    ((7, 360, 720), (5, 0, 1_440), 6, Some(5)),
-];
-
-#[test]
-fn the_last_group_of_an_hour_decides(rt: HostRuntime) -> Result<(), Fail> {
-    for (first, second, hour, deps) in GROUPS.iter() {
-        let groups = [*first, *second];
-        let parts = with_groups(rt.alloc(), groups.as_slice())?;
-        let inst = instance_of(rt.alloc(), parts)?;
-        assert_eq!(rt;
-            caps_of(&inst, *hour),
-            (*deps, deps.map(|_| 100)),
-            "{first:?} {second:?} {hour}"
-        );
-    }
-    Ok(())
-}
-
 #[test]
 fn orders_go_before_groups(rt: HostRuntime) -> Result<(), Fail> {
     let groups = [(5, 360, 720)];

@@ -1,18 +1,14 @@
-//! The texts of a small day: its rotations, and what its journal names.
+//! What the journal of a small day names.
 
-ghost use Rattle.std.specs.Prelude.{◌<◌};
-ghost use Rattle.desk_data.specs.Situation.{legs_of};
-ghost use Rattle.desk_data.specs.Valid.{IsPlanFor};
 ghost use Rattle.journal_text.specs.Told.{Names};
 
 use super::days::{flown, instance_of, leg_of, name_of, parts_of, set};
 use desk_data::{
-    Airport, Broken, Cabin, Grains, Instance, Leg, List, Move, Path, Plan, Plane, Price, Res,
-    ResInfo, Row, fits,
+    Airport, Broken, Cabin, Grains, Instance, Leg, List, Move, Path, Plane, Price, Res, ResInfo,
+    Row, fits,
 };
 use desk_model::{Answer, Entry, Event};
 use journal_text::{journal_line, journal_text, push_broken};
-use sol_text::rotations_text;
 use std::alloc::Global;
 use std::process::Abort;
 use std::test::Fail;
@@ -35,30 +31,6 @@ fn day_of(alloc: Global) -> Result<Instance, Fail> {
     let mut parts = parts_of(alloc, legs)?;
     parts.res = List(vec![in alloc; reservation_of(alloc, false)?, reservation_of(alloc, true)?]?);
     instance_of(alloc, parts)
-}
-
-/// Cancels a leg.
-fn cancel(inst: &Instance, plan: &mut Plan, leg: Leg)
-    requires plan { IsPlanFor inst.now plan.old }
-    requires leg { leg.0 < legs_of inst.now }
-    ensures { IsPlanFor inst.now plan.new }
-{
-    plan.put_row(leg, Row::Cancelled);
-}
-
-#[test]
-fn legs_have_lines(rt: HostRuntime) -> Result<(), Fail> {
-    let inst = day_of(rt.alloc())?;
-    assert!(rt; inst.legs() == 2);
-    let mut plan = inst.schedule(rt.alloc())?;
-    let text = rotations_text(rt.alloc(), &inst, &plan)?;
-    let lines = b"F1 01/03/08 P2 01/03/08 00:00\nF22 01/03/08 P2 01/03/08 23:59\n";
-    assert_eq!(rt; text.as_slice(), lines.as_slice());
-    cancel(&inst, &mut plan, Leg(1));
-    let text = rotations_text(rt.alloc(), &inst, &plan)?;
-    let lines = b"F1 01/03/08 P2 01/03/08 00:00\nF22 01/03/08 cancelled\n";
-    assert_eq!(rt; text.as_slice(), lines.as_slice());
-    Ok(())
 }
 
 fn expect_broken(
