@@ -6,8 +6,8 @@ ghost use Rattle.desk_data.specs.Situation.{legs_of, planes_of, reservations_of}
 ghost use Rattle.desk_data.specs.Valid.{IsPathOf, IsPlanFor, IsRowOf};
 
 use desk_data::{
-    Airport, AirportInfo, Cabin, Cap, Group, Haul, Instance, Leg, LegInfo, List, Minute, Name,
-    NoMem, Parts, Path, Plan, Plane, PlaneInfo, Price, Res, ResInfo, Row, Seats, Tariff,
+    Airport, AirportInfo, Cabin, Group, Haul, Instance, Leg, LegInfo, List, Minute, Name, NoMem,
+    Parts, Path, Plan, Plane, PlaneInfo, Price, Res, ResInfo, Row, Seats, Tariff,
 };
 use std::alloc::Global;
 use std::test::Fail;
@@ -30,25 +30,6 @@ pub(super) fn airport_of(alloc: Global, name: &[u8]) -> Result<AirportInfo, Fail
     Ok(AirportInfo {
         name: name_of(name)?,
         caps: List(Vec::new(alloc)),
-    })
-}
-
-/// An airport that takes this many departures and arrivals in each hour.
-pub(super) fn capped(
-    alloc: Global,
-    name: &[u8],
-    deps: u32,
-    arrs: u32,
-) -> Result<AirportInfo, Fail> {
-    let cap = Cap {
-        deps,
-        arrs,
-        from: 0,
-        to: 1_440,
-    };
-    Ok(AirportInfo {
-        name: name_of(name)?,
-        caps: List(vec![in alloc; cap]?),
     })
 }
 
