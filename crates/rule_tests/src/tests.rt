@@ -1,9 +1,7 @@
 //! What small days break and cost, worked out by hand.
 
 mod book;
-mod check;
 mod costs;
 mod days;
 mod passengers;
 mod rotations;
-mod slots;

@@ -7,8 +7,8 @@ ghost use Rattle.desk_data.specs.Valid.{IsPathOf, IsPlanFor, IsRowOf};
 
 use day_checks::are_parts;
 use desk_data::{
-    Airport, AirportInfo, Cabin, Cap, Group, Haul, Instance, Leg, LegInfo, List, Minute, Name,
-    NoMem, Parts, Path, Plan, Plane, PlaneInfo, Price, Res, ResInfo, Row, Seats, Tariff,
+    Airport, AirportInfo, Cabin, Group, Haul, Instance, Leg, LegInfo, List, Minute, Name, NoMem,
+    Parts, Path, Plan, Plane, PlaneInfo, Price, Res, ResInfo, Row, Seats, Tariff,
 };
 use std::alloc::Global;
 use std::test::Fail;
@@ -31,25 +31,6 @@ pub(super) fn airport_of(alloc: Global, name: &[u8]) -> Result<AirportInfo, Fail
     Ok(AirportInfo {
         name: name_of(name)?,
         caps: List(Vec::new(alloc)),
-    })
-}
-
-/// An airport that takes this many departures and arrivals in each hour.
-pub(super) fn capped(
-    alloc: Global,
-    name: &[u8],
-    deps: u32,
-    arrs: u32,
-) -> Result<AirportInfo, Fail> {
-    let cap = Cap {
-        deps,
-        arrs,
-        from: 0,
-        to: 1_440,
-    };
-    Ok(AirportInfo {
-        name: name_of(name)?,
-        caps: List(vec![in alloc; cap]?),
     })
 }
 

@@ -8,8 +8,6 @@ use rule_pax::least_pax;
 use std::alloc::Global;
 use std::test::Fail;
 
-const IN_F: (Leg, Cabin) = (Leg(0), Cabin::F);
-
 const IN_B: (Leg, Cabin) = (Leg(0), Cabin::B);
 
 const FIRST: (Leg, Cabin) = (Leg(0), Cabin::E);
@@ -113,15 +111,7 @@ fn row_of(plane: u32, dep: Option<u32>) -> Row {
     }
 }
 
-/// What is broken first: a cabin of a leg, or a path of a reservation.
-const FIRST_F: Option<Broken> = Some(Broken::C12(Leg(0), Cabin::F));
-
-const FIRST_B: Option<Broken> = Some(Broken::C12(Leg(0), Cabin::B));
-
-const FIRST_E: Option<Broken> = Some(Broken::C12(Leg(0), Cabin::E));
-
-const SECOND_E: Option<Broken> = Some(Broken::C12(Leg(1), Cabin::E));
-
+/// What is broken first: a path of a reservation.
 const C13: Option<Broken> = Some(Broken::C13(Res(0)));
 
 const C14: Option<Broken> = Some(Broken::C14(Res(0)));
@@ -133,55 +123,6 @@ const C13_OF_SECOND: Option<Broken> = Some(Broken::C13(Res(1)));
 const C14_OF_SECOND: Option<Broken> = Some(Broken::C14(Res(1)));
 
 const C15_OF_SECOND: Option<Broken> = Some(Broken::C15(Res(1)));
-
-/// The aircraft that flies the first leg, if one does, how many passengers of the two reservations
-/// are on which path, and what is broken first. The first aircraft has 1, 2 and 3 seats, and the
-/// second 4, all of them in economy.
-const SEATED: [(Option<u32>, [(u32, Way); 2], Option<Broken>); 18] = [
-    (Some(0), [(1, &[FIRST]), (2, &[FIRST])], None),
-    (Some(0), [(2, &[FIRST]), (2, &[FIRST])], FIRST_E),
-    (Some(0), [(1, &[IN_B]), (1, &[IN_B])], None),
-    (Some(0), [(1, &[IN_B]), (2, &[IN_B])], FIRST_B),
-    (Some(0), [(1, &[IN_F]), (1, &[DIRECT])], None),
-    (Some(0), [(1, &[IN_F]), (1, &[IN_F])], FIRST_F),
-    // by leg, then by cabin
-    (Some(0), [(3, &[IN_B]), (2, &[IN_F])], FIRST_F),
-    (Some(0), [(4, &[FIRST]), (3, &[IN_B])], FIRST_B),
-    (Some(0), [(4, &[SECOND]), (4, &[FIRST])], FIRST_E),
-    (Some(0), [(4, BOTH), (2, &[IN_F])], FIRST_F),
-    // the seats are those of the aircraft that flies the leg
-    (Some(1), [(2, &[FIRST]), (2, &[FIRST])], None),
-    (Some(1), [(2, &[FIRST]), (3, &[FIRST])], FIRST_E),
-    (Some(1), [(1, &[IN_B]), (1, &[FIRST])], FIRST_B),
-    (None, [(9, &[FIRST]), (1, &[DIRECT])], C13),
-    // a pair that stands twice in a path takes one seat, and a leg in two cabins takes two
-    (Some(0), [(3, &[FIRST, FIRST]), (1, &[DIRECT])], C13),
-    (
-        Some(0),
-        [(3, &[FIRST, IN_B, FIRST]), (1, &[DIRECT])],
-        FIRST_B,
-    ),
-    // C12 comes before C13
-    (Some(0), [(1, &[FIRST, DIRECT]), (3, &[SECOND])], C13),
-    (Some(0), [(1, &[FIRST, DIRECT]), (4, &[SECOND])], SECOND_E),
-];
-
-#[test]
-fn overfull_cabins_are_told(rt: HostRuntime) -> Result<(), Fail> {
-    for (plane, booked, item) in SEATED.iter() {
-        let day = Day {
-            booked: *booked,
-            ..USUAL
-        };
-        let row = match plane {
-            Some(plane) => flown(*plane, 480),
-            None => OFF,
-        };
-        let ways = [booked[0].1, booked[1].1];
-        assert_eq!(rt; told_of(rt.alloc(), &day, (0, row), ways)?, Some(*item));
-    }
-    Ok(())
-}
 
 /// The previous leg of the second leg, the aircraft and the departure of the second leg, and what is
 /// broken first.

@@ -31,11 +31,7 @@ fn legs_before_are_found(rt: HostRuntime) -> Result<(), Fail> {
 
 /// Two aircraft of one family that reach 600 and 200 minutes, one that reaches 199, one of another
 /// family, and a bus, which would miss its maintenance if it had to make it.
-fn planes_of(alloc: Global, planned: Option<Maint>) -> Result<Vec<PlaneInfo>, Fail> {
-    let first = PlaneInfo {
-        maint: planned,
-        ..plane_of(b"P1")?
-    };
+fn planes_of(alloc: Global) -> Result<Vec<PlaneInfo>, Fail> {
     let second = PlaneInfo {
         range: 200,
         ..plane_of(b"P2")?
@@ -48,19 +44,25 @@ fn planes_of(alloc: Global, planned: Option<Maint>) -> Result<Vec<PlaneInfo>, Fa
         family: name_of(b"WB")?,
         ..plane_of(b"P4")?
     };
+    let missed = Maint {
+        airport: Airport(1),
+        from: Minute(500),
+        to: Minute(1_000),
+        minutes: 0,
+    };
     let bus = PlaneInfo {
-        maint: Some(maint(1, 500, 1_000, 0)),
+        maint: Some(missed),
         surface: true,
         ..plane_of(b"BUS")?
     };
-    Ok(vec![in alloc; first, second, third, fourth, bus]?)
+    Ok(vec![in alloc; plane_of(b"P1")?, second, third, fourth, bus]?)
 }
 
 /// There, back and there again by the first aircraft, and a way back by the bus, which begins there.
 /// The first leg is the previous leg of the second.
-fn day_parts(alloc: Global, maint: Option<Maint>) -> Result<Parts, Fail> {
+fn day_parts(alloc: Global) -> Result<Parts, Fail> {
     let airports = vec![in alloc; airport_of(alloc, b"AAA")?, airport_of(alloc, b"BBB")?]?;
-    let planes = planes_of(alloc, maint)?;
+    let planes = planes_of(alloc)?;
     let back = LegInfo {
         prev: Some(Leg(0)),
         ..leg_of(b"F2", (1, 0), 600)?
@@ -81,12 +83,8 @@ fn day_parts(alloc: Global, maint: Option<Maint>) -> Result<Parts, Fail> {
 }
 
 /// The day with an order, unless the order is out of range.
-fn day_of(
-    alloc: Global,
-    maint: Option<Maint>,
-    order: Option<Order>,
-) -> Result<Option<Instance>, Fail> {
-    let Some(mut inst) = instance_of(alloc, day_parts(alloc, maint)?)? else {
+fn day_of(alloc: Global, order: Option<Order>) -> Result<Option<Instance>, Fail> {
+    let Some(mut inst) = instance_of(alloc, day_parts(alloc)?)? else {
         return Ok(None);
     };
     let Some(order) = order else {
@@ -102,15 +100,13 @@ fn day_of(
     Ok(Some(inst))
 }
 
-/// What these rows break first on the day with a maintenance of the first aircraft and an order,
-/// unless something is out of range.
+/// What these rows break first on the day with an order, unless something is out of range.
 fn told_of(
     alloc: Global,
-    maint: Option<Maint>,
     order: Option<Order>,
     rows: [Row; 4],
 ) -> Result<Option<Option<Broken>>, Fail> {
-    let Some(inst) = day_of(alloc, maint, order)? else {
+    let Some(inst) = day_of(alloc, order)? else {
         return Ok(None);
     };
     let rows = [(0, rows[0]), (1, rows[1]), (2, rows[2]), (3, rows[3])];
@@ -184,7 +180,7 @@ fn moved_and_swapped_legs_are_told(rt: HostRuntime) -> Result<(), Fail> {
         (pair((4, 600), (4, 600)), None),
     ];
     for (rows, item) in table.iter() {
-        assert_eq!(rt; told_of(rt.alloc(), None, None, *rows)?, Some(*item));
+        assert_eq!(rt; told_of(rt.alloc(), None, *rows)?, Some(*item));
     }
     Ok(())
 }
@@ -259,61 +255,7 @@ fn legs_against_orders_are_told(rt: HostRuntime) -> Result<(), Fail> {
         (aircraft(4, 400, 800), first_at(480), None),
     ];
     for (order, rows, item) in table.iter() {
-        assert_eq!(rt;
-            told_of(rt.alloc(), None, Some(*order), *rows)?,
-            Some(*item)
-        );
-    }
-    Ok(())
-}
-
-/// A maintenance at an airport.
-fn maint(airport: u32, from: u32, to: u32, minutes: u32) -> Maint {
-    Maint {
-        airport: Airport(airport),
-        from: Minute(from),
-        to: Minute(to),
-        minutes,
-    }
-}
-
-#[test]
-fn missed_maintenances_are_told(rt: HostRuntime) -> Result<(), Fail> {
-    let c8 = Some(Broken::C8(Plane(0)));
-    let c9 = Some(Broken::C9(Plane(0)));
-    // legs 0, 1 and 3 from 480, 600 and 700 on, each for an hour
-    let usual = first_at(480);
-    // leg 3, then leg 1, then leg 0
-    let turned = [flown(0, 900), flown(0, 800), flown(4, 480), flown(0, 700)];
-    // the maintenance of the first aircraft, the rows, and what they break first
-    let table = [
-        (maint(0, 660, 700, 120), usual, None),
-        (maint(0, 660, 700, 119), usual, c9),
-        (maint(1, 660, 700, 119), usual, c8),
-        (maint(0, 659, 700, 120), usual, c8),
-        (maint(0, 660, 701, 120), usual, c8),
-        // a leg is in the air at the start
-        (maint(0, 630, 640, 120), usual, c8),
-        // no leg is before it
-        (maint(0, 300, 400, 0), usual, None),
-        (maint(1, 300, 400, 0), usual, c8),
-        (maint(0, 480, 481, 0), usual, c8),
-        // no leg departs from its start on
-        (maint(0, 730, 731, 180), usual, None),
-        (maint(0, 730, 731, 179), usual, c9),
-        (maint(1, 300, 400, 0), [OFF, OFF, flown(4, 480), OFF], None),
-        // the last leg before it has neither the least nor the greatest number
-        (maint(0, 860, 900, 120), turned, None),
-        (maint(1, 860, 900, 120), turned, c8),
-        // the legs of another aircraft play no part
-        (maint(1, 480, 600, 0), pair((1, 480), (1, 600)), c8),
-        (maint(0, 480, 700, 0), pair((1, 480), (1, 600)), None),
-    ];
-    for (planned, rows, item) in table.iter() {
-        assert_eq!(rt;
-            told_of(rt.alloc(), Some(*planned), None, *rows)?,
-            Some(*item)
-        );
+        assert_eq!(rt; told_of(rt.alloc(), Some(*order), *rows)?, Some(*item));
     }
     Ok(())
 }
