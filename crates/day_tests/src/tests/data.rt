@@ -1,6 +1,7 @@
 //! A small day, and what is asked of it.
 
 use super::days::{airport_of, flown, instance_of, leg_of, name_of, plane_of, set};
+use day_checks::are_parts;
 use desk_data::{
     Airport, AirportInfo, Cabin, Cap, Leg, LegInfo, List, Minute, Move, Parts, Path, PlaneInfo,
     Price, ResInfo, Row, Seats, Tariff, TariffRow, fits,
@@ -185,7 +186,7 @@ const RANGES: [(Sample, bool); 17] = [
 fn ranges_have_edges(rt: HostRuntime) -> Result<(), Fail> {
     for (sample, valid) in RANGES.iter() {
         let parts = sample_parts(rt.alloc(), sample)?;
-        assert_eq!(rt; parts.are_valid(rt.alloc())?, *valid, "{sample:?}");
+        assert_eq!(rt; are_parts(rt.alloc(), &parts)?, *valid, "{sample:?}");
     }
     Ok(())
 }

@@ -1,5 +1,6 @@
 //! Rows of small days, for the other modules.
 
+use day_checks::are_parts;
 use desk_data::{
     Airport, AirportInfo, Cap, Haul, Instance, Leg, LegInfo, List, Minute, Name, Parts, Plane,
     PlaneInfo, Price, Row, Seats, Step, Tariff,
@@ -68,7 +69,7 @@ pub(super) fn parts_of(alloc: Global, legs: Vec<LegInfo>) -> Result<Parts, Fail>
 }
 
 pub(super) fn instance_of(alloc: Global, parts: Parts) -> Result<Instance, Fail> {
-    let made = if parts.are_valid(alloc)? {
+    let made = if are_parts(alloc, &parts)? {
         Some(Instance::of(alloc, parts)?)
     } else {
         None

@@ -2,6 +2,7 @@
 
 use super::data::{EARLY, sample_parts};
 use super::days::{flown, instance_of};
+use day_checks::can_add;
 use desk_data::{
     Airport, Batch, Cabin, Cap, Group, Instance, Leg, List, Minute, Order, Parts, Path, Plane, Res,
     Row,
@@ -15,7 +16,7 @@ fn with_orders(alloc: Global, mut inst: Instance, orders: &[Order]) -> Result<In
         let batch = Batch {
             orders: List(vec![in alloc; *order]?),
         };
-        let taken = inst.can_add(&batch);
+        let taken = can_add(&inst, &batch);
         if taken {
             inst.add(alloc, &batch)?;
         }
@@ -98,7 +99,7 @@ fn orders_have_edges(rt: HostRuntime) -> Result<(), Fail> {
                 },
             ]?),
         };
-        assert_eq!(rt; inst.can_add(&batch), *expected);
+        assert_eq!(rt; can_add(&inst, &batch), *expected);
     }
     Ok(())
 }
