@@ -1,10 +1,7 @@
 //! Tests of what no clause says, one module a library, each over its public calls alone.
 
-mod fleet;
 mod folder;
-mod journal;
 mod loops;
-mod net;
 mod passengers;
 mod tariff;
 mod text;

@@ -5,10 +5,9 @@ ghost use Rattle.desk_text.specs.Fields.{name_of, number_of};
 ghost use Rattle.desk_text.specs.Rows.{◌>>=◌ as and_then, taken};
 
 use desk_text::{
-    Cause, Fields, Grammar, Minute, NoMem, ReadFault, RowFault, are_text, cabin, day_of, haul,
-    inbound, lines, moment, name, number, push_moment, push_number, read_rows,
+    Cause, Fields, Grammar, Minute, NoMem, ReadFault, RowFault, are_text, day_of, inbound, lines,
+    moment, name, number, push_moment, push_number, read_rows,
 };
-use desk_units::{Cabin, Haul};
 use std::alloc::Global;
 use std::test::Fail;
 
@@ -95,7 +94,9 @@ const NUMBERS: [(&str, Result<u32, Cause>); 12] = [
 ];
 
 #[test]
-fn numbers(rt: HostRuntime) {
+fn numbers_and_empty_fields(rt: HostRuntime) {
+    assert!(rt; name(b"").is_err());
+    assert_eq!(rt; inbound(b""), Err(Cause::Word));
     assert_eq!(rt; number(b"999999999", 0, 999_999_999), Ok(999_999_999));
     assert_eq!(rt; number(b"1000000000", 0, u32::MAX), Err(Cause::Number));
     assert_eq!(rt; day_of(300, 1, 0), None);
@@ -125,23 +126,6 @@ fn moments(rt: HostRuntime) {
     for (day, time, expected) in &MOMENTS {
         assert_eq!(rt; minutes_of(day, time), *expected, "{day} {time}");
     }
-}
-
-#[test]
-fn words_and_names(rt: HostRuntime) {
-    assert_eq!(rt; haul(b"D"), Ok(Haul::D));
-    assert_eq!(rt; haul(b"C"), Ok(Haul::C));
-    assert_eq!(rt; haul(b"I"), Ok(Haul::I));
-    assert_eq!(rt; haul(b"d"), Err(Cause::Word));
-    assert_eq!(rt; cabin(b"F"), Ok(Cabin::F));
-    assert_eq!(rt; cabin(b"B"), Ok(Cabin::B));
-    assert_eq!(rt; cabin(b"E"), Ok(Cabin::E));
-    assert_eq!(rt; cabin(b"EE"), Err(Cause::Word));
-    assert_eq!(rt; inbound(b"A"), Ok(false));
-    assert_eq!(rt; inbound(b"R"), Ok(true));
-    assert_eq!(rt; inbound(b""), Err(Cause::Word));
-    assert!(rt; name(b"P1").is_ok());
-    assert!(rt; name(b"").is_err());
 }
 
 /// Lines of a number from 1 to 9 and a name, of which the number is kept.
@@ -196,25 +180,6 @@ const TEXTS: [(&str, (usize, &str)); 13] = [
     ("1 abcdefghij", (1, "rows")),
     ("\x01 abcdefghijk", (0, "Size")),
 ];
-
-#[test]
-fn bytes_that_may_stand_in_a_line(rt: HostRuntime) {
-    for byte in 0..=255_u8 {
-        let ends_the_line = byte == b'\n' || byte == b'\r';
-        let stands = byte == b' ' || byte == b'\t' || (b'!' <= byte && byte <= b'~');
-        assert_eq!(rt; are_text(&[b'a', byte]), stands, "{byte}");
-        let expected = if stands || ends_the_line {
-            (1, "rows")
-        } else {
-            (1, "Byte")
-        };
-        assert_eq!(rt;
-            read(rt.alloc(), &[b'1', b' ', b'a', byte]),
-            expected,
-            "{byte}"
-        );
-    }
-}
 
 #[test]
 fn faults_are_printed(rt: HostRuntime) -> Result<(), Fail> {
