@@ -9,8 +9,8 @@ use Rattle.std.proofs.lemmas.List.Elements.{All-append, All-cons, All-nil, All-w
 use Rattle.std.proofs.lemmas.List.Sorted.{IsNonDecreasingBy-short, IsNonDecreasingBy-take, IsNonDecreasingBy-drop}
 use Rattle.day_orders.specs.declared.hours.Change.{Change}
 use Rattle.day_orders.specs.declared.hours.HourCap.{HourCap}
-use Rattle.day_orders.specs.Said.{last_word}
-use Rattle.day_orders.specs.KeptLists.{AreInOrder, said_from, kept_cap}
+use Rattle.day_orders.specs.LastOrders.{last_word}
+use Rattle.day_orders.specs.KeptLists.{AreInOrder, cap_from, kept_cap}
 use Rattle.day_orders.proofs.LastLemmas.{last_word-append, last_word-one, last_word_none, last_word_agree}
 
 -- what holds up to a place holds of the front, and what holds from it on of the rest
@@ -38,21 +38,21 @@ in_order-append xs ys t up_xs up_ys below above = λ i j d le within.
     (cases_lt j (length xs))
 
 -- later changes say nothing of the hour
-silent : (xs : List Change) (h : ℕ) → All (λ c. h < c.hour) xs → All (λ c. said_from h c ≡ None) xs
-silent xs h later = All-weaker (λ (c : Change). h < c.hour) (λ (c : Change). said_from h c ≡ None) (λ c k. rw (lt-leb c.hour h k)) xs later
+silent : (xs : List Change) (h : ℕ) → All (λ c. h < c.hour) xs → All (λ c. cap_from h c ≡ None) xs
+silent xs h later = All-weaker (λ (c : Change). h < c.hour) (λ (c : Change). cap_from h c ≡ None) (λ c k. rw (lt-leb c.hour h k)) xs later
 
 pub kept_cap_front : (xs ys : List Change) (h : ℕ) → All (λ c. h < c.hour) ys → kept_cap (xs ++ ys) h ≡ kept_cap xs h
 unfolding kept_cap
-kept_cap_front xs ys h later = rw (last_word-append (said_from h) xs ys, last_word_none (said_from h) ys (silent ys h later))
+kept_cap_front xs ys h later = rw (last_word-append (cap_from h) xs ys, last_word_none (cap_from h) ys (silent ys h later))
 
 pub kept_cap_none : (xs : List Change) (h : ℕ) → All (λ c. h < c.hour) xs → kept_cap xs h ≡ None
 unfolding kept_cap
-kept_cap_none xs h later = rw (last_word_none (said_from h) xs (silent xs h later))
+kept_cap_none xs h later = rw (last_word_none (cap_from h) xs (silent xs h later))
 
 -- a last change at or before the hour decides
 kept_cap_last : (xs : List Change) (c : Change) (h : ℕ) → c.hour ≤ h → kept_cap (xs ++ c ∷ []) h ≡ c.cap
 unfolding kept_cap
-kept_cap_last xs c h le = rw (last_word-append (said_from h) xs (c ∷ []), last_word-one (said_from h) c, le-leb c.hour h le)
+kept_cap_last xs c h le = rw (last_word-append (cap_from h) xs (c ∷ []), last_word-one (cap_from h) c, le-leb c.hour h le)
 
 -- the last of the changes at or before the hour
 pub kept_cap_at : (xs : List Change) (h n : ℕ) (d : Change) → n < length xs → All (λ c. c.hour ≤ h) (take (n + 1) xs) → All (λ c. h < c.hour) (drop (n + 1) xs) → kept_cap xs h ≡ (get_or xs n d).cap
@@ -66,7 +66,7 @@ kept_cap_at xs h n d within before later =
 kept_cap_stays : (xs : List Change) (t h : ℕ) → t ≤ h → All (λ c. c.hour ≤ t) xs → kept_cap xs t ≡ kept_cap xs h
 unfolding kept_cap
 kept_cap_stays xs t h le before =
-    ap option_flatten (last_word_agree (said_from t) (said_from h) xs (All-weaker (λ (c : Change). c.hour ≤ t) (λ (c : Change). said_from t c ≡ said_from h c) (λ c k. rw (le-leb c.hour t k, le-leb c.hour h (omega arith))) xs before))
+    ap option_flatten (last_word_agree (cap_from t) (cap_from h) xs (All-weaker (λ (c : Change). c.hour ≤ t) (λ (c : Change). cap_from t c ≡ cap_from h c) (λ c k. rw (le-leb c.hour t k, le-leb c.hour h (omega arith))) xs before))
 
 flatten_behind : (b n c : Option (Option HourCap)) → option_flatten n ≡ option_flatten c → option_flatten (option_or b n) ≡ option_flatten (option_or b c)
 flatten_behind None n c e = e
@@ -76,7 +76,7 @@ flatten_behind (Some z) n c e = refl
 kept_cap_behind : (xs ys zs : List Change) (h : ℕ) → kept_cap xs h ≡ kept_cap ys h → kept_cap (xs ++ zs) h ≡ kept_cap (ys ++ zs) h
 unfolding kept_cap
 kept_cap_behind xs ys zs h e =
-    rw (last_word-append (said_from h) xs zs, last_word-append (said_from h) ys zs) (flatten_behind (last_word (said_from h) zs) (last_word (said_from h) xs) (last_word (said_from h) ys) e)
+    rw (last_word-append (cap_from h) xs zs, last_word-append (cap_from h) ys zs) (flatten_behind (last_word (cap_from h) zs) (last_word (cap_from h) xs) (last_word (cap_from h) ys) e)
 
 one : (P : Change → Type 0) (c : Change) → P c → All P (c ∷ [])
 one P c h = All-cons P c [] h (All-nil P)

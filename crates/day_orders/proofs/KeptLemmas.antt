@@ -14,7 +14,7 @@ use Rattle.day_orders.specs.declared.hours.Change.{Change}
 use Rattle.day_orders.specs.declared.hours.HourCap.{HourCap}
 use Rattle.day_orders.specs.declared.orders.Order.{Order}
 use Rattle.day_orders.specs.declared.orders.Order.TheVariants.{Flight, Aircraft, Field}
-use Rattle.day_orders.specs.Said.{said_of, last_said, span_of, last_word, touches, said_of_hour}
+use Rattle.day_orders.specs.LastOrders.{order_on_leg, last_order_on_leg, span_of, last_word, touches, order_on_hour}
 use Rattle.day_orders.specs.KeptLists.{KeptLists, AreInOrder, kept_cap, kept_leg, kept_spans, kept_hours, Adds}
 use Rattle.day_orders.proofs.LastLemmas.{or_assoc, last_word-append}
 
@@ -26,7 +26,7 @@ put_other : {X : Type 0} (xs : List X) (i j : ℕ) (x d : X) → (i ≡ j → �
 put_other xs i j x d other = let apart : j ≢ i = λ e. other (sym e) in get_or-set_other xs i j x d apart
 
 pub adds_flight : (old : KeptLists) (leg : Leg) (delay : Option ℕ) → leg.0 < length old.legs → All AreInOrder old.hours → Adds (Flight leg delay ∷ []) old (record old { legs = set old.legs leg.0 (Some delay) })
-unfolding last_said last_word
+unfolding last_order_on_leg last_word
 adds_flight old leg delay within order = record {
   all_legs = length-set old.legs leg.0 (Some delay);
   all_planes = refl;
@@ -42,7 +42,7 @@ adds_flight old leg delay within order = record {
 }
 
 pub adds_aircraft : (old : KeptLists) (plane : Plane) (from to : Minute) → plane.0 < length old.spans → All AreInOrder old.hours → Adds (Aircraft plane from to ∷ []) old (record old { spans = set old.spans plane.0 (kept_spans old plane.0 ++ (from, to) ∷ []) })
-unfolding last_said last_word
+unfolding last_order_on_leg last_word
 adds_aircraft old plane from to within order = record {
   all_legs = refl;
   all_planes = length-set old.spans plane.0 (kept_spans old plane.0 ++ (from, to) ∷ []);
@@ -63,7 +63,7 @@ over true cap kept = refl
 over false cap kept = refl
 
 pub adds_field : (old : KeptLists) (airport : Airport) (from to : Minute) (cap : HourCap) (first behind : ℕ) (changes : List Change) → airport.0 < length old.hours → All AreInOrder old.hours → ((h : ℕ) → touches h from.0 to.0 ≡ (leb first h && ltb h behind)) → AreInOrder changes → ((h : ℕ) → kept_cap changes h ≡ (if leb first h && ltb h behind then Some cap else kept_cap (kept_hours old airport.0) h)) → Adds (Field airport from to cap.deps cap.arrs ∷ []) old (record old { hours = set old.hours airport.0 changes })
-unfolding last_said last_word
+unfolding last_order_on_leg last_word
 adds_field old airport from to cap first behind changes within order hours up caps = record {
   all_legs = refl;
   all_planes = refl;
@@ -82,7 +82,7 @@ adds_field old airport from to cap first behind changes within order hours up ca
 
 -- an order whose span touches no hour
 pub adds_nothing : (old : KeptLists) (airport : Airport) (from to : Minute) (deps arrs : ℕ) → All AreInOrder old.hours → ((h : ℕ) → touches h from.0 to.0 ≡ false) → Adds (Field airport from to deps arrs ∷ []) old old
-unfolding last_said last_word
+unfolding last_order_on_leg last_word
 adds_nothing old airport from to deps arrs order hours = record {
   all_legs = refl;
   all_planes = refl;
@@ -94,7 +94,7 @@ adds_nothing old airport from to deps arrs order hours = record {
 }
 
 pub adds_none : (kept : KeptLists) → All AreInOrder kept.hours → Adds [] kept kept
-unfolding last_said last_word
+unfolding last_order_on_leg last_word
 adds_none kept order = record {
   all_legs = refl;
   all_planes = refl;
@@ -105,13 +105,13 @@ adds_none kept order = record {
   hours = λ a h. refl;
 }
 
-last_said_is : (x : ℕ) (orders : List Order) → last_said x orders ≡ last_word (said_of x) orders
-unfolding last_said last_word
+last_said_is : (x : ℕ) (orders : List Order) → last_order_on_leg x orders ≡ last_word (order_on_leg x) orders
+unfolding last_order_on_leg last_word
 last_said_is x [] = refl
-last_said_is x (order ∷ orders) = ap (λ o. option_or o (said_of x order)) (last_said_is x orders)
+last_said_is x (order ∷ orders) = ap (λ o. option_or o (order_on_leg x order)) (last_said_is x orders)
 
-pub last_said-append : (x : ℕ) (xs ys : List Order) → last_said x (xs ++ ys) ≡ option_or (last_said x ys) (last_said x xs)
-last_said-append x xs ys = rw (last_said_is x (xs ++ ys), last_said_is x ys, last_said_is x xs) (last_word-append (said_of x) xs ys)
+pub last_order_on_leg-append : (x : ℕ) (xs ys : List Order) → last_order_on_leg x (xs ++ ys) ≡ option_or (last_order_on_leg x ys) (last_order_on_leg x xs)
+last_order_on_leg-append x xs ys = rw (last_said_is x (xs ++ ys), last_said_is x ys, last_said_is x xs) (last_word-append (order_on_leg x) xs ys)
 
 -- one answer over another over what was there
 over_both : {Y : Type 0} (both late early was mid new : Option Y) → both ≡ option_or late early → mid ≡ option_or early was → new ≡ option_or late mid → new ≡ option_or both was
@@ -123,12 +123,12 @@ adds_more xs y a b c first next = record {
   all_legs = next.all_legs ∙ first.all_legs;
   all_planes = next.all_planes ∙ first.all_planes;
   all_airports = next.all_airports ∙ first.all_airports;
-  legs = λ x. over_both (last_said x (xs ++ y ∷ [])) (last_said x (y ∷ [])) (last_said x xs) (kept_leg a x) (kept_leg b x) (kept_leg c x) (last_said-append x xs (y ∷ [])) (first.legs x) (next.legs x);
+  legs = λ x. over_both (last_order_on_leg x (xs ++ y ∷ [])) (last_order_on_leg x (y ∷ [])) (last_order_on_leg x xs) (kept_leg a x) (kept_leg b x) (kept_leg c x) (last_order_on_leg-append x xs (y ∷ [])) (first.legs x) (next.legs x);
   spans = λ p.
       next.spans p
       ∙ (ap (λ s. s ++ filter_map (span_of p) (y ∷ [])) (first.spans p)
       ∙ (append_assoc (kept_spans a p) (filter_map (span_of p) xs) (filter_map (span_of p) (y ∷ []))
       ∙ ap (λ s. kept_spans a p ++ s) (sym (filter_map-append (span_of p) xs (y ∷ [])))));
   in_order = next.in_order;
-  hours = λ a' h. over_both (last_word (said_of_hour a' h) (xs ++ y ∷ [])) (last_word (said_of_hour a' h) (y ∷ [])) (last_word (said_of_hour a' h) xs) (kept_cap (kept_hours a a') h) (kept_cap (kept_hours b a') h) (kept_cap (kept_hours c a') h) (last_word-append (said_of_hour a' h) xs (y ∷ [])) (first.hours a' h) (next.hours a' h);
+  hours = λ a' h. over_both (last_word (order_on_hour a' h) (xs ++ y ∷ [])) (last_word (order_on_hour a' h) (y ∷ [])) (last_word (order_on_hour a' h) xs) (kept_cap (kept_hours a a') h) (kept_cap (kept_hours b a') h) (kept_cap (kept_hours c a') h) (last_word-append (order_on_hour a' h) xs (y ∷ [])) (first.hours a' h) (next.hours a' h);
 }

@@ -3,7 +3,7 @@ use Rattle.std.proofs.Common.{◌≡◌, List, [], ◌∷◌, ◌++◌, Option, 
 use Rattle.std.specs.Option.{option_or}
 use Rattle.std.specs.List.{All}
 use Rattle.std.proofs.lemmas.List.Elements.{All-head, All-tail}
-use Rattle.day_orders.specs.Said.{last_word}
+use Rattle.day_orders.specs.LastOrders.{last_word}
 
 pub or_none : {Y : Type 0} (o : Option Y) → option_or o None ≡ o
 or_none None = refl

@@ -1,7 +1,7 @@
 -- The hours that a span touches.
 use Rattle.std.proofs.Common.{◌≡◌, ℕ, ◌+◌, ◌-◌, ◌*◌, ◌/◌, ◌<◌, ◌≤◌, false, ◌&&◌, leb, ltb, arith, ⊎_elim}
 use Rattle.std.proofs.lemmas.Bool.{cases_lt, lt-ltb, le-ltb, le-leb, lt-leb}
-use Rattle.day_orders.specs.Said.{touches}
+use Rattle.day_orders.specs.LastOrders.{touches}
 
 -- the span begins before the hour's end where the hour of its first minute is not later
 begins : (h from : ℕ) → ltb from (60 * h + 60) ≡ leb (from / 60) h

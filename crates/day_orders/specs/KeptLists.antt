@@ -8,7 +8,7 @@ use Rattle.day_orders.specs.declared.hours.Change.{Change}
 use Rattle.day_orders.specs.declared.hours.HourCap.{HourCap}
 use Rattle.day_orders.specs.declared.orders.Order.{Order}
 use Rattle.day_orders.specs.declared.orders.Order.TheVariants.{Flight, Aircraft, Field}
-use Rattle.day_orders.specs.Said.{last_said, span_of, last_word, said_of_hour}
+use Rattle.day_orders.specs.LastOrders.{last_order_on_leg, span_of, last_word, order_on_hour}
 
 -- by leg, what its last order says; by aircraft, its spans; by airport, the changes of what orders say of its hours
 pub record KeptLists : Type 0 where
@@ -21,12 +21,12 @@ abbrev pub AreInOrder : List Change → Type 0
 AreInOrder changes = IsNonDecreasingBy (λ change. change.hour) changes
 
 -- what a change says of hour h
-abbrev pub said_from : ℕ → Change → Option (Option HourCap)
-said_from h change = if nat_le change.hour h then Some change.cap else None
+abbrev pub cap_from : ℕ → Change → Option (Option HourCap)
+cap_from h change = if nat_le change.hour h then Some change.cap else None
 
 -- the last change at or before hour h decides
 unfoldable pub kept_cap : List Change → ℕ → Option HourCap
-kept_cap changes h = option_flatten (last_word (said_from h) changes)
+kept_cap changes h = option_flatten (last_word (cap_from h) changes)
 
 abbrev pub kept_leg : KeptLists → ℕ → Option (Option ℕ)
 kept_leg kept x = slice_index_or kept.legs x None
@@ -48,10 +48,10 @@ pub record Adds (orders : List Order) (old new : KeptLists) : Type 0 where
   pub all_legs : length new.legs ≡ length old.legs
   pub all_planes : length new.spans ≡ length old.spans
   pub all_airports : length new.hours ≡ length old.hours
-  pub legs : (x : ℕ) → kept_leg new x ≡ option_or (last_said x orders) (kept_leg old x)
+  pub legs : (x : ℕ) → kept_leg new x ≡ option_or (last_order_on_leg x orders) (kept_leg old x)
   pub spans : (p : ℕ) → kept_spans new p ≡ kept_spans old p ++ filter_map (span_of p) orders
   pub in_order : All AreInOrder new.hours
-  pub hours : (a h : ℕ) → kept_cap (kept_hours new a) h ≡ option_or (last_word (said_of_hour a h) orders) (kept_cap (kept_hours old a) h)
+  pub hours : (a h : ℕ) → kept_cap (kept_hours new a) h ≡ option_or (last_word (order_on_hour a h) orders) (kept_cap (kept_hours old a) h)
 
 -- what is kept of no orders, by how many legs, aircraft and airports there are
 abbrev pub nothing_kept : ℕ → ℕ → ℕ → KeptLists

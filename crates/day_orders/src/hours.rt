@@ -1,7 +1,7 @@
 //! What orders say of an airport's hours, kept as the hours at which that changes.
 
 ghost use Rattle.std.specs.Prelude.{◌≡◌, ◌≤◌, ◌<◌, ℕ, IfOk, Some, false, ◌&&◌, nat_le, nat_lt, if◌then◌else◌, IfSome, IfNone, All, length, take, drop};
-ghost use Rattle.day_orders.specs.Said.{touches};
+ghost use Rattle.day_orders.specs.LastOrders.{touches};
 ghost use Rattle.day_orders.specs.KeptLists.{AreInOrder, kept_cap};
 
 use desk_units::{Minute, NoMem};

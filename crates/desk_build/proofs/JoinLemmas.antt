@@ -22,7 +22,7 @@ joined_day x e = ap (λ r. unless_refused r (day_of x)) e
 pub joined_made : (x : Files) (inst : Situation) → refusal_of x ≡ None → inst ≡ day_of x → joined x ≡ Ok inst
 joined_made x inst none made = joined_day x none ∙ ap (λ day. Ok day) (sym made)
 
--- want of memory says nothing of the rows
+-- out of memory says nothing of the rows
 pub memory_gives : (result : Result Built BuildFault) (join : Result Situation Refusal) → IsErrAnd result (λ e. e ≡ Memory) → JoinGives result join
 memory_gives (Ok built) join e = absurd e
 memory_gives (Err (Refused f line cause)) join e = absurd cc

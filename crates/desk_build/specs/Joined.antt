@@ -16,7 +16,7 @@ unless_refused (Some refusal) day = Err refusal
 unfoldable pub joined : Files → Result Situation Refusal
 joined x = unless_refused (refusal_of x) (day_of x)
 
--- a join gives this day, or refuses that line of that file; want of memory may come at any time
+-- a join gives this day, or refuses that line of that file; out of memory may come at any time
 abbrev pub JoinGives : Result Built BuildFault → Result Situation Refusal → Type 0
 JoinGives (Ok built) join = join ≡ Ok built.inst
 JoinGives (Err (Refused f line cause)) join = join ≡ Err (f, line, cause)

@@ -19,14 +19,14 @@ abbrev pub state_of : Recorded → State
 state_of B = state (states.opening B.opening) B.journal
 
 -- the answer of the state, unless the journal has no room for the event
-abbrev pub replied : Recorded → Event → Answer
-replied B event = if has_room (length B.journal) event then states.answer (state_of B) event else Full (length B.journal)
+abbrev pub reply : Recorded → Event → Answer
+reply B event = if has_room (length B.journal) event then states.answer (state_of B) event else Full (length B.journal)
 
 -- the journal with one entry more where it has room for the event
-abbrev pub recorded : Recorded → ℕ → Event → Recorded
-recorded B caller event =
+abbrev pub with_entry : Recorded → ℕ → Event → Recorded
+with_entry B caller event =
     if has_room (length B.journal) event then record B { journal = B.journal ++ entry_of (state_of B) caller event ∷ [] } else B
 
 -- how many proposals were accepted since the last batch; there are no batches, so each change is one
-abbrev pub accepted : List Entry → ℕ
-accepted h = changes h
+abbrev pub accepted_count : List Entry → ℕ
+accepted_count h = changes h

@@ -48,7 +48,7 @@ impl Book {
     ghost use Rattle.desk_model.specs.States.{opening};
     ghost use Rattle.desk_model.specs.Histories.{changes, IsLegal};
     ghost use Rattle.desk_model.specs.Promises.{cost_of, KeepsPromises};
-    ghost use Rattle.desk_core.specs.Recorded.{Recorded, state_of, replied, recorded, accepted};
+    ghost use Rattle.desk_core.specs.Recorded.{Recorded, state_of, reply, with_entry, accepted_count};
     ghost use Rattle.desk_core.specs.Judged.{IsJudged};
 
     /// The book of an instance that has no orders: its plan is the schedule, and nothing is
@@ -75,8 +75,8 @@ impl Book {
     /// and one entry is journalled. After `NoMem` the book is as before.
     pub fn propose(&mut self, alloc: Global, caller: u32, m: &Move) -> Result<Answer, NoMem>
         requires { Fits self.old.opening m.now }
-        ensures answer { IfOk result (λ told. told ≡ replied self.old (event.Move m.now)) }
-        ensures after { OnOk result (self.new ≡ recorded self.old caller (event.Move m.now)) }
+        ensures answer { IfOk result (λ told. told ≡ reply self.old (event.Move m.now)) }
+        ensures after { OnOk result (self.new ≡ with_entry self.old caller (event.Move m.now)) }
         ensures err { OnErr result (self.new ≡ self.old) }
         ensures opening { self.new.opening ≡ self.old.opening }
     {
@@ -151,7 +151,7 @@ impl Book {
     /// How many proposals were accepted since the last batch. There are no batches, so each change
     /// is one.
     pub fn accepted(&self) -> u32
-        ensures { result ≡ accepted self.now.journal }
+        ensures { result ≡ accepted_count self.now.journal }
     {
         self.changes
     }

@@ -3,17 +3,17 @@
 ghost use Rattle.std.specs.Prelude.{◌≡◌, IfOk};
 ghost use Rattle.desk_data.specs.Valid.{IsPlanFor};
 ghost use Rattle.desk_data.specs.Fits.{Fits, StepFits};
-ghost use Rattle.desk_model.specs.Steps.{stepped, moved};
+ghost use Rattle.desk_model.specs.Steps.{after_step, after_move};
 
 use desk_data::{Instance, List, Move, NoMem, Plan, Step};
 use std::alloc::Global;
 
 /// Takes one step.
-#[tactic(auto, unfolding(desk_model::specs::Steps::stepped))]
+#[tactic(auto, unfolding(desk_model::specs::Steps::after_step))]
 fn take_step(inst: &Instance, plan: &mut Plan, step: &Step)
     requires plan { IsPlanFor inst.now plan.old }
     requires step { StepFits inst.now step.now }
-    ensures { plan.new ≡ stepped inst.now plan.old step.now }
+    ensures { plan.new ≡ after_step inst.now plan.old step.now }
 {
     match step {
         Step::Set { leg, was, new } => {
@@ -33,7 +33,7 @@ pub(crate) fn moved_plan(
 ) -> Result<Plan, NoMem>
     requires plan { IsPlanFor inst.now plan.now }
     requires fits { Fits inst.now m.now }
-    ensures moved { IfOk result (λ made. made ≡ moved inst.now plan.now m.now) }
+    ensures moved { IfOk result (λ made. made ≡ after_move inst.now plan.now m.now) }
     ensures valid { IfOk result (λ made. IsPlanFor inst.now made) }
 {
     let mut made = plan.copy(alloc)?;

@@ -8,17 +8,17 @@ use Rattle.std.proofs.lemmas.List.Sorted.{IsNonDecreasingBy-short}
 use Rattle.day_orders.specs.declared.hours.Change.{Change}
 use Rattle.day_orders.specs.declared.orders.Order.{Order}
 use Rattle.day_orders.specs.declared.orders.Order.TheVariants.{Flight, Aircraft, Field}
-use Rattle.day_orders.specs.Said.{last_said, span_of, last_word, said_of_hour}
+use Rattle.day_orders.specs.LastOrders.{last_order_on_leg, span_of, last_word, order_on_hour}
 use Rattle.day_orders.specs.KeptLists.{KeptLists, AreInOrder, kept_cap, HasPlace, Adds, nothing_kept}
 use Rattle.day_orders.proofs.LastLemmas.{last_word-append}
-use Rattle.day_orders.proofs.KeptLemmas.{last_said-append}
+use Rattle.day_orders.proofs.KeptLemmas.{last_order_on_leg-append}
 use Rattle.desk_data.specs.declared.parts.Parts.{Parts}
 use Rattle.desk_data.specs.Keeps.{Keeps}
 use Rattle.desk_data.specs.Situation.{Situation, spans}
 use Rattle.desk_data.specs.Valid.{IsOrder}
 
 pub keeps_nothing : (parts : Parts) → Keeps (record { parts = parts; orders = [] }) (nothing_kept (length parts.legs) (length parts.planes) (length parts.airports))
-unfolding last_said last_word spans kept_cap
+unfolding last_order_on_leg last_word spans kept_cap
 keeps_nothing parts = record {
   all_legs = length-replicate (length parts.legs) None;
   all_planes = length-replicate (length parts.planes) [];
@@ -35,10 +35,10 @@ keeps_more I orders old new keeps adds = record {
   all_legs = adds.all_legs ∙ keeps.all_legs;
   all_planes = adds.all_planes ∙ keeps.all_planes;
   all_airports = adds.all_airports ∙ keeps.all_airports;
-  legs = λ x within. adds.legs x ∙ (ap (λ o. option_or (last_said x orders) o) (keeps.legs x within) ∙ sym (last_said-append x I.orders orders));
+  legs = λ x within. adds.legs x ∙ (ap (λ o. option_or (last_order_on_leg x orders) o) (keeps.legs x within) ∙ sym (last_order_on_leg-append x I.orders orders));
   spans = λ p within. adds.spans p ∙ (ap (λ s. s ++ filter_map (span_of p) orders) (keeps.spans p within) ∙ sym (filter_map-append (span_of p) I.orders orders));
   in_order = adds.in_order;
-  hours = λ a h within. adds.hours a h ∙ (ap (λ o. option_or (last_word (said_of_hour a h) orders) o) (keeps.hours a h within) ∙ sym (last_word-append (said_of_hour a h) I.orders orders));
+  hours = λ a h within. adds.hours a h ∙ (ap (λ o. option_or (last_word (order_on_hour a h) orders) o) (keeps.hours a h within) ∙ sym (last_word-append (order_on_hour a h) I.orders orders));
 }
 
 -- orders that an instance can take have a place

@@ -7,7 +7,7 @@ use Rattle.std.proofs.lemmas.List.Elements.{All-head, All-tail}
 use Rattle.day_orders.specs.declared.orders.Order.{Order}
 use Rattle.day_orders.specs.declared.orders.Order.TheVariants.{Flight, Aircraft, Field}
 use Rattle.desk_data.specs.declared.parts.Parts.{Parts}
-use Rattle.day_orders.specs.Said.{said_of, last_said}
+use Rattle.day_orders.specs.LastOrders.{said_of, last_order_on_leg}
 use Rattle.desk_data.specs.Situation.{delay_of}
 use Rattle.desk_data.specs.Valid.{IsOrder}
 
@@ -20,11 +20,11 @@ option_or_assoc None b c = refl
 option_or_assoc (Some x) b c = refl
 
 -- a later order decides before the earlier ones
-pub last_said-push : (x : ℕ) (orders : List Order) (order : Order) → last_said x (orders ++ order ∷ []) ≡ option_or (said_of x order) (last_said x orders)
-unfolding last_said
-last_said-push x [] order = none_or (said_of x order)
-last_said-push x (first ∷ orders) order =
-    ap (λ o. option_or o (said_of x first)) (last_said-push x orders order) ∙ option_or_assoc (said_of x order) (last_said x orders) (said_of x first)
+pub last_order_on_leg-push : (x : ℕ) (orders : List Order) (order : Order) → last_order_on_leg x (orders ++ order ∷ []) ≡ option_or (said_of x order) (last_order_on_leg x orders)
+unfolding last_order_on_leg
+last_order_on_leg-push x [] order = none_or (said_of x order)
+last_order_on_leg-push x (first ∷ orders) order =
+    ap (λ o. option_or o (said_of x first)) (last_order_on_leg-push x orders order) ∙ option_or_assoc (said_of x order) (last_order_on_leg x orders) (said_of x first)
 
 -- the delay of the first of two, where it says anything
 delay_of-or : (a b : Option (Option ℕ)) → delay_of a ≤ 2880 → delay_of b ≤ 2880 → delay_of (option_or a b) ≤ 2880
@@ -44,8 +44,8 @@ delay_of-said_of parts x (Aircraft plane from to) h = omega arith
 delay_of-said_of parts x (Field airport from to deps arrs) h = omega arith
 
 -- no order delays a leg by more than 2,880 minutes
-pub delay_of-last_said : (parts : Parts) (x : ℕ) (orders : List Order) → All (IsOrder parts) orders → delay_of (last_said x orders) ≤ 2880
-unfolding last_said delay_of
-delay_of-last_said parts x [] h = omega arith
-delay_of-last_said parts x (order ∷ orders) h =
-    delay_of-or (last_said x orders) (said_of x order) (delay_of-last_said parts x orders (All-tail (IsOrder parts) order orders h)) (delay_of-said_of parts x order (All-head (IsOrder parts) order orders h))
+pub delay_of-last_order_on_leg : (parts : Parts) (x : ℕ) (orders : List Order) → All (IsOrder parts) orders → delay_of (last_order_on_leg x orders) ≤ 2880
+unfolding last_order_on_leg delay_of
+delay_of-last_order_on_leg parts x [] h = omega arith
+delay_of-last_order_on_leg parts x (order ∷ orders) h =
+    delay_of-or (last_order_on_leg x orders) (said_of x order) (delay_of-last_order_on_leg parts x orders (All-tail (IsOrder parts) order orders h)) (delay_of-said_of parts x order (All-head (IsOrder parts) order orders h))

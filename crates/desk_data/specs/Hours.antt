@@ -2,7 +2,7 @@
 use Rattle.std.specs.Prelude.{ℕ, ◌*◌, ◌%◌, Bool, ◌&&◌, ◌||◌, nat_lt, nat_le, ◌==◌, if◌then◌else◌, Option, Some, None}
 use Rattle.std.specs.Option.{option_or, option_map}
 use Rattle.day_orders.specs.declared.hours.HourCap.{HourCap}
-use Rattle.day_orders.specs.Said.{last_word, said_of_hour}
+use Rattle.day_orders.specs.LastOrders.{last_word, order_on_hour}
 use Rattle.desk_data.specs.declared.info.Cap.{Cap}
 use Rattle.desk_data.specs.Situation.{Situation, airport_at}
 
@@ -18,12 +18,12 @@ covers group minute =
     else (nat_le group.from minute || nat_lt minute (end_of group))
 
 -- what a group says of the hour that begins at a minute of the day
-abbrev pub said_of_day : ℕ → Cap → Option HourCap
-said_of_day minute group = if covers group minute then Some (record { deps = group.deps; arrs = group.arrs }) else None
+abbrev pub cap_on_minute : ℕ → Cap → Option HourCap
+cap_on_minute minute group = if covers group minute then Some (record { deps = group.deps; arrs = group.arrs }) else None
 
 -- the last order that has a minute in hour h decides for airport a. Where there is none, the last group of the airport's line does that covers the hour of the day
 unfoldable pub hour_cap : Situation → ℕ → ℕ → Option HourCap
-hour_cap I a h = option_or (last_word (said_of_hour a h) I.orders) (last_word (said_of_day (60 * (h % 24))) (airport_at I a).caps)
+hour_cap I a h = option_or (last_word (order_on_hour a h) I.orders) (last_word (cap_on_minute (60 * (h % 24))) (airport_at I a).caps)
 
 -- how many departures and how many arrivals airport a takes in hour h; None where it takes any number
 unfoldable pub dep_cap : Situation → ℕ → ℕ → Option ℕ

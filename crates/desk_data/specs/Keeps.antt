@@ -1,7 +1,7 @@
 -- What an instance keeps of its orders agrees with them.
 use Rattle.std.specs.Prelude.{◌≡◌, ℕ, ◌<◌, List, length, All}
 use Rattle.desk_units.specs.declared.tariff.TariffRow.{TariffRow}
-use Rattle.day_orders.specs.Said.{last_said, last_word, said_of_hour}
+use Rattle.day_orders.specs.LastOrders.{last_order_on_leg, last_word, order_on_hour}
 use Rattle.day_orders.specs.KeptLists.{KeptLists, AreInOrder, kept_cap, kept_leg, kept_spans, kept_hours}
 use Rattle.desk_data.specs.Situation.{Situation, legs_of, planes_of, airports_of, spans}
 use Rattle.desk_data.specs.Valid.{IsValid}
@@ -11,10 +11,10 @@ pub record Keeps (I : Situation) (kept : KeptLists) : Type 0 where
   pub all_legs : length kept.legs ≡ legs_of I
   pub all_planes : length kept.spans ≡ planes_of I
   pub all_airports : length kept.hours ≡ airports_of I
-  pub legs : (x : ℕ) → x < legs_of I → kept_leg kept x ≡ last_said x I.orders
+  pub legs : (x : ℕ) → x < legs_of I → kept_leg kept x ≡ last_order_on_leg x I.orders
   pub spans : (p : ℕ) → p < planes_of I → kept_spans kept p ≡ spans I p
   pub in_order : All AreInOrder kept.hours
-  pub hours : (a h : ℕ) → a < airports_of I → kept_cap (kept_hours kept a) h ≡ last_word (said_of_hour a h) I.orders
+  pub hours : (a h : ℕ) → a < airports_of I → kept_cap (kept_hours kept a) h ≡ last_word (order_on_hour a h) I.orders
 
 -- what the inside of an instance keeps: the prices are those of its tariff
 pub record IsWhole (I : Situation) (kept : KeptLists) (prices : List TariffRow) : Type 0 where

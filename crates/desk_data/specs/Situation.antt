@@ -7,7 +7,7 @@ use Rattle.desk_units.specs.declared.numbers.Haul.TheVariants.{D}
 use Rattle.desk_units.specs.declared.numbers.Leg.{Leg}
 use Rattle.desk_units.specs.declared.numbers.Minute.{Minute}
 use Rattle.day_orders.specs.declared.orders.Order.{Order}
-use Rattle.day_orders.specs.Said.{last_said, span_of}
+use Rattle.day_orders.specs.LastOrders.{last_order_on_leg, span_of}
 use Rattle.desk_data.specs.declared.info.LegInfo.{LegInfo}
 use Rattle.desk_data.specs.declared.info.PlaneInfo.{PlaneInfo}
 use Rattle.desk_data.specs.declared.info.ResInfo.{ResInfo}
@@ -74,13 +74,13 @@ is_off (Some said) = is_none said
 
 -- the earliest and the latest departure of leg x, and whether it is ordered off
 unfoldable pub earliest : Situation → ℕ → ℕ
-earliest I x = (leg_at I x).sched.0 + delay_of (last_said x I.orders)
+earliest I x = (leg_at I x).sched.0 + delay_of (last_order_on_leg x I.orders)
 
 unfoldable pub latest : Situation → ℕ → ℕ
 latest I x = earliest I x + 2880
 
 unfoldable pub ordered_off : Situation → ℕ → Bool
-ordered_off I x = is_off (last_said x I.orders)
+ordered_off I x = is_off (last_order_on_leg x I.orders)
 
 -- a leg is fixed if its scheduled aircraft is surface transport or it is scheduled before the window
 unfoldable pub fixed : Situation → ℕ → Bool

@@ -1,25 +1,25 @@
 //! How many departures and arrivals an airport takes in an hour by its line.
 
 ghost use Rattle.std.specs.Prelude.{◌≡◌};
-ghost use Rattle.day_orders.specs.Said.{last_word};
-ghost use Rattle.desk_data.specs.Hours.{covers, said_of_day};
+ghost use Rattle.day_orders.specs.LastOrders.{last_word};
+ghost use Rattle.desk_data.specs.Hours.{covers, cap_on_minute};
 
 use crate::info::Cap;
 use day_orders::HourCap;
 
 /// What the last group of an airport's line says that covers a minute of the day.
 pub fn cap_of_line(groups: &[Cap], minute: u32) -> Option<HourCap>
-    ensures { result ≡ last_word (said_of_day minute) groups.now }
+    ensures { result ≡ last_word (cap_on_minute minute) groups.now }
 {
     let mut last = None;
     for group in groups {
-        last = said_of_group(group, minute).or(last);
+        last = cap_of_group(group, minute).or(last);
     }
     last
 }
 
-fn said_of_group(group: &Cap, minute: u32) -> Option<HourCap>
-    ensures { result ≡ said_of_day minute group.now }
+fn cap_of_group(group: &Cap, minute: u32) -> Option<HourCap>
+    ensures { result ≡ cap_on_minute minute group.now }
 {
     if covers(group, minute) {
         Some(HourCap {

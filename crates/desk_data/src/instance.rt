@@ -2,7 +2,7 @@
 
 ghost use Rattle.std.specs.Prelude.{◌≡◌, ◌<◌, ◌≤◌, ℕ, [], ◌++◌, length, map, All, IfOk, OnOk, OnErr, IfSome, nat_lt};
 ghost use Rattle.day_orders.specs.KeptLists.{nothing_kept};
-ghost use Rattle.day_orders.specs.Said.{last_said};
+ghost use Rattle.day_orders.specs.LastOrders.{last_order_on_leg};
 ghost use Rattle.desk_data.specs.Hours.{hour_cap, dep_cap, arr_cap};
 ghost use Rattle.desk_data.specs.PlanRows.{row_at};
 ghost use Rattle.desk_data.specs.Situation.{legs_of, planes_of, airports_of, reservations_of, leg_at, plane_at, res_at, airport_at, earliest, latest, ordered_off, fixed, due, spans, begun, bound, delay_of, scheduled_row, groups_of, schedule};
@@ -147,7 +147,7 @@ impl Instance {
         ensures earliest { result.0 ≡ earliest self.now leg.0 }
         ensures limit { result.0 ≤ 52482880 }
     {
-        let delay = self.last_said(leg).flatten().unwrap_or(0);
+        let delay = self.last_order_on_leg(leg).flatten().unwrap_or(0);
         Minute(self.leg(leg).sched.0 + delay)
     }
 
@@ -167,7 +167,7 @@ impl Instance {
         requires { leg.0 < legs_of self.now }
         ensures { result ≡ ordered_off self.now leg.0 }
     {
-        self.last_said(leg) == Some(None)
+        self.last_order_on_leg(leg) == Some(None)
     }
 
     /// Whether nothing moves the leg: its scheduled aircraft is surface transport, or it is
@@ -351,9 +351,9 @@ impl Instance {
 
     /// What the last flight order of a leg says: a delay in minutes, or `None` inside where it is
     /// off.
-    fn last_said(&self, leg: Leg) -> Option<Option<u32>>
+    fn last_order_on_leg(&self, leg: Leg) -> Option<Option<u32>>
         requires { leg.0 < legs_of self.now }
-        ensures said { result ≡ last_said leg.0 self.now.orders }
+        ensures said { result ≡ last_order_on_leg leg.0 self.now.orders }
         ensures limit { delay_of result ≤ 2880 }
     {
         self.kept.leg(leg)

@@ -18,7 +18,7 @@ use Rattle.desk_model.specs.declared.answer.Answer.TheVariants.{Accepted}
 use Rattle.desk_model.specs.declared.answer.Event.{Event}
 use Rattle.desk_model.specs.declared.answer.Event.TheVariants as event
 use Rattle.desk_model.specs.declared.answer.Entry.{Entry}
-use Rattle.desk_model.specs.Steps.{moved}
+use Rattle.desk_model.specs.Steps.{after_move}
 use Rattle.desk_model.specs.States.{State, opening, answer, after}
 use Rattle.desk_model.specs.Histories.{state, has_room, IsAskable, AreAskable, Stands, IsLegal, is_change, changes, entry_of, entries, run}
 use Rattle.desk_model.specs.Promises.{state_at, cost_of, IsHonest, Improves, IsKept, KeepsPromises}
@@ -68,7 +68,7 @@ kept_stored S entry (event.Move m) told is by h =
     let there = ap (after S) is ∙ after-accepted S m told (sym (by ∙ ap (answer S) is) ∙ h) in
     rw there (cause.stored, cause.cheaper)
 
-kept_moved : (S : State) (entry : Entry) (m : Move) → entry.event ≡ event.Move m → entry.answer ≡ answer S entry.event → is_change entry.answer ≡ true → ((after S entry.event).plan ≡ moved S.inst S.plan m) × ((after S entry.event).broken ≡ None)
+kept_moved : (S : State) (entry : Entry) (m : Move) → entry.event ≡ event.Move m → entry.answer ≡ answer S entry.event → is_change entry.answer ≡ true → ((after S entry.event).plan ≡ after_move S.inst S.plan m) × ((after S entry.event).broken ≡ None)
 kept_moved S entry m is told change =
     let by = change-told entry.answer change in
     let there = ap (after S) is ∙ after-accepted S m by.0 (sym (told ∙ ap (answer S) is) ∙ by.1) in

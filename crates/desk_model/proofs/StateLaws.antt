@@ -12,19 +12,19 @@ use Rattle.desk_model.specs.declared.answer.Answer.{Answer}
 use Rattle.desk_model.specs.declared.answer.Answer.TheVariants.{Accepted, Breaks, Dearer, NoPlan, Full}
 use Rattle.desk_model.specs.declared.answer.Event.{Event}
 use Rattle.desk_model.specs.declared.answer.Event.TheVariants as event
-use Rattle.desk_model.specs.Steps.{moved}
-use Rattle.desk_model.specs.States.{State, opening, judged, proposed, answer, published, after}
+use Rattle.desk_model.specs.Steps.{after_move}
+use Rattle.desk_model.specs.States.{State, opening, verdict, move_answer, answer, answered_state, after}
 use Rattle.desk_model.specs.Histories.{is_change}
 use Rattle.desk_model.specs.Promises.{cost_of}
 
 -- why a move was accepted
 pub record Cause (S : State) (m : Move) (told : Grains) : Type 0 where
   pub had_plan : S.broken ≡ None
-  pub feasible : least S.inst (moved S.inst S.plan m) ≡ None
-  pub cheaper : cost S.inst (moved S.inst S.plan m) < cost_of S
-  pub stored : told ≡ grains (cost S.inst (moved S.inst S.plan m))
+  pub feasible : least S.inst (after_move S.inst S.plan m) ≡ None
+  pub cheaper : cost S.inst (after_move S.inst S.plan m) < cost_of S
+  pub stored : told ≡ grains (cost S.inst (after_move S.inst S.plan m))
 
-judged_accepted : (b : Option Broken) (now would : ℕ) (told : Grains) (dear : Bool) → leb now would ≡ dear → judged b now would ≡ Accepted told → (b ≡ None) × (would < now) × (told ≡ grains would)
+judged_accepted : (b : Option Broken) (now would : ℕ) (told : Grains) (dear : Bool) → leb now would ≡ dear → verdict b now would ≡ Accepted told → (b ≡ None) × (would < now) × (told ≡ grains would)
 judged_accepted (Some item) now would told dear test h = absurd cc
 judged_accepted None now would told true test h =
     let now_is : cond true (Dearer (grains now) (grains would)) (Accepted (grains would)) ≡ Accepted told = rw test at h in
@@ -33,10 +33,10 @@ judged_accepted None now would told false test h =
     let now_is : cond false (Dearer (grains now) (grains would)) (Accepted (grains would)) ≡ Accepted told = rw test at h in
     (refl, leb-false now would test, cc)
 
-proposed_accepted : (S : State) (m : Move) (b : Option Broken) (told : Grains) → S.broken ≡ b → proposed S m b ≡ Accepted told → Cause S m told
+proposed_accepted : (S : State) (m : Move) (b : Option Broken) (told : Grains) → S.broken ≡ b → move_answer S m b ≡ Accepted told → Cause S m told
 proposed_accepted S m (Some item) told here h = absurd cc
 proposed_accepted S m None told here h =
-    let moved_plan = moved S.inst S.plan m in
+    let moved_plan = after_move S.inst S.plan m in
     let facts = judged_accepted (least S.inst moved_plan) (cost S.inst S.plan) (cost S.inst moved_plan) told (leb (cost S.inst S.plan) (cost S.inst moved_plan)) refl h in
     record { had_plan = here; feasible = facts.0; cheaper = facts.1; stored = facts.2 }
 
@@ -45,10 +45,10 @@ unfolding answer
 accepted-cause S m told h = proposed_accepted S m S.broken told refl h
 
 -- where there is a plan, and the moved one is feasible and cheaper, the move is accepted
-pub accepted-from : (S : State) (m : Move) → S.broken ≡ None → least S.inst (moved S.inst S.plan m) ≡ None → cost S.inst (moved S.inst S.plan m) < cost_of S → answer S (event.Move m) ≡ Accepted (grains (cost S.inst (moved S.inst S.plan m)))
+pub accepted-from : (S : State) (m : Move) → S.broken ≡ None → least S.inst (after_move S.inst S.plan m) ≡ None → cost S.inst (after_move S.inst S.plan m) < cost_of S → answer S (event.Move m) ≡ Accepted (grains (cost S.inst (after_move S.inst S.plan m)))
 unfolding answer
 accepted-from S m had feasible cheaper =
-    let dear : leb (cost S.inst S.plan) (cost S.inst (moved S.inst S.plan m)) ≡ false = lt-leb _ _ cheaper in
+    let dear : leb (cost S.inst S.plan) (cost S.inst (after_move S.inst S.plan m)) ≡ false = lt-leb _ _ cheaper in
     rw (had, feasible, dear) refl
 
 -- ---- the state after an answer
@@ -57,7 +57,7 @@ accepted-from S m had feasible cheaper =
 abbrev pub IsTold : State → Type 0
 IsTold S = S.broken ≡ least S.inst S.plan
 
-published-told : (S : State) (m : Move) (a : Answer) → answer S (event.Move m) ≡ a → IsTold S → IsTold (published S m a)
+published-told : (S : State) (m : Move) (a : Answer) → answer S (event.Move m) ≡ a → IsTold S → IsTold (answered_state S m a)
 published-told S m (Accepted told) e h = sym (accepted-cause S m told e).feasible
 published-told S m (Breaks item) e h = h
 published-told S m (Dearer now would) e h = h
@@ -72,7 +72,7 @@ pub opening-told : (I : Situation) → IsTold (opening I)
 unfolding opening
 opening-told I = refl
 
-published-inst : (S : State) (m : Move) (a : Answer) → (published S m a).inst ≡ S.inst
+published-inst : (S : State) (m : Move) (a : Answer) → (answered_state S m a).inst ≡ S.inst
 published-inst S m (Accepted told) = refl
 published-inst S m (Breaks item) = refl
 published-inst S m (Dearer now would) = refl
@@ -91,7 +91,7 @@ pub opening-plan : (I : Situation) → (opening I).plan ≡ schedule I
 unfolding opening
 opening-plan I = refl
 
-published-unchanged : (S : State) (m : Move) (a : Answer) → is_change a ≡ false → published S m a ≡ S
+published-unchanged : (S : State) (m : Move) (a : Answer) → is_change a ≡ false → answered_state S m a ≡ S
 published-unchanged S m (Accepted told) h = absurd (true≢false h)
 published-unchanged S m (Breaks item) h = refl
 published-unchanged S m (Dearer now would) h = refl
@@ -104,9 +104,9 @@ unfolding after
 after-unchanged S (event.Move m) h = published-unchanged S m (answer S (event.Move m)) h
 
 -- a change publishes the moved plan
-pub after-accepted : (S : State) (m : Move) (told : Grains) → answer S (event.Move m) ≡ Accepted told → after S (event.Move m) ≡ record { inst = S.inst; plan = moved S.inst S.plan m; broken = None }
+pub after-accepted : (S : State) (m : Move) (told : Grains) → answer S (event.Move m) ≡ Accepted told → after S (event.Move m) ≡ record { inst = S.inst; plan = after_move S.inst S.plan m; broken = None }
 unfolding after
-after-accepted S m told h = ap (published S m) h
+after-accepted S m told h = ap (answered_state S m) h
 
 change_is : (a : Answer) → is_change a ≡ true → (told : Grains) × (a ≡ Accepted told)
 change_is (Accepted told) h = (told, refl)
@@ -119,7 +119,7 @@ change_is (Full entries) h = absurd (true≢false (sym h))
 pub change-told : (a : Answer) → is_change a ≡ true → (told : Grains) × (a ≡ Accepted told)
 change-told = change_is
 
-falls_by : (S : State) (m : Move) (a : Answer) → answer S (event.Move m) ≡ a → cost_of (published S m a) ≤ cost_of S
+falls_by : (S : State) (m : Move) (a : Answer) → answer S (event.Move m) ≡ a → cost_of (answered_state S m a) ≤ cost_of S
 falls_by S m (Accepted told) e = let cause = accepted-cause S m told e in omega (arith, cause.cheaper)
 falls_by S m (Breaks item) e = omega arith
 falls_by S m (Dearer now would) e = omega arith

@@ -16,8 +16,8 @@ use Rattle.desk_rules.specs.Rows.{is_row}
 use Rattle.desk_model.specs.declared.answer.Answer.{Answer}
 use Rattle.desk_model.specs.declared.answer.Answer.TheVariants.{Accepted, Breaks, Dearer, NoPlan, Full}
 use Rattle.desk_model.specs.declared.answer.Event.TheVariants as event
-use Rattle.desk_model.specs.Steps.{stepped, stepped_by, moved}
-use Rattle.desk_model.specs.States.{State, answer, published, after}
+use Rattle.desk_model.specs.Steps.{after_step, after_steps, after_move}
+use Rattle.desk_model.specs.States.{State, answer, answered_state, after}
 
 row_is_sound : (planes : ℕ) (row : Row) → IsRowOf planes row → IsRow row
 row_is_sound planes (Flown plane dep) h = h.1
@@ -36,20 +36,20 @@ cond_valid : (I : Situation) (b : Bool) (P Q : PlanRows) → IsPlanFor I P → I
 cond_valid I true P Q p q = p
 cond_valid I false P Q p q = q
 
-pub stepped-valid : (I : Situation) (P : PlanRows) (step : Step) → StepFits I step → IsPlanFor I P → IsPlanFor I (stepped I P step)
-unfolding stepped
-stepped-valid I P (Set leg was new) fits h =
+pub after_step-valid : (I : Situation) (P : PlanRows) (step : Step) → StepFits I step → IsPlanFor I P → IsPlanFor I (after_step I P step)
+unfolding after_step
+after_step-valid I P (Set leg was new) fits h =
     cond_valid I (is_row (row_at P leg.0) was) (with_row P leg.0 new) P (with_row-valid I P leg.0 new fits.2 h) h
 
-pub stepped_by-valid : (I : Situation) (P : PlanRows) (steps : List Step) → AllByRecursion (StepFits I) steps → IsPlanFor I P → IsPlanFor I (stepped_by I P steps)
-stepped_by-valid I P [] fits h = h
-stepped_by-valid I P (step ∷ steps) fits h = stepped_by-valid I (stepped I P step) steps fits.1 (stepped-valid I P step fits.0 h)
+pub after_steps-valid : (I : Situation) (P : PlanRows) (steps : List Step) → AllByRecursion (StepFits I) steps → IsPlanFor I P → IsPlanFor I (after_steps I P steps)
+after_steps-valid I P [] fits h = h
+after_steps-valid I P (step ∷ steps) fits h = after_steps-valid I (after_step I P step) steps fits.1 (after_step-valid I P step fits.0 h)
 
-pub moved-valid : (I : Situation) (P : PlanRows) (m : Move) → Fits I m → IsPlanFor I P → IsPlanFor I (moved I P m)
-unfolding moved
-moved-valid I P m fits h = stepped_by-valid I P m.steps (recursion_from_All (StepFits I) m.steps fits.each) h
+pub moved-valid : (I : Situation) (P : PlanRows) (m : Move) → Fits I m → IsPlanFor I P → IsPlanFor I (after_move I P m)
+unfolding after_move
+moved-valid I P m fits h = after_steps-valid I P m.steps (recursion_from_All (StepFits I) m.steps fits.each) h
 
-published_valid : (S : State) (m : Move) (a : Answer) → Fits S.inst m → IsPlanFor S.inst S.plan → IsPlanFor S.inst (published S m a).plan
+published_valid : (S : State) (m : Move) (a : Answer) → Fits S.inst m → IsPlanFor S.inst S.plan → IsPlanFor S.inst (answered_state S m a).plan
 published_valid S m (Accepted told) fits h = moved-valid S.inst S.plan m fits h
 published_valid S m (Breaks item) fits h = h
 published_valid S m (Dearer now would) fits h = h

@@ -9,7 +9,7 @@ use Rattle.desk_rules.specs.Words.{IsFeasible, IsLeast}
 use Rattle.desk_model.specs.declared.answer.Answer.TheVariants.{Accepted}
 use Rattle.desk_model.specs.declared.answer.Event.TheVariants as event
 use Rattle.desk_model.specs.declared.answer.Entry.{Entry}
-use Rattle.desk_model.specs.Steps.{moved}
+use Rattle.desk_model.specs.Steps.{after_move}
 use Rattle.desk_model.specs.States.{State, opening}
 use Rattle.desk_model.specs.Histories.{state, changes, is_change}
 
@@ -28,8 +28,8 @@ pub record IsHonest (S : State) : Type 0 where
 
 -- the move makes of the state's plan one that meets all rules and costs less
 pub record Improves (S : State) (m : Move) : Type 0 where
-  pub feasible : IsFeasible S.inst (moved S.inst S.plan m)
-  pub cheaper : cost S.inst (moved S.inst S.plan m) < cost_of S
+  pub feasible : IsFeasible S.inst (after_move S.inst S.plan m)
+  pub cheaper : cost S.inst (after_move S.inst S.plan m) < cost_of S
 
 -- entry i of the history, between the state before it and the state after it
 pub record IsKept (before : State) (entry : Entry) (behind : State) : Type 0 where
@@ -38,7 +38,7 @@ pub record IsKept (before : State) (entry : Entry) (behind : State) : Type 0 whe
   -- the cost that is told of a change is the cost of the rows after it, and less than before
   pub stored : (told : Grains) → entry.answer ≡ Accepted told → (told ≡ grains (cost_of behind)) × (cost_of behind < cost_of before)
   -- a change publishes the moved plan
-  pub moved_to : (m : Move) → entry.event ≡ event.Move m → is_change entry.answer ≡ true → (behind.plan ≡ moved before.inst before.plan m) × (behind.broken ≡ None)
+  pub moved_to : (m : Move) → entry.event ≡ event.Move m → is_change entry.answer ≡ true → (behind.plan ≡ after_move before.inst before.plan m) × (behind.broken ≡ None)
   -- every other answer leaves the state
   pub refused : is_change entry.answer ≡ false → behind ≡ before
 

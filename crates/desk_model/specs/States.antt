@@ -10,7 +10,7 @@ use Rattle.desk_model.specs.declared.answer.Answer.{Answer}
 use Rattle.desk_model.specs.declared.answer.Answer.TheVariants.{Accepted, Breaks, Dearer, NoPlan}
 use Rattle.desk_model.specs.declared.answer.Event.{Event}
 use Rattle.desk_model.specs.declared.answer.Event.TheVariants as event
-use Rattle.desk_model.specs.Steps.{moved}
+use Rattle.desk_model.specs.Steps.{after_move}
 
 -- the instance as disrupted, the rows, and the item that they break: there is a plan where they break none
 pub record State : Type 0 where
@@ -23,24 +23,24 @@ unfoldable pub opening : Situation → State
 opening I = record { inst = I; plan = schedule I; broken = least I (schedule I) }
 
 -- the answer to a proposal at a plan: what the moved plan breaks, else whether it is cheaper
-abbrev pub judged : Option Broken → ℕ → ℕ → Answer
-judged (Some item) now would = Breaks item
-judged None now would = if nat_le now would then Dearer (grains now) (grains would) else Accepted (grains would)
+abbrev pub verdict : Option Broken → ℕ → ℕ → Answer
+verdict (Some item) now would = Breaks item
+verdict None now would = if nat_le now would then Dearer (grains now) (grains would) else Accepted (grains would)
 
 -- there is nothing to move where there is no plan
-abbrev pub proposed : State → Move → Option Broken → Answer
-proposed S m (Some item) = NoPlan item
-proposed S m None =
-    let moved_plan = moved S.inst S.plan m in
-    judged (least S.inst moved_plan) (cost S.inst S.plan) (cost S.inst moved_plan)
+abbrev pub move_answer : State → Move → Option Broken → Answer
+move_answer S m (Some item) = NoPlan item
+move_answer S m None =
+    let moved_plan = after_move S.inst S.plan m in
+    verdict (least S.inst moved_plan) (cost S.inst S.plan) (cost S.inst moved_plan)
 
 unfoldable pub answer : State → Event → Answer
-answer S (event.Move m) = proposed S m S.broken
+answer S (event.Move m) = move_answer S m S.broken
 
 -- an accepted move is published, and every other answer leaves the state
-abbrev pub published : State → Move → Answer → State
-published S m (Accepted cost) = record { inst = S.inst; plan = moved S.inst S.plan m; broken = None }
-published S m other = S
+abbrev pub answered_state : State → Move → Answer → State
+answered_state S m (Accepted cost) = record { inst = S.inst; plan = after_move S.inst S.plan m; broken = None }
+answered_state S m other = S
 
 unfoldable pub after : State → Event → State
-after S (event.Move m) = published S m (answer S (event.Move m))
+after S (event.Move m) = answered_state S m (answer S (event.Move m))

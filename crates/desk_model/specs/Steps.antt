@@ -8,13 +8,13 @@ use Rattle.desk_data.specs.PlanRows.{PlanRows, row_at, with_row}
 use Rattle.desk_rules.specs.Rows.{is_row}
 
 -- Set: where the leg's row is `was` it becomes `new`
-unfoldable pub stepped : Situation → PlanRows → Step → PlanRows
-stepped I P (Set leg was new) = if is_row (row_at P leg.0) was then with_row P leg.0 new else P
+unfoldable pub after_step : Situation → PlanRows → Step → PlanRows
+after_step I P (Set leg was new) = if is_row (row_at P leg.0) was then with_row P leg.0 new else P
 
 -- steps are taken in order
-abbrev pub stepped_by : Situation → PlanRows → List Step → PlanRows
-stepped_by I P [] = P
-stepped_by I P (step ∷ steps) = stepped_by I (stepped I P step) steps
+abbrev pub after_steps : Situation → PlanRows → List Step → PlanRows
+after_steps I P [] = P
+after_steps I P (step ∷ steps) = after_steps I (after_step I P step) steps
 
-unfoldable pub moved : Situation → PlanRows → Move → PlanRows
-moved I P m = stepped_by I P m.steps
+unfoldable pub after_move : Situation → PlanRows → Move → PlanRows
+after_move I P m = after_steps I P m.steps

@@ -9,17 +9,17 @@ use Rattle.desk_model.specs.declared.answer.Entry.{Entry}
 use Rattle.desk_model.specs.States.{opening}
 use Rattle.desk_model.specs.Histories.{state, has_room, entries, run}
 use Rattle.desk_model.proofs.HistoryLaws.{with_event, run-step, run-nil}
-use Rattle.desk_core.specs.Recorded.{Recorded, recorded}
+use Rattle.desk_core.specs.Recorded.{Recorded, with_entry}
 
 -- the book after an event has the journal with it
-recorded-with : (B : Recorded) (caller : ℕ) (event : Event) → (recorded B caller event).journal ≡ with_event (opening B.opening) B.journal (caller, event)
+recorded-with : (B : Recorded) (caller : ℕ) (event : Event) → (with_entry B caller event).journal ≡ with_event (opening B.opening) B.journal (caller, event)
 recorded-with B caller event =
     elim (cases_Bool (has_room (length B.journal) event)) [
       | inl room ↦ rw room refl
       | inr full ↦ rw full refl
     ]
 
-recorded-opening : (B : Recorded) (caller : ℕ) (event : Event) → (recorded B caller event).opening ≡ B.opening
+recorded-opening : (B : Recorded) (caller : ℕ) (event : Event) → (with_entry B caller event).opening ≡ B.opening
 recorded-opening B caller event =
     elim (cases_Bool (has_room (length B.journal) event)) [
       | inl room ↦ rw room refl
@@ -31,7 +31,7 @@ pub record Continues (I : Situation) (B : Recorded) (left events : List (ℕ × 
   pub same : B.opening ≡ I
   pub rest : B.journal ++ entries (length B.journal) (state (opening I) B.journal) left ≡ run (opening I) events
 
-pub continues-next : (I : Situation) (B C : Recorded) (e : ℕ × Event) (i : ℕ) (events : List (ℕ × Event)) → i < length events → e ≡ get_or events i e → C ≡ recorded B e.0 e.1 → Continues I B (drop i events) events → Continues I C (drop (i + 1) events) events
+pub continues-next : (I : Situation) (B C : Recorded) (e : ℕ × Event) (i : ℕ) (events : List (ℕ × Event)) → i < length events → e ≡ get_or events i e → C ≡ with_entry B e.0 e.1 → Continues I B (drop i events) events → Continues I C (drop (i + 1) events) events
 continues-next I B C e i events lt at is h =
     let left : drop i events ≡ e ∷ drop (i + 1) events = rw add-one (drop-cons events i e lt ∙ ap (λ (x : ℕ × Event). x ∷ drop (suc i) events) (sym at)) in
     let journal : C.journal ≡ with_event (opening I) B.journal e =

@@ -17,7 +17,7 @@ use Rattle.desk_replay.specs.Commands.{output_files}
 use Rattle.desk_replay.specs.Outcome.{last, refusal_text, fault_text, status_of}
 use Rattle.desk_replay.specs.Runs.{World, IsTold, HasCause}
 
--- want of memory is the one free answer: the status is this one, unless memory ran out
+-- out of memory is the one free answer: the status is this one, unless memory ran out
 abbrev pub IsUnlessMemory : ℕ → ℕ → Type 0
 IsUnlessMemory code status = (code ≡ status) ⊎ (code ≡ 6)
 

@@ -114,7 +114,7 @@ HasCause before now (ending.WriteFault f) = (is_among f output_files ≡ true) �
 HasCause before now ending.ReportFault = Rose before.sink.faults now.sink.faults
 HasCause before now other = Unit {0}
 
--- the directories are named, unless a fault or want of memory came before
+-- the directories are named, unless a fault or running out of memory came before
 abbrev pub AreNamed : Directories → World → World → Ending → Type 0
 AreNamed dirs before now ending.PlaceFault = Unit {0}
 AreNamed dirs before now ending.Memory = Unit {0}
@@ -166,7 +166,7 @@ pub record IsUntouched (before now : World) : Type 0 where
 abbrev pub Ends : List (List ℕ) → World → World → Ending → Type 0
 Ends words before now how = MatchOption (command words) ((how ≡ ending.Usage) × IsUntouched before now) (λ dirs. Replays dirs before now how)
 
--- want of memory while the fault's line is put gives status 6, and a fault of the sink leaves the status
+-- out of memory while the fault's line is put gives status 6, and a fault of the sink leaves the status
 abbrev pub status_after : Ending → Result (Unit {0}) FolderFault → ℕ
 status_after how (Ok done) = status_of how
 status_after how (Err fault.Failed) = status_of how

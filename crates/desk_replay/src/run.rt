@@ -3,7 +3,7 @@
 ghost use Rattle.std.specs.Prelude.{◌≡◌, [], IfOk, OnOk};
 ghost use Rattle.desk_model.specs.States.{opening};
 ghost use Rattle.desk_model.specs.Histories.{IsAskable, AreAskable, run};
-ghost use Rattle.desk_core.specs.Recorded.{recorded};
+ghost use Rattle.desk_core.specs.Recorded.{with_entry};
 
 use desk_core::Book;
 use desk_data::{Instance, NoMem};
@@ -13,7 +13,7 @@ use std::alloc::Global;
 // Takes one event.
 fn take_event(alloc: Global, book: &mut Book, caller: u32, event: &Event) -> Result<(), NoMem>
     requires { IsAskable book.old.opening event.now }
-    ensures { OnOk result (book.new ≡ recorded book.old caller event.now) }
+    ensures { OnOk result (book.new ≡ with_entry book.old caller event.now) }
 {
     match event {
         Event::Move(m) => {

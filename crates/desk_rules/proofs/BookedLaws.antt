@@ -11,7 +11,7 @@ use Rattle.desk_units.specs.declared.numbers.Haul.{Haul}
 use Rattle.desk_units.specs.declared.numbers.Haul.TheVariants as haul
 use Rattle.desk_units.specs.Ranks.{cabin_rank, haul_rank}
 use Rattle.desk_data.specs.Situation.{Situation, leg_at}
-use Rattle.desk_rules.specs.Passengers.{no_pair, booked, higher_haul, highest_haul, haul_of, higher_cabin, highest_cabin, reference_of, takes}
+use Rattle.desk_rules.specs.Passengers.{no_pair, booked_path, higher_haul, highest_haul, haul_of, higher_cabin, highest_cabin, reference_of, takes}
 use Rattle.desk_rules.specs.Words.{HasLeg, IsHaulIn, IsCabinIn, IsHighestHaul, IsHighestCabin}
 use Rattle.desk_rules.proofs.CarriageLaws.{same_pair-holds}
 
@@ -62,9 +62,9 @@ highest_haul-holds I (pair ∷ path) some = record {
       (no_haul_above I (pair ∷ path) (highest_haul I (pair ∷ path)) (omega arith));
 }
 
-pub haul_of-holds : (I : Situation) (r : ℕ) → (booked I r ≡ [] → ⊥) → IsHighestHaul I (booked I r) (haul_of I r)
+pub haul_of-holds : (I : Situation) (r : ℕ) → (booked_path I r ≡ [] → ⊥) → IsHighestHaul I (booked_path I r) (haul_of I r)
 unfolding haul_of
-haul_of-holds I r some = highest_haul-holds I (booked I r) some
+haul_of-holds I r some = highest_haul-holds I (booked_path I r) some
 
 -- ---- the highest cabin
 
@@ -113,9 +113,9 @@ highest_cabin-holds (pair ∷ path) some = record {
       (no_cabin_above (pair ∷ path) (highest_cabin (pair ∷ path)) (omega arith));
 }
 
-pub reference_of-holds : (I : Situation) (r : ℕ) → (booked I r ≡ [] → ⊥) → IsHighestCabin (booked I r) (reference_of I r)
+pub reference_of-holds : (I : Situation) (r : ℕ) → (booked_path I r ≡ [] → ⊥) → IsHighestCabin (booked_path I r) (reference_of I r)
 unfolding reference_of
-reference_of-holds I r some = highest_cabin-holds (booked I r) some
+reference_of-holds I r some = highest_cabin-holds (booked_path I r) some
 
 -- ---- who is aboard
 

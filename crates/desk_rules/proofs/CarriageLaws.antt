@@ -20,7 +20,7 @@ use Rattle.desk_data.specs.Situation.{Situation, leg_at, plane_at, begun, same_p
 use Rattle.desk_data.specs.PlanRows.{PlanRows, row_at, groups_at}
 use Rattle.desk_rules.specs.Numbers.{implies}
 use Rattle.desk_rules.specs.Rotations.{dep, arr, is_leg}
-use Rattle.desk_rules.specs.Passengers.{aboard, seats_in, is_carried, leg_in, first_leg, last_leg, booked, origin_of, dest_of, booked_departure, booked_arrival, haul_of, is_flown, all_flown, share_plane, connection, reaches, connects, arrival_of, longest_delay}
+use Rattle.desk_rules.specs.Passengers.{aboard, seats_in, is_carried, leg_in, first_leg, last_leg, booked_path, origin_of, dest_of, booked_departure, booked_arrival, haul_of, is_flown, all_flown, share_plane, connection, reaches, connects, arrival_of, longest_delay}
 use Rattle.desk_rules.specs.Carriage.{has_seats, keeps_c12, each_carried, is_good_path, keeps_c13, is_in_time_path, keeps_c14, keeps_c15}
 use Rattle.desk_rules.specs.Words.{IsFlown, StaysAboard, GoesOn, TakesThere, EachCarried, ArrivesInTime, BeginsAsBegun, MeetsC12, MeetsC13, MeetsC14, MeetsC15}
 use Rattle.desk_rules.proofs.Tests.{each_below-holds, each_below-from, implies-holds, implies-from}
@@ -295,7 +295,7 @@ same_pair-Decides a b = (same_pair-holds a b, same_pair-from a b)
 bound-holds : (I : Situation) (r : ℕ) (groups : List Group) (path : List (Leg × Cabin)) → bound I r groups path ≡ true → BeginsAsBegun I r path
 unfolding bound
 bound-holds I r groups path h =
-    let begun_legs = take (begun I r) (booked I r) in
+    let begun_legs = take (begun I r) (booked_path I r) in
     record {
       rest = drop (length begun_legs) path;
       whole = (starts_is same_pair-Decides path begun_legs (starts_with same_pair path begun_legs) refl).0 h;
@@ -304,7 +304,7 @@ bound-holds I r groups path h =
 bound-from : (I : Situation) (r : ℕ) (groups : List Group) (path : List (Leg × Cabin)) → BeginsAsBegun I r path → bound I r groups path ≡ true
 unfolding bound
 bound-from I r groups path h =
-    let begun_legs = take (begun I r) (booked I r) in
+    let begun_legs = take (begun I r) (booked_path I r) in
     (starts_is same_pair-Decides path begun_legs (starts_with same_pair path begun_legs) refl).1 h.rest h.whole
 
 pub keeps_c15-holds : (I : Situation) (P : PlanRows) (r : ℕ) → keeps_c15 I P r ≡ true → MeetsC15 I P r

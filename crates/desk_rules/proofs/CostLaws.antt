@@ -28,7 +28,7 @@ use Rattle.desk_data.specs.PlanRows.{PlanRows, IsGroup, AreGroups, row_at, group
 use Rattle.desk_data.specs.Valid.{IsValid, IsLeg, IsPlane, IsReservation, IsPosition, IsPlanFor}
 use Rattle.desk_rules.specs.Numbers.{numbers}
 use Rattle.desk_rules.specs.Passengers.{haul_of, reference_of, is_carried, last_leg, minutes_late}
-use Rattle.desk_rules.specs.Cost.{rows_of, weight, by_hour, by_item, operating_of, operating, operating_cost, over_groups, arrives, delay, delay_cost, cancellation, cancellation_cost, downgrade_on, downgrade, downgrade_cost, owed_uncarried, owed_late, legal, legal_cost, at_hand, missing, position_cost, cost}
+use Rattle.desk_rules.specs.Cost.{rows_of, weight, by_hour, by_item, operating_of, operating, operating_cost, over_groups, arrives, delay, delay_cost, cancellation, cancellation_cost, downgrade_on, downgrade, downgrade_cost, legal_uncarried, legal_late, legal, legal_cost, at_hand, missing_aircraft, position_cost, cost}
 use Rattle.desk_rules.proofs.HourLaws.{length-numbers, arr-lt}
 
 -- ---- weights and prices
@@ -343,7 +343,7 @@ downgrade-le I valid r group short =
       mul-le-mul_right (item_most * group.count) short,
     )
 
-owed_late_le : (I : Situation) (r minutes count : ℕ) → IsValid I → owed_late I r minutes count ≤ legal_most * count
+owed_late_le : (I : Situation) (r minutes count : ℕ) → IsValid I → legal_late I r minutes count ≤ legal_most * count
 owed_late_le I r minutes count valid =
     let of = weight-le I term.Legal valid in
     omega (
@@ -352,7 +352,7 @@ owed_late_le I r minutes count valid =
       by_item-le (weight I term.Legal) (compensation_price (rows_of I) (haul_of I r) minutes) count of (compensation_price-le I (haul_of I r) minutes valid),
     )
 
-owed_uncarried_le : (I : Situation) (r count : ℕ) → IsValid I → owed_uncarried I r count ≤ legal_most * count
+owed_uncarried_le : (I : Situation) (r count : ℕ) → IsValid I → legal_uncarried I r count ≤ legal_most * count
 owed_uncarried_le I r count valid =
     let of = weight-le I term.Legal valid in
     omega (
@@ -375,21 +375,21 @@ legal-le I P valid r group short =
 
 -- ---- position
 
-missing_le : (I : Situation) (P : PlanRows) (position : PositionInfo) → position.count ≤ 1000 → IsValid I → missing I P position ≤ missing_most
-unfolding missing
+missing_le : (I : Situation) (P : PlanRows) (position : PositionInfo) → position.count ≤ 1000 → IsValid I → missing_aircraft I P position ≤ missing_most
+unfolding missing_aircraft
 missing_le I P position few valid =
     omega (arith, by_item-le (weight I term.Position) (position_price (rows_of I)) (position.count - at_hand I P position) (weight-le I term.Position valid) (position_price-le I valid))
 
-missing_are : (I : Situation) (P : PlanRows) → IsValid I → (positions : List PositionInfo) → AllByRecursion (IsPosition (airports_of I)) positions → AllByRecursion (λ position. missing I P position ≤ missing_most) positions
+missing_are : (I : Situation) (P : PlanRows) → IsValid I → (positions : List PositionInfo) → AllByRecursion (IsPosition (airports_of I)) positions → AllByRecursion (λ position. missing_aircraft I P position ≤ missing_most) positions
 missing_are I P valid [] all = tt
 missing_are I P valid (position ∷ positions) all = (missing_le I P position all.0.count valid, missing_are I P valid positions all.1)
 
-pub missing-sum-le : (I : Situation) (P : PlanRows) → IsValid I → sum_by (missing I P) I.parts.positions ≤ 10000 * missing_most
+pub missing-sum-le : (I : Situation) (P : PlanRows) → IsValid I → sum_by (missing_aircraft I P) I.parts.positions ≤ 10000 * missing_most
 missing-sum-le I P valid =
     let all = missing_are I P valid I.parts.positions (recursion_from_All (IsPosition (airports_of I)) I.parts.positions valid.parts.positions) in
     omega (
       arith,
-      sum_by-le (missing I P) missing_most I.parts.positions (All-from_recursion (λ position. missing I P position ≤ missing_most) I.parts.positions all),
+      sum_by-le (missing_aircraft I P) missing_most I.parts.positions (All-from_recursion (λ position. missing_aircraft I P position ≤ missing_most) I.parts.positions all),
       mul-le-mul_right missing_most valid.parts.few.positions,
     )
 

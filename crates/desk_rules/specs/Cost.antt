@@ -96,22 +96,22 @@ downgrade_cost I P = over_groups I P (downgrade I)
 -- ---- legal: care and compensation for those who arrive late; for those who are not carried the price that they paid, with care and compensation
 
 -- what is owed to passengers who are not carried
-abbrev pub owed_uncarried : Situation → ℕ → ℕ → ℕ
-owed_uncarried I r count =
+abbrev pub legal_uncarried : Situation → ℕ → ℕ → ℕ
+legal_uncarried I r count =
     by_item (weight I term.Legal) (res_at I r).price.0 count
     + by_item (weight I term.Legal) (uncarried_care (rows_of I) (haul_of I r)) count
     + by_item (weight I term.Legal) (uncarried_compensation (rows_of I) (haul_of I r)) count
 
 -- what is owed to passengers who arrive so many minutes late
-abbrev pub owed_late : Situation → ℕ → ℕ → ℕ → ℕ
-owed_late I r minutes count =
+abbrev pub legal_late : Situation → ℕ → ℕ → ℕ → ℕ
+legal_late I r minutes count =
     by_item (weight I term.Legal) (care_price (rows_of I) (haul_of I r) minutes) count
     + by_item (weight I term.Legal) (compensation_price (rows_of I) (haul_of I r) minutes) count
 
 unfoldable pub legal : Situation → PlanRows → ℕ → Group → ℕ
 legal I P r group =
-    if arrives P group.path then owed_late I r (minutes_late I P r group.path) group.count
-    else (if is_carried group.path then 0 else owed_uncarried I r group.count)
+    if arrives P group.path then legal_late I r (minutes_late I P r group.path) group.count
+    else (if is_carried group.path then 0 else legal_uncarried I r group.count)
 
 unfoldable pub legal_cost : Situation → PlanRows → ℕ
 legal_cost I P = over_groups I P (legal I P)
@@ -133,11 +133,11 @@ ends_at I P p airport = not (plane_at I p).surface && is_left_at I P p I.parts.t
 abbrev pub at_hand : Situation → PlanRows → PositionInfo → ℕ
 at_hand I P position = length (filter (λ p. is_wanted position (plane_at I p) && ends_at I P p position.airport.0) (numbers (planes_of I)))
 
-unfoldable pub missing : Situation → PlanRows → PositionInfo → ℕ
-missing I P position = by_item (weight I term.Position) (position_price (rows_of I)) (position.count - at_hand I P position)
+unfoldable pub missing_aircraft : Situation → PlanRows → PositionInfo → ℕ
+missing_aircraft I P position = by_item (weight I term.Position) (position_price (rows_of I)) (position.count - at_hand I P position)
 
 unfoldable pub position_cost : Situation → PlanRows → ℕ
-position_cost I P = sum_by (missing I P) I.parts.positions
+position_cost I P = sum_by (missing_aircraft I P) I.parts.positions
 
 -- ---- all six
 

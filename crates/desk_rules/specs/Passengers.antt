@@ -37,22 +37,22 @@ is_carried (pair ∷ path) = true
 
 -- ---- what a reservation booked
 
-abbrev pub booked : Situation → ℕ → List (Leg × Cabin)
-booked I r = (res_at I r).path
+abbrev pub booked_path : Situation → ℕ → List (Leg × Cabin)
+booked_path I r = (res_at I r).path
 
 -- where its first leg leaves, and its last leg arrives
 unfoldable pub origin_of : Situation → ℕ → ℕ
-origin_of I r = (leg_at I (first_leg (booked I r))).origin.0
+origin_of I r = (leg_at I (first_leg (booked_path I r))).origin.0
 
 unfoldable pub dest_of : Situation → ℕ → ℕ
-dest_of I r = (leg_at I (last_leg (booked I r))).dest.0
+dest_of I r = (leg_at I (last_leg (booked_path I r))).dest.0
 
 -- the scheduled departure of its first leg, and the scheduled arrival of its last
 unfoldable pub booked_departure : Situation → ℕ → ℕ
-booked_departure I r = (leg_at I (first_leg (booked I r))).sched.0
+booked_departure I r = (leg_at I (first_leg (booked_path I r))).sched.0
 
 unfoldable pub booked_arrival : Situation → ℕ → ℕ
-booked_arrival I r = (leg_at I (last_leg (booked I r))).sched.0 + (leg_at I (last_leg (booked I r))).block
+booked_arrival I r = (leg_at I (last_leg (booked_path I r))).sched.0 + (leg_at I (last_leg (booked_path I r))).block
 
 -- the higher of two hauls, and the highest of the legs of a path
 abbrev pub higher_haul : Haul → Haul → Haul
@@ -72,10 +72,10 @@ highest_cabin (pair ∷ path) = higher_cabin pair.1 (highest_cabin path)
 
 -- the haul and the reference cabin of a reservation are the highest that it booked
 unfoldable pub haul_of : Situation → ℕ → Haul
-haul_of I r = highest_haul I (booked I r)
+haul_of I r = highest_haul I (booked_path I r)
 
 unfoldable pub reference_of : Situation → ℕ → Cabin
-reference_of I r = highest_cabin (booked I r)
+reference_of I r = highest_cabin (booked_path I r)
 
 -- ---- seats
 

@@ -25,7 +25,7 @@ use Rattle.desk_data.specs.PlanRows.{PlanRows, row_at, groups_at}
 use Rattle.desk_rules.specs.Rotations.{dep, arr, ground}
 use Rattle.desk_rules.specs.Maintenance.{minutes_before}
 use Rattle.desk_rules.specs.Slots.{departures, arrivals}
-use Rattle.desk_rules.specs.Passengers.{no_pair, aboard, seats_in, leg_in, first_leg, last_leg, booked, origin_of, dest_of, booked_departure, booked_arrival, haul_of, arrival_of}
+use Rattle.desk_rules.specs.Passengers.{no_pair, aboard, seats_in, leg_in, first_leg, last_leg, booked_path, origin_of, dest_of, booked_departure, booked_arrival, haul_of, arrival_of}
 use Rattle.desk_rules.specs.Least.{items, all_hours}
 
 -- aircraft p flies leg x, departing at d
@@ -202,7 +202,7 @@ MeetsC14 I P r = EachCarried P r (λ path. All (λ pair. IsFlown P pair.0.0) pat
 -- a path is the legs of the booked path that have begun, in their cabins, and a rest
 pub record BeginsAsBegun (I : Situation) (r : ℕ) (path : List (Leg × Cabin)) : Type 0 where
   pub rest : List (Leg × Cabin)
-  pub whole : path ≡ take (begun I r) (booked I r) ++ rest
+  pub whole : path ≡ take (begun I r) (booked_path I r) ++ rest
 
 -- C15: a carried path begins with the legs of the booked path that have begun
 abbrev pub MeetsC15 : Situation → PlanRows → ℕ → Type 0

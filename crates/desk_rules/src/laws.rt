@@ -13,7 +13,7 @@ ghost use Rattle.desk_rules.specs.Cost.{cost};
 ghost use Rattle.desk_rules.specs.Least.{all_hours, items, least, least_rot, least_slots, least_pax};
 ghost use Rattle.desk_rules.specs.Maintenance.{departs_before};
 ghost use Rattle.desk_rules.specs.Slots.{arrives_in, departs_in};
-ghost use Rattle.desk_rules.specs.Passengers.{booked, haul_of, reference_of, takes};
+ghost use Rattle.desk_rules.specs.Passengers.{booked_path, haul_of, reference_of, takes};
 ghost use Rattle.desk_rules.specs.Words.{ArrivesIn, DepartsBefore, DepartsIn, HasLeg, IsFeasible, IsHighestCabin, IsHighestHaul, IsLeast};
 ghost use Rattle.desk_rules.specs.Order.{IsToldBefore};
 
@@ -74,8 +74,8 @@ pub fn the_least_is_of_rotations_then_slots_then_passengers()
 /// a higher one: domestic is below continental, and continental below intercontinental. So is its
 /// reference cabin one of those booked, and none of them is higher.
 pub fn the_haul_and_the_cabin_are_the_highest_booked()
-    ensures haul { (I : Situation) (r : ℕ) → (booked I r ≡ [] → ⊥) → IsHighestHaul I (booked I r) (haul_of I r) }
-    ensures cabin { (I : Situation) (r : ℕ) → (booked I r ≡ [] → ⊥) → IsHighestCabin (booked I r) (reference_of I r) }
+    ensures haul { (I : Situation) (r : ℕ) → (booked_path I r ≡ [] → ⊥) → IsHighestHaul I (booked_path I r) (haul_of I r) }
+    ensures cabin { (I : Situation) (r : ℕ) → (booked_path I r ≡ [] → ⊥) → IsHighestCabin (booked_path I r) (reference_of I r) }
 {}
 
 /// Whom C12 counts on a leg in a cabin, in words: the passengers whose path has the leg in the cabin.

@@ -40,7 +40,7 @@ abbrev pub join_fault : JoinFault → StoryFault
 join_fault (join.Unknown line) = fault.Refused (not_known line)
 join_fault join.Memory = fault.Memory
 
--- the rows are these now, or the line that is refused; want of memory may come at any time
+-- the rows are these now, or the line that is refused; out of memory may come at any time
 abbrev pub GivesRows : Result (Unit {0}) FileFault → Result Rows (ℕ × Cause) → Rows → Type 0
 GivesRows (Ok done) read now = read ≡ Ok now
 GivesRows (Err (of_file.Refused line cause)) read now = read ≡ Err (line, cause)

@@ -43,7 +43,7 @@ abbrev pub StandsFirst : {X : Type 0} → File → Result X Refusal → Type 0
 StandsFirst f (Ok x) = Unit {0}
 StandsFirst f (Err r) = file_number f ≤ file_number r.file
 
--- what was read is this, or its refusal; where a reading failed, no file before it is refused; want of memory may come at any time
+-- what was read is this, or its refusal; where a reading failed, no file before it is refused; out of memory may come at any time
 abbrev pub GivesRead : {V X : Type 0} → (V → X) → Result V StoryFault → Result X Refusal → Type 0
 GivesRead view (Ok v) read = read ≡ Ok (view v)
 GivesRead view (Err (fault.Refused r)) read = read ≡ Err r

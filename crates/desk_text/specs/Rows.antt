@@ -45,13 +45,13 @@ rows_of_lines row (line ∷ lines) = do
 unfoldable pub text_rows : {Row : Type 0} → ℕ → RowOf Row → List ℕ → Result (List Row) (ℕ × Cause)
 text_rows limit row bytes = if nat_le (length bytes) limit then rows_of_lines row (text_lines bytes) else Err (0, causes.Size)
 
--- a line gives this row, or is refused with this cause; want of memory may come at any time
+-- a line gives this row, or is refused with this cause; out of memory may come at any time
 abbrev pub GivesRow : {Row : Type 0} → Result Row RowFault → Result Row Cause → Type 0
 GivesRow (Ok x) read = read ≡ Ok x
 GivesRow (Err (row_fault.Refused cause)) read = read ≡ Err cause
 GivesRow (Err row_fault.Memory) read = Unit {0}
 
--- a reader gives this value, or refuses that line with that cause; want of memory may come at any time
+-- a reader gives this value, or refuses that line with that cause; out of memory may come at any time
 abbrev pub Gives : {Answer Value : Type 0} → (Answer → Value) → Result Answer ReadFault → Result Value (ℕ × Cause) → Type 0
 Gives value (Ok answer) read = read ≡ Ok (value answer)
 Gives value (Err (read_fault.Refused line cause)) read = read ≡ Err (line, cause)

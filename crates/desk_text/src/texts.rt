@@ -56,7 +56,7 @@ pub fn moment_text(at: Minute) -> [u8; 14]
     text
 }
 
-/// Adds a day, counted from 2000-01-01 and below 36,525, as `dd/mm/yy`. After want of memory the
+/// Adds a day, counted from 2000-01-01 and below 36,525, as `dd/mm/yy`. Where memory runs out, the
 /// text is as before.
 pub fn push_date(out: &mut Vec<u8>, day: u32) -> Result<(), NoMem>
     requires { day < 36525 }
@@ -67,7 +67,7 @@ pub fn push_date(out: &mut Vec<u8>, day: u32) -> Result<(), NoMem>
     Ok(())
 }
 
-/// Adds a moment below 52,596,000 as `dd/mm/yy HH:MM`. After want of memory the text is as before.
+/// Adds a moment below 52,596,000 as `dd/mm/yy HH:MM`. Where memory runs out, the text is as before.
 pub fn push_moment(out: &mut Vec<u8>, at: Minute) -> Result<(), NoMem>
     requires { at.0 < 52596000 }
     ensures ok { OnOk result (out.new.items ≡ out.old.items ++ moment_text at.0) }
@@ -77,7 +77,7 @@ pub fn push_moment(out: &mut Vec<u8>, at: Minute) -> Result<(), NoMem>
     Ok(())
 }
 
-/// Adds a number in decimal, without leading zeros. After want of memory the text is as before.
+/// Adds a number in decimal, without leading zeros. Where memory runs out, the text is as before.
 pub fn push_number(out: &mut Vec<u8>, number: u128) -> Result<(), NoMem>
     ensures ok { OnOk result (out.new.items ≡ out.old.items ++ decimal number) }
     ensures err { OnErr result (out.new.items ≡ out.old.items) }
@@ -87,7 +87,7 @@ pub fn push_number(out: &mut Vec<u8>, number: u128) -> Result<(), NoMem>
     Ok(())
 }
 
-/// Adds all parts, one behind the other. After want of memory the text is as before.
+/// Adds all parts, one behind the other. Where memory runs out, the text is as before.
 pub fn push_all(out: &mut Vec<u8>, parts: &[&[u8]]) -> Result<(), NoMem>
     ensures ok { OnOk result (out.new.items ≡ out.old.items ++ flat_map (λ part. part.now) parts.now) }
     ensures err { OnErr result (out.new.items ≡ out.old.items) }

@@ -94,7 +94,7 @@ pub fn desk_main<F: Folder, O: Sink, G: Gate>(
         HasFault (world (F.outside folder.old) (O.report out.old))
         (world (F.outside folder.new) (O.report out.new)) result }
 
-    // Where no call failed, the input alone decides between 0, 1 and 3, but for want of memory.
+    // Where no call failed, the input alone decides between 0, 1 and 3, unless memory runs out.
     ensures complete { (x : Inputs) → Tells replay_files (F.outside folder.old) x → (dirs : Directories) →
         command (map string_bytes words.now) ≡ Some dirs →
         IsFaultless (world (F.outside folder.old) (O.report out.old))

@@ -81,7 +81,7 @@ fn status_of_run(alloc: Global, changed: File, text: &str) -> Result<u8, NoMem> 
 }
 
 #[test]
-fn want_of_memory_gives_status_6_or_the_runs_own(rt: HostRuntime) {
+fn running_out_of_memory_gives_status_6_or_the_runs_own(rt: HostRuntime) {
     for (file, text, own) in &RUNS {
         if let Ok(status) = status_of_run(rt.alloc(), *file, text) {
             assert!(rt;

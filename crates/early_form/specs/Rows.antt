@@ -16,7 +16,7 @@ rows_from row before (line ∷ next ∷ lines) = option_map_or (λ r. rows_from 
 unfoldable pub rows_of : {Row : Type 0} → (List ℕ → Option Row) → List ℕ → Result (List Row) ℕ
 rows_of row bytes = rows_from row [] (slice_split (λ b. b == 10) bytes)
 
--- a reader gives these rows, or refuses that line; want of memory may come at any time
+-- a reader gives these rows, or refuses that line; out of memory may come at any time
 abbrev pub Gives : {Answer Row : Type 0} → (Answer → List Row) → Result Answer FormFault → Result (List Row) ℕ → Type 0
 Gives rows (Ok answer) read = read ≡ Ok (rows answer)
 Gives rows (Err (Form line)) read = read ≡ Err line

@@ -15,7 +15,7 @@ use std::alloc::Global;
 /// The first item of C1 to C15 that the plan breaks, by rule and then by what the items name, or
 /// `None` where it breaks none. The time is near linear in the legs and linear in the groups of
 /// passengers: the legs are sorted once for the rotations, and once for departures and once for
-/// arrivals. The only error is want of memory.
+/// arrivals. The only error is out of memory.
 pub fn full_check(alloc: Global, inst: &Instance, plan: &Plan) -> Result<Option<Broken>, NoMem>
     requires { IsPlanFor inst.now plan.now }
     ensures { IfOk result (λ item. item ≡ least inst.now plan.now) }

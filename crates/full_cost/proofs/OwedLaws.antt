@@ -13,7 +13,7 @@ use Rattle.tariff_prices.specs.Rows.{IsTariffRow, same_haul}
 use Rattle.tariff_prices.specs.Prices.{Owed, care_in, compensation_in, is_owed_at, owed_at, care_price, compensation_price}
 use Rattle.desk_data.specs.Situation.{Situation}
 use Rattle.desk_data.specs.Valid.{IsValid}
-use Rattle.desk_rules.specs.Cost.{rows_of, owed_late}
+use Rattle.desk_rules.specs.Cost.{rows_of, legal_late}
 
 -- at least a minute
 abbrev IsLate : Owed → Type 0
@@ -58,5 +58,5 @@ no_compensation : (I : Situation) (h : Haul) → IsValid I → compensation_pric
 unfolding compensation_price
 no_compensation I h valid = nothing_owed (compensation_in h) (compensation_late h) I valid
 
-pub nothing_late : (I : Situation) (r count : ℕ) → IsValid I → owed_late I r 0 count ≡ 0
+pub nothing_late : (I : Situation) (r count : ℕ) → IsValid I → legal_late I r 0 count ≡ 0
 nothing_late I r count valid = rw (no_care I _ valid, no_compensation I _ valid) (omega arith)

@@ -1,7 +1,7 @@
 //! Legal: what is owed to passengers by law, and the price of a journey that is not made.
 
 ghost use Rattle.std.specs.Prelude.{◌≡◌, ◌≤◌};
-ghost use Rattle.desk_rules.specs.Cost.{owed_late, owed_uncarried, grains};
+ghost use Rattle.desk_rules.specs.Cost.{legal_late, legal_uncarried, grains};
 ghost use Rattle.desk_units.specs.declared.tariff.Term.TheVariants as term;
 ghost use Rattle.pax_paths.specs.Booked.{IsBooked};
 ghost use Rattle.full_cost.specs.Weighed.{IsWeight};
@@ -22,7 +22,7 @@ pub(crate) fn late_cost(
     requires weight { IsWeight inst.now term.Legal weight }
     requires booked { IsBooked inst.now booked }
     requires count { count ≤ 1000 }
-    ensures { result ≡ grains (owed_late inst.now booked.res.0 minutes count) }
+    ensures { result ≡ grains (legal_late inst.now booked.res.0 minutes count) }
 {
     let _rows = inst.parts();
     // most passengers are in time, and no threshold is below one minute
@@ -41,7 +41,7 @@ pub(crate) fn uncarried_cost(inst: &Instance, weight: Weight, booked: Booked, co
     requires weight { IsWeight inst.now term.Legal weight }
     requires booked { IsBooked inst.now booked }
     requires count { count ≤ 1000 }
-    ensures { result ≡ grains (owed_uncarried inst.now booked.res.0 count) }
+    ensures { result ≡ grains (legal_uncarried inst.now booked.res.0 count) }
 {
     let count = u64::from(count);
     let paid = inst.res(booked.res).price;

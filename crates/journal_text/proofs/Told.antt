@@ -23,8 +23,8 @@ use Rattle.desk_model.specs.declared.answer.Answer.TheVariants.{Dearer, Accepted
 use Rattle.desk_model.specs.declared.answer.Event.{Event}
 use Rattle.desk_model.specs.declared.answer.Event.TheVariants as event
 use Rattle.desk_model.specs.declared.answer.Entry.{Entry}
-use Rattle.desk_model.specs.Steps.{moved}
-use Rattle.desk_model.specs.States.{State, opening, judged, proposed, answer}
+use Rattle.desk_model.specs.Steps.{after_move}
+use Rattle.desk_model.specs.States.{State, opening, verdict, move_answer, answer}
 use Rattle.desk_model.specs.Histories.{state, IsAskable, Stands, IsLegal}
 use Rattle.desk_model.proofs.StateLaws.{IsTold, opening-told}
 use Rattle.desk_model.proofs.HistoryLaws.{state-told, state-inst}
@@ -122,14 +122,14 @@ least-names I P item h = found_among (Names I) (breaks I P) (items I) item (item
 
 -- ---- answers
 
-judged_names : (I : Situation) (P : PlanRows) (b : Option Broken) (now would : ℕ) → least I P ≡ b → AnswerNames I (judged b now would)
+judged_names : (I : Situation) (P : PlanRows) (b : Option Broken) (now would : ℕ) → least I P ≡ b → AnswerNames I (verdict b now would)
 judged_names I P (Some item) now would is = least-names I P item is
 judged_names I P None now would is =
     elim (leb now would) as (λ (dear : Bool). AnswerNames I (cond dear (Dearer (grains now) (grains would)) (Accepted (grains would)))) [ true ↦ tt | false ↦ tt ]
 
-proposed_names : (S : State) (m : Move) (b : Option Broken) → S.broken ≡ b → IsTold S → AnswerNames S.inst (proposed S m b)
+proposed_names : (S : State) (m : Move) (b : Option Broken) → S.broken ≡ b → IsTold S → AnswerNames S.inst (move_answer S m b)
 proposed_names S m (Some item) is told = least-names S.inst S.plan item (sym told ∙ is)
-proposed_names S m None is told = judged_names S.inst (moved S.inst S.plan m) (least S.inst (moved S.inst S.plan m)) (cost S.inst S.plan) (cost S.inst (moved S.inst S.plan m)) refl
+proposed_names S m None is told = judged_names S.inst (after_move S.inst S.plan m) (least S.inst (after_move S.inst S.plan m)) (cost S.inst S.plan) (cost S.inst (after_move S.inst S.plan m)) refl
 
 answer_names : (S : State) (e : Event) → IsTold S → AnswerNames S.inst (answer S e)
 unfolding answer

@@ -11,7 +11,7 @@ use desk_text::{date_text, moment_text, push_all, two_digits};
 
 /// Adds the rule that is broken and what breaks it, as `C2 FLIGHT DATE`, `C9 AIRCRAFT`,
 /// `C10 AIRPORT DATE HH`, `C12 FLIGHT DATE CABIN` or `C13 RESERVATION TYPE`. The hour has two
-/// digits, and the type is A for the way out and R for the way back. After want of memory the text
+/// digits, and the type is A for the way out and R for the way back. Where memory runs out, the text
 /// is as before.
 #[tactic(auto, unfolding(crate::specs::Items::broken_text))]
 pub fn push_broken(text: &mut Vec<u8>, inst: &Instance, item: &Broken) -> Result<(), NoMem>

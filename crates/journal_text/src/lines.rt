@@ -15,7 +15,7 @@ use desk_model::{Entry, Event};
 use desk_text::{push_all, push_number};
 use std::alloc::Global;
 
-/// A journal as text: the line of each entry, in order. The only error is want of memory.
+/// A journal as text: the line of each entry, in order. The only error is out of memory.
 #[tactic(auto, unfolding(crate::specs::Lines::journal_text))]
 pub fn journal_text(alloc: Global, inst: &Instance, entries: &[Entry]) -> Result<Vec<u8>, NoMem>
     requires { All (CanBeTold inst.now) entries.now }
@@ -28,7 +28,7 @@ pub fn journal_text(alloc: Global, inst: &Instance, entries: &[Entry]) -> Result
     Ok(text)
 }
 
-/// The line of an entry: `CALLER,move,STEPS,REPLY` and LF. The only error is want of memory.
+/// The line of an entry: `CALLER,move,STEPS,REPLY` and LF. The only error is out of memory.
 pub fn journal_line(alloc: Global, inst: &Instance, entry: &Entry) -> Result<Vec<u8>, NoMem>
     requires { CanBeTold inst.now entry.now }
     ensures { IfOk result (λ text. text.items ≡ line_text inst.now entry.now) }

@@ -39,7 +39,7 @@ fn window_of_line(line: u32, text: &[u8]) -> Result<Window, Cause>
 ///
 /// A file of more than 67,108,864 bytes is refused at line 0 with `Size`, and one that has no line
 /// with fields at line 0 with `Fields`. That line is refused with `Byte`, `Fields`, `Date` or
-/// `Time`, whichever comes first. It is never for want of memory.
+/// `Time`, whichever comes first. It is never out of memory.
 pub fn read_config(bytes: &[u8]) -> Result<Window, ReadFault>
     ensures exact { Gives (λ window. window) result (config_of bytes.now) }
     ensures no_memory { result ≢ Err ReadFault.Memory }

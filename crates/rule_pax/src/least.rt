@@ -11,7 +11,7 @@ use std::alloc::Global;
 
 /// The first item of C12 to C15 that the plan breaks, by rule and then by what the items name, or
 /// `None` where it breaks none. The time is linear in the legs and the groups of passengers. The only
-/// error is want of memory.
+/// error is out of memory.
 pub fn least_pax(alloc: Global, inst: &Instance, plan: &Plan) -> Result<Option<Broken>, NoMem>
     requires { IsPlanFor inst.now plan.now }
     ensures { IfOk result (λ item. item ≡ least_pax inst.now plan.now) }

@@ -12,7 +12,7 @@ use std::alloc::Global;
 
 /// The first item of C10 and C11 that the plan breaks, by rule, then by airport, then by hour, or
 /// `None` where it breaks none. The time is near linear in the legs: for each rule the slots of the
-/// legs in the air are sorted once and walked once. The only error is want of memory.
+/// legs in the air are sorted once and walked once. The only error is out of memory.
 pub fn least_slots(alloc: Global, inst: &Instance, plan: &Plan) -> Result<Option<Broken>, NoMem>
     requires { IsPlanFor inst.now plan.now }
     ensures { IfOk result (λ item. item ≡ least_slots inst.now plan.now) }

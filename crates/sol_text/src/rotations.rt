@@ -11,7 +11,7 @@ use std::alloc::Global;
 
 /// The rotations of a plan: one line for each leg, in the order of the legs. The line of a flown leg
 /// is `FLIGHT DATE AIRCRAFT DATE TIME`, with its flight date, its aircraft and its departure, and
-/// that of a cancelled leg `FLIGHT DATE cancelled`. The only error is want of memory.
+/// that of a cancelled leg `FLIGHT DATE cancelled`. The only error is out of memory.
 #[tactic(auto, unfolding(crate::specs::Rotations::rotations_text))]
 pub fn rotations_text(alloc: Global, inst: &Instance, plan: &Plan) -> Result<Vec<u8>, NoMem>
     requires { IsPlanFor inst.now plan.now }

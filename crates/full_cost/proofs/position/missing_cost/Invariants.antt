@@ -1,12 +1,12 @@
 use Rattle.std.proofs.Common.{◌≡◌, take}
 use Rattle.std.specs.Prelude.{sum_by}
-use Rattle.desk_rules.specs.Cost.{missing}
+use Rattle.desk_rules.specs.Cost.{missing_aircraft}
 use Rattle.full_cost.specs.Stands.{AreHere}
 use Rattle.full_cost.proofs.position.missing_cost.Given as goal
 
 -- what is missing for the positions so far, and the aircraft that end where the last of them is
 abbrev pub invariant-loop-position : goal.invariant-loop-position
 invariant-loop-position l = record {
-  cost : l.total.0 ≡ sum_by (missing l.inst l.plan) (take l.position-index l.inst.parts.positions);
+  cost : l.total.0 ≡ sum_by (missing_aircraft l.inst l.plan) (take l.position-index l.inst.parts.positions);
   here : AreHere l.inst l.stands l.gathered.airport.0 l.gathered.count l.here;
 }

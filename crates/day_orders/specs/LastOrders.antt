@@ -7,14 +7,14 @@ use Rattle.day_orders.specs.declared.orders.Order.{Order}
 use Rattle.day_orders.specs.declared.orders.Order.TheVariants.{Flight, Aircraft, Field}
 
 -- what an order says of leg x: a delay, or None inside where it is off
-abbrev pub said_of : ℕ → Order → Option (Option ℕ)
-said_of x (Flight leg delay) = if leg.0 == x then Some delay else None
-said_of x order = None
+abbrev pub order_on_leg : ℕ → Order → Option (Option ℕ)
+order_on_leg x (Flight leg delay) = if leg.0 == x then Some delay else None
+order_on_leg x order = None
 
 -- the last flight order of leg x decides
-unfoldable pub last_said : ℕ → List Order → Option (Option ℕ)
-last_said x [] = None
-last_said x (order ∷ orders) = option_or (last_said x orders) (said_of x order)
+unfoldable pub last_order_on_leg : ℕ → List Order → Option (Option ℕ)
+last_order_on_leg x [] = None
+last_order_on_leg x (order ∷ orders) = option_or (last_order_on_leg x orders) (order_on_leg x order)
 
 -- the span that an order puts aircraft p out of service
 abbrev pub span_of : ℕ → Order → Option (Minute × Minute)
@@ -31,6 +31,6 @@ unfoldable pub touches : ℕ → ℕ → ℕ → Bool
 touches h from to = nat_lt from to && (nat_lt from (60 * h + 60) && nat_lt (60 * h) to)
 
 -- what an order says of airport a in hour h
-abbrev pub said_of_hour : ℕ → ℕ → Order → Option HourCap
-said_of_hour a h (Field airport from to deps arrs) = if airport.0 == a && touches h from.0 to.0 then Some (record { deps = deps; arrs = arrs }) else None
-said_of_hour a h order = None
+abbrev pub order_on_hour : ℕ → ℕ → Order → Option HourCap
+order_on_hour a h (Field airport from to deps arrs) = if airport.0 == a && touches h from.0 to.0 then Some (record { deps = deps; arrs = arrs }) else None
+order_on_hour a h order = None

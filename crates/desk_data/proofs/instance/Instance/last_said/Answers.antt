@@ -1,8 +1,0 @@
-use Rattle.std.specs.Arc.{arc_value}
-use Rattle.desk_data.proofs.SaidLemmas.{delay_of-last_said}
-use Rattle.desk_data.proofs.instance.Instance.last_said.Goals as goal
-
-pub returns-clause-limit : goal.returns-clause-limit
-returns-clause-limit c =
-    let within = rw (← c.self.view_is) at c.requires in
-    rw (c.leg.ensures, c.self.invariant.keeps.legs c.args.leg.0 within) (delay_of-last_said (arc_value c.self.inside.parts) c.args.leg.0 c.self.inside.orders.items c.self.invariant.valid.orders)
