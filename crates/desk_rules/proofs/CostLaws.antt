@@ -17,8 +17,9 @@ use Rattle.desk_units.specs.declared.tariff.Term.TheVariants as term
 use Rattle.desk_units.specs.declared.tariff.TariffRow.{TariffRow}
 use Rattle.desk_units.specs.declared.tariff.TariffRow.TheVariants.{Weight, Delay, Cancel, Downgrade, Care, Compensation, Position}
 use Rattle.desk_units.specs.Ranks.{cabin_rank}
-use Rattle.tariff_prices.specs.Rows.{IsPrice, IsTariffRow, same_haul, same_term}
-use Rattle.tariff_prices.specs.Prices.{first_word, price_by, said_of_weight, weight_of, said_of_delay, delay_price, said_of_cancel, cancel_price, said_of_downgrade, downgrade_price, said_of_position, position_price, said_of_uncarried_care, uncarried_care, said_of_uncarried_compensation, uncarried_compensation, Owed, care_in, compensation_in, is_owed_at, owed_at, care_price, compensation_price}
+use Rattle.tariff_prices.specs.Rows.{IsPrice}
+use Rattle.tariff_prices.specs.Prices.{delay_price, cancel_price, downgrade_price, position_price, uncarried_care, uncarried_compensation, care_price, compensation_price}
+use Rattle.tariff_prices.proofs.PriceLaws.{weight_of-le, delay_price-le, cancel_price-le, downgrade_price-le, position_price-le, uncarried_care-le, uncarried_compensation-le, care_price-le, compensation_price-le}
 use Rattle.desk_data.specs.declared.info.PositionInfo.{PositionInfo}
 use Rattle.desk_data.specs.declared.row.Row.{Row}
 use Rattle.desk_data.specs.declared.row.Row.TheVariants.{Flown, Cancelled}
@@ -31,127 +32,10 @@ use Rattle.desk_rules.specs.Passengers.{haul_of, reference_of, is_carried, last_
 use Rattle.desk_rules.specs.Cost.{rows_of, weight, by_hour, by_item, operating_of, operating, operating_cost, over_groups, arrives, delay, delay_cost, cancellation, cancellation_cost, downgrade_on, downgrade, downgrade_cost, legal_uncarried, legal_late, legal, legal_cost, at_hand, missing_aircraft, position_cost, cost}
 use Rattle.desk_rules.proofs.HourLaws.{length-numbers, arr-lt}
 
--- ---- weights and prices
-
-or_le : (a b : Option ℕ) (most other : ℕ) → ForSome a (λ n. n ≤ most) → unwrap_or b other ≤ most → unwrap_or (option_or a b) other ≤ most
-or_le None b most other h k = k
-or_le (Some n) b most other h k = h n refl
-
--- the first word is at most what each row says at most, and so is what stands for it where there is none
-word_le : (says : TariffRow → Option ℕ) (most other : ℕ) → other ≤ most → ((row : TariffRow) → IsTariffRow row → ForSome (says row) (λ n. n ≤ most)) → (rows : List TariffRow) → AllByRecursion IsTariffRow rows → unwrap_or (first_word says rows) other ≤ most
-unfolding first_word
-word_le says most other least each [] all = least
-word_le says most other least each (row ∷ rows) all =
-    or_le (says row) (first_word says rows) most other (each row all.0) (word_le says most other least each rows all.1)
-
-price_le : (says : TariffRow → Option ℕ) → ((row : TariffRow) → IsTariffRow row → ForSome (says row) IsPrice) → (I : Situation) → IsValid I → IsPrice (price_by says (rows_of I))
-unfolding price_by
-price_le says each I valid = word_le says 9999999999999 0 (omega arith) each (rows_of I) (recursion_from_All IsTariffRow (rows_of I) valid.parts.tariff.each)
-
--- a number where a test holds, and nothing
-if_said : (most : ℕ) (test : Bool) (n : ℕ) → n ≤ most → ForSome (cond test (Some n) None) (λ n. n ≤ most)
-if_said most true n h = λ m is. subst (λ (k : ℕ). k ≤ most) (same_Some n m is) h
-if_said most false n h = λ m is. absurd (none-some m is)
-
-weight_said : (of : Term) (row : TariffRow) → IsTariffRow row → ForSome (said_of_weight of row) (λ n. n ≤ 999999999)
-weight_said of (Weight other weight) h = if_said 999999999 (same_term other of) weight.0 h
-weight_said of row h = λ n is. absurd (none-some n is)
-
-delay_said : (h : Haul) (k : Cabin) (row : TariffRow) → IsTariffRow row → ForSome (said_of_delay h k row) IsPrice
-delay_said h k (Delay haul cabin price) fits = if_said 9999999999999 _ price.0 fits
-delay_said h k row fits = λ n is. absurd (none-some n is)
-
-cancel_said : (h : Haul) (k : Cabin) (row : TariffRow) → IsTariffRow row → ForSome (said_of_cancel h k row) IsPrice
-cancel_said h k (Cancel haul cabin price) fits = if_said 9999999999999 _ price.0 fits
-cancel_said h k row fits = λ n is. absurd (none-some n is)
-
-downgrade_said : (h : Haul) (k l : Cabin) (row : TariffRow) → IsTariffRow row → ForSome (said_of_downgrade h k l row) IsPrice
-downgrade_said h k l (Downgrade haul reference below price) fits = if_said 9999999999999 _ price.0 fits.1
-downgrade_said h k l row fits = λ n is. absurd (none-some n is)
-
-position_said : (row : TariffRow) → IsTariffRow row → ForSome (said_of_position row) IsPrice
-position_said (Position price) fits = λ n is. subst IsPrice (same_Some price.0 n is) fits
-position_said row fits = λ n is. absurd (none-some n is)
-
-uncarried_care_said : (h : Haul) (row : TariffRow) → IsTariffRow row → ForSome (said_of_uncarried_care h row) IsPrice
-uncarried_care_said h (Care haul None price) fits = if_said 9999999999999 _ price.0 fits.1
-uncarried_care_said h row fits = λ n is. absurd (none-some n is)
-
-uncarried_compensation_said : (h : Haul) (row : TariffRow) → IsTariffRow row → ForSome (said_of_uncarried_compensation h row) IsPrice
-uncarried_compensation_said h (Compensation haul None price) fits = if_said 9999999999999 _ price.0 fits.1
-uncarried_compensation_said h row fits = λ n is. absurd (none-some n is)
-
--- ---- what is owed from a threshold on
-
-abbrev HasPrice : Owed → Type 0
-HasPrice owed = IsPrice owed.price
-
-if_owed : (test : Bool) (owed : Owed) → HasPrice owed → ForSome (cond test (Some owed) None) HasPrice
-if_owed true owed h = λ o is. subst HasPrice (same_Some owed o is) h
-if_owed false owed h = λ o is. absurd (none-some o is)
-
-care_said : (h : Haul) (row : TariffRow) → IsTariffRow row → ForSome (care_in h row) HasPrice
-care_said h (Care haul (Some threshold) price) fits = if_owed (same_haul haul h) (record { from = threshold; price = price.0 }) fits.1
-care_said h row fits = λ o is. absurd (none-some o is)
-
-compensation_said : (h : Haul) (row : TariffRow) → IsTariffRow row → ForSome (compensation_in h row) HasPrice
-compensation_said h (Compensation haul (Some threshold) price) fits = if_owed (same_haul haul h) (record { from = threshold; price = price.0 }) fits.1
-compensation_said h row fits = λ o is. absurd (none-some o is)
-
-found_le : (test : Bool) (owed : Owed) (rest : Option Owed) → HasPrice owed → IsPrice (option_map_or (λ o. o.price) rest 0) → IsPrice (option_map_or (λ o. o.price) (cond test (Some owed) rest) 0)
-found_le true owed rest h k = h
-found_le false owed rest h k = k
-
-found_in : (test : Owed → Bool) (says : TariffRow → Option Owed) (row : TariffRow) (said : Option Owed) (rows : List TariffRow) → ForSome said HasPrice → IsPrice (option_map_or (λ o. o.price) (find test (filter_map says rows)) 0) → says row ≡ said → IsPrice (option_map_or (λ o. o.price) (find test (filter_map says (row ∷ rows))) 0)
-found_in test says row None rows h k is = rw is k
-found_in test says row (Some owed) rows h k is = rw is (found_le (test owed) owed (find test (filter_map says rows)) (h owed refl) k)
-
-owed_found : (test : Owed → Bool) (says : TariffRow → Option Owed) → ((row : TariffRow) → IsTariffRow row → ForSome (says row) HasPrice) → (rows : List TariffRow) → AllByRecursion IsTariffRow rows → IsPrice (option_map_or (λ o. o.price) (find test (filter_map says rows)) 0)
-owed_found test says each [] all = omega arith
-owed_found test says each (row ∷ rows) all = found_in test says row (says row) rows (each row all.0) (owed_found test says each rows all.1) refl
-
-owed_le : (delay : ℕ) (says : TariffRow → Option Owed) → ((row : TariffRow) → IsTariffRow row → ForSome (says row) HasPrice) → (I : Situation) → IsValid I → IsPrice (owed_at delay (filter_map says (rows_of I)))
-unfolding owed_at
-owed_le delay says each I valid =
-    owed_found (is_owed_at delay (filter_map says (rows_of I))) says each (rows_of I) (recursion_from_All IsTariffRow (rows_of I) valid.parts.tariff.each)
-
 -- ---- the numbers of the tariff are in their ranges
 
 pub weight-le : (I : Situation) (of : Term) → IsValid I → weight I of ≤ 999999999
-unfolding weight_of
-weight-le I of valid = word_le (said_of_weight of) 999999999 1000 (omega arith) (weight_said of) (rows_of I) (recursion_from_All IsTariffRow (rows_of I) valid.parts.tariff.each)
-
-delay_price-le : (I : Situation) (h : Haul) (k : Cabin) → IsValid I → IsPrice (delay_price (rows_of I) h k)
-unfolding delay_price
-delay_price-le I h k valid = price_le (said_of_delay h k) (delay_said h k) I valid
-
-cancel_price-le : (I : Situation) (h : Haul) (k : Cabin) → IsValid I → IsPrice (cancel_price (rows_of I) h k)
-unfolding cancel_price
-cancel_price-le I h k valid = price_le (said_of_cancel h k) (cancel_said h k) I valid
-
-downgrade_price-le : (I : Situation) (h : Haul) (k l : Cabin) → IsValid I → IsPrice (downgrade_price (rows_of I) h k l)
-unfolding downgrade_price
-downgrade_price-le I h k l valid = price_le (said_of_downgrade h k l) (downgrade_said h k l) I valid
-
-position_price-le : (I : Situation) → IsValid I → IsPrice (position_price (rows_of I))
-unfolding position_price
-position_price-le I valid = price_le said_of_position position_said I valid
-
-uncarried_care-le : (I : Situation) (h : Haul) → IsValid I → IsPrice (uncarried_care (rows_of I) h)
-unfolding uncarried_care
-uncarried_care-le I h valid = price_le (said_of_uncarried_care h) (uncarried_care_said h) I valid
-
-uncarried_compensation-le : (I : Situation) (h : Haul) → IsValid I → IsPrice (uncarried_compensation (rows_of I) h)
-unfolding uncarried_compensation
-uncarried_compensation-le I h valid = price_le (said_of_uncarried_compensation h) (uncarried_compensation_said h) I valid
-
-care_price-le : (I : Situation) (h : Haul) (minutes : ℕ) → IsValid I → IsPrice (care_price (rows_of I) h minutes)
-unfolding care_price
-care_price-le I h minutes valid = owed_le minutes (care_in h) (care_said h) I valid
-
-compensation_price-le : (I : Situation) (h : Haul) (minutes : ℕ) → IsValid I → IsPrice (compensation_price (rows_of I) h minutes)
-unfolding compensation_price
-compensation_price-le I h minutes valid = owed_le minutes (compensation_in h) (compensation_said h) I valid
+weight-le I of valid = weight_of-le (rows_of I) valid.parts.tariff.each of
 
 -- ---- the numbers of a day are in their ranges
 
@@ -315,7 +199,7 @@ delay-le I P valid plan r group short =
     amount_or_none (arrives P group.path) _ (delay_most * group.count)
     (omega (
       arith,
-      by_hour-le (weight I term.Delay) (delay_price (rows_of I) (haul_of I r) (reference_of I r)) (group.count * minutes) (weight-le I term.Delay valid) (delay_price-le I (haul_of I r) (reference_of I r) valid),
+      by_hour-le (weight I term.Delay) (delay_price (rows_of I) (haul_of I r) (reference_of I r)) (group.count * minutes) (weight-le I term.Delay valid) (delay_price-le (rows_of I) valid.parts.tariff.each (haul_of I r) (reference_of I r)),
       mul-le-mul_left group.count late,
     ))
 
@@ -323,13 +207,13 @@ pub cancellation-le : (I : Situation) → IsValid I → IsAtMost (cancellation I
 unfolding cancellation
 cancellation-le I valid r group short =
     none_or_amount (is_carried group.path) _ (item_most * group.count)
-    (by_item-le (weight I term.Cancellation) (cancel_price (rows_of I) (haul_of I r) (reference_of I r)) group.count (weight-le I term.Cancellation valid) (cancel_price-le I (haul_of I r) (reference_of I r) valid))
+    (by_item-le (weight I term.Cancellation) (cancel_price (rows_of I) (haul_of I r) (reference_of I r)) group.count (weight-le I term.Cancellation valid) (cancel_price-le (rows_of I) valid.parts.tariff.each (haul_of I r) (reference_of I r)))
 
 pub downgrade_on-le : (I : Situation) (r count : ℕ) (pair : Leg × Cabin) → IsValid I → downgrade_on I r count pair ≤ item_most * count
 unfolding downgrade_on
 downgrade_on-le I r count pair valid =
     amount_or_none (ltb (cabin_rank (reference_of I r)) (cabin_rank pair.1)) _ (item_most * count)
-    (by_item-le (weight I term.Downgrade) (downgrade_price (rows_of I) (leg_at I pair.0.0).haul (reference_of I r) pair.1) count (weight-le I term.Downgrade valid) (downgrade_price-le I (leg_at I pair.0.0).haul (reference_of I r) pair.1 valid))
+    (by_item-le (weight I term.Downgrade) (downgrade_price (rows_of I) (leg_at I pair.0.0).haul (reference_of I r) pair.1) count (weight-le I term.Downgrade valid) (downgrade_price-le (rows_of I) valid.parts.tariff.each (leg_at I pair.0.0).haul (reference_of I r) pair.1))
 
 downgrades_are : (I : Situation) (r count : ℕ) → IsValid I → (path : List (Leg × Cabin)) → AllByRecursion (λ pair. downgrade_on I r count pair ≤ item_most * count) path
 downgrades_are I r count valid [] = tt
@@ -348,8 +232,8 @@ owed_late_le I r minutes count valid =
     let of = weight-le I term.Legal valid in
     omega (
       arith,
-      by_item-le (weight I term.Legal) (care_price (rows_of I) (haul_of I r) minutes) count of (care_price-le I (haul_of I r) minutes valid),
-      by_item-le (weight I term.Legal) (compensation_price (rows_of I) (haul_of I r) minutes) count of (compensation_price-le I (haul_of I r) minutes valid),
+      by_item-le (weight I term.Legal) (care_price (rows_of I) (haul_of I r) minutes) count of (care_price-le (rows_of I) valid.parts.tariff.each (haul_of I r) minutes),
+      by_item-le (weight I term.Legal) (compensation_price (rows_of I) (haul_of I r) minutes) count of (compensation_price-le (rows_of I) valid.parts.tariff.each (haul_of I r) minutes),
     )
 
 owed_uncarried_le : (I : Situation) (r count : ℕ) → IsValid I → legal_uncarried I r count ≤ legal_most * count
@@ -358,8 +242,8 @@ owed_uncarried_le I r count valid =
     omega (
       arith,
       by_item-le (weight I term.Legal) (res_at I r).price.0 count of (paid_le I r valid),
-      by_item-le (weight I term.Legal) (uncarried_care (rows_of I) (haul_of I r)) count of (uncarried_care-le I (haul_of I r) valid),
-      by_item-le (weight I term.Legal) (uncarried_compensation (rows_of I) (haul_of I r)) count of (uncarried_compensation-le I (haul_of I r) valid),
+      by_item-le (weight I term.Legal) (uncarried_care (rows_of I) (haul_of I r)) count of (uncarried_care-le (rows_of I) valid.parts.tariff.each (haul_of I r)),
+      by_item-le (weight I term.Legal) (uncarried_compensation (rows_of I) (haul_of I r)) count of (uncarried_compensation-le (rows_of I) valid.parts.tariff.each (haul_of I r)),
     )
 
 either_le : (test : Bool) (a b most : ℕ) → a ≤ most → b ≤ most → cond test a b ≤ most
@@ -378,7 +262,7 @@ legal-le I P valid r group short =
 missing_le : (I : Situation) (P : PlanRows) (position : PositionInfo) → position.count ≤ 1000 → IsValid I → missing_aircraft I P position ≤ missing_most
 unfolding missing_aircraft
 missing_le I P position few valid =
-    omega (arith, by_item-le (weight I term.Position) (position_price (rows_of I)) (position.count - at_hand I P position) (weight-le I term.Position valid) (position_price-le I valid))
+    omega (arith, by_item-le (weight I term.Position) (position_price (rows_of I)) (position.count - at_hand I P position) (weight-le I term.Position valid) (position_price-le (rows_of I) valid.parts.tariff.each))
 
 missing_are : (I : Situation) (P : PlanRows) → IsValid I → (positions : List PositionInfo) → AllByRecursion (IsPosition (airports_of I)) positions → AllByRecursion (λ position. missing_aircraft I P position ≤ missing_most) positions
 missing_are I P valid [] all = tt

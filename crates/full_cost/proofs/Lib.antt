@@ -1,3 +1,2 @@
-pub mod OwedLaws
 pub mod GroupLaws
 pub mod StandLaws

@@ -1,4 +1,6 @@
-mod FirstLemmas
+pub mod PriceLaws
+mod DecidingRow
 mod KeyLemmas
 mod OwedLemmas
+mod RateLemmas
 mod StepLemmas

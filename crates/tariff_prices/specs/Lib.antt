@@ -1,4 +1,4 @@
+pub mod Purposes
 pub mod Rows
 pub mod Prices
-pub mod Said
 pub mod Tables

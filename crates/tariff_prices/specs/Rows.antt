@@ -1,42 +1,26 @@
 -- Rows that make a tariff.
-use Rattle.std.specs.Prelude.{◌≡◌, ℕ, ◌<◌, ◌≤◌, Bool, true, false, ◌&&◌, ◌==◌, bytes_eq, List, length, All, Option, Some, None}
+use Rattle.std.specs.Prelude.{◌≡◌, ℕ, ◌<◌, ◌≤◌, Bool, false, ◌||◌, bytes_eq, List, length, All, Option, Some}
 use Rattle.std.specs.List.{AllPairs}
 use Rattle.std.specs.Option.{ForSome}
-use Rattle.desk_units.specs.declared.numbers.Cabin.{Cabin}
-use Rattle.desk_units.specs.declared.numbers.Haul.{Haul}
-use Rattle.desk_units.specs.declared.tariff.Term.{Term}
 use Rattle.desk_units.specs.declared.tariff.TariffRow.{TariffRow}
 use Rattle.desk_units.specs.declared.tariff.TariffRow.TheVariants.{Surface, Weight, Delay, Cancel, Downgrade, Care, Compensation, Position}
-use Rattle.desk_units.specs.Ranks.{cabin_rank, haul_rank, term_rank}
+use Rattle.desk_units.specs.Ranks.{cabin_rank}
+use Rattle.tariff_prices.specs.Purposes.{rate_of, same_purpose}
+use Rattle.tariff_prices.specs.declared.purpose.Rate.{Rate}
 
--- whether two hauls, two cabins or two terms are the same
-abbrev pub same_haul : Haul → Haul → Bool
-same_haul a b = haul_rank a == haul_rank b
+-- whether two rows name the same family of surface transport
+abbrev pub same_family : TariffRow → TariffRow → Bool
+same_family (Surface family) (Surface other) = bytes_eq family other
+same_family row other = false
 
-abbrev pub same_cabin : Cabin → Cabin → Bool
-same_cabin a b = cabin_rank a == cabin_rank b
+-- whether two rates are for the same
+abbrev pub same_rate : Option Rate → Option Rate → Bool
+same_rate (Some rate) (Some other) = same_purpose rate.purpose other.purpose
+same_rate rate other = false
 
-abbrev pub same_term : Term → Term → Bool
-same_term a b = term_rank a == term_rank b
-
--- whether two thresholds are the same number of minutes, or both those who are not carried
-abbrev pub same_threshold : Option ℕ → Option ℕ → Bool
-same_threshold (Some a) (Some b) = a == b
-same_threshold None None = true
-same_threshold (Some a) None = false
-same_threshold None (Some b) = false
-
--- whether two rows say the same, though perhaps not the same price or weight
+-- whether two rows are for the same, though perhaps not at the same price or weight
 unfoldable pub same_key : TariffRow → TariffRow → Bool
-same_key (Surface family) (Surface other) = bytes_eq family other
-same_key (Weight term weight) (Weight other more) = same_term term other
-same_key (Delay haul cabin price) (Delay other class paid) = same_haul haul other && same_cabin cabin class
-same_key (Cancel haul cabin price) (Cancel other class paid) = same_haul haul other && same_cabin cabin class
-same_key (Downgrade haul reference below price) (Downgrade other booked flown paid) = same_haul haul other && (same_cabin reference booked && same_cabin below flown)
-same_key (Care haul threshold price) (Care other minutes paid) = same_haul haul other && same_threshold threshold minutes
-same_key (Compensation haul threshold price) (Compensation other minutes paid) = same_haul haul other && same_threshold threshold minutes
-same_key (Position price) (Position paid) = true
-same_key row other = false
+same_key a b = same_family a b || same_rate (rate_of a) (rate_of b)
 
 -- a price in ten-thousandths, of 9 digits before the point at most
 abbrev pub IsPrice : ℕ → Type 0
@@ -58,7 +42,7 @@ IsTariffRow (Care haul threshold price) = ForSome threshold IsThreshold × IsPri
 IsTariffRow (Compensation haul threshold price) = ForSome threshold IsThreshold × IsPrice price.0
 IsTariffRow (Position price) = IsPrice price.0
 
--- at most 1,000 rows, of which no two say the same
+-- at most 1,000 rows, of which no two are for the same
 pub record AreTariffRows (rows : List TariffRow) : Type 0 where
   pub few : length rows ≤ 1000
   pub each : All IsTariffRow rows

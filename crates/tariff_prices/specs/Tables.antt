@@ -1,5 +1,5 @@
 -- What is kept of a tariff, so that a look-up takes no walk over its rows.
-use Rattle.std.specs.Prelude.{◌≡◌, ◌≤◌, List, ◌==◌, false, map, All, AllPairs, filter_map}
+use Rattle.std.specs.Prelude.{◌≡◌, ◌≤◌, List, ◌==◌, false, All, AllPairs, None}
 use Rattle.std.specs.List.Sorted.{IsPermutation, IsNonDecreasingBy}
 use Rattle.desk_units.specs.declared.money.Price.{Price}
 use Rattle.desk_units.specs.declared.money.Weight.{Weight}
@@ -11,13 +11,12 @@ use Rattle.desk_units.specs.declared.tariff.Term.{Term}
 use Rattle.desk_units.specs.declared.tariff.Term.TheVariants as term
 use Rattle.desk_units.specs.declared.tariff.TariffRow.{TariffRow}
 use Rattle.tariff_prices.specs.Rows.{IsPrice}
-use Rattle.tariff_prices.specs.Prices.{Owed, weight_of, price_by}
-use Rattle.tariff_prices.specs.Said.{said, step_in, owed}
-use Rattle.tariff_prices.specs.declared.said.Asked.{Asked}
-use Rattle.tariff_prices.specs.declared.said.Asked.TheVariants as asked
-use Rattle.tariff_prices.specs.declared.said.Ladder.{Ladder}
-use Rattle.tariff_prices.specs.declared.said.Ladder.TheVariants as ladder
-use Rattle.tariff_prices.specs.declared.said.Step.{Step}
+use Rattle.tariff_prices.specs.Prices.{weight_of, price_by, steps_by}
+use Rattle.tariff_prices.specs.declared.purpose.Ladder.{Ladder}
+use Rattle.tariff_prices.specs.declared.purpose.Ladder.TheVariants as ladder
+use Rattle.tariff_prices.specs.declared.purpose.Purpose.{Purpose}
+use Rattle.tariff_prices.specs.declared.purpose.Purpose.TheVariants as purpose
+use Rattle.tariff_prices.specs.declared.purpose.Step.{Step}
 use Rattle.tariff_prices.specs.declared.tables.Tables.{Tables}
 use Rattle.tariff_prices.specs.declared.by.ByCabin.{ByCabin}
 use Rattle.tariff_prices.specs.declared.by.ByHaul.{ByHaul}
@@ -42,38 +41,38 @@ at_term table term.Downgrade = table.downgrade
 at_term table term.Legal = table.legal
 at_term table term.Position = table.position
 
--- a weight, and a price, as the rows say it
+-- a weight, and a price, as the rows give it
 pub record IsWeightOf (rows : List TariffRow) (of : Term) (weight : Weight) : Type 0 where
-  pub said_so : weight.0 ≡ weight_of rows of
+  pub amount : weight.0 ≡ weight_of rows of
   pub limit : weight.0 ≤ 999999999
 
-pub record IsPriceOf (rows : List TariffRow) (of : Asked) (price : Price) : Type 0 where
-  pub said_so : price.0 ≡ price_by (said of) rows
+pub record IsPriceOf (rows : List TariffRow) (of : Purpose) (price : Price) : Type 0 where
+  pub amount : price.0 ≡ price_by of rows
   pub limit : IsPrice price.0
 
 -- no two thresholds are the same
-abbrev pub AreApart : List Owed → Type 0
+abbrev pub AreApart : List Step → Type 0
 AreApart all = AllPairs (λ a b. (a.from == b.from) ≡ false) all
 
--- the steps of all that is owed, from the least threshold on, and no threshold twice
-pub record AreSteps (all : List Owed) (steps : List Step) : Type 0 where
-  pub same : IsPermutation all (map owed steps)
+-- all that is owed, from the least threshold on, and no threshold twice
+pub record AreSteps (all steps : List Step) : Type 0 where
+  pub same : IsPermutation all steps
   pub apart : AreApart all
   pub rising : IsNonDecreasingBy (λ step. step.from) steps
   pub limits : All (λ step. IsPrice step.price.0) steps
 
--- the steps of all that the rows say is owed
+-- all that the rows say is owed
 abbrev pub AreStepsOf : List TariffRow → Ladder → List Step → Type 0
-AreStepsOf rows of steps = AreSteps (filter_map (step_in of) rows) steps
+AreStepsOf rows of steps = AreSteps (steps_by of rows) steps
 
 -- each table has what the rows say
 pub record AreTables (rows : List TariffRow) (tables : Tables) : Type 0 where
   pub weights : (k : Term) → IsWeightOf rows k (at_term tables.weights k)
-  pub delays : (h : Haul) (k : Cabin) → IsPriceOf rows (asked.Delay h k) (at_cabin (at_haul tables.delays h) k)
-  pub cancels : (h : Haul) (k : Cabin) → IsPriceOf rows (asked.Cancel h k) (at_cabin (at_haul tables.cancels h) k)
-  pub downgrades : (h : Haul) (k l : Cabin) → IsPriceOf rows (asked.Downgrade h k l) (at_cabin (at_cabin (at_haul tables.downgrades h) k) l)
-  pub position : IsPriceOf rows asked.Position tables.position
-  pub uncarried_care : (h : Haul) → IsPriceOf rows (asked.UncarriedCare h) (at_haul tables.uncarried_care h)
-  pub uncarried_compensation : (h : Haul) → IsPriceOf rows (asked.UncarriedCompensation h) (at_haul tables.uncarried_compensation h)
+  pub delays : (h : Haul) (k : Cabin) → IsPriceOf rows (purpose.Delay h k) (at_cabin (at_haul tables.delays h) k)
+  pub cancels : (h : Haul) (k : Cabin) → IsPriceOf rows (purpose.Cancel h k) (at_cabin (at_haul tables.cancels h) k)
+  pub downgrades : (h : Haul) (k l : Cabin) → IsPriceOf rows (purpose.Downgrade h k l) (at_cabin (at_cabin (at_haul tables.downgrades h) k) l)
+  pub position : IsPriceOf rows purpose.Position tables.position
+  pub uncarried_care : (h : Haul) → IsPriceOf rows (purpose.Legal (ladder.Care h) None) (at_haul tables.uncarried_care h)
+  pub uncarried_compensation : (h : Haul) → IsPriceOf rows (purpose.Legal (ladder.Compensation h) None) (at_haul tables.uncarried_compensation h)
   pub care : (h : Haul) → AreStepsOf rows (ladder.Care h) (at_haul tables.care h).items
   pub compensation : (h : Haul) → AreStepsOf rows (ladder.Compensation h) (at_haul tables.compensation h).items

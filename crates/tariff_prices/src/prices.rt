@@ -2,10 +2,11 @@
 
 ghost use Rattle.std.specs.Prelude.{◌≡◌, ◌≤◌, List, IfOk, All};
 ghost use Rattle.tariff_prices.specs.Rows.{AreTariffRows, IsPrice};
-ghost use Rattle.tariff_prices.specs.Prices.{Owed, weight_of, delay_price, cancel_price, downgrade_price, position_price, uncarried_care, uncarried_compensation, owed_at, care_price, compensation_price};
+ghost use Rattle.tariff_prices.specs.Prices.{weight_of, delay_price, cancel_price, downgrade_price, position_price, uncarried_care, uncarried_compensation, owed_at, care_price, compensation_price};
 ghost use Rattle.tariff_prices.specs.Tables.{AreSteps};
+ghost use Rattle.tariff_prices.specs.declared.purpose.Step.{Step};
 
-use crate::said::Step;
+use crate::purpose::Step;
 use crate::tables::Tables;
 use desk_units::{Cabin, Haul, NoMem, Price, Tariff, TariffRow, Term, Weight};
 use std::alloc::Global;
@@ -52,7 +53,7 @@ impl Prices {
 
     /// What an hour of a passenger's delay costs, by the haul and the highest cabin of the
     /// reservation; 0 where the tariff gives none, as each price below.
-    #[tactic(auto, unfolding(crate::specs::Prices::delay_price, crate::specs::Said::said))]
+    #[tactic(auto, unfolding(crate::specs::Prices::delay_price))]
     pub fn delay(&self, haul: Haul, cabin: Cabin) -> Price
         ensures price { result.0 ≡ delay_price self.now haul cabin }
         ensures limit { IsPrice result.0 }
@@ -62,7 +63,7 @@ impl Prices {
 
     /// What a passenger who is not carried costs, by the haul and the highest cabin of the
     /// reservation.
-    #[tactic(auto, unfolding(crate::specs::Prices::cancel_price, crate::specs::Said::said))]
+    #[tactic(auto, unfolding(crate::specs::Prices::cancel_price))]
     pub fn cancel(&self, haul: Haul, cabin: Cabin) -> Price
         ensures price { result.0 ≡ cancel_price self.now haul cabin }
         ensures limit { IsPrice result.0 }
@@ -72,7 +73,7 @@ impl Prices {
 
     /// What a leg of this haul costs for each passenger who booked cabin `reference` and flies it in
     /// cabin `below`.
-    #[tactic(auto, unfolding(crate::specs::Prices::downgrade_price, crate::specs::Said::said))]
+    #[tactic(auto, unfolding(crate::specs::Prices::downgrade_price))]
     pub fn downgrade(&self, haul: Haul, reference: Cabin, below: Cabin) -> Price
         ensures price { result.0 ≡ downgrade_price self.now haul reference below }
         ensures limit { IsPrice result.0 }
@@ -81,7 +82,7 @@ impl Prices {
     }
 
     /// What each missing aircraft costs where the window ends.
-    #[tactic(auto, unfolding(crate::specs::Prices::position_price, crate::specs::Said::said))]
+    #[tactic(auto, unfolding(crate::specs::Prices::position_price))]
     pub fn position(&self) -> Price
         ensures price { result.0 ≡ position_price self.now }
         ensures limit { IsPrice result.0 }
@@ -91,7 +92,7 @@ impl Prices {
 
     /// What care costs for a passenger who arrives this many minutes late: the price of the greatest
     /// threshold that the delay reaches.
-    #[tactic(auto, unfolding(crate::specs::Prices::care_price, crate::specs::Said::step_in))]
+    #[tactic(auto, unfolding(crate::specs::Prices::care_price))]
     pub fn care(&self, haul: Haul, delay: u32) -> Price
         ensures price { result.0 ≡ care_price self.now haul delay }
         ensures limit { IsPrice result.0 }
@@ -101,7 +102,7 @@ impl Prices {
 
     /// What compensation is owed to a passenger who arrives this many minutes late: the price of the
     /// greatest threshold that the delay reaches.
-    #[tactic(auto, unfolding(crate::specs::Prices::compensation_price, crate::specs::Said::step_in))]
+    #[tactic(auto, unfolding(crate::specs::Prices::compensation_price))]
     pub fn compensation(&self, haul: Haul, delay: u32) -> Price
         ensures price { result.0 ≡ compensation_price self.now haul delay }
         ensures limit { IsPrice result.0 }
@@ -110,7 +111,7 @@ impl Prices {
     }
 
     /// What care costs for a passenger who is not carried.
-    #[tactic(auto, unfolding(crate::specs::Prices::uncarried_care, crate::specs::Said::said))]
+    #[tactic(auto, unfolding(crate::specs::Prices::uncarried_care))]
     pub fn uncarried_care(&self, haul: Haul) -> Price
         ensures price { result.0 ≡ uncarried_care self.now haul }
         ensures limit { IsPrice result.0 }
@@ -119,7 +120,7 @@ impl Prices {
     }
 
     /// What compensation is owed to a passenger who is not carried.
-    #[tactic(auto, unfolding(crate::specs::Prices::uncarried_compensation, crate::specs::Said::said))]
+    #[tactic(auto, unfolding(crate::specs::Prices::uncarried_compensation))]
     pub fn uncarried_compensation(&self, haul: Haul) -> Price
         ensures price { result.0 ≡ uncarried_compensation self.now haul }
         ensures limit { IsPrice result.0 }
@@ -130,7 +131,7 @@ impl Prices {
 
 /// The price of the last step that a delay reaches, or 0.
 fn price_at(steps: &[Step], delay: u32) -> Price
-    ensures price { (all : List Owed) → AreSteps all steps.now → result.0 ≡ owed_at delay all }
+    ensures price { (all : List Step) → AreSteps all steps.now → result.0 ≡ owed_at delay all }
     ensures limit { All (λ step. IsPrice step.price.0) steps.now → IsPrice result.0 }
 {
     let reached = steps.partition_point(|step| step.from <= delay);

@@ -5,12 +5,11 @@ ghost use Rattle.desk_units.specs.declared.numbers.Cabin.{Cabin};
 ghost use Rattle.desk_units.specs.declared.numbers.Haul.{Haul};
 ghost use Rattle.desk_units.specs.declared.tariff.Term.{Term};
 ghost use Rattle.tariff_prices.specs.Rows.{IsTariffRow, AreTariffRows, IsPrice};
-ghost use Rattle.tariff_prices.specs.Prices.{weight_of, price_by};
-ghost use Rattle.tariff_prices.specs.Said.{said};
+ghost use Rattle.tariff_prices.specs.Prices.{first_rate, amount_for, weight_of, price_by, steps_by};
 ghost use Rattle.tariff_prices.specs.Tables.{at_cabin, at_haul, at_term, IsWeightOf, IsPriceOf, AreStepsOf, AreTables};
 
 use crate::by::{ByCabin, ByHaul, ByTerm};
-use crate::said::{Asked, Ladder, Step, price_in, step_in, weight_in};
+use crate::purpose::{Ladder, Purpose, Rate, Step, same_purpose};
 use desk_units::{Cabin, Haul, NoMem, Price, TariffRow, Term, Weight};
 use std::alloc::Global;
 
@@ -30,33 +29,42 @@ pub struct Tables {
     pub compensation: ByHaul<Vec<Step>>,
 }
 
-/// What the first row says that says anything of the weight of a term, or 1.
+/// The first rate of the rows that is for this.
+fn first_rate(rows: &[TariffRow], purpose: Purpose) -> Option<Rate>
+    ensures { result ≡ first_rate purpose rows.now }
+{
+    rows.iter()
+        .filter_map(|row| Rate::of(row))
+        .find(|rate| same_purpose(rate.purpose, purpose))
+}
+
+/// How much that is.
+#[tactic(auto, unfolding(crate::specs::Prices::amount_for))]
+fn amount_for(rows: &[TariffRow], purpose: Purpose) -> Option<u64>
+    ensures { result ≡ amount_for purpose rows.now }
+{
+    first_rate(rows, purpose).map(|rate| rate.amount)
+}
+
+/// The weight of a term, 1 where no row gives it.
+#[tactic(auto, unfolding(crate::specs::Prices::weight_of), using(crate::proofs::RateLemmas::weight_within))]
 fn weight_of(rows: &[TariffRow], term: Term) -> Weight
     requires { All IsTariffRow rows.now }
     ensures weight { result.0 ≡ weight_of rows.now term }
     ensures limit { result.0 ≤ 999999999 }
 {
-    for row in rows {
-        if let Some(weight) = weight_in(term, row) {
-            return weight;
-        }
-    }
-    Weight(1_000)
+    let amount = amount_for(rows, Purpose::Weight(term)).unwrap_or(1_000);
+    Weight(amount as u32)
 }
 
-/// What the first row says that says anything of the price that is asked for, or 0.
-#[tactic(auto, unfolding(crate::specs::Said::said))]
-fn price_of(rows: &[TariffRow], asked: Asked) -> Price
+/// The price of what is asked, 0 where no row gives it.
+#[tactic(auto, unfolding(crate::specs::Prices::price_by), using(crate::proofs::RateLemmas::price_within))]
+fn price_of(rows: &[TariffRow], purpose: Purpose) -> Price
     requires { All IsTariffRow rows.now }
-    ensures price { result.0 ≡ price_by (said asked) rows.now }
+    ensures price { result.0 ≡ price_by purpose rows.now }
     ensures limit { IsPrice result.0 }
 {
-    for row in rows {
-        if let Some(price) = price_in(asked, row) {
-            return price;
-        }
-    }
-    Price(0)
+    Price(amount_for(rows, purpose).unwrap_or(0))
 }
 
 fn weights(rows: &[TariffRow]) -> ByTerm<Weight>
@@ -75,18 +83,18 @@ fn weights(rows: &[TariffRow]) -> ByTerm<Weight>
 
 fn delays_of(rows: &[TariffRow], haul: Haul) -> ByCabin<Price>
     requires { All IsTariffRow rows.now }
-    ensures { (cabin : Cabin) → IsPriceOf rows.now (Asked.Delay haul cabin) (at_cabin result cabin) }
+    ensures { (cabin : Cabin) → IsPriceOf rows.now (Purpose.Delay haul cabin) (at_cabin result cabin) }
 {
     ByCabin {
-        f: price_of(rows, Asked::Delay(haul, Cabin::F)),
-        b: price_of(rows, Asked::Delay(haul, Cabin::B)),
-        e: price_of(rows, Asked::Delay(haul, Cabin::E)),
+        f: price_of(rows, Purpose::Delay(haul, Cabin::F)),
+        b: price_of(rows, Purpose::Delay(haul, Cabin::B)),
+        e: price_of(rows, Purpose::Delay(haul, Cabin::E)),
     }
 }
 
 fn delays(rows: &[TariffRow]) -> ByHaul<ByCabin<Price>>
     requires { All IsTariffRow rows.now }
-    ensures { (haul : Haul) (cabin : Cabin) → IsPriceOf rows.now (Asked.Delay haul cabin) (at_cabin (at_haul result haul) cabin) }
+    ensures { (haul : Haul) (cabin : Cabin) → IsPriceOf rows.now (Purpose.Delay haul cabin) (at_cabin (at_haul result haul) cabin) }
 {
     ByHaul {
         d: delays_of(rows, Haul::D),
@@ -97,18 +105,18 @@ fn delays(rows: &[TariffRow]) -> ByHaul<ByCabin<Price>>
 
 fn cancels_of(rows: &[TariffRow], haul: Haul) -> ByCabin<Price>
     requires { All IsTariffRow rows.now }
-    ensures { (cabin : Cabin) → IsPriceOf rows.now (Asked.Cancel haul cabin) (at_cabin result cabin) }
+    ensures { (cabin : Cabin) → IsPriceOf rows.now (Purpose.Cancel haul cabin) (at_cabin result cabin) }
 {
     ByCabin {
-        f: price_of(rows, Asked::Cancel(haul, Cabin::F)),
-        b: price_of(rows, Asked::Cancel(haul, Cabin::B)),
-        e: price_of(rows, Asked::Cancel(haul, Cabin::E)),
+        f: price_of(rows, Purpose::Cancel(haul, Cabin::F)),
+        b: price_of(rows, Purpose::Cancel(haul, Cabin::B)),
+        e: price_of(rows, Purpose::Cancel(haul, Cabin::E)),
     }
 }
 
 fn cancels(rows: &[TariffRow]) -> ByHaul<ByCabin<Price>>
     requires { All IsTariffRow rows.now }
-    ensures { (haul : Haul) (cabin : Cabin) → IsPriceOf rows.now (Asked.Cancel haul cabin) (at_cabin (at_haul result haul) cabin) }
+    ensures { (haul : Haul) (cabin : Cabin) → IsPriceOf rows.now (Purpose.Cancel haul cabin) (at_cabin (at_haul result haul) cabin) }
 {
     ByHaul {
         d: cancels_of(rows, Haul::D),
@@ -119,18 +127,18 @@ fn cancels(rows: &[TariffRow]) -> ByHaul<ByCabin<Price>>
 
 fn downgrades_from(rows: &[TariffRow], haul: Haul, reference: Cabin) -> ByCabin<Price>
     requires { All IsTariffRow rows.now }
-    ensures { (below : Cabin) → IsPriceOf rows.now (Asked.Downgrade haul reference below) (at_cabin result below) }
+    ensures { (below : Cabin) → IsPriceOf rows.now (Purpose.Downgrade haul reference below) (at_cabin result below) }
 {
     ByCabin {
-        f: price_of(rows, Asked::Downgrade(haul, reference, Cabin::F)),
-        b: price_of(rows, Asked::Downgrade(haul, reference, Cabin::B)),
-        e: price_of(rows, Asked::Downgrade(haul, reference, Cabin::E)),
+        f: price_of(rows, Purpose::Downgrade(haul, reference, Cabin::F)),
+        b: price_of(rows, Purpose::Downgrade(haul, reference, Cabin::B)),
+        e: price_of(rows, Purpose::Downgrade(haul, reference, Cabin::E)),
     }
 }
 
 fn downgrades_of(rows: &[TariffRow], haul: Haul) -> ByCabin<ByCabin<Price>>
     requires { All IsTariffRow rows.now }
-    ensures { (reference below : Cabin) → IsPriceOf rows.now (Asked.Downgrade haul reference below) (at_cabin (at_cabin result reference) below) }
+    ensures { (reference below : Cabin) → IsPriceOf rows.now (Purpose.Downgrade haul reference below) (at_cabin (at_cabin result reference) below) }
 {
     ByCabin {
         f: downgrades_from(rows, haul, Cabin::F),
@@ -141,7 +149,7 @@ fn downgrades_of(rows: &[TariffRow], haul: Haul) -> ByCabin<ByCabin<Price>>
 
 fn downgrades(rows: &[TariffRow]) -> ByHaul<ByCabin<ByCabin<Price>>>
     requires { All IsTariffRow rows.now }
-    ensures { (haul : Haul) (reference below : Cabin) → IsPriceOf rows.now (Asked.Downgrade haul reference below) (at_cabin (at_cabin (at_haul result haul) reference) below) }
+    ensures { (haul : Haul) (reference below : Cabin) → IsPriceOf rows.now (Purpose.Downgrade haul reference below) (at_cabin (at_cabin (at_haul result haul) reference) below) }
 {
     ByHaul {
         d: downgrades_of(rows, Haul::D),
@@ -152,24 +160,37 @@ fn downgrades(rows: &[TariffRow]) -> ByHaul<ByCabin<ByCabin<Price>>>
 
 fn uncarried_care(rows: &[TariffRow]) -> ByHaul<Price>
     requires { All IsTariffRow rows.now }
-    ensures { (haul : Haul) → IsPriceOf rows.now (Asked.UncarriedCare haul) (at_haul result haul) }
+    ensures { (haul : Haul) → IsPriceOf rows.now (Purpose.Legal (Ladder.Care haul) None) (at_haul result haul) }
 {
     ByHaul {
-        d: price_of(rows, Asked::UncarriedCare(Haul::D)),
-        c: price_of(rows, Asked::UncarriedCare(Haul::C)),
-        i: price_of(rows, Asked::UncarriedCare(Haul::I)),
+        d: price_of(rows, Purpose::Legal(Ladder::Care(Haul::D), None)),
+        c: price_of(rows, Purpose::Legal(Ladder::Care(Haul::C), None)),
+        i: price_of(rows, Purpose::Legal(Ladder::Care(Haul::I), None)),
     }
 }
 
 fn uncarried_compensation(rows: &[TariffRow]) -> ByHaul<Price>
     requires { All IsTariffRow rows.now }
-    ensures { (haul : Haul) → IsPriceOf rows.now (Asked.UncarriedCompensation haul) (at_haul result haul) }
+    ensures { (haul : Haul) → IsPriceOf rows.now (Purpose.Legal (Ladder.Compensation haul) None) (at_haul result haul) }
 {
     ByHaul {
-        d: price_of(rows, Asked::UncarriedCompensation(Haul::D)),
-        c: price_of(rows, Asked::UncarriedCompensation(Haul::C)),
-        i: price_of(rows, Asked::UncarriedCompensation(Haul::I)),
+        d: price_of(rows, Purpose::Legal(Ladder::Compensation(Haul::D), None)),
+        c: price_of(rows, Purpose::Legal(Ladder::Compensation(Haul::C), None)),
+        i: price_of(rows, Purpose::Legal(Ladder::Compensation(Haul::I), None)),
     }
+}
+
+/// The steps of a ladder, in the order of the rows.
+#[tactic(auto, unfolding(crate::specs::Prices::steps_by))]
+fn steps_by(alloc: Global, rows: &[TariffRow], ladder: Ladder) -> Result<Vec<Step>, NoMem>
+    ensures { IfOk result (λ steps. steps.items ≡ steps_by ladder rows.now) }
+{
+    let steps = rows
+        .iter()
+        .filter_map(|row| Rate::of(row))
+        .filter_map(|rate| rate.step_on(ladder))
+        .collect(alloc)?;
+    Ok(steps)
 }
 
 /// The steps of a ladder, from the least threshold on.
@@ -177,12 +198,7 @@ fn steps_of(alloc: Global, rows: &[TariffRow], ladder: Ladder) -> Result<Vec<Ste
     requires { AreTariffRows rows.now }
     ensures { IfOk result (λ steps. AreStepsOf rows.now ladder steps.items) }
 {
-    let mut steps = Vec::new(alloc);
-    for row in rows {
-        if let Some(step) = step_in(ladder, row) {
-            steps.push(step)?;
-        }
-    }
+    let mut steps = steps_by(alloc, rows, ladder)?;
     steps.sort_by_key(|step| step.from)?;
     Ok(steps)
 }
@@ -220,7 +236,7 @@ impl Tables {
             delays: delays(rows),
             cancels: cancels(rows),
             downgrades: downgrades(rows),
-            position: price_of(rows, Asked::Position),
+            position: price_of(rows, Purpose::Position),
             uncarried_care: uncarried_care(rows),
             uncarried_compensation: uncarried_compensation(rows),
             care: care(alloc, rows)?,

@@ -3,94 +3,37 @@
 ghost use Rattle.std.specs.Prelude.{◌≡◌, ◌↔◌, ◌≤◌, false, IsTrue, AllPairs};
 ghost use Rattle.std.specs.List.{list_any};
 ghost use Rattle.std.specs.Option.{ForSome};
-ghost use Rattle.tariff_prices.specs.Rows.{same_threshold, same_key, IsPrice, IsThreshold, IsTariffRow, AreTariffRows};
+ghost use Rattle.tariff_prices.specs.Rows.{same_family, same_rate, same_key, IsPrice, IsThreshold, IsTariffRow, AreTariffRows};
 
-use crate::said::{same_cabin, same_haul, same_term};
+use crate::purpose::{Rate, same_purpose};
 use desk_units::{Price, TariffRow};
 
-fn same_threshold(a: Option<u32>, b: Option<u32>) -> bool
-    ensures { result ≡ same_threshold a b }
-{
-    match (a, b) {
-        (Some(minutes), Some(other)) => minutes == other,
-        (None, None) => true,
-        _ => false,
-    }
-}
-
-/// Whether two rows say the same, though perhaps not the same price or weight.
-#[tactic(auto, unfolding(crate::specs::Rows::same_key))]
-pub fn same_key(a: &TariffRow, b: &TariffRow) -> bool
-    ensures { result ≡ same_key a.now b.now }
+fn same_family(a: &TariffRow, b: &TariffRow) -> bool
+    ensures { result ≡ same_family a.now b.now }
 {
     match (a, b) {
         (TariffRow::Surface { family }, TariffRow::Surface { family: other }) => {
             family.as_slice() == other.as_slice()
         }
-        (TariffRow::Weight { term, .. }, TariffRow::Weight { term: other, .. }) => {
-            same_term(*term, *other)
-        }
-        (
-            TariffRow::Delay { haul, cabin, .. },
-            TariffRow::Delay {
-                haul: other,
-                cabin: class,
-                ..
-            },
-        ) => same_haul(*haul, *other) && same_cabin(*cabin, *class),
-        (
-            TariffRow::Cancel { haul, cabin, .. },
-            TariffRow::Cancel {
-                haul: other,
-                cabin: class,
-                ..
-            },
-        ) => same_haul(*haul, *other) && same_cabin(*cabin, *class),
-        (
-            TariffRow::Downgrade {
-                haul,
-                reference,
-                below,
-                ..
-            },
-            TariffRow::Downgrade {
-                haul: other,
-                reference: booked,
-                below: flown,
-                ..
-            },
-        ) => {
-            same_haul(*haul, *other)
-                && same_cabin(*reference, *booked)
-                && same_cabin(*below, *flown)
-        }
-        (
-            TariffRow::Care {
-                haul,
-                threshold,
-                ..
-            },
-            TariffRow::Care {
-                haul: other,
-                threshold: minutes,
-                ..
-            },
-        ) => same_haul(*haul, *other) && same_threshold(*threshold, *minutes),
-        (
-            TariffRow::Compensation {
-                haul,
-                threshold,
-                ..
-            },
-            TariffRow::Compensation {
-                haul: other,
-                threshold: minutes,
-                ..
-            },
-        ) => same_haul(*haul, *other) && same_threshold(*threshold, *minutes),
-        (TariffRow::Position { .. }, TariffRow::Position { .. }) => true,
         _ => false,
     }
+}
+
+fn same_rate(a: Option<Rate>, b: Option<Rate>) -> bool
+    ensures { result ≡ same_rate a b }
+{
+    match (a, b) {
+        (Some(rate), Some(other)) => same_purpose(rate.purpose, other.purpose),
+        _ => false,
+    }
+}
+
+/// Whether two rows are for the same, though perhaps not at the same price or weight.
+#[tactic(auto, unfolding(crate::specs::Rows::same_key))]
+pub fn same_key(a: &TariffRow, b: &TariffRow) -> bool
+    ensures { result ≡ same_key a.now b.now }
+{
+    same_family(a, b) || same_rate(Rate::of(a), Rate::of(b))
 }
 
 fn is_price(price: Price) -> bool
@@ -139,7 +82,7 @@ fn is_tariff_row(row: &TariffRow) -> bool
     }
 }
 
-fn says_the_same(rows: &[TariffRow], row: &TariffRow) -> bool
+fn is_among(rows: &[TariffRow], row: &TariffRow) -> bool
     ensures { result ≡ list_any (λ other. same_key other row.now) rows.now }
 {
     rows.iter().any(|other| same_key(other, row))
@@ -149,7 +92,7 @@ fn are_distinct(rows: &[TariffRow]) -> bool
     ensures { IsTrue result ↔ AllPairs (λ a b. same_key a b ≡ false) rows.now }
 {
     for (i, row) in rows.iter().enumerate() {
-        if says_the_same(&rows[..i], row) {
+        if is_among(&rows[..i], row) {
             return false;
         }
     }
@@ -157,7 +100,7 @@ fn are_distinct(rows: &[TariffRow]) -> bool
 }
 
 /// Whether these rows make a tariff: at most 1,000 of them, each number in its range, and no two
-/// that say the same.
+/// that are for the same.
 pub fn are_tariff_rows(rows: &[TariffRow]) -> bool
     ensures { IsTrue result ↔ AreTariffRows rows.now }
 {

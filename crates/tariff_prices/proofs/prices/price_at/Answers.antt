@@ -2,7 +2,7 @@ use Rattle.std.proofs.Common.{◌≡◌, ℕ, ◌+◌, ◌-◌, true, false, leb
 use Rattle.std.specs.List.{AllWithin}
 use Rattle.std.specs.List.Sorted.{IsPartitionPoint}
 use Rattle.std.proofs.lemmas.List.Sorted.{IsPartitionPoint-from_clause, IsPartitionedBy-leb}
-use Rattle.tariff_prices.specs.declared.said.Step.{Step}
+use Rattle.tariff_prices.specs.declared.purpose.Step.{Step}
 use Rattle.tariff_prices.proofs.OwedLemmas.{none_reached, last_reached}
 use Rattle.tariff_prices.proofs.prices.price_at.Goals as goal
 

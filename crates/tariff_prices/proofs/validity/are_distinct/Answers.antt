@@ -6,11 +6,11 @@ use Rattle.tariff_prices.proofs.validity.are_distinct.Goals as goal
 
 pub loop-i-preserved : goal.loop-i-preserved
 loop-i-preserved c =
-    apart_more same_key c.args.rows.now c.loop-i.i c.index-rows-i.result c.loop-i-test.true c.index-rows-i.is (sym c.says_the_same.ensures ∙ c.if-says_the_same.false) c.loop-i.invariant
+    apart_more same_key c.args.rows.now c.loop-i.i c.index-rows-i.result c.loop-i-test.true c.index-rows-i.is (sym c.is_among.ensures ∙ c.if-is_among.false) c.loop-i.invariant
 
-pub returns-then-says_the_same : goal.returns-then-says_the_same
-returns-then-says_the_same c =
-    (λ false_. cc, λ apart. absurd (not_apart same_key c.args.rows.now c.loop-i.i c.index-rows-i.result c.loop-i-test.true c.index-rows-i.is (sym c.says_the_same.ensures ∙ c.if-says_the_same.true) apart))
+pub returns-then-is_among : goal.returns-then-is_among
+returns-then-is_among c =
+    (λ false_. cc, λ apart. absurd (not_apart same_key c.args.rows.now c.loop-i.i c.index-rows-i.result c.loop-i-test.true c.index-rows-i.is (sym c.is_among.ensures ∙ c.if-is_among.true) apart))
 
 pub returns : goal.returns
 returns c = (λ true_. rw (take_all _ _ c.loop-i-test.false) at c.loop-i.invariant, λ apart. refl)
