@@ -1,4 +1,6 @@
 mod BegunLemmas
+mod BookedLemmas
+mod HighestLaws
 mod KeepsLemmas
 mod SaidLemmas
 mod ScheduleLemmas

@@ -1,4 +1,6 @@
+pub mod Paths
 pub mod Situation
+pub mod Booked
 pub mod Hours
 pub mod Keeps
 pub mod PlanRows

@@ -3,11 +3,13 @@
 ghost use Rattle.std.specs.Prelude.{◌≡◌, ◌<◌, ◌≤◌, ℕ, [], ◌++◌, length, map, All, IfOk, OnOk, OnErr, IfSome, nat_lt};
 ghost use Rattle.day_orders.specs.KeptLists.{nothing_kept};
 ghost use Rattle.day_orders.specs.LastOrders.{last_order_on_leg};
+ghost use Rattle.desk_data.specs.Booked.{IsBooked};
 ghost use Rattle.desk_data.specs.Hours.{hour_cap, dep_cap, arr_cap};
 ghost use Rattle.desk_data.specs.PlanRows.{row_at};
 ghost use Rattle.desk_data.specs.Situation.{legs_of, planes_of, airports_of, reservations_of, leg_at, plane_at, res_at, airport_at, earliest, latest, ordered_off, fixed, due, spans, begun, bound, delay_of, scheduled_row, groups_of, schedule};
 ghost use Rattle.desk_data.specs.Valid.{AreParts, IsValid, IsLeg, IsPlane, IsReservation, IsAirport, IsOrder, IsRowOf, IsPlanFor};
 
+use crate::booked::{Booked, bookings_of};
 use crate::hours::cap_of_line;
 use crate::info::{AirportInfo, LegInfo, PlaneInfo, PositionInfo, ResInfo};
 use crate::parts::Parts;
@@ -15,7 +17,7 @@ use crate::path::Path;
 use crate::plan::Plan;
 use crate::row::{Group, Row};
 use day_orders::{Batch, HourCap, Kept, Order, cap_at};
-use desk_units::{Airport, Leg, Minute, NoMem, Plane, Res, Tariff};
+use desk_units::{Airport, Leg, List, Minute, NoMem, Plane, Res, Tariff};
 use std::alloc::Global;
 use std::marker::Model;
 use std::sync::Arc;
@@ -26,6 +28,8 @@ use tariff_prices::Prices;
 pub struct Instance {
     parts: Arc<Parts>,
     prices: Arc<Prices>,
+    /// What each reservation booked.
+    bookings: Arc<List<Booked>>,
     orders: Vec<Order>,
     /// What the orders say.
     kept: Kept,
@@ -40,7 +44,7 @@ impl Model for Instance {
 
     ghost view = { λ i. record { parts = arc_value i.parts; orders = i.orders.items } };
 
-    ghost invariant = { λ i. IsWhole (record { parts = arc_value i.parts; orders = i.orders.items }) i.kept (arc_value i.prices) };
+    ghost invariant = { λ i. IsWhole (record { parts = arc_value i.parts; orders = i.orders.items }) i.kept (arc_value i.prices) (arc_value i.bookings) };
 }
 
 impl Instance {
@@ -51,11 +55,13 @@ impl Instance {
     {
         let kept = nothing_kept(alloc, &parts)?;
         let prices = Arc::new(alloc, Prices::of(alloc, &parts.tariff)?)?;
+        let bookings = Arc::new(alloc, bookings_of(alloc, &parts)?)?;
         let parts = Arc::new(alloc, parts)?;
         let orders = Vec::new(alloc);
         Ok(Instance {
             parts,
             prices,
+            bookings,
             orders,
             kept,
         })
@@ -230,6 +236,14 @@ impl Instance {
         self.hour_cap(airport, hour).map(|cap| cap.arrs)
     }
 
+    /// What a reservation booked, which no order changes.
+    pub fn booked(&self, res: Res) -> &Booked
+        requires { res.0 < reservations_of self.now }
+        ensures { IsBooked self.now res.0 result.now }
+    {
+        &self.bookings.as_slice()[res.0 as usize]
+    }
+
     /// How many legs at the start of a reservation's scheduled path are all scheduled to depart
     /// before the window.
     pub fn begun(&self, res: Res) -> u32
@@ -286,17 +300,19 @@ impl Instance {
         &self.prices
     }
 
-    /// An equal instance. The rows and the prices are shared.
+    /// An equal instance. The rows, the prices and what reservations booked are shared.
     pub fn copy(&self, alloc: Global) -> Result<Instance, NoMem>
         ensures { IfOk result (λ copy. copy ≡ self.now) }
     {
         let parts = self.parts.clone()?;
         let prices = self.prices.clone()?;
+        let bookings = self.bookings.clone()?;
         let orders = Vec::from_slice(alloc, self.orders.as_slice())?;
         let kept = self.kept.copy(alloc)?;
         Ok(Instance {
             parts,
             prices,
+            bookings,
             orders,
             kept,
         })

@@ -1,6 +1,7 @@
 //! The joined day of an airline: its rows, its disruption orders, and plans for it.
 #![tactic(auto)]
 
+mod booked;
 mod broken;
 mod hours;
 mod info;
@@ -11,6 +12,7 @@ mod path;
 mod plan;
 mod row;
 
+pub use booked::Booked;
 pub use broken::Broken;
 pub use day_orders::{Batch, Order};
 pub use desk_units::{

@@ -11,7 +11,9 @@ use Rattle.desk_units.specs.declared.numbers.Haul.{Haul}
 use Rattle.desk_units.specs.declared.numbers.Haul.TheVariants as haul
 use Rattle.desk_units.specs.Ranks.{cabin_rank, haul_rank}
 use Rattle.desk_data.specs.Situation.{Situation, leg_at}
-use Rattle.desk_rules.specs.Passengers.{no_pair, booked_path, higher_haul, highest_haul, haul_of, higher_cabin, highest_cabin, reference_of, takes}
+use Rattle.desk_data.specs.Paths.{no_pair}
+use Rattle.desk_data.specs.Booked.{booked_path, higher_haul, highest_haul, haul_of, higher_cabin, highest_cabin, reference_of}
+use Rattle.desk_rules.specs.Passengers.{takes}
 use Rattle.desk_rules.specs.Words.{HasLeg, IsHaulIn, IsCabinIn, IsHighestHaul, IsHighestCabin}
 use Rattle.desk_rules.proofs.CarriageLaws.{same_pair-holds}
 

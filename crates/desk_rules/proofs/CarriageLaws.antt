@@ -20,7 +20,9 @@ use Rattle.desk_data.specs.Situation.{Situation, leg_at, plane_at, begun, same_p
 use Rattle.desk_data.specs.PlanRows.{PlanRows, row_at, groups_at}
 use Rattle.desk_rules.specs.Numbers.{implies}
 use Rattle.desk_rules.specs.Rotations.{dep, arr, is_leg}
-use Rattle.desk_rules.specs.Passengers.{aboard, seats_in, is_carried, leg_in, first_leg, last_leg, booked_path, origin_of, dest_of, booked_departure, booked_arrival, haul_of, is_flown, all_flown, share_plane, connection, reaches, connects, arrival_of, longest_delay}
+use Rattle.desk_data.specs.Paths.{leg_in, first_leg, last_leg}
+use Rattle.desk_data.specs.Booked.{booked_path, origin_of, dest_of, booked_departure, booked_arrival, haul_of}
+use Rattle.desk_rules.specs.Passengers.{aboard, seats_in, is_carried, is_flown, all_flown, share_plane, connection, reaches, connects, arrival_of, longest_delay}
 use Rattle.desk_rules.specs.Carriage.{has_seats, keeps_c12, each_carried, is_good_path, keeps_c13, is_in_time_path, keeps_c14, keeps_c15}
 use Rattle.desk_rules.specs.Words.{IsFlown, StaysAboard, GoesOn, TakesThere, EachCarried, ArrivesInTime, BeginsAsBegun, MeetsC12, MeetsC13, MeetsC14, MeetsC15}
 use Rattle.desk_rules.proofs.Tests.{each_below-holds, each_below-from, implies-holds, implies-from}

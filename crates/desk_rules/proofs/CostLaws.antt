@@ -28,7 +28,9 @@ use Rattle.desk_data.specs.Situation.{Situation, legs_of, planes_of, airports_of
 use Rattle.desk_data.specs.PlanRows.{PlanRows, IsGroup, AreGroups, row_at, groups_at}
 use Rattle.desk_data.specs.Valid.{IsValid, IsLeg, IsPlane, IsReservation, IsPosition, IsPlanFor}
 use Rattle.desk_rules.specs.Numbers.{numbers}
-use Rattle.desk_rules.specs.Passengers.{haul_of, reference_of, is_carried, last_leg, minutes_late}
+use Rattle.desk_data.specs.Paths.{last_leg}
+use Rattle.desk_data.specs.Booked.{haul_of, reference_of}
+use Rattle.desk_rules.specs.Passengers.{is_carried, minutes_late}
 use Rattle.desk_rules.specs.Cost.{rows_of, weight, by_hour, by_item, operating_of, operating, operating_cost, over_groups, arrives, delay, delay_cost, cancellation, cancellation_cost, downgrade_on, downgrade, downgrade_cost, legal_uncarried, legal_late, legal, legal_cost, at_hand, missing_aircraft, position_cost, cost}
 use Rattle.desk_rules.proofs.HourLaws.{length-numbers, arr-lt}
 

@@ -9,7 +9,9 @@ use Rattle.desk_data.specs.Situation.{Situation, leg_at, plane_at, bound}
 use Rattle.desk_data.specs.PlanRows.{PlanRows, row_at, groups_at}
 use Rattle.desk_rules.specs.Rotations.{dep}
 use Rattle.desk_rules.specs.Numbers.{implies}
-use Rattle.desk_rules.specs.Passengers.{aboard, seats_in, is_carried, first_leg, last_leg, origin_of, dest_of, booked_departure, booked_arrival, haul_of, all_flown, connects, arrival_of, longest_delay}
+use Rattle.desk_data.specs.Paths.{first_leg, last_leg}
+use Rattle.desk_data.specs.Booked.{origin_of, dest_of, booked_departure, booked_arrival, haul_of}
+use Rattle.desk_rules.specs.Passengers.{aboard, seats_in, is_carried, all_flown, connects, arrival_of, longest_delay}
 
 -- C12: the passengers of a flown leg in a cabin have seats
 abbrev pub has_seats : Situation → PlanRows → ℕ → Cabin → Row → Bool

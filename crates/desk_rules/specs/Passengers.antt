@@ -1,5 +1,5 @@
--- Passengers: what they booked, and the paths that they are on.
-use Rattle.std.specs.Prelude.{ℕ, ◌+◌, ◌-◌, Bool, true, false, ◌&&◌, ◌==◌, nat_lt, nat_le, if◌then◌else◌, List, [], ◌∷◌, length, sum_by, slice_index_or}
+-- Passengers: the seats that they take, and the paths that they are on. What they booked is told in desk_data.
+use Rattle.std.specs.Prelude.{ℕ, ◌+◌, ◌-◌, Bool, true, false, ◌&&◌, ◌==◌, nat_le, if◌then◌else◌, List, [], ◌∷◌, length, sum_by}
 use Rattle.std.specs.List.{list_all, list_any}
 use Rattle.desk_units.specs.declared.numbers.Leg.{Leg}
 use Rattle.desk_units.specs.declared.numbers.Cabin.{Cabin}
@@ -7,75 +7,21 @@ use Rattle.desk_units.specs.declared.numbers.Cabin.TheVariants as cabin
 use Rattle.desk_units.specs.declared.numbers.Haul.{Haul}
 use Rattle.desk_units.specs.declared.numbers.Haul.TheVariants as haul
 use Rattle.desk_units.specs.declared.numbers.Seats.{Seats}
-use Rattle.desk_units.specs.Ranks.{cabin_rank, haul_rank}
+use Rattle.desk_units.specs.Ranks.{cabin_rank}
 use Rattle.desk_data.specs.declared.row.Row.{Row}
 use Rattle.desk_data.specs.declared.row.Row.TheVariants.{Flown, Cancelled}
 use Rattle.desk_data.specs.declared.row.Group.{Group}
-use Rattle.desk_data.specs.Situation.{Situation, leg_at, res_at}
+use Rattle.desk_data.specs.Booked.{booked_arrival}
+use Rattle.desk_data.specs.Paths.{leg_in, last_leg}
+use Rattle.desk_data.specs.Situation.{Situation, leg_at}
 use Rattle.desk_data.specs.PlanRows.{PlanRows, row_at}
 use Rattle.desk_rules.specs.Numbers.{each_below}
 use Rattle.desk_rules.specs.Rotations.{dep, arr, is_leg}
-
--- a pair of nothing
-unfoldable pub no_pair : Leg × Cabin
-no_pair = (record { 0 = 0 }, cabin.F)
-
--- leg number i of a path, its first and its last leg
-abbrev pub leg_in : List (Leg × Cabin) → ℕ → ℕ
-leg_in path i = (slice_index_or path i no_pair).0.0
-
-abbrev pub first_leg : List (Leg × Cabin) → ℕ
-first_leg path = leg_in path 0
-
-abbrev pub last_leg : List (Leg × Cabin) → ℕ
-last_leg path = leg_in path (length path - 1)
 
 -- the empty path means that passengers are not carried
 abbrev pub is_carried : List (Leg × Cabin) → Bool
 is_carried [] = false
 is_carried (pair ∷ path) = true
-
--- ---- what a reservation booked
-
-abbrev pub booked_path : Situation → ℕ → List (Leg × Cabin)
-booked_path I r = (res_at I r).path
-
--- where its first leg leaves, and its last leg arrives
-unfoldable pub origin_of : Situation → ℕ → ℕ
-origin_of I r = (leg_at I (first_leg (booked_path I r))).origin.0
-
-unfoldable pub dest_of : Situation → ℕ → ℕ
-dest_of I r = (leg_at I (last_leg (booked_path I r))).dest.0
-
--- the scheduled departure of its first leg, and the scheduled arrival of its last
-unfoldable pub booked_departure : Situation → ℕ → ℕ
-booked_departure I r = (leg_at I (first_leg (booked_path I r))).sched.0
-
-unfoldable pub booked_arrival : Situation → ℕ → ℕ
-booked_arrival I r = (leg_at I (last_leg (booked_path I r))).sched.0 + (leg_at I (last_leg (booked_path I r))).block
-
--- the higher of two hauls, and the highest of the legs of a path
-abbrev pub higher_haul : Haul → Haul → Haul
-higher_haul a b = if nat_lt (haul_rank a) (haul_rank b) then b else a
-
-unfoldable pub highest_haul : Situation → List (Leg × Cabin) → Haul
-highest_haul I [] = haul.D
-highest_haul I (pair ∷ path) = higher_haul (leg_at I pair.0.0).haul (highest_haul I path)
-
--- the higher of two cabins, and the highest of a path: first is above business, and business above economy
-abbrev pub higher_cabin : Cabin → Cabin → Cabin
-higher_cabin a b = if nat_lt (cabin_rank b) (cabin_rank a) then b else a
-
-unfoldable pub highest_cabin : List (Leg × Cabin) → Cabin
-highest_cabin [] = cabin.E
-highest_cabin (pair ∷ path) = higher_cabin pair.1 (highest_cabin path)
-
--- the haul and the reference cabin of a reservation are the highest that it booked
-unfoldable pub haul_of : Situation → ℕ → Haul
-haul_of I r = highest_haul I (booked_path I r)
-
-unfoldable pub reference_of : Situation → ℕ → Cabin
-reference_of I r = highest_cabin (booked_path I r)
 
 -- ---- seats
 

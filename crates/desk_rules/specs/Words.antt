@@ -25,7 +25,9 @@ use Rattle.desk_data.specs.PlanRows.{PlanRows, row_at, groups_at}
 use Rattle.desk_rules.specs.Rotations.{dep, arr, ground}
 use Rattle.desk_rules.specs.Maintenance.{minutes_before}
 use Rattle.desk_rules.specs.Slots.{departures, arrivals}
-use Rattle.desk_rules.specs.Passengers.{no_pair, aboard, seats_in, leg_in, first_leg, last_leg, booked_path, origin_of, dest_of, booked_departure, booked_arrival, haul_of, arrival_of}
+use Rattle.desk_data.specs.Paths.{no_pair, leg_in, first_leg, last_leg}
+use Rattle.desk_data.specs.Booked.{booked_path, origin_of, dest_of, booked_departure, booked_arrival, haul_of}
+use Rattle.desk_rules.specs.Passengers.{aboard, seats_in, arrival_of}
 use Rattle.desk_rules.specs.Least.{items, all_hours}
 
 -- aircraft p flies leg x, departing at d

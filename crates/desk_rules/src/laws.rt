@@ -13,7 +13,8 @@ ghost use Rattle.desk_rules.specs.Cost.{cost};
 ghost use Rattle.desk_rules.specs.Least.{all_hours, items, least, least_rot, least_slots, least_pax};
 ghost use Rattle.desk_rules.specs.Maintenance.{departs_before};
 ghost use Rattle.desk_rules.specs.Slots.{arrives_in, departs_in};
-ghost use Rattle.desk_rules.specs.Passengers.{booked_path, haul_of, reference_of, takes};
+ghost use Rattle.desk_data.specs.Booked.{booked_path, haul_of, reference_of};
+ghost use Rattle.desk_rules.specs.Passengers.{takes};
 ghost use Rattle.desk_rules.specs.Words.{ArrivesIn, DepartsBefore, DepartsIn, HasLeg, IsFeasible, IsHighestCabin, IsHighestHaul, IsLeast};
 ghost use Rattle.desk_rules.specs.Order.{IsToldBefore};
 

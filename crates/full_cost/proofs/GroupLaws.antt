@@ -16,7 +16,7 @@ use Rattle.desk_rules.specs.Passengers.{is_carried, all_flown, minutes_late}
 use Rattle.desk_rules.specs.Cost.{delay, cancellation, downgrade, legal, legal_late, legal_uncarried}
 use Rattle.desk_rules.proofs.CostLaws.{delay_most, item_most, downgrade_most, legal_most, IsAtMost, count-le, delay-le, cancellation-le, downgrade-le, legal-le, reservation-le, reservations-le as all-le}
 use Rattle.full_cost.specs.Counted.{IsGroupOf}
-use Rattle.full_cost.specs.Amounts.{delayed, cancelled, group_cost, reservation_cost}
+use Rattle.full_cost.specs.Amounts.{delay_late, cancellation_uncarried, group_cost, reservation_cost}
 
 -- ---- the cases
 
@@ -25,7 +25,7 @@ uncarried : (path : List (Leg × Cabin)) → is_carried path ≡ false → path 
 uncarried [] h = refl
 uncarried (pair ∷ path) h = absurd cc
 
-pub uncarried_is : (I : Situation) (P : PlanRows) (r : ℕ) (group : Group) → is_carried group.path ≡ false → group_cost I P r group ≡ cancelled I r group.count + legal_uncarried I r group.count
+pub uncarried_is : (I : Situation) (P : PlanRows) (r : ℕ) (group : Group) → is_carried group.path ≡ false → group_cost I P r group ≡ cancellation_uncarried I r group.count + legal_uncarried I r group.count
 unfolding group_cost delay cancellation legal
 uncarried_is I P r group left = rw (uncarried group.path left) (omega arith)
 
@@ -33,7 +33,7 @@ pub stopped_is : (I : Situation) (P : PlanRows) (r : ℕ) (group : Group) → is
 unfolding group_cost delay cancellation legal
 stopped_is I P r group carried stopped = rw (carried, stopped) (omega arith)
 
-pub arrived_is : (I : Situation) (P : PlanRows) (r : ℕ) (group : Group) → is_carried group.path ≡ true → all_flown P group.path ≡ true → group_cost I P r group ≡ downgrade I r group + delayed I r (minutes_late I P r group.path) group.count + legal_late I r (minutes_late I P r group.path) group.count
+pub arrived_is : (I : Situation) (P : PlanRows) (r : ℕ) (group : Group) → is_carried group.path ≡ true → all_flown P group.path ≡ true → group_cost I P r group ≡ downgrade I r group + delay_late I r (minutes_late I P r group.path) group.count + legal_late I r (minutes_late I P r group.path) group.count
 unfolding group_cost delay cancellation legal
 arrived_is I P r group carried flown = rw (carried, flown) (omega arith)
 

@@ -20,7 +20,7 @@ use Rattle.desk_rules.specs.Rotations.{comes_before, dep, precedes}
 use Rattle.desk_rules.specs.Maintenance.{is_flown_by, flies, departs_before, is_last_before, is_left_at}
 use Rattle.desk_rules.specs.Cost.{is_wanted, ends_at, at_hand}
 use Rattle.desk_rules.proofs.Tests.{each_below-holds, each_below-from, none_below-holds, none_below-from, implies-holds, implies-from}
-use Rattle.full_cost.specs.Stands.{IsLast, IsLastOf, AreLasts, left_by, stand, is_there, AreStands, ending, AreHere, wanted}
+use Rattle.full_cost.specs.Stands.{IsLast, IsLastOf, AreLasts, airport_after, stand, is_there, AreStands, planes_ending_at, AreHere, count_of_wanted}
 
 not_both : (b : Bool) → b ≡ true → b ≡ false → ⊥
 not_both b t f = true≢false (sym t ∙ f)
@@ -146,7 +146,7 @@ last_asked I P p at x test h =
     (λ met. each_below-from (legs_of I) (λ z. implies (is_last_before I P p at z) (test z)) (λ z lt.
     implies-from (is_last_before I P p at z) (test z) (λ last. subst (λ (k : ℕ). test k ≡ true) (only_last I P p at x z h lt last) met)))
 
-left_asked : (I : Situation) (P : PlanRows) (p at airport : ℕ) (last : Option Leg) → IsLastOf P p at (legs_of I) last → is_left_at I P p at airport ≡ eqb (left_by I p last).0 airport
+left_asked : (I : Situation) (P : PlanRows) (p at airport : ℕ) (last : Option Leg) → IsLastOf P p at (legs_of I) last → is_left_at I P p at airport ≡ eqb (airport_after I p last).0 airport
 left_asked I P p at airport None h =
     let none : none_below (legs_of I) (departs_before P p at) ≡ true = none_below-from (legs_of I) (departs_before P p at) (λ x lt before. not_both (departs_before P p at x) before (h x lt)) in
     let no_last : each_below (legs_of I) (λ x. implies (is_last_before I P p at x) (eqb (leg_at I x).dest.0 airport)) ≡ true =
@@ -168,7 +168,7 @@ stand_if false there airport = refl
 pub stand_is : (I : Situation) (P : PlanRows) (p airport : ℕ) (lasts : List (Option Leg)) → AreLasts I P (legs_of I) lasts → p < planes_of I → is_there (stand I p (get_or lasts p None)) airport ≡ ends_at I P p airport
 stand_is I P p airport lasts h lt =
     let last = get_or lasts p None in
-    stand_if (plane_at I p).surface (left_by I p last) airport
+    stand_if (plane_at I p).surface (airport_after I p last) airport
     ∙ ap (λ (b : Bool). not (plane_at I p).surface && b) (sym (left_asked I P p I.parts.to.0 airport last (h.each p lt)))
 
 -- ---- the aircraft that end at an airport, and those that a position wants
@@ -177,8 +177,8 @@ below : (most n : ℕ) → n ≤ most → All (λ k. k < most) (numbers n)
 below most zero within = All-nil (λ k. k < most)
 below most (suc n) within = All-push (λ k. k < most) (numbers n) n (below most n (omega arith)) (omega arith)
 
-ending_below : (stands : List (Option Airport)) (airport n : ℕ) → All (λ p. p < n) (ending stands airport n)
-ending_below stands airport n = All-filter (λ p. is_there (get_or stands p None) airport) (λ p. p < n) (numbers n) (below n n (omega arith))
+planes_ending_at-below : (stands : List (Option Airport)) (airport n : ℕ) → All (λ p. p < n) (planes_ending_at stands airport n)
+planes_ending_at-below stands airport n = All-filter (λ p. is_there (get_or stands p None) airport) (λ p. p < n) (numbers n) (below n n (omega arith))
 
 -- the aircraft that are at hand
 abbrev is_at_hand : Situation → PlanRows → PositionInfo → ℕ → Bool
@@ -195,22 +195,22 @@ one_filter : (test : ℕ → Bool) (n : ℕ) → filter test (numbers (suc n)) �
 one_filter test n = filter-append test (numbers n) (n ∷ [])
 
 -- those that a position wants among those that end there are those at hand
-wanted_here : (I : Situation) (P : PlanRows) (stands : List (Option Airport)) (position : PositionInfo) → AreStands I P stands → (n : ℕ) → n ≤ planes_of I → filter (λ p. is_wanted position (plane_at I p)) (ending stands position.airport.0 n) ≡ filter (is_at_hand I P position) (numbers n)
+wanted_here : (I : Situation) (P : PlanRows) (stands : List (Option Airport)) (position : PositionInfo) → AreStands I P stands → (n : ℕ) → n ≤ planes_of I → filter (λ p. is_wanted position (plane_at I p)) (planes_ending_at stands position.airport.0 n) ≡ filter (is_at_hand I P position) (numbers n)
 wanted_here I P stands position h zero within = refl
 wanted_here I P stands position h (suc n) within =
     let wants : ℕ → Bool = λ p. is_wanted position (plane_at I p) in
     let there : Bool = is_there (get_or stands n None) position.airport.0 in
     ap (filter wants) (one_filter (λ p. is_there (get_or stands p None) position.airport.0) n)
-    ∙ filter-append wants (ending stands position.airport.0 n) (cond there (n ∷ []) [])
+    ∙ filter-append wants (planes_ending_at stands position.airport.0 n) (cond there (n ∷ []) [])
     ∙ ap (λ (front : List ℕ). front ++ filter wants (cond there (n ∷ []) [])) (wanted_here I P stands position h n (omega arith))
     ∙ ap (λ (last : List ℕ). filter (is_at_hand I P position) (numbers n) ++ last) (one_more (wants n) there wants n refl)
     ∙ ap (λ (b : Bool). filter (is_at_hand I P position) (numbers n) ++ cond (wants n && b) (n ∷ []) []) (h.each n position.airport.0 (omega arith))
     ∙ sym (one_filter (is_at_hand I P position) n)
 
-pub here_at_hand : (I : Situation) (P : PlanRows) (stands : List (Option Airport)) (position : PositionInfo) (count : ℕ) (here : List ℕ) → AreStands I P stands → AreHere I stands position.airport.0 count here → wanted I position (take count here) ≡ at_hand I P position
+pub here_at_hand : (I : Situation) (P : PlanRows) (stands : List (Option Airport)) (position : PositionInfo) (count : ℕ) (here : List ℕ) → AreStands I P stands → AreHere I stands position.airport.0 count here → count_of_wanted I position (take count here) ≡ at_hand I P position
 here_at_hand I P stands position count here h gathered =
-    ap (wanted I position) gathered.each ∙ ap length (wanted_here I P stands position h (planes_of I) (omega arith))
+    ap (count_of_wanted I position) gathered.each ∙ ap length (wanted_here I P stands position h (planes_of I) (omega arith))
 
 pub here_below : (I : Situation) (stands : List (Option Airport)) (airport count : ℕ) (here : List ℕ) → AreHere I stands airport count here → All (λ p. p < planes_of I) (take count here)
 here_below I stands airport count here gathered =
-    subst (λ (planes : List ℕ). All (λ p. p < planes_of I) planes) (sym gathered.each) (ending_below stands airport (planes_of I))
+    subst (λ (planes : List ℕ). All (λ p. p < planes_of I) planes) (sym gathered.each) (planes_ending_at-below stands airport (planes_of I))

@@ -5,16 +5,16 @@ use Rattle.tariff_prices.specs.Prices.{delay_price, cancel_price}
 use Rattle.desk_data.specs.declared.row.Group.{Group}
 use Rattle.desk_data.specs.Situation.{Situation}
 use Rattle.desk_data.specs.PlanRows.{PlanRows, groups_at}
-use Rattle.desk_rules.specs.Passengers.{haul_of, reference_of}
+use Rattle.desk_data.specs.Booked.{haul_of, reference_of}
 use Rattle.desk_rules.specs.Cost.{rows_of, weight, by_hour, by_item, delay, cancellation, downgrade, legal}
 
 -- the delay of so many passengers of reservation r who arrive so many minutes late
-abbrev pub delayed : Situation → ℕ → ℕ → ℕ → ℕ
-delayed I r minutes count = by_hour (weight I term.Delay) (delay_price (rows_of I) (haul_of I r) (reference_of I r)) (count * minutes)
+abbrev pub delay_late : Situation → ℕ → ℕ → ℕ → ℕ
+delay_late I r minutes count = by_hour (weight I term.Delay) (delay_price (rows_of I) (haul_of I r) (reference_of I r)) (count * minutes)
 
 -- the cancellation of so many passengers of reservation r
-abbrev pub cancelled : Situation → ℕ → ℕ → ℕ
-cancelled I r count = by_item (weight I term.Cancellation) (cancel_price (rows_of I) (haul_of I r) (reference_of I r)) count
+abbrev pub cancellation_uncarried : Situation → ℕ → ℕ → ℕ
+cancellation_uncarried I r count = by_item (weight I term.Cancellation) (cancel_price (rows_of I) (haul_of I r) (reference_of I r)) count
 
 -- the four terms of a group, and of all groups of reservation r
 unfoldable pub group_cost : Situation → PlanRows → ℕ → Group → ℕ

@@ -27,12 +27,12 @@ pub record AreLasts (I : Situation) (P : PlanRows) (n : ℕ) (lasts : List (Opti
   pub each : (p : ℕ) → p < planes_of I → IsLastOf P p I.parts.to.0 n (slice_index_or lasts p None)
 
 -- where aircraft p stands, given its last leg: surface transport stands nowhere
-abbrev pub left_by : Situation → ℕ → Option Leg → Airport
-left_by I p None = (plane_at I p).origin
-left_by I p (Some leg) = (leg_at I leg.0).dest
+abbrev pub airport_after : Situation → ℕ → Option Leg → Airport
+airport_after I p None = (plane_at I p).origin
+airport_after I p (Some leg) = (leg_at I leg.0).dest
 
 abbrev pub stand : Situation → ℕ → Option Leg → Option Airport
-stand I p last = if (plane_at I p).surface then None else Some (left_by I p last)
+stand I p last = if (plane_at I p).surface then None else Some (airport_after I p last)
 
 -- whether that is an airport
 abbrev pub is_there : Option Airport → ℕ → Bool
@@ -45,15 +45,15 @@ pub record AreStands (I : Situation) (P : PlanRows) (stands : List (Option Airpo
   pub each : (p airport : ℕ) → p < planes_of I → is_there (slice_index_or stands p None) airport ≡ ends_at I P p airport
 
 -- those of the first n aircraft that end at an airport, in order
-abbrev pub ending : List (Option Airport) → ℕ → ℕ → List ℕ
-ending stands airport n = filter (λ p. is_there (slice_index_or stands p None) airport) (numbers n)
+abbrev pub planes_ending_at : List (Option Airport) → ℕ → ℕ → List ℕ
+planes_ending_at stands airport n = filter (λ p. is_there (slice_index_or stands p None) airport) (numbers n)
 
 -- the first of these numbers, so many, are the aircraft that end at an airport; there is room for all
 pub record AreHere (I : Situation) (stands : List (Option Airport)) (airport count : ℕ) (here : List ℕ) : Type 0 where
   pub room : length here ≡ planes_of I
   pub within : count ≤ length here
-  pub each : take count here ≡ ending stands airport (planes_of I)
+  pub each : take count here ≡ planes_ending_at stands airport (planes_of I)
 
 -- how many of some aircraft are of a position's model and seats
-abbrev pub wanted : Situation → PositionInfo → List ℕ → ℕ
-wanted I position planes = length (filter (λ p. is_wanted position (plane_at I p)) planes)
+abbrev pub count_of_wanted : Situation → PositionInfo → List ℕ → ℕ
+count_of_wanted I position planes = length (filter (λ p. is_wanted position (plane_at I p)) planes)

@@ -1,33 +1,26 @@
 //! Downgrade: legs in a cabin below the highest that was booked.
 
 ghost use Rattle.std.specs.Prelude.{◌≡◌, ◌<◌, ◌≤◌};
-ghost use Rattle.desk_data.specs.Situation.{legs_of};
+ghost use Rattle.desk_data.specs.Situation.{legs_of, reservations_of};
 ghost use Rattle.desk_rules.specs.Cost.{downgrade, downgrade_on, grains};
 ghost use Rattle.desk_units.specs.declared.tariff.Term.TheVariants as term;
 ghost use Rattle.full_cost.specs.Counted.{IsGroupOf};
-ghost use Rattle.pax_paths.specs.Booked.{IsBooked};
 ghost use Rattle.full_cost.specs.Weighed.{IsWeight};
 
-use desk_data::{Cabin, Grains, Group, Instance, Leg, Weight};
+use desk_data::{Cabin, Grains, Group, Instance, Leg, Res, Weight};
 use desk_units::per_item;
-use pax_paths::Booked;
 
 /// What the downgrades on the path of a group of a reservation cost.
-pub(crate) fn downgrade_cost(
-    inst: &Instance,
-    weight: Weight,
-    booked: Booked,
-    group: &Group,
-) -> Grains
+pub(crate) fn downgrade_cost(inst: &Instance, weight: Weight, res: Res, group: &Group) -> Grains
     requires weight { IsWeight inst.now term.Downgrade weight }
-    requires booked { IsBooked inst.now booked }
+    requires res { res.0 < reservations_of inst.now }
     requires group { IsGroupOf inst.now group.now }
-    ensures { result ≡ grains (downgrade inst.now booked.res.0 group.now) }
+    ensures { result ≡ grains (downgrade inst.now res.0 group.now) }
 {
     let _rows = inst.parts();
     let mut total = Grains(0);
     for (leg, cabin) in group.path.as_slice() {
-        total = total.plus(leg_cost(inst, weight, booked, *leg, *cabin, group.count));
+        total = total.plus(leg_cost(inst, weight, res, *leg, *cabin, group.count));
     }
     total
 }
@@ -35,20 +28,14 @@ pub(crate) fn downgrade_cost(
 /// What some passengers cost who take a leg in a cabin: nothing, unless the cabin is below the
 /// highest that they booked.
 #[tactic(auto, unfolding(desk_rules::specs::Cost::downgrade_on))]
-fn leg_cost(
-    inst: &Instance,
-    weight: Weight,
-    booked: Booked,
-    leg: Leg,
-    cabin: Cabin,
-    count: u32,
-) -> Grains
+fn leg_cost(inst: &Instance, weight: Weight, res: Res, leg: Leg, cabin: Cabin, count: u32) -> Grains
     requires weight { IsWeight inst.now term.Downgrade weight }
-    requires booked { IsBooked inst.now booked }
+    requires res { res.0 < reservations_of inst.now }
     requires leg { leg.0 < legs_of inst.now }
     requires count { count ≤ 1000 }
-    ensures { result ≡ grains (downgrade_on inst.now booked.res.0 count (leg, cabin)) }
+    ensures { result ≡ grains (downgrade_on inst.now res.0 count (leg, cabin)) }
 {
+    let booked = inst.booked(res);
     if cabin.rank() <= booked.cabin.rank() {
         return Grains(0);
     }

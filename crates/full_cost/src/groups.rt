@@ -6,7 +6,6 @@ ghost use Rattle.desk_data.specs.Valid.{IsPlanFor};
 ghost use Rattle.desk_rules.specs.Cost.{delay_cost, cancellation_cost, downgrade_cost, legal_cost, grains};
 ghost use Rattle.full_cost.specs.Amounts.{group_cost, reservation_cost};
 ghost use Rattle.full_cost.specs.Counted.{IsGroupOf};
-ghost use Rattle.pax_paths.specs.Booked.{IsBooked};
 ghost use Rattle.full_cost.specs.Weighed.{AreWeights};
 
 use crate::cancellation::cancellation_cost;
@@ -15,9 +14,9 @@ use crate::downgrade::downgrade_cost;
 use crate::legal::{late_cost, uncarried_cost};
 use crate::weights::{Weights, weights_of};
 use desk_data::{Grains, Group, Instance, Plan, Res};
-use pax_paths::{Booked, all_flown, booked_of, is_carried};
+use plan_reads::{all_flown, is_carried};
 
-/// What the passengers cost. What each reservation booked is found once.
+/// What the passengers cost.
 pub(crate) fn passengers_cost(inst: &Instance, plan: &Plan) -> Grains
     requires { IsPlanFor inst.now plan.now }
     ensures cost { result.0 ≡ delay_cost inst.now plan.now + cancellation_cost inst.now plan.now + downgrade_cost inst.now plan.now + legal_cost inst.now plan.now }
@@ -39,11 +38,10 @@ fn reservation_cost(inst: &Instance, plan: &Plan, weights: Weights, res: Res) ->
     requires res { res.0 < reservations_of inst.now }
     ensures { result ≡ grains (reservation_cost inst.now plan.now res.0) }
 {
-    let booked = booked_of(inst, res);
     let _rows = inst.parts();
     let mut total = Grains(0);
     for group in plan.groups(res) {
-        total = total.plus(group_cost(inst, plan, weights, booked, group));
+        total = total.plus(group_cost(inst, plan, weights, res, group));
     }
     total
 }
@@ -51,36 +49,30 @@ fn reservation_cost(inst: &Instance, plan: &Plan, weights: Weights, res: Res) ->
 /// What a group of a reservation costs. Those who are not carried cost their cancellation and what
 /// is owed to them. Those who are cost their downgrades and, where all their legs are flown, their
 /// delay and what is owed for it.
-fn group_cost(
-    inst: &Instance,
-    plan: &Plan,
-    weights: Weights,
-    booked: Booked,
-    group: &Group,
-) -> Grains
+fn group_cost(inst: &Instance, plan: &Plan, weights: Weights, res: Res, group: &Group) -> Grains
     requires plan { IsPlanFor inst.now plan.now }
     requires weights { AreWeights inst.now weights }
-    requires booked { IsBooked inst.now booked }
+    requires res { res.0 < reservations_of inst.now }
     requires group { IsGroupOf inst.now group.now }
-    ensures { result ≡ grains (group_cost inst.now plan.now booked.res.0 group.now) }
+    ensures { result ≡ grains (group_cost inst.now plan.now res.0 group.now) }
 {
     let _rows = inst.parts();
     let path = group.path.as_slice();
     let count = group.count;
     if !is_carried(path) {
-        return cancellation_cost(inst, weights.cancellation, booked, count).plus(uncarried_cost(
+        return cancellation_cost(inst, weights.cancellation, res, count).plus(uncarried_cost(
             inst,
             weights.legal,
-            booked,
+            res,
             count,
         ));
     }
-    let downgrades = downgrade_cost(inst, weights.downgrade, booked, group);
+    let downgrades = downgrade_cost(inst, weights.downgrade, res, group);
     if !all_flown(plan, path) {
         return downgrades;
     }
-    let minutes = minutes_late(inst, plan, booked, path);
+    let minutes = minutes_late(inst, plan, res, path);
     downgrades
-        .plus(delay_cost(inst, weights.delay, booked, minutes, count))
-        .plus(late_cost(inst, weights.legal, booked, minutes, count))
+        .plus(delay_cost(inst, weights.delay, res, minutes, count))
+        .plus(late_cost(inst, weights.legal, res, minutes, count))
 }

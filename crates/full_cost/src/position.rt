@@ -4,7 +4,7 @@ ghost use Rattle.std.specs.Prelude.{◌≡◌, ◌<◌, ◌≤◌, ◌^◌, leng
 ghost use Rattle.desk_data.specs.Situation.{planes_of};
 ghost use Rattle.desk_data.specs.Valid.{IsPlanFor};
 ghost use Rattle.desk_rules.specs.Cost.{position_cost, is_wanted, same_seats, grains};
-ghost use Rattle.full_cost.specs.Stands.{is_there, AreHere, wanted};
+ghost use Rattle.full_cost.specs.Stands.{is_there, AreHere, count_of_wanted};
 
 use crate::stands::put_stands;
 use crate::weights::weight_of;
@@ -122,7 +122,7 @@ fn gather(
 /// How many of some aircraft are of a position's model and seats.
 fn at_hand(inst: &Instance, position: &PositionInfo, here: &[u32]) -> usize
     requires { All (λ p. p < planes_of inst.now) here.now }
-    ensures { result ≡ wanted inst.now position.now here.now }
+    ensures { result ≡ count_of_wanted inst.now position.now here.now }
 {
     let mut count = 0;
     for p in here {

@@ -8,7 +8,7 @@ ghost use Rattle.desk_rules.specs.Maintenance.{flies};
 ghost use Rattle.full_cost.specs.Stands.{IsLastOf, AreLasts, AreStands, stand};
 
 use desk_data::{Airport, Instance, Leg, Minute, Plan, Plane, Row};
-use pax_paths::departure;
+use plan_reads::departure;
 
 /// Writes where each aircraft ends: its last leg that departs before the window's end arrived there,
 /// or it began there. In `lasts` it keeps these legs.

@@ -14,7 +14,7 @@ use Rattle.desk_data.specs.declared.row.Group.{Group}
 use Rattle.desk_data.specs.Situation.{Situation, legs_of, reservations_of}
 use Rattle.desk_data.specs.PlanRows.{PlanRows, groups_at}
 use Rattle.desk_rules.specs.Passengers.{seats_in, takes, aboard_of, aboard}
-use Rattle.rule_pax.specs.Taken.{no_seats, taken_in, all_of, AreTaken}
+use Rattle.rule_pax.specs.Taken.{no_seats, seats_at, all_of, AreTaken}
 
 -- ---- one more pair of a path
 
@@ -44,9 +44,9 @@ takes_known x c path k d lt stands =
     let parts = and_parts (eqb pair.0.0 x) (eqb (cabin_rank pair.1) (cabin_rank c)) this in
     sym (takes_same pair.0.0 x pair.1 c (take k path) (eqb-true pair.0.0 x parts.0) (eqb-true (cabin_rank pair.1) (cabin_rank c) parts.1)) ∙ stands)
 
-pub known_pair : (taken before : List Seats) (path : List (Leg × Cabin)) (k count : ℕ) (d : Leg × Cabin) → k < length path → takes (get_or path k d).0.0 (get_or path k d).1 (take k path) ≡ true → ((x : ℕ) (c : Cabin) → taken_in taken x c ≡ taken_in before x c + cond (takes x c (take k path)) count 0) → (x : ℕ) (c : Cabin) → taken_in taken x c ≡ taken_in before x c + cond (takes x c (take (k + 1) path)) count 0
+pub known_pair : (taken before : List Seats) (path : List (Leg × Cabin)) (k count : ℕ) (d : Leg × Cabin) → k < length path → takes (get_or path k d).0.0 (get_or path k d).1 (take k path) ≡ true → ((x : ℕ) (c : Cabin) → seats_at taken x c ≡ seats_at before x c + cond (takes x c (take k path)) count 0) → (x : ℕ) (c : Cabin) → seats_at taken x c ≡ seats_at before x c + cond (takes x c (take (k + 1) path)) count 0
 known_pair taken before path k count d lt stands h x c =
-    h x c ∙ ap (λ (b : Bool). taken_in before x c + cond b count 0) (sym (takes_known x c path k d lt stands))
+    h x c ∙ ap (λ (b : Bool). seats_at before x c + cond b count 0) (sym (takes_known x c path k d lt stands))
 
 -- a pair that did not
 or_other : (b t : Bool) → t ≡ false → (b || t) ≡ b
@@ -65,7 +65,7 @@ seated_here taken before count stood this now free is held h =
 seated_elsewhere : (taken before count : ℕ) (stood this now : Bool) → now ≡ stood → this ≡ false → taken ≡ before + cond stood count 0 → taken + cond this count 0 ≡ before + cond now count 0
 seated_elsewhere taken before count stood this now kept off h = rw (off, kept) (omega (arith, h))
 
-at_pair : (taken before : List Seats) (path : List (Leg × Cabin)) (k count : ℕ) (d : Leg × Cabin) → k < length path → takes (get_or path k d).0.0 (get_or path k d).1 (take k path) ≡ false → (c : Cabin) → taken_in taken (get_or path k d).0.0 c ≡ taken_in before (get_or path k d).0.0 c + cond (takes (get_or path k d).0.0 c (take k path)) count 0 → taken_in taken (get_or path k d).0.0 c + cond (eqb (cabin_rank (get_or path k d).1) (cabin_rank c)) count 0 ≡ taken_in before (get_or path k d).0.0 c + cond (takes (get_or path k d).0.0 c (take (k + 1) path)) count 0
+at_pair : (taken before : List Seats) (path : List (Leg × Cabin)) (k count : ℕ) (d : Leg × Cabin) → k < length path → takes (get_or path k d).0.0 (get_or path k d).1 (take k path) ≡ false → (c : Cabin) → seats_at taken (get_or path k d).0.0 c ≡ seats_at before (get_or path k d).0.0 c + cond (takes (get_or path k d).0.0 c (take k path)) count 0 → seats_at taken (get_or path k d).0.0 c + cond (eqb (cabin_rank (get_or path k d).1) (cabin_rank c)) count 0 ≡ seats_at before (get_or path k d).0.0 c + cond (takes (get_or path k d).0.0 c (take (k + 1) path)) count 0
 at_pair taken before path k count d lt new c h =
     let pair = get_or path k d in
     let x = pair.0.0 in
@@ -74,17 +74,17 @@ at_pair taken before path k count d lt new c h =
       | inl this ↦
           let free : takes x c (take k path) ≡ false = takes_same x x c pair.1 (take k path) refl (sym (eqb-true (cabin_rank pair.1) (cabin_rank c) this)) ∙ new in
           let held : takes x c (take (k + 1) path) ≡ true = more ∙ or_this (takes x c (take k path)) (is_pair x c pair) (and_from (eqb x x) (eqb (cabin_rank pair.1) (cabin_rank c)) (eq-eqb x x refl) this) in
-          seated_here (taken_in taken x c) (taken_in before x c) count (takes x c (take k path)) (eqb (cabin_rank pair.1) (cabin_rank c)) (takes x c (take (k + 1) path)) free this held h
+          seated_here (seats_at taken x c) (seats_at before x c) count (takes x c (take k path)) (eqb (cabin_rank pair.1) (cabin_rank c)) (takes x c (take (k + 1) path)) free this held h
       | inr other ↦
           let kept : takes x c (take (k + 1) path) ≡ takes x c (take k path) = more ∙ or_other (takes x c (take k path)) (is_pair x c pair) (and_right (eqb x x) (eqb (cabin_rank pair.1) (cabin_rank c)) other) in
-          seated_elsewhere (taken_in taken x c) (taken_in before x c) count (takes x c (take k path)) (eqb (cabin_rank pair.1) (cabin_rank c)) (takes x c (take (k + 1) path)) kept other h
+          seated_elsewhere (seats_at taken x c) (seats_at before x c) count (takes x c (take k path)) (eqb (cabin_rank pair.1) (cabin_rank c)) (takes x c (take (k + 1) path)) kept other h
     ]
 
-pub new_pair : (taken before : List Seats) (path : List (Leg × Cabin)) (k count : ℕ) (d : Leg × Cabin) (seated : Seats) → k < length path → (get_or path k d).0.0 < length taken → takes (get_or path k d).0.0 (get_or path k d).1 (take k path) ≡ false → ((c : Cabin) → seats_in seated c ≡ taken_in taken (get_or path k d).0.0 c + cond (eqb (cabin_rank (get_or path k d).1) (cabin_rank c)) count 0) → ((x : ℕ) (c : Cabin) → taken_in taken x c ≡ taken_in before x c + cond (takes x c (take k path)) count 0) → (x : ℕ) (c : Cabin) → taken_in (set taken (get_or path k d).0.0 seated) x c ≡ taken_in before x c + cond (takes x c (take (k + 1) path)) count 0
+pub new_pair : (taken before : List Seats) (path : List (Leg × Cabin)) (k count : ℕ) (d : Leg × Cabin) (seated : Seats) → k < length path → (get_or path k d).0.0 < length taken → takes (get_or path k d).0.0 (get_or path k d).1 (take k path) ≡ false → ((c : Cabin) → seats_in seated c ≡ seats_at taken (get_or path k d).0.0 c + cond (eqb (cabin_rank (get_or path k d).1) (cabin_rank c)) count 0) → ((x : ℕ) (c : Cabin) → seats_at taken x c ≡ seats_at before x c + cond (takes x c (take k path)) count 0) → (x : ℕ) (c : Cabin) → seats_at (set taken (get_or path k d).0.0 seated) x c ≡ seats_at before x c + cond (takes x c (take (k + 1) path)) count 0
 new_pair taken before path k count d seated lt within new is h x c =
     let pair = get_or path k d in
     elim (cases_eq x pair.0.0) [
-      | inl here ↦ subst (λ (y : ℕ). taken_in (set taken pair.0.0 seated) y c ≡ taken_in before y c + cond (takes y c (take (k + 1) path)) count 0) (sym here)
+      | inl here ↦ subst (λ (y : ℕ). seats_at (set taken pair.0.0 seated) y c ≡ seats_at before y c + cond (takes y c (take (k + 1) path)) count 0) (sym here)
           (ap (λ s. seats_in s c) (get_or-set_same taken pair.0.0 seated no_seats within)
           ∙ is c
           ∙ at_pair taken before path k count d lt new c (h pair.0.0 c))
@@ -92,7 +92,7 @@ new_pair taken before path k count d seated lt within new is h x c =
           let off : is_pair x c pair ≡ false = and_left (eqb pair.0.0 x) (eqb (cabin_rank pair.1) (cabin_rank c)) (ne_eqb pair.0.0 x (λ e. other (sym e))) in
           ap (λ s. seats_in s c) (get_or-set_other taken pair.0.0 x seated no_seats other)
           ∙ h x c
-          ∙ ap (λ (b : Bool). taken_in before x c + cond b count 0) (sym (takes-more x c path k d lt ∙ or_other (takes x c (take k path)) (is_pair x c pair) off))
+          ∙ ap (λ (b : Bool). seats_at before x c + cond b count 0) (sym (takes-more x c path k d lt ∙ or_other (takes x c (take k path)) (is_pair x c pair) off))
     ]
 
 -- ---- one more group
@@ -110,7 +110,7 @@ aboard-at_most x c groups = sum_by-le-sum_by (λ group. cond (takes x c group.pa
 
 -- ---- one more reservation
 
-pub seated_more : (I : Situation) (P : PlanRows) (r : ℕ) (old new : List Seats) (groups : List Group) → length new ≡ length old → groups ≡ groups_at P r → r < length P.groups → all_of groups ≤ 1000 → AreTaken I P r old → ((x : ℕ) (c : Cabin) → taken_in new x c ≡ taken_in old x c + aboard_of x c groups) → AreTaken I P (r + 1) new
+pub seated_more : (I : Situation) (P : PlanRows) (r : ℕ) (old new : List Seats) (groups : List Group) → length new ≡ length old → groups ≡ groups_at P r → r < length P.groups → all_of groups ≤ 1000 → AreTaken I P r old → ((x : ℕ) (c : Cabin) → seats_at new x c ≡ seats_at old x c + aboard_of x c groups) → AreTaken I P (r + 1) new
 seated_more I P r old new groups len same lt few h is = record {
   legs = len ∙ h.legs;
   each = λ x c. is x c

@@ -12,8 +12,8 @@ abbrev pub no_seats : Seats
 no_seats = record { f = 0; b = 0; e = 0 }
 
 -- the seats that are taken in cabin c of leg x
-abbrev pub taken_in : List Seats → ℕ → Cabin → ℕ
-taken_in taken x c = seats_in (slice_index_or taken x no_seats) c
+abbrev pub seats_at : List Seats → ℕ → Cabin → ℕ
+seats_at taken x c = seats_in (slice_index_or taken x no_seats) c
 
 -- all passengers of some groups
 abbrev pub all_of : List Group → ℕ
@@ -22,5 +22,5 @@ all_of groups = sum_by (λ group. group.count) groups
 -- the seats that the first n reservations take, in each cabin of each leg
 pub record AreTaken (I : Situation) (P : PlanRows) (n : ℕ) (taken : List Seats) : Type 0 where
   pub legs : length taken ≡ legs_of I
-  pub each : (x : ℕ) (c : Cabin) → taken_in taken x c ≡ sum_by (aboard_of x c) (take n P.groups)
-  pub few : (x : ℕ) (c : Cabin) → taken_in taken x c ≤ 1000 * n
+  pub each : (x : ℕ) (c : Cabin) → seats_at taken x c ≡ sum_by (aboard_of x c) (take n P.groups)
+  pub few : (x : ℕ) (c : Cabin) → seats_at taken x c ≤ 1000 * n

@@ -4,8 +4,8 @@ ghost use Rattle.std.specs.Prelude.{◌≡◌, IfOk};
 ghost use Rattle.desk_data.specs.Valid.{IsPlanFor};
 ghost use Rattle.desk_rules.specs.Least.{least_pax};
 
-use crate::carried::first_misled;
-use crate::seats::first_overfull;
+use crate::c12_seats::first_c12;
+use crate::carried::first_c13_to_c15;
 use desk_data::{Broken, Instance, NoMem, Plan};
 use std::alloc::Global;
 
@@ -16,8 +16,8 @@ pub fn least_pax(alloc: Global, inst: &Instance, plan: &Plan) -> Result<Option<B
     requires { IsPlanFor inst.now plan.now }
     ensures { IfOk result (λ item. item ≡ least_pax inst.now plan.now) }
 {
-    match first_overfull(alloc, inst, plan)? {
+    match first_c12(alloc, inst, plan)? {
         Some(item) => Ok(Some(item)),
-        None => Ok(first_misled(inst, plan)),
+        None => Ok(first_c13_to_c15(inst, plan)),
     }
 }

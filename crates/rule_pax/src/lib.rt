@@ -3,10 +3,12 @@
 //! linear in the legs and the groups of passengers.
 #![tactic(auto)]
 
+mod c12_seats;
+mod c13_connection;
+mod c14_arrival;
+mod c15_begun;
 mod carried;
 mod least;
-mod paths;
-mod seats;
 mod taken;
 
 pub use least::least_pax;

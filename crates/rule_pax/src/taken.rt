@@ -6,9 +6,10 @@ ghost use Rattle.desk_units.specs.declared.numbers.Cabin.{Cabin};
 ghost use Rattle.desk_data.specs.Situation.{reservations_of};
 ghost use Rattle.desk_data.specs.Valid.{IsPathOf, IsPlanFor};
 ghost use Rattle.desk_rules.specs.Passengers.{aboard_of, seats_in, takes};
-ghost use Rattle.rule_pax.specs.Taken.{AreTaken, all_of, taken_in};
+ghost use Rattle.rule_pax.specs.Taken.{AreTaken, all_of, seats_at};
 
 use desk_data::{Cabin, Group, Instance, Leg, NoMem, Plan, Res, Seats};
+use plan_reads::has_leg;
 use std::alloc::Global;
 
 /// The seats that the passengers of a plan take, by leg.
@@ -40,8 +41,8 @@ fn seat_reservation(inst: &Instance, plan: &Plan, res: Res, taken: &mut [Seats])
 /// Seats the passengers of some groups, too.
 fn seat_groups(groups: &[Group], taken: &mut [Seats])
     requires paths { All (λ group. IsPathOf (length taken.old) group.path) groups.now }
-    requires room { (x : ℕ) (c : Cabin) → taken_in taken.old x c + all_of groups.now < 2 ^ 32 }
-    ensures { (x : ℕ) (c : Cabin) → taken_in taken.new x c ≡ taken_in taken.old x c + aboard_of x c groups.now }
+    requires room { (x : ℕ) (c : Cabin) → seats_at taken.old x c + all_of groups.now < 2 ^ 32 }
+    ensures { (x : ℕ) (c : Cabin) → seats_at taken.new x c ≡ seats_at taken.old x c + aboard_of x c groups.now }
 {
     for group in groups {
         seat_path(group.path.as_slice(), group.count, taken);
@@ -51,24 +52,16 @@ fn seat_groups(groups: &[Group], taken: &mut [Seats])
 /// Seats some passengers on a path, too: once in each cabin of each leg that stands in it.
 fn seat_path(path: &[(Leg, Cabin)], count: u32, taken: &mut [Seats])
     requires legs { IsPathOf (length taken.old) path.now }
-    requires room { (x : ℕ) (c : Cabin) → taken_in taken.old x c + count < 2 ^ 32 }
-    ensures { (x : ℕ) (c : Cabin) → taken_in taken.new x c ≡ taken_in taken.old x c + (if takes x c path.now then count else 0) }
+    requires room { (x : ℕ) (c : Cabin) → seats_at taken.old x c + count < 2 ^ 32 }
+    ensures { (x : ℕ) (c : Cabin) → seats_at taken.new x c ≡ seats_at taken.old x c + (if takes x c path.now then count else 0) }
 {
     for k in 0..path.len() {
         let (leg, cabin) = path[k];
-        if !stands_in(&path[..k], leg, cabin) {
+        if !has_leg(&path[..k], leg, cabin) {
             let seats = taken[leg.0 as usize];
             taken[leg.0 as usize] = with_seated(seats, cabin, count);
         }
     }
-}
-
-/// Whether a leg stands in a path, in this cabin.
-fn stands_in(path: &[(Leg, Cabin)], leg: Leg, cabin: Cabin) -> bool
-    ensures { result ≡ takes leg.0 cabin path.now }
-{
-    path.iter()
-        .any(|pair| pair.0.0 == leg.0 && pair.1.rank() == cabin.rank())
 }
 
 /// The seats that are taken when more passengers sit in a cabin.

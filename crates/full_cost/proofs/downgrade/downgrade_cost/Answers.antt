@@ -11,7 +11,7 @@ use Rattle.full_cost.proofs.downgrade.downgrade_cost.Goals as goal
 pub plus-total-requires : goal.plus-total-requires
 plus-total-requires c =
     let I = c.args.inst.now in
-    let r = c.args.booked.res.0 in
+    let r = c.args.res.0 in
     let group = c.args.group.now in
     let i = c.loop-leg.leg-index in
     let none : Leg × Cabin = (record { 0 = 0 }, cabin.F) in

@@ -12,4 +12,4 @@ nothing_late I r count valid =
 
 pub returns-then-minutes-eq0 : goal.returns-then-minutes-eq0
 returns-then-minutes-eq0 c =
-    ap grains (sym (ap (λ minutes. legal_late c.args.inst.now c.args.booked.res.0 minutes c.args.count) c.if-minutes-eq0.true ∙ nothing_late c.args.inst.now c.args.booked.res.0 c.args.count c.parts-rows.ensures.valid))
+    ap grains (sym (ap (λ minutes. legal_late c.args.inst.now c.args.res.0 minutes c.args.count) c.if-minutes-eq0.true ∙ nothing_late c.args.inst.now c.args.res.0 c.args.count c.parts-rows.ensures.valid))

@@ -1,6 +1,6 @@
 use Rattle.std.proofs.Common.{◌≡◌, ◌≤◌, length, take}
 use Rattle.desk_data.specs.Situation.{planes_of}
-use Rattle.full_cost.specs.Stands.{ending}
+use Rattle.full_cost.specs.Stands.{planes_ending_at}
 use Rattle.full_cost.proofs.position.gather.Given as goal
 
 -- the aircraft so far that end there
@@ -8,5 +8,5 @@ abbrev pub invariant-loop-p : goal.invariant-loop-p
 invariant-loop-p l = record {
   room : length l.here ≡ planes_of l.inst;
   behind : l.count ≤ l.p;
-  each : take l.count l.here ≡ ending l.stands l.airport.0 l.p;
+  each : take l.count l.here ≡ planes_ending_at l.stands l.airport.0 l.p;
 }

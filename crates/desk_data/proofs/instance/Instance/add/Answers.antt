@@ -1,7 +1,9 @@
+use Rattle.std.proofs.Common.{◌++◌}
 use Rattle.std.specs.Arc.{arc_value}
 use Rattle.std.proofs.lemmas.List.Elements.{All-append}
 use Rattle.desk_data.specs.Situation.{Situation}
 use Rattle.desk_data.specs.Valid.{IsOrder}
+use Rattle.desk_data.proofs.BookedLemmas.{bookings-orders}
 use Rattle.desk_data.proofs.KeepsLemmas.{keeps_more}
 use Rattle.desk_data.proofs.instance.Instance.add.Goals as goal
 
@@ -18,4 +20,5 @@ invariant_of-self-2 c =
       };
       keeps = keeps_more old c.args.batch.now.orders c.self.inside.kept c.in_ok-kept.kept c.self.invariant.keeps adds;
       priced = c.self.invariant.priced;
+      booked = bookings-orders old (old.orders ++ c.args.batch.now.orders) _ c.self.invariant.booked;
     })

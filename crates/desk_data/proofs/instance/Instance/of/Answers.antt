@@ -10,4 +10,5 @@ invariant_of-result c =
       valid = record { parts = c.requires; orders = All-nil (IsOrder c.args.parts) };
       keeps = keeps_nothing c.args.parts;
       priced = rw c.in_ok-prices.ensures.ok c.in_ok-of.ensures;
+      booked = rw c.in_ok-bookings.ensures.ok c.in_ok-bookings_of.ensures;
     })
