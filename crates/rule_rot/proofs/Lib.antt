@@ -1,5 +1,5 @@
 pub mod OrderLaws
 pub mod TurnLaws
 pub mod BeforeLaws
-pub mod FindLaws
+pub mod RuleLaws
 pub mod UpkeepLaws

@@ -4,7 +4,7 @@ use Rattle.std.specs.Prelude.{Option, Some, None, if◌then◌else◌}
 use Rattle.std.specs.Option.{ForSome}
 use Rattle.std.proofs.lemmas.Bool.{cases_Bool, true≢false, and_parts, and_from}
 use Rattle.std.proofs.lemmas.Bool.Decides.{nat_tests}
-use Rattle.std.proofs.lemmas.List.{get_or_default, get_or-set_same, get_or-set_other, length-set}
+use Rattle.std.proofs.lemmas.List.{get_or-set_same, get_or-set_other, length-set}
 use Rattle.std.proofs.lemmas.List.Sums.{sum_by-append, sum_by-cons}
 use Rattle.desk_units.specs.declared.numbers.Leg.{Leg}
 use Rattle.desk_data.specs.declared.info.Maint.{Maint}
@@ -226,10 +226,3 @@ last_in I P p at (Some x) h = λ leg is.
 -- the last leg is a leg
 pub last-within : (I : Situation) (P : PlanRows) (p : ℕ) (upkeep : Upkeep) (planned : Option Maint) → IsWhole I P p upkeep planned → ForSome planned (λ maint. ForSome upkeep.last (λ leg. leg.0 < legs_of I))
 last-within I P p upkeep planned h = λ maint is. last_in I P p maint.from.0 upkeep.last (h maint is).last
-
--- what is read of aircraft p is what all legs say of it
-pub whole_at : (I : Situation) (P : PlanRows) (p : ℕ) (upkeeps : List Upkeep) (upkeep : Upkeep) → AreUpkeeps I P (legs_of I) upkeeps → p < planes_of I → upkeep ≡ get_or upkeeps p upkeep → IsWhole I P p upkeep (plane_at I p).maint
-whole_at I P p upkeeps upkeep h lt read =
-    let there : p < length upkeeps = omega (arith, h.planes) in
-    let same : get_or upkeeps p no_upkeep ≡ upkeep = get_or_default upkeeps p no_upkeep upkeep there ∙ sym read in
-    λ maint is. subst (λ (u : Upkeep). IsUpkeep I P p maint (legs_of I) u) same (h.each p lt maint is)

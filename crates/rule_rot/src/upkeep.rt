@@ -6,8 +6,8 @@ ghost use Rattle.desk_data.specs.Valid.{IsPlanFor};
 ghost use Rattle.desk_rules.specs.Maintenance.{flies};
 ghost use Rattle.rule_rot.specs.Upkeep.{AreUpkeeps, IsUpkeep, IsLastOf};
 
-use crate::ready::departure_of;
-use crate::service::meets;
+use crate::c6_ground_time::departure_of;
+use crate::c7_service::meets;
 use desk_data::{Instance, Leg, Maint, Minute, NoMem, Plan, Plane, Row};
 use std::alloc::Global;
 
