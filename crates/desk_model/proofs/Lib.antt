@@ -1,3 +1,4 @@
+pub mod ChoiceLaws
 pub mod StateLaws
 pub mod HistoryLaws
 pub mod ValidLaws

@@ -1,0 +1,49 @@
+-- Rebook: some passengers of a reservation go from one path to another.
+use Rattle.std.specs.Prelude.{ℕ, ◌+◌, ◌-◌, min, Bool, ◌==◌, if◌then◌else◌, List, [], ◌∷◌, ◌++◌, filter, sum_by}
+use Rattle.std.specs.Ordering.{is_lt, is_eq, is_gt}
+use Rattle.desk_units.specs.declared.numbers.Leg.{Leg}
+use Rattle.desk_units.specs.declared.numbers.Cabin.{Cabin}
+use Rattle.desk_data.specs.declared.row.Group.{Group}
+use Rattle.desk_data.specs.PlanRows.{PlanRows, groups_at, with_groups, path_cmp}
+
+-- the passengers of some groups
+abbrev pub passengers : List Group → ℕ
+passengers groups = sum_by (λ group. group.count) groups
+
+-- whether a group's path comes before a path, is that path, or comes behind it
+abbrev pub is_before : List (Leg × Cabin) → Group → Bool
+is_before path group = is_lt (path_cmp group.path path)
+
+abbrev pub is_on : List (Leg × Cabin) → Group → Bool
+is_on path group = is_eq (path_cmp group.path path)
+
+abbrev pub is_behind : List (Leg × Cabin) → Group → Bool
+is_behind path group = is_gt (path_cmp group.path path)
+
+-- the passengers on a path
+abbrev pub count_on : List (Leg × Cabin) → List Group → ℕ
+count_on path groups = passengers (filter (is_on path) groups)
+
+-- the group of n passengers on a path; there is none where n is 0
+abbrev pub group_of : ℕ → List (Leg × Cabin) → List Group
+group_of n path = if n == 0 then [] else (let group : Group = record { count = n; path = path } in group ∷ [])
+
+-- the groups with n passengers on a path, between the groups before it and those behind it
+abbrev pub with_count : List (Leg × Cabin) → ℕ → List Group → List Group
+with_count path n groups = filter (is_before path) groups ++ (group_of n path ++ filter (is_behind path) groups)
+
+-- n passengers leave a path, n come to a path, and both
+abbrev pub with_fewer : List (Leg × Cabin) → ℕ → List Group → List Group
+with_fewer path n groups = with_count path (count_on path groups - n) groups
+
+abbrev pub with_more : List (Leg × Cabin) → ℕ → List Group → List Group
+with_more path n groups = with_count path (count_on path groups + n) groups
+
+unfoldable pub groups_after : List (Leg × Cabin) → List (Leg × Cabin) → ℕ → List Group → List Group
+groups_after path to n groups = with_more to n (with_fewer path n groups)
+
+-- Rebook: as many passengers of reservation r as are told go from one path to another, or all that are on it where they are fewer
+unfoldable pub after_rebook : PlanRows → ℕ → List (Leg × Cabin) → List (Leg × Cabin) → ℕ → PlanRows
+after_rebook P r path to count =
+    let groups = groups_at P r in
+    with_groups P r (groups_after path to (min count (count_on path groups)) groups)
