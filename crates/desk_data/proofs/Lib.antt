@@ -1,4 +1,4 @@
 mod BegunLemmas
 mod KeepsLemmas
-mod SaidLemmas
+pub mod SaidLemmas
 mod ScheduleLemmas

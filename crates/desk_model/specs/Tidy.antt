@@ -8,21 +8,21 @@ use Rattle.desk_data.specs.PlanRows.{PlanRows, groups_at}
 use Rattle.desk_rules.specs.Numbers.{numbers}
 use Rattle.desk_rules.specs.Passengers.{is_carried}
 use Rattle.desk_rules.specs.Carriage.{is_good_path, is_in_time_path}
-use Rattle.desk_model.specs.Rebook.{passengers, group_of}
+use Rattle.desk_model.specs.Rebook.{passengers_on, group_of}
 
 -- whether a path meets C13, C14 and C15 for passengers of reservation r
 unfoldable pub is_fit_path : Situation → PlanRows → ℕ → List (Leg × Cabin) → Bool
 is_fit_path I P r path = is_good_path I P r path && is_in_time_path I P r path && bound I r (groups_at P r) path
 
--- whether a group is carried on a path that meets them
-abbrev pub stays_carried : Situation → PlanRows → ℕ → Group → Bool
-stays_carried I P r group = is_carried group.path && is_fit_path I P r group.path
+-- whether passengers of reservation r are carried on a path that meets them
+abbrev pub stays_carried : Situation → PlanRows → ℕ → List (Leg × Cabin) → Bool
+stays_carried I P r path = is_carried path && is_fit_path I P r path
 
--- the groups of reservation r: those that stay carried as they are, and everyone else not carried. The empty path comes first
+-- the groups of reservation r: everyone else not carried, then those that stay carried as they are. The empty path comes first
 unfoldable pub groups_after_tidy : Situation → PlanRows → ℕ → List Group
 groups_after_tidy I P r =
-    group_of (passengers (filter (λ group. not (stays_carried I P r group)) (groups_at P r))) []
-    ++ filter (stays_carried I P r) (groups_at P r)
+    group_of (passengers_on (λ path. not (stays_carried I P r path)) (groups_at P r)) []
+    ++ filter (λ group. stays_carried I P r group.path) (groups_at P r)
 
 -- Tidy: each reservation, its paths as they stand at the step's start
 unfoldable pub after_tidy : Situation → PlanRows → PlanRows
