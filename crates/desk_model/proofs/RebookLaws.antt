@@ -19,7 +19,7 @@ use Rattle.desk_model.specs.Rebook.{passengers_on, same_path, count_on, is_befor
 use Rattle.desk_model.proofs.PathOrder.{by_order, is_lt-holds, is_gt-holds, path_total, path_same, path_itself, path_behind, path_before, pairs_head, pairs_tail, pairs_nil, pairs_append}
 
 -- the passengers of a group, if its path passes a test
-abbrev amount : (List (Leg × Cabin) → Bool) → Group → ℕ
+abbrev pub amount : (List (Leg × Cabin) → Bool) → Group → ℕ
 amount test group = cond (test group.path) group.count 0
 
 abbrev is_on : List (Leg × Cabin) → Group → Bool
@@ -105,7 +105,7 @@ groups_after-adds test path to n groups few =
 -- ---- the groups stay in order
 
 -- one group's path comes before another's
-abbrev Ascends : Group → Group → Type 0
+abbrev pub Ascends : Group → Group → Type 0
 Ascends a b = path_cmp a.path b.path ≡ Less
 
 one_group-all : (P : Group → Type 0) (path : List (Leg × Cabin)) (n : ℕ) → ((group : Group) → group.path ≡ path → 1 ≤ group.count → P group) → All P (group_of n path)
