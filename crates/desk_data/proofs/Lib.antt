@@ -2,5 +2,5 @@ mod BegunLemmas
 mod BookedLemmas
 mod HighestLaws
 mod KeepsLemmas
-mod SaidLemmas
+pub mod SaidLemmas
 mod ScheduleLemmas

@@ -1,3 +1,9 @@
+pub mod Choices
+pub mod Push
+pub mod Swap
+pub mod Rebook
+pub mod Tidy
+pub mod Refill
 pub mod Steps
 pub mod States
 pub mod Histories

@@ -1,0 +1,106 @@
+-- Push: legs of an aircraft are placed anew, one by one, each at the first moment at which it can depart.
+-- P is the plan at the step's start, and Q the plan as it stands when a leg is placed.
+use Rattle.std.specs.Prelude.{ℕ, ◌+◌, max, Bool, true, false, ◌&&◌, not, nat_lt, ◌==◌, Option, Some, None, List, [], ◌∷◌, ◌++◌, filter, find, fold, count_by}
+use Rattle.std.specs.List.{list_any}
+use Rattle.desk_units.specs.declared.numbers.Leg.{Leg}
+use Rattle.desk_data.specs.declared.row.Row.TheVariants.{Flown}
+use Rattle.desk_data.specs.declared.info.Maint.{Maint}
+use Rattle.desk_data.specs.Situation.{Situation, legs_of, leg_at, plane_at, fixed, earliest, latest, spans}
+use Rattle.desk_data.specs.Hours.{dep_cap, arr_cap}
+use Rattle.desk_data.specs.PlanRows.{PlanRows, row_at, with_row}
+use Rattle.desk_rules.specs.Numbers.{numbers}
+use Rattle.desk_rules.specs.Rotations.{dep, arr, precedes, follows, ground}
+use Rattle.desk_rules.specs.Rules.{meets_span}
+use Rattle.desk_rules.specs.Maintenance.{flies}
+use Rattle.desk_rules.specs.Slots.{hour_of}
+use Rattle.desk_rules.specs.Passengers.{is_flown}
+use Rattle.desk_model.specs.Choices.{first_within}
+
+-- ---- which legs are placed, and in which order
+
+-- some legs with leg x among them, between those that come before it and those that it comes before
+abbrev pub with_leg : PlanRows → List ℕ → ℕ → List ℕ
+with_leg P legs x = filter (λ y. precedes P y x) legs ++ x ∷ filter (λ y. precedes P x y) legs
+
+-- the legs of aircraft p in their order
+unfoldable pub rotation : Situation → PlanRows → ℕ → List ℕ
+rotation I P p = fold (with_leg P) [] (filter (flies P p) (numbers (legs_of I)))
+
+-- whether leg x comes behind the leg `after` on its aircraft; where none is named, each leg does
+abbrev pub comes_behind : PlanRows → Option Leg → ℕ → Bool
+comes_behind P None x = true
+comes_behind P (Some leg) x = precedes P leg.0 x
+
+-- the legs that are placed: the movable legs of aircraft p behind the leg `after`, in their order. None is behind a leg that the aircraft does not fly
+unfoldable pub pushed_legs : Situation → PlanRows → ℕ → Option Leg → List ℕ
+pushed_legs I P p after = filter (λ x. not (fixed I x) && comes_behind P after x) (rotation I P p)
+
+-- ---- from when on
+
+-- the leg before leg x on its aircraft
+abbrev pub leg_before : Situation → PlanRows → ℕ → Option ℕ
+leg_before I P x = find (λ w. follows I P w x) (numbers (legs_of I))
+
+-- when aircraft p is ready for leg x: once the leg before it has arrived and the ground time is over; from the start where there is none
+abbrev pub ready_after : Situation → PlanRows → ℕ → ℕ → Option ℕ → ℕ
+ready_after I Q p x None = 0
+ready_after I Q p x (Some w) = arr I Q w + ground I p w x
+
+-- ---- whether leg x of aircraft p can depart at moment t
+
+-- whether a leg from one moment to another meets a maintenance
+abbrev pub meets_maintenance : ℕ → ℕ → Option Maint → Bool
+meets_maintenance departs arrives None = false
+meets_maintenance departs arrives (Some maint) = meets_span departs arrives maint.from maint.to
+
+-- the aircraft is in service then, and not at its maintenance
+unfoldable pub is_free : Situation → ℕ → ℕ → ℕ → Bool
+is_free I p x t =
+    let arrives = t + (leg_at I x).block in
+    not (list_any (λ span. meets_span t arrives span.0 span.1) (spans I p)) && not (meets_maintenance t arrives (plane_at I p).maint)
+
+-- whether leg y is another leg than x, is flown, and is by its scheduled aircraft no surface transport
+abbrev pub is_beside : Situation → PlanRows → ℕ → ℕ → Bool
+is_beside I Q x y = not (y == x) && is_flown (row_at Q y) && not (plane_at I (leg_at I y).plane.0).surface
+
+-- how many such legs depart from airport a in hour h, and how many arrive there then
+abbrev pub departures_beside : Situation → PlanRows → ℕ → ℕ → ℕ → ℕ
+departures_beside I Q x a h = count_by (λ y. is_beside I Q x y && ((leg_at I y).origin.0 == a) && (hour_of (dep Q y) == h)) (numbers (legs_of I))
+
+abbrev pub arrivals_beside : Situation → PlanRows → ℕ → ℕ → ℕ → ℕ
+arrivals_beside I Q x a h = count_by (λ y. is_beside I Q x y && ((leg_at I y).dest.0 == a) && (hour_of (arr I Q y) == h)) (numbers (legs_of I))
+
+-- fewer than the cap; an hour without a cap always has room
+abbrev pub is_below : ℕ → Option ℕ → Bool
+is_below count None = true
+is_below count (Some cap) = nat_lt count cap
+
+-- its origin has room for one more departure in the hour of t, and its destination for one more arrival in the hour in which it arrives
+unfoldable pub has_slots : Situation → PlanRows → ℕ → ℕ → Bool
+has_slots I Q x t =
+    let leg = leg_at I x in
+    let leaves = hour_of t in
+    let lands = hour_of (t + leg.block) in
+    is_below (departures_beside I Q x leg.origin.0 leaves) (dep_cap I leg.origin.0 leaves)
+    && is_below (arrivals_beside I Q x leg.dest.0 lands) (arr_cap I leg.dest.0 lands)
+
+abbrev pub can_depart : Situation → PlanRows → ℕ → ℕ → ℕ → Bool
+can_depart I Q p x t = is_free I p x t && has_slots I Q x t
+
+-- ---- the step
+
+-- the first moment at which leg x can depart: not before the aircraft is ready nor before its earliest departure, and not after its latest
+unfoldable pub first_departure : Situation → PlanRows → PlanRows → ℕ → ℕ → Option ℕ
+first_departure I P Q p x = first_within (max (ready_after I Q p x (leg_before I P x)) (earliest I x)) (latest I x) (can_depart I Q p x)
+
+-- leg x departs at that moment; where there is none its row stays
+abbrev pub with_departure : PlanRows → ℕ → ℕ → Option ℕ → PlanRows
+with_departure Q p x None = Q
+with_departure Q p x (Some t) = with_row Q x (Flown (record { 0 = p }) (record { 0 = t }))
+
+abbrev pub place_leg : Situation → PlanRows → ℕ → PlanRows → ℕ → PlanRows
+place_leg I P p Q x = with_departure Q p x (first_departure I P Q p x)
+
+-- Push: the legs are placed one after another, each in the plan as the legs before it left it
+unfoldable pub after_push : Situation → PlanRows → ℕ → Option Leg → PlanRows
+after_push I P p after = fold (place_leg I P p) P (pushed_legs I P p after)

@@ -1,0 +1,42 @@
+-- Refill: passengers who are not carried go back to their scheduled path, as far as it has seats.
+use Rattle.std.specs.Prelude.{ℕ, ◌+◌, Bool, ◌&&◌, nat_le, ◌==◌, if◌then◌else◌, List, [], fold}
+use Rattle.std.specs.List.{list_all, list_any}
+use Rattle.desk_units.specs.declared.numbers.Leg.{Leg}
+use Rattle.desk_units.specs.declared.numbers.Cabin.{Cabin}
+use Rattle.desk_data.specs.declared.row.Row.{Row}
+use Rattle.desk_data.specs.declared.row.Row.TheVariants.{Flown, Cancelled}
+use Rattle.desk_data.specs.Situation.{Situation, reservations_of, plane_at}
+use Rattle.desk_data.specs.PlanRows.{PlanRows, row_at, groups_at}
+use Rattle.desk_rules.specs.Numbers.{numbers}
+use Rattle.desk_rules.specs.Passengers.{aboard, seats_in, booked_path}
+use Rattle.desk_model.specs.Choices.{greatest_within}
+use Rattle.desk_model.specs.Rebook.{count_on, after_rebook}
+use Rattle.desk_model.specs.Tidy.{is_fit_path}
+
+-- the seats of a row in a cabin; a cancelled leg has none
+abbrev pub seats_of : Situation → Cabin → Row → ℕ
+seats_of I c (Flown plane dep) = seats_in (plane_at I plane.0).seats c
+seats_of I c Cancelled = 0
+
+-- whether each leg of a path has seats left for n more passengers in its cabin
+unfoldable pub has_seats_for : Situation → PlanRows → List (Leg × Cabin) → ℕ → Bool
+has_seats_for I P path n = list_all (λ pair. nat_le (aboard P pair.0.0 pair.1 + n) (seats_of I pair.1 (row_at P pair.0.0))) path
+
+-- whether a path has leg x
+abbrev pub has_leg : ℕ → List (Leg × Cabin) → Bool
+has_leg x path = list_any (λ pair. pair.0.0 == x) path
+
+-- how many of reservation r's passengers who are not carried go to its scheduled path: as many as its legs have seats for
+unfoldable pub refill_count : Situation → PlanRows → ℕ → ℕ
+refill_count I P r = greatest_within (count_on [] (groups_at P r)) (has_seats_for I P (booked_path I r))
+
+-- whether reservation r is refilled: its scheduled path has leg x, and meets C13, C14 and C15
+abbrev pub is_refilled : Situation → PlanRows → ℕ → ℕ → Bool
+is_refilled I P x r = has_leg x (booked_path I r) && is_fit_path I P r (booked_path I r)
+
+abbrev pub refill_res : Situation → ℕ → PlanRows → ℕ → PlanRows
+refill_res I x P r = if is_refilled I P x r then after_rebook P r [] (booked_path I r) (refill_count I P r) else P
+
+-- Refill: one reservation after another, in ascending order, each in the plan as those before it left it
+unfoldable pub after_refill : Situation → PlanRows → ℕ → PlanRows
+after_refill I P x = fold (refill_res I x) P (numbers (reservations_of I))
