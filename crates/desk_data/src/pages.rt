@@ -1,0 +1,132 @@
+//! Pages: a plan that can be shared.
+
+ghost use Rattle.std.specs.Prelude.{◌≡◌, ◌+◌, ◌<◌, length, IfOk, OnOk, OnErr};
+ghost use Rattle.desk_data.specs.PlanRows.{IsRow, AreGroups, IsSound, row_at, groups_at, with_row, with_groups};
+
+use crate::plan::Plan;
+use crate::row::{Group, Row};
+use desk_units::{Leg, NoMem, Res, Steps};
+use std::alloc::Global;
+use std::marker::Model;
+use std::sync::ledger::Ledger;
+
+/// A plan whose pages can be shared. Contracts see it as its rows and its groups, as a `Plan`. A
+/// change of one of two that share pages leaves the other as it was. Now it holds one plan, and to
+/// share is to copy.
+#[derive(Debug, Drop)]
+pub struct Pages {
+    plan: Plan,
+}
+
+impl Model for Pages {
+    ghost use Rattle.desk_data.specs.PlanRows.{PlanRows};
+
+    ghost Value = { PlanRows };
+
+    ghost view = { λ p. p.plan };
+}
+
+impl Pages {
+    /// The pages of an equal plan.
+    pub fn of(alloc: Global, plan: &Plan) -> Result<Pages, NoMem>
+        ensures { IfOk result (λ pages. pages ≡ plan.now) }
+    {
+        let plan = plan.copy(alloc)?;
+        Ok(Pages { plan })
+    }
+
+    /// Equal pages, which may be the same ones in memory.
+    pub fn share(&self, alloc: Global) -> Result<Pages, NoMem>
+        ensures { IfOk result (λ shared. shared ≡ self.now) }
+    {
+        let plan = self.plan.copy(alloc)?;
+        Ok(Pages { plan })
+    }
+
+    /// An equal plan.
+    pub fn to_plan(&self, alloc: Global) -> Result<Plan, NoMem>
+        ensures { IfOk result (λ plan. plan ≡ self.now) }
+    {
+        self.plan.copy(alloc)
+    }
+
+    /// The plan itself, for what reads a `Plan`.
+    pub fn plan(&self) -> &Plan
+        ensures { result.now ≡ self.now }
+    {
+        &self.plan
+    }
+
+    /// The row of a leg. Counts one step.
+    pub fn row<L: Ledger>(&self, leg: Leg, steps: &mut Steps<L>) -> Row
+        requires { leg.0 < length self.now.rows }
+        ensures row { result ≡ row_at self.now leg.0 }
+        ensures departs { IsRow result }
+        ensures steps { steps.new ≡ steps.old + 1 }
+    {
+        self.plan.row(leg, steps)
+    }
+
+    /// The row of a leg, for code that counts no steps.
+    pub fn read_row(&self, leg: Leg) -> Row
+        requires { leg.0 < length self.now.rows }
+        ensures row { result ≡ row_at self.now leg.0 }
+        ensures departs { IsRow result }
+    {
+        self.plan.read_row(leg)
+    }
+
+    /// The groups of a reservation, ascending by path.
+    pub fn groups(&self, res: Res) -> &[Group]
+        requires { res.0 < length self.now.groups }
+        ensures groups { result.now ≡ groups_at self.now res.0 }
+        ensures sound { AreGroups result.now }
+    {
+        self.plan.groups(res)
+    }
+
+    /// Gives a leg another row. All else stays. After an error nothing has changed.
+    pub fn replace_row(&mut self, _alloc: Global, leg: Leg, row: Row) -> Result<(), NoMem>
+        requires leg { leg.0 < length self.old.rows }
+        requires row { IsRow row }
+        ensures ok { OnOk result (self.new ≡ with_row self.old leg.0 row) }
+        ensures err { OnErr result (self.new ≡ self.old) }
+    {
+        self.plan.put_row(leg, row);
+        Ok(())
+    }
+
+    /// Gives a reservation other groups. All else stays. After an error nothing has changed.
+    pub fn replace_groups(
+        &mut self,
+        _alloc: Global,
+        res: Res,
+        groups: Vec<Group>,
+    ) -> Result<(), NoMem>
+        requires res { res.0 < length self.old.groups }
+        requires groups { AreGroups groups.items }
+        ensures ok { OnOk result (self.new ≡ with_groups self.old res.0 groups.items) }
+        ensures err { OnErr result (self.new ≡ self.old) }
+    {
+        self.plan.put_groups(res, groups);
+        Ok(())
+    }
+
+    /// Gives a leg back the row of before, which takes no memory. All else stays.
+    pub fn put_back_row(&mut self, leg: Leg, row: Row)
+        requires leg { leg.0 < length self.old.rows }
+        requires row { IsRow row }
+        ensures { self.new ≡ with_row self.old leg.0 row }
+    {
+        self.plan.put_row(leg, row);
+    }
+
+    /// Gives a reservation back the groups of before, which takes no memory. All else stays.
+    pub fn put_back_groups(&mut self, res: Res, groups: Vec<Group>)
+        requires res { res.0 < length self.old.groups }
+        requires groups { AreGroups groups.items }
+        ensures { self.new ≡ with_groups self.old res.0 groups.items }
+    {
+        self.plan.put_groups(res, groups);
+    }
+}
