@@ -1,2 +1,4 @@
 pub mod Frames
 pub mod PutLemmas
+pub mod Among
+pub mod PutAll
