@@ -44,7 +44,7 @@ fn connection<P: ReadPlan>(inst: &Instance, plan: &P, leg: Leg, next: Leg) -> u3
     ensures time { result ≡ connection inst.now (P.plan_of plan.now) leg.0 next.0 }
     ensures limit { result ≤ 30 }
 {
-    if inst.leg(next).prev == Some(leg) && share_plane(plan.row(leg), plan.row(next)) {
+    if inst.leg(next).prev == Some(leg) && share_plane(plan.read_row(leg), plan.read_row(next)) {
         0
     } else {
         30

@@ -14,7 +14,7 @@ pub fn departure<P: ReadPlan>(plan: &P, leg: Leg) -> u32
     ensures departure { result ≡ dep (P.plan_of plan.now) leg.0 }
     ensures limit { result < 52500000 }
 {
-    match plan.row(leg) {
+    match plan.read_row(leg) {
         Row::Flown { dep, .. } => dep.0,
         Row::Cancelled => 0,
     }

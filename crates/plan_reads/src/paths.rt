@@ -29,7 +29,7 @@ pub fn all_flown<P: ReadPlan>(plan: &P, path: &[(Leg, Cabin)]) -> bool
     requires { IsPathOf (length (P.plan_of plan.now).rows) path.now }
     ensures { result ≡ all_flown (P.plan_of plan.now) path.now }
 {
-    path.iter().all(|pair| is_flown(plan.row(pair.0)))
+    path.iter().all(|pair| is_flown(plan.read_row(pair.0)))
 }
 
 fn is_flown(row: Row) -> bool

@@ -11,7 +11,7 @@ pub trait ReadPlan {
     ghost plan_of: { Self → PlanRows };
 
     /// The row of a leg.
-    fn row(&self, leg: Leg) -> Row
+    fn read_row(&self, leg: Leg) -> Row
         requires { leg.0 < length (plan_of self.now).rows }
         ensures row { result ≡ row_at (plan_of self.now) leg.0 }
         ensures departs { IsRow result };
@@ -26,8 +26,8 @@ pub trait ReadPlan {
 impl ReadPlan for Plan {
     ghost plan_of = { λ plan. plan };
 
-    fn row(&self, leg: Leg) -> Row {
-        self.read_row(leg)
+    fn read_row(&self, leg: Leg) -> Row {
+        Plan::read_row(self, leg)
     }
 
     fn groups(&self, res: Res) -> &[Group] {
