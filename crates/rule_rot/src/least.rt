@@ -1,21 +1,18 @@
 //! The first item that a plan breaks.
 
 ghost use Rattle.std.specs.Prelude.{◌≡◌, find, IfOk};
+ghost use Rattle.std.specs.List.{flat_map};
+ghost use Rattle.desk_data.specs.Situation.{legs_of};
 ghost use Rattle.desk_data.specs.Valid.{IsPlanFor};
 ghost use Rattle.desk_rules.specs.Least.{breaks, least_rot};
-ghost use Rattle.rule_rot.specs.Before.{AreBefore};
-ghost use Rattle.rule_rot.specs.Items.{leg_items};
+ghost use Rattle.plan_rotations.specs.Before.{AreBefore};
+ghost use Rattle.rule_rot.specs.Items.{items_of};
+ghost use Rattle.rule_rot.specs.Upkeep.{AreUpkeeps};
 
-use crate::due::first_undue;
-use crate::family::first_of_other_family;
-use crate::in_time::first_untimely;
-use crate::maintenance::first_by_plane;
-use crate::order::legs_before;
-use crate::reach::first_too_far;
-use crate::ready::first_unready;
-use crate::service::first_out_of_service;
-use crate::stands::first_misplaced;
+use crate::rule::{Rule, first_broken};
+use crate::upkeep::{Upkeep, upkeeps_of};
 use desk_data::{Broken, Instance, Leg, NoMem, Plan};
+use plan_rotations::legs_before;
 use std::alloc::Global;
 
 /// The first item of C1 to C9 that the plan breaks, by rule and then by leg or aircraft, or `None`
@@ -30,35 +27,39 @@ pub fn least_rot(alloc: Global, inst: &Instance, plan: &Plan) -> Result<Option<B
     // a plan has a row for each leg, and there are at most 20,000
     prove!(plan.rows().len() == inst.legs() as usize);
     let before = legs_before(alloc, plan.rows())?;
-    if let Some(item) = first_by_leg(inst, plan, before.as_slice()) {
-        return Ok(Some(item));
-    }
-    first_by_plane(alloc, inst, plan)
+    let upkeeps = upkeeps_of(alloc, inst, plan)?;
+    let rules = [
+        Rule::C1Due,
+        Rule::C2InTime,
+        Rule::C3Family,
+        Rule::C4Reach,
+        Rule::C5Location,
+        Rule::C6GroundTime,
+        Rule::C7Service,
+        Rule::C8Maintenance,
+        Rule::C9Minutes,
+    ];
+    Ok(first_of_rules(&rules, inst, plan, before.as_slice(), upkeeps.as_slice()))
 }
 
-/// The first item of C1 to C7 that the plan breaks, given the leg before each leg on its aircraft.
-fn first_by_leg(inst: &Instance, plan: &Plan, before: &[Option<Leg>]) -> Option<Broken>
+/// The first item of these rules that the plan breaks, given the leg before each leg on its
+/// aircraft, and what the legs say of each aircraft's maintenance.
+fn first_of_rules(
+    rules: &[Rule],
+    inst: &Instance,
+    plan: &Plan,
+    before: &[Option<Leg>],
+    upkeeps: &[Upkeep],
+) -> Option<Broken>
     requires plan { IsPlanFor inst.now plan.now }
     requires before { AreBefore plan.now.rows before.now }
-    ensures { result ≡ find (breaks inst.now plan.now) (leg_items inst.now) }
+    requires upkeeps { AreUpkeeps inst.now plan.now (legs_of inst.now) upkeeps.now }
+    ensures { result ≡ find (breaks inst.now plan.now) (flat_map (items_of inst.now) rules.now) }
 {
-    if let Some(item) = first_undue(inst, plan) {
-        return Some(item);
+    for rule in rules {
+        if let Some(item) = first_broken(*rule, inst, plan, before, upkeeps) {
+            return Some(item);
+        }
     }
-    if let Some(item) = first_untimely(inst, plan) {
-        return Some(item);
-    }
-    if let Some(item) = first_of_other_family(inst, plan) {
-        return Some(item);
-    }
-    if let Some(item) = first_too_far(inst, plan) {
-        return Some(item);
-    }
-    if let Some(item) = first_misplaced(inst, plan, before) {
-        return Some(item);
-    }
-    if let Some(item) = first_unready(inst, plan, before) {
-        return Some(item);
-    }
-    first_out_of_service(inst, plan)
+    None
 }

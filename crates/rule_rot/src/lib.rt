@@ -2,17 +2,17 @@
 //! each aircraft makes its maintenance. The time of the check is near linear in the legs.
 #![tactic(auto)]
 
-mod due;
-mod family;
-mod in_time;
+mod c1_due;
+mod c2_in_time;
+mod c3_family;
+mod c4_reach;
+mod c5_location;
+mod c6_ground_time;
+mod c7_service;
+mod c8_maintenance;
+mod c9_minutes;
 mod least;
-mod maintenance;
-mod order;
-mod reach;
-mod ready;
-mod service;
-mod stands;
+mod rule;
 mod upkeep;
 
 pub use least::least_rot;
-pub use order::legs_before;

@@ -12,7 +12,7 @@ use Rattle.desk_rules.specs.Numbers.{numbers}
 use Rattle.desk_rules.proofs.FindLaws.{numbers_none, lists_none, first_of_numbers, first_of_lists}
 use Rattle.rule_slots.specs.declared.slots.Slot.{Slot}
 use Rattle.rule_slots.specs.declared.slots.Movement.{Movement}
-use Rattle.rule_slots.specs.declared.slots.Movement.TheVariants.{Departure, Arrival}
+use Rattle.desk_data.specs.declared.broken.Broken.TheVariants.{C10, C11}
 use Rattle.rule_slots.specs.Taken.{slot_cmp, item, is_overfull, IsLeastOverfull}
 
 abbrev slot : ℕ → ℕ → Slot
@@ -41,6 +41,6 @@ least_item I P movement taken (Some s) same at =
     sym (same (slot a h)) ∙ at.least (slot a h) (lesser_airport a s.airport.0 h s.hour less)))
 
 -- the items of C10 stand before those of C11
-pub least-by_rule : (I : Situation) (P : PlanRows) → least_slots I P ≡ option_or (find (breaks I P) (each_hour I (item Departure))) (find (breaks I P) (each_hour I (item Arrival)))
+pub least-by_rule : (I : Situation) (P : PlanRows) → least_slots I P ≡ option_or (find (breaks I P) (each_hour I C10)) (find (breaks I P) (each_hour I C11))
 unfolding least_slots slot_items
-least-by_rule I P = find-append (breaks I P) (each_hour I (item Departure)) (each_hour I (item Arrival))
+least-by_rule I P = find-append (breaks I P) (each_hour I C10) (each_hour I C11)

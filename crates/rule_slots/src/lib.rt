@@ -2,8 +2,10 @@
 //! its caps. The time of the check is near linear in the legs.
 #![tactic(auto)]
 
+mod c10_departures;
+mod c11_arrivals;
 mod least;
+mod overfull;
 mod slots;
-mod walk;
 
 pub use least::least_slots;

@@ -1,4 +1,4 @@
-use Rattle.std.proofs.Common.{◌≡◌, ◌+◌, ◌*◌, ◌≤◌, not, ◌&&◌, leb, ltb, ap, ◌∙◌, arith}
+use Rattle.std.proofs.Common.{refl, ◌≡◌, ◌+◌, ◌*◌, ◌≤◌, not, ◌&&◌, leb, ltb, ap, ◌∙◌, arith}
 use Rattle.std.specs.Prelude.{if◌then◌else◌}
 use Rattle.std.proofs.lemmas.Bool.Decides.{nat_tests}
 use Rattle.desk_data.specs.Situation.{leg_at}
@@ -22,7 +22,7 @@ returns-then-is_before c =
     let free : c.if-so_far-2.result ≡ (c.args.so_far.free && not (meets_span (dep P n) (arr I P n) maint.from maint.to)) = rw (← at, ← block) (grind (arith, nat_tests)) in
     let minutes : c.args.so_far.minutes + c.leg.result.now.block ≡ c.args.so_far.minutes + (if ltb (dep P n) maint.from.0 then (leg_at I n).block else 0) = grind (arith, nat_tests) in
     let few : c.args.so_far.minutes + c.leg.result.now.block ≤ 2880 * (n + 1) = omega (arith, c.requires.so_far.few, c.leg.ensures.ranges.block) in
-    flown I P c.args.plane.0 maint n c.args.so_far _ c.requires.flies c.requires.so_far stops free c.with_last.ensures minutes few
+    flown I P c.args.plane.0 maint n c.args.so_far _ c.requires.flies c.requires.so_far stops free refl minutes few
 
 pub returns-else-is_before : goal.returns-else-is_before
 returns-else-is_before c =
@@ -36,4 +36,4 @@ returns-else-is_before c =
     let free : c.if-so_far-2.result ≡ (c.args.so_far.free && not (meets_span (dep P n) (arr I P n) maint.from maint.to)) = rw (← at, ← block) (grind (arith, nat_tests)) in
     let minutes : c.args.so_far.minutes ≡ c.args.so_far.minutes + (if ltb (dep P n) maint.from.0 then (leg_at I n).block else 0) = grind (arith, nat_tests) in
     let few : c.args.so_far.minutes ≤ 2880 * (n + 1) = omega (arith, c.requires.so_far.few) in
-    flown I P c.args.plane.0 maint n c.args.so_far _ c.requires.flies c.requires.so_far stops free c.with_last.ensures minutes few
+    flown I P c.args.plane.0 maint n c.args.so_far _ c.requires.flies c.requires.so_far stops free refl minutes few

@@ -1,9 +1,8 @@
 use Rattle.std.proofs.Common.{◌≡◌, sym, ap, ◌∙◌, subst, IfOk}
 use Rattle.std.specs.Prelude.{find}
 use Rattle.std.specs.Option.{option_or}
+use Rattle.desk_data.specs.declared.broken.Broken.TheVariants.{C11}
 use Rattle.desk_rules.specs.Least.{breaks, each_hour, least_slots}
-use Rattle.rule_slots.specs.declared.slots.Movement.TheVariants.{Arrival}
-use Rattle.rule_slots.specs.Taken.{item}
 use Rattle.rule_slots.proofs.ItemLaws.{least-by_rule}
 use Rattle.rule_slots.proofs.least.least_slots.Goals as goal
 
@@ -11,12 +10,12 @@ pub returns-in-Some : goal.returns-in-Some
 returns-in-Some c =
     let inst = c.args.inst.now in
     let plan = c.args.plan.now in
-    sym (least-by_rule inst plan ∙ ap (λ first. option_or first (find (breaks inst plan) (each_hour inst (item Arrival)))) (sym c.in_ok-item.ensures ∙ c.in-Some.is))
+    sym (least-by_rule inst plan ∙ ap (λ first. option_or first (find (breaks inst plan) (each_hour inst C11))) (sym c.in_ok-item.ensures ∙ c.in-Some.is))
 
 pub returns-in-None : goal.returns-in-None
 returns-in-None c =
     let inst = c.args.inst.now in
     let plan = c.args.plan.now in
-    let rest : least_slots inst plan ≡ find (breaks inst plan) (each_hour inst (item Arrival)) =
-    least-by_rule inst plan ∙ ap (λ first. option_or first (find (breaks inst plan) (each_hour inst (item Arrival)))) (sym c.in_ok-item.ensures ∙ c.in-None.is) in
-    subst (λ least. IfOk c.least_of_rule-in-None.result (λ item. item ≡ least)) (sym rest) c.least_of_rule-in-None.ensures
+    let rest : least_slots inst plan ≡ find (breaks inst plan) (each_hour inst C11) =
+    least-by_rule inst plan ∙ ap (λ first. option_or first (find (breaks inst plan) (each_hour inst C11))) (sym c.in_ok-item.ensures ∙ c.in-None.is) in
+    subst (λ least. IfOk c.c11_arrivals.result (λ item. item ≡ least)) (sym rest) c.c11_arrivals.ensures
