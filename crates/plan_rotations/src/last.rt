@@ -6,8 +6,8 @@ ghost use Rattle.desk_data.specs.Valid.{IsPlanFor};
 ghost use Rattle.desk_rules.specs.Maintenance.{flies};
 ghost use Rattle.plan_rotations.specs.Last.{AreLasts, IsLastOf};
 
-use crate::stand::departure_of;
 use desk_data::{Instance, Leg, Minute, Plan, Plane, Row};
+use plan_reads::departure;
 
 /// A moment for each aircraft.
 pub trait Moments {
@@ -74,12 +74,12 @@ fn with_leg(plan: &Plan, plane: Plane, at: Minute, leg: Leg, last: Option<Leg>) 
     requires last { IsLastOf plan.now plane.0 at.0 leg.0 last }
     ensures { IsLastOf plan.now plane.0 at.0 (leg.0 + 1) result }
 {
-    let departs = departure_of(plan.read_row(leg));
+    let departs = departure(plan, leg);
     if at.0 <= departs {
         return last;
     }
     match last {
-        Some(other) if departs < departure_of(plan.read_row(other)) => last,
+        Some(other) if departs < departure(plan, other) => last,
         _ => Some(leg),
     }
 }

@@ -12,4 +12,4 @@ pub use laws::{
     the_last_leg_is_the_last_that_departs_before_a_moment, the_leg_before_a_leg_is_followed_by_it,
 };
 pub use order::legs_before;
-pub use stand::{departure_of, stand_of};
+pub use stand::stand_of;

@@ -1,22 +1,11 @@
-//! When a row departs, and where the last leg of an aircraft leaves it.
+//! Where the last leg of an aircraft leaves it.
 
 ghost use Rattle.std.specs.Prelude.{◌≡◌, ◌<◌};
 ghost use Rattle.std.specs.Option.{ForSome};
 ghost use Rattle.desk_data.specs.Situation.{legs_of, planes_of};
-ghost use Rattle.desk_rules.specs.Rotations.{departure};
 ghost use Rattle.plan_rotations.specs.Last.{stand};
 
-use desk_data::{Airport, Instance, Leg, Plane, Row};
-
-/// When a row departs; a cancelled row at 0.
-pub fn departure_of(row: Row) -> u32
-    ensures { result ≡ departure row }
-{
-    match row {
-        Row::Flown { dep, .. } => dep.0,
-        Row::Cancelled => 0,
-    }
-}
+use desk_data::{Airport, Instance, Leg, Plane};
 
 /// Where an aircraft stands behind a leg: where the leg arrives, or else, with no leg, where the
 /// aircraft stands at first.

@@ -10,7 +10,7 @@ ghost use Rattle.plan_rotations.specs.Before.{IsLastBefore};
 ghost use Rattle.rule_rot.specs.Before.{is_ready};
 
 use desk_data::{Instance, Leg, Minute, Plan, Plane, Row};
-use plan_rotations::departure_of;
+use plan_reads::arrival;
 
 /// Whether a leg meets C6, given the leg before it on its aircraft.
 #[tactic(auto, unfolding(desk_rules::specs::Rules::keeps_c6))]
@@ -46,8 +46,7 @@ fn is_ready_at(
     let Some(earlier) = before else {
         return true;
     };
-    let arrival = departure_of(plan.read_row(earlier)) + inst.leg(earlier).block;
-    arrival + ground_time(inst, plane, earlier, leg) <= dep.0
+    arrival(inst, plan, earlier) + ground_time(inst, plane, earlier, leg) <= dep.0
 }
 
 /// The ground time of an aircraft between two legs, at most 2,880 minutes: its transit time where

@@ -8,7 +8,8 @@ ghost use Rattle.rule_rot.specs.Upkeep.{AreUpkeeps, IsUpkeep, blank, start_of};
 
 use crate::c7_service::meets;
 use desk_data::{Instance, Leg, Maint, Minute, NoMem, Plan, Plane, Row};
-use plan_rotations::{Moments, departure_of, put_lasts};
+use plan_reads::departure;
+use plan_rotations::{Moments, put_lasts};
 use std::alloc::Global;
 
 /// What some legs say of an aircraft's maintenance.
@@ -115,7 +116,7 @@ fn with_leg(
 {
     // there are at most 20,000 legs, so the minutes fit
     prove!(leg.0 < inst.legs());
-    let departs = departure_of(plan.read_row(leg));
+    let departs = departure(plan, leg);
     let block = inst.leg(leg).block;
     let is_before = departs < maint.from.0;
     Upkeep {
