@@ -1,38 +1,17 @@
 -- Where aircraft stand when the window ends.
-use Rattle.std.specs.Prelude.{◌≡◌, ℕ, ◌<◌, ◌≤◌, Bool, true, false, ◌==◌, if◌then◌else◌, List, filter, length, take, Option, Some, None, slice_index_or}
+use Rattle.std.specs.Prelude.{◌≡◌, ℕ, ◌<◌, ◌≤◌, Bool, false, ◌==◌, if◌then◌else◌, List, filter, length, take, Option, Some, None, slice_index_or}
 use Rattle.desk_units.specs.declared.numbers.Airport.{Airport}
 use Rattle.desk_units.specs.declared.numbers.Leg.{Leg}
 use Rattle.desk_data.specs.declared.info.PositionInfo.{PositionInfo}
-use Rattle.desk_data.specs.Situation.{Situation, planes_of, leg_at, plane_at}
+use Rattle.desk_data.specs.Situation.{Situation, planes_of, plane_at}
 use Rattle.desk_data.specs.PlanRows.{PlanRows}
 use Rattle.desk_rules.specs.Numbers.{numbers}
-use Rattle.desk_rules.specs.Rotations.{precedes}
-use Rattle.desk_rules.specs.Maintenance.{departs_before}
 use Rattle.desk_rules.specs.Cost.{is_wanted, ends_at}
+use Rattle.plan_rotations.specs.Last.{stand}
 
--- leg x is the last of the first n legs that aircraft p flies and that depart before a moment
-pub record IsLast (P : PlanRows) (p at n x : ℕ) : Type 0 where
-  pub within : x < n
-  pub before : departs_before P p at x ≡ true
-  pub last : (z : ℕ) → z < n → departs_before P p at z ≡ true → precedes P x z ≡ false
-
--- the last of them, if there is one
-abbrev pub IsLastOf : PlanRows → ℕ → ℕ → ℕ → Option Leg → Type 0
-IsLastOf P p at n None = (x : ℕ) → x < n → departs_before P p at x ≡ false
-IsLastOf P p at n (Some leg) = IsLast P p at n leg.0
-
--- for each aircraft the last of the first n legs that it flies and that depart before the window's end
-pub record AreLasts (I : Situation) (P : PlanRows) (n : ℕ) (lasts : List (Option Leg)) : Type 0 where
-  pub planes : length lasts ≡ planes_of I
-  pub each : (p : ℕ) → p < planes_of I → IsLastOf P p I.parts.to.0 n (slice_index_or lasts p None)
-
--- where aircraft p stands, given its last leg: surface transport stands nowhere
-abbrev pub airport_after : Situation → ℕ → Option Leg → Airport
-airport_after I p None = (plane_at I p).origin
-airport_after I p (Some leg) = (leg_at I leg.0).dest
-
-abbrev pub stand : Situation → ℕ → Option Leg → Option Airport
-stand I p last = if (plane_at I p).surface then None else Some (airport_after I p last)
+-- where aircraft p ends behind its last leg: surface transport ends nowhere
+abbrev pub end_of : Situation → ℕ → Option Leg → Option Airport
+end_of I p last = if (plane_at I p).surface then None else Some (stand I p last)
 
 -- whether that is an airport
 abbrev pub is_there : Option Airport → ℕ → Bool

@@ -1,69 +1,17 @@
 -- What the leg before a leg says of the rules C5 and C6.
-use Rattle.std.proofs.Common.{◌≡◌, ℕ, ◌+◌, ◌<◌, inl, inr, Bool, true, false, ◌&&◌, ◌||◌, eqb, leb, refl, sym, ap, subst}
+use Rattle.std.proofs.Common.{◌≡◌, ℕ, ◌+◌, Bool, ◌||◌, eqb, leb, refl, ap}
 use Rattle.std.specs.Prelude.{Option, Some, None}
-use Rattle.std.proofs.lemmas.Bool.{cases_Bool, true≢false, and_parts, and_from}
 use Rattle.desk_units.specs.declared.numbers.Leg.{Leg}
 use Rattle.desk_data.specs.declared.row.Row.{Row}
 use Rattle.desk_data.specs.declared.row.Row.TheVariants.{Flown, Cancelled}
 use Rattle.desk_data.specs.Situation.{Situation, legs_of, leg_at, plane_at}
 use Rattle.desk_data.specs.PlanRows.{PlanRows, row_at}
-use Rattle.desk_rules.specs.Numbers.{each_below, none_below, implies}
-use Rattle.desk_rules.specs.Rotations.{precedes, follows, is_first, arr, ground}
+use Rattle.desk_rules.specs.Rotations.{arr, ground}
 use Rattle.desk_rules.specs.Rules.{leaves_right, has_ground_time, keeps_c5, keeps_c6}
-use Rattle.desk_rules.proofs.Tests.{each_below-holds, each_below-from, none_below-holds, none_below-from, implies-holds, implies-from}
-use Rattle.rule_rot.specs.Before.{IsNearest, IsLastBefore, stands_there, has_turned}
-use Rattle.rule_rot.proofs.OrderLaws.{comes_before-total, not_both}
-
-pub same_tests : (a b : Bool) → (a ≡ true → b ≡ true) → (b ≡ true → a ≡ true) → a ≡ b
-same_tests true b h k = sym (h refl)
-same_tests false true h k = absurd (true≢false (sym (k refl)))
-same_tests false false h k = refl
-
-pub and_true : (a : Bool) → (a && true) ≡ a
-and_true true = refl
-and_true false = refl
-
--- where no leg comes before y, it is the first, and follows none
-pub none_first : (I : Situation) (P : PlanRows) (y : ℕ) → IsLastBefore P.rows (legs_of I) y None → is_first I P y ≡ true
-none_first I P y h = none_below-from (legs_of I) (λ x. precedes P x y) (λ x lt before. not_both (precedes P x y) before (h x lt))
-
-none_follows : (I : Situation) (P : PlanRows) (y : ℕ) (test : ℕ → Bool) → IsLastBefore P.rows (legs_of I) y None → each_below (legs_of I) (λ x. implies (follows I P x y) (test x)) ≡ true
-none_follows I P y test h =
-    each_below-from (legs_of I) (λ x. implies (follows I P x y) (test x)) (λ x lt.
-    implies-from (follows I P x y) (test x) (λ next.
-    absurd (not_both (precedes P x y) (and_parts (precedes P x y) (none_below (legs_of I) (λ z. precedes P x z && precedes P z y)) next).0 (h x lt))))
-
--- leg y is the next after the leg before it, and after no other
-nearest_followed : (I : Situation) (P : PlanRows) (y x : ℕ) → IsNearest P.rows (legs_of I) y x → follows I P x y ≡ true
-nearest_followed I P y x h =
-    and_from (precedes P x y) (none_below (legs_of I) (λ z. precedes P x z && precedes P z y)) h.before
-    (none_below-from (legs_of I) (λ z. precedes P x z && precedes P z y) (λ z lt both.
-    let parts = and_parts (precedes P x z) (precedes P z y) both in
-    not_both (precedes P x z) parts.0 (h.nearest z lt parts.1)))
-
-followed_nearest : (I : Situation) (P : PlanRows) (y x z : ℕ) → IsNearest P.rows (legs_of I) y x → z < legs_of I → follows I P z y ≡ true → x ≡ z
-followed_nearest I P y x z h lt next =
-    let parts = and_parts (precedes P z y) (none_below (legs_of I) (λ k. precedes P z k && precedes P k y)) next in
-    elim (comes_before-total x z y (row_at P x) (row_at P z) (row_at P y) h.before parts.0 (h.nearest z lt parts.0)) [
-      | inl same ↦ same
-      | inr before ↦ absurd (not_both (precedes P z x && precedes P x y) (and_from (precedes P z x) (precedes P x y) before h.before)
-          (none_below-holds (legs_of I) (λ k. precedes P z k && precedes P k y) parts.1 x h.within))
-    ]
-
-nearest_not_first : (I : Situation) (P : PlanRows) (y x : ℕ) → IsNearest P.rows (legs_of I) y x → is_first I P y ≡ false
-nearest_not_first I P y x h =
-    elim (cases_Bool (is_first I P y)) [
-      | inl first ↦ absurd (not_both (precedes P x y) h.before (none_below-holds (legs_of I) (λ x. precedes P x y) first x h.within))
-      | inr other ↦ other
-    ]
-
--- what is asked of each leg that y follows is asked of the leg before it
-nearest_asked : (I : Situation) (P : PlanRows) (y x : ℕ) (test : ℕ → Bool) → IsNearest P.rows (legs_of I) y x → each_below (legs_of I) (λ z. implies (follows I P z y) (test z)) ≡ test x
-nearest_asked I P y x test h =
-    same_tests (each_below (legs_of I) (λ z. implies (follows I P z y) (test z))) (test x)
-    (λ each. implies-holds (follows I P x y) (test x) (each_below-holds (legs_of I) (λ z. implies (follows I P z y) (test z)) each x h.within) (nearest_followed I P y x h))
-    (λ met. each_below-from (legs_of I) (λ z. implies (follows I P z y) (test z)) (λ z lt.
-    implies-from (follows I P z y) (test z) (λ next. subst (λ (k : ℕ). test k ≡ true) (followed_nearest I P y x z h lt next) met)))
+use Rattle.plan_rotations.specs.Before.{IsLastBefore}
+use Rattle.plan_rotations.proofs.OrderLaws.{and_true}
+use Rattle.plan_rotations.proofs.BeforeLaws.{none_first, none_follows, nearest_not_first, nearest_asked}
+use Rattle.rule_rot.specs.Before.{stands_there, has_turned}
 
 abbrev leaves_where_arrived : Situation → ℕ → ℕ → Bool
 leaves_where_arrived I y x = eqb (leg_at I y).origin.0 (leg_at I x).dest.0

@@ -1,10 +1,9 @@
 -- What one more leg says of an aircraft's maintenance, and what all legs say of the rules C8 and C9.
-use Rattle.std.proofs.Common.{◌≡◌, ◌≢◌, ℕ, suc, ◌+◌, ◌*◌, ◌<◌, ◌≤◌, ◌⊎◌, inl, inr, Bool, true, false, not, ◌&&◌, ◌||◌, eqb, ltb, leb, List, [], ◌∷◌, length, get_or, set, refl, sym, ap, subst, ◌∙◌, arith, add-one}
-use Rattle.std.specs.Prelude.{Option, Some, None, if◌then◌else◌}
+use Rattle.std.proofs.Common.{◌≡◌, ◌≢◌, ℕ, suc, ◌+◌, ◌*◌, ◌<◌, ◌≤◌, ◌⊎◌, inl, inr, Bool, true, false, not, ◌&&◌, ◌||◌, ltb, leb, List, [], ◌∷◌, length, get_or, set, refl, sym, ap, subst, ◌∙◌, arith, add-one}
+use Rattle.std.specs.Prelude.{Option, Some, None, if◌then◌else◌, map}
 use Rattle.std.specs.Option.{ForSome}
-use Rattle.std.proofs.lemmas.Bool.{cases_Bool, true≢false, and_parts, and_from}
 use Rattle.std.proofs.lemmas.Bool.Decides.{nat_tests}
-use Rattle.std.proofs.lemmas.List.{get_or-set_same, get_or-set_other, length-set}
+use Rattle.std.proofs.lemmas.List.{get_or-map, length-map, get_or-set_same, get_or-set_other, length-set}
 use Rattle.std.proofs.lemmas.List.Sums.{sum_by-append, sum_by-cons}
 use Rattle.desk_units.specs.declared.numbers.Leg.{Leg}
 use Rattle.desk_data.specs.declared.info.Maint.{Maint}
@@ -12,24 +11,15 @@ use Rattle.desk_data.specs.declared.row.Row.{Row}
 use Rattle.desk_data.specs.declared.row.Row.TheVariants.{Flown, Cancelled}
 use Rattle.desk_data.specs.Situation.{Situation, legs_of, planes_of, leg_at, plane_at}
 use Rattle.desk_data.specs.PlanRows.{PlanRows, row_at}
-use Rattle.desk_rules.specs.Numbers.{numbers, each_below, none_below, implies}
-use Rattle.desk_rules.specs.Rotations.{comes_before, dep, arr, precedes}
+use Rattle.desk_rules.specs.Numbers.{numbers, none_below}
+use Rattle.desk_rules.specs.Rotations.{dep, arr}
 use Rattle.desk_rules.specs.Rules.{meets_span}
-use Rattle.desk_rules.specs.Maintenance.{is_flown_by, flies, departs_before, departs_from, is_last_before, is_left_at, makes_maintenance, is_within_minutes, keeps_c8, keeps_c9}
-use Rattle.desk_rules.proofs.Tests.{each_below-holds, each_below-from, none_below-holds, none_below-from, implies-holds, implies-from}
+use Rattle.desk_rules.specs.Maintenance.{is_flown_by, flies, departs_before, departs_from, makes_maintenance, is_within_minutes, keeps_c8, keeps_c9}
+use Rattle.plan_rotations.specs.Last.{IsLastOf, AreLasts}
+use Rattle.plan_rotations.proofs.OrderLaws.{and_true}
+use Rattle.plan_rotations.proofs.LastLaws.{last_in, left_asked}
 use Rattle.rule_rot.specs.declared.upkeep.Upkeep.{Upkeep}
-use Rattle.rule_rot.specs.Before.{stand}
-use Rattle.rule_rot.specs.Upkeep.{no_upkeep, meets_maint, minutes_of, IsLast, IsLastOf, IsUpkeep, AreUpkeeps, makes_it, is_within}
-use Rattle.rule_rot.proofs.OrderLaws.{not_both}
-use Rattle.rule_rot.proofs.BeforeLaws.{same_tests, and_true}
-
--- ---- two rows of one aircraft
-
--- of two legs of an aircraft one comes before the other
-same_leg : (p x z : ℕ) (r s : Row) → is_flown_by p r ≡ true → is_flown_by p s ≡ true → comes_before x r z s ≡ false → comes_before z s x r ≡ false → x ≡ z
-same_leg p x z (Flown a d) (Flown b e) h k off neither = grind (arith, nat_tests)
-same_leg p x z (Flown a d) Cancelled h k off neither = absurd (true≢false (sym k))
-same_leg p x z Cancelled s h k off neither = absurd (true≢false (sym h))
+use Rattle.rule_rot.specs.Upkeep.{no_upkeep, meets_maint, minutes_of, blank, start_of, IsUpkeep, AreUpkeeps, makes_it, is_within}
 
 -- ---- one more number
 
@@ -47,25 +37,6 @@ minutes-more I P p at n =
     let minutes : ℕ → ℕ = λ x. if departs_before P p at x then (leg_at I x).block else 0 in
     sum_by-append minutes (numbers n) (n ∷ []) ∙ omega (arith, sum_by-cons minutes n [])
 
--- ---- the last leg
-
-last-skipped : (P : PlanRows) (p at n : ℕ) (last : Option Leg) → departs_before P p at n ≡ false → IsLastOf P p at n last → IsLastOf P p at (suc n) last
-last-skipped P p at n None off h = λ x lt. elim (below_cases x n lt) [
-  | inl less ↦ h x less
-  | inr same ↦ subst (λ (k : ℕ). departs_before P p at k ≡ false) (sym same) off
-]
-last-skipped P p at n (Some leg) off h = record {
-  within = omega (arith, h.within);
-  before = h.before;
-  last = λ z lt before. elim (below_cases z n lt) [
-    | inl less ↦ h.last z less before
-    | inr same ↦ absurd (not_both (departs_before P p at z) before (subst (λ (k : ℕ). departs_before P p at k ≡ false) (sym same) off))
-  ];
-}
-
-flies_of : (P : PlanRows) (p at x : ℕ) → departs_before P p at x ≡ true → flies P p x ≡ true
-flies_of P p at x h = (and_parts (flies P p x) (ltb (dep P x) at) h).0
-
 -- ---- one more leg
 
 -- the aircraft does not fly leg n
@@ -76,7 +47,7 @@ skipped I P p maint n upkeep off h =
     record {
       stops = h.stops ∙ sym (none_below-same n (departs_from P p at) (ap (λ (b : Bool). b && leb at (dep P n)) off));
       free = h.free ∙ sym (none_below-same n (meets_maint I P p maint) (ap (λ (b : Bool). b && meets_span (dep P n) (arr I P n) maint.from maint.to) off));
-      last = last-skipped P p at n upkeep.last before h.last;
+      last = h.last;
       minutes = h.minutes ∙ sym (minutes-more I P p at n ∙ ap (λ (b : Bool). minutes_of I P p at n + (if b then (leg_at I n).block else 0)) before ∙ omega arith);
       few = omega (arith, h.few);
     }
@@ -85,7 +56,7 @@ skipped I P p maint n upkeep off h =
 pub flown : (I : Situation) (P : PlanRows) (p : ℕ) (maint : Maint) (n : ℕ) (upkeep more : Upkeep) → flies P p n ≡ true → IsUpkeep I P p maint n upkeep
     → more.stops ≡ (upkeep.stops && not (leb maint.from.0 (dep P n)))
     → more.free ≡ (upkeep.free && not (meets_span (dep P n) (arr I P n) maint.from maint.to))
-    → IsLastOf P p maint.from.0 (n + 1) more.last
+    → more.last ≡ upkeep.last
     → more.minutes ≡ upkeep.minutes + (if ltb (dep P n) maint.from.0 then (leg_at I n).block else 0)
     → more.minutes ≤ 2880 * (n + 1)
     → IsUpkeep I P p maint (n + 1) more
@@ -98,11 +69,24 @@ flown I P p maint n upkeep more on h stops free last minutes few =
           ∙ sym (none_below-more n (departs_from P p at) (leb at (dep P n)) (ap (λ (b : Bool). b && leb at (dep P n)) on));
       free = free ∙ ap (λ (b : Bool). b && not (meets_span (dep P n) (arr I P n) maint.from maint.to)) h.free
           ∙ sym (none_below-more n (meets_maint I P p maint) (meets_span (dep P n) (arr I P n) maint.from maint.to) (ap (λ (b : Bool). b && meets_span (dep P n) (arr I P n) maint.from maint.to) on));
-      last = subst (λ (k : ℕ). IsLastOf P p at k more.last) (add-one n) last;
+      last = subst (λ (l : Option Leg). IsLastOf P p at (legs_of I) l) (sym last) h.last;
       minutes = minutes ∙ ap (λ (k : ℕ). k + (if ltb (dep P n) at then (leg_at I n).block else 0)) h.minutes
           ∙ sym (minutes-more I P p at n ∙ ap (λ (b : Bool). minutes_of I P p at n + (if b then (leg_at I n).block else 0)) before);
       few = omega (arith, few);
     })
+
+-- ---- no legs
+
+pub no_legs : (I : Situation) (P : PlanRows) (lasts : List (Option Leg)) → AreLasts I P (λ p. start_of (plane_at I p).maint) (legs_of I) lasts → AreUpkeeps I P 0 (map blank lasts)
+no_legs I P lasts h = record {
+  planes = length-map lasts blank ∙ h.planes;
+  each = λ p lt maint is.
+      let there : p < length lasts = omega (arith, h.planes, lt) in
+      let at : get_or (map blank lasts) p no_upkeep ≡ blank (get_or lasts p None) = get_or-map blank lasts p None no_upkeep there in
+      let last : IsLastOf P p maint.from.0 (legs_of I) (get_or lasts p None) =
+      subst (λ (planned : Option Maint). IsLastOf P p (start_of planned) (legs_of I) (get_or lasts p None)) is (h.each p lt) in
+      subst (λ (u : Upkeep). IsUpkeep I P p maint 0 u) (sym at) (record { stops = refl; free = refl; last = last; minutes = refl; few = omega arith });
+}
 
 -- ---- all aircraft
 
@@ -153,46 +137,6 @@ one-flown I P q n upkeeps more within on h new = record {
 
 -- ---- the rules
 
-abbrev is_later : PlanRows → ℕ → ℕ → ℕ → ℕ → Bool
-is_later P p at x z = departs_before P p at z && precedes P x z
-
-is_last : (I : Situation) (P : PlanRows) (p at x : ℕ) → IsLast P p at (legs_of I) x → is_last_before I P p at x ≡ true
-is_last I P p at x h =
-    and_from (departs_before P p at x) (none_below (legs_of I) (is_later P p at x)) h.before
-    (none_below-from (legs_of I) (is_later P p at x) (λ z lt both.
-    let parts = and_parts (departs_before P p at z) (precedes P x z) both in
-    not_both (precedes P x z) parts.1 (h.last z lt parts.0)))
-
-only_last : (I : Situation) (P : PlanRows) (p at x z : ℕ) → IsLast P p at (legs_of I) x → z < legs_of I → is_last_before I P p at z ≡ true → x ≡ z
-only_last I P p at x z h lt last =
-    let parts = and_parts (departs_before P p at z) (none_below (legs_of I) (is_later P p at z)) last in
-    let none : is_later P p at z x ≡ false = none_below-holds (legs_of I) (is_later P p at z) parts.1 x h.within in
-    let behind : precedes P z x ≡ false = sym (ap (λ (b : Bool). b && precedes P z x) h.before) ∙ none in
-    same_leg p x z (row_at P x) (row_at P z) (flies_of P p at x h.before) (flies_of P p at z parts.0) (h.last z lt parts.0) behind
-
--- what is asked of the last leg before a moment is asked of the one that is kept
-last_asked : (I : Situation) (P : PlanRows) (p at x : ℕ) (test : ℕ → Bool) → IsLast P p at (legs_of I) x → each_below (legs_of I) (λ z. implies (is_last_before I P p at z) (test z)) ≡ test x
-last_asked I P p at x test h =
-    same_tests (each_below (legs_of I) (λ z. implies (is_last_before I P p at z) (test z))) (test x)
-    (λ each. implies-holds (is_last_before I P p at x) (test x) (each_below-holds (legs_of I) (λ z. implies (is_last_before I P p at z) (test z)) each x h.within) (is_last I P p at x h))
-    (λ met. each_below-from (legs_of I) (λ z. implies (is_last_before I P p at z) (test z)) (λ z lt.
-    implies-from (is_last_before I P p at z) (test z) (λ last. subst (λ (k : ℕ). test k ≡ true) (only_last I P p at x z h lt last) met)))
-
-left_asked : (I : Situation) (P : PlanRows) (p at airport : ℕ) (last : Option Leg) → IsLastOf P p at (legs_of I) last → is_left_at I P p at airport ≡ eqb (stand I p last) airport
-left_asked I P p at airport None h =
-    let none : none_below (legs_of I) (departs_before P p at) ≡ true = none_below-from (legs_of I) (departs_before P p at) (λ x lt before. not_both (departs_before P p at x) before (h x lt)) in
-    let no_last : each_below (legs_of I) (λ x. implies (is_last_before I P p at x) (eqb (leg_at I x).dest.0 airport)) ≡ true =
-    each_below-from (legs_of I) (λ x. implies (is_last_before I P p at x) (eqb (leg_at I x).dest.0 airport)) (λ x lt.
-    implies-from (is_last_before I P p at x) (eqb (leg_at I x).dest.0 airport) (λ last.
-    absurd (not_both (departs_before P p at x) (and_parts (departs_before P p at x) (none_below (legs_of I) (is_later P p at x)) last).0 (h x lt)))) in
-    rw (none, no_last) (and_true (eqb (plane_at I p).origin.0 airport))
-left_asked I P p at airport (Some leg) h =
-    let some : none_below (legs_of I) (departs_before P p at) ≡ false = elim (cases_Bool (none_below (legs_of I) (departs_before P p at))) [
-      | inl none ↦ absurd (not_both (departs_before P p at leg.0) h.before (none_below-holds (legs_of I) (departs_before P p at) none leg.0 h.within))
-      | inr other ↦ other
-    ] in
-    rw (some, last_asked I P p at leg.0 (λ x. eqb (leg_at I x).dest.0 airport) h) refl
-
 -- what all legs say of a maintenance, if there is one
 abbrev pub IsWhole : Situation → PlanRows → ℕ → Upkeep → Option Maint → Type 0
 IsWhole I P p upkeep planned = ForSome planned (λ maint. IsUpkeep I P p maint (legs_of I) upkeep)
@@ -216,12 +160,6 @@ within-counted I P p upkeep (Some maint) h =
 pub keeps_c9-counted : (I : Situation) (P : PlanRows) (p : ℕ) (upkeep : Upkeep) → IsWhole I P p upkeep (plane_at I p).maint → keeps_c9 I P p ≡ ((plane_at I p).surface || is_within upkeep (plane_at I p).maint)
 unfolding keeps_c9
 keeps_c9-counted I P p upkeep h = ap (λ (b : Bool). (plane_at I p).surface || b) (within-counted I P p upkeep (plane_at I p).maint h)
-
-last_in : (I : Situation) (P : PlanRows) (p at : ℕ) (last : Option Leg) → IsLastOf P p at (legs_of I) last → ForSome last (λ leg. leg.0 < legs_of I)
-last_in I P p at None h = λ leg is. absurd cc
-last_in I P p at (Some x) h = λ leg is.
-    let same : x ≡ leg = cc in
-    subst (λ (leg : Leg). leg.0 < legs_of I) same h.within
 
 -- the last leg is a leg
 pub last-within : (I : Situation) (P : PlanRows) (p : ℕ) (upkeep : Upkeep) (planned : Option Maint) → IsWhole I P p upkeep planned → ForSome planned (λ maint. ForSome upkeep.last (λ leg. leg.0 < legs_of I))

@@ -1,4 +1,3 @@
 pub mod Before
-pub mod Order
 pub mod Upkeep
 pub mod Items

@@ -3,14 +3,14 @@ use Rattle.std.specs.Prelude.{◌≡◌, ℕ, ◌*◌, ◌<◌, ◌≤◌, Bool,
 use Rattle.std.specs.Option.{ForSome}
 use Rattle.desk_units.specs.declared.numbers.Leg.{Leg}
 use Rattle.desk_data.specs.declared.info.Maint.{Maint}
-use Rattle.desk_data.specs.Situation.{Situation, planes_of, leg_at, plane_at}
+use Rattle.desk_data.specs.Situation.{Situation, legs_of, planes_of, leg_at, plane_at}
 use Rattle.desk_data.specs.PlanRows.{PlanRows}
 use Rattle.desk_rules.specs.Numbers.{numbers, none_below}
-use Rattle.desk_rules.specs.Rotations.{dep, arr, precedes}
+use Rattle.desk_rules.specs.Rotations.{dep, arr}
 use Rattle.desk_rules.specs.Rules.{meets_span}
 use Rattle.desk_rules.specs.Maintenance.{flies, departs_before, departs_from}
 use Rattle.rule_rot.specs.declared.upkeep.Upkeep.{Upkeep}
-use Rattle.rule_rot.specs.Before.{stand}
+use Rattle.plan_rotations.specs.Last.{IsLastOf, stand}
 
 -- what is said of no aircraft
 abbrev pub no_upkeep : Upkeep
@@ -24,22 +24,20 @@ meets_maint I P p maint x = flies P p x && meets_span (dep P x) (arr I P x) main
 abbrev pub minutes_of : Situation → PlanRows → ℕ → ℕ → ℕ → ℕ
 minutes_of I P p at n = sum_by (λ x. if departs_before P p at x then (leg_at I x).block else 0) (numbers n)
 
--- leg x is the last of the first n legs that aircraft p flies and that depart before a moment
-pub record IsLast (P : PlanRows) (p at n x : ℕ) : Type 0 where
-  pub within : x < n
-  pub before : departs_before P p at x ≡ true
-  pub last : (z : ℕ) → z < n → departs_before P p at z ≡ true → precedes P x z ≡ false
+-- when a maintenance starts; where there is none, at 0
+abbrev pub start_of : Option Maint → ℕ
+start_of None = 0
+start_of (Some maint) = maint.from.0
 
--- the last of them, if there is one
-abbrev pub IsLastOf : PlanRows → ℕ → ℕ → ℕ → Option Leg → Type 0
-IsLastOf P p at n None = (x : ℕ) → x < n → departs_before P p at x ≡ false
-IsLastOf P p at n (Some leg) = IsLast P p at n leg.0
+-- what no legs say, beside the last leg before the maintenance
+abbrev pub blank : Option Leg → Upkeep
+blank last = record { stops = true; free = true; last = last; minutes = 0 }
 
--- what the first n legs say of a maintenance of aircraft p
+-- what the first n legs say of a maintenance of aircraft p, and the last of all legs before it
 pub record IsUpkeep (I : Situation) (P : PlanRows) (p : ℕ) (maint : Maint) (n : ℕ) (upkeep : Upkeep) : Type 0 where
   pub stops : upkeep.stops ≡ none_below n (departs_from P p maint.from.0)
   pub free : upkeep.free ≡ none_below n (meets_maint I P p maint)
-  pub last : IsLastOf P p maint.from.0 n upkeep.last
+  pub last : IsLastOf P p maint.from.0 (legs_of I) upkeep.last
   pub minutes : upkeep.minutes ≡ minutes_of I P p maint.from.0 n
   pub few : upkeep.minutes ≤ 2880 * n
 
@@ -51,7 +49,7 @@ pub record AreUpkeeps (I : Situation) (P : PlanRows) (n : ℕ) (upkeeps : List U
 -- the rules C8 and C9 for aircraft p, given what all legs say
 abbrev pub makes_it : Situation → ℕ → Upkeep → Option Maint → Bool
 makes_it I p upkeep None = true
-makes_it I p upkeep (Some maint) = upkeep.stops || (upkeep.free && (stand I p upkeep.last == maint.airport.0))
+makes_it I p upkeep (Some maint) = upkeep.stops || (upkeep.free && ((stand I p upkeep.last).0 == maint.airport.0))
 
 abbrev pub is_within : Upkeep → Option Maint → Bool
 is_within upkeep None = true

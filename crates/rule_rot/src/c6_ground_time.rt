@@ -4,11 +4,13 @@ ghost use Rattle.std.specs.Prelude.{◌≡◌, ◌<◌, ◌≤◌};
 ghost use Rattle.std.specs.Option.{ForSome};
 ghost use Rattle.desk_data.specs.Situation.{legs_of, planes_of};
 ghost use Rattle.desk_data.specs.Valid.{IsPlanFor};
-ghost use Rattle.desk_rules.specs.Rotations.{departure, ground};
+ghost use Rattle.desk_rules.specs.Rotations.{ground};
 ghost use Rattle.desk_rules.specs.Rules.{keeps_c6};
-ghost use Rattle.rule_rot.specs.Before.{IsLastBefore, is_ready};
+ghost use Rattle.plan_rotations.specs.Before.{IsLastBefore};
+ghost use Rattle.rule_rot.specs.Before.{is_ready};
 
 use desk_data::{Instance, Leg, Minute, Plan, Plane, Row};
+use plan_reads::arrival;
 
 /// Whether a leg meets C6, given the leg before it on its aircraft.
 #[tactic(auto, unfolding(desk_rules::specs::Rules::keeps_c6))]
@@ -44,18 +46,7 @@ fn is_ready_at(
     let Some(earlier) = before else {
         return true;
     };
-    let arrival = departure_of(plan.read_row(earlier)) + inst.leg(earlier).block;
-    arrival + ground_time(inst, plane, earlier, leg) <= dep.0
-}
-
-/// When a row departs; a cancelled row at 0.
-pub(crate) fn departure_of(row: Row) -> u32
-    ensures { result ≡ departure row }
-{
-    match row {
-        Row::Flown { dep, .. } => dep.0,
-        Row::Cancelled => 0,
-    }
+    arrival(inst, plan, earlier) + ground_time(inst, plane, earlier, leg) <= dep.0
 }
 
 /// The ground time of an aircraft between two legs, at most 2,880 minutes: its transit time where

@@ -5,9 +5,9 @@ ghost use Rattle.std.specs.Option.{ForSome};
 ghost use Rattle.desk_data.specs.Situation.{legs_of, planes_of, plane_at};
 ghost use Rattle.rule_rot.specs.Upkeep.{makes_it};
 
-use crate::c5_location::stand_of;
 use crate::upkeep::Upkeep;
 use desk_data::{Instance, Plane};
+use plan_rotations::stand_of;
 
 /// Whether an aircraft meets C8, given what its legs say: it is surface transport, has no
 /// maintenance or no leg from its start on, or is free for it and was left at its airport.

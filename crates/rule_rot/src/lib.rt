@@ -12,9 +12,7 @@ mod c7_service;
 mod c8_maintenance;
 mod c9_minutes;
 mod least;
-mod order;
 mod rule;
 mod upkeep;
 
 pub use least::least_rot;
-pub use order::legs_before;

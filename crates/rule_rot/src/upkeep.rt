@@ -1,14 +1,15 @@
 //! What the legs of each aircraft say of its maintenance, in one walk over all legs.
 
-ghost use Rattle.std.specs.Prelude.{◌≡◌, ◌+◌, ◌<◌, true, length, IfOk};
-ghost use Rattle.desk_data.specs.Situation.{legs_of, planes_of};
+ghost use Rattle.std.specs.Prelude.{◌≡◌, ◌+◌, ◌<◌, true, map, IfOk};
+ghost use Rattle.desk_data.specs.Situation.{legs_of, planes_of, plane_at};
 ghost use Rattle.desk_data.specs.Valid.{IsPlanFor};
 ghost use Rattle.desk_rules.specs.Maintenance.{flies};
-ghost use Rattle.rule_rot.specs.Upkeep.{AreUpkeeps, IsUpkeep, IsLastOf};
+ghost use Rattle.rule_rot.specs.Upkeep.{AreUpkeeps, IsUpkeep, blank, start_of};
 
-use crate::c6_ground_time::departure_of;
 use crate::c7_service::meets;
 use desk_data::{Instance, Leg, Maint, Minute, NoMem, Plan, Plane, Row};
+use plan_reads::departure;
+use plan_rotations::{Moments, put_lasts};
 use std::alloc::Global;
 
 /// What some legs say of an aircraft's maintenance.
@@ -24,20 +25,47 @@ pub(crate) struct Upkeep {
     pub(crate) minutes: u32,
 }
 
-/// What the legs of a plan say of the maintenance of each aircraft.
+/// The moments at which maintenances start.
+struct Starts;
+
+impl Moments for Starts {
+    ghost moment_of = { λ starts I p. start_of (plane_at I p).maint };
+
+    fn moment(&self, inst: &Instance, plane: Plane) -> Minute {
+        match inst.plane(plane).maint {
+            Some(maint) => maint.from,
+            None => Minute(0),
+        }
+    }
+}
+
+/// What the legs of a plan say of the maintenance of each aircraft: the last one before it, and then
+/// the rest, leg by leg.
 pub(crate) fn upkeeps_of(alloc: Global, inst: &Instance, plan: &Plan) -> Result<Vec<Upkeep>, NoMem>
     requires { IsPlanFor inst.now plan.now }
     ensures { IfOk result (λ upkeeps. AreUpkeeps inst.now plan.now (legs_of inst.now) upkeeps.items) }
 {
-    let nothing = Upkeep {
-        stops: true,
-        free: true,
-        last: None,
-        minutes: 0,
-    };
-    let mut upkeeps = vec![in alloc; nothing; inst.planes() as usize]?;
+    let mut lasts = vec![in alloc; None; inst.planes() as usize]?;
+    put_lasts(&Starts, inst, plan, lasts.as_mut_slice());
+    let mut upkeeps = blank_upkeeps(alloc, lasts.as_slice())?;
     for x in 0..inst.legs() {
         count_leg(inst, plan, Leg(x), upkeeps.as_mut_slice());
+    }
+    Ok(upkeeps)
+}
+
+/// What no legs say, beside the last leg of each aircraft before its maintenance.
+fn blank_upkeeps(alloc: Global, lasts: &[Option<Leg>]) -> Result<Vec<Upkeep>, NoMem>
+    ensures { IfOk result (λ upkeeps. upkeeps.items ≡ map blank lasts.now) }
+{
+    let mut upkeeps = Vec::with_capacity(alloc, lasts.len())?;
+    for last in lasts {
+        upkeeps.push(Upkeep {
+            stops: true,
+            free: true,
+            last: *last,
+            minutes: 0,
+        })?;
     }
     Ok(upkeeps)
 }
@@ -88,34 +116,17 @@ fn with_leg(
 {
     // there are at most 20,000 legs, so the minutes fit
     prove!(leg.0 < inst.legs());
-    let departs = departure_of(plan.read_row(leg));
+    let departs = departure(plan, leg);
     let block = inst.leg(leg).block;
     let is_before = departs < maint.from.0;
     Upkeep {
         stops: so_far.stops && is_before,
         free: so_far.free && !meets(departs, departs + block, maint.from, maint.to),
-        last: with_last(plan, plane, maint.from, leg, so_far.last),
+        last: so_far.last,
         minutes: if is_before {
             so_far.minutes + block
         } else {
             so_far.minutes
         },
-    }
-}
-
-/// The last leg of an aircraft that departs before a moment, given the last one up to a leg of it.
-fn with_last(plan: &Plan, plane: Plane, at: Minute, leg: Leg, last: Option<Leg>) -> Option<Leg>
-    requires leg { leg.0 < length plan.now.rows }
-    requires flies { flies plan.now plane.0 leg.0 ≡ true }
-    requires last { IsLastOf plan.now plane.0 at.0 leg.0 last }
-    ensures { IsLastOf plan.now plane.0 at.0 (leg.0 + 1) result }
-{
-    let departs = departure_of(plan.read_row(leg));
-    if at.0 <= departs {
-        return last;
-    }
-    match last {
-        Some(other) if departs < departure_of(plan.read_row(other)) => last,
-        _ => Some(leg),
     }
 }

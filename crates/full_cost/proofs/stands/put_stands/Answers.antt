@@ -1,12 +1,18 @@
-use Rattle.std.proofs.Common.{rules, ap, ◌∙◌, arith}
+use Rattle.std.proofs.Common.{rules, ℕ, ap, ◌∙◌, arith}
+use Rattle.desk_data.specs.Situation.{legs_of}
+use Rattle.plan_rotations.specs.Last.{AreLasts}
 use Rattle.full_cost.specs.Stands.{is_there}
 use Rattle.full_cost.proofs.StandLaws.{stand_is}
 use Rattle.full_cost.proofs.stands.put_stands.Goals as goal
 
 pub returns : goal.returns
-returns c = record {
-  planes = search rules;
-  each = λ p airport lt.
-      ap (λ there. is_there there airport) (c.loop-p.invariant p (omega arith))
-      ∙ stand_is c.args.inst.now c.args.plan.now p airport c.put_lasts.new.lasts c.put_lasts.ensures lt;
-}
+returns c =
+    let I = c.args.inst.now in
+    let P = c.args.plan.now in
+    let lasts : AreLasts I P (λ (p : ℕ). I.parts.to.0) (legs_of I) c.put_lasts.new.lasts = rw c.window.ensures at c.put_lasts.ensures in
+    record {
+      planes = search rules;
+      each = λ p airport lt.
+          ap (λ there. is_there there airport) (c.loop-p.invariant p (omega arith))
+          ∙ stand_is I P p airport c.put_lasts.new.lasts lasts lt;
+    }

@@ -1,5 +1,5 @@
 -- Turns are in a strict order: by aircraft, then by departure, then by leg.
-use Rattle.std.proofs.Common.{◌⊎◌, sym, ◌∙◌, ◌≡◌, ℕ, Bool, true, false, ◌&&◌, ◌||◌, eqb, ltb, arith, is_lt, nat_cmp}
+use Rattle.std.proofs.Common.{◌⊎◌, refl, sym, ◌∙◌, ◌≡◌, ℕ, Bool, true, false, ◌&&◌, ◌||◌, eqb, ltb, arith, is_lt, nat_cmp}
 use Rattle.std.specs.Ordering.{ordering_then}
 use Rattle.std.specs.declared.cmp.Ordering.{Ordering}
 use Rattle.std.proofs.lemmas.Bool.{true≢false}
@@ -10,6 +10,15 @@ use Rattle.desk_rules.specs.Rotations.{is_earlier, comes_before}
 
 pub not_both : (b : Bool) → b ≡ true → b ≡ false → ⊥
 not_both b t f = true≢false (sym t ∙ f)
+
+pub same_tests : (a b : Bool) → (a ≡ true → b ≡ true) → (b ≡ true → a ≡ true) → a ≡ b
+same_tests true b h k = sym (h refl)
+same_tests false true h k = absurd (true≢false (sym (k refl)))
+same_tests false false h k = refl
+
+pub and_true : (a : Bool) → (a && true) ≡ a
+and_true true = refl
+and_true false = refl
 
 -- the order of leg x of aircraft p at d and leg y of aircraft q at e: as sorted, and as tests
 abbrev pub turns_cmp : ℕ → ℕ → ℕ → ℕ → ℕ → ℕ → Ordering
