@@ -2,6 +2,7 @@
 
 mod data;
 mod days;
+mod names;
 mod orders;
 mod steps;
 mod tariffs;

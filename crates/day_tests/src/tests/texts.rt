@@ -26,7 +26,7 @@ fn reservation_of(alloc: Global, inbound: bool) -> Result<ResInfo, Fail> {
 }
 
 /// A day of two legs, which the second aircraft flies, and the two ways of one reservation.
-fn day_of(alloc: Global) -> Result<Instance, Fail> {
+pub(super) fn day_of(alloc: Global) -> Result<Instance, Fail> {
     let legs = vec![in alloc; leg_of(b"F1", 4_294_080, 1)?, leg_of(b"F22", 4_295_519, 1)?]?;
     let mut parts = parts_of(alloc, legs)?;
     parts.res = List(vec![in alloc; reservation_of(alloc, false)?, reservation_of(alloc, true)?]?);
