@@ -3,6 +3,7 @@ pub mod PathOrder
 pub mod SetLaws
 pub mod RebookLaws
 pub mod GroupPlans
+pub mod TidyLaws
 pub mod SwapLaws
 pub mod StateLaws
 pub mod HistoryLaws

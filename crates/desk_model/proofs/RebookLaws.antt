@@ -64,7 +64,7 @@ on_path test path false (group ∷ groups) is =
             ap (passengers_on test) kept ∙ omega (arith, ih, one, here))
         (λ more. rw more ih)
 
-one_group : (test : List (Leg × Cabin) → Bool) (path : List (Leg × Cabin)) (n : ℕ) → passengers_on test (group_of n path) ≡ cond (test path) n 0
+pub one_group : (test : List (Leg × Cabin) → Bool) (path : List (Leg × Cabin)) (n : ℕ) → passengers_on test (group_of n path) ≡ cond (test path) n 0
 one_group test path n =
     elim (cases_eq n 0) [
       | inl none ↦ rw (eq-eqb n 0 none, none) (elim (cases_Bool (test path)) [ | inl passes ↦ rw passes refl | inr fails ↦ rw fails refl ])
@@ -108,14 +108,14 @@ groups_after-adds test path to n groups few =
 abbrev pub Ascends : Group → Group → Type 0
 Ascends a b = path_cmp a.path b.path ≡ Less
 
-one_group-all : (P : Group → Type 0) (path : List (Leg × Cabin)) (n : ℕ) → ((group : Group) → group.path ≡ path → 1 ≤ group.count → P group) → All P (group_of n path)
+pub one_group-all : (P : Group → Type 0) (path : List (Leg × Cabin)) (n : ℕ) → ((group : Group) → group.path ≡ path → 1 ≤ group.count → P group) → All P (group_of n path)
 one_group-all P path n holds =
     elim (cases_eq n 0) [
       | inl none ↦ rw (eq-eqb n 0 none) (All-nil P)
       | inr some ↦ rw (ne_eqb n 0 some) (All-cons P (record { count = n; path = path }) [] (holds (record { count = n; path = path }) refl (omega arith)) (All-nil P))
     ]
 
-one_group-pairs : (path : List (Leg × Cabin)) (n : ℕ) → AllPairs Ascends (group_of n path)
+pub one_group-pairs : (path : List (Leg × Cabin)) (n : ℕ) → AllPairs Ascends (group_of n path)
 one_group-pairs path n =
     elim (cases_eq n 0) [
       | inl none ↦ rw (eq-eqb n 0 none) (pairs_nil Ascends)
