@@ -4,6 +4,7 @@ pub mod SetLaws
 pub mod RebookLaws
 pub mod GroupPlans
 pub mod TidyLaws
+pub mod RefillLaws
 pub mod SwapLaws
 pub mod StateLaws
 pub mod HistoryLaws
