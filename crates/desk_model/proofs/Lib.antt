@@ -5,6 +5,7 @@ pub mod RebookLaws
 pub mod GroupPlans
 pub mod TidyLaws
 pub mod RefillLaws
+pub mod RotationOrder
 pub mod SwapLaws
 pub mod StateLaws
 pub mod HistoryLaws
