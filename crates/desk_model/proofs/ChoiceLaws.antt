@@ -12,12 +12,12 @@ use Rattle.desk_model.specs.Choices.{first_within, greatest_within, IsFirstWithi
 -- ---- the first
 
 -- the place of the first of some numbers of which the test holds
-record FirstAt (test : ℕ → Bool) (f : ℕ → ℕ) (n t : ℕ) : Type 0 where
-  place : ℕ
-  within : place < n
-  is : f place ≡ t
-  holds : test t ≡ true
-  before : (j : ℕ) → j < place → test (f j) ≡ false
+pub record FirstAt (test : ℕ → Bool) (f : ℕ → ℕ) (n t : ℕ) : Type 0 where
+  pub place : ℕ
+  pub within : place < n
+  pub is : f place ≡ t
+  pub holds : test t ≡ true
+  pub before : (j : ℕ) → j < place → test (f j) ≡ false
 
 found_last : (test : ℕ → Bool) (f : ℕ → ℕ) (n t : ℕ) (b : Bool) → test (f n) ≡ b → cond b (Some (f n)) None ≡ Some t → ((j : ℕ) → j < n → test (f j) ≡ false) → FirstAt test f (suc n) t
 found_last test f n t true here h before =
@@ -32,7 +32,7 @@ found_more test f n t (Some s) is h earlier =
     record { place = at.place; within = omega arith; is = at.is; holds = at.holds; before = at.before }
 found_more test f n t None is h earlier = found_last test f n t (test (f n)) refl h (none_of_numbers test f n is)
 
-found_first : (test : ℕ → Bool) (f : ℕ → ℕ) (n t : ℕ) → find test (map f (numbers n)) ≡ Some t → FirstAt test f n t
+pub found_first : (test : ℕ → Bool) (f : ℕ → ℕ) (n t : ℕ) → find test (map f (numbers n)) ≡ Some t → FirstAt test f n t
 found_first test f zero t h = absurd cc
 found_first test f (suc n) t h =
     let parts : option_or (find test (map f (numbers n))) (find test (f n ∷ [])) ≡ Some t =

@@ -23,7 +23,7 @@ row_is_sound : (planes : ℕ) (row : Row) → IsRowOf planes row → IsRow row
 row_is_sound planes (Flown plane dep) h = h.1
 row_is_sound planes Cancelled h = tt
 
-with_row-valid : (I : Situation) (P : PlanRows) (x : ℕ) (row : Row) → IsRowOf (planes_of I) row → IsPlanFor I P → IsPlanFor I (with_row P x row)
+pub with_row-valid : (I : Situation) (P : PlanRows) (x : ℕ) (row : Row) → IsRowOf (planes_of I) row → IsPlanFor I P → IsPlanFor I (with_row P x row)
 with_row-valid I P x row fits h = record {
   sound = record { rows = All-set IsRow P.rows x row (row_is_sound (planes_of I) row fits) h.sound.rows; groups = h.sound.groups };
   legs = length-set P.rows x row ∙ h.legs;
