@@ -6,6 +6,7 @@ pub mod GroupPlans
 pub mod TidyLaws
 pub mod RefillLaws
 pub mod RotationOrder
+pub mod BesideLaws
 pub mod PushLaws
 pub mod SwapLaws
 pub mod StateLaws

@@ -1,9 +1,8 @@
 -- What Refill does.
-use Rattle.std.proofs.Common.{◌≡◌, ℕ, zero, suc, ◌+◌, ◌<◌, ◌≤◌, min, ◌⊎◌, inl, inr, Bool, true, false, cond, ◌&&◌, leb, eqb, List, [], ◌∷◌, ◌++◌, length, get_or, refl, sym, ap, subst, ◌∙◌, arith}
+use Rattle.std.proofs.Common.{◌≡◌, ℕ, zero, suc, ◌+◌, ◌<◌, ◌≤◌, ◌⊎◌, inl, inr, Bool, true, false, cond, ◌&&◌, leb, eqb, List, [], ◌∷◌, length, get_or, refl, sym, ap, subst, ◌∙◌, arith}
 use Rattle.std.specs.Prelude.{fold}
-use Rattle.std.specs.List.{All, AllByRecursion, list_all, list_any}
-use Rattle.std.specs.Ordering.{is_eq}
-use Rattle.std.proofs.lemmas.Bool.{true≢false, cases_Bool, cases_eq, and_parts, and_from, eq-eqb, leb-true, le-leb}
+use Rattle.std.specs.List.{All, AllByRecursion, list_all}
+use Rattle.std.proofs.lemmas.Bool.{true≢false, cases_Bool, and_parts, and_from, eq-eqb, leb-true, le-leb}
 use Rattle.std.proofs.lemmas.List.Elements.{All-nil, All-get_or, All-weaker, recursion_from_All}
 use Rattle.std.proofs.lemmas.List.Folds.{list_any_at}
 use Rattle.std.proofs.lemmas.List.Sums.{fold_push, sum_by-set, AllPass-from_list_all, list_all-from_AllPass}
@@ -16,16 +15,15 @@ use Rattle.desk_data.specs.Situation.{Situation, legs_of, reservations_of, res_a
 use Rattle.desk_data.specs.PlanRows.{PlanRows, row_at, groups_at, with_groups}
 use Rattle.desk_data.specs.Valid.{IsValid, IsReservation, IsPlanFor}
 use Rattle.desk_rules.specs.Numbers.{numbers}
-use Rattle.desk_rules.specs.Passengers.{aboard, aboard_of, takes, seats_in, booked_path}
+use Rattle.desk_rules.specs.Passengers.{aboard, aboard_of, takes, booked_path}
 use Rattle.desk_rules.proofs.CarriageLaws.{same_pair-holds}
 use Rattle.desk_rules.specs.Carriage.{is_good_path, is_in_time_path}
 use Rattle.desk_model.specs.Choices.{IsGreatestWithin}
-use Rattle.desk_model.specs.Rebook.{passengers_on, same_path, count_on, groups_after, after_rebook}
+use Rattle.desk_model.specs.Rebook.{passengers_on, same_path, count_on, groups_after_rebook, after_rebook}
 use Rattle.desk_model.specs.Tidy.{is_fit_path}
-use Rattle.desk_model.specs.Refill.{seats_of, has_seats_for, has_leg, refill_count, is_refilled, refill_res, after_refill, RefillsReservation, IsNotOverfilled}
+use Rattle.desk_model.specs.Refill.{seats_of, has_seats_for, HasSeatsFor, has_leg, refill_count, is_refilled, after_refilling, after_refill, RefillsReservation, IsNotOverfilled}
 use Rattle.desk_model.proofs.ChoiceLaws.{greatest_within-holds}
-use Rattle.desk_model.proofs.PathOrder.{path_same, is_eq-holds}
-use Rattle.desk_model.proofs.RebookLaws.{groups_after-adds}
+use Rattle.desk_model.proofs.RebookLaws.{groups_after_rebook-adds}
 use Rattle.desk_model.proofs.GroupPlans.{with_groups-same, with_groups-other, after_rebook-valid}
 use Rattle.desk_model.proofs.TidyLaws.{good_path-groups, in_time-groups}
 
@@ -40,7 +38,22 @@ takes_each : (path : List (Leg × Cabin)) → All (λ (pair : Leg × Cabin). tak
 takes_each path k d within =
     let pair = get_or path k d in
     list_any_at (λ (other : Leg × Cabin). eqb other.0.0 pair.0.0 && eqb (cabin_rank other.1) (cabin_rank pair.1)) path k d within
-        (and_from (eqb pair.0.0 pair.0.0) (eqb (cabin_rank pair.1) (cabin_rank pair.1)) (eq-eqb pair.0.0 pair.0.0 refl) (eq-eqb (cabin_rank pair.1) (cabin_rank pair.1) refl))
+    (and_from (eqb pair.0.0 pair.0.0) (eqb (cabin_rank pair.1) (cabin_rank pair.1)) (eq-eqb pair.0.0 pair.0.0 refl) (eq-eqb (cabin_rank pair.1) (cabin_rank pair.1) refl))
+
+pub has_seats_for-holds : (I : Situation) (P : PlanRows) (path : List (Leg × Cabin)) (n : ℕ) → has_seats_for I P path n ≡ true → HasSeatsFor I P path n
+unfolding has_seats_for
+has_seats_for-holds I P path n has =
+    let test : Leg × Cabin → Bool = λ pair. leb (aboard P pair.0.0 pair.1 + n) (seats_of I pair.1 (row_at P pair.0.0)) in
+    All-weaker (λ (pair : Leg × Cabin). test pair ≡ true) (λ (pair : Leg × Cabin). aboard P pair.0.0 pair.1 + n ≤ seats_of I pair.1 (row_at P pair.0.0))
+    (λ pair fits. leb-true (aboard P pair.0.0 pair.1 + n) (seats_of I pair.1 (row_at P pair.0.0)) fits) path (AllPass-from_list_all test path has)
+
+pub has_seats_for-from : (I : Situation) (P : PlanRows) (path : List (Leg × Cabin)) (n : ℕ) → HasSeatsFor I P path n → has_seats_for I P path n ≡ true
+unfolding has_seats_for
+has_seats_for-from I P path n has =
+    let test : Leg × Cabin → Bool = λ pair. leb (aboard P pair.0.0 pair.1 + n) (seats_of I pair.1 (row_at P pair.0.0)) in
+    list_all-from_AllPass test path
+    (All-weaker (λ (pair : Leg × Cabin). aboard P pair.0.0 pair.1 + n ≤ seats_of I pair.1 (row_at P pair.0.0)) (λ (pair : Leg × Cabin). test pair ≡ true)
+    (λ pair fits. le-leb (aboard P pair.0.0 pair.1 + n) (seats_of I pair.1 (row_at P pair.0.0)) fits) path has)
 
 -- where more passengers are aboard, a seat that was lacking is lacking
 seats-more : (I : Situation) (Q R : PlanRows) (path : List (Leg × Cabin)) (n : ℕ) → R.rows ≡ Q.rows → ((y : ℕ) (c : Cabin) → aboard Q y c ≤ aboard R y c) → has_seats_for I Q path n ≡ false → has_seats_for I R path n ≡ false
@@ -51,11 +64,11 @@ seats-more I Q R path n rows more lacks =
     elim (cases_Bool (list_all behind path)) [
       | inl has ↦
           let all = All-weaker (λ (pair : Leg × Cabin). behind pair ≡ true) (λ (pair : Leg × Cabin). before pair ≡ true)
-              (λ pair fits.
-                  let seats : seats_of I pair.1 (row_at R pair.0.0) ≡ seats_of I pair.1 (row_at Q pair.0.0) = ap (λ (rows : List Row). let S : PlanRows = record { rows = rows; groups = [] } in seats_of I pair.1 (row_at S pair.0.0)) rows in
-                  let le : aboard R pair.0.0 pair.1 + n ≤ seats_of I pair.1 (row_at R pair.0.0) = leb-true _ _ fits in
-                  le-leb _ _ (omega (arith, more pair.0.0 pair.1, le, seats)))
-              path (AllPass-from_list_all behind path has) in
+          (λ pair fits.
+          let seats : seats_of I pair.1 (row_at R pair.0.0) ≡ seats_of I pair.1 (row_at Q pair.0.0) = ap (λ (rows : List Row). let S : PlanRows = record { rows = rows; groups = [] } in seats_of I pair.1 (row_at S pair.0.0)) rows in
+          let le : aboard R pair.0.0 pair.1 + n ≤ seats_of I pair.1 (row_at R pair.0.0) = leb-true _ _ fits in
+          le-leb _ _ (omega (arith, more pair.0.0 pair.1, le, seats)))
+          path (AllPass-from_list_all behind path has) in
           absurd (true≢false (sym (list_all-from_AllPass before path all) ∙ lacks))
       | inr none ↦ none
     ]
@@ -77,12 +90,12 @@ seats_on_pair I Q (pair ∷ path) n y c has fits =
 -- ---- one reservation
 
 -- those who go to a path are aboard its legs then
-rebook-aboard : (P : PlanRows) (r : ℕ) (path : List (Leg × Cabin)) (n y : ℕ) (c : Cabin) → r < length P.groups → n ≤ count_on [] (groups_at P r) → aboard (with_groups P r (groups_after [] path n (groups_at P r))) y c ≡ aboard P y c + cond (takes y c path) n 0
+rebook-aboard : (P : PlanRows) (r : ℕ) (path : List (Leg × Cabin)) (n y : ℕ) (c : Cabin) → r < length P.groups → n ≤ count_on [] (groups_at P r) → aboard (with_groups P r (groups_after_rebook [] path n (groups_at P r))) y c ≡ aboard P y c + cond (takes y c path) n 0
 unfolding aboard
 rebook-aboard P r path n y c within few =
-    let moved = groups_after [] path n (groups_at P r) in
+    let moved = groups_after_rebook [] path n (groups_at P r) in
     let set = sum_by-set (aboard_of y c) P.groups r moved [] within in
-    let adds : passengers_on (takes y c) moved + 0 ≡ passengers_on (takes y c) (groups_at P r) + cond (takes y c path) n 0 = groups_after-adds (takes y c) [] path n (groups_at P r) few in
+    let adds : passengers_on (takes y c) moved + 0 ≡ passengers_on (takes y c) (groups_at P r) + cond (takes y c path) n 0 = groups_after_rebook-adds (takes y c) [] path n (groups_at P r) few in
     omega (arith, set, adds)
 
 booked_sound : (I : Situation) (r : ℕ) → IsValid I → r < reservations_of I → IsReservation (legs_of I) (res_at I r)
@@ -94,14 +107,14 @@ has_leg-some x (pair ∷ path) has = refl
 
 -- what refilling a reservation does: n of those not carried go to the scheduled path, as many as have seats
 record Refills (I : Situation) (Q R : PlanRows) (r n : ℕ) : Type 0 where
-  is : R ≡ with_groups Q r (groups_after [] (booked_path I r) n (groups_at Q r))
+  is : R ≡ with_groups Q r (groups_after_rebook [] (booked_path I r) n (groups_at Q r))
   greatest : IsGreatestWithin (count_on [] (groups_at Q r)) (has_seats_for I Q (booked_path I r)) n
 
-refill_res-no : (I : Situation) (x : ℕ) (Q : PlanRows) (r : ℕ) → is_refilled I Q x r ≡ false → refill_res I x Q r ≡ Q
-refill_res-no I x Q r fails = rw fails refl
+after_refilling-no : (I : Situation) (x : ℕ) (Q : PlanRows) (r : ℕ) → is_refilled I Q x r ≡ false → after_refilling I x Q r ≡ Q
+after_refilling-no I x Q r fails = rw fails refl
 
-refill_res-yes : (I : Situation) (x : ℕ) (Q : PlanRows) (r : ℕ) → is_refilled I Q x r ≡ true → refill_res I x Q r ≡ after_rebook Q r [] (booked_path I r) (refill_count I Q r)
-refill_res-yes I x Q r holds = rw holds refl
+after_refilling-yes : (I : Situation) (x : ℕ) (Q : PlanRows) (r : ℕ) → is_refilled I Q x r ≡ true → after_refilling I x Q r ≡ after_rebook Q r [] (booked_path I r) (refill_count I Q r)
+after_refilling-yes I x Q r holds = rw holds refl
 
 refill-refills : (I : Situation) (Q : PlanRows) (r : ℕ) → Refills I Q (after_rebook Q r [] (booked_path I r) (refill_count I Q r)) r (refill_count I Q r)
 unfolding after_rebook refill_count
@@ -109,7 +122,7 @@ refill-refills I Q r =
     let greatest = greatest_within-holds (count_on [] (groups_at Q r)) (has_seats_for I Q (booked_path I r)) in
     let to = greatest.to in
     record {
-      is = ap (λ (n : ℕ). with_groups Q r (groups_after [] (booked_path I r) n (groups_at Q r))) (omega arith);
+      is = ap (λ (n : ℕ). with_groups Q r (groups_after_rebook [] (booked_path I r) n (groups_at Q r))) (omega arith);
       greatest = greatest;
     }
 
@@ -121,12 +134,12 @@ refills-full : (I : Situation) (Q R : PlanRows) (r n : ℕ) → r < length Q.gro
 unfolding has_seats_for
 refills-full I Q R r n within some refills =
     let path = booked_path I r in
-    let moved = groups_after [] path n (groups_at Q r) in
+    let moved = groups_after_rebook [] path n (groups_at Q r) in
     let few = refills.greatest.to in
     let there : groups_at R r ≡ moved = ap (λ (S : PlanRows). groups_at S r) refills.is ∙ with_groups-same Q r moved within in
     elim (le_cases n (count_on [] (groups_at Q r)) few) [
       | inl all ↦
-          let adds = rw some at (groups_after-adds (λ other. same_path other []) [] path n (groups_at Q r) few) in
+          let adds = rw some at (groups_after_rebook-adds (λ other. same_path other []) [] path n (groups_at Q r) few) in
           let left : count_on [] moved ≡ 0 = omega (arith, adds, all) in
           inl (ap (count_on []) there ∙ left)
       | inr more ↦
@@ -134,15 +147,15 @@ refills-full I Q R r n within some refills =
           let lacks : list_all before path ≡ false = refills.greatest.greatest (n + 1) (omega arith) (omega arith) in
           let behind : Leg × Cabin → Bool = λ pair. leb (aboard R pair.0.0 pair.1 + 1) (seats_of I pair.1 (row_at R pair.0.0)) in
           let same : AllByRecursion (λ (pair : Leg × Cabin). behind pair ≡ before pair) path =
-              recursion_from_All (λ (pair : Leg × Cabin). behind pair ≡ before pair) path
-                  (All-weaker (λ (pair : Leg × Cabin). takes pair.0.0 pair.1 path ≡ true) (λ (pair : Leg × Cabin). behind pair ≡ before pair)
-                      (λ pair has.
-                          let aboard_is : aboard R pair.0.0 pair.1 ≡ aboard Q pair.0.0 pair.1 + n =
-                              ap (λ (S : PlanRows). aboard S pair.0.0 pair.1) refills.is ∙ rebook-aboard Q r path n pair.0.0 pair.1 within few ∙ rw has refl in
-                          let row_is : row_at R pair.0.0 ≡ row_at Q pair.0.0 = ap (λ (S : PlanRows). row_at S pair.0.0) refills.is in
-                          let sum : aboard R pair.0.0 pair.1 + 1 ≡ aboard Q pair.0.0 pair.1 + (n + 1) = omega (arith, aboard_is) in
-                          rw (sum, row_is) refl)
-                      path (takes_each path)) in
+          recursion_from_All (λ (pair : Leg × Cabin). behind pair ≡ before pair) path
+          (All-weaker (λ (pair : Leg × Cabin). takes pair.0.0 pair.1 path ≡ true) (λ (pair : Leg × Cabin). behind pair ≡ before pair)
+          (λ pair has.
+          let aboard_is : aboard R pair.0.0 pair.1 ≡ aboard Q pair.0.0 pair.1 + n =
+          ap (λ (S : PlanRows). aboard S pair.0.0 pair.1) refills.is ∙ rebook-aboard Q r path n pair.0.0 pair.1 within few ∙ rw has refl in
+          let row_is : row_at R pair.0.0 ≡ row_at Q pair.0.0 = ap (λ (S : PlanRows). row_at S pair.0.0) refills.is in
+          let sum : aboard R pair.0.0 pair.1 + 1 ≡ aboard Q pair.0.0 pair.1 + (n + 1) = omega (arith, aboard_is) in
+          rw (sum, row_is) refl)
+          path (takes_each path)) in
           inr (agree_all behind before path same ∙ lacks)
     ]
 
@@ -157,22 +170,22 @@ refills-seats I Q R r n y c within refills =
     elim (cases_Bool (takes y c path)) [
       | inr absent ↦ inl (aboard_is ∙ rw absent (omega arith))
       | inl has ↦ elim refills.greatest.holds [
-          | inl none ↦ inl (aboard_is ∙ rw (has, none) (omega arith))
-          | inr fits ↦
-              let here : aboard R y c ≡ aboard Q y c + n = aboard_is ∙ rw has refl in
-              let le = seats_on_pair I Q path n y c has fits in
-              inr (subst (λ (row : Row). aboard R y c ≤ seats_of I c row) (sym row_is) (omega (arith, here, le)))
-        ]
+        | inl none ↦ inl (aboard_is ∙ rw (has, none) (omega arith))
+        | inr fits ↦
+            let here : aboard R y c ≡ aboard Q y c + n = aboard_is ∙ rw has refl in
+            let le = seats_on_pair I Q path n y c has fits in
+            inr (subst (λ (row : Row). aboard R y c ≤ seats_of I c row) (sym row_is) (omega (arith, here, le)))
+      ]
     ]
 
 -- ---- one reservation after another
 
 -- the plan once the first k reservations are refilled
 abbrev plan_to : Situation → ℕ → PlanRows → ℕ → PlanRows
-plan_to I x P k = fold (refill_res I x) P (numbers k)
+plan_to I x P k = fold (after_refilling I x) P (numbers k)
 
-plan_to-more : (I : Situation) (x : ℕ) (P : PlanRows) (k : ℕ) → plan_to I x P (suc k) ≡ refill_res I x (plan_to I x P k) k
-plan_to-more I x P k = fold_push (refill_res I x) P (numbers k) k
+plan_to-more : (I : Situation) (x : ℕ) (P : PlanRows) (k : ℕ) → plan_to I x P (suc k) ≡ after_refilling I x (plan_to I x P k) k
+plan_to-more I x P k = fold_push (after_refilling I x) P (numbers k) k
 
 -- what holds of that plan
 record RefilledTo (I : Situation) (x : ℕ) (P Q : PlanRows) (k : ℕ) : Type 0 where
@@ -223,11 +236,11 @@ step-no I x P Q k fails is = record {
   behind = λ r lt. elim (below_more r k lt) [
     | inl less ↦ is.behind r less
     | inr same ↦ subst (RefillsReservation I P Q x) (sym same) (record {
-        count = 0;
-        going = λ test. ap (λ (gs : List Group). passengers_on test gs + cond (test []) 0 0) (is.ahead k (omega arith)) ∙ nobody_goes (test []) (test (booked_path I k)) (passengers_on test (groups_at P k));
-        full = λ refilled. absurd (true≢false (sym refilled ∙ fails));
-        other = λ other. is.ahead k (omega arith);
-      })
+      count = 0;
+      going = λ test. ap (λ (gs : List Group). passengers_on test gs + cond (test []) 0 0) (is.ahead k (omega arith)) ∙ nobody_goes (test []) (test (booked_path I k)) (passengers_on test (groups_at P k));
+      full = λ refilled. absurd (true≢false (sym refilled ∙ fails));
+      other = λ other. is.ahead k (omega arith);
+    })
   ];
   seats = is.seats;
 }
@@ -236,7 +249,7 @@ step-no I x P Q k fails is = record {
 step-yes : (I : Situation) (x : ℕ) (P Q R : PlanRows) (k n : ℕ) → IsPlanFor I R → k < length Q.groups → has_leg x (booked_path I k) ≡ true → is_refilled I P x k ≡ true → Refills I Q R k n → RefilledTo I x P Q k → RefilledTo I x P R (suc k)
 step-yes I x P Q R k n plan within has holds refills is =
     let path = booked_path I k in
-    let moved = groups_after [] path n (groups_at Q k) in
+    let moved = groups_after_rebook [] path n (groups_at Q k) in
     let few = refills.greatest.to in
     let rows : R.rows ≡ Q.rows = ap (λ (S : PlanRows). S.rows) refills.is in
     let own : (r : ℕ) → (r ≡ k → ⊥) → groups_at R r ≡ groups_at Q r = λ r other. ap (λ (S : PlanRows). groups_at S r) refills.is ∙ with_groups-other Q k r moved other in
@@ -249,24 +262,24 @@ step-yes I x P Q R k n plan within has holds refills is =
       behind = λ r lt. elim (below_more r k lt) [
         | inl less ↦ refills-later I P Q R x r (is.behind r less) rows (own r (λ e. omega (arith, e, less))) more
         | inr same ↦ subst (RefillsReservation I P R x) (sym same) (record {
-            count = n;
-            going = λ test.
-                let there : groups_at R k ≡ moved = ap (λ (S : PlanRows). groups_at S k) refills.is ∙ with_groups-same Q k moved within in
-                ap (λ (gs : List Group). passengers_on test gs + cond (test []) n 0) there
-                ∙ groups_after-adds test [] path n (groups_at Q k) few
-                ∙ ap (λ (gs : List Group). passengers_on test gs + cond (test path) n 0) (is.ahead k (omega arith));
-            full = λ refilled. refills-full I Q R k n within (has_leg-some x path has) refills;
-            other = λ fails. absurd (true≢false (sym holds ∙ fails));
-          })
+          count = n;
+          going = λ test.
+              let there : groups_at R k ≡ moved = ap (λ (S : PlanRows). groups_at S k) refills.is ∙ with_groups-same Q k moved within in
+              ap (λ (gs : List Group). passengers_on test gs + cond (test []) n 0) there
+              ∙ groups_after_rebook-adds test [] path n (groups_at Q k) few
+              ∙ ap (λ (gs : List Group). passengers_on test gs + cond (test path) n 0) (is.ahead k (omega arith));
+          full = λ refilled. refills-full I Q R k n within (has_leg-some x path has) refills;
+          other = λ fails. absurd (true≢false (sym holds ∙ fails));
+        })
       ];
       seats = λ y c. elim (refills-seats I Q R k n y c within refills) [
         | inr fits ↦ inr fits
         | inl same ↦ elim (is.seats y c) [
-            | inl kept ↦ inl (same ∙ kept)
-            | inr fits ↦
-                let row_is : row_at R y ≡ row_at Q y = ap (λ (S : PlanRows). row_at S y) refills.is in
-                inr (subst (λ (row : Row). aboard R y c ≤ seats_of I c row) (sym row_is) (omega (arith, same, fits)))
-          ]
+          | inl kept ↦ inl (same ∙ kept)
+          | inr fits ↦
+              let row_is : row_at R y ≡ row_at Q y = ap (λ (S : PlanRows). row_at S y) refills.is in
+              inr (subst (λ (row : Row). aboard R y c ≤ seats_of I c row) (sym row_is) (omega (arith, same, fits)))
+        ]
       ];
     }
 
@@ -278,8 +291,8 @@ refilled_to I x P (suc k) valid plan le =
     let same : is_refilled I Q x k ≡ is_refilled I P x k = refilled-same I P Q x k is.rows (is.ahead k (omega arith)) in
     elim (cases_Bool (is_refilled I Q x k)) [
       | inr fails ↦
-          subst (λ (R : PlanRows). RefilledTo I x P R (suc k)) (sym (plan_to-more I x P k ∙ refill_res-no I x Q k fails))
-              (step-no I x P Q k (sym same ∙ fails) is)
+          subst (λ (R : PlanRows). RefilledTo I x P R (suc k)) (sym (plan_to-more I x P k ∙ after_refilling-no I x Q k fails))
+          (step-no I x P Q k (sym same ∙ fails) is)
       | inl holds ↦
           let path = booked_path I k in
           let R = after_rebook Q k [] path (refill_count I Q k) in
@@ -287,8 +300,8 @@ refilled_to I x P (suc k) valid plan le =
           let within : k < length Q.groups = let res = is.plan.res in omega (arith, res, le) in
           let parts = and_parts (has_leg x path) (is_fit_path I Q k path) holds in
           let there : IsPlanFor I R = after_rebook-valid I Q k [] path (refill_count I Q k) (omega arith) booked.short (All-nil (λ (pair : Leg × Cabin). pair.0.0 < legs_of I)) booked.path is.plan in
-          subst (λ (S : PlanRows). RefilledTo I x P S (suc k)) (sym (plan_to-more I x P k ∙ refill_res-yes I x Q k holds))
-              (step-yes I x P Q R k (refill_count I Q k) there within parts.0 (sym same ∙ holds) (refill-refills I Q k) is)
+          subst (λ (S : PlanRows). RefilledTo I x P S (suc k)) (sym (plan_to-more I x P k ∙ after_refilling-yes I x Q k holds))
+          (step-yes I x P Q R k (refill_count I Q k) there within parts.0 (sym same ∙ holds) (refill-refills I Q k) is)
     ]
 
 module _ (I : Situation) (P : PlanRows) (x : ℕ) (valid : IsValid I) (plan : IsPlanFor I P) where

@@ -1,14 +1,14 @@
 -- The legs of an aircraft in their order.
-use Rattle.std.proofs.Common.{◌≡◌, ℕ, zero, suc, ◌<◌, ◌⊎◌, inl, inr, Bool, true, false, cond, eqb, List, [], ◌∷◌, ◌++◌, length, refl, sym, ap, subst, ◌∙◌, arith}
+use Rattle.std.proofs.Common.{◌≡◌, ℕ, zero, suc, ◌<◌, ◌⊎◌, inl, inr, Bool, true, false, List, [], ◌∷◌, ◌++◌, length, refl, sym, ap, subst, ◌∙◌, arith}
 use Rattle.std.specs.Prelude.{filter, fold}
-use Rattle.std.specs.List.{All, AllPairs, Contains, AllByRecursion}
-use Rattle.std.proofs.lemmas.Bool.{true≢false, cases_Bool, cases_eq, cases_order, eqb-true}
+use Rattle.std.specs.List.{All, AllPairs, Contains}
+use Rattle.std.proofs.lemmas.Bool.{true≢false, cases_Bool, cases_order, eqb-true}
 use Rattle.std.proofs.lemmas.List.{drop_at}
-use Rattle.std.proofs.lemmas.List.Elements.{All-nil, All-cons, All-append, All-filter, All-weaker, All-drop, All-contains, All-contains_itself, filter_passes, filter-append, Contains-append_left, Contains-append_right}
+use Rattle.std.proofs.lemmas.List.Elements.{All-nil, All-cons, All-append, All-filter, All-weaker, All-drop, filter_passes, filter-append, Contains-append_left, Contains-append_right}
 use Rattle.std.proofs.lemmas.List.Kept.{AllPairs-cons, AllPairs-filter}
 use Rattle.std.proofs.lemmas.List.Sums.{fold-append}
 use Rattle.desk_data.specs.Situation.{Situation, legs_of}
-use Rattle.desk_data.specs.PlanRows.{PlanRows, row_at}
+use Rattle.desk_data.specs.PlanRows.{PlanRows}
 use Rattle.desk_rules.specs.Numbers.{numbers}
 use Rattle.desk_rules.specs.Rotations.{dep, precedes}
 use Rattle.desk_rules.specs.Maintenance.{flies}
@@ -68,16 +68,16 @@ pub precedes-total : (P : PlanRows) (p x y d e : ℕ) → Flies P x p d → Flie
 precedes-total P p x y d e first second different =
     elim (cases_order d e) [
       | inl same ↦ elim (cases_order x y) [
-          | inl alike ↦ absurd (different alike)
-          | inr rest ↦ elim rest [
-              | inl less ↦ inl (record { plane = p; dep = d; later = e; first = first; second = second; order = inr (same, less) })
-              | inr more ↦ inr (record { plane = p; dep = e; later = d; first = second; second = first; order = inr (sym same, more) })
-            ]
+        | inl alike ↦ absurd (different alike)
+        | inr rest ↦ elim rest [
+          | inl less ↦ inl (record { plane = p; dep = d; later = e; first = first; second = second; order = inr (same, less) })
+          | inr more ↦ inr (record { plane = p; dep = e; later = d; first = second; second = first; order = inr (sym same, more) })
         ]
+      ]
       | inr rest ↦ elim rest [
-          | inl less ↦ inl (record { plane = p; dep = d; later = e; first = first; second = second; order = inl less })
-          | inr more ↦ inr (record { plane = p; dep = e; later = d; first = second; second = first; order = inl more })
-        ]
+        | inl less ↦ inl (record { plane = p; dep = d; later = e; first = first; second = second; order = inl less })
+        | inr more ↦ inr (record { plane = p; dep = e; later = d; first = second; second = first; order = inl more })
+      ]
     ]
 
 -- ---- lists
@@ -125,13 +125,13 @@ with_leg-pairs P legs x pairs =
     let behind = filter (λ y. precedes P x y) legs in
     let all_behind : All (Precedes P x) behind = All-weaker (λ y. precedes P x y ≡ true) (Precedes P x) (λ y is. precedes-holds P x y is) behind (filter_passes (λ y. precedes P x y) legs) in
     pairs_append (Precedes P) before (x ∷ behind)
-        (AllPairs-filter (Precedes P) (λ y. precedes P y x) legs pairs)
-        (AllPairs-cons (Precedes P) x behind all_behind (AllPairs-filter (Precedes P) (λ y. precedes P x y) legs pairs))
-        (All-weaker (λ y. precedes P y x ≡ true) (λ y. All (Precedes P y) (x ∷ behind))
-            (λ y is.
-                let less = precedes-holds P y x is in
-                All-cons (Precedes P y) x behind less (All-weaker (Precedes P x) (Precedes P y) (λ z more. precedes-trans P y x z less more) behind all_behind))
-            before (filter_passes (λ y. precedes P y x) legs))
+    (AllPairs-filter (Precedes P) (λ y. precedes P y x) legs pairs)
+    (AllPairs-cons (Precedes P) x behind all_behind (AllPairs-filter (Precedes P) (λ y. precedes P x y) legs pairs))
+    (All-weaker (λ y. precedes P y x ≡ true) (λ y. All (Precedes P y) (x ∷ behind))
+    (λ y is.
+    let less = precedes-holds P y x is in
+    All-cons (Precedes P y) x behind less (All-weaker (Precedes P x) (Precedes P y) (λ z more. precedes-trans P y x z less more) behind all_behind))
+    before (filter_passes (λ y. precedes P y x) legs))
 
 -- the legs of an aircraft among the first k
 record AreFirstLegs (P : PlanRows) (p k : ℕ) (legs : List ℕ) : Type 0 where
@@ -147,7 +147,7 @@ first_legs-more P p k legs here is =
     let before = filter (λ y. precedes P y k) legs in
     let behind = filter (λ y. precedes P k y) legs in
     let wide : All (λ x. (x < suc k) × (flies P p x ≡ true)) legs =
-        All-weaker (λ x. (x < k) × (flies P p x ≡ true)) (λ x. (x < suc k) × (flies P p x ≡ true)) (λ x both. (let lt = both.0 in let l : x < suc k = omega (arith, lt) in l, both.1)) legs is.flown in
+    All-weaker (λ x. (x < k) × (flies P p x ≡ true)) (λ x. (x < suc k) × (flies P p x ≡ true)) (λ x both. (let lt = both.0 in let l : x < suc k = omega (arith, lt) in l, both.1)) legs is.flown in
     let own : (k < suc k) × (flies P p k ≡ true) = (let l : k < suc k = omega arith in l, here) in
     record {
       ordered = with_leg-pairs P legs k is.ordered;
@@ -181,7 +181,7 @@ first_legs P p (suc k) =
     let legs = fold (with_leg P) [] (filter (flies P p) (numbers k)) in
     let is = first_legs P p k in
     let parts : fold (with_leg P) [] (filter (flies P p) (numbers k ++ k ∷ [])) ≡ fold (with_leg P) legs (filter (flies P p) (k ∷ [])) =
-        ap (fold (with_leg P) []) (filter-append (flies P p) (numbers k) (k ∷ [])) ∙ fold-append (with_leg P) [] (filter (flies P p) (numbers k)) (filter (flies P p) (k ∷ [])) in
+    ap (fold (with_leg P) []) (filter-append (flies P p) (numbers k) (k ∷ [])) ∙ fold-append (with_leg P) [] (filter (flies P p) (numbers k)) (filter (flies P p) (k ∷ [])) in
     elim (cases_Bool (flies P p k)) [
       | inl here ↦ subst (AreFirstLegs P p (suc k)) (sym (parts ∙ rw here refl)) (first_legs-more P p k legs here is)
       | inr gone ↦ subst (AreFirstLegs P p (suc k)) (sym (parts ∙ rw gone refl)) (first_legs-same P p k legs gone is)

@@ -1,7 +1,7 @@
 -- What Swap does.
-use Rattle.std.proofs.Common.{◌≡◌, ℕ, ◌<◌, ◌≤◌, inl, inr, Bool, true, false, cond, leb, eqb, List, [], ◌∷◌, length, refl, sym, ap, subst, ◌∙◌}
+use Rattle.std.proofs.Common.{◌≡◌, ℕ, ◌<◌, ◌≤◌, inl, inr, List, [], ◌∷◌, length, refl, sym, ap, ◌∙◌}
 use Rattle.std.specs.Prelude.{map}
-use Rattle.std.proofs.lemmas.Bool.{cases_Bool, cases_eq, cases_lt, eq-eqb, ne_eqb, eqb-true, le-leb, lt-leb}
+use Rattle.std.proofs.lemmas.Bool.{cases_eq, cases_lt, eq-eqb, ne_eqb, le-leb, lt-leb}
 use Rattle.std.proofs.lemmas.List.{length-map, get_or-map, get_or_past}
 use Rattle.std.proofs.lemmas.List.Elements.{All-map, All-weaker}
 use Rattle.desk_units.specs.declared.numbers.Plane.{Plane}
@@ -11,7 +11,6 @@ use Rattle.desk_data.specs.declared.row.Row.TheVariants.{Flown, Cancelled}
 use Rattle.desk_data.specs.Situation.{Situation, planes_of}
 use Rattle.desk_data.specs.PlanRows.{PlanRows, IsRow, row_at}
 use Rattle.desk_data.specs.Valid.{IsRowOf, IsPlanFor}
-use Rattle.desk_rules.specs.Words.{Flies}
 use Rattle.desk_model.specs.Swap.{other_plane, row_after_swap, after_swap, SwapsLeg}
 
 -- ---- of two aircraft the other one
@@ -42,9 +41,9 @@ other-other p q plane =
     elim (cases_eq plane p) [
       | inl first ↦ ap (λ (k : ℕ). other_plane p q (other_plane p q k)) first ∙ ap (other_plane p q) (other-first p q) ∙ other-second p q ∙ sym first
       | inr not_first ↦ elim (cases_eq plane q) [
-          | inl second ↦ ap (λ (k : ℕ). other_plane p q (other_plane p q k)) second ∙ ap (other_plane p q) (other-second p q) ∙ other-first p q ∙ sym second
-          | inr third ↦ ap (other_plane p q) (other-third p q plane not_first third) ∙ other-third p q plane not_first third
-        ]
+        | inl second ↦ ap (λ (k : ℕ). other_plane p q (other_plane p q k)) second ∙ ap (other_plane p q) (other-second p q) ∙ other-first p q ∙ sym second
+        | inr third ↦ ap (other_plane p q) (other-third p q plane not_first third) ∙ other-third p q plane not_first third
+      ]
     ]
 
 -- ---- one row
@@ -135,9 +134,9 @@ other-lt planes p q plane first second own =
     elim (cases_eq plane p) [
       | inl same ↦ rw (eq-eqb plane p same) second
       | inr different ↦ elim (cases_eq plane q) [
-          | inl same ↦ rw (ne_eqb plane p different, eq-eqb plane q same) first
-          | inr third ↦ rw (ne_eqb plane p different, ne_eqb plane q third) own
-        ]
+        | inl same ↦ rw (ne_eqb plane p different, eq-eqb plane q same) first
+        | inr third ↦ rw (ne_eqb plane p different, ne_eqb plane q third) own
+      ]
     ]
 
 row-of : (planes p q at : ℕ) → p < planes → q < planes → (row : Row) → IsRowOf planes row → IsRowOf planes (row_after_swap p q at row)

@@ -10,11 +10,11 @@ ghost use Rattle.desk_data.specs.PlanRows.{PlanRows, groups_at, row_at};
 ghost use Rattle.desk_data.specs.Valid.{IsPathOf, IsPlanFor, IsRowOf, IsValid};
 ghost use Rattle.desk_rules.specs.Words.{Flies, Precedes};
 ghost use Rattle.desk_model.specs.Choices.{HoldsOfNone, IsFirstWithin, IsGreatestWithin, first_within, greatest_within};
-ghost use Rattle.desk_model.specs.Push.{IsPushed, PlacesLeg, after_push, pushed_legs};
+ghost use Rattle.desk_model.specs.Push.{ArrivesBeside, DepartsBeside, IsPushed, PlacesLeg, after_push, arrives_beside, departs_beside, pushed_legs};
 ghost use Rattle.desk_model.specs.Swap.{SwapsLeg, after_swap};
 ghost use Rattle.desk_model.specs.Rebook.{RebooksPassengers, after_rebook, count_on};
 ghost use Rattle.desk_model.specs.Tidy.{AreNoMoreCarried, TidiesReservation, after_tidy};
-ghost use Rattle.desk_model.specs.Refill.{IsNotOverfilled, RefillsReservation, after_refill};
+ghost use Rattle.desk_model.specs.Refill.{HasSeatsFor, IsNotOverfilled, RefillsReservation, after_refill, has_seats_for};
 ghost use Rattle.desk_model.specs.Steps.{SetsLeg, after_set};
 
 /// Each step makes a valid plan of a valid plan, where its numbers are in range, its departures below
@@ -35,6 +35,14 @@ pub fn choices_are_the_first_and_the_greatest()
     ensures first { (low high : ℕ) (test : ℕ → Bool) (t : ℕ) → first_within low high test ≡ Some t ↔ IsFirstWithin low high test t }
     ensures none { (low high : ℕ) (test : ℕ → Bool) → first_within low high test ≡ None ↔ HoldsOfNone low high test }
     ensures greatest { (n : ℕ) (test : ℕ → Bool) (k : ℕ) → greatest_within n test ≡ k ↔ IsGreatestWithin n test k }
+{}
+
+/// What the steps count, in words: the legs that depart from an airport or arrive there in an hour
+/// beside the leg that is placed, and the seats that are left on a path's legs.
+pub fn the_steps_count_as_in_words()
+    ensures departs { (I : Situation) (Q : PlanRows) (x a h y : ℕ) → departs_beside I Q x a h y ≡ true ↔ DepartsBeside I Q x a h y }
+    ensures arrives { (I : Situation) (Q : PlanRows) (x a h y : ℕ) → arrives_beside I Q x a h y ≡ true ↔ ArrivesBeside I Q x a h y }
+    ensures seats { (I : Situation) (P : PlanRows) (path : Items (Leg × Cabin)) (n : ℕ) → has_seats_for I P path n ≡ true ↔ HasSeatsFor I P path n }
 {}
 
 /// A Set changes the row of its leg where it is the one that the step names, and nothing else.
