@@ -67,9 +67,17 @@ fn the_last_order_of_a_leg_decides(rt: HostRuntime) -> Result<(), Fail> {
     for (first, second, earliest, off) in table.iter() {
         let orders = [late(1, *first), late(0, Some(7)), late(1, *second)];
         let inst = disrupted(rt.alloc(), orders.as_slice())?;
-        assert_eq!(rt; asked_of_leg(&inst), Some((*earliest, *off)));
+        assert_eq!(rt;
+            asked_of_leg(&inst),
+            Some((*earliest, *off)),
+            "{first:?} {second:?}"
+        );
         let copy = inst.copy(rt.alloc())?;
-        assert_eq!(rt; asked_of_leg(&copy), Some((*earliest, *off)));
+        assert_eq!(rt;
+            asked_of_leg(&copy),
+            Some((*earliest, *off)),
+            "{first:?} {second:?}"
+        );
     }
     Ok(())
 }
@@ -99,7 +107,11 @@ fn orders_have_edges(rt: HostRuntime) -> Result<(), Fail> {
                 },
             ]?),
         };
-        assert_eq!(rt; can_add(&inst, &batch), *expected);
+        assert_eq!(rt;
+            can_add(&inst, &batch),
+            *expected,
+            "{leg} {plane} {airport} {delay}"
+        );
     }
     Ok(())
 }
@@ -233,7 +245,7 @@ fn orders_go_before_groups(rt: HostRuntime) -> Result<(), Fail> {
     let inst = with_orders(rt.alloc(), inst, orders.as_slice())?;
     let table = [(9, Some(5)), (10, Some(9)), (11, Some(5)), (12, None)];
     for (hour, deps) in table.iter() {
-        assert_eq!(rt; caps_of(&inst, *hour), (*deps, deps.map(|_| 100)));
+        assert_eq!(rt; caps_of(&inst, *hour), (*deps, deps.map(|_| 100)), "{hour}");
     }
     Ok(())
 }
@@ -295,7 +307,8 @@ fn paths_begin_with_what_has_begun(rt: HostRuntime) -> Result<(), Fail> {
         };
         assert_eq!(rt;
             asked_of_res(&inst, groups.as_slice(), &path),
-            Some((*begun, *bound))
+            Some((*begun, *bound)),
+            "{from} {both} {begun} {bound}"
         );
     }
     Ok(())
@@ -327,7 +340,7 @@ fn fixed_legs_are_due(rt: HostRuntime) -> Result<(), Fail> {
     for (from, orders, due) in table.iter() {
         let inst = with_window(rt.alloc(), *from, true)?;
         let inst = with_orders(rt.alloc(), inst, orders)?;
-        assert_eq!(rt; due_of(&inst), *due);
+        assert_eq!(rt; due_of(&inst), *due, "{from} {orders:?}");
     }
     Ok(())
 }

@@ -225,7 +225,7 @@ fn flown_legs_cost_the_hours_of_their_aircraft(rt: HostRuntime) -> Result<(), Fa
     for (weight, rows, grains) in table.iter() {
         let weights = [(Term::Operating, *weight)];
         let cost = cost_of(rt.alloc(), &priced(&[], &weights), rows, BOOKED)?;
-        assert_eq!(rt; cost, Some(Grains(*grains)));
+        assert_eq!(rt; cost, Some(Grains(*grains)), "{weight} {rows:?}");
     }
     Ok(())
 }
@@ -284,7 +284,7 @@ fn late_passengers_cost_the_hours_of_what_they_booked(rt: HostRuntime) -> Result
         ];
         let day = priced(&prices, &weights);
         let cost = cost_of(rt.alloc(), &day, rows, [*way, SECOND])?;
-        assert_eq!(rt; cost, Some(Grains(*grains)));
+        assert_eq!(rt; cost, Some(Grains(*grains)), "{weight} {rows:?} {way:?}");
     }
     Ok(())
 }
@@ -323,7 +323,11 @@ fn cancelled_passengers_cost_the_price_of_what_they_booked(rt: HostRuntime) -> R
         ];
         let day = priced(&prices, &weights);
         let cost = cost_of(rt.alloc(), &day, rows, [*first, *second])?;
-        assert_eq!(rt; cost, Some(Grains(*grains)));
+        assert_eq!(rt;
+            cost,
+            Some(Grains(*grains)),
+            "{weight} {rows:?} {first:?} {second:?}"
+        );
     }
     Ok(())
 }
@@ -368,7 +372,11 @@ fn legs_in_lower_cabins_cost_the_price_of_their_haul(rt: HostRuntime) -> Result<
         ];
         let day = priced(&prices, &weights);
         let cost = cost_of(rt.alloc(), &day, rows, [*first, *second])?;
-        assert_eq!(rt; cost, Some(Grains(*grains)));
+        assert_eq!(rt;
+            cost,
+            Some(Grains(*grains)),
+            "{weight} {rows:?} {first:?} {second:?}"
+        );
     }
     Ok(())
 }
@@ -424,7 +432,11 @@ fn late_and_uncarried_passengers_are_owed_by_law(rt: HostRuntime) -> Result<(), 
         let weights = [(Term::Operating, 0), (Term::Legal, *weight)];
         let day = priced(&prices, &weights);
         let cost = cost_of(rt.alloc(), &day, rows, [*first, *second])?;
-        assert_eq!(rt; cost, Some(Grains(*grains)));
+        assert_eq!(rt;
+            cost,
+            Some(Grains(*grains)),
+            "{weight} {rows:?} {first:?} {second:?}"
+        );
     }
     Ok(())
 }
@@ -471,7 +483,11 @@ fn missing_aircraft_cost_the_position_price(rt: HostRuntime) -> Result<(), Fail>
             wanted,
         };
         let cost = cost_of(rt.alloc(), &day, rows, BOOKED)?;
-        assert_eq!(rt; cost, Some(Grains(*grains)));
+        assert_eq!(rt;
+            cost,
+            Some(Grains(*grains)),
+            "{weight} {to:?} {rows:?} {grains}"
+        );
     }
     Ok(())
 }

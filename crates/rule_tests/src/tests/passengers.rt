@@ -149,7 +149,8 @@ fn connections_are_told(rt: HostRuntime) -> Result<(), Fail> {
         let row = flown(second.0, second.1);
         assert_eq!(rt;
             told_of(rt.alloc(), &day, (1, row), [BOTH, BOTH])?,
-            Some(*item)
+            Some(*item),
+            "{prev:?} {second:?}"
         );
     }
     Ok(())
@@ -189,7 +190,11 @@ fn paths_are_told(rt: HostRuntime) -> Result<(), Fail> {
             ..USUAL
         };
         let row = flown(0, *second);
-        assert_eq!(rt; told_of(rt.alloc(), &day, (1, row), *ways)?, Some(*item));
+        assert_eq!(rt;
+            told_of(rt.alloc(), &day, (1, row), *ways)?,
+            Some(*item),
+            "{from} {second} {ways:?}"
+        );
     }
     Ok(())
 }
@@ -208,7 +213,8 @@ fn each_reservation_keeps_what_it_began_itself(rt: HostRuntime) -> Result<(), Fa
         let row = (1, flown(0, 570));
         assert_eq!(rt;
             told_of(rt.alloc(), &day, row, [*way, &[DIRECT]])?,
-            Some(*item)
+            Some(*item),
+            "{way:?}"
         );
     }
     Ok(())
@@ -251,7 +257,11 @@ fn early_late_and_cancelled_paths_are_told(rt: HostRuntime) -> Result<(), Fail> 
             ..USUAL
         };
         let row = (leg.0, row_of(0, leg.1));
-        assert_eq!(rt; told_of(rt.alloc(), &day, row, [*way, &[]])?, Some(*item));
+        assert_eq!(rt;
+            told_of(rt.alloc(), &day, row, [*way, &[]])?,
+            Some(*item),
+            "{hauls:?} {leg:?} {way:?}"
+        );
     }
     Ok(())
 }

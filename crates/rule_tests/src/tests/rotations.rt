@@ -180,7 +180,7 @@ fn moved_and_swapped_legs_are_told(rt: HostRuntime) -> Result<(), Fail> {
         (pair((4, 600), (4, 600)), None),
     ];
     for (rows, item) in table.iter() {
-        assert_eq!(rt; told_of(rt.alloc(), None, *rows)?, Some(*item));
+        assert_eq!(rt; told_of(rt.alloc(), None, *rows)?, Some(*item), "{rows:?}");
     }
     Ok(())
 }
@@ -255,7 +255,11 @@ fn legs_against_orders_are_told(rt: HostRuntime) -> Result<(), Fail> {
         (aircraft(4, 400, 800), first_at(480), None),
     ];
     for (order, rows, item) in table.iter() {
-        assert_eq!(rt; told_of(rt.alloc(), Some(*order), *rows)?, Some(*item));
+        assert_eq!(rt;
+            told_of(rt.alloc(), Some(*order), *rows)?,
+            Some(*item),
+            "{order:?} {rows:?}"
+        );
     }
     Ok(())
 }
