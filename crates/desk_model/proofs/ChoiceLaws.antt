@@ -1,5 +1,5 @@
 -- The first and the greatest number of which a test holds.
-use Rattle.std.proofs.Common.{◌≡◌, ℕ, zero, suc, ◌+◌, ◌-◌, ◌<◌, ◌≤◌, ◌⊎◌, inl, inr, Bool, true, false, cond, List, [], ◌∷◌, ◌++◌, refl, sym, ap, subst, ◌∙◌, arith, add-one}
+use Rattle.std.proofs.Common.{◌≡◌, ℕ, zero, suc, ◌+◌, ◌-◌, ◌<◌, ◌≤◌, ◌⊎◌, inl, inr, Bool, true, false, cond, List, [], ◌∷◌, refl, sym, ap, subst, ◌∙◌, arith, add-one}
 use Rattle.std.specs.Prelude.{find, map, reverse, None, Some, Option, unwrap_or}
 use Rattle.std.specs.Option.{option_or}
 use Rattle.std.proofs.lemmas.Bool.{cases_Bool, cases_order, true≢false}
@@ -12,12 +12,12 @@ use Rattle.desk_model.specs.Choices.{first_within, greatest_within, IsFirstWithi
 -- ---- the first
 
 -- the place of the first of some numbers of which the test holds
-record FirstAt (test : ℕ → Bool) (f : ℕ → ℕ) (n t : ℕ) : Type 0 where
-  place : ℕ
-  within : place < n
-  is : f place ≡ t
-  holds : test t ≡ true
-  before : (j : ℕ) → j < place → test (f j) ≡ false
+pub record FirstAt (test : ℕ → Bool) (f : ℕ → ℕ) (n t : ℕ) : Type 0 where
+  pub place : ℕ
+  pub within : place < n
+  pub is : f place ≡ t
+  pub holds : test t ≡ true
+  pub before : (j : ℕ) → j < place → test (f j) ≡ false
 
 found_last : (test : ℕ → Bool) (f : ℕ → ℕ) (n t : ℕ) (b : Bool) → test (f n) ≡ b → cond b (Some (f n)) None ≡ Some t → ((j : ℕ) → j < n → test (f j) ≡ false) → FirstAt test f (suc n) t
 found_last test f n t true here h before =
@@ -32,11 +32,11 @@ found_more test f n t (Some s) is h earlier =
     record { place = at.place; within = omega arith; is = at.is; holds = at.holds; before = at.before }
 found_more test f n t None is h earlier = found_last test f n t (test (f n)) refl h (none_of_numbers test f n is)
 
-found_first : (test : ℕ → Bool) (f : ℕ → ℕ) (n t : ℕ) → find test (map f (numbers n)) ≡ Some t → FirstAt test f n t
+pub found_first : (test : ℕ → Bool) (f : ℕ → ℕ) (n t : ℕ) → find test (map f (numbers n)) ≡ Some t → FirstAt test f n t
 found_first test f zero t h = absurd cc
 found_first test f (suc n) t h =
     let parts : option_or (find test (map f (numbers n))) (find test (f n ∷ [])) ≡ Some t =
-        sym (find-append test (map f (numbers n)) (f n ∷ [])) ∙ ap (find test) (sym (map-append f (numbers n) (n ∷ []))) ∙ h in
+    sym (find-append test (map f (numbers n)) (f n ∷ [])) ∙ ap (find test) (sym (map-append f (numbers n) (n ∷ []))) ∙ h in
     found_more test f n t (find test (map f (numbers n))) refl parts (λ s e. found_first test f n s e)
 
 pub first_within-holds : (low high : ℕ) (test : ℕ → Bool) (t : ℕ) → first_within low high test ≡ Some t → IsFirstWithin low high test t
@@ -61,8 +61,8 @@ first_within-from low high test t is =
     let to = is.to in
     let there : low + (t - low) ≡ t = omega arith in
     first_of_numbers test (λ k. low + k) (high + 1 - low) (t - low) (omega arith)
-        (subst (λ (k : ℕ). test k ≡ true) (sym there) is.holds)
-        (λ j before. is.first (low + j) (omega arith) (omega arith))
+    (subst (λ (k : ℕ). test k ≡ true) (sym there) is.holds)
+    (λ j before. is.first (low + j) (omega arith) (omega arith))
     ∙ ap Some there
 
 pub first_within-none : (low high : ℕ) (test : ℕ → Bool) → first_within low high test ≡ None → HoldsOfNone low high test
@@ -104,7 +104,7 @@ greatest_within-step test n k false here is =
 pub greatest_within-holds : (n : ℕ) (test : ℕ → Bool) → IsGreatestWithin n test (greatest_within n test)
 unfolding greatest_within
 greatest_within-holds zero test =
-    let here : unwrap_or (find test (reverse (numbers 1))) 0 ≡ 0 = greatest-at test 0 ∙ (elim (cases_Bool (test 0)) [ | inl holds ↦ rw holds refl | inr fails ↦ rw fails refl ]) in
+    let here : unwrap_or (find test (reverse (numbers 1))) 0 ≡ 0 = greatest-at test 0 ∙ (elim (cases_Bool (test 0)) [ inl holds ↦ rw holds refl | inr fails ↦ rw fails refl ]) in
     subst (IsGreatestWithin 0 test) (sym here) (record { to = omega arith; holds = inl refl; greatest = λ j above within. absurd (omega arith) })
 greatest_within-holds (suc n) test =
     rw (add-one, greatest-at test (suc n)) (greatest_within-step test n (unwrap_or (find test (reverse (numbers (suc n)))) 0) (test (suc n)) refl (rw add-one at (greatest_within-holds n test)))
@@ -116,13 +116,13 @@ greatest_within-is n test k is =
     elim (cases_order (greatest_within n test) k) [
       | inl same ↦ same
       | inr rest ↦ elim rest [
-          | inl more ↦ elim is.holds [
-              | inl none ↦ absurd (omega (arith, none, more))
-              | inr holds ↦ absurd (true≢false (sym holds ∙ own.greatest k more is.to))
-            ]
-          | inr less ↦ elim own.holds [
-              | inl none ↦ absurd (omega (arith, none, less))
-              | inr holds ↦ absurd (true≢false (sym holds ∙ is.greatest (greatest_within n test) less own.to))
-            ]
+        | inl more ↦ elim is.holds [
+          | inl none ↦ absurd (omega (arith, none, more))
+          | inr holds ↦ absurd (true≢false (sym holds ∙ own.greatest k more is.to))
         ]
+        | inr less ↦ elim own.holds [
+          | inl none ↦ absurd (omega (arith, none, less))
+          | inr holds ↦ absurd (true≢false (sym holds ∙ is.greatest (greatest_within n test) less own.to))
+        ]
+      ]
     ]

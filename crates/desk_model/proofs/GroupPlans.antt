@@ -1,7 +1,6 @@
 -- Plans with other groups for a reservation.
-use Rattle.std.proofs.Common.{◌≡◌, ℕ, zero, suc, ◌+◌, ◌<◌, ◌≤◌, min, ◌⊎◌, inl, inr, Bool, true, false, cond, List, [], ◌∷◌, ◌++◌, length, get_or, refl, sym, ap, subst, ◌∙◌, arith, length-append}
+use Rattle.std.proofs.Common.{◌≡◌, ℕ, zero, suc, ◌+◌, ◌<◌, ◌≤◌, min, ◌⊎◌, inl, inr, cond, List, [], ◌∷◌, ◌++◌, length, get_or, refl, sym, ap, subst, ◌∙◌, arith}
 use Rattle.std.specs.Prelude.{map}
-use Rattle.std.specs.List.{All, AllPairs}
 use Rattle.std.proofs.lemmas.Bool.{cases_eq, cases_lt}
 use Rattle.std.proofs.lemmas.List.{length-set, set-get_or, get_or-set_same, get_or-set_other, get_or_past, map-append, get_or_append_left, get_or-append-add}
 use Rattle.std.proofs.lemmas.List.Elements.{All-set, All-get_or, All-nil}
@@ -13,9 +12,9 @@ use Rattle.desk_data.specs.PlanRows.{PlanRows, IsGroup, AreGroups, groups_at, wi
 use Rattle.desk_data.specs.Valid.{IsPathOf, AreGroupsOf, IsPlanFor}
 use Rattle.desk_rules.specs.Numbers.{numbers}
 use Rattle.desk_rules.proofs.HourLaws.{length-numbers}
-use Rattle.desk_model.specs.Rebook.{passengers_on, count_on, groups_after, after_rebook, RebooksPassengers}
+use Rattle.desk_model.specs.Rebook.{passengers_on, count_on, groups_after_rebook, after_rebook, RebooksPassengers}
 use Rattle.desk_model.proofs.PathOrder.{pairs_nil}
-use Rattle.desk_model.proofs.RebookLaws.{Ascends, groups_after-adds, groups_after-groups, groups_after-of, groups_after-same, groups_after-none}
+use Rattle.desk_model.proofs.RebookLaws.{Ascends, groups_after_rebook-adds, groups_after_rebook-groups, groups_after_rebook-of, groups_after_rebook-same, groups_after_rebook-none}
 
 -- ---- the numbers below n
 
@@ -65,7 +64,7 @@ with_groups-valid I P r groups sound all plan = record {
         | inl same ↦
             let there : r < length P.groups = let res = plan.res in omega (arith, res, within, same) in
             subst (λ (k : ℕ). AreGroupsOf (legs_of I) (res_at I k).count (groups_at (with_groups P r groups) k)) (sym same)
-                (subst (AreGroupsOf (legs_of I) (res_at I r).count) (sym (with_groups-same P r groups there)) (all (subst (λ (k : ℕ). k < reservations_of I) same within)))
+            (subst (AreGroupsOf (legs_of I) (res_at I r).count) (sym (with_groups-same P r groups there)) (all (subst (λ (k : ℕ). k < reservations_of I) same within)))
         | inr other ↦ subst (AreGroupsOf (legs_of I) (res_at I s).count) (sym (with_groups-other P r s groups other)) (plan.groups s within)
       ];
 }
@@ -80,30 +79,30 @@ after_rebook-rebooks I P r path to count within plan =
     let there : r < length P.groups = let res = plan.res in omega (arith, res, within) in
     record {
       rows = refl;
-      others = λ s other. with_groups-other P r s (groups_after path to n (groups_at P r)) other;
+      others = λ s other. with_groups-other P r s (groups_after_rebook path to n (groups_at P r)) other;
       going = λ test.
           subst (λ (groups : List Group). passengers_on test groups + cond (test path) n 0 ≡ passengers_on test (groups_at P r) + cond (test to) n 0)
-              (sym (with_groups-same P r (groups_after path to n (groups_at P r)) there))
-              (groups_after-adds test path to n (groups_at P r) few);
+          (sym (with_groups-same P r (groups_after_rebook path to n (groups_at P r)) there))
+          (groups_after_rebook-adds test path to n (groups_at P r) few);
     }
 
 pub after_rebook-same : (I : Situation) (P : PlanRows) (r : ℕ) (path : List (Leg × Cabin)) (count : ℕ) → IsPlanFor I P → after_rebook P r path path count ≡ P
 unfolding after_rebook
 after_rebook-same I P r path count plan =
-    with_groups-own P r _ (groups_after-same path (min count (count_on path (groups_at P r))) (groups_at P r) (omega arith) (groups_at-groups I P r plan))
+    with_groups-own P r _ (groups_after_rebook-same path (min count (count_on path (groups_at P r))) (groups_at P r) (omega arith) (groups_at-groups I P r plan))
 
 pub after_rebook-none : (I : Situation) (P : PlanRows) (r : ℕ) (path to : List (Leg × Cabin)) (count : ℕ) → IsPlanFor I P → count_on path (groups_at P r) ≡ 0 → after_rebook P r path to count ≡ P
 unfolding after_rebook
 after_rebook-none I P r path to count plan none =
     let zero_moves : min count (count_on path (groups_at P r)) ≡ 0 = omega (arith, none) in
     with_groups-own P r _
-        (ap (λ (n : ℕ). groups_after path to n (groups_at P r)) zero_moves ∙ groups_after-none path to (groups_at P r) (groups_at-groups I P r plan))
+    (ap (λ (n : ℕ). groups_after_rebook path to n (groups_at P r)) zero_moves ∙ groups_after_rebook-none path to (groups_at P r) (groups_at-groups I P r plan))
 
 pub after_rebook-valid : (I : Situation) (P : PlanRows) (r : ℕ) (path to : List (Leg × Cabin)) (count : ℕ) → length path ≤ 8 → length to ≤ 8 → IsPathOf (legs_of I) path → IsPathOf (legs_of I) to → IsPlanFor I P → IsPlanFor I (after_rebook P r path to count)
 unfolding after_rebook
 after_rebook-valid I P r path to count short short_to among among_to plan =
     let n = min count (count_on path (groups_at P r)) in
-    with_groups-valid I P r (groups_after path to n (groups_at P r))
-        (groups_after-groups path to n (groups_at P r) short short_to (groups_at-groups I P r plan))
-        (λ within. groups_after-of (legs_of I) (res_at I r).count path to n (groups_at P r) among among_to (omega arith) (plan.groups r within))
-        plan
+    with_groups-valid I P r (groups_after_rebook path to n (groups_at P r))
+    (groups_after_rebook-groups path to n (groups_at P r) short short_to (groups_at-groups I P r plan))
+    (λ within. groups_after_rebook-of (legs_of I) (res_at I r).count path to n (groups_at P r) among among_to (omega arith) (plan.groups r within))
+    plan

@@ -3,6 +3,11 @@ pub mod PathOrder
 pub mod SetLaws
 pub mod RebookLaws
 pub mod GroupPlans
+pub mod TidyLaws
+pub mod RefillLaws
+pub mod RotationOrder
+pub mod BesideLaws
+pub mod PushLaws
 pub mod SwapLaws
 pub mod StateLaws
 pub mod HistoryLaws

@@ -1,5 +1,5 @@
 -- The order of paths, and lists that ascend by it.
-use Rattle.std.proofs.Common.{◌≡◌, ℕ, zero, suc, ◌<◌, ◌⊎◌, inl, inr, Bool, true, false, ◌&&◌, eqb, List, [], ◌∷◌, ◌++◌, length, refl, sym, ap, subst, ◌∙◌, arith}
+use Rattle.std.proofs.Common.{◌≡◌, ℕ, suc, ◌<◌, true, eqb, List, [], ◌∷◌, ◌++◌, refl, sym, ap, subst, ◌∙◌, arith}
 use Rattle.std.specs.List.{All, AllPairs}
 use Rattle.std.specs.Cmp.{IsTotalOrder}
 use Rattle.std.specs.Ordering.{nat_cmp, ordering_then, ordering_reverse, MatchOrdering, is_lt, is_eq, is_gt}
@@ -7,7 +7,7 @@ use Rattle.std.specs.declared.cmp.Ordering.{Ordering}
 use Rattle.std.specs.declared.cmp.Ordering.TheVariants.{Less, Equal, Greater}
 use Rattle.std.proofs.lemmas.Bool.{true≢false, and_from, eq-eqb}
 use Rattle.std.proofs.lemmas.Cmp.{ranked, nat_cmp_total, on_total, then_total, lists_total, tied_itself}
-use Rattle.std.proofs.lemmas.List.Elements.{All-append, All-nil}
+use Rattle.std.proofs.lemmas.List.Elements.{All-append}
 use Rattle.std.proofs.lemmas.List.Kept.{AllPairs-cons}
 use Rattle.desk_units.specs.declared.numbers.Leg.{Leg}
 use Rattle.desk_units.specs.declared.numbers.Cabin.{Cabin}
@@ -57,9 +57,9 @@ pair_same : (a b : Leg × Cabin) → pair_cmp a b ≡ Equal → a ≡ b
 pair_same a b e =
     let parts = then_equal (nat_cmp a.0.0 b.0.0) (nat_cmp (cabin_rank a.1) (cabin_rank b.1)) e in
     same_pair-holds a b
-        (and_from (eqb a.0.0 b.0.0) (eqb (cabin_rank a.1) (cabin_rank b.1))
-        (eq-eqb a.0.0 b.0.0 (nat_same a.0.0 b.0.0 parts.0))
-        (eq-eqb (cabin_rank a.1) (cabin_rank b.1) (nat_same (cabin_rank a.1) (cabin_rank b.1) parts.1)))
+    (and_from (eqb a.0.0 b.0.0) (eqb (cabin_rank a.1) (cabin_rank b.1))
+    (eq-eqb a.0.0 b.0.0 (nat_same a.0.0 b.0.0 parts.0))
+    (eq-eqb (cabin_rank a.1) (cabin_rank b.1) (nat_same (cabin_rank a.1) (cabin_rank b.1) parts.1)))
 
 pub path_same : (a b : List (Leg × Cabin)) → path_cmp a b ≡ Equal → a ≡ b
 path_same [] [] e = refl
@@ -93,4 +93,4 @@ pub pairs_append : {X : Type 0} (R : X → X → Type 0) (xs ys : List X) → Al
 pairs_append R [] ys first second across = second
 pairs_append R (x ∷ xs) ys first second across =
     AllPairs-cons R x (xs ++ ys) (All-append (R x) xs ys (pairs_head R x xs first) (λ k d within. across 0 x (omega arith) k d within))
-        (pairs_append R xs ys (pairs_tail R x xs first) second (λ i d within. across (suc i) d (omega arith)))
+    (pairs_append R xs ys (pairs_tail R x xs first) second (λ i d within. across (suc i) d (omega arith)))

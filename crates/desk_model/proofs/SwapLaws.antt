@@ -1,14 +1,16 @@
 -- What Swap does.
-use Rattle.std.proofs.Common.{◌≡◌, ℕ, ◌<◌, ◌≤◌, inl, inr, Bool, true, false, cond, leb, eqb, List, [], ◌∷◌, length, refl, sym, ap, subst, ◌∙◌}
+use Rattle.std.proofs.Common.{◌≡◌, ℕ, ◌<◌, ◌≤◌, inl, inr, List, [], ◌∷◌, length, refl, sym, ap, ◌∙◌}
 use Rattle.std.specs.Prelude.{map}
-use Rattle.std.proofs.lemmas.Bool.{cases_Bool, cases_eq, cases_lt, eq-eqb, ne_eqb, eqb-true, le-leb, lt-leb}
+use Rattle.std.proofs.lemmas.Bool.{cases_eq, cases_lt, eq-eqb, ne_eqb, le-leb, lt-leb}
 use Rattle.std.proofs.lemmas.List.{length-map, get_or-map, get_or_past}
+use Rattle.std.proofs.lemmas.List.Elements.{All-map, All-weaker}
 use Rattle.desk_units.specs.declared.numbers.Plane.{Plane}
 use Rattle.desk_units.specs.declared.numbers.Minute.{Minute}
 use Rattle.desk_data.specs.declared.row.Row.{Row}
 use Rattle.desk_data.specs.declared.row.Row.TheVariants.{Flown, Cancelled}
-use Rattle.desk_data.specs.PlanRows.{PlanRows, row_at}
-use Rattle.desk_rules.specs.Words.{Flies}
+use Rattle.desk_data.specs.Situation.{Situation, planes_of}
+use Rattle.desk_data.specs.PlanRows.{PlanRows, IsRow, row_at}
+use Rattle.desk_data.specs.Valid.{IsRowOf, IsPlanFor}
 use Rattle.desk_model.specs.Swap.{other_plane, row_after_swap, after_swap, SwapsLeg}
 
 -- ---- of two aircraft the other one
@@ -39,9 +41,9 @@ other-other p q plane =
     elim (cases_eq plane p) [
       | inl first ↦ ap (λ (k : ℕ). other_plane p q (other_plane p q k)) first ∙ ap (other_plane p q) (other-first p q) ∙ other-second p q ∙ sym first
       | inr not_first ↦ elim (cases_eq plane q) [
-          | inl second ↦ ap (λ (k : ℕ). other_plane p q (other_plane p q k)) second ∙ ap (other_plane p q) (other-second p q) ∙ other-first p q ∙ sym second
-          | inr third ↦ ap (other_plane p q) (other-third p q plane not_first third) ∙ other-third p q plane not_first third
-        ]
+        | inl second ↦ ap (λ (k : ℕ). other_plane p q (other_plane p q k)) second ∙ ap (other_plane p q) (other-second p q) ∙ other-first p q ∙ sym second
+        | inr third ↦ ap (other_plane p q) (other-third p q plane not_first third) ∙ other-third p q plane not_first third
+      ]
     ]
 
 -- ---- one row
@@ -124,3 +126,45 @@ after_swap-swaps P p q at x =
           ];
       cancelled = λ none. there ∙ ap (row_after_swap p q at) none;
     }
+
+-- ---- a valid plan stays valid
+
+other-lt : (planes p q plane : ℕ) → p < planes → q < planes → plane < planes → other_plane p q plane < planes
+other-lt planes p q plane first second own =
+    elim (cases_eq plane p) [
+      | inl same ↦ rw (eq-eqb plane p same) second
+      | inr different ↦ elim (cases_eq plane q) [
+        | inl same ↦ rw (ne_eqb plane p different, eq-eqb plane q same) first
+        | inr third ↦ rw (ne_eqb plane p different, ne_eqb plane q third) own
+      ]
+    ]
+
+row-of : (planes p q at : ℕ) → p < planes → q < planes → (row : Row) → IsRowOf planes row → IsRowOf planes (row_after_swap p q at row)
+row-of planes p q at first second (Flown plane dep) is =
+    elim (cases_lt dep.0 at) [
+      | inl early ↦ rw (lt-leb at dep.0 early) is
+      | inr late ↦ rw (le-leb at dep.0 late) (other-lt planes p q plane.0 first second is.0, is.1)
+    ]
+row-of planes p q at first second Cancelled is = tt
+
+row-sound : (p q at : ℕ) (row : Row) → IsRow row → IsRow (row_after_swap p q at row)
+row-sound p q at (Flown plane dep) is =
+    elim (cases_lt dep.0 at) [
+      | inl early ↦ rw (lt-leb at dep.0 early) is
+      | inr late ↦ rw (le-leb at dep.0 late) is
+    ]
+row-sound p q at Cancelled is = tt
+
+pub after_swap-valid : (I : Situation) (P : PlanRows) (p q at : ℕ) → p < planes_of I → q < planes_of I → IsPlanFor I P → IsPlanFor I (after_swap P p q at)
+unfolding after_swap
+after_swap-valid I P p q at first second plan = record {
+  sound = record {
+    rows = All-map IsRow (row_after_swap p q at) P.rows (All-weaker IsRow (λ (row : Row). IsRow (row_after_swap p q at row)) (row-sound p q at) P.rows plan.sound.rows);
+    groups = plan.sound.groups;
+  };
+  legs = length-map P.rows (row_after_swap p q at) ∙ plan.legs;
+  res = plan.res;
+  rows = All-map (IsRowOf (planes_of I)) (row_after_swap p q at) P.rows
+      (All-weaker (IsRowOf (planes_of I)) (λ (row : Row). IsRowOf (planes_of I) (row_after_swap p q at row)) (row-of (planes_of I) p q at first second) P.rows plan.rows);
+  groups = plan.groups;
+}

@@ -16,14 +16,14 @@ use Rattle.desk_rules.specs.Rows.{is_row}
 use Rattle.desk_model.specs.declared.answer.Answer.{Answer}
 use Rattle.desk_model.specs.declared.answer.Answer.TheVariants.{Accepted, Breaks, Dearer, NoPlan, Full}
 use Rattle.desk_model.specs.declared.answer.Event.TheVariants as event
-use Rattle.desk_model.specs.Steps.{after_step, after_steps, after_move}
+use Rattle.desk_model.specs.Steps.{after_set, after_step, after_steps, after_move}
 use Rattle.desk_model.specs.States.{State, answer, answered_state, after}
 
 row_is_sound : (planes : ℕ) (row : Row) → IsRowOf planes row → IsRow row
 row_is_sound planes (Flown plane dep) h = h.1
 row_is_sound planes Cancelled h = tt
 
-with_row-valid : (I : Situation) (P : PlanRows) (x : ℕ) (row : Row) → IsRowOf (planes_of I) row → IsPlanFor I P → IsPlanFor I (with_row P x row)
+pub with_row-valid : (I : Situation) (P : PlanRows) (x : ℕ) (row : Row) → IsRowOf (planes_of I) row → IsPlanFor I P → IsPlanFor I (with_row P x row)
 with_row-valid I P x row fits h = record {
   sound = record { rows = All-set IsRow P.rows x row (row_is_sound (planes_of I) row fits) h.sound.rows; groups = h.sound.groups };
   legs = length-set P.rows x row ∙ h.legs;
@@ -36,10 +36,13 @@ cond_valid : (I : Situation) (b : Bool) (P Q : PlanRows) → IsPlanFor I P → I
 cond_valid I true P Q p q = p
 cond_valid I false P Q p q = q
 
+pub after_set-valid : (I : Situation) (P : PlanRows) (x : ℕ) (was new : Row) → IsRowOf (planes_of I) new → IsPlanFor I P → IsPlanFor I (after_set P x was new)
+after_set-valid I P x was new fits h =
+    cond_valid I (is_row (row_at P x) was) (with_row P x new) P (with_row-valid I P x new fits h) h
+
 pub after_step-valid : (I : Situation) (P : PlanRows) (step : Step) → StepFits I step → IsPlanFor I P → IsPlanFor I (after_step I P step)
 unfolding after_step
-after_step-valid I P (Set leg was new) fits h =
-    cond_valid I (is_row (row_at P leg.0) was) (with_row P leg.0 new) P (with_row-valid I P leg.0 new fits.2 h) h
+after_step-valid I P (Set leg was new) fits h = after_set-valid I P leg.0 was new fits.2 h
 
 pub after_steps-valid : (I : Situation) (P : PlanRows) (steps : List Step) → AllByRecursion (StepFits I) steps → IsPlanFor I P → IsPlanFor I (after_steps I P steps)
 after_steps-valid I P [] fits h = h

@@ -39,14 +39,14 @@ with_fewer path n groups = with_count path (count_on path groups - n) groups
 abbrev pub with_more : List (Leg × Cabin) → ℕ → List Group → List Group
 with_more path n groups = with_count path (count_on path groups + n) groups
 
-unfoldable pub groups_after : List (Leg × Cabin) → List (Leg × Cabin) → ℕ → List Group → List Group
-groups_after path to n groups = with_more to n (with_fewer path n groups)
+unfoldable pub groups_after_rebook : List (Leg × Cabin) → List (Leg × Cabin) → ℕ → List Group → List Group
+groups_after_rebook path to n groups = with_more to n (with_fewer path n groups)
 
 -- Rebook: as many passengers of reservation r as are told go from one path to another, or all that are on it where they are fewer
 unfoldable pub after_rebook : PlanRows → ℕ → List (Leg × Cabin) → List (Leg × Cabin) → ℕ → PlanRows
 after_rebook P r path to count =
     let groups = groups_at P r in
-    with_groups P r (groups_after path to (min count (count_on path groups)) groups)
+    with_groups P r (groups_after_rebook path to (min count (count_on path groups)) groups)
 
 -- n passengers of reservation r go from one path to another: whatever paths are looked at, there are n fewer on them where they have the one among them, and n more where they have the other. No leg's row changes, and no other reservation's groups
 pub record RebooksPassengers (P Q : PlanRows) (r : ℕ) (path to : List (Leg × Cabin)) (n : ℕ) : Type 0 where

@@ -1,5 +1,5 @@
 -- Refill: passengers who are not carried go back to their scheduled path, as far as it has seats.
-use Rattle.std.specs.Prelude.{ℕ, ◌+◌, Bool, ◌&&◌, nat_le, ◌==◌, if◌then◌else◌, List, [], fold}
+use Rattle.std.specs.Prelude.{◌≡◌, ℕ, ◌+◌, ◌≤◌, ◌⊎◌, Bool, true, false, ◌&&◌, nat_le, ◌==◌, if◌then◌else◌, List, [], All, fold}
 use Rattle.std.specs.List.{list_all, list_any}
 use Rattle.desk_units.specs.declared.numbers.Leg.{Leg}
 use Rattle.desk_units.specs.declared.numbers.Cabin.{Cabin}
@@ -10,7 +10,7 @@ use Rattle.desk_data.specs.PlanRows.{PlanRows, row_at, groups_at}
 use Rattle.desk_rules.specs.Numbers.{numbers}
 use Rattle.desk_rules.specs.Passengers.{aboard, seats_in, booked_path}
 use Rattle.desk_model.specs.Choices.{greatest_within}
-use Rattle.desk_model.specs.Rebook.{count_on, after_rebook}
+use Rattle.desk_model.specs.Rebook.{passengers_on, count_on, after_rebook}
 use Rattle.desk_model.specs.Tidy.{is_fit_path}
 
 -- the seats of a row in a cabin; a cancelled leg has none
@@ -34,9 +34,27 @@ refill_count I P r = greatest_within (count_on [] (groups_at P r)) (has_seats_fo
 abbrev pub is_refilled : Situation → PlanRows → ℕ → ℕ → Bool
 is_refilled I P x r = has_leg x (booked_path I r) && is_fit_path I P r (booked_path I r)
 
-abbrev pub refill_res : Situation → ℕ → PlanRows → ℕ → PlanRows
-refill_res I x P r = if is_refilled I P x r then after_rebook P r [] (booked_path I r) (refill_count I P r) else P
+abbrev pub after_refilling : Situation → ℕ → PlanRows → ℕ → PlanRows
+after_refilling I x P r = if is_refilled I P x r then after_rebook P r [] (booked_path I r) (refill_count I P r) else P
 
 -- Refill: one reservation after another, in ascending order, each in the plan as those before it left it
 unfoldable pub after_refill : Situation → PlanRows → ℕ → PlanRows
-after_refill I P x = fold (refill_res I x) P (numbers (reservations_of I))
+after_refill I P x = fold (after_refilling I x) P (numbers (reservations_of I))
+
+-- what a Refill of leg x makes of reservation r, of plan P before the step and plan Q after it
+pub record RefillsReservation (I : Situation) (P Q : PlanRows) (x r : ℕ) : Type 0 where
+  -- some passengers who are not carried go to the scheduled path, and nobody else goes anywhere
+  pub count : ℕ
+  pub going : (test : List (Leg × Cabin) → Bool) → passengers_on test (groups_at Q r) + (if test [] then count else 0) ≡ passengers_on test (groups_at P r) + (if test (booked_path I r) then count else 0)
+  -- where the reservation is refilled, none is left who is not carried, or one more would lack a seat
+  pub full : is_refilled I P x r ≡ true → (count_on [] (groups_at Q r) ≡ 0) ⊎ (has_seats_for I Q (booked_path I r) 1 ≡ false)
+  -- else it keeps its groups
+  pub other : is_refilled I P x r ≡ false → groups_at Q r ≡ groups_at P r
+
+-- each leg of a path has seats left for n more passengers in its cabin
+abbrev pub HasSeatsFor : Situation → PlanRows → List (Leg × Cabin) → ℕ → Type 0
+HasSeatsFor I P path n = All (λ pair. aboard P pair.0.0 pair.1 + n ≤ seats_of I pair.1 (row_at P pair.0.0)) path
+
+-- a leg and cabin has as many passengers as before, or no more than seats
+abbrev pub IsNotOverfilled : Situation → PlanRows → PlanRows → ℕ → Cabin → Type 0
+IsNotOverfilled I P Q y c = (aboard Q y c ≡ aboard P y c) ⊎ (aboard Q y c ≤ seats_of I c (row_at Q y))

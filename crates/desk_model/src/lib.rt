@@ -7,7 +7,15 @@
 
 mod answer;
 mod histories;
+mod steps;
 
 pub use answer::{Answer, Entry, Event};
 pub use desk_data::{Broken, Grains, Move};
 pub use histories::{legal_histories_keep_the_promises, runs_are_legal};
+pub use steps::{
+    a_path_stays_bound_where_fewer_are_carried, a_push_places_each_leg_first,
+    a_push_places_legs_in_their_order, a_rebook_moves_passengers_between_two_paths,
+    a_refill_fills_the_seats_that_are_left, a_set_changes_one_leg, a_swap_exchanges_legs,
+    a_tidy_leaves_no_path_that_breaks_a_rule, choices_are_the_first_and_the_greatest,
+    steps_make_valid_plans, the_steps_count_as_in_words,
+};
