@@ -1,0 +1,9 @@
+//! The evaluator: a plan that changes place by place, with what it breaks, what it costs, and the
+//! way back.
+#![tactic(auto)]
+
+mod change;
+mod evaluator;
+mod judged;
+
+pub use evaluator::Evaluator;
