@@ -7,7 +7,7 @@ use Rattle.std.proofs.lemmas.List.Elements.{All-head, All-tail}
 use Rattle.day_orders.specs.declared.orders.Order.{Order}
 use Rattle.day_orders.specs.declared.orders.Order.TheVariants.{Flight, Aircraft, Field}
 use Rattle.desk_data.specs.declared.parts.Parts.{Parts}
-use Rattle.day_orders.specs.LastOrders.{said_of, last_order_on_leg}
+use Rattle.day_orders.specs.LastOrders.{order_on_leg, last_order_on_leg}
 use Rattle.desk_data.specs.Situation.{delay_of}
 use Rattle.desk_data.specs.Valid.{IsOrder}
 
@@ -20,11 +20,11 @@ option_or_assoc None b c = refl
 option_or_assoc (Some x) b c = refl
 
 -- a later order decides before the earlier ones
-pub last_order_on_leg-push : (x : ℕ) (orders : List Order) (order : Order) → last_order_on_leg x (orders ++ order ∷ []) ≡ option_or (said_of x order) (last_order_on_leg x orders)
+pub last_order_on_leg-push : (x : ℕ) (orders : List Order) (order : Order) → last_order_on_leg x (orders ++ order ∷ []) ≡ option_or (order_on_leg x order) (last_order_on_leg x orders)
 unfolding last_order_on_leg
-last_order_on_leg-push x [] order = none_or (said_of x order)
+last_order_on_leg-push x [] order = none_or (order_on_leg x order)
 last_order_on_leg-push x (first ∷ orders) order =
-    ap (λ o. option_or o (said_of x first)) (last_order_on_leg-push x orders order) ∙ option_or_assoc (said_of x order) (last_order_on_leg x orders) (said_of x first)
+    ap (λ o. option_or o (order_on_leg x first)) (last_order_on_leg-push x orders order) ∙ option_or_assoc (order_on_leg x order) (last_order_on_leg x orders) (order_on_leg x first)
 
 -- the delay of the first of two, where it says anything
 delay_of-or : (a b : Option (Option ℕ)) → delay_of a ≤ 2880 → delay_of b ≤ 2880 → delay_of (option_or a b) ≤ 2880
@@ -37,15 +37,15 @@ delay_of-said true None h = omega arith
 delay_of-said true (Some d) h = h d refl
 delay_of-said false delay h = omega arith
 
-delay_of-said_of : (parts : Parts) (x : ℕ) (order : Order) → IsOrder parts order → delay_of (said_of x order) ≤ 2880
+delay_of-order_on_leg : (parts : Parts) (x : ℕ) (order : Order) → IsOrder parts order → delay_of (order_on_leg x order) ≤ 2880
 unfolding delay_of
-delay_of-said_of parts x (Flight leg delay) h = delay_of-said (eqb leg.0 x) delay h.1
-delay_of-said_of parts x (Aircraft plane from to) h = omega arith
-delay_of-said_of parts x (Field airport from to deps arrs) h = omega arith
+delay_of-order_on_leg parts x (Flight leg delay) h = delay_of-said (eqb leg.0 x) delay h.1
+delay_of-order_on_leg parts x (Aircraft plane from to) h = omega arith
+delay_of-order_on_leg parts x (Field airport from to deps arrs) h = omega arith
 
 -- no order delays a leg by more than 2,880 minutes
 pub delay_of-last_order_on_leg : (parts : Parts) (x : ℕ) (orders : List Order) → All (IsOrder parts) orders → delay_of (last_order_on_leg x orders) ≤ 2880
 unfolding last_order_on_leg delay_of
 delay_of-last_order_on_leg parts x [] h = omega arith
 delay_of-last_order_on_leg parts x (order ∷ orders) h =
-    delay_of-or (last_order_on_leg x orders) (said_of x order) (delay_of-last_order_on_leg parts x orders (All-tail (IsOrder parts) order orders h)) (delay_of-said_of parts x order (All-head (IsOrder parts) order orders h))
+    delay_of-or (last_order_on_leg x orders) (order_on_leg x order) (delay_of-last_order_on_leg parts x orders (All-tail (IsOrder parts) order orders h)) (delay_of-order_on_leg parts x order (All-head (IsOrder parts) order orders h))
