@@ -1,5 +1,2 @@
 pub mod RunLaws
-pub mod Composed
-pub mod HeadlineLaw
-pub mod CausesLaw
-pub mod StandingLaw
+pub mod PlayLaws

@@ -1,16 +1,9 @@
-//! The command `replay`: what it reads, what it answers, and what it writes.
+//! Playing a story: its events are taken one after another, and what came of them is written.
 #![tactic(auto)]
 
-mod ending;
-mod fault;
+mod play;
 mod run;
 mod texts;
-mod whole;
-mod words;
-mod write;
 
-pub use desk_story::{Cause, Refusal};
-pub use ending::Ending;
-pub use fault::fault_text;
-pub use whole::replay;
-pub use words::command;
+pub use desk_runs::Ending;
+pub use play::play_events;

@@ -3,12 +3,13 @@
 ghost use Rattle.std.specs.Prelude.{◌≡◌, ◌++◌, IfOk, OnOk, Option};
 ghost use Rattle.desk_core.specs.Recorded.{state_of};
 ghost use Rattle.journal_text.specs.Lines.{journal_text};
-ghost use Rattle.desk_replay.specs.Outcome.{planned_rotations, report_text, texts_from};
-ghost use Rattle.desk_replay.specs.Writing.{texts_in};
+ghost use Rattle.desk_runs.specs.Outcome.{planned_rotations, report_text, outcome};
+ghost use Rattle.desk_runs.specs.Writing.{as_texts};
 
-use crate::write::OutputTexts;
 use desk_core::Book;
 use desk_data::NoMem;
+use desk_folder::File;
+use desk_runs::OutputTexts;
 use journal_text::{journal_text, legal_entries_can_be_told, push_broken};
 use sol_text::rotations_text;
 use std::alloc::Global;
@@ -24,7 +25,7 @@ fn planned_rotations(alloc: Global, book: &Book) -> Result<Vec<u8>, NoMem>
 }
 
 // How many changes there were, and the cost of the plan or what is broken.
-#[tactic(auto, unfolding(crate::specs::Outcome::report_text))]
+#[tactic(auto, unfolding(desk_runs::specs::Outcome::report_text))]
 fn report_text(alloc: Global, book: &Book) -> Result<Vec<u8>, NoMem>
     ensures { IfOk result (λ text. text.items ≡ report_text book.now.opening book.now.journal) }
 {
@@ -54,16 +55,13 @@ fn book_journal(alloc: Global, book: &Book) -> Result<Vec<u8>, NoMem>
 }
 
 /// The texts of a book's journal and state.
-#[tactic(auto, unfolding(crate::specs::Outcome::texts_from))]
+#[tactic(auto, unfolding(desk_runs::specs::Outcome::outcome))]
 pub(crate) fn output_texts(alloc: Global, book: &Book) -> Result<OutputTexts, NoMem>
-    ensures { IfOk result (λ t. texts_in t ≡ texts_from book.now.opening book.now.journal) }
+    ensures { IfOk result (λ t. as_texts t ≡ (outcome book.now.opening book.now.journal).texts) }
 {
-    let rotations = planned_rotations(alloc, book)?;
-    let journal = book_journal(alloc, book)?;
+    let mut files = Vec::new(alloc);
+    files.push((File::SolRotations, planned_rotations(alloc, book)?))?;
+    files.push((File::Journal, book_journal(alloc, book)?))?;
     let report = report_text(alloc, book)?;
-    Ok(OutputTexts {
-        rotations,
-        journal,
-        report,
-    })
+    Ok(OutputTexts { files, report })
 }

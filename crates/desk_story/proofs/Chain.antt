@@ -6,40 +6,20 @@ use Rattle.desk_folder.specs.declared.files.File.{File}
 use Rattle.desk_folder.specs.Files.{file_number}
 use Rattle.desk_folder.specs.Outside.{Outside, ReadsOnly}
 use Rattle.desk_folder.specs.Calls.{Rose}
-use Rattle.desk_folder.proofs.FileLemmas.{same_number}
 use Rattle.desk_story.specs.declared.fault.StoryFault.{StoryFault}
 use Rattle.desk_story.specs.declared.fault.StoryFault.TheVariants as fault
 use Rattle.desk_story.specs.declared.rows.InputRows.{InputRows}
-use Rattle.desk_story.specs.Inputs.{Inputs, is_among, are_in_order, Tells}
+use Rattle.folder_io.specs.Outputs.{is_among}
+use Rattle.folder_io.proofs.Among.{same_or_other, among_rest, among_first, not_first, not_rest, among_either}
+use Rattle.desk_runs.specs.Inputs.{Inputs, Tells}
 use Rattle.desk_story.specs.Story.{Rows, read_as, read_all}
-use Rattle.desk_story.specs.declared.refusal.Refusal.{Refusal}
-use Rattle.desk_story.specs.Reading.{IsRead, IsUnread, ReadsAmong, StopsAt, StopsAtFault, GivesRead, HasReadCause}
-use Rattle.desk_story.specs.Facts.{rows_in}
-use Rattle.desk_story.proofs.Orders.{behind, among_rest, among_first, refused_among, stands-first}
+use Rattle.desk_runs.specs.declared.refusal.Refusal.{Refusal}
+use Rattle.desk_runs.specs.Reading.{IsRead, IsUnread, ReadsAmong, StopsAt}
+use Rattle.desk_story.specs.Reading.{are_in_order, StopsAtFault, GivesRead, HasReadCause}
+use Rattle.desk_story.specs.Facts.{as_rows}
+use Rattle.desk_story.proofs.Orders.{behind, refused_among, stands-first}
 
 -- ---- a file and a list of files
-
--- the same place, or another
-same_or_other : (f g : File) → (f ≡ g) ⊎ (f ≢ g)
-same_or_other f g = elim (cases_Bool (file_number g == file_number f)) [
-  | inl same ↦ inl (same_number f g (sym (eqb-true (file_number g) (file_number f) same)))
-  | inr other ↦ inr (λ e. let t : (file_number g == file_number f) ≡ true = eq-eqb (file_number g) (file_number f) (ap file_number (sym e)) in let no : true ≡ false = sym t ∙ other in cc)
-]
-
-not_first : (f g : File) (files : List File) → is_among f (g ∷ files) ≡ false → f ≢ g
-not_first f g files e same = let t : is_among f (g ∷ files) ≡ true = among_first f g files same in let no : true ≡ false = sym t ∙ e in cc
-
-not_rest : (f g : File) (files : List File) → is_among f (g ∷ files) ≡ false → is_among f files ≡ false
-not_rest f g files e = elim (cases_Bool (is_among f files)) [
-  | inl t ↦ let all : is_among f (g ∷ files) ≡ true = among_rest f g files t in absurd (let no : true ≡ false = sym all ∙ e in cc)
-  | inr t ↦ t
-]
-
-among_either : (f g : File) (files : List File) → is_among f (g ∷ files) ≡ true → (f ≡ g) ⊎ (is_among f files ≡ true)
-among_either f g files e = elim (cases_Bool (file_number g == file_number f)) [
-  | inl same ↦ inl (same_number f g (sym (eqb-true (file_number g) (file_number f) same)))
-  | inr other ↦ inr (rw other at e)
-]
 
 first_not_rest : (g : File) (files : List File) → are_in_order (g ∷ files) ≡ true → is_among g files ≡ false
 first_not_rest g files order = elim (cases_Bool (is_among g files)) [
@@ -60,14 +40,14 @@ tells-first g files before x tells = tells g (among_first g g files refl)
 
 -- ---- what is read
 
-pub exact-rest : (g : File) (files : List File) (x : Inputs) (rows more : Rows) (answer : Result InputRows StoryFault) → read_as g (x g) rows ≡ Ok more → GivesRead rows_in answer (read_all files x more) → GivesRead rows_in answer (read_all (g ∷ files) x rows)
+pub exact-rest : (g : File) (files : List File) (x : Inputs) (rows more : Rows) (answer : Result InputRows StoryFault) → read_as g (x g) rows ≡ Ok more → GivesRead as_rows answer (read_all files x more) → GivesRead as_rows answer (read_all (g ∷ files) x rows)
 unfolding read_all
 exact-rest g files x rows more answer is h = rw is h
 
 abbrev Answer : Type 0
 Answer = Result InputRows StoryFault
 
-pub exact-first : (g : File) (files : List File) (before now : Outside) (x : Inputs) (rows : Rows) (e : StoryFault) → are_in_order (g ∷ files) ≡ true → HasReadCause (g ∷ []) before now e → GivesRead rows_in (Err e) (read_as g (x g) rows) → GivesRead rows_in (Err e) (read_all (g ∷ files) x rows)
+pub exact-first : (g : File) (files : List File) (before now : Outside) (x : Inputs) (rows : Rows) (e : StoryFault) → are_in_order (g ∷ files) ≡ true → HasReadCause (g ∷ []) before now e → GivesRead as_rows (Err e) (read_as g (x g) rows) → GivesRead as_rows (Err e) (read_all (g ∷ files) x rows)
 unfolding read_all
 exact-first g files before now x rows (fault.Refused r) order cause h = rw h refl
 exact-first g files before now x rows (fault.ReadFault f) order cause h =

@@ -5,11 +5,14 @@ use Rattle.std.specs.List.{list_all}
 use Rattle.std.proofs.lemmas.Bool.{cases_Bool}
 use Rattle.desk_folder.specs.declared.files.File.{File}
 use Rattle.desk_folder.specs.Files.{file_number}
-use Rattle.desk_story.specs.declared.refusal.Cause.{Cause}
-use Rattle.desk_story.specs.declared.refusal.Refusal.{Refusal}
-use Rattle.desk_story.specs.Inputs.{Inputs, is_among, are_in_order}
+use Rattle.desk_runs.specs.declared.refusal.Cause.{Cause}
+use Rattle.desk_runs.specs.declared.refusal.Refusal.{Refusal}
+use Rattle.folder_io.specs.Outputs.{is_among}
+use Rattle.folder_io.proofs.Among.{among_rest, among_first}
+use Rattle.desk_runs.specs.Inputs.{Inputs}
 use Rattle.desk_story.specs.Story.{Rows, or_refused, in_file, within_limit, with_rows, read_as, read_all}
-use Rattle.desk_story.specs.Reading.{StandsFirst}
+use Rattle.desk_runs.specs.Reading.{StandsFirst}
+use Rattle.desk_story.specs.Reading.{are_in_order}
 
 and_left : (a b : Bool) → (a && b) ≡ true → a ≡ true
 and_left true b e = refl
@@ -42,12 +45,6 @@ refused_is f bytes rows r e = told_of f (within_limit f bytes (with_rows f bytes
 -- and so of one of the files
 abbrev Read : Type 0
 Read = Result Rows Refusal
-
-pub among_rest : (f g : File) (files : List File) → is_among f files ≡ true → is_among f (g ∷ files) ≡ true
-among_rest f g files e = elim (cases_Bool (file_number g == file_number f)) [ inl same ↦ rw same refl | inr other ↦ rw other e ]
-
-pub among_first : (f g : File) (files : List File) → f ≡ g → is_among f (g ∷ files) ≡ true
-among_first f g files e = rw (eq-eqb (file_number g) (file_number f) (ap file_number (sym e))) refl
 
 first_refused : (g : File) (files : List File) (x : Inputs) (rows : Rows) (r : Refusal) (read : Read) → read_as g (x g) rows ≡ read → read_all (g ∷ files) x rows ≡ Err r → ((more : Rows) → read_all files x more ≡ Err r → is_among r.file files ≡ true) → is_among r.file (g ∷ files) ≡ true
 unfolding read_all

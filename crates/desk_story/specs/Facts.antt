@@ -5,11 +5,12 @@ use Rattle.early_form.specs.Facts.{AreProposals}
 use Rattle.desk_model.specs.Histories.{AreAskable}
 use Rattle.desk_story.specs.declared.rows.InputRows.{InputRows}
 use Rattle.desk_story.specs.declared.story.InputStory.{InputStory}
-use Rattle.desk_story.specs.Story.{Rows, Story}
+use Rattle.desk_runs.specs.Outcome.{Story}
+use Rattle.desk_story.specs.Story.{Rows}
 
 -- the rows, wherever they lie in memory
-abbrev pub rows_in : InputRows → Rows
-rows_in rows = record { files = rows.files; journal = rows.journal.items }
+abbrev pub as_rows : InputRows → Rows
+as_rows rows = record { files = rows.files; journal = rows.journal.items }
 
 -- what the readers say of them
 pub record AreInputRows (rows : InputRows) : Type 0 where
@@ -17,8 +18,8 @@ pub record AreInputRows (rows : InputRows) : Type 0 where
   pub journal : AreProposals rows.journal.items
 
 -- the story, wherever it lies in memory
-abbrev pub story_in : InputStory → Story
-story_in s = record { day = s.inst; events = s.events.items }
+abbrev pub as_story : InputStory → Story
+as_story s = record { day = s.inst; events = s.events.items }
 
 -- the day has no orders yet, and each event can be asked on it
 pub record CanBeRun (s : InputStory) : Type 0 where

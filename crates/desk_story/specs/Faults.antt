@@ -9,8 +9,10 @@ use Rattle.early_form.specs.declared.fault.FormFault.{FormFault}
 use Rattle.early_form.specs.declared.fault.FormFault.TheVariants as form
 use Rattle.early_join.specs.declared.fault.JoinFault.{JoinFault}
 use Rattle.early_join.specs.declared.fault.JoinFault.TheVariants as join
-use Rattle.desk_story.specs.declared.refusal.Cause.{Cause}
-use Rattle.desk_story.specs.declared.refusal.Cause.TheVariants.{Form, Row}
+use Rattle.desk_runs.specs.declared.refusal.Cause.{Cause}
+use Rattle.desk_runs.specs.declared.refusal.Cause.TheVariants.{Form, Row}
+use Rattle.desk_runs.specs.declared.ending.Ending.{Ending}
+use Rattle.desk_runs.specs.declared.ending.Ending.TheVariants as ending
 use Rattle.desk_story.specs.declared.fault.FileFault.{FileFault}
 use Rattle.desk_story.specs.declared.fault.FileFault.TheVariants as of_file
 use Rattle.desk_story.specs.declared.fault.StoryFault.{StoryFault}
@@ -39,6 +41,12 @@ build_fault build.Memory = fault.Memory
 abbrev pub join_fault : JoinFault → StoryFault
 join_fault (join.Unknown line) = fault.Refused (not_known line)
 join_fault join.Memory = fault.Memory
+
+-- how a run ends where its input gave no story
+abbrev pub story_end : StoryFault → Ending
+story_end (fault.Refused r) = ending.Refused r
+story_end (fault.ReadFault f) = ending.ReadFault f
+story_end fault.Memory = ending.Memory
 
 -- the rows are these now, or the line that is refused; out of memory may come at any time
 abbrev pub GivesRows : Result (Unit {0}) FileFault → Result Rows (ℕ × Cause) → Rows → Type 0

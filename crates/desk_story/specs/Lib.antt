@@ -1,4 +1,3 @@
-pub mod Inputs
 pub mod Story
 pub mod Reading
 pub mod Faults

@@ -1,14 +1,11 @@
 -- What the input files say: the day that is read, and the events that are taken, or the first refusal.
-use Rattle.std.specs.Prelude.{ℕ, List, [], ◌∷◌, length, Result, Ok, Err, nat_lt, if◌then◌else◌, codes}
+use Rattle.std.specs.Prelude.{ℕ, List, [], ◌∷◌, length, Result, Ok, Err, nat_lt, if◌then◌else◌}
 use Rattle.desk_folder.specs.declared.files.File.{File}
 use Rattle.desk_folder.specs.declared.files.File.TheVariants as file
 use Rattle.file_rows.specs.declared.cause.Cause.{Cause as RowCause}
 use Rattle.file_rows.specs.declared.cause.Cause.TheVariants.{Size, Unknown}
 use Rattle.file_rows.specs.Limits.{most_bytes, most_journal_bytes}
-use Rattle.file_rows.specs.Causes.{cause_name as row_cause_name}
 use Rattle.desk_text.specs.Rows.{◌>>=◌, text_rows}
-use Rattle.desk_data.specs.Situation.{Situation}
-use Rattle.desk_model.specs.declared.answer.Event.{Event}
 use Rattle.read_net.specs.Config.{config_of}
 use Rattle.read_net.specs.Airports.{airport_row}
 use Rattle.read_net.specs.Dist.{dist_row}
@@ -23,10 +20,11 @@ use Rattle.desk_build.specs.Join.{day_of_files}
 use Rattle.early_form.specs.declared.rows.JournalRow.{JournalRow}
 use Rattle.early_form.specs.Journal.{moves_of}
 use Rattle.early_join.specs.Join.{events_of}
-use Rattle.desk_story.specs.declared.refusal.Cause.{Cause}
-use Rattle.desk_story.specs.declared.refusal.Cause.TheVariants.{Form, Row}
-use Rattle.desk_story.specs.declared.refusal.Refusal.{Refusal}
-use Rattle.desk_story.specs.Inputs.{Inputs, replay_files}
+use Rattle.desk_runs.specs.declared.refusal.Cause.{Cause}
+use Rattle.desk_runs.specs.declared.refusal.Cause.TheVariants.{Form, Row}
+use Rattle.desk_runs.specs.declared.refusal.Refusal.{Refusal}
+use Rattle.desk_runs.specs.Inputs.{Inputs, replay_files}
+use Rattle.desk_runs.specs.Outcome.{Story}
 
 -- ---- refusals
 
@@ -57,11 +55,6 @@ not_joined at = refusal at.0 (Row at.2) at.1
 -- a line of the journal that names a leg or an aircraft that is not there
 abbrev pub not_known : ℕ → Refusal
 not_known line = refusal file.Journal (Row Unknown) line
-
--- a cause by its name
-abbrev pub cause_name : Cause → List ℕ
-cause_name Form = codes "Form"
-cause_name (Row cause) = row_cause_name cause
 
 -- ---- the rows of the files
 
@@ -148,11 +141,6 @@ abbrev pub rows_of : Inputs → Result Rows Refusal
 rows_of x = read_all replay_files x no_rows
 
 -- ---- the story
-
--- a day, and the events that are taken on it in order, each with its caller
-pub record Story : Type 0 where
-  pub day : Situation
-  pub events : List (ℕ × Event)
 
 -- the files are joined, and then the journal
 unfoldable pub story_of_rows : Rows → Result Story Refusal

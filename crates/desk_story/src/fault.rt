@@ -1,13 +1,14 @@
-//! Why there is no story, and why a file gave no rows.
+//! Why there is no story, and why a file gave no rows: the one way from a reader's fault to the ending of a
+//! run.
 
 ghost use Rattle.std.specs.Prelude.{◌≡◌};
 ghost use Rattle.desk_story.specs.declared.fault.StoryFault.TheVariants as fault;
 ghost use Rattle.desk_story.specs.declared.fault.FileFault.TheVariants as of_file;
-ghost use Rattle.desk_story.specs.Faults.{row_fault, form_fault, build_fault, join_fault, file_fault};
+ghost use Rattle.desk_story.specs.Faults.{row_fault, form_fault, build_fault, join_fault, file_fault, story_end};
 
-use crate::refusal::{Cause, Refusal};
 use desk_build::BuildFault;
 use desk_folder::File;
+use desk_runs::{Cause, Ending, Refusal};
 use desk_text::ReadFault;
 use early_form::FormFault;
 use early_join::JoinFault;
@@ -101,6 +102,18 @@ impl From<JoinFault> for StoryFault {
                 cause: Cause::Row(RowCause::Unknown),
             }),
             JoinFault::Memory => StoryFault::Memory,
+        }
+    }
+}
+
+impl From<StoryFault> for Ending {
+    ghost from_gives = { λ fault e. e ≡ story_end fault };
+
+    fn from(fault: StoryFault) -> Ending {
+        match fault {
+            StoryFault::Refused(refusal) => Ending::Refused(refusal),
+            StoryFault::ReadFault(file) => Ending::ReadFault(file),
+            StoryFault::Memory => Ending::Memory,
         }
     }
 }

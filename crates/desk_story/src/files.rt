@@ -3,16 +3,18 @@
 ghost use Rattle.std.specs.Prelude.{◌≡◌, ℕ, true, List, [], ◌∷◌, ◌≤◌, Some, MatchOption, Err, IfOk, OnOk, IfErr, IsTrue};
 ghost use Rattle.desk_folder.specs.declared.files.File.{File as AnyFile};
 ghost use Rattle.desk_folder.specs.Outside.{ReadsOnly};
-ghost use Rattle.desk_story.specs.Inputs.{Inputs, is_among, are_in_order, Tells};
+ghost use Rattle.folder_io.specs.Outputs.{is_among};
+ghost use Rattle.desk_runs.specs.Inputs.{Inputs, Tells};
 ghost use Rattle.desk_story.specs.Story.{byte_limit, too_long, read_as, read_all};
-ghost use Rattle.desk_story.specs.declared.refusal.Refusal.{Refusal as Refused};
-ghost use Rattle.desk_story.specs.Reading.{IsRead, ReadsAmong, StopsAt, StopsAtFault, GivesRead, HasReadCause};
-ghost use Rattle.desk_story.specs.Facts.{rows_in, AreInputRows};
+ghost use Rattle.desk_runs.specs.declared.refusal.Refusal.{Refusal as Refused};
+ghost use Rattle.desk_runs.specs.Reading.{IsRead, ReadsAmong, StopsAt};
+ghost use Rattle.desk_story.specs.Reading.{are_in_order, StopsAtFault, GivesRead, HasReadCause};
+ghost use Rattle.desk_story.specs.Facts.{as_rows, AreInputRows};
 
 use crate::fault::StoryFault;
-use crate::refusal::{Cause, Refusal};
 use crate::rows::InputRows;
 use desk_folder::{File, Folder};
+use desk_runs::{Cause, Refusal};
 use file_rows::{Cause as RowCause, MOST_BYTES, MOST_JOURNAL_BYTES};
 use folder_io::{ReadEnd, read_file};
 use std::alloc::Global;
@@ -61,7 +63,7 @@ fn read_one<F: Folder>(
 ) -> Result<InputRows, StoryFault>
     requires facts { AreInputRows rows }
     ensures exact { (bytes : List ℕ) → (F.outside folder.old).left file ≡ Some bytes →
-        GivesRead rows_in result (read_as file bytes (rows_in rows)) }
+        GivesRead as_rows result (read_as file bytes (as_rows rows)) }
     ensures read { OnOk result (IsRead (F.outside folder.old) (F.outside folder.new) file) }
     ensures cause { IfErr result (HasReadCause (file ∷ []) (F.outside folder.old) (F.outside folder.new)) }
     ensures only { ReadsOnly file (F.outside folder.old) (F.outside folder.new) }
@@ -109,12 +111,12 @@ pub(crate) fn read_files<F: Folder>(
     requires order { IsTrue (are_in_order files.now) }
     requires facts { AreInputRows rows }
     ensures exact { (x : Inputs) → Tells files.now (F.outside folder.old) x →
-        GivesRead rows_in result (read_all files.now x (rows_in rows)) }
+        GivesRead as_rows result (read_all files.now x (as_rows rows)) }
     ensures read { OnOk result ((f : AnyFile) → is_among f files.now ≡ true → IsRead (F.outside folder.old) (F.outside folder.new) f) }
     ensures cause { IfErr result (HasReadCause files.now (F.outside folder.old) (F.outside folder.new)) }
     ensures only { ReadsAmong files.now (F.outside folder.old) (F.outside folder.new) }
     ensures in_order { (x : Inputs) → Tells files.now (F.outside folder.old) x → (r : Refused) →
-        read_all files.now x (rows_in rows) ≡ Err r → StopsAt r.file (F.outside folder.old) (F.outside folder.new) }
+        read_all files.now x (as_rows rows) ≡ Err r → StopsAt r.file (F.outside folder.old) (F.outside folder.new) }
     ensures stops { IfErr result (StopsAtFault (F.outside folder.old) (F.outside folder.new)) }
     ensures facts { IfOk result AreInputRows }
 {

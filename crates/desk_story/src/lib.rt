@@ -4,11 +4,10 @@
 
 mod fault;
 mod files;
-mod refusal;
 mod rows;
 mod story;
 
+pub use desk_runs::{Cause, Ending, Refusal};
 pub use fault::StoryFault;
 pub use files::REPLAY_FILES;
-pub use refusal::{Cause, Refusal};
 pub use story::{InputStory, read_story};

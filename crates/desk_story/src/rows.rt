@@ -2,7 +2,7 @@
 
 ghost use Rattle.std.specs.Prelude.{◌≡◌, ◌<◌, ◌^◌, length, OnOk};
 ghost use Rattle.desk_story.specs.Story.{no_rows, with_rows};
-ghost use Rattle.desk_story.specs.Facts.{rows_in, AreInputRows};
+ghost use Rattle.desk_story.specs.Facts.{as_rows, AreInputRows};
 ghost use Rattle.desk_story.specs.Faults.{GivesRows};
 
 use crate::fault::FileFault;
@@ -28,7 +28,7 @@ pub(crate) struct InputRows {
 impl InputRows {
     /// Before any file is read: no rows, and a window of no length.
     pub(crate) fn new(alloc: Global) -> InputRows
-        ensures rows { rows_in result ≡ no_rows }
+        ensures rows { as_rows result ≡ no_rows }
         ensures facts { AreInputRows result }
     {
         let config = Window {
@@ -61,7 +61,7 @@ impl InputRows {
     pub(crate) fn take(&mut self, alloc: Global, file: File, bytes: &[u8]) -> Result<(), FileFault>
         requires facts { AreInputRows self.old }
         requires small { length bytes.now < 2 ^ 32 }
-        ensures exact { GivesRows result (with_rows file bytes.now (rows_in self.old)) (rows_in self.new) }
+        ensures exact { GivesRows result (with_rows file bytes.now (as_rows self.old)) (as_rows self.new) }
         ensures facts { OnOk result (AreInputRows self.new) }
     {
         let files = &mut self.files;

@@ -2,11 +2,13 @@
 
 ghost use Rattle.std.specs.Prelude.{◌≡◌, true, Err, IfOk, OnOk, IfErr};
 ghost use Rattle.desk_folder.specs.declared.files.File.{File as AnyFile};
-ghost use Rattle.desk_story.specs.Inputs.{Inputs, is_among, replay_files, Tells};
-ghost use Rattle.desk_story.specs.declared.refusal.Refusal.{Refusal as Refused};
+ghost use Rattle.folder_io.specs.Outputs.{is_among};
+ghost use Rattle.desk_runs.specs.Inputs.{Inputs, replay_files, Tells};
+ghost use Rattle.desk_runs.specs.declared.refusal.Refusal.{Refusal as Refused};
 ghost use Rattle.desk_story.specs.Story.{rows_of, story_of_rows, story_of};
-ghost use Rattle.desk_story.specs.Reading.{IsRead, ReadsAmong, StopsAt, StopsAtFault, GivesRead, GivesStory, HasReadCause, NeedsNoFault};
-ghost use Rattle.desk_story.specs.Facts.{rows_in, AreInputRows, story_in, CanBeRun};
+ghost use Rattle.desk_runs.specs.Reading.{IsRead, ReadsAmong, StopsAt};
+ghost use Rattle.desk_story.specs.Reading.{StopsAtFault, GivesRead, GivesStory, HasReadCause, NeedsNoFault};
+ghost use Rattle.desk_story.specs.Facts.{as_rows, AreInputRows, as_story, CanBeRun};
 
 use crate::fault::StoryFault;
 use crate::files::{REPLAY_FILES, read_files};
@@ -31,7 +33,7 @@ pub struct InputStory {
 #[tactic(auto, unfolding(crate::specs::Story::story_of_rows))]
 fn joined_story(alloc: Global, rows: &InputRows) -> Result<InputStory, StoryFault>
     requires { AreInputRows rows.now }
-    ensures exact { GivesRead story_in result (story_of_rows (rows_in rows.now)) }
+    ensures exact { GivesRead as_story result (story_of_rows (as_rows rows.now)) }
     ensures runs { IfOk result CanBeRun }
     ensures cause { IfErr result NeedsNoFault }
 {
@@ -49,7 +51,7 @@ fn joined_story(alloc: Global, rows: &InputRows) -> Result<InputStory, StoryFaul
 /// read behind one that its grammar refuses, or that could not be read.
 #[tactic(auto, unfolding(crate::specs::Story::story_of))]
 pub fn read_story<F: Folder>(alloc: Global, folder: &mut F) -> Result<InputStory, StoryFault>
-    ensures exact { (x : Inputs) → Tells replay_files (F.outside folder.old) x → GivesStory story_in result x (story_of x) }
+    ensures exact { (x : Inputs) → Tells replay_files (F.outside folder.old) x → GivesStory as_story result x (story_of x) }
     ensures read { OnOk result ((f : AnyFile) → is_among f replay_files ≡ true → IsRead (F.outside folder.old) (F.outside folder.new) f) }
     ensures cause { IfErr result (HasReadCause replay_files (F.outside folder.old) (F.outside folder.new)) }
     ensures only { ReadsAmong replay_files (F.outside folder.old) (F.outside folder.new) }

@@ -1,1 +1,2 @@
 pub mod Unput
+pub mod ReadFaults

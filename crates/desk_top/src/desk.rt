@@ -4,17 +4,20 @@ ghost use Rattle.std.specs.Prelude.{◌≡◌, ◌≤◌, false, map};
 ghost use Rattle.std.specs.String.{string_bytes};
 ghost use Rattle.desk_folder.specs.declared.files.File.{File};
 ghost use Rattle.desk_folder.specs.Outside.{Directories};
-ghost use Rattle.desk_story.specs.Inputs.{Inputs, replay_files, is_among, Tells};
+ghost use Rattle.folder_io.specs.Outputs.{is_among, IsUnput};
+ghost use Rattle.desk_runs.specs.Inputs.{Inputs, replay_files, Tells};
+ghost use Rattle.desk_runs.specs.Reading.{IsUnread, StopsAt};
+ghost use Rattle.desk_runs.specs.Commands.{command, files_read, files_written};
+ghost use Rattle.desk_runs.specs.Runs.{world};
+ghost use Rattle.desk_runs.specs.Causes.{IsUnlessMemory, HasFault, IsFaultless, Answers};
+ghost use Rattle.desk_runs.specs.Standing.{finished_texts, AreBegun};
+ghost use Rattle.desk_runs.specs.declared.refusal.Refusal.{Refusal as Refused};
 ghost use Rattle.desk_story.specs.Story.{rows_of, story_of};
-ghost use Rattle.desk_story.specs.Reading.{IsUnread, StopsAt};
-ghost use Rattle.desk_replay.specs.Commands.{command, files_read, files_written};
-ghost use Rattle.desk_replay.specs.Runs.{world, Ends, IsDone, IsUnput, Runs};
-ghost use Rattle.desk_replay.specs.Causes.{IsUnlessMemory, IsDoneWith, IsRefused, HasFault, IsReadable, IsFaultless, Answers};
-ghost use Rattle.desk_replay.specs.Standing.{finished_texts, AreBegun, IsToldLast};
-ghost use Rattle.desk_story.specs.declared.refusal.Refusal.{Refusal as Refused};
+ghost use Rattle.desk_top.specs.Desk.{Ends, Runs, IsDone, IsDoneWith, IsRefused, IsReadable, IsToldLast};
 
+use crate::whole::replay;
 use desk_folder::{Folder, FolderFault, Gate, Sink};
-use desk_replay::{Ending, command, fault_text, replay};
+use desk_runs::{Ending, command, fault_text};
 use folder_io::put_report;
 use std::alloc::Global;
 

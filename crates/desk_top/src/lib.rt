@@ -6,5 +6,6 @@
 mod desk;
 #[cfg(test)]
 mod tests;
+mod whole;
 
 pub use desk::desk_main;

@@ -4,11 +4,13 @@ use Rattle.desk_folder.specs.declared.files.File.{File}
 use Rattle.desk_folder.specs.Outside.{Outside}
 use Rattle.desk_story.specs.declared.rows.InputRows.{InputRows}
 use Rattle.desk_story.specs.declared.fault.StoryFault.{StoryFault}
-use Rattle.desk_story.specs.Inputs.{Inputs, is_among, are_in_order, Tells}
+use Rattle.folder_io.specs.Outputs.{is_among}
+use Rattle.desk_runs.specs.Inputs.{Inputs, Tells}
 use Rattle.desk_story.specs.Story.{read_all}
-use Rattle.desk_story.specs.declared.refusal.Refusal.{Refusal}
-use Rattle.desk_story.specs.Reading.{IsRead, ReadsAmong, StopsAt, StopsAtFault, GivesRead, HasReadCause}
-use Rattle.desk_story.specs.Facts.{rows_in}
+use Rattle.desk_runs.specs.declared.refusal.Refusal.{Refusal}
+use Rattle.desk_runs.specs.Reading.{IsRead, ReadsAmong, StopsAt}
+use Rattle.desk_story.specs.Reading.{are_in_order, StopsAtFault, GivesRead, HasReadCause}
+use Rattle.desk_story.specs.Facts.{as_rows}
 use Rattle.desk_story.proofs.Chain.{tells-rest, tells-first, exact-rest, exact-first, all-read, reads-first, reads-rest, order-first, order-rest, stops-first, stops-rest}
 use Rattle.desk_story.proofs.files.+read_files.Goals as goal
 
@@ -45,8 +47,8 @@ returns-in-Err-clause-exact g t c = λ x tells.
     let outside = g.F.Folder.outside in
     let order : are_in_order (c.in-Some.file ∷ c.in-Some.others.now) ≡ true = subst (λ (fs : List File). are_in_order fs ≡ true) c.in-Some.ensures c.requires.order in
     let told : Tells (c.in-Some.file ∷ c.in-Some.others.now) (outside c.args.folder.now) x = subst (λ (fs : List File). Tells fs (outside c.args.folder.now) x) c.in-Some.ensures tells in
-    subst (λ (fs : List File). GivesRead rows_in (Err c.in-Err.fault) (read_all fs x (rows_in c.args.rows))) (sym c.in-Some.ensures)
-    (exact-first c.in-Some.file c.in-Some.others.now (outside c.args.folder.now) (outside c.read_one.new.folder) x (rows_in c.args.rows) c.in-Err.fault order
+    subst (λ (fs : List File). GivesRead as_rows (Err c.in-Err.fault) (read_all fs x (as_rows c.args.rows))) (sym c.in-Some.ensures)
+    (exact-first c.in-Some.file c.in-Some.others.now (outside c.args.folder.now) (outside c.read_one.new.folder) x (as_rows c.args.rows) c.in-Err.fault order
     c.in-Err.ensures.cause (c.in-Err.ensures.exact (x c.in-Some.file) (tells-first c.in-Some.file c.in-Some.others.now (outside c.args.folder.now) x told)))
 
 pub returns-clause-exact : goal.returns-clause-exact
@@ -54,8 +56,8 @@ returns-clause-exact g t c = λ x tells.
     let outside = g.F.Folder.outside in
     let order : are_in_order (c.in-Some.file ∷ c.in-Some.others.now) ≡ true = subst (λ (fs : List File). are_in_order fs ≡ true) c.in-Some.ensures c.requires.order in
     let told : Tells (c.in-Some.file ∷ c.in-Some.others.now) (outside c.args.folder.now) x = subst (λ (fs : List File). Tells fs (outside c.args.folder.now) x) c.in-Some.ensures tells in
-    subst (λ (fs : List File). GivesRead rows_in c.read_files.result (read_all fs x (rows_in c.args.rows))) (sym c.in-Some.ensures)
-    (exact-rest c.in-Some.file c.in-Some.others.now x (rows_in c.args.rows) (rows_in c.in-Ok.rows) c.read_files.result
+    subst (λ (fs : List File). GivesRead as_rows c.read_files.result (read_all fs x (as_rows c.args.rows))) (sym c.in-Some.ensures)
+    (exact-rest c.in-Some.file c.in-Some.others.now x (as_rows c.args.rows) (as_rows c.in-Ok.rows) c.read_files.result
     (c.in-Ok.ensures.exact (x c.in-Some.file) (tells-first c.in-Some.file c.in-Some.others.now (outside c.args.folder.now) x told))
     (c.read_files.ensures.exact x (tells-rest c.in-Some.file c.in-Some.others.now (outside c.args.folder.now) (outside c.read_one.new.folder) x order c.read_one.ensures.only told)))
 
@@ -63,18 +65,18 @@ pub returns-in-Err-clause-in_order : goal.returns-in-Err-clause-in_order
 returns-in-Err-clause-in_order g t c = λ x tells r refused.
     let outside = g.F.Folder.outside in
     let order : are_in_order (c.in-Some.file ∷ c.in-Some.others.now) ≡ true = subst (λ (fs : List File). are_in_order fs ≡ true) c.in-Some.ensures c.requires.order in
-    order-first c.in-Some.file c.in-Some.others.now (outside c.args.folder.now) (outside c.read_one.new.folder) x (rows_in c.args.rows) r order c.read_one.ensures.only
-    (subst (λ (fs : List File). read_all fs x (rows_in c.args.rows) ≡ Err r) c.in-Some.ensures refused)
+    order-first c.in-Some.file c.in-Some.others.now (outside c.args.folder.now) (outside c.read_one.new.folder) x (as_rows c.args.rows) r order c.read_one.ensures.only
+    (subst (λ (fs : List File). read_all fs x (as_rows c.args.rows) ≡ Err r) c.in-Some.ensures refused)
 
 pub returns-clause-in_order : goal.returns-clause-in_order
 returns-clause-in_order g t c = λ x tells r refused.
     let outside = g.F.Folder.outside in
     let order : are_in_order (c.in-Some.file ∷ c.in-Some.others.now) ≡ true = subst (λ (fs : List File). are_in_order fs ≡ true) c.in-Some.ensures c.requires.order in
     let told : Tells (c.in-Some.file ∷ c.in-Some.others.now) (outside c.args.folder.now) x = subst (λ (fs : List File). Tells fs (outside c.args.folder.now) x) c.in-Some.ensures tells in
-    order-rest c.in-Some.file c.in-Some.others.now (outside c.args.folder.now) (outside c.read_one.new.folder) (outside c.read_files.new.folder) x (rows_in c.args.rows) (rows_in c.in-Ok.rows) r order
+    order-rest c.in-Some.file c.in-Some.others.now (outside c.args.folder.now) (outside c.read_one.new.folder) (outside c.read_files.new.folder) x (as_rows c.args.rows) (as_rows c.in-Ok.rows) r order
     c.read_one.ensures.only (c.in-Ok.ensures.exact (x c.in-Some.file) (tells-first c.in-Some.file c.in-Some.others.now (outside c.args.folder.now) x told))
     (c.read_files.ensures.in_order x (tells-rest c.in-Some.file c.in-Some.others.now (outside c.args.folder.now) (outside c.read_one.new.folder) x order c.read_one.ensures.only told) r)
-    (subst (λ (fs : List File). read_all fs x (rows_in c.args.rows) ≡ Err r) c.in-Some.ensures refused)
+    (subst (λ (fs : List File). read_all fs x (as_rows c.args.rows) ≡ Err r) c.in-Some.ensures refused)
 
 pub returns-in-Err-clause-stops : goal.returns-in-Err-clause-stops
 returns-in-Err-clause-stops g t c =

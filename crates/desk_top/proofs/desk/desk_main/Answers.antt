@@ -1,9 +1,10 @@
 use Rattle.std.proofs.Common.{map}
 use Rattle.std.specs.String.{string_bytes}
-use Rattle.desk_replay.specs.Runs.{world}
-use Rattle.desk_replay.proofs.HeadlineLaw.{headline-of}
-use Rattle.desk_replay.proofs.CausesLaw.{usage-from, usage-only, done-with, refused-from, refused-of, fault-of, complete-of}
-use Rattle.desk_replay.proofs.StandingLaw.{unwritten-of, begun-of, unread-of, in-order, unput-of, told-last}
+use Rattle.desk_runs.specs.Runs.{world}
+use Rattle.desk_runs.proofs.HeadlineLaw.{headline-of}
+use Rattle.desk_runs.proofs.CausesLaw.{usage-from, usage-only, done-with, refused-from, refused-of, fault-of, complete-of}
+use Rattle.desk_runs.proofs.StandingLaw.{unwritten-of, begun-of, unread-of, in-order, unput-of, told-last}
+use Rattle.desk_top.specs.Desk.{meaning}
 use Rattle.desk_top.proofs.desk.desk_main.Goals as goal
 
 pub returns : goal.returns
@@ -15,18 +16,18 @@ returns g c =
     let run = c.told_run.ensures in
     record {
       runs = run;
-      headline = headline-of words before now code run;
-      done = done-with words before now code run;
-      usage = usage-from words before now code run;
-      usage_only = usage-only words before now code run;
-      refused_where = refused-from words before now code run;
-      refused = refused-of words before now code run;
-      fault = fault-of words before now code run;
-      complete = complete-of words before now code run;
-      unwritten = unwritten-of words before now code run;
-      begun = begun-of words before now code run;
-      unread = unread-of words before now code run;
-      in_order = in-order words before now code run;
-      unput = unput-of words before now code run;
-      told_last = told-last words before now code run;
+      headline = headline-of meaning words before now code run;
+      done = done-with meaning words before now code run;
+      usage = usage-from meaning words before now code run;
+      usage_only = usage-only meaning words before now code run;
+      refused_where = refused-from meaning words before now code run;
+      refused = refused-of meaning words before now code run;
+      fault = fault-of meaning words before now code run;
+      complete = complete-of meaning words before now code run;
+      unwritten = unwritten-of meaning words before now code run;
+      begun = begun-of meaning words before now code run;
+      unread = unread-of meaning words before now code run;
+      in_order = in-order meaning words before now code run;
+      unput = unput-of meaning words before now code run;
+      told_last = told-last meaning words before now code run;
     }

@@ -1,0 +1,56 @@
+//! Taking the events of a story, and writing what came of them.
+
+ghost use Rattle.std.specs.Prelude.{◌≡◌, []};
+ghost use Rattle.desk_model.specs.Histories.{AreAskable};
+ghost use Rattle.desk_runs.specs.Outcome.{story_on, end_with};
+ghost use Rattle.desk_runs.specs.Runs.{world};
+ghost use Rattle.desk_runs.specs.Finishing.{Plays};
+
+use crate::run::run_events;
+use crate::texts::output_texts;
+use desk_data::{Broken, Instance};
+use desk_folder::{Folder, Sink};
+use desk_model::Event;
+use desk_runs::{Ending, put_outputs};
+use std::alloc::Global;
+
+// How a run ends that wrote all of its texts, by what its last plan breaks.
+fn end_with(broken: Option<Broken>) -> Ending
+    ensures { result ≡ end_with broken }
+{
+    match broken {
+        None => Ending::Done,
+        Some(_) => Ending::NoPlan,
+    }
+}
+
+/// Takes these events on a day, each with its caller, and writes the journal with its answers, the
+/// rotations of the last plan where there is one, and the report.
+///
+/// It ends with `Done` or `NoPlan` when all is written. A write that fails ends it with that fault, and
+/// `Memory` may come at any time: what is written by then is a beginning of the texts, in their order.
+pub fn play_events<F: Folder, O: Sink>(
+    alloc: Global,
+    inst: Instance,
+    events: &[(u32, Event)],
+    folder: &mut F,
+    out: &mut O,
+) -> Ending
+    requires fresh { inst.orders ≡ [] }
+    requires asked { AreAskable inst events.now }
+    ensures { Plays (world (F.outside folder.old) (O.report out.old))
+        (world (F.outside folder.new) (O.report out.new)) (story_on inst events.now) result }
+{
+    let book = match run_events(alloc, inst, events) {
+        Ok(book) => book,
+        Err(_) => return Ending::Memory,
+    };
+    let texts = match output_texts(alloc, &book) {
+        Ok(texts) => texts,
+        Err(_) => return Ending::Memory,
+    };
+    match put_outputs(alloc, folder, out, &texts) {
+        Ok(()) => end_with(book.broken()),
+        Err(end) => end,
+    }
+}

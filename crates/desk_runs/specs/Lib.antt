@@ -1,0 +1,9 @@
+pub mod Inputs
+pub mod Outcome
+pub mod Commands
+pub mod Reading
+pub mod Runs
+pub mod Causes
+pub mod Standing
+pub mod Writing
+pub mod Finishing

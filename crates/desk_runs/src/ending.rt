@@ -1,0 +1,60 @@
+//! How a run of the desk ends.
+
+ghost use Rattle.std.specs.Prelude.{◌≡◌};
+ghost use Rattle.desk_runs.specs.Outcome.{status_of};
+ghost use Rattle.desk_runs.specs.Writing.{write_end};
+
+use crate::refusal::Refusal;
+use desk_folder::File;
+use folder_io::WriteFault;
+
+/// How a run ends.
+#[derive(Clone, Copy, Debug, PartialEq, Eq)]
+pub enum Ending {
+    /// All was done, and there is a plan.
+    Done,
+    /// All was done, and there is no plan.
+    NoPlan,
+    /// The words are no command.
+    Usage,
+    /// The input is refused.
+    Refused(Refusal),
+    /// The directories could not be named.
+    PlaceFault,
+    /// A file could not be read.
+    ReadFault(File),
+    /// A file could not be written.
+    WriteFault(File),
+    /// The report could not be written.
+    ReportFault,
+    /// Memory ran out.
+    Memory,
+}
+
+impl Ending {
+    /// The status that the program ends with.
+    pub fn status(self) -> u8
+        ensures { result ≡ status_of self }
+    {
+        match self {
+            Ending::Done => 0,
+            Ending::NoPlan => 1,
+            Ending::Usage => 2,
+            Ending::Refused(_) => 3,
+            Ending::PlaceFault | Ending::ReadFault(_) => 4,
+            Ending::WriteFault(_) | Ending::ReportFault => 5,
+            Ending::Memory => 6,
+        }
+    }
+}
+
+impl From<WriteFault> for Ending {
+    ghost from_gives = { λ fault e. e ≡ write_end fault };
+
+    fn from(fault: WriteFault) -> Ending {
+        match fault {
+            WriteFault::Failed(file) => Ending::WriteFault(file),
+            WriteFault::Memory => Ending::Memory,
+        }
+    }
+}

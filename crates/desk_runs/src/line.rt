@@ -1,0 +1,47 @@
+//! The line that tells why a run was not done.
+
+ghost use Rattle.std.specs.Prelude.{◌≡◌, ◌++◌, IfOk};
+ghost use Rattle.std.specs.String.{string_bytes};
+ghost use Rattle.desk_runs.specs.Outcome.{line, refusal_text, fault_text};
+ghost use Rattle.desk_folder.specs.Files.{file_name};
+
+use crate::ending::Ending;
+use crate::refusal::Refusal;
+use desk_data::NoMem;
+use desk_folder::File;
+use std::alloc::Global;
+
+// The line of a refusal.
+fn refusal_text(alloc: Global, refusal: &Refusal) -> Result<String, NoMem>
+    ensures { IfOk result (λ text. string_bytes text ≡ refusal_text refusal.now) }
+{
+    let file = refusal.file.name();
+    let line = refusal.line;
+    let cause = refusal.cause.name();
+    Ok(format!(in alloc; "refused {file} {line} {cause}\n")?)
+}
+
+// A line of these words and the name of a file.
+fn file_line(alloc: Global, words: &str, file: File) -> Result<String, NoMem>
+    ensures { IfOk result (λ text. string_bytes text ≡ line (words.now ++ file_name file)) }
+{
+    let name = file.name();
+    Ok(format!(in alloc; "{words}{name}\n")?)
+}
+
+/// The line that tells why a run was not done; empty where it was.
+#[tactic(auto, unfolding(crate::specs::Outcome::fault_text))]
+pub fn fault_text(alloc: Global, ending: &Ending) -> Result<String, NoMem>
+    ensures { IfOk result (λ text. string_bytes text ≡ fault_text ending.now) }
+{
+    match ending {
+        Ending::Done | Ending::NoPlan => Ok(String::new(alloc)),
+        Ending::Usage => Ok(format!(in alloc; "usage\n")?),
+        Ending::Refused(refusal) => refusal_text(alloc, refusal),
+        Ending::PlaceFault => Ok(format!(in alloc; "place fault\n")?),
+        Ending::ReadFault(file) => file_line(alloc, "read fault ", *file),
+        Ending::WriteFault(file) => file_line(alloc, "write fault ", *file),
+        Ending::ReportFault => Ok(format!(in alloc; "write fault report\n")?),
+        Ending::Memory => Ok(format!(in alloc; "memory\n")?),
+    }
+}
