@@ -12,7 +12,7 @@ use Rattle.desk_data.specs.Valid.{IsRowOf, AreGroupsOf, IsPlanFor}
 use Rattle.desk_eval.specs.declared.change.Judged.{Judged}
 use Rattle.desk_eval.specs.declared.change.Replaced.TheVariants as replaced
 use Rattle.desk_eval.specs.declared.change.Change.{Change}
-use Rattle.desk_eval.specs.Past.{IsJudged, StoodIn, plans_before, IsEvaluator}
+use Rattle.desk_eval.specs.Past.{IsJudged, HasPlace, plans_before, IsEvaluator}
 use Rattle.desk_eval.proofs.PlanLaws.{with_row-back, with_groups-back, with_row-valid, with_groups-valid}
 use Rattle.desk_eval.proofs.PastLaws.{past-push, kept_changed}
 
@@ -40,12 +40,12 @@ past_with_groups P past judged res groups had is =
     past-push (with_groups P res.0 groups) past (of_groups res had judged)
     ∙ ap (λ (R : PlanRows). R ∷ plans_before R (reverse past)) (groups_back P res groups had is)
 
-row_stood : (I : Situation) (P : PlanRows) (leg : Leg) (row had : Row) → leg.0 < legs_of I → had ≡ row_at P leg.0 → IsPlanFor I P → StoodIn (with_row P leg.0 row) (replaced.Row leg had)
+row_stood : (I : Situation) (P : PlanRows) (leg : Leg) (row had : Row) → leg.0 < legs_of I → had ≡ row_at P leg.0 → IsPlanFor I P → HasPlace (with_row P leg.0 row) (replaced.Row leg had)
 row_stood I P leg row had within is valid =
     let there : leg.0 < length P.rows = omega (arith, within, valid.legs) in
     (omega (arith, there, length-set P.rows leg.0 row), subst IsRow (sym is) (valid.sound.rows leg.0 Cancelled there))
 
-groups_stood : (I : Situation) (P : PlanRows) (res : Res) (groups had : List Group) → res.0 < reservations_of I → had ≡ groups_at P res.0 → IsPlanFor I P → StoodIn (with_groups P res.0 groups) (replaced.Groups res had)
+groups_stood : (I : Situation) (P : PlanRows) (res : Res) (groups had : List Group) → res.0 < reservations_of I → had ≡ groups_at P res.0 → IsPlanFor I P → HasPlace (with_groups P res.0 groups) (replaced.Groups res had)
 groups_stood I P res groups had within is valid =
     let there : res.0 < length P.groups = omega (arith, within, valid.res) in
     (omega (arith, there, length-set P.groups res.0 groups), subst AreGroups (sym is) (valid.sound.groups res.0 [] there))

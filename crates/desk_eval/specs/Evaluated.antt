@@ -12,8 +12,8 @@ pub record Evaluated : Type 0 where
   pub past : List PlanRows
 
 -- a change to another plan: the plan before it comes first in the past
-abbrev pub changed : Evaluated → PlanRows → Evaluated
-changed E P = record E { rows = P; past = E.rows ∷ E.past }
+abbrev pub after_change : Evaluated → PlanRows → Evaluated
+after_change E P = record E { rows = P; past = E.rows ∷ E.past }
 
 -- whether the path of a group has leg x
 abbrev pub has_leg : ℕ → Group → Bool

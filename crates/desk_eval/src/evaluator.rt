@@ -3,7 +3,7 @@
 ghost use Rattle.std.specs.Prelude.{◌≡◌, ◌+◌, ◌<◌, ◌≤◌, [], ◌∷◌, length, IfOk, OnOk, OnErr};
 
 use crate::change::{Change, Judged, Replaced};
-use crate::judged::{copied_groups, judged, judged_with_groups, judged_with_row, put_back};
+use crate::judge::{copied_groups, judge, judge_with_groups, judge_with_row, put_back};
 use desk_data::{Broken, Grains, Group, Instance, Leg, List, NoMem, Pages, Plan, Res, Row, Steps};
 use std::alloc::Global;
 use std::marker::Model;
@@ -40,7 +40,7 @@ impl Evaluator {
     ghost use Rattle.desk_data.specs.Valid.{IsRowOf, AreGroupsOf, IsPlanFor};
     ghost use Rattle.desk_rules.specs.Least.{least};
     ghost use Rattle.desk_rules.specs.Cost.{cost, grains};
-    ghost use Rattle.desk_eval.specs.Evaluated.{changed, row_reads, group_reads};
+    ghost use Rattle.desk_eval.specs.Evaluated.{after_change, row_reads, group_reads};
 
     /// The evaluator of a plan, with an empty past.
     pub fn open(alloc: Global, inst: Instance, plan: &Plan) -> Result<Evaluator, NoMem>
@@ -48,7 +48,7 @@ impl Evaluator {
         ensures { IfOk result (λ opened. opened ≡ record { inst = inst; rows = plan.now; past = [] }) }
     {
         let pages = Pages::of(alloc, plan)?;
-        let judged = judged(alloc, &inst, &pages)?;
+        let judged = judge(alloc, &inst, &pages)?;
         let past = Vec::new(alloc);
         Ok(Evaluator {
             inst,
@@ -110,7 +110,7 @@ impl Evaluator {
         requires row { IsRowOf (planes_of self.old.inst) row }
         requires depth { length self.old.past < 2000000000 }
         ensures answer { IfOk result (λ had. had ≡ row_at self.old.rows leg.0) }
-        ensures ok { OnOk result (self.new ≡ changed self.old (with_row self.old.rows leg.0 row)) }
+        ensures ok { OnOk result (self.new ≡ after_change self.old (with_row self.old.rows leg.0 row)) }
         ensures err { OnErr result (self.new ≡ self.old) }
         ensures reads { steps.new ≤ steps.old + row_reads self.old.rows leg.0 }
     {
@@ -118,7 +118,7 @@ impl Evaluator {
         let replaced = Replaced::Row { leg, row: had };
         let judged = self.judged;
         self.past.push(Change { replaced, judged })?;
-        match judged_with_row(alloc, &self.inst, &mut self.pages, leg, row) {
+        match judge_with_row(alloc, &self.inst, &mut self.pages, leg, row) {
             Ok(judged) => {
                 self.judged = judged;
                 Ok(had)
@@ -145,7 +145,7 @@ impl Evaluator {
         requires passengers { AreGroupsOf (legs_of self.old.inst) (res_at self.old.inst res.0).count groups.items }
         requires depth { length self.old.past < 2000000000 }
         ensures answer { IfOk result (λ had. had.items ≡ groups_at self.old.rows res.0) }
-        ensures ok { OnOk result (self.new ≡ changed self.old (with_groups self.old.rows res.0 groups.items)) }
+        ensures ok { OnOk result (self.new ≡ after_change self.old (with_groups self.old.rows res.0 groups.items)) }
         ensures err { OnErr result (self.new ≡ self.old) }
         ensures reads { steps.new ≤ steps.old + group_reads (groups_at self.old.rows res.0) groups.items }
     {
@@ -158,7 +158,7 @@ impl Evaluator {
         };
         let judged = self.judged;
         self.past.push(Change { replaced, judged })?;
-        match judged_with_groups(alloc, &self.inst, &mut self.pages, res, groups) {
+        match judge_with_groups(alloc, &self.inst, &mut self.pages, res, groups) {
             Ok(judged) => {
                 self.judged = judged;
                 Ok(had)

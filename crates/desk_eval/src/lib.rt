@@ -4,6 +4,6 @@
 
 mod change;
 mod evaluator;
-mod judged;
+mod judge;
 
 pub use evaluator::Evaluator;

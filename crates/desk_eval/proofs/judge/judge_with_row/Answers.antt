@@ -1,8 +1,8 @@
 use Rattle.desk_eval.proofs.PlanLaws.{with_row-back, with_row-valid}
-use Rattle.desk_eval.proofs.judged.judged_with_row.Goals as goal
+use Rattle.desk_eval.proofs.judge.judge_with_row.Goals as goal
 
-pub judged-requires : goal.judged-requires
-judged-requires c =
+pub judge-requires : goal.judge-requires
+judge-requires c =
     rw c.in_ok-replace_row.ensures.ok (with_row-valid c.args.inst.now c.args.pages.now c.args.leg.0 c.args.row c.requires.row c.requires.plan)
 
 pub returns-in-Err-clause-err : goal.returns-in-Err-clause-err

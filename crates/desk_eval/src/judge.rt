@@ -4,7 +4,7 @@ ghost use Rattle.std.specs.Prelude.{◌≡◌, ◌<◌, IfOk, OnOk, OnErr};
 ghost use Rattle.desk_data.specs.Situation.{legs_of, planes_of, reservations_of, res_at};
 ghost use Rattle.desk_data.specs.PlanRows.{AreGroups, with_row, with_groups};
 ghost use Rattle.desk_data.specs.Valid.{IsRowOf, AreGroupsOf, IsPlanFor};
-ghost use Rattle.desk_eval.specs.Past.{IsJudged, StoodIn, undone};
+ghost use Rattle.desk_eval.specs.Past.{IsJudged, HasPlace, plan_before};
 
 use crate::change::{Judged, Replaced};
 use desk_data::{Group, Instance, Leg, NoMem, Pages, Res, Row};
@@ -13,7 +13,7 @@ use full_cost::full_cost;
 use std::alloc::Global;
 
 /// What a plan breaks first, and what it costs.
-pub(crate) fn judged(alloc: Global, inst: &Instance, pages: &Pages) -> Result<Judged, NoMem>
+pub(crate) fn judge(alloc: Global, inst: &Instance, pages: &Pages) -> Result<Judged, NoMem>
     requires { IsPlanFor inst.now pages.now }
     ensures { IfOk result (λ judged. IsJudged inst.now pages.now judged) }
 {
@@ -24,7 +24,7 @@ pub(crate) fn judged(alloc: Global, inst: &Instance, pages: &Pages) -> Result<Ju
 }
 
 /// Gives a leg another row and judges the plan. After an error the plan is as before.
-pub(crate) fn judged_with_row(
+pub(crate) fn judge_with_row(
     alloc: Global,
     inst: &Instance,
     pages: &mut Pages,
@@ -40,7 +40,7 @@ pub(crate) fn judged_with_row(
 {
     let old = pages.read_row(leg);
     pages.replace_row(alloc, leg, row)?;
-    match judged(alloc, inst, pages) {
+    match judge(alloc, inst, pages) {
         Ok(judged) => Ok(judged),
         Err(error) => {
             pages.put_back_row(leg, old);
@@ -50,7 +50,7 @@ pub(crate) fn judged_with_row(
 }
 
 /// Gives a reservation other groups and judges the plan. After an error the plan is as before.
-pub(crate) fn judged_with_groups(
+pub(crate) fn judge_with_groups(
     alloc: Global,
     inst: &Instance,
     pages: &mut Pages,
@@ -67,7 +67,7 @@ pub(crate) fn judged_with_groups(
 {
     let old = copied_groups(alloc, pages.groups(res))?;
     pages.replace_groups(alloc, res, groups)?;
-    match judged(alloc, inst, pages) {
+    match judge(alloc, inst, pages) {
         Ok(judged) => Ok(judged),
         Err(error) => {
             pages.put_back_groups(res, old);
@@ -78,8 +78,8 @@ pub(crate) fn judged_with_groups(
 
 /// Puts back what a change replaced.
 pub(crate) fn put_back(pages: &mut Pages, replaced: Replaced)
-    requires { StoodIn pages.old replaced }
-    ensures { pages.new ≡ undone pages.old replaced }
+    requires { HasPlace pages.old replaced }
+    ensures { pages.new ≡ plan_before pages.old replaced }
 {
     match replaced {
         Replaced::Row { leg, row } => pages.put_back_row(leg, row),

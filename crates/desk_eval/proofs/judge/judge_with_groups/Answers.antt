@@ -1,8 +1,8 @@
 use Rattle.desk_eval.proofs.PlanLaws.{with_groups-back, with_groups-valid}
-use Rattle.desk_eval.proofs.judged.judged_with_groups.Goals as goal
+use Rattle.desk_eval.proofs.judge.judge_with_groups.Goals as goal
 
-pub judged-requires : goal.judged-requires
-judged-requires c =
+pub judge-requires : goal.judge-requires
+judge-requires c =
     rw c.in_ok-replace_groups.ensures.ok
     (with_groups-valid c.args.inst.now c.args.pages.now c.args.res.0 c.args.groups.items c.requires.res c.requires.groups c.requires.passengers c.requires.plan)
 
