@@ -1,5 +1,5 @@
 -- What Push counts beside a leg.
-use Rattle.std.proofs.Common.{◌≡◌, ℕ, ◌+◌, ◌*◌, ◌<◌, ◌≤◌, true, false, ◌&&◌, not, eqb, refl, sym, ap, subst, arith}
+use Rattle.std.proofs.Common.{◌≡◌, ℕ, ◌+◌, true, false, ◌&&◌, not, eqb, refl, sym, ap, subst}
 use Rattle.std.proofs.lemmas.Bool.{true≢false, and_parts, and_from, not-true, not_from_false, eqb-true, eqb-false, eq-eqb, ne_eqb}
 use Rattle.desk_data.specs.declared.row.Row.{Row}
 use Rattle.desk_data.specs.declared.row.Row.TheVariants.{Flown, Cancelled}
@@ -9,13 +9,8 @@ use Rattle.desk_rules.specs.Rotations.{departure, dep, arr}
 use Rattle.desk_rules.specs.Slots.{hour_of}
 use Rattle.desk_rules.specs.Passengers.{is_flown}
 use Rattle.desk_rules.specs.Words.{Flies}
+use Rattle.desk_rules.proofs.SlotLaws.{hour-holds, hour-from}
 use Rattle.desk_model.specs.Push.{is_beside, departs_beside, arrives_beside, DepartsBeside, ArrivesBeside}
-
-hour-holds : (at h : ℕ) → hour_of at ≡ h → (60 * h ≤ at) × (at < 60 * h + 60)
-hour-holds at h is = (omega arith, omega arith)
-
-hour-from : (at h : ℕ) → 60 * h ≤ at → at < 60 * h + 60 → hour_of at ≡ h
-hour-from at h from to = omega arith
 
 -- the aircraft that flies a row
 record FlownBy (row : Row) : Type 0 where

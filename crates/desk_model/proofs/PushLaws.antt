@@ -200,12 +200,9 @@ module _ (I : Situation) (P : PlanRows) (p : ℕ) where
 
 -- ---- the legs that are placed
 
-pushed-part : (I : Situation) (P : PlanRows) (p : ℕ) (after : Option Leg) → AllPairs (Precedes P) (pushed_legs I P p after)
-unfolding pushed_legs
-pushed-part I P p after = AllPairs-filter (Precedes P) (λ x. not (fixed I x) && comes_behind P after x) (rotation I P p) (rotation-ordered I P p)
-
 pub pushed-ordered : (I : Situation) (P : PlanRows) (p : ℕ) (after : Option Leg) → AllPairs (Precedes P) (pushed_legs I P p after)
-pushed-ordered = pushed-part
+unfolding pushed_legs
+pushed-ordered I P p after = AllPairs-filter (Precedes P) (λ x. not (fixed I x) && comes_behind P after x) (rotation I P p) (rotation-ordered I P p)
 
 behind-holds : (P : PlanRows) (o : Option Leg) (x : ℕ) (leg : Leg) → comes_behind P o x ≡ true → o ≡ Some leg → Precedes P leg.0 x
 behind-holds P None x leg holds is = absurd cc

@@ -17,5 +17,5 @@ pub use steps::{
     a_push_places_legs_in_their_order, a_rebook_moves_passengers_between_two_paths,
     a_refill_fills_the_seats_that_are_left, a_set_changes_one_leg, a_swap_exchanges_legs,
     a_tidy_leaves_no_path_that_breaks_a_rule, choices_are_the_first_and_the_greatest,
-    steps_make_valid_plans, the_steps_count_as_in_words,
+    steps_make_valid_plans, the_steps_count_and_judge_as_in_words,
 };

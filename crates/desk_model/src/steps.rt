@@ -13,7 +13,7 @@ ghost use Rattle.desk_model.specs.Choices.{HoldsOfNone, IsFirstWithin, IsGreates
 ghost use Rattle.desk_model.specs.Push.{ArrivesBeside, DepartsBeside, IsPushed, PlacesLeg, after_push, arrives_beside, departs_beside, pushed_legs};
 ghost use Rattle.desk_model.specs.Swap.{SwapsLeg, after_swap};
 ghost use Rattle.desk_model.specs.Rebook.{RebooksPassengers, after_rebook, count_on};
-ghost use Rattle.desk_model.specs.Tidy.{AreNoMoreCarried, TidiesReservation, after_tidy};
+ghost use Rattle.desk_model.specs.Tidy.{AreNoMoreCarried, IsFit, TidiesReservation, after_tidy, is_fit_path};
 ghost use Rattle.desk_model.specs.Refill.{HasSeatsFor, IsNotOverfilled, RefillsReservation, after_refill, has_seats_for};
 ghost use Rattle.desk_model.specs.Steps.{SetsLeg, after_set};
 
@@ -37,12 +37,14 @@ pub fn choices_are_the_first_and_the_greatest()
     ensures greatest { (n : ℕ) (test : ℕ → Bool) (k : ℕ) → greatest_within n test ≡ k ↔ IsGreatestWithin n test k }
 {}
 
-/// What the steps count, in words: the legs that depart from an airport or arrive there in an hour
-/// beside the leg that is placed, and the seats that are left on a path's legs.
-pub fn the_steps_count_as_in_words()
+/// What the steps count and ask, in words: the legs that depart from an airport or arrive there in an
+/// hour beside the leg that is placed, the seats that are left on a path's legs, and whether a path
+/// meets C13, C14 and C15.
+pub fn the_steps_count_and_judge_as_in_words()
     ensures departs { (I : Situation) (Q : PlanRows) (x a h y : ℕ) → departs_beside I Q x a h y ≡ true ↔ DepartsBeside I Q x a h y }
     ensures arrives { (I : Situation) (Q : PlanRows) (x a h y : ℕ) → arrives_beside I Q x a h y ≡ true ↔ ArrivesBeside I Q x a h y }
     ensures seats { (I : Situation) (P : PlanRows) (path : Items (Leg × Cabin)) (n : ℕ) → has_seats_for I P path n ≡ true ↔ HasSeatsFor I P path n }
+    ensures fit { (I : Situation) (P : PlanRows) (r : ℕ) (path : Items (Leg × Cabin)) → is_fit_path I P r path ≡ true ↔ IsFit I P r path }
 {}
 
 /// A Set changes the row of its leg where it is the one that the step names, and nothing else.

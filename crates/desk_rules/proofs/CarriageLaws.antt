@@ -195,7 +195,7 @@ arrives_there I r path = eqb (leg_at I (last_leg path)).dest.0 (dest_of I r)
 abbrev leaves_then : Situation → PlanRows → ℕ → List (Leg × Cabin) → Bool
 leaves_then I P r path = leb (booked_departure I r) (dep P (first_leg path))
 
-is_good_path-holds : (I : Situation) (P : PlanRows) (r : ℕ) (path : List (Leg × Cabin)) → is_good_path I P r path ≡ true → TakesThere I P r path
+pub is_good_path-holds : (I : Situation) (P : PlanRows) (r : ℕ) (path : List (Leg × Cabin)) → is_good_path I P r path ≡ true → TakesThere I P r path
 unfolding is_good_path
 is_good_path-holds I P r path h =
     let four = and_parts (all_flown P path && leaves_there I r path && arrives_there I r path && connects I P path) (leaves_then I P r path) h in
@@ -210,7 +210,7 @@ is_good_path-holds I P r path h =
       departs = leb-true (booked_departure I r) (dep P (first_leg path)) four.1;
     }
 
-is_good_path-from : (I : Situation) (P : PlanRows) (r : ℕ) (path : List (Leg × Cabin)) → TakesThere I P r path → is_good_path I P r path ≡ true
+pub is_good_path-from : (I : Situation) (P : PlanRows) (r : ℕ) (path : List (Leg × Cabin)) → TakesThere I P r path → is_good_path I P r path ≡ true
 unfolding is_good_path
 is_good_path-from I P r path h =
     let one = and_from (all_flown P path) (leaves_there I r path) (all_flown-from P path h.flown) (eq-eqb (leg_at I (first_leg path)).origin.0 (origin_of I r) h.origin) in
@@ -244,14 +244,14 @@ in_time-from I P r path haul.I is late = late.far is
 abbrev IsInTime : Situation → PlanRows → ℕ → List (Leg × Cabin) → Type 0
 IsInTime I P r path = All (λ pair. IsFlown P pair.0.0) path → ArrivesInTime I P r path
 
-is_in_time-holds : (I : Situation) (P : PlanRows) (r : ℕ) (path : List (Leg × Cabin)) → is_in_time_path I P r path ≡ true → IsInTime I P r path
+pub is_in_time-holds : (I : Situation) (P : PlanRows) (r : ℕ) (path : List (Leg × Cabin)) → is_in_time_path I P r path ≡ true → IsInTime I P r path
 unfolding is_in_time_path
 is_in_time-holds I P r path h flown =
     let latest = booked_arrival I r + longest_delay (haul_of I r) in
     in_time-holds I P r path (haul_of I r) refl
     (leb-true (arrival_of I P path) latest (implies-holds (all_flown P path) (leb (arrival_of I P path) latest) h (all_flown-from P path flown)))
 
-is_in_time-from : (I : Situation) (P : PlanRows) (r : ℕ) (path : List (Leg × Cabin)) → IsInTime I P r path → is_in_time_path I P r path ≡ true
+pub is_in_time-from : (I : Situation) (P : PlanRows) (r : ℕ) (path : List (Leg × Cabin)) → IsInTime I P r path → is_in_time_path I P r path ≡ true
 unfolding is_in_time_path
 is_in_time-from I P r path h =
     let latest = booked_arrival I r + longest_delay (haul_of I r) in
@@ -294,7 +294,7 @@ same_pair-from a b is =
 pub same_pair-Decides : (a b : Leg × Cabin) → Decides (same_pair a b) (a ≡ b)
 same_pair-Decides a b = (same_pair-holds a b, same_pair-from a b)
 
-bound-holds : (I : Situation) (r : ℕ) (groups : List Group) (path : List (Leg × Cabin)) → bound I r groups path ≡ true → BeginsAsBegun I r path
+pub bound-holds : (I : Situation) (r : ℕ) (groups : List Group) (path : List (Leg × Cabin)) → bound I r groups path ≡ true → BeginsAsBegun I r path
 unfolding bound
 bound-holds I r groups path h =
     let begun_legs = take (begun I r) (booked_path I r) in
@@ -303,7 +303,7 @@ bound-holds I r groups path h =
       whole = (starts_is same_pair-Decides path begun_legs (starts_with same_pair path begun_legs) refl).0 h;
     }
 
-bound-from : (I : Situation) (r : ℕ) (groups : List Group) (path : List (Leg × Cabin)) → BeginsAsBegun I r path → bound I r groups path ≡ true
+pub bound-from : (I : Situation) (r : ℕ) (groups : List Group) (path : List (Leg × Cabin)) → BeginsAsBegun I r path → bound I r groups path ≡ true
 unfolding bound
 bound-from I r groups path h =
     let begun_legs = take (begun I r) (booked_path I r) in

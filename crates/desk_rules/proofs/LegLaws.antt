@@ -17,7 +17,7 @@ use Rattle.desk_rules.specs.Words.{Flies, MeetsSpan, MeetsC1, MeetsC2, MeetsC3, 
 
 -- ---- C1
 
-is_row-holds : (r s : Row) → is_row r s ≡ true → s ≡ r
+pub is_row-holds : (r s : Row) → is_row r s ≡ true → s ≡ r
 is_row-holds (Flown p d) (Flown q e) h =
     let parts = and_parts (eqb p.0 q.0) (eqb d.0 e.0) h in
     ap (λ (k : ℕ). let plane : Plane = record { 0 = k } in Flown plane e) (sym (eqb-true p.0 q.0 parts.0))
@@ -26,7 +26,7 @@ is_row-holds (Flown p d) Cancelled h = absurd (true≢false (sym h))
 is_row-holds Cancelled (Flown q e) h = absurd (true≢false (sym h))
 is_row-holds Cancelled Cancelled h = refl
 
-is_row-from : (r : Row) → is_row r r ≡ true
+pub is_row-from : (r : Row) → is_row r r ≡ true
 is_row-from (Flown p d) = and_from (eqb p.0 p.0) (eqb d.0 d.0) (eq-eqb p.0 p.0 refl) (eq-eqb d.0 d.0 refl)
 is_row-from Cancelled = refl
 

@@ -14,10 +14,10 @@ use Rattle.desk_rules.specs.Words.{Flies, DepartsIn, ArrivesIn, MeetsC10, MeetsC
 -- ---- hours
 
 -- a moment is in its hour, and in no other
-hour-holds : (at h : ℕ) → hour_of at ≡ h → (60 * h ≤ at) × (at < 60 * h + 60)
+pub hour-holds : (at h : ℕ) → hour_of at ≡ h → (60 * h ≤ at) × (at < 60 * h + 60)
 hour-holds at h is = (omega arith, omega arith)
 
-hour-from : (at h : ℕ) → 60 * h ≤ at → at < 60 * h + 60 → hour_of at ≡ h
+pub hour-from : (at h : ℕ) → 60 * h ≤ at → at < 60 * h + 60 → hour_of at ≡ h
 hour-from at h from to = omega arith
 
 -- what a row flies in the air
