@@ -29,7 +29,7 @@ abbrev pub start_of : Option Maint → ℕ
 start_of None = 0
 start_of (Some maint) = maint.from.0
 
--- what no legs say, beside the last leg before the maintenance
+-- what is said before the legs are counted: only the last one before the maintenance is known
 abbrev pub blank : Option Leg → Upkeep
 blank last = record { stops = true; free = true; last = last; minutes = 0 }
 

@@ -18,7 +18,7 @@ use std::alloc::Global;
 /// The first item of C1 to C9 that the plan breaks, by rule and then by leg or aircraft, or `None`
 /// where it breaks none. The time is near linear in the legs: the flown legs are sorted once, each
 /// rule of legs looks at each leg once, C7 also at each span in which the leg's aircraft is out of
-/// service, and one walk over the legs serves the rules of maintenance. The only error is out of
+/// service, and two walks over the legs serve the rules of maintenance. The only error is out of
 /// memory.
 pub fn least_rot(alloc: Global, inst: &Instance, plan: &Plan) -> Result<Option<Broken>, NoMem>
     requires { IsPlanFor inst.now plan.now }

@@ -1,4 +1,4 @@
-//! What the legs of each aircraft say of its maintenance, in one walk over all legs.
+//! What the legs of each aircraft say of its maintenance, in two walks over all legs.
 
 ghost use Rattle.std.specs.Prelude.{◌≡◌, ◌+◌, ◌<◌, true, map, IfOk};
 ghost use Rattle.desk_data.specs.Situation.{legs_of, planes_of, plane_at};
@@ -12,20 +12,20 @@ use plan_reads::departure;
 use plan_rotations::{Moments, put_lasts};
 use std::alloc::Global;
 
-/// What some legs say of an aircraft's maintenance.
+/// What some legs say of an aircraft's maintenance, and the last of all its legs before it.
 #[derive(Clone, Copy)]
 pub(crate) struct Upkeep {
     /// Whether none of the aircraft's legs departs from the start of the maintenance on.
     pub(crate) stops: bool,
     /// Whether none meets the maintenance.
     pub(crate) free: bool,
-    /// The last that departs before the start.
+    /// The last of all that depart before the start.
     pub(crate) last: Option<Leg>,
     /// The block minutes of those that depart before the start.
     pub(crate) minutes: u32,
 }
 
-/// The moments at which maintenances start.
+/// The start of each aircraft's maintenance; minute 0 where it has none.
 struct Starts;
 
 impl Moments for Starts {
@@ -54,7 +54,8 @@ pub(crate) fn upkeeps_of(alloc: Global, inst: &Instance, plan: &Plan) -> Result<
     Ok(upkeeps)
 }
 
-/// What no legs say, beside the last leg of each aircraft before its maintenance.
+/// What is said of each aircraft before its legs are counted: only the last one before its
+/// maintenance is known.
 fn blank_upkeeps(alloc: Global, lasts: &[Option<Leg>]) -> Result<Vec<Upkeep>, NoMem>
     ensures { IfOk result (λ upkeeps. upkeeps.items ≡ map blank lasts.now) }
 {
