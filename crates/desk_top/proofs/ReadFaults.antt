@@ -1,7 +1,6 @@
 -- A run whose input gave no story, from how the reading ended.
 use Rattle.std.proofs.Common.{ℕ, subst}
 use Rattle.std.specs.Prelude.{Result, Ok, Err}
-use Rattle.desk_folder.specs.declared.files.File.{File}
 use Rattle.desk_folder.specs.declared.faults.FolderFault.{FolderFault}
 use Rattle.desk_folder.specs.Outside.{Outside, SinkSide, Directories, PlacesOnly}
 use Rattle.desk_folder.specs.Calls.{Rose, Names}

@@ -34,7 +34,10 @@ pub(crate) fn replay<F: Folder, O: Sink>(
         Err(FolderFault::Memory) => return Ending::Memory,
     }
     match read_story(alloc, folder) {
-        Ok(InputStory { inst, events }) => play_events(alloc, inst, events.as_slice(), folder, out),
+        Ok(story) => {
+            let InputStory { inst, events } = story;
+            play_events(alloc, inst, events.as_slice(), folder, out)
+        }
         Err(fault) => Ending::from(fault),
     }
 }

@@ -1,4 +1,4 @@
-use Rattle.std.proofs.Common.{sym, subst, ◌∙◌, ap}
+use Rattle.std.proofs.Common.{sym, subst}
 use Rattle.desk_runs.specs.declared.ending.Ending.{Ending}
 use Rattle.desk_runs.specs.Outcome.{story_on}
 use Rattle.desk_runs.specs.Runs.{world}
