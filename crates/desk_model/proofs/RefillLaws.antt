@@ -15,7 +15,8 @@ use Rattle.desk_data.specs.Situation.{Situation, legs_of, reservations_of, res_a
 use Rattle.desk_data.specs.PlanRows.{PlanRows, row_at, groups_at, with_groups}
 use Rattle.desk_data.specs.Valid.{IsValid, IsReservation, IsPlanFor}
 use Rattle.desk_rules.specs.Numbers.{numbers}
-use Rattle.desk_rules.specs.Passengers.{aboard, aboard_of, takes, booked_path}
+use Rattle.desk_data.specs.Booked.{booked_path}
+use Rattle.desk_rules.specs.Passengers.{aboard, aboard_of, takes}
 use Rattle.desk_rules.proofs.CarriageLaws.{same_pair-holds}
 use Rattle.desk_rules.specs.Carriage.{is_good_path, is_in_time_path}
 use Rattle.desk_model.specs.Choices.{IsGreatestWithin}

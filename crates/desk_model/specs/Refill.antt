@@ -8,7 +8,8 @@ use Rattle.desk_data.specs.declared.row.Row.TheVariants.{Flown, Cancelled}
 use Rattle.desk_data.specs.Situation.{Situation, reservations_of, plane_at}
 use Rattle.desk_data.specs.PlanRows.{PlanRows, row_at, groups_at}
 use Rattle.desk_rules.specs.Numbers.{numbers}
-use Rattle.desk_rules.specs.Passengers.{aboard, seats_in, booked_path}
+use Rattle.desk_data.specs.Booked.{booked_path}
+use Rattle.desk_rules.specs.Passengers.{aboard, seats_in}
 use Rattle.desk_model.specs.Choices.{greatest_within}
 use Rattle.desk_model.specs.Rebook.{passengers_on, count_on, after_rebook}
 use Rattle.desk_model.specs.Tidy.{is_fit_path}

@@ -9,8 +9,8 @@ use Rattle.desk_data.specs.Situation.{Situation, legs_of, planes_of, plane_at}
 use Rattle.desk_data.specs.PlanRows.{PlanRows}
 use Rattle.desk_rules.specs.Numbers.{numbers}
 use Rattle.desk_rules.specs.Cost.{is_wanted, ends_at, at_hand}
-use Rattle.plan_rotations.specs.Last.{AreLasts, stand}
-use Rattle.plan_rotations.proofs.LastLaws.{left_asked}
+use Rattle.plan_reads.specs.Last.{AreLasts, stand}
+use Rattle.plan_reads.proofs.LastLaws.{left_asked}
 use Rattle.full_cost.specs.Stands.{end_of, is_there, AreStands, planes_ending_at, AreHere, count_of_wanted}
 
 -- ---- where the last leg leaves the aircraft

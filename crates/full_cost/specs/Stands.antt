@@ -7,7 +7,7 @@ use Rattle.desk_data.specs.Situation.{Situation, planes_of, plane_at}
 use Rattle.desk_data.specs.PlanRows.{PlanRows}
 use Rattle.desk_rules.specs.Numbers.{numbers}
 use Rattle.desk_rules.specs.Cost.{is_wanted, ends_at}
-use Rattle.plan_rotations.specs.Last.{stand}
+use Rattle.plan_reads.specs.Last.{stand}
 
 -- where aircraft p ends behind its last leg: surface transport ends nowhere
 abbrev pub end_of : Situation → ℕ → Option Leg → Option Airport

@@ -7,7 +7,7 @@ ghost use Rattle.desk_data.specs.Valid.{IsPlanFor};
 ghost use Rattle.full_cost.specs.Stands.{AreStands, end_of};
 
 use desk_data::{Airport, Instance, Leg, Plan, Plane};
-use plan_rotations::{put_lasts, stand_of};
+use plan_reads::{put_lasts, stand_of};
 
 /// Writes where each aircraft ends: its last leg that departs before the window's end arrived there,
 /// or it began there. In `lasts` it keeps these legs.

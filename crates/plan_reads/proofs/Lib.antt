@@ -1,1 +1,5 @@
+pub mod BeforeLaws
+pub mod LastLaws
+pub mod OrderLaws
 pub mod PathLaws
+pub mod TurnLaws

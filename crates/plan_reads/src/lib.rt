@@ -1,15 +1,38 @@
-//! How a plan is read: when its legs leave and arrive, and whether a path of passengers is flown,
-//! connects and is in time. What has the rows and the groups of a plan is read alike.
+//! How a plan is read: what its rows say of an aircraft's legs in their order, and of the paths that
+//! passengers are on.
+//!
+//!     let before = legs_before(alloc, plan.rows())?;     // for each leg the one before it, if any
+//!     put_lasts(&at, &inst, &plan, &mut lasts);          // for each aircraft its last leg before a moment
+//!     let airport = stand_of(&inst, plane, last);        // where that leaves it
+//!     let leaves = departure(&plan, leg);                // in minutes since 2000-01-01
+//!     is_good_path(&inst, &plan, res, path)              // whether a path keeps C13
+//!
+//! Paths are read through `ReadPlan`, a small trait with a plan's rows and groups, so that whatever has
+//! these is read alike. The rules, the cost, and later steps and the search ask here.
+//!
+//! Proved: each call is the definition of desk_rules that it is named for, and two laws say in words
+//! what the leg before a leg and the last leg before a moment are. The flown legs are sorted once; all
+//! other calls walk over what they are asked about. It stands on `desk_data` and `desk_rules`.
 #![tactic(auto)]
 
 mod connection;
+mod last;
+mod laws;
 mod legs;
+mod order;
 mod paths;
 mod reads;
 mod rules;
+mod stand;
 
 pub use connection::connects;
+pub use last::{Moments, put_lasts};
+pub use laws::{
+    the_last_leg_is_the_last_that_departs_before_a_moment, the_leg_before_a_leg_is_followed_by_it,
+};
 pub use legs::{arrival, departure};
+pub use order::legs_before;
 pub use paths::{all_flown, has_leg, is_carried};
 pub use reads::ReadPlan;
 pub use rules::{is_good_path, is_in_time_path};
+pub use stand::stand_of;

@@ -8,9 +8,9 @@ use Rattle.desk_data.specs.Situation.{Situation, legs_of, leg_at, plane_at}
 use Rattle.desk_data.specs.PlanRows.{PlanRows, row_at}
 use Rattle.desk_rules.specs.Rotations.{arr, ground}
 use Rattle.desk_rules.specs.Rules.{leaves_right, has_ground_time, keeps_c5, keeps_c6}
-use Rattle.plan_rotations.specs.Before.{IsLastBefore}
-use Rattle.plan_rotations.proofs.OrderLaws.{and_true}
-use Rattle.plan_rotations.proofs.BeforeLaws.{none_first, none_follows, nearest_not_first, nearest_asked}
+use Rattle.plan_reads.specs.Before.{IsLastBefore}
+use Rattle.plan_reads.proofs.OrderLaws.{and_true}
+use Rattle.plan_reads.proofs.BeforeLaws.{none_first, none_follows, nearest_not_first, nearest_asked}
 use Rattle.rule_rot.specs.Before.{stands_there, has_turned}
 
 abbrev leaves_where_arrived : Situation → ℕ → ℕ → Bool

@@ -15,9 +15,9 @@ use Rattle.desk_rules.specs.Numbers.{numbers, none_below}
 use Rattle.desk_rules.specs.Rotations.{dep, arr}
 use Rattle.desk_rules.specs.Rules.{meets_span}
 use Rattle.desk_rules.specs.Maintenance.{is_flown_by, flies, departs_before, departs_from, makes_maintenance, is_within_minutes, keeps_c8, keeps_c9}
-use Rattle.plan_rotations.specs.Last.{IsLastOf, AreLasts}
-use Rattle.plan_rotations.proofs.OrderLaws.{and_true}
-use Rattle.plan_rotations.proofs.LastLaws.{last_in, left_asked}
+use Rattle.plan_reads.specs.Last.{IsLastOf, AreLasts}
+use Rattle.plan_reads.proofs.OrderLaws.{and_true}
+use Rattle.plan_reads.proofs.LastLaws.{last_in, left_asked}
 use Rattle.rule_rot.specs.declared.upkeep.Upkeep.{Upkeep}
 use Rattle.rule_rot.specs.Upkeep.{no_upkeep, meets_maint, minutes_of, blank, start_of, IsUpkeep, AreUpkeeps, makes_it, is_within}
 

@@ -6,7 +6,7 @@ use Rattle.desk_data.specs.declared.row.Row.TheVariants.{Flown, Cancelled}
 use Rattle.desk_data.specs.Situation.{Situation, leg_at, plane_at}
 use Rattle.desk_data.specs.PlanRows.{PlanRows}
 use Rattle.desk_rules.specs.Rotations.{arr, ground}
-use Rattle.plan_rotations.specs.Last.{stand}
+use Rattle.plan_reads.specs.Last.{stand}
 
 -- whether leg y, which aircraft p flies at d, departs after the leg before and its ground time
 abbrev pub is_ready : Situation → PlanRows → ℕ → ℕ → ℕ → Option Leg → Bool

@@ -10,7 +10,7 @@ use Rattle.desk_rules.specs.Rotations.{dep, arr}
 use Rattle.desk_rules.specs.Rules.{meets_span}
 use Rattle.desk_rules.specs.Maintenance.{flies, departs_before, departs_from}
 use Rattle.rule_rot.specs.declared.upkeep.Upkeep.{Upkeep}
-use Rattle.plan_rotations.specs.Last.{IsLastOf, stand}
+use Rattle.plan_reads.specs.Last.{IsLastOf, stand}
 
 -- what is said of no aircraft
 abbrev pub no_upkeep : Upkeep

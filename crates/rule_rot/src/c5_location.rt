@@ -4,10 +4,10 @@ ghost use Rattle.std.specs.Prelude.{◌≡◌, ◌<◌};
 ghost use Rattle.desk_data.specs.Situation.{legs_of};
 ghost use Rattle.desk_data.specs.Valid.{IsPlanFor};
 ghost use Rattle.desk_rules.specs.Rules.{keeps_c5};
-ghost use Rattle.plan_rotations.specs.Before.{IsLastBefore};
+ghost use Rattle.plan_reads.specs.Before.{IsLastBefore};
 
 use desk_data::{Instance, Leg, Plan, Row};
-use plan_rotations::stand_of;
+use plan_reads::stand_of;
 
 /// Whether a leg meets C5, given the leg before it on its aircraft.
 #[tactic(auto, unfolding(desk_rules::specs::Rules::keeps_c5))]

@@ -6,7 +6,7 @@ ghost use Rattle.desk_data.specs.Situation.{legs_of, planes_of};
 ghost use Rattle.desk_data.specs.Valid.{IsPlanFor};
 ghost use Rattle.desk_rules.specs.Rotations.{ground};
 ghost use Rattle.desk_rules.specs.Rules.{keeps_c6};
-ghost use Rattle.plan_rotations.specs.Before.{IsLastBefore};
+ghost use Rattle.plan_reads.specs.Before.{IsLastBefore};
 ghost use Rattle.rule_rot.specs.Before.{is_ready};
 
 use desk_data::{Instance, Leg, Minute, Plan, Plane, Row};

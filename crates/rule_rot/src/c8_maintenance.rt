@@ -7,7 +7,7 @@ ghost use Rattle.rule_rot.specs.Upkeep.{makes_it};
 
 use crate::upkeep::Upkeep;
 use desk_data::{Instance, Plane};
-use plan_rotations::stand_of;
+use plan_reads::stand_of;
 
 /// Whether an aircraft meets C8, given what its legs say: it is surface transport, has no
 /// maintenance or no leg from its start on, or is free for it and was left at its airport.

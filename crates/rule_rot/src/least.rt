@@ -5,14 +5,14 @@ ghost use Rattle.std.specs.List.{flat_map};
 ghost use Rattle.desk_data.specs.Situation.{legs_of};
 ghost use Rattle.desk_data.specs.Valid.{IsPlanFor};
 ghost use Rattle.desk_rules.specs.Least.{breaks, least_rot};
-ghost use Rattle.plan_rotations.specs.Before.{AreBefore};
+ghost use Rattle.plan_reads.specs.Before.{AreBefore};
 ghost use Rattle.rule_rot.specs.Items.{items_of};
 ghost use Rattle.rule_rot.specs.Upkeep.{AreUpkeeps};
 
 use crate::rule::{Rule, first_broken};
 use crate::upkeep::{Upkeep, upkeeps_of};
 use desk_data::{Broken, Instance, Leg, NoMem, Plan};
-use plan_rotations::legs_before;
+use plan_reads::legs_before;
 use std::alloc::Global;
 
 /// The first item of C1 to C9 that the plan breaks, by rule and then by leg or aircraft, or `None`

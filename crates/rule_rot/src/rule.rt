@@ -4,7 +4,7 @@ ghost use Rattle.std.specs.Prelude.{◌≡◌, ◌<◌, find};
 ghost use Rattle.desk_data.specs.Situation.{legs_of};
 ghost use Rattle.desk_data.specs.Valid.{IsPlanFor};
 ghost use Rattle.desk_rules.specs.Least.{breaks};
-ghost use Rattle.plan_rotations.specs.Before.{AreBefore};
+ghost use Rattle.plan_reads.specs.Before.{AreBefore};
 ghost use Rattle.rule_rot.specs.Items.{count, item, items_of, keeps};
 ghost use Rattle.rule_rot.specs.Upkeep.{AreUpkeeps};
 

@@ -8,7 +8,7 @@ use desk_data::{
     Airport, Batch, Broken, Instance, Leg, LegInfo, List, Maint, Minute, Order, Parts, Plane,
     PlaneInfo, Row,
 };
-use plan_rotations::legs_before;
+use plan_reads::legs_before;
 use rule_rot::least_rot;
 use std::alloc::Global;
 use std::test::Fail;

@@ -1,6 +1,6 @@
 use Rattle.std.proofs.Common.{rules, ℕ, ap, ◌∙◌, arith}
 use Rattle.desk_data.specs.Situation.{legs_of}
-use Rattle.plan_rotations.specs.Last.{AreLasts}
+use Rattle.plan_reads.specs.Last.{AreLasts}
 use Rattle.full_cost.specs.Stands.{is_there}
 use Rattle.full_cost.proofs.StandLaws.{stand_is}
 use Rattle.full_cost.proofs.stands.put_stands.Goals as goal

@@ -7,8 +7,8 @@ use Rattle.desk_data.specs.PlanRows.{PlanRows, row_at}
 use Rattle.desk_rules.specs.Numbers.{each_below, none_below, implies}
 use Rattle.desk_rules.specs.Rotations.{precedes, follows, is_first}
 use Rattle.desk_rules.proofs.Tests.{each_below-holds, each_below-from, none_below-holds, none_below-from, implies-holds, implies-from}
-use Rattle.plan_rotations.specs.Before.{IsNearest, IsLastBefore}
-use Rattle.plan_rotations.proofs.OrderLaws.{comes_before-total, not_both, same_tests}
+use Rattle.plan_reads.specs.Before.{IsNearest, IsLastBefore}
+use Rattle.plan_reads.proofs.OrderLaws.{comes_before-total, not_both, same_tests}
 
 -- where no leg comes before y, it is the first, and follows none
 pub none_first : (I : Situation) (P : PlanRows) (y : ℕ) → IsLastBefore P.rows (legs_of I) y None → is_first I P y ≡ true

@@ -1,9 +1,9 @@
 use Rattle.std.proofs.Common.{◌≡◌, ℕ, ◌<◌, length, get_or}
 use Rattle.std.specs.Prelude.{None}
 use Rattle.desk_data.specs.declared.row.Row.TheVariants.{Cancelled}
-use Rattle.plan_rotations.specs.Before.{IsLastBefore}
-use Rattle.plan_rotations.specs.Order.{turn_at}
-use Rattle.plan_rotations.proofs.order.legs_before.Given as goal
+use Rattle.plan_reads.specs.Before.{IsLastBefore}
+use Rattle.plan_reads.specs.Order.{turn_at}
+use Rattle.plan_reads.proofs.order.legs_before.Given as goal
 
 abbrev pub invariant-loop-k : goal.invariant-loop-k
 invariant-loop-k l = record {

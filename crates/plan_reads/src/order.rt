@@ -1,8 +1,8 @@
 //! The leg before each leg on its aircraft.
 
 ghost use Rattle.std.specs.Prelude.{◌≡◌, ◌<◌, ◌≤◌, length, IfOk};
-ghost use Rattle.plan_rotations.specs.Before.{AreBefore};
-ghost use Rattle.plan_rotations.specs.Order.{turns, neighbour};
+ghost use Rattle.plan_reads.specs.Before.{AreBefore};
+ghost use Rattle.plan_reads.specs.Order.{turns, neighbour};
 
 use desk_data::{Leg, Minute, NoMem, Plane, Row};
 use std::alloc::Global;

@@ -1,8 +1,8 @@
 use Rattle.std.proofs.Common.{rules, ◌≡◌, sym, ◌∙◌}
 use Rattle.desk_data.specs.PlanRows.{row_at}
 use Rattle.desk_data.specs.declared.row.Row.TheVariants.{Flown}
-use Rattle.plan_rotations.proofs.LastLaws.{none-flown, one-flown, flown_by}
-use Rattle.plan_rotations.proofs.last.take_leg.Goals as goal
+use Rattle.plan_reads.proofs.LastLaws.{none-flown, one-flown, flown_by}
+use Rattle.plan_reads.proofs.last.take_leg.Goals as goal
 
 pub returns-in-Flown : goal.returns-in-Flown
 returns-in-Flown g c =

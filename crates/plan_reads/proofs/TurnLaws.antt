@@ -21,10 +21,10 @@ use Rattle.desk_data.specs.declared.row.Row.{Row}
 use Rattle.desk_data.specs.declared.row.Row.TheVariants.{Flown, Cancelled}
 use Rattle.desk_rules.specs.Numbers.{numbers}
 use Rattle.desk_rules.specs.Rotations.{is_earlier}
-use Rattle.plan_rotations.specs.declared.order.Turn.{Turn}
-use Rattle.plan_rotations.specs.Before.{precedes_in, IsNearest, IsLastBefore, AreBefore}
-use Rattle.plan_rotations.specs.Order.{turn_of, turns, turn_at, no_turn, neighbour}
-use Rattle.plan_rotations.proofs.OrderLaws.{not_both, turns_cmp, is_ahead, in_order, ahead-from_cmp, ahead-asymmetric, ahead-from_order, order-from_ahead, ahead-irreflexive, between}
+use Rattle.plan_reads.specs.declared.order.Turn.{Turn}
+use Rattle.plan_reads.specs.Before.{precedes_in, IsNearest, IsLastBefore, AreBefore}
+use Rattle.plan_reads.specs.Order.{turn_of, turns, turn_at, no_turn, neighbour}
+use Rattle.plan_reads.proofs.OrderLaws.{not_both, turns_cmp, is_ahead, in_order, ahead-from_cmp, ahead-asymmetric, ahead-from_order, order-from_ahead, ahead-irreflexive, between}
 
 abbrev row_in : List Row → ℕ → Row
 row_in rows x = get_or rows x Cancelled

@@ -16,8 +16,8 @@ use Rattle.desk_rules.specs.Numbers.{each_below, none_below, implies}
 use Rattle.desk_rules.specs.Rotations.{comes_before, dep, precedes}
 use Rattle.desk_rules.specs.Maintenance.{is_flown_by, flies, departs_before, is_last_before, is_left_at}
 use Rattle.desk_rules.proofs.Tests.{each_below-holds, each_below-from, none_below-holds, none_below-from, implies-holds, implies-from}
-use Rattle.plan_rotations.specs.Last.{IsLast, IsLastOf, AreLasts, stand}
-use Rattle.plan_rotations.proofs.OrderLaws.{not_both, same_tests, and_true}
+use Rattle.plan_reads.specs.Last.{IsLast, IsLastOf, AreLasts, stand}
+use Rattle.plan_reads.proofs.OrderLaws.{not_both, same_tests, and_true}
 
 below_cases : (k n : ℕ) → k < suc n → (k < n) ⊎ (k ≡ n)
 below_cases k n h = grind arith

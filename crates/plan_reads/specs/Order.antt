@@ -5,7 +5,7 @@ use Rattle.desk_data.specs.declared.row.Row.{Row}
 use Rattle.desk_data.specs.declared.row.Row.TheVariants.{Flown, Cancelled}
 use Rattle.desk_units.specs.declared.numbers.Leg.{Leg}
 use Rattle.desk_rules.specs.Numbers.{numbers}
-use Rattle.plan_rotations.specs.declared.order.Turn.{Turn}
+use Rattle.plan_reads.specs.declared.order.Turn.{Turn}
 
 -- the turn of leg x, if its row is flown
 abbrev pub turn_of : ℕ → Row → Option Turn

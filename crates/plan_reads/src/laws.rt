@@ -7,8 +7,8 @@ ghost use Rattle.desk_data.specs.PlanRows.{PlanRows};
 ghost use Rattle.desk_rules.specs.Numbers.{none_below};
 ghost use Rattle.desk_rules.specs.Rotations.{follows, is_first};
 ghost use Rattle.desk_rules.specs.Maintenance.{departs_before, is_last_before, is_left_at};
-ghost use Rattle.plan_rotations.specs.Before.{IsLastBefore};
-ghost use Rattle.plan_rotations.specs.Last.{IsLastOf, stand};
+ghost use Rattle.plan_reads.specs.Before.{IsLastBefore};
+ghost use Rattle.plan_reads.specs.Last.{IsLastOf, stand};
 
 /// A leg follows the leg before it; where it has none, it is the first of its aircraft.
 pub fn the_leg_before_a_leg_is_followed_by_it()

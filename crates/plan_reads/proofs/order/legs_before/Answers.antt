@@ -1,10 +1,10 @@
 use Rattle.std.proofs.Common.{◌≡◌, ℕ, ◌<◌, arith, sym, ap, ◌∙◌, subst, length, get_or, set}
 use Rattle.std.specs.Prelude.{None}
 use Rattle.std.proofs.lemmas.List.{get_or_default, length-set}
-use Rattle.plan_rotations.specs.Before.{IsLastBefore}
-use Rattle.plan_rotations.specs.Order.{turn_at, no_turn, neighbour}
-use Rattle.plan_rotations.proofs.TurnLaws.{sorted_turns, link_right, link_blank, linked}
-use Rattle.plan_rotations.proofs.order.legs_before.Goals as goal
+use Rattle.plan_reads.specs.Before.{IsLastBefore}
+use Rattle.plan_reads.specs.Order.{turn_at, no_turn, neighbour}
+use Rattle.plan_reads.proofs.TurnLaws.{sorted_turns, link_right, link_blank, linked}
+use Rattle.plan_reads.proofs.order.legs_before.Goals as goal
 
 pub index_mut-requires : goal.index_mut-requires
 index_mut-requires c =

@@ -4,10 +4,10 @@ ghost use Rattle.std.specs.Prelude.{◌≡◌, ◌+◌, ◌<◌, true, length};
 ghost use Rattle.desk_data.specs.Situation.{legs_of, planes_of};
 ghost use Rattle.desk_data.specs.Valid.{IsPlanFor};
 ghost use Rattle.desk_rules.specs.Maintenance.{flies};
-ghost use Rattle.plan_rotations.specs.Last.{AreLasts, IsLastOf};
+ghost use Rattle.plan_reads.specs.Last.{AreLasts, IsLastOf};
 
+use crate::legs::departure;
 use desk_data::{Instance, Leg, Minute, Plan, Plane, Row};
-use plan_reads::departure;
 
 /// A moment for each aircraft.
 pub trait Moments {

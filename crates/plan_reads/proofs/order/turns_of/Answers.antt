@@ -1,8 +1,8 @@
 use Rattle.std.proofs.Common.{sym, ap, ◌∙◌, ◌++◌, ◌∷◌, []}
 use Rattle.desk_data.specs.declared.row.Row.TheVariants.{Flown}
-use Rattle.plan_rotations.proofs.TurnLaws.{turns-flown, turns-other}
-use Rattle.plan_rotations.proofs.order.turns_of.Goals as goal
-use Rattle.plan_rotations.proofs.order.turns_of.Goals.{in-Flown+in_ok-push, in_default}
+use Rattle.plan_reads.proofs.TurnLaws.{turns-flown, turns-other}
+use Rattle.plan_reads.proofs.order.turns_of.Goals as goal
+use Rattle.plan_reads.proofs.order.turns_of.Goals.{in-Flown+in_ok-push, in_default}
 
 pub loop-x-preserved : goal.loop-x-preserved
 loop-x-preserved c =

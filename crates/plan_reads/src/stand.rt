@@ -3,7 +3,7 @@
 ghost use Rattle.std.specs.Prelude.{◌≡◌, ◌<◌};
 ghost use Rattle.std.specs.Option.{ForSome};
 ghost use Rattle.desk_data.specs.Situation.{legs_of, planes_of};
-ghost use Rattle.plan_rotations.specs.Last.{stand};
+ghost use Rattle.plan_reads.specs.Last.{stand};
 
 use desk_data::{Airport, Instance, Leg, Plane};
 

@@ -1,4 +1,0 @@
-pub mod OrderLaws
-pub mod TurnLaws
-pub mod BeforeLaws
-pub mod LastLaws
