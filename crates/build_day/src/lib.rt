@@ -1,4 +1,12 @@
 //! The day of the rows of the input files, in which names are numbers.
+//!
+//! `day_of(alloc, &tables)` makes the `Instance` of rows that fit together: airports, aircraft, legs and
+//! reservations become numbers, by their places in their files; a leg gets the distance and the haul of its
+//! two airports, its moments from its flight and date, and its previous leg. A file of `src/` is a part of
+//! the day. The time is linear in the rows.
+//!
+//! Proved: the day is that of the definition in `specs/Day`, row for row, and its parts are in range, so that
+//! it can be made. It stands on `desk_data` and `build_tables`, beside `build_refusals`.
 #![tactic(auto)]
 
 mod airports;

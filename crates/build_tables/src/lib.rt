@@ -1,4 +1,16 @@
 //! The rows of the input files, and what finds them by the names that they have.
+//!
+//!     let tables = Tables::of(alloc, &files)?;
+//!     tables.flight(&name)                // the first row of flights.csv of this name
+//!     tables.rotation_place(&name, day)   // the place of the first row of this flight and date
+//!     tables.distance(&origin, &dest)     // the row of the pair, else that of the way back
+//!
+//! `Files` has the rows of all input files. The tables are hash maps over the names where they stand in
+//! the rows, made in one walk over each file. `specs/Fitting` says which rows fit together, so that a day
+//! can be made of them.
+//!
+//! Proved: each look-up gives the first row that has the name, or none where there is none. It stands on
+//! `file_rows` and `tariff_prices`; `build_refusals` and `build_day` stand on it, side by side.
 #![tactic(auto)]
 
 mod files;

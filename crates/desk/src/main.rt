@@ -2,6 +2,10 @@
 //!
 //! `replay IN OUT` reads the day and the journal of the directory IN, answers each recorded move in
 //! order, and writes the journal with its answers and the rotations of the last plan to OUT.
+//!
+//! `main` gives `desk_main` of desk_top the words, the host's folder and its standard output, ends with
+//! the status that it answers, and empties output files that an earlier run left. All that is promised
+//! of a run is proved of `desk_main`; how `main` calls it is tested by the stored run in `data/`.
 #![tactic(auto)]
 
 use desk_data::NoMem;

@@ -1,4 +1,14 @@
 //! The join: the rows of the input files become an instance, in which names are numbers.
+//!
+//!     match build(alloc, &files) {
+//!         Ok(built) => ..,                                       // built.inst
+//!         Err(BuildFault::Refused { file, line, cause }) => ..,
+//!         Err(BuildFault::Memory) => ..,
+//!     }
+//!
+//! It asks `build_refusals` for the first row that is refused, and where there is none `build_day` makes the
+//! day of the rows. Proved: the answer is the day or the refusal of the definition `day_of_files`
+//! (`exact`), and a new day has no orders (`fresh`). It stands on these two crates.
 #![tactic(auto)]
 
 mod fault;

@@ -1,6 +1,17 @@
 //! What the desk asks of the outside: a folder of input and output files, a sink for the report,
-//! and a gate that each worker passes. Fakes in memory stand in for them in tests, and the host's
-//! own are the trusted edge.
+//! and a gate that each worker passes.
+//!
+//! `Folder` names two directories (`place`), reads the next bytes of a file (`next`) and writes to one
+//! (`put`); `Sink` takes the report. `File` has the 16 files in their order. A contract sees a folder as
+//! what it tells: the directories, the bytes left and written of each file, and how often each kind of
+//! call has failed. An answer `Failed` comes only where that count rose in the call.
+//!
+//!     let mut folder = MemFolder::new(inputs, fail_next, fail_put);   // tells all its bytes
+//!     let mut folder = HostFolder::with_outputs(..);                  // the host's, tells none
+//!
+//! `MemFolder` and `MemSink` stand in for the outside in tests, and fail the calls that they are told.
+//! `HostFolder` and `HostSink` are the trusted edge: their contracts tell the directories and count
+//! faults, and what a disk does is taken on trust. It stands on no crate of the desk.
 #![tactic(auto)]
 
 mod entries;

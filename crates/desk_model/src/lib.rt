@@ -1,8 +1,14 @@
 //! What becomes of a plan, as definitions: steps, answers, states and histories, and what they promise.
 //!
-//! The definitions stand in `specs/`. The code here is the types that they speak of, and laws: each
-//! is a public function with an empty body, whose contract is the law. What a plan has to meet and
-//! what it costs stands in `desk_rules`.
+//! The definitions stand in `specs/`: `Steps`, what a move makes of a plan; `States`, what the desk
+//! answers to an event, and the state after it; `Histories`, lists of entries and which of them are
+//! legal; `Promises`, what holds of each legal history. What a plan has to meet and what it costs
+//! stands in `desk_rules`, on which this crate stands.
+//!
+//! The code here is the types that the definitions speak of (`Event`, `Answer`, `Entry`), and laws:
+//! each is a public function with an empty body, whose contract is the law.
+//! `legal_histories_keep_the_promises` is the heart of what the desk promises: each published plan
+//! meets the rules, each stored cost is that of the rows, and costs only fall.
 #![tactic(auto)]
 
 mod answer;

@@ -3,6 +3,9 @@
 //! Each folder here but `usual` is a case, as `cases.rt` tells. For each case it prints its name, and
 //! where something else came, the transcript as it came. The status is 0 where each case gave what it
 //! must give.
+//!
+//! A case costs no proof: it is a few files that a person can read, and `bench/row.py` runs it on the disk
+//! by hand. It calls `desk_main` of desk_top over the folder and the sink in memory of desk_folder.
 #![tactic(auto)]
 
 mod cases;

@@ -1,7 +1,14 @@
 //! The rules that a plan has to meet, and what it costs, as definitions.
 //!
-//! The definitions stand in `specs/`. The code here is laws: each is a public function with an empty
-//! body, whose contract is the law.
+//! The definitions stand in `specs/`: `Words` has the fifteen rules in words, C1 to C15, with a legend
+//! of its letters; `Rules`, `Maintenance`, `Slots` and `Carriage` the same as tests; `Least` the first
+//! item that a plan breaks, in the order of `Order`; `Cost` the six terms of its cost. All are lists,
+//! quantifiers and sums over the rows of a day and of a plan, and none knows how it is computed.
+//!
+//! The code here is laws: each is a public function with an empty body, whose contract is the law.
+//! `feasible_plans_meet_the_rules` is the one to begin with: a plan breaks no item exactly where it
+//! meets the rules as they are written in words. It stands on `desk_data`; the crates that judge a plan
+//! stand on it, and `desk_model` does.
 #![tactic(auto)]
 
 mod laws;

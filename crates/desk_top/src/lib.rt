@@ -1,6 +1,15 @@
 //! The top call: what the words of the program ask for, over a folder and a sink.
 //!
-//! Its runs stand in `desk_rows`, as files.
+//!     let status = desk_main(alloc, words, &mut folder, &mut out, &FreeGate);
+//!
+//! answers the status of the program, from 0 to 6. Its contract is what the desk promises of each run:
+//! the headline, the cause of each status, and what stands outside after it, clause by clause;
+//! docs/PROMISES.md tells them in plain words. The body takes the words apart, has the command run, and
+//! puts the line that tells why a run was not done.
+//!
+//! Its runs stand in `desk_rows`, as files. The test here is for running out of memory: each allocation
+//! of some runs can be refused in turn. It stands on the command's crate; the program `desk` and
+//! `desk_rows` stand on it.
 #![tactic(auto)]
 
 mod desk;

@@ -2,7 +2,15 @@
 //!
 //! A moment is a whole number of minutes since 2000-01-01 00:00. Prices have four decimals and
 //! weights have three; money is counted in grains, 600,000,000 to one unit of money, so that each
-//! cost of the desk is a whole number.
+//! cost of the desk is a whole number. An item at a price of p ten-thousandths with a weight of w
+//! thousandths costs 60 * w * p grains, and a minute at a price for each hour w * p:
+//!
+//!     per_item(Price(10_000), Weight(1_000), 1)      // one unit of money: 600,000,000 grains
+//!     per_hour(Price(600_000), Weight(1_000), 60)    // an hour at 60 units: 36,000,000,000 grains
+//!
+//! `Name::of` takes 1 to 32 bytes and keeps them in place. `Steps` counts rows that are read, and
+//! takes no room when it runs. Every crate of the desk stands on this one, and it on none. Proved:
+//! the two sums, that `Grains::plus` keeps below its limit, and that a name is the bytes it was made of.
 #![tactic(auto)]
 
 mod list;

@@ -2,7 +2,13 @@
 //! the files.
 //!
 //! The readers make these rows of text, and the join makes a day of them. So the readers and the join
-//! stand side by side.
+//! stand side by side, and neither waits for the other's proof.
+//!
+//! A row has its line, and names as they stand in the file; a field's doc comment gives its range. What
+//! each reader says of its rows is a record of `specs/Facts`, as `IsFlight`. `Cause` has the 17 reasons for
+//! which a line is refused. The limits, as `MOST_BYTES`, and the special bytes, as `SPACE`, stand once in the
+//! code and once in the definitions, and the laws `limits_are_told` and `special_bytes_are_told` compare
+//! the two. It stands on `desk_units`.
 #![tactic(auto)]
 
 mod bytes;

@@ -1,5 +1,14 @@
-//! The check of a plan against the rules C1 to C15, near linear in the legs and the
-//! groups of passengers.
+//! The check of a plan against the rules C1 to C15, near linear in the legs and the groups of
+//! passengers.
+//!
+//!     match full_check(alloc, &inst, &plan)? {
+//!         None => ..,                 // the plan breaks no rule
+//!         Some(item) => ..,           // the first item that it breaks, as C5 of a leg
+//!     }
+//!
+//! It asks `rule_rot` for C1 to C9, `rule_slots` for C10 and C11 and `rule_pax` for C12 to C15, in this
+//! order, and stands on them. Proved: the answer is `least` of desk_rules, the first broken item of
+//! all in the order of rules and of what they name.
 #![tactic(auto)]
 
 ghost use Rattle.std.specs.Prelude.{◌≡◌, IfOk};

@@ -1,5 +1,13 @@
 //! The rules of rotations, C1 to C9: whether each leg of a plan is flown as it may be, and whether
-//! each aircraft makes its maintenance. The time of the check is near linear in the legs.
+//! each aircraft makes its maintenance.
+//!
+//! `least_rot(alloc, &inst, &plan)` gives the first item that the plan breaks, by rule and then by leg or
+//! aircraft, or `None`. A file of `src/` is a rule, by its number, as `c5_location.rt`; `rule.rt` has the
+//! one loop that looks for the first leg or aircraft that breaks a rule. docs/RULES-AND-COST.md tells the
+//! rules. The time is near linear in the legs: they are sorted once, and each rule walks over them once.
+//!
+//! Proved: the answer is `least_rot` of desk_rules. It stands on `desk_rules` and on `plan_reads`, which
+//! knows the leg before each leg.
 #![tactic(auto)]
 
 mod c1_due;

@@ -8,8 +8,7 @@ ghost use Rattle.rule_rot.specs.Upkeep.{AreUpkeeps, IsUpkeep, blank, start_of};
 
 use crate::c7_service::meets;
 use desk_data::{Instance, Leg, Maint, Minute, NoMem, Plan, Plane, Row};
-use plan_reads::departure;
-use plan_reads::{Moments, put_lasts};
+use plan_reads::{Moments, departure, put_lasts};
 use std::alloc::Global;
 
 /// What some legs say of an aircraft's maintenance, and the last of all its legs before it.

@@ -1,5 +1,13 @@
-//! The rules of an airport's hours: whether its departures and its arrivals in an hour are at most
-//! its caps. The time of the check is near linear in the legs.
+//! The rules of an airport's hours, C10 and C11: whether its departures and its arrivals in an hour are
+//! at most its caps.
+//!
+//! `least_slots(alloc, &inst, &plan)` gives the first item that the plan breaks, by rule, then by airport,
+//! then by hour, or `None`. The legs in the air are sorted by airport and hour, once by departure and once
+//! by arrival, and walked once: so only hours in which a leg is counted are looked at, and the time is near
+//! linear in the legs.
+//!
+//! Proved: the answer is `least_slots` of desk_rules, which looks at every hour of a century. It stands on
+//! `desk_data` and `desk_rules`.
 #![tactic(auto)]
 
 mod c10_departures;
