@@ -83,7 +83,7 @@ abbrev pub is_below : ℕ → Option ℕ → Bool
 is_below count None = true
 is_below count (Some cap) = nat_lt count cap
 
--- its origin has room for one more departure in the hour of t, and its destination for one more arrival in the hour in which it arrives
+-- the leg's origin has room for one more departure in the hour of t, and its destination for one more arrival in the hour in which it arrives
 unfoldable pub has_slots : Situation → PlanRows → ℕ → ℕ → Bool
 has_slots I Q x t =
     let leg = leg_at I x in
@@ -92,6 +92,7 @@ has_slots I Q x t =
     is_below (departures_beside I Q x leg.origin.0 leaves) (dep_cap I leg.origin.0 leaves)
     && is_below (arrivals_beside I Q x leg.dest.0 lands) (arr_cap I leg.dest.0 lands)
 
+-- whether the leg can depart then: both
 abbrev pub can_depart : Situation → PlanRows → ℕ → ℕ → ℕ → Bool
 can_depart I Q p x t = is_free I p x t && has_slots I Q x t
 
@@ -101,11 +102,12 @@ can_depart I Q p x t = is_free I p x t && has_slots I Q x t
 unfoldable pub first_departure : Situation → PlanRows → PlanRows → ℕ → ℕ → Option ℕ
 first_departure I P Q p x = first_within (max (ready_moment I Q p x (leg_before I P x)) (earliest I x)) (latest I x) (can_depart I Q p x)
 
--- leg x departs at that moment; where there is none its row stays
+-- the plan with leg x departing at a moment; where there is none its row stays
 abbrev pub with_departure : PlanRows → ℕ → ℕ → Option ℕ → PlanRows
 with_departure Q p x None = Q
 with_departure Q p x (Some t) = with_row Q x (Flown (record { 0 = p }) (record { 0 = t }))
 
+-- the plan once leg x is placed
 abbrev pub after_placing : Situation → PlanRows → ℕ → PlanRows → ℕ → PlanRows
 after_placing I P p Q x = with_departure Q p x (first_departure I P Q p x)
 

@@ -10,10 +10,11 @@ use Rattle.desk_data.specs.PlanRows.{PlanRows, groups_at, with_groups, path_cmp}
 abbrev pub passengers_on : (List (Leg × Cabin) → Bool) → List Group → ℕ
 passengers_on test groups = sum_by (λ group. if test group.path then group.count else 0) groups
 
--- the passengers on one path
+-- whether two paths are one
 abbrev pub same_path : List (Leg × Cabin) → List (Leg × Cabin) → Bool
 same_path a b = is_eq (path_cmp a b)
 
+-- the passengers on one path
 abbrev pub count_on : List (Leg × Cabin) → List Group → ℕ
 count_on path groups = passengers_on (λ other. same_path other path) groups
 

@@ -35,6 +35,7 @@ refill_count I P r = greatest_within (count_on [] (groups_at P r)) (has_seats_fo
 abbrev pub is_refilled : Situation → PlanRows → ℕ → ℕ → Bool
 is_refilled I P x r = has_leg x (booked_path I r) && is_fit_path I P r (booked_path I r)
 
+-- the plan once reservation r is looked at
 abbrev pub after_refilling : Situation → ℕ → PlanRows → ℕ → PlanRows
 after_refilling I x P r = if is_refilled I P x r then after_rebook P r [] (booked_path I r) (refill_count I P r) else P
 

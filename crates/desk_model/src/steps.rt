@@ -105,8 +105,8 @@ pub fn a_path_stays_bound_where_fewer_are_carried()
 
 /// A Refill has passengers who are not carried go to their scheduled path, for each reservation whose
 /// scheduled path has the leg and meets C13, C14 and C15: until none is left, or one more would lack a
-/// seat. All others keep their groups, and no row changes. No leg that has its passengers' seats
-/// has too few then.
+/// seat. All others keep their groups, and no row changes. No leg's cabin gets more passengers than
+/// it has seats.
 pub fn a_refill_fills_the_seats_that_are_left()
     ensures reservation { (I : Situation) (P : PlanRows) (x r : ℕ) → IsValid I → IsPlanFor I P → r < reservations_of I → RefillsReservation I P (after_refill I P x) x r }
     ensures rows { (I : Situation) (P : PlanRows) (x : ℕ) → IsValid I → IsPlanFor I P → (after_refill I P x).rows ≡ P.rows }
