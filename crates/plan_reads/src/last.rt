@@ -7,7 +7,8 @@ ghost use Rattle.desk_rules.specs.Maintenance.{flies};
 ghost use Rattle.plan_reads.specs.Last.{AreLasts, IsLastOf};
 
 use crate::legs::departure;
-use desk_data::{Instance, Leg, Minute, Plan, Plane, Row};
+use crate::reads::ReadPlan;
+use desk_data::{Instance, Leg, Minute, Plane, Row};
 
 /// A moment for each aircraft.
 pub trait Moments {
@@ -33,10 +34,15 @@ impl Moments for Minute {
 
 /// Writes for each aircraft its last leg that departs before its moment, or `None` where none does,
 /// in one walk over all legs. Of two legs that depart together the greater number is the later one.
-pub fn put_lasts<M: Moments>(moments: &M, inst: &Instance, plan: &Plan, lasts: &mut [Option<Leg>])
-    requires plan { IsPlanFor inst.now plan.now }
+pub fn put_lasts<M: Moments, P: ReadPlan>(
+    moments: &M,
+    inst: &Instance,
+    plan: &P,
+    lasts: &mut [Option<Leg>],
+)
+    requires plan { IsPlanFor inst.now (P.plan_of plan.now) }
     requires lasts { length lasts.old ≡ planes_of inst.now }
-    ensures { AreLasts inst.now plan.now (M.moment_of moments.now inst.now) (legs_of inst.now) lasts.new }
+    ensures { AreLasts inst.now (P.plan_of plan.now) (M.moment_of moments.now inst.now) (legs_of inst.now) lasts.new }
 {
     lasts.fill(None);
     for x in 0..inst.legs() {
@@ -45,17 +51,17 @@ pub fn put_lasts<M: Moments>(moments: &M, inst: &Instance, plan: &Plan, lasts: &
 }
 
 /// Takes one more leg into account.
-fn take_leg<M: Moments>(
+fn take_leg<M: Moments, P: ReadPlan>(
     moments: &M,
     inst: &Instance,
-    plan: &Plan,
+    plan: &P,
     leg: Leg,
     lasts: &mut [Option<Leg>],
 )
-    requires plan { IsPlanFor inst.now plan.now }
+    requires plan { IsPlanFor inst.now (P.plan_of plan.now) }
     requires leg { leg.0 < legs_of inst.now }
-    requires so_far { AreLasts inst.now plan.now (M.moment_of moments.now inst.now) leg.0 lasts.old }
-    ensures { AreLasts inst.now plan.now (M.moment_of moments.now inst.now) (leg.0 + 1) lasts.new }
+    requires so_far { AreLasts inst.now (P.plan_of plan.now) (M.moment_of moments.now inst.now) leg.0 lasts.old }
+    ensures { AreLasts inst.now (P.plan_of plan.now) (M.moment_of moments.now inst.now) (leg.0 + 1) lasts.new }
 {
     match plan.read_row(leg) {
         Row::Flown { plane, .. } => {
@@ -68,11 +74,17 @@ fn take_leg<M: Moments>(
 }
 
 /// The last leg of an aircraft that departs before a moment, given the last one up to a leg of it.
-fn with_leg(plan: &Plan, plane: Plane, at: Minute, leg: Leg, last: Option<Leg>) -> Option<Leg>
-    requires leg { leg.0 < length plan.now.rows }
-    requires flies { flies plan.now plane.0 leg.0 ≡ true }
-    requires last { IsLastOf plan.now plane.0 at.0 leg.0 last }
-    ensures { IsLastOf plan.now plane.0 at.0 (leg.0 + 1) result }
+fn with_leg<P: ReadPlan>(
+    plan: &P,
+    plane: Plane,
+    at: Minute,
+    leg: Leg,
+    last: Option<Leg>,
+) -> Option<Leg>
+    requires leg { leg.0 < length (P.plan_of plan.now).rows }
+    requires flies { flies (P.plan_of plan.now) plane.0 leg.0 ≡ true }
+    requires last { IsLastOf (P.plan_of plan.now) plane.0 at.0 leg.0 last }
+    ensures { IsLastOf (P.plan_of plan.now) plane.0 at.0 (leg.0 + 1) result }
 {
     let departs = departure(plan, leg);
     if at.0 <= departs {

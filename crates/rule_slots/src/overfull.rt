@@ -1,6 +1,6 @@
 //! The first hour of an airport in which more legs depart, or arrive, than its cap.
 
-ghost use Rattle.std.specs.Prelude.{◌≡◌, ◌<◌, ◌≤◌, length, find, All, IfOk};
+ghost use Rattle.std.specs.Prelude.{◌≡◌, ◌<◌, length, find, All, IfOk};
 ghost use Rattle.std.specs.List.Sorted.{IsSorted};
 ghost use Rattle.desk_data.specs.Situation.{airports_of};
 ghost use Rattle.desk_data.specs.Valid.{IsPlanFor};
