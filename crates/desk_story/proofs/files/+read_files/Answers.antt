@@ -1,14 +1,12 @@
-use Rattle.std.proofs.Common.{◌≡◌, ℕ, true, List, ◌∷◌, sym, subst}
+use Rattle.std.proofs.Common.{◌≡◌, true, List, ◌∷◌, sym, subst}
 use Rattle.std.specs.Prelude.{Result, Ok, Err, OnOk, IfErr}
 use Rattle.desk_folder.specs.declared.files.File.{File}
-use Rattle.desk_folder.specs.Outside.{Outside}
 use Rattle.desk_story.specs.declared.rows.InputRows.{InputRows}
 use Rattle.desk_story.specs.declared.fault.StoryFault.{StoryFault}
 use Rattle.folder_io.specs.Outputs.{is_among}
-use Rattle.desk_runs.specs.Inputs.{Inputs, Tells}
+use Rattle.desk_runs.specs.Inputs.{Tells}
 use Rattle.desk_story.specs.Story.{read_all}
-use Rattle.desk_runs.specs.declared.refusal.Refusal.{Refusal}
-use Rattle.desk_runs.specs.Reading.{IsRead, ReadsAmong, StopsAt}
+use Rattle.desk_runs.specs.Reading.{IsRead, ReadsAmong}
 use Rattle.desk_story.specs.Reading.{are_in_order, StopsAtFault, GivesRead, HasReadCause}
 use Rattle.desk_story.specs.Facts.{as_rows}
 use Rattle.desk_story.proofs.Chain.{tells-rest, tells-first, exact-rest, exact-first, all-read, reads-first, reads-rest, order-first, order-rest, stops-first, stops-rest}
