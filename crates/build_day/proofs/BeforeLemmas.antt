@@ -6,8 +6,8 @@ use Rattle.std.proofs.lemmas.Bool.{both_ways, leb-true, le-leb, eqb-true, eq-eqb
 use Rattle.std.proofs.lemmas.List.Elements.{All-head, All-tail}
 use Rattle.std.proofs.lemmas.List.Quantifiers.{position-Some}
 use Rattle.std.proofs.lemmas.List.Sums.{AllPass-from_list_all, list_all-from_AllPass, fails_before_first}
-use Rattle.read_legs.specs.declared.rows.FlightRow.{FlightRow}
-use Rattle.read_legs.specs.declared.rows.RotationRow.{RotationRow}
+use Rattle.file_rows.specs.declared.legs.FlightRow.{FlightRow}
+use Rattle.file_rows.specs.declared.legs.RotationRow.{RotationRow}
 use Rattle.build_day.specs.Legs.{arrival_on, is_in_time, is_last_in_time, last_in_time}
 
 -- tests that hold together are one

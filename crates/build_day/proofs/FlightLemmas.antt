@@ -3,8 +3,8 @@ use Rattle.std.proofs.Common.{◌≡◌, Bool, cond, List, ℕ, [], ◌∷◌, O
 use Rattle.std.specs.Prelude.{find, option_map}
 use Rattle.std.proofs.lemmas.Bool.{cases_Bool}
 use Rattle.std.proofs.lemmas.List.Elements.{All-head, All-tail}
-use Rattle.read_legs.specs.declared.rows.FlightRow.{FlightRow}
-use Rattle.read_legs.specs.Facts.{IsFlight}
+use Rattle.file_rows.specs.declared.legs.FlightRow.{FlightRow}
+use Rattle.file_rows.specs.Facts.{IsFlight}
 use Rattle.build_tables.specs.Names.{flight_named}
 
 -- what holds of each row holds of the one that is found

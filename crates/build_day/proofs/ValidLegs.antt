@@ -4,21 +4,20 @@ use Rattle.std.specs.Prelude.{option_map}
 use Rattle.std.specs.Option.{option_map_or, ForSome}
 use Rattle.std.proofs.lemmas.List.{length-map}
 use Rattle.std.proofs.lemmas.List.Elements.{All-map}
-use Rattle.desk_text.specs.Fields.{◌>>=◌}
 use Rattle.desk_units.specs.declared.numbers.Leg.{Leg}
 use Rattle.desk_data.specs.declared.info.LegInfo.{LegInfo}
 use Rattle.desk_data.specs.Situation.{no_leg}
 use Rattle.desk_data.specs.Valid.{IsLeg}
-use Rattle.read_net.specs.declared.rows.DistRow.{DistRow}
-use Rattle.read_net.specs.Facts.{IsDistance}
-use Rattle.read_legs.specs.declared.rows.FlightRow.{FlightRow}
-use Rattle.read_legs.specs.declared.rows.RotationRow.{RotationRow}
-use Rattle.read_legs.specs.Facts.{IsFlight, IsRotation}
+use Rattle.file_rows.specs.declared.network.DistRow.{DistRow}
+use Rattle.file_rows.specs.Facts.{IsDistance}
+use Rattle.file_rows.specs.declared.legs.FlightRow.{FlightRow}
+use Rattle.file_rows.specs.declared.legs.RotationRow.{RotationRow}
+use Rattle.file_rows.specs.Facts.{IsFlight, IsRotation}
 use Rattle.build_tables.specs.declared.files.Files.{Files}
 use Rattle.build_tables.specs.Names.{flight_named, is_between, distance_between}
 use Rattle.build_tables.specs.Departures.{departure_on}
 use Rattle.build_tables.specs.Fitting.{IsRotationOf, FitTogether}
-use Rattle.build_day.specs.Legs.{is_in_time, is_last_in_time, last_in_time, previous_place, minutes_of, leg_number, leg_by, leg_of}
+use Rattle.build_day.specs.Legs.{◌>>=◌, is_in_time, is_last_in_time, last_in_time, previous_place, minutes_of, leg_number, leg_by, leg_of}
 use Rattle.build_day.specs.Day.{airport_info, plane_info}
 use Rattle.build_tables.specs.Facts.{AreFileRows}
 use Rattle.build_day.proofs.FoundLemmas.{place_within, known_within, found, found_either}

@@ -8,10 +8,10 @@ use Rattle.std.proofs.lemmas.List.Elements.{All-map, All-append, All-head, All-t
 use Rattle.desk_data.specs.declared.info.ResInfo.{ResInfo}
 use Rattle.desk_data.specs.Valid.{IsReservation, IsPosition}
 use Rattle.tariff_prices.specs.Rows.{AreTariffRows}
-use Rattle.read_fleet.specs.declared.position.PositionRow.{PositionRow}
-use Rattle.read_fleet.specs.Facts.{IsPosition as IsPositionRow}
-use Rattle.read_pax.specs.declared.rows.ItineraryRow.{ItineraryRow}
-use Rattle.read_pax.specs.Facts.{IsItinerary}
+use Rattle.file_rows.specs.declared.fleet.PositionRow.{PositionRow}
+use Rattle.file_rows.specs.Facts.{IsPosition as IsPositionRow}
+use Rattle.file_rows.specs.declared.passengers.ItineraryRow.{ItineraryRow}
+use Rattle.file_rows.specs.Facts.{IsItinerary}
 use Rattle.build_tables.specs.declared.files.Files.{Files}
 use Rattle.build_tables.specs.Names.{airport_place}
 use Rattle.build_tables.specs.Fitting.{IsOnRotations, FitTogether}

@@ -5,11 +5,11 @@ use Rattle.std.specs.Option.{ForSome}
 use Rattle.std.proofs.lemmas.List.{length-map, get_or-map}
 use Rattle.std.proofs.lemmas.List.Elements.{All-map}
 use Rattle.desk_data.specs.Valid.{IsCap, IsAirport, IsMaint, IsPlane}
-use Rattle.read_net.specs.declared.rows.AirportRow.{AirportRow}
-use Rattle.read_net.specs.Facts.{IsAirport as IsAirportRow}
-use Rattle.read_fleet.specs.declared.maintenance.MaintRow.{MaintRow}
-use Rattle.read_fleet.specs.declared.aircraft.AircraftRow.{AircraftRow}
-use Rattle.read_fleet.specs.Facts.{IsMaint as IsMaintRow, IsAircraft}
+use Rattle.file_rows.specs.declared.network.AirportRow.{AirportRow}
+use Rattle.file_rows.specs.Facts.{IsAirport as IsAirportRow}
+use Rattle.file_rows.specs.declared.fleet.MaintRow.{MaintRow}
+use Rattle.file_rows.specs.declared.fleet.AircraftRow.{AircraftRow}
+use Rattle.file_rows.specs.Facts.{IsMaint as IsMaintRow, IsAircraft}
 use Rattle.build_tables.specs.declared.files.Files.{Files}
 use Rattle.build_tables.specs.Names.{airport_place}
 use Rattle.build_tables.specs.Fitting.{HasKnownAirports, FitTogether}

@@ -14,15 +14,15 @@ use Rattle.desk_data.specs.declared.info.ResInfo.{ResInfo}
 use Rattle.desk_data.specs.declared.info.PositionInfo.{PositionInfo}
 use Rattle.desk_data.specs.declared.parts.Parts.{Parts}
 use Rattle.desk_data.specs.Situation.{Situation}
-use Rattle.read_net.specs.declared.rows.CapRow.{CapRow}
-use Rattle.read_net.specs.declared.rows.AirportRow.{AirportRow}
-use Rattle.read_fleet.specs.declared.maintenance.MaintRow.{MaintRow}
-use Rattle.read_fleet.specs.declared.aircraft.AircraftRow.{AircraftRow}
-use Rattle.read_fleet.specs.declared.position.PositionGroup.{PositionGroup}
-use Rattle.read_fleet.specs.declared.position.PositionRow.{PositionRow}
-use Rattle.read_legs.specs.declared.rows.RotationRow.{RotationRow}
-use Rattle.read_pax.specs.declared.rows.LegRow.{LegRow}
-use Rattle.read_pax.specs.declared.rows.ItineraryRow.{ItineraryRow}
+use Rattle.file_rows.specs.declared.network.CapRow.{CapRow}
+use Rattle.file_rows.specs.declared.network.AirportRow.{AirportRow}
+use Rattle.file_rows.specs.declared.fleet.MaintRow.{MaintRow}
+use Rattle.file_rows.specs.declared.fleet.AircraftRow.{AircraftRow}
+use Rattle.file_rows.specs.declared.fleet.PositionGroup.{PositionGroup}
+use Rattle.file_rows.specs.declared.fleet.PositionRow.{PositionRow}
+use Rattle.file_rows.specs.declared.legs.RotationRow.{RotationRow}
+use Rattle.file_rows.specs.declared.passengers.LegRow.{LegRow}
+use Rattle.file_rows.specs.declared.passengers.ItineraryRow.{ItineraryRow}
 use Rattle.build_tables.specs.declared.files.Files.{Files}
 use Rattle.build_day.specs.Legs.{airport_of, leg_at, leg_of}
 

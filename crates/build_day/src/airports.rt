@@ -5,7 +5,7 @@ ghost use Rattle.build_day.specs.Day.{cap_info, airport_info};
 
 use desk_data::{AirportInfo, Cap};
 use desk_units::{List, NoMem};
-use read_net::{AirportRow, CapRow};
+use file_rows::{AirportRow, CapRow};
 use std::alloc::Global;
 
 /// The caps of part of the day.

@@ -1,7 +1,7 @@
 //! The leg of a rotation, and its previous leg.
 
 ghost use Rattle.std.specs.Prelude.{◌≡◌, ◌<◌, length, All, IsSome, IfSome, option_map, unwrap_or};
-ghost use Rattle.read_legs.specs.Facts.{IsFlight, IsRotation};
+ghost use Rattle.file_rows.specs.Facts.{IsFlight, IsRotation};
 ghost use Rattle.build_tables.specs.Names.{flight_named, aircraft_place};
 ghost use Rattle.build_tables.specs.Fitting.{AreFew};
 ghost use Rattle.build_day.specs.Legs.{last_in_time, previous_place, airport_of, leg_number, leg_at, minutes_of, haul_of, leg_by, leg_of};
@@ -9,8 +9,7 @@ ghost use Rattle.build_day.specs.Legs.{last_in_time, previous_place, airport_of,
 use build_tables::Tables;
 use desk_data::LegInfo;
 use desk_units::{Airport, Haul, Leg, Minute, Name, Plane};
-use read_legs::{FlightRow, RotationRow};
-use read_net::DistRow;
+use file_rows::{DistRow, FlightRow, RotationRow};
 
 /// The number of an airport: its place, or 0 for an unknown name.
 pub(crate) fn airport_of(tables: &Tables<'_>, name: &Name) -> Airport

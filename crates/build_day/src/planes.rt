@@ -9,7 +9,7 @@ use crate::surface::is_surface;
 use build_tables::Tables;
 use desk_data::{Maint, PlaneInfo};
 use desk_units::NoMem;
-use read_fleet::{AircraftRow, MaintRow};
+use file_rows::{AircraftRow, MaintRow};
 use std::alloc::Global;
 
 /// A maintenance.

@@ -9,7 +9,7 @@ use crate::legs::airport_of;
 use build_tables::Tables;
 use desk_data::PositionInfo;
 use desk_units::{Airport, NoMem};
-use read_fleet::PositionGroup;
+use file_rows::PositionGroup;
 use std::alloc::Global;
 
 /// The aircraft of a group that should stand at an airport.

@@ -8,7 +8,7 @@ use crate::legs::leg_at;
 use build_tables::Tables;
 use desk_data::{Path, ResInfo};
 use desk_units::{Cabin, Leg, List, NoMem};
-use read_pax::{ItineraryRow, LegRow};
+use file_rows::{ItineraryRow, LegRow};
 use std::alloc::Global;
 
 /// A leg of a path, with the cabin that is booked.

@@ -5,20 +5,20 @@ use Rattle.std.specs.Option.{option_map_or, ForSome}
 use Rattle.std.proofs.lemmas.Bool.{and_parts, and_from, ltb-false, eq-eqb, both_ways, false≢true}
 use Rattle.std.proofs.lemmas.List.Sums.{AllPass-from_list_all}
 use Rattle.std.proofs.lemmas.Slice.Eq.{bytes_eq-Decides}
-use Rattle.read_net.specs.declared.rows.AirportRow.{AirportRow}
-use Rattle.read_legs.specs.declared.rows.FlightRow.{FlightRow}
-use Rattle.read_legs.specs.declared.rows.RotationRow.{RotationRow}
-use Rattle.read_fleet.specs.declared.maintenance.MaintRow.{MaintRow}
-use Rattle.read_fleet.specs.declared.aircraft.AircraftRow.{AircraftRow}
-use Rattle.read_pax.specs.declared.rows.LegRow.{LegRow}
-use Rattle.read_pax.specs.declared.rows.ItineraryRow.{ItineraryRow}
+use Rattle.file_rows.specs.declared.network.AirportRow.{AirportRow}
+use Rattle.file_rows.specs.declared.legs.FlightRow.{FlightRow}
+use Rattle.file_rows.specs.declared.legs.RotationRow.{RotationRow}
+use Rattle.file_rows.specs.declared.fleet.MaintRow.{MaintRow}
+use Rattle.file_rows.specs.declared.fleet.AircraftRow.{AircraftRow}
+use Rattle.file_rows.specs.declared.passengers.LegRow.{LegRow}
+use Rattle.file_rows.specs.declared.passengers.ItineraryRow.{ItineraryRow}
 use Rattle.desk_units.specs.declared.tariff.TariffRow.{TariffRow}
 use Rattle.tariff_prices.specs.Rows.{same_key}
 use Rattle.build_tables.specs.declared.files.Files.{Files}
 use Rattle.build_tables.specs.Departures.{departure_on}
 use Rattle.build_tables.specs.Fitting.{AreFew, AreApart, IsRotationOf, IsOnRotations, FitTogether}
 use Rattle.build_tables.specs.Keys.{type_number}
-use Rattle.build_tables.specs.Limits.{most_passengers, most_legs, latest_departure}
+use Rattle.file_rows.specs.Limits.{most_passengers, most_legs, latest_departure}
 use Rattle.build_tables.specs.Names.{flight_named, rotation_place, airport_place, aircraft_place}
 use Rattle.build_refusals.specs.Rotations.{departs_late, has_airports, is_known, is_same_leg}
 use Rattle.build_refusals.specs.Aircraft.{has_known_maintenance}

@@ -4,8 +4,8 @@ use Rattle.std.specs.List.{sum_by}
 use Rattle.std.proofs.lemmas.Bool.{cases_lt, lt-ltb, le-ltb, le-leb, lt-leb}
 use Rattle.std.proofs.lemmas.List.{take-take}
 use Rattle.std.proofs.lemmas.List.Sums.{sum_by_more, sum_by-take-le}
-use Rattle.read_fleet.specs.declared.position.PositionRow.{PositionRow}
-use Rattle.build_tables.specs.Limits.{most_groups}
+use Rattle.file_rows.specs.declared.fleet.PositionRow.{PositionRow}
+use Rattle.file_rows.specs.Limits.{most_groups}
 use Rattle.build_refusals.specs.Position.{groups_in}
 
 -- more rows have no fewer groups

@@ -6,8 +6,8 @@ use Rattle.std.proofs.lemmas.Bool.{cases_lt, leb-false, false_from_ne_true, both
 use Rattle.std.proofs.lemmas.List.{get_or-take, length-take}
 use Rattle.std.proofs.lemmas.List.Folds.{list_any_at}
 use Rattle.desk_folder.specs.declared.files.File.{File}
-use Rattle.desk_text.specs.declared.cause.Cause.{Cause}
-use Rattle.build_refusals.specs.First.{refused_from, first_refused}
+use Rattle.file_rows.specs.declared.cause.Cause.{Cause}
+use Rattle.build_refusals.specs.First.{refusal_from, first_refusal_in}
 use Rattle.build_refusals.specs.Refusals.{in_file}
 
 -- neither of two gives anything
@@ -35,20 +35,20 @@ not_refused line None rest e = (refl, e)
 not_refused line (Some why) rest e = absurd cc
 
 module _ {Row : Type 0} (cause : ℕ → Row → Option Cause) (line : ℕ → Row → ℕ) where
-  none_from : (n : ℕ) (rows : List Row) → refused_from cause line n rows ≡ None → (k : ℕ) (d : Row) → k < length rows → cause (n + k) (get_or rows k d) ≡ None
-  unfolding refused_from
+  none_from : (n : ℕ) (rows : List Row) → refusal_from cause line n rows ≡ None → (k : ℕ) (d : Row) → k < length rows → cause (n + k) (get_or rows k d) ≡ None
+  unfolding refusal_from
   none_from n [] e k d below = absurd (omega arith)
-  none_from n (row ∷ rows) e zero d below = let same : n ≡ n + 0 = omega arith in subst (λ (m : ℕ). cause m row ≡ None) same (not_refused (line n row) (cause n row) (refused_from cause line (n + 1) rows) e).0
+  none_from n (row ∷ rows) e zero d below = let same : n ≡ n + 0 = omega arith in subst (λ (m : ℕ). cause m row ≡ None) same (not_refused (line n row) (cause n row) (refusal_from cause line (n + 1) rows) e).0
   none_from n (row ∷ rows) e (suc k) d below =
       let same : (n + 1) + k ≡ n + suc k = omega arith in
       let inside : k < length rows = omega arith in
-      subst (λ (m : ℕ). cause m (get_or rows k d) ≡ None) same (none_from (n + 1) rows (not_refused (line n row) (cause n row) (refused_from cause line (n + 1) rows) e).1 k d inside)
+      subst (λ (m : ℕ). cause m (get_or rows k d) ≡ None) same (none_from (n + 1) rows (not_refused (line n row) (cause n row) (refusal_from cause line (n + 1) rows) e).1 k d inside)
 
   -- no row has a cause at its place
-  pub none_refused_at : (rows : List Row) → refused_from cause line 0 rows ≡ None → (k : ℕ) (d : Row) → k < length rows → cause k (get_or rows k d) ≡ None
+  pub none_refused_at : (rows : List Row) → refusal_from cause line 0 rows ≡ None → (k : ℕ) (d : Row) → k < length rows → cause k (get_or rows k d) ≡ None
   none_refused_at rows e k d below = let same : 0 + k ≡ k = omega arith in subst (λ (m : ℕ). cause m (get_or rows k d) ≡ None) same (none_from 0 rows e k d below)
 
-pub none_refused : {Row : Type 0} (cause : ℕ → Row → Option Cause) (line : Row → ℕ) (rows : List Row) → first_refused cause line rows ≡ None → (k : ℕ) (d : Row) → k < length rows → cause k (get_or rows k d) ≡ None
+pub none_refused : {Row : Type 0} (cause : ℕ → Row → Option Cause) (line : Row → ℕ) (rows : List Row) → first_refusal_in cause line rows ≡ None → (k : ℕ) (d : Row) → k < length rows → cause k (get_or rows k d) ≡ None
 none_refused cause line rows e k d below = none_refused_at cause (λ n row. line row) rows e k d below
 
 -- there are no more rows than the limit where each place is below it

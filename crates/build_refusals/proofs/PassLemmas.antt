@@ -5,37 +5,37 @@ use Rattle.std.specs.List.{list_any, sum_by}
 use Rattle.std.proofs.lemmas.Bool.{and_parts, or_parts, not-false, ltb-false}
 use Rattle.std.proofs.lemmas.List.{take_all}
 use Rattle.desk_folder.specs.declared.files.File.TheVariants as file
-use Rattle.read_net.specs.declared.rows.AirportRow.{AirportRow}
-use Rattle.read_legs.specs.declared.rows.FlightRow.{FlightRow}
-use Rattle.read_legs.specs.declared.rows.RotationRow.{RotationRow}
-use Rattle.read_fleet.specs.declared.aircraft.AircraftRow.{AircraftRow}
-use Rattle.read_fleet.specs.declared.position.PositionRow.{PositionRow}
-use Rattle.read_pax.specs.declared.rows.ItineraryRow.{ItineraryRow}
+use Rattle.file_rows.specs.declared.network.AirportRow.{AirportRow}
+use Rattle.file_rows.specs.declared.legs.FlightRow.{FlightRow}
+use Rattle.file_rows.specs.declared.legs.RotationRow.{RotationRow}
+use Rattle.file_rows.specs.declared.fleet.AircraftRow.{AircraftRow}
+use Rattle.file_rows.specs.declared.fleet.PositionRow.{PositionRow}
+use Rattle.file_rows.specs.declared.passengers.ItineraryRow.{ItineraryRow}
 use Rattle.desk_units.specs.declared.tariff.TariffRow.{TariffRow}
 use Rattle.tariff_prices.specs.Rows.{same_key}
 use Rattle.build_tables.specs.declared.files.Files.{Files}
-use Rattle.build_tables.specs.Limits.{most_flights, most_aircraft, most_airports, most_itineraries, most_passengers, most_legs, most_groups, most_tariff_rows}
+use Rattle.file_rows.specs.Limits.{most_flights, most_aircraft, most_airports, most_itineraries, most_passengers, most_legs, most_groups, most_tariff_rows}
 use Rattle.build_tables.specs.Names.{airport_place}
-use Rattle.build_refusals.specs.First.{first_refused}
+use Rattle.build_refusals.specs.First.{first_refusal_in}
 use Rattle.build_refusals.specs.Flights.{flight_cause, has_good_previous}
 use Rattle.build_refusals.specs.Rotations.{rotation_cause, departs_late, is_known, has_distance, is_same_leg}
 use Rattle.build_refusals.specs.Aircraft.{aircraft_cause, has_known_maintenance, has_good_window}
 use Rattle.build_refusals.specs.Airports.{airport_cause}
 use Rattle.build_refusals.specs.Itineraries.{itinerary_cause, is_same_reservation, has_known_legs}
 use Rattle.build_refusals.specs.Position.{groups_in, position_cause}
-use Rattle.build_refusals.specs.Tariff.{tariff_cause, tariff_refused}
+use Rattle.build_refusals.specs.Tariff.{tariff_cause, tariff_refusal}
 use Rattle.build_refusals.specs.Refusals.{refusal_of_schedule, refusal_of_demand, refusal_of}
 use Rattle.build_refusals.proofs.NoneLemmas.{neither, not_in_file, passed, held, none_refused, none_refused_at, few_rows}
 
 -- nothing is refused in any file
 pub record NoneRefused (x : Files) : Type 0 where
-  pub flights : first_refused (flight_cause x.flights) (λ row. row.line) x.flights ≡ None
-  pub rotations : first_refused (rotation_cause x) (λ row. row.line) x.rotations ≡ None
-  pub aircraft : first_refused (aircraft_cause x) (λ row. row.line) x.aircraft ≡ None
-  pub airports : first_refused (airport_cause x.airports) (λ row. row.line) x.airports ≡ None
-  pub itineraries : first_refused (itinerary_cause x) (λ row. row.line) x.itineraries ≡ None
-  pub position : first_refused (position_cause x) (λ row. row.line) x.position ≡ None
-  pub tariff : tariff_refused x.tariff.rows ≡ None
+  pub flights : first_refusal_in (flight_cause x.flights) (λ row. row.line) x.flights ≡ None
+  pub rotations : first_refusal_in (rotation_cause x) (λ row. row.line) x.rotations ≡ None
+  pub aircraft : first_refusal_in (aircraft_cause x) (λ row. row.line) x.aircraft ≡ None
+  pub airports : first_refusal_in (airport_cause x.airports) (λ row. row.line) x.airports ≡ None
+  pub itineraries : first_refusal_in (itinerary_cause x) (λ row. row.line) x.itineraries ≡ None
+  pub position : first_refusal_in (position_cause x) (λ row. row.line) x.position ≡ None
+  pub tariff : tariff_refusal x.tariff.rows ≡ None
 
 pub none_refused_in : (x : Files) → refusal_of x ≡ None → NoneRefused x
 unfolding refusal_of refusal_of_schedule refusal_of_demand

@@ -2,7 +2,7 @@
 use Rattle.std.proofs.Common.{◌≡◌, ℕ, ◌<◌, List, None, sym}
 use Rattle.std.proofs.lemmas.Bool.{leb-false}
 use Rattle.desk_units.specs.declared.tariff.TariffRow.{TariffRow}
-use Rattle.build_tables.specs.Limits.{most_tariff_rows}
+use Rattle.file_rows.specs.Limits.{most_tariff_rows}
 use Rattle.build_refusals.specs.Tariff.{tariff_cause}
 use Rattle.build_refusals.proofs.PassLemmas.{tariff_passes}
 

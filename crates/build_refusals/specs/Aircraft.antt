@@ -2,13 +2,13 @@
 use Rattle.std.specs.Prelude.{ℕ, Bool, true, not, ◌&&◌, List, take, Option, Some, None, is_some, bytes_eq, nat_lt, nat_le, if◌then◌else◌}
 use Rattle.std.specs.List.{list_any}
 use Rattle.std.specs.Option.{option_map_or}
-use Rattle.desk_text.specs.declared.cause.Cause.{Cause}
-use Rattle.desk_text.specs.declared.cause.Cause.TheVariants.{Unknown, Twice, Limit, BadWindow}
-use Rattle.read_net.specs.declared.rows.AirportRow.{AirportRow}
-use Rattle.read_fleet.specs.declared.maintenance.MaintRow.{MaintRow}
-use Rattle.read_fleet.specs.declared.aircraft.AircraftRow.{AircraftRow}
+use Rattle.file_rows.specs.declared.cause.Cause.{Cause}
+use Rattle.file_rows.specs.declared.cause.Cause.TheVariants.{Unknown, Twice, Limit, BadWindow}
+use Rattle.file_rows.specs.declared.network.AirportRow.{AirportRow}
+use Rattle.file_rows.specs.declared.fleet.MaintRow.{MaintRow}
+use Rattle.file_rows.specs.declared.fleet.AircraftRow.{AircraftRow}
 use Rattle.build_tables.specs.declared.files.Files.{Files}
-use Rattle.build_tables.specs.Limits.{most_aircraft}
+use Rattle.file_rows.specs.Limits.{most_aircraft}
 use Rattle.build_tables.specs.Names.{airport_place}
 
 -- whether the airport of an aircraft's maintenance is known, where it has one

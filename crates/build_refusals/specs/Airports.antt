@@ -1,10 +1,10 @@
 -- Why a row of airports.csv is refused.
 use Rattle.std.specs.Prelude.{ℕ, List, take, Option, Some, None, bytes_eq, nat_le, if◌then◌else◌}
 use Rattle.std.specs.List.{list_any}
-use Rattle.desk_text.specs.declared.cause.Cause.{Cause}
-use Rattle.desk_text.specs.declared.cause.Cause.TheVariants.{Twice, Limit}
-use Rattle.read_net.specs.declared.rows.AirportRow.{AirportRow}
-use Rattle.build_tables.specs.Limits.{most_airports}
+use Rattle.file_rows.specs.declared.cause.Cause.{Cause}
+use Rattle.file_rows.specs.declared.cause.Cause.TheVariants.{Twice, Limit}
+use Rattle.file_rows.specs.declared.network.AirportRow.{AirportRow}
+use Rattle.file_rows.specs.Limits.{most_airports}
 
 -- one airport too many, a name that stood before
 unfoldable pub airport_cause : List AirportRow → ℕ → AirportRow → Option Cause

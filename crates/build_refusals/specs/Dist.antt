@@ -1,9 +1,9 @@
 -- Why a row of dist.csv is refused.
 use Rattle.std.specs.Prelude.{ℕ, Option, Some, None, nat_le, if◌then◌else◌}
-use Rattle.desk_text.specs.declared.cause.Cause.{Cause}
-use Rattle.desk_text.specs.declared.cause.Cause.TheVariants.{Limit}
-use Rattle.read_net.specs.declared.rows.DistRow.{DistRow}
-use Rattle.build_tables.specs.Limits.{most_distances}
+use Rattle.file_rows.specs.declared.cause.Cause.{Cause}
+use Rattle.file_rows.specs.declared.cause.Cause.TheVariants.{Limit}
+use Rattle.file_rows.specs.declared.network.DistRow.{DistRow}
+use Rattle.file_rows.specs.Limits.{most_distances}
 
 -- one distance too many
 unfoldable pub dist_cause : ℕ → DistRow → Option Cause

@@ -2,10 +2,10 @@
 use Rattle.std.specs.Prelude.{ℕ, Bool, true, false, List, take, Option, Some, None, bytes_eq, nat_le, if◌then◌else◌}
 use Rattle.std.specs.List.{list_any}
 use Rattle.std.specs.Option.{option_map_or}
-use Rattle.desk_text.specs.declared.cause.Cause.{Cause}
-use Rattle.desk_text.specs.declared.cause.Cause.TheVariants.{Twice, Limit, BadPrev}
-use Rattle.read_legs.specs.declared.rows.FlightRow.{FlightRow}
-use Rattle.build_tables.specs.Limits.{most_flights}
+use Rattle.file_rows.specs.declared.cause.Cause.{Cause}
+use Rattle.file_rows.specs.declared.cause.Cause.TheVariants.{Twice, Limit, BadPrev}
+use Rattle.file_rows.specs.declared.legs.FlightRow.{FlightRow}
+use Rattle.file_rows.specs.Limits.{most_flights}
 use Rattle.build_tables.specs.Names.{flight_named}
 
 -- whether the previous flight is in the file and ends at this airport; a flight that names none has nothing to meet

@@ -1,13 +1,13 @@
 -- Why a row of itineraries.csv is refused.
 use Rattle.std.specs.Prelude.{ℕ, Bool, ◌&&◌, ◌||◌, ◌==◌, List, length, take, Option, Some, None, is_some, bytes_eq, nat_lt, nat_le, if◌then◌else◌}
 use Rattle.std.specs.List.{list_any, list_all}
-use Rattle.desk_text.specs.declared.cause.Cause.{Cause}
-use Rattle.desk_text.specs.declared.cause.Cause.TheVariants.{Unknown, Twice, Limit}
-use Rattle.read_legs.specs.declared.rows.RotationRow.{RotationRow}
-use Rattle.read_pax.specs.declared.rows.ItineraryRow.{ItineraryRow}
+use Rattle.file_rows.specs.declared.cause.Cause.{Cause}
+use Rattle.file_rows.specs.declared.cause.Cause.TheVariants.{Unknown, Twice, Limit}
+use Rattle.file_rows.specs.declared.legs.RotationRow.{RotationRow}
+use Rattle.file_rows.specs.declared.passengers.ItineraryRow.{ItineraryRow}
 use Rattle.build_tables.specs.declared.files.Files.{Files}
 use Rattle.build_tables.specs.Keys.{type_number}
-use Rattle.build_tables.specs.Limits.{most_itineraries, most_passengers, most_legs}
+use Rattle.file_rows.specs.Limits.{most_itineraries, most_passengers, most_legs}
 use Rattle.build_tables.specs.Names.{rotation_place}
 
 -- whether two rows are of one reservation: of one name and one type

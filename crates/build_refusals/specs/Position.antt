@@ -1,10 +1,10 @@
 -- Why a row of position.csv is refused.
 use Rattle.std.specs.Prelude.{ℕ, ◌+◌, List, length, take, sum_by, Option, Some, None, is_some, nat_lt, if◌then◌else◌}
-use Rattle.desk_text.specs.declared.cause.Cause.{Cause}
-use Rattle.desk_text.specs.declared.cause.Cause.TheVariants.{Unknown, Limit}
-use Rattle.read_fleet.specs.declared.position.PositionRow.{PositionRow}
+use Rattle.file_rows.specs.declared.cause.Cause.{Cause}
+use Rattle.file_rows.specs.declared.cause.Cause.TheVariants.{Unknown, Limit}
+use Rattle.file_rows.specs.declared.fleet.PositionRow.{PositionRow}
 use Rattle.build_tables.specs.declared.files.Files.{Files}
-use Rattle.build_tables.specs.Limits.{most_groups}
+use Rattle.file_rows.specs.Limits.{most_groups}
 use Rattle.build_tables.specs.Names.{airport_place}
 
 -- how many groups the first n rows have

@@ -3,10 +3,10 @@ use Rattle.std.specs.Prelude.{ℕ, Option, option_map}
 use Rattle.std.specs.Option.{option_or}
 use Rattle.desk_folder.specs.declared.files.File.{File}
 use Rattle.desk_folder.specs.declared.files.File.TheVariants as file
-use Rattle.desk_text.specs.declared.cause.Cause.{Cause}
+use Rattle.file_rows.specs.declared.cause.Cause.{Cause}
 use Rattle.build_tables.specs.declared.files.Files.{Files}
-use Rattle.build_refusals.specs.First.{first_refused}
-use Rattle.build_refusals.specs.Config.{window_refused}
+use Rattle.build_refusals.specs.First.{first_refusal_in}
+use Rattle.build_refusals.specs.Config.{window_refusal}
 use Rattle.build_refusals.specs.Flights.{flight_cause}
 use Rattle.build_refusals.specs.Rotations.{rotation_cause}
 use Rattle.build_refusals.specs.Aircraft.{aircraft_cause}
@@ -14,7 +14,7 @@ use Rattle.build_refusals.specs.Airports.{airport_cause}
 use Rattle.build_refusals.specs.Dist.{dist_cause}
 use Rattle.build_refusals.specs.Itineraries.{itinerary_cause}
 use Rattle.build_refusals.specs.Position.{position_cause}
-use Rattle.build_refusals.specs.Tariff.{tariff_refused}
+use Rattle.build_refusals.specs.Tariff.{tariff_refusal}
 
 -- a cause at a line of a file
 abbrev pub Refusal : Type 0
@@ -27,19 +27,19 @@ in_file f refused = option_map (λ r. (f, r.0, r.1)) refused
 -- the first refusal of the schedule: the window, flights and rotations, aircraft, airports and distances
 unfoldable pub refusal_of_schedule : Files → Option Refusal
 refusal_of_schedule x =
-    option_or (in_file file.Config (window_refused x.config))
-    (option_or (in_file file.Flights (first_refused (flight_cause x.flights) (λ row. row.line) x.flights))
-    (option_or (in_file file.Rotations (first_refused (rotation_cause x) (λ row. row.line) x.rotations))
-    (option_or (in_file file.Aircraft (first_refused (aircraft_cause x) (λ row. row.line) x.aircraft))
-    (option_or (in_file file.Airports (first_refused (airport_cause x.airports) (λ row. row.line) x.airports))
-    (in_file file.Dist (first_refused dist_cause (λ row. row.line) x.dist))))))
+    option_or (in_file file.Config (window_refusal x.config))
+    (option_or (in_file file.Flights (first_refusal_in (flight_cause x.flights) (λ row. row.line) x.flights))
+    (option_or (in_file file.Rotations (first_refusal_in (rotation_cause x) (λ row. row.line) x.rotations))
+    (option_or (in_file file.Aircraft (first_refusal_in (aircraft_cause x) (λ row. row.line) x.aircraft))
+    (option_or (in_file file.Airports (first_refusal_in (airport_cause x.airports) (λ row. row.line) x.airports))
+    (in_file file.Dist (first_refusal_in dist_cause (λ row. row.line) x.dist))))))
 
 -- and of what is asked of it: itineraries, positions and the tariff
 unfoldable pub refusal_of_demand : Files → Option Refusal
 refusal_of_demand x =
-    option_or (in_file file.Itineraries (first_refused (itinerary_cause x) (λ row. row.line) x.itineraries))
-    (option_or (in_file file.Position (first_refused (position_cause x) (λ row. row.line) x.position))
-    (in_file file.Tariff (tariff_refused x.tariff.rows)))
+    option_or (in_file file.Itineraries (first_refusal_in (itinerary_cause x) (λ row. row.line) x.itineraries))
+    (option_or (in_file file.Position (first_refusal_in (position_cause x) (λ row. row.line) x.position))
+    (in_file file.Tariff (tariff_refusal x.tariff.rows)))
 
 -- the first refusal of the rows of all files, if there is one
 unfoldable pub refusal_of : Files → Option Refusal

@@ -2,14 +2,14 @@
 use Rattle.std.specs.Prelude.{ℕ, Bool, false, not, ◌&&◌, ◌||◌, ◌==◌, List, take, Option, Some, None, is_some, bytes_eq, nat_lt, nat_le, if◌then◌else◌}
 use Rattle.std.specs.List.{list_any}
 use Rattle.std.specs.Option.{option_map_or}
-use Rattle.desk_text.specs.declared.cause.Cause.{Cause}
-use Rattle.desk_text.specs.declared.cause.Cause.TheVariants.{Unknown, Twice, NoDistance, Limit}
-use Rattle.read_net.specs.declared.rows.AirportRow.{AirportRow}
-use Rattle.read_legs.specs.declared.rows.FlightRow.{FlightRow}
-use Rattle.read_legs.specs.declared.rows.RotationRow.{RotationRow}
+use Rattle.file_rows.specs.declared.cause.Cause.{Cause}
+use Rattle.file_rows.specs.declared.cause.Cause.TheVariants.{Unknown, Twice, NoDistance, Limit}
+use Rattle.file_rows.specs.declared.network.AirportRow.{AirportRow}
+use Rattle.file_rows.specs.declared.legs.FlightRow.{FlightRow}
+use Rattle.file_rows.specs.declared.legs.RotationRow.{RotationRow}
 use Rattle.build_tables.specs.declared.files.Files.{Files}
 use Rattle.build_tables.specs.Departures.{departure_on}
-use Rattle.build_tables.specs.Limits.{most_flights, latest_departure}
+use Rattle.file_rows.specs.Limits.{most_flights, latest_departure}
 use Rattle.build_tables.specs.Names.{flight_named, airport_place, aircraft_place, distance_between}
 
 -- whether a rotation departs too late; an unknown flight has no departure

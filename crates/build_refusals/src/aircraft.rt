@@ -6,11 +6,9 @@ ghost use Rattle.build_refusals.specs.Aircraft.{aircraft_cause, has_known_mainte
 
 use crate::before::is_before;
 use crate::first::{Check, Lined};
-use crate::limits::MOST_AIRCRAFT;
 use build_tables::Tables;
-use desk_text::Cause;
 use desk_units::Name;
-use read_fleet::{AircraftRow, MaintRow};
+use file_rows::{AircraftRow, Cause, MOST_AIRCRAFT, MaintRow};
 
 /// Whether an aircraft of this name stands before this place.
 fn has_aircraft_before(tables: &Tables<'_>, name: &Name, place: usize) -> bool

@@ -6,11 +6,9 @@ ghost use Rattle.build_refusals.specs.Airports.{airport_cause};
 
 use crate::before::is_before;
 use crate::first::{Check, Lined};
-use crate::limits::MOST_AIRPORTS;
 use build_tables::Tables;
-use desk_text::Cause;
 use desk_units::Name;
-use read_net::AirportRow;
+use file_rows::{AirportRow, Cause, MOST_AIRPORTS};
 
 /// Whether an airport of this name stands before this place.
 fn has_airport_before(tables: &Tables<'_>, name: &Name, place: usize) -> bool

@@ -3,10 +3,8 @@
 ghost use Rattle.build_refusals.specs.Dist.{dist_cause};
 
 use crate::first::{Check, Lined};
-use crate::limits::MOST_DISTANCES;
 use build_tables::Tables;
-use desk_text::Cause;
-use read_net::DistRow;
+use file_rows::{Cause, DistRow, MOST_DISTANCES};
 
 impl Lined for DistRow {
     ghost line_of = { λ row. row.line };

@@ -1,9 +1,9 @@
 //! The first row of a file that has a cause.
 
 ghost use Rattle.std.specs.Prelude.{◌≡◌};
-ghost use Rattle.build_refusals.specs.First.{first_refused};
+ghost use Rattle.build_refusals.specs.First.{first_refusal_in};
 
-use desk_text::Cause;
+use file_rows::Cause;
 
 /// A row that stands in a line of its file.
 pub(crate) trait Lined {
@@ -19,7 +19,7 @@ pub(crate) trait Lined {
 /// What decides whether a row is refused.
 pub(crate) trait Check<Row> {
     ghost use Rattle.std.specs.Prelude.{ℕ, Option};
-    ghost use Rattle.desk_text.specs.declared.cause.Cause.{Cause as RowCause};
+    ghost use Rattle.file_rows.specs.declared.cause.Cause.{Cause as RowCause};
 
     ghost cause_of: { Self → ℕ → Row → Option RowCause };
 
@@ -29,11 +29,11 @@ pub(crate) trait Check<Row> {
 }
 
 /// The line of the first row that is refused, and why.
-pub(crate) fn first_refused<Row: Lined, C: Check<Row>>(
+pub(crate) fn first_refusal_in<Row: Lined, C: Check<Row>>(
     check: &C,
     rows: &[Row],
 ) -> Option<(u32, Cause)>
-    ensures { result ≡ first_refused (C.cause_of check.now) Row.line_of rows.now }
+    ensures { result ≡ first_refusal_in (C.cause_of check.now) Row.line_of rows.now }
 {
     for (place, row) in rows.iter().enumerate() {
         if let Some(cause) = check.cause(place, row) {

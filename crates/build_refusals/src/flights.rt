@@ -6,11 +6,9 @@ ghost use Rattle.build_refusals.specs.Flights.{flight_cause, has_good_previous};
 
 use crate::before::is_before;
 use crate::first::{Check, Lined};
-use crate::limits::MOST_FLIGHTS;
 use build_tables::Tables;
-use desk_text::Cause;
 use desk_units::Name;
-use read_legs::FlightRow;
+use file_rows::{Cause, FlightRow, MOST_FLIGHTS};
 
 /// Whether a flight of this name stands before this place.
 fn has_flight_before(tables: &Tables<'_>, name: &Name, place: usize) -> bool

@@ -2,16 +2,14 @@
 
 ghost use Rattle.std.specs.Prelude.{◌≡◌, ◌||◌, take, length, is_some, nat_lt};
 ghost use Rattle.std.specs.List.{list_any};
-ghost use Rattle.build_tables.specs.Limits.{most_passengers, most_legs};
+ghost use Rattle.file_rows.specs.Limits.{most_passengers, most_legs};
 ghost use Rattle.build_tables.specs.Names.{rotation_place};
 ghost use Rattle.build_refusals.specs.Itineraries.{itinerary_cause, is_same_reservation, has_known_legs};
 
 use crate::before::is_before;
 use crate::first::{Check, Lined};
-use crate::limits::{MOST_ITINERARIES, MOST_LEGS, MOST_PASSENGERS};
 use build_tables::Tables;
-use desk_text::Cause;
-use read_pax::{ItineraryRow, LegRow};
+use file_rows::{Cause, ItineraryRow, LegRow, MOST_ITINERARIES, MOST_LEGS, MOST_PASSENGERS};
 
 /// Whether a reservation has more passengers or more legs than it may have.
 fn is_too_large(row: &ItineraryRow) -> bool

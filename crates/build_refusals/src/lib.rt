@@ -9,12 +9,11 @@ mod dist;
 mod first;
 mod flights;
 mod itineraries;
-mod limits;
 mod position;
 mod refusals;
 mod rotations;
 mod tariff;
 
 pub use desk_folder::File;
-pub use desk_text::Cause;
+pub use file_rows::Cause;
 pub use refusals::first_refusal;

@@ -2,14 +2,12 @@
 
 ghost use Rattle.std.specs.Prelude.{◌≡◌, ◌+◌, ℕ, false, nat_le, nat_lt};
 ghost use Rattle.std.specs.Option.{option_map_or};
-ghost use Rattle.build_tables.specs.Limits.{most_groups};
+ghost use Rattle.file_rows.specs.Limits.{most_groups};
 ghost use Rattle.build_refusals.specs.Position.{groups_in, position_cause};
 
 use crate::first::{Check, Lined};
-use crate::limits::MOST_GROUPS;
 use build_tables::Tables;
-use desk_text::Cause;
-use read_fleet::PositionRow;
+use file_rows::{Cause, MOST_GROUPS, PositionRow};
 
 /// The place of the row that holds the first group past the limit.
 fn past_limit(rows: &[PositionRow]) -> Option<usize>

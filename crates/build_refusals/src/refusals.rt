@@ -2,16 +2,16 @@
 
 ghost use Rattle.std.specs.Prelude.{◌≡◌, IfNone};
 ghost use Rattle.build_tables.specs.Fitting.{FitTogether};
-ghost use Rattle.build_refusals.specs.First.{first_refused};
+ghost use Rattle.build_refusals.specs.First.{first_refusal_in};
 ghost use Rattle.build_refusals.specs.Refusals.{in_file, refusal_of_schedule, refusal_of_demand, refusal_of};
 
-use crate::config::window_refused;
-use crate::first::{Check, Lined, first_refused};
+use crate::config::window_refusal;
+use crate::first::{Check, Lined, first_refusal_in};
 use crate::position::Positions;
-use crate::tariff::tariff_refused;
+use crate::tariff::tariff_refusal;
 use build_tables::Tables;
 use desk_folder::File;
-use desk_text::Cause;
+use file_rows::Cause;
 
 /// A refusal in this file.
 fn in_file(file: File, refused: Option<(u32, Cause)>) -> Option<(File, u32, Cause)>
@@ -27,9 +27,9 @@ fn in_rows<Row: Lined, C: Check<Row>>(
     check: &C,
     rows: &[Row],
 ) -> Option<(File, u32, Cause)>
-    ensures { result ≡ in_file file (first_refused (C.cause_of check.now) Row.line_of rows.now) }
+    ensures { result ≡ in_file file (first_refusal_in (C.cause_of check.now) Row.line_of rows.now) }
 {
-    in_file(file, first_refused(check, rows))
+    in_file(file, first_refusal_in(check, rows))
 }
 
 /// The first refusal in the files of the schedule.
@@ -38,7 +38,7 @@ fn refusal_in_schedule(tables: &Tables<'_>) -> Option<(File, u32, Cause)>
     ensures { result ≡ refusal_of_schedule tables.now.files.now }
 {
     let files = tables.files;
-    if let Some(refusal) = in_file(File::Config, window_refused(&files.config)) {
+    if let Some(refusal) = in_file(File::Config, window_refusal(&files.config)) {
         return Some(refusal);
     }
     if let Some(refusal) = in_rows(File::Flights, tables, files.flights.as_slice()) {
@@ -69,7 +69,7 @@ fn refusal_in_demand(tables: &Tables<'_>) -> Option<(File, u32, Cause)>
     if let Some(refusal) = in_rows(File::Position, &positions, files.position.as_slice()) {
         return Some(refusal);
     }
-    in_file(File::Tariff, tariff_refused(files.tariff.rows.as_slice()))
+    in_file(File::Tariff, tariff_refusal(files.tariff.rows.as_slice()))
 }
 
 /// The first refusal in all files.

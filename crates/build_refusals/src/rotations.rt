@@ -3,17 +3,15 @@
 ghost use Rattle.std.specs.Prelude.{◌≡◌, ◌&&◌, ◌==◌, is_some, take, nat_lt, bytes_eq};
 ghost use Rattle.std.specs.List.{list_any};
 ghost use Rattle.build_tables.specs.Departures.{departure_on};
-ghost use Rattle.build_tables.specs.Limits.{latest_departure};
+ghost use Rattle.file_rows.specs.Limits.{latest_departure};
 ghost use Rattle.build_tables.specs.Names.{distance_between};
 ghost use Rattle.build_refusals.specs.Rotations.{rotation_cause, has_airports};
 
 use crate::before::is_before;
 use crate::first::{Check, Lined};
-use crate::limits::{LATEST_DEPARTURE, MOST_FLIGHTS};
 use build_tables::Tables;
-use desk_text::Cause;
 use desk_units::Name;
-use read_legs::{FlightRow, RotationRow};
+use file_rows::{Cause, FlightRow, LATEST_DEPARTURE, MOST_FLIGHTS, RotationRow};
 
 /// Whether a flight departs too late on a day.
 fn departs_late(flight: &FlightRow, day: u32) -> bool

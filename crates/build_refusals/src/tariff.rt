@@ -3,11 +3,10 @@
 ghost use Rattle.std.specs.Prelude.{◌≡◌, ◌≤◌, length};
 ghost use Rattle.std.specs.List.{list_any};
 ghost use Rattle.tariff_prices.specs.Rows.{same_key};
-ghost use Rattle.build_refusals.specs.Tariff.{tariff_cause, tariff_refused};
+ghost use Rattle.build_refusals.specs.Tariff.{tariff_cause, tariff_refusal};
 
-use crate::limits::MOST_TARIFF_ROWS;
-use desk_text::Cause;
 use desk_units::TariffRow;
+use file_rows::{Cause, MOST_TARIFF_ROWS};
 use tariff_prices::same_key;
 
 /// Whether one of these rows says the same as a row.
@@ -36,8 +35,8 @@ fn tariff_cause(rows: &[TariffRow], place: usize, row: &TariffRow) -> Option<Cau
 /// The line of the first row of the tariff that is refused, counted from 1, and why.
 ///
 /// Each row is compared with those before it, at most 1,000: the next one is past the limit.
-pub(crate) fn tariff_refused(rows: &[TariffRow]) -> Option<(u32, Cause)>
-    ensures { result ≡ tariff_refused rows.now }
+pub(crate) fn tariff_refusal(rows: &[TariffRow]) -> Option<(u32, Cause)>
+    ensures { result ≡ tariff_refusal rows.now }
 {
     for (place, row) in rows.iter().enumerate() {
         if let Some(cause) = tariff_cause(rows, place, row) {

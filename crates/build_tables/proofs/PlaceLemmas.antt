@@ -12,8 +12,8 @@ use Rattle.std.proofs.lemmas.Slice.Eq.{bytes_eq-Decides}
 use Rattle.build_tables.specs.contracts.places.KeyPartialEq.TheImpl.{eq-value}
 use Rattle.build_tables.specs.declared.places.Key.{Key as Borrowed}
 use Rattle.build_tables.specs.declared.places.Key.TheVariants as borrowed
-use Rattle.build_tables.specs.Found.{seen}
-use Rattle.build_tables.specs.Keys.{Key, named, on_day, between, booked, type_number, is_key, key_place}
+use Rattle.build_tables.specs.Found.{key_behind}
+use Rattle.build_tables.specs.Keys.{Key, by_name, on_day, between, by_reservation, type_number, is_key, key_place}
 
 -- the first that passes is at the first place that passes
 find_first : {A : Type 0} (p : A → Bool) (xs : List A) (k : ℕ) (x : A) → k < length xs → x ≡ get_or xs k x → p x ≡ true → ((j : ℕ) → j < k → p (get_or xs j x) ≡ false) → find p xs ≡ Some x
@@ -84,7 +84,7 @@ same_type false true h = absurd (false≢true h)
 
 -- a key that passes is the same
 pub same_key : (a b : Key) → is_key a b ≡ true → a ≡ b
-same_key (named a) (named b) h = ap named ((bytes_eq-Decides a b).0 h)
+same_key (by_name a) (by_name b) h = ap by_name ((bytes_eq-Decides a b).0 h)
 same_key (on_day a n) (on_day b m) h =
     let parts = and_parts (bytes_eq a b) (eqb n m) h in
     let first = (bytes_eq-Decides a b).0 parts.0 in
@@ -95,23 +95,23 @@ same_key (between a c) (between b d) h =
     let first = (bytes_eq-Decides a b).0 parts.0 in
     let second = (bytes_eq-Decides c d).0 parts.1 in
     λ i. between (first i) (second i)
-same_key (booked a n) (booked b m) h =
+same_key (by_reservation a n) (by_reservation b m) h =
     let parts = and_parts (bytes_eq a b) (eqb (type_number n) (type_number m)) h in
     let first = (bytes_eq-Decides a b).0 parts.0 in
     let second = same_type n m parts.1 in
-    λ i. booked (first i) (second i)
-same_key (named a) (on_day b m) h = absurd (false≢true h)
-same_key (named a) (between b d) h = absurd (false≢true h)
-same_key (named a) (booked b m) h = absurd (false≢true h)
-same_key (on_day a n) (named b) h = absurd (false≢true h)
+    λ i. by_reservation (first i) (second i)
+same_key (by_name a) (on_day b m) h = absurd (false≢true h)
+same_key (by_name a) (between b d) h = absurd (false≢true h)
+same_key (by_name a) (by_reservation b m) h = absurd (false≢true h)
+same_key (on_day a n) (by_name b) h = absurd (false≢true h)
 same_key (on_day a n) (between b d) h = absurd (false≢true h)
-same_key (on_day a n) (booked b m) h = absurd (false≢true h)
-same_key (between a c) (named b) h = absurd (false≢true h)
+same_key (on_day a n) (by_reservation b m) h = absurd (false≢true h)
+same_key (between a c) (by_name b) h = absurd (false≢true h)
 same_key (between a c) (on_day b m) h = absurd (false≢true h)
-same_key (between a c) (booked b m) h = absurd (false≢true h)
-same_key (booked a n) (named b) h = absurd (false≢true h)
-same_key (booked a n) (on_day b m) h = absurd (false≢true h)
-same_key (booked a n) (between b d) h = absurd (false≢true h)
+same_key (between a c) (by_reservation b m) h = absurd (false≢true h)
+same_key (by_reservation a n) (by_name b) h = absurd (false≢true h)
+same_key (by_reservation a n) (on_day b m) h = absurd (false≢true h)
+same_key (by_reservation a n) (between b d) h = absurd (false≢true h)
 
 or_none : {X : Type 0} (o : Option X) → option_or o None ≡ o
 or_none None = refl
@@ -130,10 +130,10 @@ module _ {Row : Type 0} (key_of : Row → Key) (rows : List Row) (i : ℕ) (row 
       ∙ ap (λ n. option_or (key_place key_of (take i rows) key) (cond (is_key key (key_of row)) (Some n) None)) (omega (arith, length-take i rows))
 
   -- whose key is new
-  pub place_new : {K : Type 0} (seen : K → Key) (es : List (K × ℕ)) (k : K) → seen k ≡ key_of row → (key : Key) → lookup (λ x. is_key key (seen x)) es ≡ key_place key_of (take i rows) key
-      → lookup (λ x. is_key key (seen x)) (es ++ (k, i) ∷ []) ≡ key_place key_of (take (i + 1) rows) key
-  place_new seen es k same key so_far =
-      lookup_push (λ x. is_key key (seen x)) es k i
+  pub place_new : {K : Type 0} (key_behind : K → Key) (es : List (K × ℕ)) (k : K) → key_behind k ≡ key_of row → (key : Key) → lookup (λ x. is_key key (key_behind x)) es ≡ key_place key_of (take i rows) key
+      → lookup (λ x. is_key key (key_behind x)) (es ++ (k, i) ∷ []) ≡ key_place key_of (take (i + 1) rows) key
+  place_new key_behind es k same key so_far =
+      lookup_push (λ x. is_key key (key_behind x)) es k i
       ∙ (λ j. option_or (so_far j) (cond (is_key key (same j)) (Some i) None))
       ∙ sym (places_push key)
 
@@ -154,26 +154,26 @@ not_there None h = refl
 not_there (Some x) h = absurd (false≢true (sym h))
 
 -- two keys are the same as borrowed where they are
-same_seen : (a b : Borrowed) → eq-value.it a b ≡ is_key (seen a) (seen b)
-same_seen (borrowed.Named a) (borrowed.Named b) = refl
-same_seen (borrowed.Named a) (borrowed.OnDay b m) = refl
-same_seen (borrowed.Named a) (borrowed.Between b d) = refl
-same_seen (borrowed.Named a) (borrowed.Booked b m) = refl
-same_seen (borrowed.OnDay a n) (borrowed.Named b) = refl
-same_seen (borrowed.OnDay a n) (borrowed.OnDay b m) = refl
-same_seen (borrowed.OnDay a n) (borrowed.Between b d) = refl
-same_seen (borrowed.OnDay a n) (borrowed.Booked b m) = refl
-same_seen (borrowed.Between a c) (borrowed.Named b) = refl
-same_seen (borrowed.Between a c) (borrowed.OnDay b m) = refl
-same_seen (borrowed.Between a c) (borrowed.Between b d) = refl
-same_seen (borrowed.Between a c) (borrowed.Booked b m) = refl
-same_seen (borrowed.Booked a n) (borrowed.Named b) = refl
-same_seen (borrowed.Booked a n) (borrowed.OnDay b m) = refl
-same_seen (borrowed.Booked a n) (borrowed.Between b d) = refl
-same_seen (borrowed.Booked a true) (borrowed.Booked b true) = refl
-same_seen (borrowed.Booked a true) (borrowed.Booked b false) = refl
-same_seen (borrowed.Booked a false) (borrowed.Booked b true) = refl
-same_seen (borrowed.Booked a false) (borrowed.Booked b false) = refl
+same_key_behind : (a b : Borrowed) → eq-value.it a b ≡ is_key (key_behind a) (key_behind b)
+same_key_behind (borrowed.Named a) (borrowed.Named b) = refl
+same_key_behind (borrowed.Named a) (borrowed.OnDay b m) = refl
+same_key_behind (borrowed.Named a) (borrowed.Between b d) = refl
+same_key_behind (borrowed.Named a) (borrowed.Booked b m) = refl
+same_key_behind (borrowed.OnDay a n) (borrowed.Named b) = refl
+same_key_behind (borrowed.OnDay a n) (borrowed.OnDay b m) = refl
+same_key_behind (borrowed.OnDay a n) (borrowed.Between b d) = refl
+same_key_behind (borrowed.OnDay a n) (borrowed.Booked b m) = refl
+same_key_behind (borrowed.Between a c) (borrowed.Named b) = refl
+same_key_behind (borrowed.Between a c) (borrowed.OnDay b m) = refl
+same_key_behind (borrowed.Between a c) (borrowed.Between b d) = refl
+same_key_behind (borrowed.Between a c) (borrowed.Booked b m) = refl
+same_key_behind (borrowed.Booked a n) (borrowed.Named b) = refl
+same_key_behind (borrowed.Booked a n) (borrowed.OnDay b m) = refl
+same_key_behind (borrowed.Booked a n) (borrowed.Between b d) = refl
+same_key_behind (borrowed.Booked a true) (borrowed.Booked b true) = refl
+same_key_behind (borrowed.Booked a true) (borrowed.Booked b false) = refl
+same_key_behind (borrowed.Booked a false) (borrowed.Booked b true) = refl
+same_key_behind (borrowed.Booked a false) (borrowed.Booked b false) = refl
 
-pub lookup_seen : {X : Type 0} (k : Borrowed) (es : List (Borrowed × X)) → lookup (eq-value.it k) es ≡ lookup (λ x. is_key (seen k) (seen x)) es
-lookup_seen k es = ap (λ (t : Borrowed → Bool). lookup t es) (λ i x. same_seen k x i)
+pub lookup_key_behind : {X : Type 0} (k : Borrowed) (es : List (Borrowed × X)) → lookup (eq-value.it k) es ≡ lookup (λ x. is_key (key_behind k) (key_behind x)) es
+lookup_key_behind k es = ap (λ (t : Borrowed → Bool). lookup t es) (λ i x. same_key_behind k x i)

@@ -1,6 +1,6 @@
 -- When the flights of the files depart.
 use Rattle.std.specs.Prelude.{ℕ, ◌+◌, ◌*◌}
-use Rattle.read_legs.specs.declared.rows.FlightRow.{FlightRow}
+use Rattle.file_rows.specs.declared.legs.FlightRow.{FlightRow}
 
 -- the scheduled departure of a flight on a day, in minutes from the start of 2000
 abbrev pub departure_on : FlightRow → ℕ → ℕ

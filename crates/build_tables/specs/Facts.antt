@@ -1,9 +1,9 @@
 -- What the readers say of their rows.
 use Rattle.std.specs.Prelude.{All}
-use Rattle.read_legs.specs.Facts.{IsFlight, IsRotation}
-use Rattle.read_net.specs.Facts.{IsWindow, IsAirport, IsDistance}
-use Rattle.read_fleet.specs.Facts.{IsAircraft, IsPosition}
-use Rattle.read_pax.specs.Facts.{IsItinerary}
+use Rattle.file_rows.specs.Facts.{IsFlight, IsRotation}
+use Rattle.file_rows.specs.Facts.{IsWindow, IsAirport, IsDistance}
+use Rattle.file_rows.specs.Facts.{IsAircraft, IsPosition}
+use Rattle.file_rows.specs.Facts.{IsItinerary}
 use Rattle.tariff_prices.specs.Rows.{IsTariffRow}
 use Rattle.build_tables.specs.declared.files.Files.{Files}
 

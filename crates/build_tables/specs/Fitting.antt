@@ -2,15 +2,15 @@
 use Rattle.std.specs.Prelude.{◌≡◌, ◌≢◌, ◌≤◌, false, List, length, sum_by, All, Some, IsSome}
 use Rattle.std.specs.List.{AllPairs}
 use Rattle.std.specs.Option.{ForSome}
-use Rattle.read_net.specs.declared.rows.AirportRow.{AirportRow}
-use Rattle.read_legs.specs.declared.rows.FlightRow.{FlightRow}
-use Rattle.read_legs.specs.declared.rows.RotationRow.{RotationRow}
-use Rattle.read_fleet.specs.declared.aircraft.AircraftRow.{AircraftRow}
-use Rattle.read_pax.specs.declared.rows.ItineraryRow.{ItineraryRow}
+use Rattle.file_rows.specs.declared.network.AirportRow.{AirportRow}
+use Rattle.file_rows.specs.declared.legs.FlightRow.{FlightRow}
+use Rattle.file_rows.specs.declared.legs.RotationRow.{RotationRow}
+use Rattle.file_rows.specs.declared.fleet.AircraftRow.{AircraftRow}
+use Rattle.file_rows.specs.declared.passengers.ItineraryRow.{ItineraryRow}
 use Rattle.tariff_prices.specs.Rows.{same_key}
 use Rattle.build_tables.specs.declared.files.Files.{Files}
 use Rattle.build_tables.specs.Departures.{departure_on}
-use Rattle.build_tables.specs.Limits.{most_flights, most_aircraft, most_airports, most_itineraries, most_passengers, most_legs, most_groups, most_tariff_rows, latest_departure}
+use Rattle.file_rows.specs.Limits.{most_flights, most_aircraft, most_airports, most_itineraries, most_passengers, most_legs, most_groups, most_tariff_rows, latest_departure}
 use Rattle.build_tables.specs.Names.{flight_named, rotation_place, airport_place, aircraft_place}
 
 -- no file has more rows than its limit

@@ -4,18 +4,18 @@ use Rattle.indexmap.specs.IndexMap.{get_by}
 use Rattle.build_tables.specs.declared.places.Key.{Key as Borrowed}
 use Rattle.build_tables.specs.declared.places.Key.TheVariants as borrowed
 use Rattle.build_tables.specs.declared.places.Places.{Places}
-use Rattle.build_tables.specs.Keys.{Key, named, on_day, between, booked, is_key, key_place}
+use Rattle.build_tables.specs.Keys.{Key, by_name, on_day, between, by_reservation, is_key, key_place}
 
--- the key that is borrowed
-abbrev pub seen : Borrowed → Key
-seen (borrowed.Named name) = named name.now
-seen (borrowed.OnDay flight day) = on_day flight.now day
-seen (borrowed.Between origin dest) = between origin.now dest.now
-seen (borrowed.Booked name inbound) = booked name.now inbound
+-- the key behind a borrowed one
+abbrev pub key_behind : Borrowed → Key
+key_behind (borrowed.Named name) = by_name name.now
+key_behind (borrowed.OnDay flight day) = on_day flight.now day
+key_behind (borrowed.Between origin dest) = between origin.now dest.now
+key_behind (borrowed.Booked name inbound) = by_reservation name.now inbound
 
 -- the place that is kept for this key
 abbrev pub place_in : Places → Key → Option ℕ
-place_in p key = get_by (λ k. is_key key (seen k)) p.places
+place_in p key = get_by (λ k. is_key key (key_behind k)) p.places
 
 -- these are the places of these rows by their keys
 abbrev pub ArePlacesOf : {Row : Type 0} → (Row → Key) → List Row → Places → Type 0

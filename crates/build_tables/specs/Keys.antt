@@ -4,20 +4,20 @@ use Rattle.std.specs.Prelude.{ℕ, Bool, false, ◌&&◌, ◌==◌, List, positi
 -- a flight, an aircraft or an airport by its name; a rotation by its flight and its day; a distance by the two
 -- airports; a reservation by its name and whether it is the way back
 pub data Key : Type 0 where
-  named : List ℕ → Key
+  by_name : List ℕ → Key
   on_day : List ℕ → ℕ → Key
   between : List ℕ → List ℕ → Key
-  booked : List ℕ → Bool → Key
+  by_reservation : List ℕ → Bool → Key
 
 -- the number of a reservation's type: 0 for a way out, 1 for the way back
 abbrev pub type_number : Bool → ℕ
 type_number inbound = if inbound then 1 else 0
 
 abbrev pub is_key : Key → Key → Bool
-is_key (named a) (named b) = bytes_eq a b
+is_key (by_name a) (by_name b) = bytes_eq a b
 is_key (on_day flight day) (on_day other date) = bytes_eq flight other && (day == date)
 is_key (between origin dest) (between from to) = bytes_eq origin from && bytes_eq dest to
-is_key (booked name inbound) (booked other back) = bytes_eq name other && (type_number inbound == type_number back)
+is_key (by_reservation name inbound) (by_reservation other back) = bytes_eq name other && (type_number inbound == type_number back)
 is_key a b = false
 
 -- the place of the first row with this key

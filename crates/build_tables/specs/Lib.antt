@@ -1,7 +1,6 @@
 pub mod Keys
 pub mod Found
 pub mod Names
-pub mod Limits
 pub mod Departures
 pub mod Facts
 pub mod Fitting

@@ -1,11 +1,11 @@
 -- What the rows of the files name. A name stands for the first row that has it.
 use Rattle.std.specs.Prelude.{ℕ, List, Bool, ◌&&◌, ◌==◌, find, position, Option, bytes_eq}
 use Rattle.std.specs.Option.{option_or}
-use Rattle.read_legs.specs.declared.rows.FlightRow.{FlightRow}
-use Rattle.read_legs.specs.declared.rows.RotationRow.{RotationRow}
-use Rattle.read_fleet.specs.declared.aircraft.AircraftRow.{AircraftRow}
-use Rattle.read_net.specs.declared.rows.AirportRow.{AirportRow}
-use Rattle.read_net.specs.declared.rows.DistRow.{DistRow}
+use Rattle.file_rows.specs.declared.legs.FlightRow.{FlightRow}
+use Rattle.file_rows.specs.declared.legs.RotationRow.{RotationRow}
+use Rattle.file_rows.specs.declared.fleet.AircraftRow.{AircraftRow}
+use Rattle.file_rows.specs.declared.network.AirportRow.{AirportRow}
+use Rattle.file_rows.specs.declared.network.DistRow.{DistRow}
 
 -- the flight of this name
 abbrev pub flight_named : List FlightRow → List ℕ → Option FlightRow

@@ -1,10 +1,9 @@
 //! The rows of the input files.
 
 use desk_units::{List, Tariff};
-use read_fleet::{AircraftRow, PositionRow};
-use read_legs::{FlightRow, RotationRow};
-use read_net::{AirportRow, DistRow, Window};
-use read_pax::ItineraryRow;
+use file_rows::{
+    AircraftRow, AirportRow, DistRow, FlightRow, ItineraryRow, PositionRow, RotationRow, Window,
+};
 
 /// The rows of the input files, each list in the order of its file's lines. A day takes at most as many
 /// as each field says; a row past that is refused with `Limit` when the rows are joined.

@@ -1,7 +1,7 @@
 //! The places of rows, found by the names that they have.
 
 ghost use Rattle.std.specs.Prelude.{◌≡◌, IfOk};
-ghost use Rattle.build_tables.specs.Found.{ArePlacesOf, place_in, seen};
+ghost use Rattle.build_tables.specs.Found.{ArePlacesOf, place_in, key_behind};
 
 use desk_units::{List, NoMem};
 use indexmap::IndexMap;
@@ -23,13 +23,13 @@ pub(crate) enum Key<'a> {
 /// A row that is found by a key.
 pub(crate) trait Keyed {
     ghost use Rattle.build_tables.specs.Keys.{Key as RowKey};
-    ghost use Rattle.build_tables.specs.Found.{seen};
+    ghost use Rattle.build_tables.specs.Found.{key_behind};
 
     ghost key_of: { Self → RowKey };
 
     /// Its key.
     fn key(&self) -> Key<'_>
-        ensures { seen result ≡ key_of self.now };
+        ensures { key_behind result ≡ key_of self.now };
 }
 
 /// The places of rows by their keys, counted from 0. A key stands for the first row that has it.
@@ -41,7 +41,7 @@ pub(crate) struct Places<'a> {
 impl<'a> Places<'a> {
     /// The place of the first row with this key.
     pub(crate) fn place_of(&self, key: Key<'_>) -> Option<usize>
-        ensures { result ≡ place_in self.now (seen key.entry) }
+        ensures { result ≡ place_in self.now (key_behind key.entry) }
     {
         self.places.get(&key).copied()
     }

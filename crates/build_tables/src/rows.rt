@@ -1,15 +1,12 @@
 //! What the rows of the files are found by.
 
-ghost use Rattle.build_tables.specs.Keys.{named, on_day, between, booked};
+ghost use Rattle.build_tables.specs.Keys.{by_name, on_day, between, by_reservation};
 
 use crate::places::{Key, Keyed};
-use read_fleet::AircraftRow;
-use read_legs::{FlightRow, RotationRow};
-use read_net::{AirportRow, DistRow};
-use read_pax::ItineraryRow;
+use file_rows::{AircraftRow, AirportRow, DistRow, FlightRow, ItineraryRow, RotationRow};
 
 impl Keyed for FlightRow {
-    ghost key_of = { λ row. named row.flight };
+    ghost key_of = { λ row. by_name row.flight };
 
     fn key(&self) -> Key<'_> {
         Key::Named(self.flight.as_slice())
@@ -25,7 +22,7 @@ impl Keyed for RotationRow {
 }
 
 impl Keyed for AircraftRow {
-    ghost key_of = { λ row. named row.name };
+    ghost key_of = { λ row. by_name row.name };
 
     fn key(&self) -> Key<'_> {
         Key::Named(self.name.as_slice())
@@ -33,7 +30,7 @@ impl Keyed for AircraftRow {
 }
 
 impl Keyed for AirportRow {
-    ghost key_of = { λ row. named row.airport };
+    ghost key_of = { λ row. by_name row.airport };
 
     fn key(&self) -> Key<'_> {
         Key::Named(self.airport.as_slice())
@@ -49,7 +46,7 @@ impl Keyed for DistRow {
 }
 
 impl Keyed for ItineraryRow {
-    ghost key_of = { λ row. booked row.name row.inbound };
+    ghost key_of = { λ row. by_reservation row.name row.inbound };
 
     fn key(&self) -> Key<'_> {
         Key::Booked(self.name.as_slice(), self.inbound)

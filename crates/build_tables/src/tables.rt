@@ -1,15 +1,14 @@
 //! The rows of the files, found by their names.
 
 ghost use Rattle.std.specs.Prelude.{◌≡◌, IfOk, option_map, find, position, ◌==◌, ◌&&◌, bytes_eq};
-ghost use Rattle.build_tables.specs.Keys.{named, on_day, between, booked, type_number};
+ghost use Rattle.build_tables.specs.Keys.{by_name, on_day, between, by_reservation, type_number};
 ghost use Rattle.build_tables.specs.Found.{ArePlacesOf};
 ghost use Rattle.build_tables.specs.Names.{flight_named, rotation_place, airport_place, aircraft_place, is_between, distance_between};
 
 use crate::files::Files;
 use crate::places::{Key, Places, places_in};
 use desk_units::{Name, NoMem};
-use read_legs::FlightRow;
-use read_net::DistRow;
+use file_rows::{DistRow, FlightRow};
 use std::alloc::Global;
 
 /// The rows of the files, found by their names. A name stands for the first row that has it.
@@ -23,12 +22,12 @@ pub struct Tables<'a> {
     airports: Places<'a>,
     dist: Places<'a>,
     itineraries: Places<'a>,
-    ghost flights_placed: { ArePlacesOf (λ row. named row.flight) files.now.flights flights },
+    ghost flights_placed: { ArePlacesOf (λ row. by_name row.flight) files.now.flights flights },
     ghost rotations_placed: { ArePlacesOf (λ row. on_day row.flight row.day) files.now.rotations rotations },
-    ghost aircraft_placed: { ArePlacesOf (λ row. named row.name) files.now.aircraft aircraft },
-    ghost airports_placed: { ArePlacesOf (λ row. named row.airport) files.now.airports airports },
+    ghost aircraft_placed: { ArePlacesOf (λ row. by_name row.name) files.now.aircraft aircraft },
+    ghost airports_placed: { ArePlacesOf (λ row. by_name row.airport) files.now.airports airports },
     ghost dist_placed: { ArePlacesOf (λ row. between row.origin row.dest) files.now.dist dist },
-    ghost itineraries_placed: { ArePlacesOf (λ row. booked row.name row.inbound) files.now.itineraries itineraries },
+    ghost itineraries_placed: { ArePlacesOf (λ row. by_reservation row.name row.inbound) files.now.itineraries itineraries },
 }
 
 /// The places of flights, rotations and aircraft.
@@ -36,9 +35,9 @@ fn places_of_schedule<'a>(
     alloc: Global,
     files: &'a Files,
 ) -> Result<(Places<'a>, Places<'a>, Places<'a>), NoMem>
-    ensures flights { IfOk result (λ places. ArePlacesOf (λ row. named row.flight) files.now.flights places.0) }
+    ensures flights { IfOk result (λ places. ArePlacesOf (λ row. by_name row.flight) files.now.flights places.0) }
     ensures rotations { IfOk result (λ places. ArePlacesOf (λ row. on_day row.flight row.day) files.now.rotations places.1) }
-    ensures aircraft { IfOk result (λ places. ArePlacesOf (λ row. named row.name) files.now.aircraft places.2) }
+    ensures aircraft { IfOk result (λ places. ArePlacesOf (λ row. by_name row.name) files.now.aircraft places.2) }
 {
     let flights = places_in(alloc, &files.flights)?;
     let rotations = places_in(alloc, &files.rotations)?;
@@ -51,9 +50,9 @@ fn places_of_network<'a>(
     alloc: Global,
     files: &'a Files,
 ) -> Result<(Places<'a>, Places<'a>, Places<'a>), NoMem>
-    ensures airports { IfOk result (λ places. ArePlacesOf (λ row. named row.airport) files.now.airports places.0) }
+    ensures airports { IfOk result (λ places. ArePlacesOf (λ row. by_name row.airport) files.now.airports places.0) }
     ensures dist { IfOk result (λ places. ArePlacesOf (λ row. between row.origin row.dest) files.now.dist places.1) }
-    ensures itineraries { IfOk result (λ places. ArePlacesOf (λ row. booked row.name row.inbound) files.now.itineraries places.2) }
+    ensures itineraries { IfOk result (λ places. ArePlacesOf (λ row. by_reservation row.name row.inbound) files.now.itineraries places.2) }
 {
     let airports = places_in(alloc, &files.airports)?;
     let dist = places_in(alloc, &files.dist)?;

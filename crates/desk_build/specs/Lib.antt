@@ -1,4 +1,4 @@
-pub mod Joined
+pub mod Join
 pub mod Told
 pub use Rattle.build_tables.specs.Facts
 pub use Rattle.build_refusals.specs.Refusals

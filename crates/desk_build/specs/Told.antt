@@ -1,7 +1,7 @@
 -- What is printed for a fault.
 use Rattle.std.specs.Prelude.{ℕ, List, ◌++◌, codes, decimal}
 use Rattle.desk_folder.specs.Files.{file_name}
-use Rattle.desk_text.specs.Causes.{cause_name}
+use Rattle.file_rows.specs.Causes.{cause_name}
 use Rattle.desk_build.specs.declared.fault.BuildFault.{BuildFault}
 use Rattle.desk_build.specs.declared.fault.BuildFault.TheVariants.{Refused, Memory}
 

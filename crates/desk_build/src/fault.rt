@@ -5,8 +5,8 @@ ghost use Rattle.desk_build.specs.Told.{fault_text};
 ghost use Rattle.desk_build.specs.declared.fault.BuildFault.TheVariants.{Memory};
 
 use desk_folder::File;
-use desk_text::Cause;
 use desk_units::NoMem;
+use file_rows::Cause;
 use std::alloc::{AllocError, AllocFailed};
 use std::error::Error;
 use std::fmt;

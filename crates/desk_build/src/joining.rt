@@ -2,7 +2,7 @@
 
 ghost use Rattle.std.specs.Prelude.{◌≡◌, [], IfOk};
 ghost use Rattle.build_tables.specs.Facts.{AreFileRows};
-ghost use Rattle.desk_build.specs.Joined.{joined, JoinGives};
+ghost use Rattle.desk_build.specs.Join.{day_of_files, JoinGives};
 
 use crate::fault::BuildFault;
 use build_day::day_of;
@@ -21,7 +21,7 @@ pub struct Built {
 /// The day of the rows of these tables, or the first refusal.
 fn join(alloc: Global, tables: &Tables<'_>) -> Result<Built, BuildFault>
     requires { AreFileRows tables.now.files.now }
-    ensures exact { JoinGives result (joined tables.now.files.now) }
+    ensures exact { JoinGives result (day_of_files tables.now.files.now) }
     ensures fresh { IfOk result (λ built. built.inst.orders ≡ []) }
 {
     if let Some((file, line, cause)) = first_refusal(tables) {
@@ -35,7 +35,7 @@ fn join(alloc: Global, tables: &Tables<'_>) -> Result<Built, BuildFault>
 /// their lines, then of the causes. `BuildFault::Memory` may come at any time.
 pub fn build(alloc: Global, files: &Files) -> Result<Built, BuildFault>
     requires { AreFileRows files.now }
-    ensures exact { JoinGives result (joined files.now) }
+    ensures exact { JoinGives result (day_of_files files.now) }
     ensures fresh { IfOk result (λ built. built.inst.orders ≡ []) }
 {
     let tables = Tables::of(alloc, files)?;

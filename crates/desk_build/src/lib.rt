@@ -7,6 +7,6 @@ mod joining;
 pub use build_tables::Files;
 pub use desk_data::Instance;
 pub use desk_folder::File;
-pub use desk_text::Cause;
 pub use fault::BuildFault;
+pub use file_rows::Cause;
 pub use joining::{Built, build};

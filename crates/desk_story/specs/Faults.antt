@@ -1,8 +1,8 @@
 -- The faults of readers and joins, told of the input.
 use Rattle.std.specs.Prelude.{◌≡◌, ℕ, Result, Ok, Err}
 use Rattle.desk_folder.specs.declared.files.File.{File}
-use Rattle.desk_text.specs.declared.cause.ReadFault.{ReadFault}
-use Rattle.desk_text.specs.declared.cause.ReadFault.TheVariants as read
+use Rattle.desk_text.specs.declared.fault.ReadFault.{ReadFault}
+use Rattle.desk_text.specs.declared.fault.ReadFault.TheVariants as read
 use Rattle.desk_build.specs.declared.fault.BuildFault.{BuildFault}
 use Rattle.desk_build.specs.declared.fault.BuildFault.TheVariants as build
 use Rattle.early_form.specs.declared.fault.FormFault.{FormFault}

@@ -2,9 +2,10 @@
 use Rattle.std.specs.Prelude.{ℕ, List, [], ◌∷◌, length, Result, Ok, Err, nat_lt, if◌then◌else◌, codes}
 use Rattle.desk_folder.specs.declared.files.File.{File}
 use Rattle.desk_folder.specs.declared.files.File.TheVariants as file
-use Rattle.desk_text.specs.declared.cause.Cause.{Cause as RowCause}
-use Rattle.desk_text.specs.declared.cause.Cause.TheVariants.{Size, Unknown}
-use Rattle.desk_text.specs.Causes.{cause_name as row_cause_name}
+use Rattle.file_rows.specs.declared.cause.Cause.{Cause as RowCause}
+use Rattle.file_rows.specs.declared.cause.Cause.TheVariants.{Size, Unknown}
+use Rattle.file_rows.specs.Limits.{most_bytes, most_journal_bytes}
+use Rattle.file_rows.specs.Causes.{cause_name as row_cause_name}
 use Rattle.desk_text.specs.Rows.{◌>>=◌, text_rows}
 use Rattle.desk_data.specs.Situation.{Situation}
 use Rattle.desk_model.specs.declared.answer.Event.{Event}
@@ -18,7 +19,7 @@ use Rattle.read_legs.specs.Rotations.{rotation_row}
 use Rattle.read_fleet.specs.Aircraft.{aircraft_row}
 use Rattle.read_fleet.specs.Position.{position_row}
 use Rattle.build_tables.specs.declared.files.Files.{Files}
-use Rattle.desk_build.specs.Joined.{joined}
+use Rattle.desk_build.specs.Join.{day_of_files}
 use Rattle.early_form.specs.declared.rows.JournalRow.{JournalRow}
 use Rattle.early_form.specs.Journal.{moves_of}
 use Rattle.early_join.specs.Join.{events_of}
@@ -86,13 +87,10 @@ no_rows = record {
   journal = [];
 }
 
--- the most bytes of a text file, and of the journal
-abbrev pub text_limit : ℕ
-text_limit = 67108864
-
+-- the most bytes of a file
 abbrev pub byte_limit : File → ℕ
-byte_limit file.Journal = 268435456
-byte_limit other = text_limit
+byte_limit file.Journal = most_journal_bytes
+byte_limit other = most_bytes
 
 -- why a file with more bytes is refused
 abbrev pub too_long : File → Cause
@@ -105,25 +103,25 @@ with_rows file.Config bytes rows = do
   config ← or_refused in_text (config_of bytes)
   Ok (record rows { files = record rows.files { config = config } })
 with_rows file.Flights bytes rows = do
-  flights ← or_refused in_text (text_rows text_limit flight_row bytes)
+  flights ← or_refused in_text (text_rows most_bytes flight_row bytes)
   Ok (record rows { files = record rows.files { flights = flights } })
 with_rows file.Rotations bytes rows = do
-  rotations ← or_refused in_text (text_rows text_limit rotation_row bytes)
+  rotations ← or_refused in_text (text_rows most_bytes rotation_row bytes)
   Ok (record rows { files = record rows.files { rotations = rotations } })
 with_rows file.Aircraft bytes rows = do
-  aircraft ← or_refused in_text (text_rows text_limit aircraft_row bytes)
+  aircraft ← or_refused in_text (text_rows most_bytes aircraft_row bytes)
   Ok (record rows { files = record rows.files { aircraft = aircraft } })
 with_rows file.Airports bytes rows = do
-  airports ← or_refused in_text (text_rows text_limit airport_row bytes)
+  airports ← or_refused in_text (text_rows most_bytes airport_row bytes)
   Ok (record rows { files = record rows.files { airports = airports } })
 with_rows file.Dist bytes rows = do
-  dist ← or_refused in_text (text_rows text_limit dist_row bytes)
+  dist ← or_refused in_text (text_rows most_bytes dist_row bytes)
   Ok (record rows { files = record rows.files { dist = dist } })
 with_rows file.Itineraries bytes rows = do
-  itineraries ← or_refused in_text (text_rows text_limit itinerary_row bytes)
+  itineraries ← or_refused in_text (text_rows most_bytes itinerary_row bytes)
   Ok (record rows { files = record rows.files { itineraries = itineraries } })
 with_rows file.Position bytes rows = do
-  position ← or_refused in_text (text_rows text_limit position_row bytes)
+  position ← or_refused in_text (text_rows most_bytes position_row bytes)
   Ok (record rows { files = record rows.files { position = position } })
 with_rows file.Tariff bytes rows = do
   tariff ← or_refused in_text (tariff_rows bytes)
@@ -159,7 +157,7 @@ pub record Story : Type 0 where
 -- the files are joined, and then the journal
 unfoldable pub story_of_rows : Rows → Result Story Refusal
 story_of_rows rows = do
-  day ← or_refused not_joined (joined rows.files)
+  day ← or_refused not_joined (day_of_files rows.files)
   events ← or_refused not_known (events_of day rows.journal)
   Ok (record { day = day; events = events })
 

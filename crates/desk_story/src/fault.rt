@@ -8,9 +8,10 @@ ghost use Rattle.desk_story.specs.Faults.{row_fault, form_fault, build_fault, jo
 use crate::refusal::{Cause, Refusal};
 use desk_build::BuildFault;
 use desk_folder::File;
-use desk_text::{Cause as RowCause, ReadFault};
+use desk_text::ReadFault;
 use early_form::FormFault;
 use early_join::JoinFault;
+use file_rows::Cause as RowCause;
 
 /// Why the input gave no story.
 #[derive(Clone, Copy, Debug, PartialEq, Eq)]

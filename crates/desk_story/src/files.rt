@@ -13,7 +13,7 @@ use crate::fault::StoryFault;
 use crate::refusal::{Cause, Refusal};
 use crate::rows::InputRows;
 use desk_folder::{File, Folder};
-use desk_text::Cause as RowCause;
+use file_rows::{Cause as RowCause, MOST_BYTES, MOST_JOURNAL_BYTES};
 use folder_io::{ReadEnd, read_file};
 use std::alloc::Global;
 
@@ -31,19 +31,13 @@ pub const REPLAY_FILES: [File; 10] = [
     File::Journal,
 ];
 
-/// The most bytes of a text file.
-const TEXT_LIMIT: u32 = 67_108_864;
-
-/// The most bytes of the journal.
-const JOURNAL_LIMIT: u32 = 268_435_456;
-
 // The most bytes of a file.
 fn byte_limit(file: File) -> u32
     ensures { result ≡ byte_limit file }
 {
     match file {
-        File::Journal => JOURNAL_LIMIT,
-        _ => TEXT_LIMIT,
+        File::Journal => MOST_JOURNAL_BYTES as u32,
+        _ => MOST_BYTES as u32,
     }
 }
 

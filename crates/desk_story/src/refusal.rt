@@ -4,7 +4,7 @@ ghost use Rattle.std.specs.Prelude.{◌≡◌};
 ghost use Rattle.desk_story.specs.Story.{cause_name};
 
 use desk_folder::File;
-use desk_text::Cause as RowCause;
+use file_rows::Cause as RowCause;
 
 /// Why a line of a file is refused.
 #[derive(Clone, Copy, Debug, PartialEq, Eq)]

@@ -6,7 +6,7 @@ use Rattle.std.proofs.lemmas.Bool.{le-leb, and_from}
 use Rattle.std.proofs.lemmas.Bool.Decides.{nat_tests}
 use Rattle.std.proofs.lemmas.List.Sums.{sum_by-cons, sum_by_more}
 use Rattle.desk_text.specs.Days.{is_leap, month_lengths, days_before, day_of}
-use Rattle.desk_text.specs.Texts.{passed, month_start, year_of, day_in_year, months_passed, month_of, day_in_month}
+use Rattle.desk_text.specs.Texts.{count_passed, month_start, year_of, day_in_year, months_passed, month_of, day_in_month}
 use Rattle.desk_text.proofs.DayLemmas.{days_before_is, days_before-suc}
 
 -- ---- counting periods
@@ -32,7 +32,7 @@ not_passed : (a b : ℕ) → b < a → leb a b ≡ false
 not_passed a b lt = grind (arith, nat_tests)
 
 -- that many periods have passed on a day of the next one
-passed_is : (start : ℕ → ℕ) (many n k : ℕ) → ((i j : ℕ) → i ≤ j → start i ≤ start j) → k ≤ many → start k ≤ n → n < start (k + 1) → passed start many n ≡ k
+passed_is : (start : ℕ → ℕ) (many n k : ℕ) → ((i j : ℕ) → i ≤ j → start i ≤ start j) → k ≤ many → start k ≤ n → n < start (k + 1) → count_passed start many n ≡ k
 passed_is start many n k grows le from to =
     omega (
       arith,

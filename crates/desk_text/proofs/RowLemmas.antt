@@ -2,11 +2,11 @@
 use Rattle.std.proofs.Common.{◌≡◌, ℕ, List, [], ◌∷◌, ◌++◌, Result, Ok, Err, length, cond, ◌<◌, ◌≤◌, refl, sym, ap, subst, ◌∙◌, append_assoc}
 use Rattle.std.proofs.lemmas.Bool.{le-leb, lt-leb}
 use Rattle.std.proofs.lemmas.List.{append-nil}
-use Rattle.desk_text.specs.declared.cause.Cause.{Cause}
-use Rattle.desk_text.specs.declared.cause.Cause.TheVariants.{Size}
-use Rattle.desk_text.specs.declared.cause.ReadFault.{ReadFault}
-use Rattle.desk_text.specs.declared.cause.RowFault.{RowFault}
-use Rattle.desk_text.specs.declared.cause.RowFault.TheVariants as row_fault
+use Rattle.file_rows.specs.declared.cause.Cause.{Cause}
+use Rattle.file_rows.specs.declared.cause.Cause.TheVariants.{Size}
+use Rattle.desk_text.specs.declared.fault.ReadFault.{ReadFault}
+use Rattle.desk_text.specs.declared.fault.RowFault.{RowFault}
+use Rattle.desk_text.specs.declared.fault.RowFault.TheVariants as row_fault
 use Rattle.desk_text.specs.Lines.{text_lines}
 use Rattle.desk_text.specs.Rows.{◌>>=◌, RowOf, line_row, at_line, rows_of_lines, text_rows, GivesRow, Gives, fault_at}
 

@@ -9,8 +9,9 @@ use Rattle.desk_units.specs.declared.numbers.Cabin.{Cabin}
 use Rattle.desk_units.specs.declared.numbers.Cabin.TheVariants as cabins
 use Rattle.desk_units.specs.declared.money.Price.{Price}
 use Rattle.desk_units.specs.declared.money.Weight.{Weight}
-use Rattle.desk_text.specs.declared.cause.Cause.{Cause}
-use Rattle.desk_text.specs.declared.cause.Cause.TheVariants.{Size, Number, Date, Time, Word}
+use Rattle.file_rows.specs.declared.cause.Cause.{Cause}
+use Rattle.file_rows.specs.declared.cause.Cause.TheVariants.{Size, Number, Date, Time, Word}
+use Rattle.file_rows.specs.Bytes.{point, slash, colon, plus}
 use Rattle.desk_text.specs.Days.{day_of}
 use Rattle.desk_text.specs.Cuts.{cut}
 
@@ -64,7 +65,7 @@ decimal_parts longest places bytes (Some parts) = do
 
 -- 1 to so many digits, then perhaps a point and 1 to so many digits, counted in the last place
 unfoldable pub decimal_of : ℕ → ℕ → List ℕ → Option ℕ
-decimal_of longest places bytes = decimal_parts longest places bytes (cut 46 bytes)
+decimal_of longest places bytes = decimal_parts longest places bytes (cut point bytes)
 
 -- a price: 1 to 9 digits, then perhaps a point and 1 to 4 digits, in ten-thousandths
 abbrev pub price_of : List ℕ → Result Price Cause
@@ -77,8 +78,8 @@ weight_of field = ok_or (option_map (λ n. let weight : Weight = record { 0 = n 
 -- three numbers from 0 to 999 with slashes between them
 unfoldable pub three_numbers : List ℕ → Option Seats
 three_numbers bytes = do
-  first ← cut 47 bytes
-  business ← cut 47 first.1
+  first ← cut slash bytes
+  business ← cut slash first.1
   f ← number_from 0 999 first.0
   b ← number_from 0 999 business.0
   e ← number_from 0 999 business.1
@@ -97,8 +98,8 @@ year_from bytes = do
 -- a day and a month of 1 or 2 digits and a year, with slashes between them, that exist
 unfoldable pub day_from : List ℕ → Option ℕ
 day_from bytes = do
-  first ← cut 47 bytes
-  second ← cut 47 first.1
+  first ← cut slash bytes
+  second ← cut slash first.1
   day ← digits_of 2 first.0
   month ← digits_of 2 second.0
   year ← year_from second.1
@@ -117,15 +118,15 @@ unfoldable pub minutes_and_days : List ℕ → Option (ℕ × Option ℕ)
 minutes_and_days (a ∷ b ∷ []) = do
   minutes ← minutes_from a b
   Some (minutes, None)
-minutes_and_days (a ∷ b ∷ plus ∷ days ∷ []) = do
+minutes_and_days (a ∷ b ∷ sign ∷ days ∷ []) = do
   minutes ← minutes_from a b
-  only_if (plus == 43 && is_ascii_digit days) (minutes, Some (days - 48))
+  only_if (sign == plus && is_ascii_digit days) (minutes, Some (days - 48))
 minutes_and_days _ = None
 
 -- the hours, from 0 to 23, in 1 or 2 digits, a colon, and what stands behind them
 unfoldable pub minute_from : List ℕ → Option (ℕ × Option ℕ)
 minute_from bytes = do
-  parts ← cut 58 bytes
+  parts ← cut colon bytes
   hours ← digits_of 2 parts.0
   later ← minutes_and_days parts.1
   only_if (nat_lt hours 24) (60 * hours + later.0, later.1)

@@ -1,9 +1,10 @@
 pub mod Days
 pub mod Texts
-pub mod Causes
+pub mod Told
 pub mod Lines
 pub mod Seen
 pub mod Cuts
 pub mod Fields
 pub mod Moments
 pub mod Rows
+pub use Rattle.file_rows.specs.Causes

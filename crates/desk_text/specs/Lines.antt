@@ -2,14 +2,15 @@
 use Rattle.std.specs.Prelude.{ℕ, Bool, false, not, ◌||◌, ◌&&◌, List, [], ◌∷◌, length, map, filter, take_while, nat_lt, nat_le, ◌==◌}
 use Rattle.std.specs.List.{slice_split, enumerate_from}
 use Rattle.std.specs.Str.Lines.{strip_carriage_return}
+use Rattle.file_rows.specs.Bytes.{space, tab, line_feed, hash, first_visible, last_visible}
 
 -- space and tab
 abbrev pub is_blank : ℕ → Bool
-is_blank byte = (byte == 32) || (byte == 9)
+is_blank byte = (byte == space) || (byte == tab)
 
--- the bytes of a line: blanks, and those from 0x21 to 0x7e
+-- the bytes of a line: blanks, and those that can be seen, from ! to ~
 abbrev pub is_text : ℕ → Bool
-is_text byte = is_blank byte || (nat_le 33 byte && nat_le byte 126)
+is_text byte = is_blank byte || (nat_le first_visible byte && nat_le byte last_visible)
 
 -- whether there is a byte
 abbrev pub is_full : List ℕ → Bool
@@ -21,12 +22,12 @@ fields line = filter is_full (slice_split is_blank line)
 
 -- whether the first byte is '#'
 abbrev pub is_last : List ℕ → Bool
-is_last (byte ∷ bytes) = byte == 35
+is_last (byte ∷ bytes) = byte == hash
 is_last [] = false
 
 -- the lines: what stands between LFs, each without the CR at its end, up to the first that begins with '#'
 abbrev pub all_lines : List ℕ → List (List ℕ)
-all_lines bytes = take_while (λ line. not (is_last line)) (map strip_carriage_return (slice_split (λ byte. byte == 10) bytes))
+all_lines bytes = take_while (λ line. not (is_last line)) (map strip_carriage_return (slice_split (λ byte. byte == line_feed) bytes))
 
 -- the lines that have fields, each with its number, counted from n
 unfoldable pub lines_from : ℕ → List ℕ → List (ℕ × List ℕ)

@@ -1,8 +1,8 @@
 -- Times of a day, and moments: a date and a time.
 use Rattle.std.specs.Prelude.{ℕ, ◌+◌, ◌*◌, List, Option, Some, None, Result, Ok, Err}
 use Rattle.desk_units.specs.declared.numbers.Minute.{Minute}
-use Rattle.desk_text.specs.declared.cause.Cause.{Cause}
-use Rattle.desk_text.specs.declared.cause.Cause.TheVariants as causes
+use Rattle.file_rows.specs.declared.cause.Cause.{Cause}
+use Rattle.file_rows.specs.declared.cause.Cause.TheVariants as causes
 use Rattle.desk_text.specs.Fields.{date_of, time_of}
 use Rattle.desk_text.specs.Rows.{◌>>=◌}
 

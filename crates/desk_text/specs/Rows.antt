@@ -1,12 +1,12 @@
 -- The rows of a text, one a line, or its first line that is refused, with the cause.
 use Rattle.std.specs.Prelude.{◌≡◌, ℕ, List, [], ◌∷◌, length, Result, Ok, Err, nat_le, if◌then◌else◌}
 use Rattle.std.specs.List.{list_all}
-use Rattle.desk_text.specs.declared.cause.Cause.{Cause}
-use Rattle.desk_text.specs.declared.cause.Cause.TheVariants as causes
-use Rattle.desk_text.specs.declared.cause.ReadFault.{ReadFault}
-use Rattle.desk_text.specs.declared.cause.ReadFault.TheVariants as read_fault
-use Rattle.desk_text.specs.declared.cause.RowFault.{RowFault}
-use Rattle.desk_text.specs.declared.cause.RowFault.TheVariants as row_fault
+use Rattle.file_rows.specs.declared.cause.Cause.{Cause}
+use Rattle.file_rows.specs.declared.cause.Cause.TheVariants as causes
+use Rattle.desk_text.specs.declared.fault.ReadFault.{ReadFault}
+use Rattle.desk_text.specs.declared.fault.ReadFault.TheVariants as read_fault
+use Rattle.desk_text.specs.declared.fault.RowFault.{RowFault}
+use Rattle.desk_text.specs.declared.fault.RowFault.TheVariants as row_fault
 use Rattle.desk_text.specs.Lines.{is_text, fields, text_lines}
 
 infixl 10 ◌>>=◌
@@ -16,9 +16,9 @@ abbrev pub ◌>>=◌ : {A B E : Type 0} → Result A E → (A → Result B E) �
 (Err e) >>= f = Err e
 
 -- the first field and the others, where there is one
-abbrev pub taken : List (List ℕ) → Result (List ℕ × List (List ℕ)) Cause
-taken (field ∷ others) = Ok (field, others)
-taken [] = Err causes.Fields
+abbrev pub next_field : List (List ℕ) → Result (List ℕ × List (List ℕ)) Cause
+next_field (field ∷ others) = Ok (field, others)
+next_field [] = Err causes.Fields
 
 -- how the fields of a line with its number give a row, or why not
 abbrev pub RowOf : Type 0 → Type 0

@@ -1,14 +1,11 @@
--- Bytes that can be seen.
-use Rattle.std.specs.Prelude.{ℕ, ◌≤◌, Bool, ◌&&◌, List, All, nat_le}
+-- Whether the bytes of fields can be seen.
+use Rattle.std.specs.Prelude.{ℕ, Bool, ◌&&◌, List, nat_le}
 use Rattle.std.specs.List.{list_all}
+use Rattle.file_rows.specs.Bytes.{first_visible, last_visible}
 
--- the bytes of a name can be seen: from ! to ~
-abbrev pub IsSeen : List ℕ → Type 0
-IsSeen name = All (λ byte. (0x21 ≤ byte) × (byte ≤ 0x7e)) name
-
--- the same as a test
+-- whether each byte can be seen: it is from ! to ~
 abbrev pub is_seen : List ℕ → Bool
-is_seen bytes = list_all (λ byte. nat_le 0x21 byte && nat_le byte 0x7e) bytes
+is_seen bytes = list_all (λ byte. nat_le first_visible byte && nat_le byte last_visible) bytes
 
 -- whether all fields can be seen
 abbrev pub are_seen : List (List ℕ) → Bool

@@ -4,8 +4,8 @@ use Rattle.std.specs.List.{range_with_len}
 use Rattle.desk_text.specs.Days.{is_leap, month_lengths, days_before}
 
 -- how many of the first `many` periods have passed on day n: each ends where the next one starts
-abbrev pub passed : (ℕ → ℕ) → ℕ → ℕ → ℕ
-passed start many n = count_by (λ k. nat_le (start (k + 1)) n) (range_with_len 0 many)
+abbrev pub count_passed : (ℕ → ℕ) → ℕ → ℕ → ℕ
+count_passed start many n = count_by (λ k. nat_le (start (k + 1)) n) (range_with_len 0 many)
 
 -- the day of the year on which a month starts, months and days counted from 0
 abbrev pub month_start : ℕ → ℕ → ℕ
@@ -13,7 +13,7 @@ month_start year month = sum (take month (month_lengths (is_leap year)))
 
 -- the year of a day: how many of the hundred years from 2000 have passed
 unfoldable pub year_of : ℕ → ℕ
-year_of day = passed days_before 100 day
+year_of day = count_passed days_before 100 day
 
 -- how many days of its year lie before a day
 unfoldable pub day_in_year : ℕ → ℕ
@@ -21,7 +21,7 @@ day_in_year day = day - days_before (year_of day)
 
 -- how many months of its year have passed
 unfoldable pub months_passed : ℕ → ℕ
-months_passed day = passed (month_start (year_of day)) 12 (day_in_year day)
+months_passed day = count_passed (month_start (year_of day)) 12 (day_in_year day)
 
 -- the month of a day, from 1
 abbrev pub month_of : ℕ → ℕ

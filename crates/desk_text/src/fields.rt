@@ -3,12 +3,12 @@
 ghost use Rattle.std.specs.Prelude.{◌≡◌, ◌+◌, ◌<◌, ◌≤◌, [], ◌∷◌, length, true, MatchOption, MatchResult, position, option_map, IfOk, IfSome};
 ghost use Rattle.std.specs.List.{list_all};
 ghost use Rattle.desk_text.specs.Lines.{is_blank, is_text, fields};
-ghost use Rattle.desk_text.specs.Seen.{IsSeen};
+ghost use Rattle.file_rows.specs.Seen.{IsSeen};
 ghost use Rattle.desk_text.specs.Cuts.{cut_where};
-ghost use Rattle.desk_text.specs.Rows.{taken};
+ghost use Rattle.desk_text.specs.Rows.{next_field};
 
-use crate::cause::Cause;
 use crate::reading::is_blank;
+use file_rows::Cause;
 use std::marker::Model;
 
 /// The place of the first blank.
@@ -105,7 +105,7 @@ impl<'a> Fields<'a> {
 
     /// The next field, or `Fields` where there is none.
     pub fn take(&mut self) -> Result<&'a [u8], Cause>
-        ensures exact { MatchResult result (λ field. taken self.old ≡ Ok (field.now, self.new)) (λ cause. taken self.old ≡ Err cause) }
+        ensures exact { MatchResult result (λ field. next_field self.old ≡ Ok (field.now, self.new)) (λ cause. next_field self.old ≡ Err cause) }
         ensures seen { IfOk result (λ field. IsSeen field.now) }
     {
         match self.next() {

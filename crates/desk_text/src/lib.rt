@@ -1,8 +1,8 @@
 //! Days, moments and numbers as text; the lines and fields of text files.
 #![tactic(auto)]
 
-mod cause;
 mod days;
+mod fault;
 mod fields;
 mod moments;
 mod reading;
@@ -11,13 +11,14 @@ mod text;
 mod texts;
 mod values;
 
-pub use cause::{Cause, ReadFault, RowFault};
 pub use days::day_of;
 pub use desk_units::{Minute, NoMem};
+pub use fault::{ReadFault, RowFault};
 pub use fields::Fields;
+pub use file_rows::{Cause, MOST_BYTES};
 pub use moments::{minute, moment};
 pub use reading::{Lines, are_text};
-pub use rows::{Grammar, MOST_BYTES, read_rows};
+pub use rows::{Grammar, read_rows};
 pub use text::lines;
 pub use texts::{
     date_text, moment_text, push_all, push_date, push_moment, push_number, two_digits,

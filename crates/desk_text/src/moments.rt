@@ -3,9 +3,9 @@
 ghost use Rattle.std.specs.Prelude.{◌≡◌, ◌<◌, IfOk};
 ghost use Rattle.desk_text.specs.Moments.{minute_of, moment_of};
 
-use crate::cause::Cause;
 use crate::values::{date, time};
 use desk_units::Minute;
+use file_rows::Cause;
 
 /// The minute of the day that a time names, below 1,440; else, and where it adds days, `Time`.
 #[tactic(auto, unfolding(crate::specs::Moments::minute_of))]

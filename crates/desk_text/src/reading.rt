@@ -6,6 +6,7 @@ ghost use Rattle.std.specs.List.{list_all};
 ghost use Rattle.desk_text.specs.Lines.{is_blank, is_text, is_last, fields, lines_from, text_lines};
 ghost use Rattle.desk_text.specs.Cuts.{cut, line_then};
 
+use file_rows::{CARRIAGE_RETURN, FIRST_VISIBLE, HASH, LAST_VISIBLE, LINE_FEED, SPACE, TAB};
 use std::marker::Model;
 
 /// The place of the first `at`.
@@ -30,7 +31,7 @@ pub(crate) fn cut(bytes: &[u8], at: u8) -> Option<(&[u8], &[u8])>
 fn without_cr(line: &[u8]) -> &[u8]
     ensures { result.now ≡ strip_carriage_return line.now }
 {
-    if !line.is_empty() && line[line.len() - 1] == b'\r' {
+    if !line.is_empty() && line[line.len() - 1] == CARRIAGE_RETURN {
         &line[..line.len() - 1]
     } else {
         line
@@ -43,7 +44,7 @@ fn first_line(bytes: &[u8]) -> (&[u8], &[u8])
     ensures exact { (n : ℕ) → lines_from n bytes.now ≡ line_then n result.0.now result.1.now }
     ensures shorter { length result.1.now + 1 ≤ length bytes.now }
 {
-    match cut(bytes, b'\n') {
+    match cut(bytes, LINE_FEED) {
         Some((line, rest)) => (without_cr(line), rest),
         None => (without_cr(bytes), &bytes[bytes.len()..]),
     }
@@ -54,7 +55,7 @@ fn first_line(bytes: &[u8]) -> (&[u8], &[u8])
 pub(crate) fn is_blank(byte: u8) -> bool
     ensures { result ≡ is_blank byte }
 {
-    byte == b' ' || byte == b'\t'
+    byte == SPACE || byte == TAB
 }
 
 /// Whether all bytes are blanks.
@@ -69,7 +70,7 @@ fn are_blanks(line: &[u8]) -> bool
 fn is_text(byte: u8) -> bool
     ensures { result ≡ is_text byte }
 {
-    is_blank(byte) || (33 <= byte && byte <= 126)
+    is_blank(byte) || (FIRST_VISIBLE <= byte && byte <= LAST_VISIBLE)
 }
 
 /// Whether each byte may stand in a line: it is a space, a tab, or from `!` to `~`.
@@ -84,7 +85,7 @@ fn is_last(line: &[u8]) -> bool
     ensures { result ≡ is_last line.now }
 {
     match line {
-        [byte, ..] => *byte == b'#',
+        [byte, ..] => *byte == HASH,
         [] => false,
     }
 }

@@ -2,15 +2,13 @@
 
 ghost use Rattle.std.specs.Prelude.{◌≡◌, ◌<◌, ◌≤◌, ◌^◌, ℕ, List, Result, All, IfOk, length};
 ghost use Rattle.desk_text.specs.Lines.{fields};
-ghost use Rattle.desk_text.specs.Rows.{RowOf, line_row, text_rows, GivesRow, Gives, fault_at};
+ghost use Rattle.desk_text.specs.Rows.{RowOf, line_row, text_rows, GivesRow, Gives};
 
-use crate::cause::{Cause, ReadFault, RowFault};
+use crate::fault::{ReadFault, RowFault};
 use crate::fields::Fields;
 use crate::reading::{Lines, are_text};
+use file_rows::Cause;
 use std::alloc::Global;
-
-/// The most bytes that a text file may have: 64 MiB.
-pub const MOST_BYTES: usize = 67_108_864;
 
 /// The grammar of a text file: how the fields of a line give a row.
 pub trait Grammar<Row> {
@@ -41,16 +39,6 @@ fn line_row<Row: Drop, G: Grammar<Row>>(
     grammar.row(alloc, line, Fields::of(text))
 }
 
-/// The fault of a line that gave no row.
-fn at_line(line: u32, fault: RowFault) -> ReadFault
-    ensures { result ≡ fault_at line fault }
-{
-    match fault {
-        RowFault::Refused(cause) => ReadFault::Refused { line, cause },
-        RowFault::Memory => ReadFault::Memory,
-    }
-}
-
 /// The rows of a text of at most `limit` bytes, in the order of their lines, or the first line that
 /// is refused. A longer text is refused at line 0 with `Size`. A byte that no line may have is the
 /// first cause of its line, `Byte`.
@@ -67,16 +55,13 @@ pub fn read_rows<Row: Drop, G: Grammar<Row>>(
 {
     let mut rows = Vec::new(alloc);
     if bytes.len() > limit {
-        return Err(ReadFault::Refused {
-            line: 0,
-            cause: Cause::Size,
-        });
+        return Err(ReadFault::at(0, Cause::Size));
     }
     let mut lines = Lines::of(bytes);
     while let Some((line, text)) = lines.next() {
         match line_row(alloc, grammar, line, text) {
             Ok(row) => rows.push(row)?,
-            Err(fault) => return Err(at_line(line, fault)),
+            Err(fault) => return Err(fault.at(line)),
         }
     }
     Ok(rows)

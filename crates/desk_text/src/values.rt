@@ -5,13 +5,13 @@ ghost use Rattle.std.specs.List.{list_all};
 ghost use Rattle.std.specs.Char.{is_ascii_digit};
 ghost use Rattle.desk_units.specs.Padded.{IsNameLength};
 ghost use Rattle.desk_text.specs.Days.{day_of};
-ghost use Rattle.desk_text.specs.Seen.{IsSeen};
+ghost use Rattle.file_rows.specs.Seen.{IsSeen};
 ghost use Rattle.desk_text.specs.Fields.{name_of, decimal_value, digits_of, number_from, number_of, fraction_of, decimal_of, price_of, weight_of, three_numbers, seats_of, year_from, day_from, date_of, minutes_from, minutes_and_days, minute_from, time_of, haul_of, cabin_of, inbound_of};
 
-use crate::cause::Cause;
 use crate::days::day_of;
 use crate::reading::cut;
 use desk_units::{Cabin, Haul, Name, Price, Seats, Weight};
+use file_rows::{COLON, Cause, PLUS, POINT, SLASH};
 
 /// A name: 1 to 32 bytes, else `Size`.
 pub fn name(field: &[u8]) -> Result<Name, Cause>
@@ -114,7 +114,7 @@ fn price_from(bytes: &[u8]) -> Option<u64>
     ensures exact { result ≡ decimal_of 9 4 bytes.now }
     ensures most { IfSome result (λ n. n ≤ 9999999999999) }
 {
-    match cut(bytes, b'.') {
+    match cut(bytes, POINT) {
         None => Some(10_000 * u64::from(digits(bytes, 9)?)),
         Some((whole, part)) => {
             let whole = u64::from(digits(whole, 9)?);
@@ -141,7 +141,7 @@ fn weight_from(bytes: &[u8]) -> Option<u32>
     ensures exact { result ≡ decimal_of 6 3 bytes.now }
     ensures most { IfSome result (λ n. n ≤ 999999999) }
 {
-    match cut(bytes, b'.') {
+    match cut(bytes, POINT) {
         None => Some(1_000 * digits(bytes, 6)?),
         Some((whole, part)) => {
             let whole = digits(whole, 6)?;
@@ -168,8 +168,8 @@ fn three_numbers(bytes: &[u8]) -> Option<Seats>
     ensures exact { result ≡ three_numbers bytes.now }
     ensures most { IfSome result (λ s. (s.f ≤ 999) × (s.b ≤ 999) × (s.e ≤ 999)) }
 {
-    let (first, rest) = cut(bytes, b'/')?;
-    let (business, economy) = cut(rest, b'/')?;
+    let (first, rest) = cut(bytes, SLASH)?;
+    let (business, economy) = cut(rest, SLASH)?;
     let f = number_from(first, 0, 999)?;
     let b = number_from(business, 0, 999)?;
     let e = number_from(economy, 0, 999)?;
@@ -206,8 +206,8 @@ fn day_from(bytes: &[u8]) -> Option<u32>
     ensures exact { result ≡ day_from bytes.now }
     ensures small { IfSome result (λ n. n < 36525) }
 {
-    let (first, rest) = cut(bytes, b'/')?;
-    let (second, third) = cut(rest, b'/')?;
+    let (first, rest) = cut(bytes, SLASH)?;
+    let (second, third) = cut(rest, SLASH)?;
     let day = digits(first, 2)?;
     let month = digits(second, 2)?;
     let year = year_from(third)?;
@@ -246,7 +246,7 @@ fn minutes_and_days(bytes: &[u8]) -> Option<(u32, Option<u32>)>
         [a, b] => Some((minutes_from(*a, *b)?, None)),
         [a, b, plus, days] => {
             let minutes = minutes_from(*a, *b)?;
-            if *plus == b'+' && days.is_ascii_digit() {
+            if *plus == PLUS && days.is_ascii_digit() {
                 Some((minutes, Some(u32::from(*days - b'0'))))
             } else {
                 None
@@ -263,7 +263,7 @@ fn minute_from(bytes: &[u8]) -> Option<(u32, Option<u32>)>
     ensures small { IfSome result (λ time. time.0 < 1440) }
     ensures days { IfSome result (λ time. IfSome time.1 (λ days. days ≤ 9)) }
 {
-    let (hours, later) = cut(bytes, b':')?;
+    let (hours, later) = cut(bytes, COLON)?;
     let hours = digits(hours, 2)?;
     let (minutes, days) = minutes_and_days(later)?;
     if hours < 24 {

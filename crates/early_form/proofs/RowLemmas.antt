@@ -5,13 +5,14 @@ use Rattle.std.specs.List.{slice_split}
 use Rattle.std.proofs.lemmas.Bool.{eqb-true}
 use Rattle.std.proofs.lemmas.List.{length-append}
 use Rattle.std.proofs.lemmas.List.Splits.{length-slice_split}
+use Rattle.file_rows.specs.Bytes.{line_feed}
 use Rattle.early_form.specs.Fields.{cut}
 use Rattle.early_form.specs.Rows.{rows_from, rows_of}
 use Rattle.early_form.proofs.CutLemmas.{split_cut, split_uncut}
 
 -- the pieces between the line ends
 abbrev pub pieces : List ℕ → List (List ℕ)
-pieces bytes = slice_split (λ b. b == 10) bytes
+pieces bytes = slice_split (λ b. b == line_feed) bytes
 
 module _ {Row : Type 0} (row : List ℕ → Option Row) (before : List Row) (total : Result (List Row) ℕ) where
   one_line : (text : List ℕ) (others : List (List ℕ)) → 1 ≤ length others → rows_from row before (text ∷ others) ≡ option_map_or (λ r. rows_from row (before ++ r ∷ []) others) (row text) (Err (length before + 1))
@@ -19,21 +20,21 @@ module _ {Row : Type 0} (row : List ℕ → Option Row) (before : List Row) (tot
   one_line text [] h = absurd (omega arith)
   one_line text (next ∷ others) h = refl
 
-  first_line : (rest text after : List ℕ) → Some (text, after) ≡ cut 10 rest → rows_from row before (pieces rest) ≡ total → option_map_or (λ r. rows_from row (before ++ r ∷ []) (pieces after)) (row text) (Err (length before + 1)) ≡ total
-  first_line rest text after e so_far = sym (ap (rows_from row before) (split_cut 10 rest text after (sym e)) ∙ one_line text (pieces after) (omega (arith, length-slice_split (λ b. b == 10) after))) ∙ so_far
+  first_line : (rest text after : List ℕ) → Some (text, after) ≡ cut line_feed rest → rows_from row before (pieces rest) ≡ total → option_map_or (λ r. rows_from row (before ++ r ∷ []) (pieces after)) (row text) (Err (length before + 1)) ≡ total
+  first_line rest text after e so_far = sym (ap (rows_from row before) (split_cut line_feed rest text after (sym e)) ∙ one_line text (pieces after) (omega (arith, length-slice_split (λ b. b == line_feed) after))) ∙ so_far
 
   -- a line gives a row
-  pub goes_on : (rest text after : List ℕ) (x : Row) → Some (text, after) ≡ cut 10 rest → Some x ≡ row text → rows_from row before (pieces rest) ≡ total → rows_from row (before ++ x ∷ []) (pieces after) ≡ total
+  pub goes_on : (rest text after : List ℕ) (x : Row) → Some (text, after) ≡ cut line_feed rest → Some x ≡ row text → rows_from row before (pieces rest) ≡ total → rows_from row (before ++ x ∷ []) (pieces after) ≡ total
   goes_on rest text after x e r so_far = ap (λ o. option_map_or (λ r. rows_from row (before ++ r ∷ []) (pieces after)) o (Err (length before + 1))) r ∙ first_line rest text after e so_far
 
   -- a line gives none
-  pub refused : (n : ℕ) (rest text after : List ℕ) → n ≡ length before → Some (text, after) ≡ cut 10 rest → None ≡ row text → rows_from row before (pieces rest) ≡ total → total ≡ Err (n + 1)
+  pub refused : (n : ℕ) (rest text after : List ℕ) → n ≡ length before → Some (text, after) ≡ cut line_feed rest → None ≡ row text → rows_from row before (pieces rest) ≡ total → total ≡ Err (n + 1)
   refused n rest text after count e r so_far = rw count (sym (ap (λ o. option_map_or (λ r. rows_from row (before ++ r ∷ []) (pieces after)) o (Err (length before + 1))) r ∙ first_line rest text after e so_far))
 
   -- the last line has no end
-  pub unended : (n : ℕ) (rest : List ℕ) → n ≡ length before → None ≡ cut 10 rest → (length rest == 0) ≡ false → rows_from row before (pieces rest) ≡ total → total ≡ Err (n + 1)
+  pub unended : (n : ℕ) (rest : List ℕ) → n ≡ length before → None ≡ cut line_feed rest → (length rest == 0) ≡ false → rows_from row before (pieces rest) ≡ total → total ≡ Err (n + 1)
   unfolding rows_from
-  unended n rest count e some so_far = rw count (sym so_far ∙ ap (rows_from row before) (split_uncut 10 rest (sym e)) ∙ ap (λ b. cond b (Ok before) (Err (length before + 1))) some)
+  unended n rest count e some so_far = rw count (sym so_far ∙ ap (rows_from row before) (split_uncut line_feed rest (sym e)) ∙ ap (λ b. cond b (Ok before) (Err (length before + 1))) some)
 
   -- there are no more lines
   pub ended : (rest : List ℕ) → (length rest == 0) ≡ true → rows_from row before (pieces rest) ≡ total → total ≡ Ok before

@@ -2,6 +2,7 @@
 use Rattle.std.specs.Prelude.{ℕ, ◌<◌, ◌≤◌, List, length, All, IsTrue, ⊤}
 use Rattle.std.specs.Char.{is_ascii_alphanumeric}
 use Rattle.desk_units.specs.Padded.{IsNameLength}
+use Rattle.file_rows.specs.Limits.{end_of_time}
 use Rattle.early_form.specs.declared.rows.NamedRow.{NamedRow}
 use Rattle.early_form.specs.declared.rows.NamedRow.TheVariants.{Flown, Cancelled}
 use Rattle.early_form.specs.declared.rows.JournalRow.{JournalRow}
@@ -13,7 +14,7 @@ pub record IsPlainName (name : List ℕ) : Type 0 where
 
 -- a flown row names an aircraft, and departs before minute 52,500,000
 abbrev pub IsNamedRow : NamedRow → Type 0
-IsNamedRow (Flown plane dep) = IsPlainName plane × (dep.0 < 52500000)
+IsNamedRow (Flown plane dep) = IsPlainName plane × (dep.0 < end_of_time)
 IsNamedRow Cancelled = ⊤
 
 -- a proposal's numbers are in their ranges

@@ -2,6 +2,7 @@
 use Rattle.std.specs.Prelude.{ℕ, ◌+◌, ◌-◌, ◌*◌, Bool, List, [], ◌∷◌, length, take, drop, fold, Option, Some, None, option_map, position, nat_lt, nat_le, ◌==◌, ◌&&◌, if◌then◌else◌}
 use Rattle.std.specs.List.{list_all}
 use Rattle.std.specs.Char.{is_ascii_digit, is_ascii_alphanumeric}
+use Rattle.file_rows.specs.Bytes.{space, slash, colon}
 use Rattle.desk_text.specs.Days.{day_of}
 
 infixl 10 ◌>>=◌
@@ -21,7 +22,7 @@ cut at bytes = option_map (λ n. (take n bytes, drop (n + 1) bytes)) (position (
 -- a field with one space behind it, and the bytes behind that space
 abbrev pub field : {X : Type 0} → (List ℕ → Option X) → List ℕ → Option (X × List ℕ)
 field read bytes = do
-  text ← cut 32 bytes
+  text ← cut space bytes
   x ← read text.0
   Some (x, text.1)
 
@@ -53,7 +54,7 @@ date_of (a ∷ b ∷ s ∷ c ∷ d ∷ t ∷ e ∷ f ∷ []) = do
   day ← two_digits a b
   month ← two_digits c d
   year ← two_digits e f
-  if (s == 47) && (t == 47) then day_of day month year else None
+  if (s == slash) && (t == slash) then day_of day month year else None
 date_of _ = None
 
 -- HH:MM, from 00:00 to 23:59, as the minute of the day
@@ -61,5 +62,5 @@ unfoldable pub time_of : List ℕ → Option ℕ
 time_of (a ∷ b ∷ s ∷ c ∷ d ∷ []) = do
   hour ← two_digits a b
   minute ← two_digits c d
-  only_if ((s == 58) && (nat_lt hour 24 && nat_lt minute 60)) (60 * hour + minute)
+  only_if ((s == colon) && (nat_lt hour 24 && nat_lt minute 60)) (60 * hour + minute)
 time_of _ = None

@@ -2,6 +2,7 @@
 use Rattle.std.specs.Prelude.{◌≡◌, ℕ, ◌+◌, List, [], ◌∷◌, ◌++◌, length, Option, Result, Ok, Err, ◌==◌, if◌then◌else◌}
 use Rattle.std.specs.Option.{option_map_or}
 use Rattle.std.specs.List.{slice_split}
+use Rattle.file_rows.specs.Bytes.{line_feed}
 use Rattle.early_form.specs.declared.fault.FormFault.{FormFault}
 use Rattle.early_form.specs.declared.fault.FormFault.TheVariants.{Form, Memory}
 
@@ -14,7 +15,7 @@ rows_from row before (line ∷ next ∷ lines) = option_map_or (λ r. rows_from 
 
 -- the rows of the bytes, cut at each LF
 unfoldable pub rows_of : {Row : Type 0} → (List ℕ → Option Row) → List ℕ → Result (List Row) ℕ
-rows_of row bytes = rows_from row [] (slice_split (λ b. b == 10) bytes)
+rows_of row bytes = rows_from row [] (slice_split (λ b. b == line_feed) bytes)
 
 -- a reader gives these rows, or refuses that line; out of memory may come at any time
 abbrev pub Gives : {Answer Row : Type 0} → (Answer → List Row) → Result Answer FormFault → Result (List Row) ℕ → Type 0

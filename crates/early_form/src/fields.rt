@@ -10,6 +10,7 @@ ghost use Rattle.early_form.specs.Facts.{IsPlainName};
 
 use desk_text::day_of;
 use desk_units::Name;
+use file_rows::{COLON, SLASH, SPACE};
 
 /// The place of the first `at`.
 fn place_of(bytes: &[u8], at: u8) -> Option<usize>
@@ -51,7 +52,7 @@ pub(crate) fn name_field(bytes: &[u8]) -> Option<(&[u8], &[u8])>
     ensures exact { option_map (λ x. (x.0.now, x.1.now)) result ≡ field name_of bytes.now }
     ensures plain { IfSome result (λ x. IsPlainName x.0.now) }
 {
-    let (text, rest) = cut(bytes, b' ')?;
+    let (text, rest) = cut(bytes, SPACE)?;
     Some((name(text)?, rest))
 }
 
@@ -125,7 +126,7 @@ pub(crate) fn date(bytes: &[u8]) -> Option<u32>
             let day = two_digits(*a, *b)?;
             let month = two_digits(*c, *d)?;
             let year = two_digits(*e, *f)?;
-            if *s == b'/' && *t == b'/' {
+            if *s == SLASH && *t == SLASH {
                 day_of(day, month, year)
             } else {
                 None
@@ -140,7 +141,7 @@ pub(crate) fn date_field(bytes: &[u8]) -> Option<(u32, &[u8])>
     ensures exact { option_map (λ x. (x.0, x.1.now)) result ≡ field date_of bytes.now }
     ensures small { IfSome result (λ x. x.0 < 36525) }
 {
-    let (text, rest) = cut(bytes, b' ')?;
+    let (text, rest) = cut(bytes, SPACE)?;
     Some((date(text)?, rest))
 }
 
@@ -154,7 +155,7 @@ pub(crate) fn time(bytes: &[u8]) -> Option<u32>
         [a, b, s, c, d] => {
             let hour = two_digits(*a, *b)?;
             let minute = two_digits(*c, *d)?;
-            if *s == b':' && (hour < 24 && minute < 60) {
+            if *s == COLON && (hour < 24 && minute < 60) {
                 Some(60 * hour + minute)
             } else {
                 None

@@ -2,6 +2,7 @@
 
 ghost use Rattle.std.specs.Prelude.{◌≡◌, ◌<◌, ◌≤◌, ◌^◌, length, bytes_eq, ◌==◌, option_map, IfOk, IfSome};
 ghost use Rattle.std.specs.List.{list_any};
+ghost use Rattle.file_rows.specs.Bytes.{comma};
 ghost use Rattle.early_form.specs.Rows.{Gives};
 ghost use Rattle.early_form.specs.Fields.{cut};
 ghost use Rattle.early_form.specs.Journal.{flown_of, flown_at, was_at, flown_last, new_of, before_tail, step_of, move_at, moves_of};
@@ -12,9 +13,8 @@ use crate::fields::{cut, date, date_field, name, name_field, name_of, number, ti
 use crate::rows::{JournalRow, NamedRow};
 use crate::table::{Table, read_rows};
 use desk_units::Minute;
+use file_rows::{COMMA, END_OF_TIME, SPACE};
 use std::alloc::Global;
-
-const END_OF_TIME: u32 = 52_500_000;
 
 /// A flown row of the texts of its aircraft, date and time.
 #[tactic(auto, unfolding(crate::specs::Journal::flown_of))]
@@ -42,9 +42,9 @@ fn flown_field(bytes: &[u8]) -> Option<(NamedRow, &[u8])>
     ensures exact { option_map (λ x. (x.0, x.1.now)) result ≡ flown_at bytes.now }
     ensures facts { IfSome result (λ x. IsNamedRow x.0) }
 {
-    let (plane, rest) = cut(bytes, b' ')?;
-    let (day, rest) = cut(rest, b' ')?;
-    let (minute, rest) = cut(rest, b' ')?;
+    let (plane, rest) = cut(bytes, SPACE)?;
+    let (day, rest) = cut(rest, SPACE)?;
+    let (minute, rest) = cut(rest, SPACE)?;
     Some((flown_of(plane, day, minute)?, rest))
 }
 
@@ -54,7 +54,7 @@ fn was_field(bytes: &[u8]) -> Option<(NamedRow, &[u8])>
     ensures exact { option_map (λ x. (x.0, x.1.now)) result ≡ was_at bytes.now }
     ensures facts { IfSome result (λ x. IsNamedRow x.0) }
 {
-    let (sign, rest) = cut(bytes, b' ')?;
+    let (sign, rest) = cut(bytes, SPACE)?;
     if sign == b"-".as_slice() {
         Some((NamedRow::Cancelled, rest))
     } else if sign == b"+".as_slice() {
@@ -70,9 +70,9 @@ fn flown_last(bytes: &[u8]) -> Option<NamedRow>
     ensures exact { result ≡ flown_last bytes.now }
     ensures facts { IfSome result IsNamedRow }
 {
-    let (sign, rest) = cut(bytes, b' ')?;
-    let (plane, rest) = cut(rest, b' ')?;
-    let (day, minute) = cut(rest, b' ')?;
+    let (sign, rest) = cut(bytes, SPACE)?;
+    let (plane, rest) = cut(rest, SPACE)?;
+    let (day, minute) = cut(rest, SPACE)?;
     if sign == b"+".as_slice() {
         flown_of(plane, day, minute)
     } else {
@@ -95,16 +95,16 @@ fn new_of(bytes: &[u8]) -> Option<NamedRow>
 
 /// Whether a comma is among the bytes.
 fn has_comma(bytes: &[u8]) -> bool
-    ensures { result ≡ list_any (λ b. b == 44) bytes.now }
+    ensures { result ≡ list_any (λ b. b == comma) bytes.now }
 {
-    bytes.iter().any(|byte| *byte == b',')
+    bytes.iter().any(|byte| *byte == COMMA)
 }
 
 /// The bytes before a further field, which is passed over and has no comma.
 fn before_tail(bytes: &[u8]) -> Option<&[u8]>
-    ensures { option_map (λ step. step.now) result ≡ before_tail bytes.now (cut 44 bytes.now) }
+    ensures { option_map (λ step. step.now) result ≡ before_tail bytes.now (cut comma bytes.now) }
 {
-    match cut(bytes, b',') {
+    match cut(bytes, COMMA) {
         None => Some(bytes),
         Some((step, tail)) => { if has_comma(tail) { None } else { Some(step) } }
     }
@@ -117,7 +117,7 @@ fn step_of(caller: u32, bytes: &[u8]) -> Option<JournalRow>
     ensures exact { result ≡ step_of caller bytes.now }
     ensures facts { IfSome result IsProposal }
 {
-    let (word, rest) = cut(bytes, b' ')?;
+    let (word, rest) = cut(bytes, SPACE)?;
     let (flight, rest) = name_field(rest)?;
     let (day, rest) = date_field(rest)?;
     let Some((was, rest)) = was_field(rest) else {
@@ -144,8 +144,8 @@ fn move_at(line: &[u8]) -> Option<JournalRow>
     ensures exact { result ≡ move_at line.now }
     ensures facts { IfSome result IsProposal }
 {
-    let (caller, rest) = cut(line, b',')?;
-    let (event, rest) = cut(rest, b',')?;
+    let (caller, rest) = cut(line, COMMA)?;
+    let (event, rest) = cut(rest, COMMA)?;
     let caller = number(caller, 64)?;
     let step = before_tail(rest)?;
     if event == b"move".as_slice() {

@@ -5,6 +5,7 @@ ghost use Rattle.early_form.specs.Rows.{rows_of, Gives};
 
 use crate::fault::FormFault;
 use crate::fields::cut;
+use file_rows::LINE_FEED;
 use std::alloc::Global;
 
 /// How a line of a file becomes a row.
@@ -33,7 +34,7 @@ pub(crate) fn read_rows<Row: Drop, T: Table<Row>>(
     let mut rest = bytes;
     while !rest.is_empty() {
         let line = rows.len() as u32 + 1;
-        let Some((text, after)) = cut(rest, b'\n') else {
+        let Some((text, after)) = cut(rest, LINE_FEED) else {
             return Err(FormFault::Form { line });
         };
         match table.row(text) {

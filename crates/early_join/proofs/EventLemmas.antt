@@ -25,7 +25,7 @@ use Rattle.early_form.specs.Fields.{◌>>=◌}
 use Rattle.early_form.specs.Facts.{IsNamedRow, IsProposal, AreProposals}
 use Rattle.early_join.specs.declared.fault.JoinFault.{JoinFault}
 use Rattle.early_join.specs.Names.{is_leg}
-use Rattle.early_join.specs.Join.{place_of, leg_place, row_of, step_of, event_of, events_of, joined, move_of}
+use Rattle.early_join.specs.Join.{place_of, leg_place, row_of, step_of, event_of, events_of, join_all, move_of}
 use Rattle.early_join.specs.Gives.{JoinGives}
 use Rattle.early_join.proofs.NamesLemmas.{position-map}
 use Rattle.early_join.proofs.JoinLemmas.{joins_of, joins-All}
@@ -96,9 +96,9 @@ unfolding events_of
 all_fit I rows events h e = joins-All (event_of I) IsProposal (CanBeAsked I) (event_fits I) rows events h (joins_of (event_of I) rows events e)
 
 -- events by the places of an instance are those of the instance
-pub events_give : {Answer : Type 0} (I J : Situation) (rows : List JournalRow) (result : Result Answer JoinFault) (view : Answer → List (ℕ × Event)) → J ≡ I → JoinGives view result (joined (event_of J) rows) → JoinGives view result (events_of I rows)
+pub events_give : {Answer : Type 0} (I J : Situation) (rows : List JournalRow) (result : Result Answer JoinFault) (view : Answer → List (ℕ × Event)) → J ≡ I → JoinGives view result (join_all (event_of J) rows) → JoinGives view result (events_of I rows)
 unfolding events_of
-events_give I J rows result view same h = subst (λ (K : Situation). JoinGives view result (joined (event_of K) rows)) same h
+events_give I J rows result view same h = subst (λ (K : Situation). JoinGives view result (join_all (event_of K) rows)) same h
 
 pub all_asked : {Answer : Type 0} (I : Situation) (rows : List JournalRow) (result : Result Answer JoinFault) (view : Answer → List (ℕ × Event)) → AreProposals rows → JoinGives view result (events_of I rows) → IfOk result (λ v. AreAskable I (view v))
 all_asked I rows (Ok v) view h e = λ k d below. (all_fit I rows (view v) h e k d below).0

@@ -5,6 +5,6 @@ use Rattle.early_join.specs.declared.fault.JoinFault.TheVariants.{Unknown, Memor
 
 -- a join gives this, or refuses that line; out of memory may come at any time
 abbrev pub JoinGives : {Answer X : Type 0} → (Answer → X) → Result Answer JoinFault → Result X ℕ → Type 0
-JoinGives view (Ok answer) joined = joined ≡ Ok (view answer)
-JoinGives view (Err (Unknown line)) joined = joined ≡ Err line
-JoinGives view (Err Memory) joined = Unit {0}
+JoinGives view (Ok answer) join = join ≡ Ok (view answer)
+JoinGives view (Err (Unknown line)) join = join ≡ Err line
+JoinGives view (Err Memory) join = Unit {0}

@@ -15,12 +15,12 @@ use Rattle.early_form.specs.declared.rows.JournalRow.{JournalRow}
 use Rattle.early_form.specs.Fields.{◌>>=◌}
 
 -- what the rows give, behind what those before gave, or the number of the first row that gives nothing, counted from 1
-unfoldable pub joined_from : {A B : Type 0} → (A → Option B) → List B → List A → Result (List B) ℕ
-joined_from join before [] = Ok before
-joined_from join before (row ∷ rows) = option_map_or (λ b. joined_from join (before ++ b ∷ []) rows) (join row) (Err (length before + 1))
+unfoldable pub join_from : {A B : Type 0} → (A → Option B) → List B → List A → Result (List B) ℕ
+join_from join before [] = Ok before
+join_from join before (row ∷ rows) = option_map_or (λ b. join_from join (before ++ b ∷ []) rows) (join row) (Err (length before + 1))
 
-abbrev pub joined : {A B : Type 0} → (A → Option B) → List A → Result (List B) ℕ
-joined join rows = joined_from join [] rows
+abbrev pub join_all : {A B : Type 0} → (A → Option B) → List A → Result (List B) ℕ
+join_all join rows = join_from join [] rows
 
 -- the place of a name among these names
 abbrev pub place_of : List (List ℕ) → List ℕ → Option ℕ
@@ -57,4 +57,4 @@ event_of I r = do
 
 -- the proposals of the rows, or the number of the first that names an unknown leg or aircraft
 unfoldable pub events_of : Situation → List JournalRow → Result (List (ℕ × Event)) ℕ
-events_of I rows = joined (event_of I) rows
+events_of I rows = join_all (event_of I) rows

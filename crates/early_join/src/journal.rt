@@ -3,7 +3,7 @@
 ghost use Rattle.std.specs.Prelude.{◌≡◌, ◌≤◌, length, map, All, IfOk};
 ghost use Rattle.desk_model.specs.Histories.{AreAskable};
 ghost use Rattle.early_form.specs.Facts.{AreProposals};
-ghost use Rattle.early_join.specs.Join.{row_of, step_of, event_of, joined, events_of};
+ghost use Rattle.early_join.specs.Join.{row_of, step_of, event_of, join_all, events_of};
 ghost use Rattle.early_join.specs.Gives.{JoinGives};
 
 use crate::fault::JoinFault;
@@ -82,7 +82,7 @@ impl<'a> Places<'a> {
 
     /// The events of proposals, or the first line that names an unknown leg or aircraft.
     fn events(&self, alloc: Global, rows: &[JournalRow]) -> Result<Vec<(u32, Event)>, JoinFault>
-        ensures { JoinGives (λ v. v.items) result (joined (event_of self.now.inst.now) rows.now) }
+        ensures { JoinGives (λ v. v.items) result (join_all (event_of self.now.inst.now) rows.now) }
     {
         if rows.len() > u32::MAX as usize {
             return Err(JoinFault::Memory);

@@ -1,16 +1,16 @@
 -- The rows of the file of aircraft.
 use Rattle.std.specs.Prelude.{ℕ, List, length, nat_le, Result, Ok, Err, if◌then◌else◌}
-use Rattle.desk_text.specs.declared.cause.Cause.{Cause}
-use Rattle.desk_text.specs.declared.cause.Cause.TheVariants as causes
+use Rattle.file_rows.specs.declared.cause.Cause.{Cause}
+use Rattle.file_rows.specs.declared.cause.Cause.TheVariants as causes
 use Rattle.desk_text.specs.Fields.{name_of, number_of, price_of, seats_of}
-use Rattle.desk_text.specs.Rows.{◌>>=◌, RowOf, taken}
-use Rattle.read_fleet.specs.declared.aircraft.AircraftRow.{AircraftRow}
+use Rattle.desk_text.specs.Rows.{◌>>=◌, RowOf, next_field}
+use Rattle.file_rows.specs.declared.fleet.AircraftRow.{AircraftRow}
 use Rattle.read_fleet.specs.Maintenance.{maint_of}
 
 -- what the first field spells, and the fields behind it
 abbrev pub next_as : {Value : Type 0} → (List ℕ → Result Value Cause) → List (List ℕ) → Result (Value × List (List ℕ)) Cause
 next_as spells fields = do
-  field ← taken fields
+  field ← next_field fields
   value ← spells field.0
   Ok (value, field.1)
 

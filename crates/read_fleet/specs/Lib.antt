@@ -1,4 +1,4 @@
 pub mod Maintenance
 pub mod Aircraft
 pub mod Position
-pub mod Facts
+pub use Rattle.file_rows.specs.Facts

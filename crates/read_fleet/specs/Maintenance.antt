@@ -1,16 +1,17 @@
 -- Maintenance, in one field.
 use Rattle.std.specs.Prelude.{ℕ, Bool, List, Option, Some, None, ok_or, Result, Ok, Err, bytes_eq, codes, ◌==◌, if◌then◌else◌}
 use Rattle.std.specs.List.{list_any, before_last, after_last}
-use Rattle.desk_text.specs.declared.cause.Cause.{Cause}
-use Rattle.desk_text.specs.declared.cause.Cause.TheVariants as causes
+use Rattle.file_rows.specs.declared.cause.Cause.{Cause}
+use Rattle.file_rows.specs.declared.cause.Cause.TheVariants as causes
+use Rattle.file_rows.specs.Bytes.{dash}
 use Rattle.desk_text.specs.Fields.{name_of, number_of}
 use Rattle.desk_text.specs.Rows.{◌>>=◌}
 use Rattle.desk_text.specs.Moments.{moment_of}
-use Rattle.read_fleet.specs.declared.maintenance.MaintRow.{MaintRow}
+use Rattle.file_rows.specs.declared.fleet.MaintRow.{MaintRow}
 
 -- a dash
 abbrev pub is_dash : ℕ → Bool
-is_dash byte = byte == 45
+is_dash byte = byte == dash
 
 -- the bytes before the last dash and those behind it, where there is a dash
 unfoldable pub cut_at_last_dash : List ℕ → Option (List ℕ × List ℕ)

@@ -1,11 +1,11 @@
 -- The rows of the file of positions.
 use Rattle.std.specs.Prelude.{ℕ, Bool, ◌%◌, List, [], ◌∷◌, length, nat_lt, ◌==◌, ◌&&◌, Result, Ok, Err, if◌then◌else◌}
-use Rattle.desk_text.specs.declared.cause.Cause.{Cause}
-use Rattle.desk_text.specs.declared.cause.Cause.TheVariants as causes
+use Rattle.file_rows.specs.declared.cause.Cause.{Cause}
+use Rattle.file_rows.specs.declared.cause.Cause.TheVariants as causes
 use Rattle.desk_text.specs.Fields.{name_of, number_of, seats_of}
-use Rattle.desk_text.specs.Rows.{◌>>=◌, RowOf, taken}
-use Rattle.read_fleet.specs.declared.position.PositionGroup.{PositionGroup}
-use Rattle.read_fleet.specs.declared.position.PositionRow.{PositionRow}
+use Rattle.desk_text.specs.Rows.{◌>>=◌, RowOf, next_field}
+use Rattle.file_rows.specs.declared.fleet.PositionGroup.{PositionGroup}
+use Rattle.file_rows.specs.declared.fleet.PositionRow.{PositionRow}
 
 -- MODEL SEATS COUNT
 unfoldable pub group_of : List ℕ → List ℕ → List ℕ → Result PositionGroup Cause
@@ -41,5 +41,5 @@ position_of line airport others = do
 -- AIRPORT, and one or more groups
 unfoldable pub position_row : RowOf PositionRow
 position_row line fields = do
-  airport ← taken fields
+  airport ← next_field fields
   if are_groups airport.1 then position_of line airport.0 airport.1 else Err causes.Fields

@@ -3,41 +3,15 @@
 ghost use Rattle.std.specs.Prelude.{◌≡◌, IfOk, All};
 ghost use Rattle.desk_text.specs.Rows.{Gives, GivesRow, text_rows};
 ghost use Rattle.read_fleet.specs.Aircraft.{aircraft_of, aircraft_row};
-ghost use Rattle.read_fleet.specs.Facts.{IsAircraft};
+ghost use Rattle.file_rows.specs.Facts.{IsAircraft};
+ghost use Rattle.file_rows.specs.Limits.{most_bytes};
 
-use crate::maintenance::{MaintRow, maint};
+use crate::maintenance::maint;
 use desk_text::{
     Cause, Fields, Grammar, MOST_BYTES, ReadFault, RowFault, name, number, price, read_rows, seats,
 };
-use desk_units::{Name, Price, Seats};
+use file_rows::AircraftRow;
 use std::alloc::Global;
-
-/// A line of the file of aircraft.
-#[derive(Clone, Copy, Debug)]
-pub struct AircraftRow {
-    /// Its line in the file, from 1.
-    pub line: u32,
-    /// Its name, of 1 to 32 bytes like each name here.
-    pub name: Name,
-    /// Its model.
-    pub model: Name,
-    /// The family of models that it belongs to.
-    pub family: Name,
-    /// Its seats in each cabin, each from 0 to 999.
-    pub seats: Seats,
-    /// The longest leg that it can fly, in minutes of distance, 0 to 100,000.
-    pub range: u32,
-    /// What an hour of flight costs, at most 999,999,999.9999.
-    pub hourly: Price,
-    /// The ground time between two legs, in minutes, 0 to 2,880.
-    pub turn: u32,
-    /// The ground time before a leg that follows its previous leg, in minutes, 0 to 2,880.
-    pub transit: u32,
-    /// The airport where it stands first.
-    pub origin: Name,
-    /// Its maintenance, where it has one.
-    pub maint: Option<MaintRow>,
-}
 
 /// The aircraft of a line of at least ten fields.
 #[tactic(auto, unfolding(crate::specs::Aircraft::aircraft_of))]
@@ -91,7 +65,7 @@ impl Grammar<AircraftRow> for Aircraft {
 /// `Size` of a name, `Number` of seats, a number or a price, `Word` of a maintenance that is not
 /// `NULL` and has fewer than six parts, `Date` and `Time` of its moments.
 pub fn read_aircraft(alloc: Global, bytes: &[u8]) -> Result<Vec<AircraftRow>, ReadFault>
-    ensures exact { Gives (λ rows. rows.items) result (text_rows 67108864 aircraft_row bytes.now) }
+    ensures exact { Gives (λ rows. rows.items) result (text_rows most_bytes aircraft_row bytes.now) }
     ensures facts { IfOk result (λ rows. All IsAircraft rows.items) }
 {
     read_rows(alloc, &Aircraft, MOST_BYTES, bytes)

@@ -5,7 +5,7 @@ mod aircraft;
 mod maintenance;
 mod position;
 
-pub use aircraft::{AircraftRow, read_aircraft};
+pub use aircraft::read_aircraft;
 pub use desk_text::{Cause, ReadFault};
-pub use maintenance::MaintRow;
-pub use position::{PositionGroup, PositionRow, read_position};
+pub use file_rows::{AircraftRow, MaintRow, PositionGroup, PositionRow};
+pub use position::read_position;

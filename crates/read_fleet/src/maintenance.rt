@@ -2,29 +2,16 @@
 
 ghost use Rattle.std.specs.Prelude.{◌≡◌, reverse, position, option_map, MatchResult, IfOk, IfSome};
 ghost use Rattle.read_fleet.specs.Maintenance.{is_dash, cut_at_last_dash, parts_of, maint_row, maint_of};
-ghost use Rattle.read_fleet.specs.Facts.{IsMaint};
+ghost use Rattle.file_rows.specs.Facts.{IsMaint};
 
 use desk_text::{Cause, moment, name, number};
-use desk_units::{Minute, Name};
-
-/// A time that an aircraft spends in maintenance.
-#[derive(Clone, Copy, Debug)]
-pub struct MaintRow {
-    /// Where it is then.
-    pub airport: Name,
-    /// When it starts, before the year 2100.
-    pub from: Minute,
-    /// When it ends, before the year 2100.
-    pub to: Minute,
-    /// The block minutes that the aircraft may fly before it, 0 to 100,000.
-    pub minutes: u32,
-}
+use file_rows::{DASH, MaintRow};
 
 /// How many bytes stand behind the last dash.
 fn behind_last_dash(bytes: &[u8]) -> Option<usize>
     ensures { result ≡ position is_dash (reverse bytes.now) }
 {
-    bytes.iter().rev().position(|byte| *byte == b'-')
+    bytes.iter().rev().position(|byte| *byte == DASH)
 }
 
 /// The bytes before the last dash and those behind it, or `None` where there is no dash.

@@ -3,36 +3,16 @@
 ghost use Rattle.std.specs.Prelude.{◌≡◌, ◌<◌, [], All, Ok, Err, IfOk, IfSome, MatchOption, MatchResult, length};
 ghost use Rattle.desk_text.specs.Rows.{Gives, GivesRow, text_rows};
 ghost use Rattle.read_fleet.specs.Position.{group_of, groups_of, before_all, position_row};
-ghost use Rattle.desk_text.specs.Seen.{IsSeen};
-ghost use Rattle.read_fleet.specs.Facts.{IsGroup, IsPosition};
+ghost use Rattle.file_rows.specs.Seen.{IsSeen};
+ghost use Rattle.file_rows.specs.Facts.{IsGroup, IsPosition};
+ghost use Rattle.file_rows.specs.Limits.{most_bytes};
 
 use desk_text::{
     Cause, Fields, Grammar, MOST_BYTES, ReadFault, RowFault, name, number, read_rows, seats,
 };
-use desk_units::{List, Name, Seats};
+use desk_units::List;
+use file_rows::{PositionGroup, PositionRow};
 use std::alloc::Global;
-
-/// Aircraft that are wanted at an airport.
-#[derive(Clone, Copy, Debug)]
-pub struct PositionGroup {
-    /// Their model, of 1 to 32 bytes.
-    pub model: Name,
-    /// Their seats in each cabin, each from 0 to 999.
-    pub seats: Seats,
-    /// How many of them, 0 to 1,000.
-    pub count: u32,
-}
-
-/// The aircraft that are wanted at an airport at the end.
-#[derive(Debug, Drop)]
-pub struct PositionRow {
-    /// Its line in the file, from 1.
-    pub line: u32,
-    /// Where they are wanted, a name of 1 to 32 bytes.
-    pub airport: Name,
-    /// What is wanted there: one group or more.
-    pub groups: List<PositionGroup>,
-}
 
 /// The group that three fields give.
 #[tactic(auto, unfolding(crate::specs::Position::group_of))]
@@ -114,7 +94,7 @@ impl Grammar<PositionRow> for Positions {
 /// have, then `Fields` for no group or one that is not whole, then from the left the first cause of
 /// a field: `Size` of a name, `Number` of seats and counts.
 pub fn read_position(alloc: Global, bytes: &[u8]) -> Result<Vec<PositionRow>, ReadFault>
-    ensures exact { Gives (λ rows. rows.items) result (text_rows 67108864 position_row bytes.now) }
+    ensures exact { Gives (λ rows. rows.items) result (text_rows most_bytes position_row bytes.now) }
     ensures facts { IfOk result (λ rows. All IsPosition rows.items) }
 {
     read_rows(alloc, &Positions, MOST_BYTES, bytes)

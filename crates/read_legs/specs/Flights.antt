@@ -1,11 +1,11 @@
 -- The file of flights.
 use Rattle.std.specs.Prelude.{ℕ, ◌+◌, ◌*◌, ◌%◌, List, Option, Some, None, Result, Ok, Err, ok_or, bytes_eq, codes, nat_lt, nat_le, ◌==◌, ◌&&◌, if◌then◌else◌}
 use Rattle.std.specs.List.{find, range_with_len}
-use Rattle.desk_text.specs.declared.cause.Cause.{Cause}
-use Rattle.desk_text.specs.declared.cause.Cause.TheVariants.{Time}
-use Rattle.desk_text.specs.Rows.{RowOf, ◌>>=◌, taken}
+use Rattle.file_rows.specs.declared.cause.Cause.{Cause}
+use Rattle.file_rows.specs.declared.cause.Cause.TheVariants.{Time}
+use Rattle.desk_text.specs.Rows.{RowOf, ◌>>=◌, next_field}
 use Rattle.desk_text.specs.Fields.{name_of, time_of}
-use Rattle.read_legs.specs.declared.rows.FlightRow.{FlightRow}
+use Rattle.file_rows.specs.declared.legs.FlightRow.{FlightRow}
 
 -- a minute of the day, so many days later
 abbrev pub days_later : ℕ → Option ℕ → ℕ
@@ -40,12 +40,12 @@ previous_of field = if bytes_eq field (codes "0") then Ok None else (name_of fie
 -- flight, origin, destination, departure, arrival, previous flight
 unfoldable pub flight_row : RowOf FlightRow
 flight_row line fields = do
-  first ← taken fields
-  second ← taken first.1
-  third ← taken second.1
-  fourth ← taken third.1
-  fifth ← taken fourth.1
-  sixth ← taken fifth.1
+  first ← next_field fields
+  second ← next_field first.1
+  third ← next_field second.1
+  fourth ← next_field third.1
+  fifth ← next_field fourth.1
+  sixth ← next_field fifth.1
   flight ← name_of first.0
   origin ← name_of second.0
   dest ← name_of third.0

@@ -1,3 +1,3 @@
 pub mod Rotations
 pub mod Flights
-pub mod Facts
+pub use Rattle.file_rows.specs.Facts

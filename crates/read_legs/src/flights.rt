@@ -3,12 +3,13 @@
 ghost use Rattle.std.specs.Prelude.{◌≡◌, ◌+◌, ◌<◌, ◌≤◌, IfOk, IfSome, All, Some};
 ghost use Rattle.desk_text.specs.Rows.{Gives, text_rows};
 ghost use Rattle.read_legs.specs.Flights.{departure_of, first_after, arrival_of, previous_of, flight_row};
-ghost use Rattle.read_legs.specs.Facts.{IsFlight};
-ghost use Rattle.desk_text.specs.Seen.{IsSeen};
+ghost use Rattle.file_rows.specs.Facts.{IsFlight};
+ghost use Rattle.file_rows.specs.Limits.{most_bytes};
+ghost use Rattle.file_rows.specs.Seen.{IsSeen};
 
-use crate::rows::FlightRow;
 use desk_text::{Cause, Fields, Grammar, MOST_BYTES, ReadFault, RowFault, name, read_rows, time};
 use desk_units::Name;
+use file_rows::FlightRow;
 use std::alloc::Global;
 
 /// A departure, in minutes after the midnight of the flight's date: a time, and the days that it
@@ -129,7 +130,7 @@ impl Grammar<FlightRow> for FlightLine {
 /// where one is missing, `Size` for a name that is not 1 to 32 bytes and `Time`, from the left. A
 /// file of more than 67,108,864 bytes is refused at line 0 with `Size`.
 pub fn read_flights(alloc: Global, bytes: &[u8]) -> Result<Vec<FlightRow>, ReadFault>
-    ensures exact { Gives (λ rows. rows.items) result (text_rows 67108864 flight_row bytes.now) }
+    ensures exact { Gives (λ rows. rows.items) result (text_rows most_bytes flight_row bytes.now) }
     ensures facts { IfOk result (λ rows. All IsFlight rows.items) }
 {
     read_rows(alloc, &FlightLine, MOST_BYTES, bytes)

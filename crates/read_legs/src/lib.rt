@@ -3,10 +3,9 @@
 
 mod flights;
 mod rotations;
-mod rows;
 
 pub use desk_text::{Cause, ReadFault};
 pub use desk_units::Name;
+pub use file_rows::{FlightRow, RotationRow};
 pub use flights::read_flights;
 pub use rotations::read_rotations;
-pub use rows::{FlightRow, RotationRow};

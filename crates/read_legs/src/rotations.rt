@@ -3,10 +3,11 @@
 ghost use Rattle.std.specs.Prelude.{◌≡◌, IfOk, All};
 ghost use Rattle.desk_text.specs.Rows.{Gives, text_rows};
 ghost use Rattle.read_legs.specs.Rotations.{rotation_row};
-ghost use Rattle.read_legs.specs.Facts.{IsRotation};
+ghost use Rattle.file_rows.specs.Facts.{IsRotation};
+ghost use Rattle.file_rows.specs.Limits.{most_bytes};
 
-use crate::rows::RotationRow;
 use desk_text::{Fields, Grammar, MOST_BYTES, ReadFault, RowFault, date, name, read_rows};
+use file_rows::RotationRow;
 use std::alloc::Global;
 
 /// The fields of a line: flight, date, aircraft.
@@ -47,7 +48,7 @@ impl Grammar<RotationRow> for RotationLine {
 /// missing, `Size` for a name that is not 1 to 32 bytes and `Date`, from the left. A file of more
 /// than 67,108,864 bytes is refused at line 0 with `Size`.
 pub fn read_rotations(alloc: Global, bytes: &[u8]) -> Result<Vec<RotationRow>, ReadFault>
-    ensures exact { Gives (λ rows. rows.items) result (text_rows 67108864 rotation_row bytes.now) }
+    ensures exact { Gives (λ rows. rows.items) result (text_rows most_bytes rotation_row bytes.now) }
     ensures facts { IfOk result (λ rows. All IsRotation rows.items) }
 {
     read_rows(alloc, &RotationLine, MOST_BYTES, bytes)

@@ -1,7 +1,7 @@
 -- The caps of the fields that are left, as a loop reads them.
 use Rattle.std.proofs.Common.{List, ◌++◌, Result, Ok, Err}
-use Rattle.desk_text.specs.declared.cause.Cause.{Cause}
-use Rattle.read_net.specs.declared.rows.CapRow.{CapRow}
+use Rattle.file_rows.specs.declared.cause.Cause.{Cause}
+use Rattle.file_rows.specs.declared.network.CapRow.{CapRow}
 
 -- these caps, and behind them those that are read
 abbrev pub behind : List CapRow → Result (List CapRow) Cause → Result (List CapRow) Cause

@@ -1,12 +1,12 @@
 -- The file of airports.
 use Rattle.std.specs.Prelude.{ℕ, ◌%◌, List, [], ◌∷◌, length, Result, Ok, Err, nat_le, ◌==◌, ◌&&◌, if◌then◌else◌}
-use Rattle.desk_text.specs.declared.cause.Cause.{Cause}
-use Rattle.desk_text.specs.declared.cause.Cause.TheVariants as causes
+use Rattle.file_rows.specs.declared.cause.Cause.{Cause}
+use Rattle.file_rows.specs.declared.cause.Cause.TheVariants as causes
 use Rattle.desk_text.specs.Fields.{name_of, number_of}
 use Rattle.desk_text.specs.Moments.{minute_of}
-use Rattle.desk_text.specs.Rows.{◌>>=◌, RowOf, taken}
-use Rattle.read_net.specs.declared.rows.CapRow.{CapRow}
-use Rattle.read_net.specs.declared.rows.AirportRow.{AirportRow}
+use Rattle.desk_text.specs.Rows.{◌>>=◌, RowOf, next_field}
+use Rattle.file_rows.specs.declared.network.CapRow.{CapRow}
+use Rattle.file_rows.specs.declared.network.AirportRow.{AirportRow}
 use Rattle.read_net.specs.Times.{end_of}
 
 -- DEPARTURES ARRIVALS FROM TO
@@ -37,7 +37,7 @@ groups_of_four fields = if nat_le 1 (length fields) && (length fields % 4 == 0) 
 -- AIRPORT, and one or more groups
 unfoldable pub airport_row : RowOf AirportRow
 airport_row line fields = do
-  first ← taken fields
+  first ← next_field fields
   groups ← groups_of_four first.1
   airport ← name_of first.0
   caps ← caps_of groups

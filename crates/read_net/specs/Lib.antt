@@ -2,4 +2,4 @@ pub mod Times
 pub mod Config
 pub mod Dist
 pub mod Airports
-pub mod Facts
+pub use Rattle.file_rows.specs.Facts

@@ -1,6 +1,6 @@
 -- Times at which something ends.
 use Rattle.std.specs.Prelude.{ℕ, List, Result, Ok, bytes_eq, codes, if◌then◌else◌}
-use Rattle.desk_text.specs.declared.cause.Cause.{Cause}
+use Rattle.file_rows.specs.declared.cause.Cause.{Cause}
 use Rattle.desk_text.specs.Moments.{minute_of}
 
 -- a time at which something ends: the end of the day may be written too

@@ -3,14 +3,15 @@
 ghost use Rattle.std.specs.Prelude.{◌≡◌, ◌+◌, ◌*◌, [], All, IfOk, IfSome, Ok, Err, length, MatchOption, MatchResult};
 ghost use Rattle.desk_text.specs.Rows.{Gives, GivesRow, text_rows};
 ghost use Rattle.read_net.specs.Airports.{cap_of, caps_of, airport_row, before_all};
-ghost use Rattle.read_net.specs.Facts.{IsCap, IsAirport};
+ghost use Rattle.file_rows.specs.Facts.{IsCap, IsAirport};
+ghost use Rattle.file_rows.specs.Limits.{most_bytes};
 
-use crate::rows::{AirportRow, CapRow};
 use crate::times::end;
 use desk_text::{
     Cause, Fields, Grammar, MOST_BYTES, ReadFault, RowFault, minute, name, number, read_rows,
 };
 use desk_units::List;
+use file_rows::{AirportRow, CapRow};
 use std::alloc::Global;
 
 /// The caps that four fields give.
@@ -98,7 +99,7 @@ impl Grammar<AirportRow> for Airports {
 /// `Byte`, with `Fields` where it has no group or the last one is not whole, and else with the cause
 /// of its first field from the left that is not in its form.
 pub fn read_airports(alloc: Global, bytes: &[u8]) -> Result<Vec<AirportRow>, ReadFault>
-    ensures exact { Gives (λ rows. rows.items) result (text_rows 67108864 airport_row bytes.now) }
+    ensures exact { Gives (λ rows. rows.items) result (text_rows most_bytes airport_row bytes.now) }
     ensures facts { IfOk result (λ rows. All IsAirport rows.items) }
 {
     read_rows(alloc, &Airports {}, MOST_BYTES, bytes)

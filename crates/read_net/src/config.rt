@@ -3,10 +3,10 @@
 ghost use Rattle.std.specs.Prelude.{◌≡◌, ◌≢◌, IfOk};
 ghost use Rattle.desk_text.specs.Rows.{line_row, Gives};
 ghost use Rattle.read_net.specs.Config.{window_row, config_of};
-ghost use Rattle.read_net.specs.Facts.{IsWindow};
+ghost use Rattle.file_rows.specs.Facts.{IsWindow};
 
-use crate::rows::Window;
 use desk_text::{Cause, Fields, MOST_BYTES, ReadFault, are_text, lines, moment};
+use file_rows::Window;
 
 /// The window of the fields of a line.
 #[tactic(auto, unfolding(crate::specs::Config::window_row))]
@@ -46,20 +46,14 @@ pub fn read_config(bytes: &[u8]) -> Result<Window, ReadFault>
     ensures facts { IfOk result (λ window. IsWindow window) }
 {
     if bytes.len() > MOST_BYTES {
-        return Err(ReadFault::Refused {
-            line: 0,
-            cause: Cause::Size,
-        });
+        return Err(ReadFault::at(0, Cause::Size));
     }
     let mut lines = lines(bytes);
     let Some((line, text)) = lines.next() else {
-        return Err(ReadFault::Refused {
-            line: 0,
-            cause: Cause::Fields,
-        });
+        return Err(ReadFault::at(0, Cause::Fields));
     };
     match window_of_line(line, text) {
         Ok(window) => Ok(window),
-        Err(cause) => Err(ReadFault::Refused { line, cause }),
+        Err(cause) => Err(ReadFault::at(line, cause)),
     }
 }

@@ -3,10 +3,11 @@
 ghost use Rattle.std.specs.Prelude.{◌≡◌, All, IfOk};
 ghost use Rattle.desk_text.specs.Rows.{Gives, text_rows};
 ghost use Rattle.read_net.specs.Dist.{dist_row};
-ghost use Rattle.read_net.specs.Facts.{IsDistance};
+ghost use Rattle.file_rows.specs.Facts.{IsDistance};
+ghost use Rattle.file_rows.specs.Limits.{most_bytes};
 
-use crate::rows::DistRow;
 use desk_text::{Fields, Grammar, MOST_BYTES, ReadFault, RowFault, haul, name, number, read_rows};
+use file_rows::DistRow;
 use std::alloc::Global;
 
 /// The form of the file of distances.
@@ -44,7 +45,7 @@ impl Grammar<DistRow> for Distances {
 /// with `Size`. A line is refused with `Byte` or `Fields`, and else with the cause of its first
 /// field from the left that is not in its form.
 pub fn read_dist(alloc: Global, bytes: &[u8]) -> Result<Vec<DistRow>, ReadFault>
-    ensures exact { Gives (λ rows. rows.items) result (text_rows 67108864 dist_row bytes.now) }
+    ensures exact { Gives (λ rows. rows.items) result (text_rows most_bytes dist_row bytes.now) }
     ensures facts { IfOk result (λ rows. All IsDistance rows.items) }
 {
     read_rows(alloc, &Distances {}, MOST_BYTES, bytes)

@@ -4,7 +4,6 @@
 mod airports;
 mod config;
 mod dist;
-mod rows;
 mod times;
 
 pub use airports::read_airports;
@@ -12,4 +11,4 @@ pub use config::read_config;
 pub use desk_text::{Cause, ReadFault};
 pub use desk_units::{Haul, List, Minute, Name};
 pub use dist::read_dist;
-pub use rows::{AirportRow, CapRow, DistRow, Window};
+pub use file_rows::{AirportRow, CapRow, DistRow, Window};

@@ -1,11 +1,11 @@
 -- The rows of the file of itineraries.
 use Rattle.std.specs.Prelude.{ℕ, ◌%◌, List, [], ◌∷◌, length, Result, Ok, Err, nat_lt, ◌==◌, ◌&&◌, if◌then◌else◌}
-use Rattle.desk_text.specs.declared.cause.Cause.{Cause}
-use Rattle.desk_text.specs.declared.cause.Cause.TheVariants as causes
+use Rattle.file_rows.specs.declared.cause.Cause.{Cause}
+use Rattle.file_rows.specs.declared.cause.Cause.TheVariants as causes
 use Rattle.desk_text.specs.Fields.{name_of, number_of, price_of, date_of, inbound_of, cabin_of}
-use Rattle.desk_text.specs.Rows.{◌>>=◌, RowOf, taken}
-use Rattle.read_pax.specs.declared.rows.LegRow.{LegRow}
-use Rattle.read_pax.specs.declared.rows.ItineraryRow.{ItineraryRow}
+use Rattle.desk_text.specs.Rows.{◌>>=◌, RowOf, next_field}
+use Rattle.file_rows.specs.declared.passengers.LegRow.{LegRow}
+use Rattle.file_rows.specs.declared.passengers.ItineraryRow.{ItineraryRow}
 
 -- FLIGHT DATE CABIN
 unfoldable pub leg_of : List ℕ → List ℕ → List ℕ → Result LegRow Cause
@@ -34,10 +34,10 @@ groups_of_three fields = if nat_lt 0 (length fields) && (length fields % 3 == 0)
 -- RESERVATION TYPE PRICE COUNT, and one or more groups
 unfoldable pub itinerary_row : RowOf ItineraryRow
 itinerary_row line fields = do
-  first ← taken fields
-  second ← taken first.1
-  third ← taken second.1
-  fourth ← taken third.1
+  first ← next_field fields
+  second ← next_field first.1
+  third ← next_field second.1
+  fourth ← next_field third.1
   groups ← groups_of_three fourth.1
   name ← name_of first.0
   inbound ← inbound_of second.0

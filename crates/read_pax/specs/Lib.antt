@@ -1,2 +1,2 @@
 pub mod Itineraries
-pub mod Facts
+pub use Rattle.file_rows.specs.Facts

@@ -2,16 +2,17 @@
 
 ghost use Rattle.std.specs.Prelude.{◌≡◌, ◌+◌, ◌*◌, [], All, IfOk, IfSome, Ok, Err, length, MatchOption, MatchResult};
 ghost use Rattle.desk_text.specs.Rows.{Gives, GivesRow, text_rows};
-ghost use Rattle.desk_text.specs.Seen.{IsSeen};
+ghost use Rattle.file_rows.specs.Seen.{IsSeen};
 ghost use Rattle.read_pax.specs.Itineraries.{leg_of, legs_of, before_all, itinerary_row};
-ghost use Rattle.read_pax.specs.Facts.{IsLeg, IsItinerary};
+ghost use Rattle.file_rows.specs.Facts.{IsLeg, IsItinerary};
+ghost use Rattle.file_rows.specs.Limits.{most_bytes};
 
-use crate::rows::{ItineraryRow, LegRow};
 use desk_text::{
     Cause, Fields, Grammar, MOST_BYTES, ReadFault, RowFault, cabin, date, inbound, name, number,
     price, read_rows,
 };
 use desk_units::List;
+use file_rows::{ItineraryRow, LegRow};
 use std::alloc::Global;
 
 /// The most passengers that a reservation of the file may have: the largest number of 9 digits.
@@ -108,7 +109,7 @@ impl Grammar<ItineraryRow> for Itineraries {
 /// the first cause of a field: `Size` of a name, `Word` of a type or a cabin, `Number` of a price or
 /// a count, `Date` of a date.
 pub fn read_itineraries(alloc: Global, bytes: &[u8]) -> Result<Vec<ItineraryRow>, ReadFault>
-    ensures exact { Gives (λ rows. rows.items) result (text_rows 67108864 itinerary_row bytes.now) }
+    ensures exact { Gives (λ rows. rows.items) result (text_rows most_bytes itinerary_row bytes.now) }
     ensures facts { IfOk result (λ rows. All IsItinerary rows.items) }
 {
     read_rows(alloc, &Itineraries, MOST_BYTES, bytes)

@@ -2,9 +2,8 @@
 #![tactic(auto)]
 
 mod itineraries;
-mod rows;
 
 pub use desk_text::{Cause, ReadFault};
 pub use desk_units::{Cabin, List, Name, Price};
+pub use file_rows::{ItineraryRow, LegRow};
 pub use itineraries::read_itineraries;
-pub use rows::{ItineraryRow, LegRow};

@@ -10,7 +10,7 @@ use Rattle.csv.specs.declared.parser.State.{State}
 use Rattle.csv.specs.declared.parser.State.TheVariants as st
 use Rattle.csv.specs.declared.reader.Reader.{Reader}
 use Rattle.read_tariff.specs.Records.{text_records}
-use Rattle.read_tariff.specs.Readers.{IsReading, NextRecord, records_in, records_left, unread}
+use Rattle.read_tariff.specs.Readers.{IsReading, NextRecord, records_in, records_left, bytes_left}
 
 -- ---- a record ends between two records
 
@@ -151,16 +151,16 @@ abbrev bytes_of : Bor (List ℕ) → Option (List ℕ)
 bytes_of bytes = Some bytes.now
 
 module _ (a b : Reader (Bor (List ℕ))) (fields : List (List ℕ)) (h : IsReading a) where
-  found : ReadRecord bytes_of a b true fields → Found a.state b.state (known_bytes (unread a) h.known).0 (unread b) fields
+  found : ReadRecord bytes_of a b true fields → Found a.state b.state (known_bytes (bytes_left a) h.known).0 (bytes_left b) fields
   found reads =
-      let bytes = known_bytes (unread a) h.known in
-      let same : unread b ≡ pending_of (bytes_of b.rdr) b = rw reads.1 refl in
+      let bytes = known_bytes (bytes_left a) h.known in
+      let same : bytes_left b ≡ pending_of (bytes_of b.rdr) b = rw reads.1 refl in
       rw same (found_read a.state b.state bytes.0 (pending_of (bytes_of b.rdr) b) fields h.between (rw (h.config, bytes.1) at reads.0))
 
   -- a read that finds a record takes it from those that are left
   found_record : ReadRecord bytes_of a b true fields → records_left a ≡ fields ∷ records_left b
   unfolding records_left
-  found_record reads = rw (known_bytes (unread a) h.known).1 (found reads).records
+  found_record reads = rw (known_bytes (bytes_left a) h.known).1 (found reads).records
 
   -- and leaves a reader that goes on
   pub still_reading : ReadRecord bytes_of a b true fields → is_flexible b ≡ is_flexible a → took_first b ≡ true → IsReading b
@@ -177,7 +177,7 @@ module _ (a b : Reader (Bor (List ℕ))) (fields : List (List ℕ)) (h : IsReadi
   found_none : ReadRecord bytes_of a b false fields → records_left a ≡ []
   unfolding records_left
   found_none reads =
-      let bytes = known_bytes (unread a) h.known in
+      let bytes = known_bytes (bytes_left a) h.known in
       rw bytes.1 (no_record a.state bytes.0 (rows-end bytes_of a b fields default_config bytes.0 h.config bytes.1 reads))
 
   pub next_record_is : (is : Bool) → ReadRecord bytes_of a b is fields → NextRecord is (records_left a) fields (records_left b)

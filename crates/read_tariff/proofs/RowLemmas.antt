@@ -2,8 +2,9 @@
 use Rattle.std.proofs.Common.{◌≡◌, ℕ, ◌+◌, ◌<◌, ◌≤◌, List, [], ◌∷◌, ◌++◌, length, cond, Result, Ok, Err, sym, ap, ◌∙◌, refl, append_assoc}
 use Rattle.std.proofs.lemmas.Bool.{le-leb, lt-leb}
 use Rattle.std.proofs.lemmas.List.{append-nil}
-use Rattle.desk_text.specs.declared.cause.Cause.{Cause}
-use Rattle.desk_text.specs.declared.cause.Cause.TheVariants.{Size}
+use Rattle.file_rows.specs.Limits.{most_bytes}
+use Rattle.file_rows.specs.declared.cause.Cause.{Cause}
+use Rattle.file_rows.specs.declared.cause.Cause.TheVariants.{Size}
 use Rattle.desk_text.specs.Rows.{◌>>=◌, at_line}
 use Rattle.desk_text.proofs.RowLemmas.{behind}
 use Rattle.read_tariff.specs.Records.{record_row, rows_from, text_records}
@@ -45,11 +46,11 @@ begins (Ok rows) = refl
 begins (Err e) = refl
 
 -- a text that has too many bytes
-pub too_long : (bytes : List ℕ) → 67108864 < length bytes → tariff_rows bytes ≡ Err (0, Size)
+pub too_long : (bytes : List ℕ) → most_bytes < length bytes → tariff_rows bytes ≡ Err (0, Size)
 unfolding tariff_rows
-too_long bytes many = ap (λ b. cond b (rows_from tariff_row 1 (text_records bytes)) (Err (0, Size))) (lt-leb (length bytes) 67108864 many)
+too_long bytes many = ap (λ b. cond b (rows_from tariff_row 1 (text_records bytes)) (Err (0, Size))) (lt-leb (length bytes) most_bytes many)
 
 -- a text that has not
-pub short_enough : (bytes : List ℕ) → length bytes ≤ 67108864 → rows_from tariff_row 1 (text_records bytes) ≡ tariff_rows bytes
+pub short_enough : (bytes : List ℕ) → length bytes ≤ most_bytes → rows_from tariff_row 1 (text_records bytes) ≡ tariff_rows bytes
 unfolding tariff_rows
-short_enough bytes few = ap (λ b. cond b (rows_from tariff_row 1 (text_records bytes)) (Err (0, Size))) (sym (le-leb (length bytes) 67108864 few))
+short_enough bytes few = ap (λ b. cond b (rows_from tariff_row 1 (text_records bytes)) (Err (0, Size))) (sym (le-leb (length bytes) most_bytes few))

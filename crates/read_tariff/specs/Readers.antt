@@ -8,8 +8,8 @@ use Rattle.csv.specs.declared.reader.Reader.{Reader}
 use Rattle.csv.specs.declared.reader.Trim.TheVariants as trim
 
 -- the bytes that a reader of bytes in memory has left
-abbrev pub unread : Reader (Bor (List ℕ)) → Option (List ℕ)
-unread reader = source_of (λ bytes. Some bytes.now) reader
+abbrev pub bytes_left : Reader (Bor (List ℕ)) → Option (List ℕ)
+bytes_left reader = source_of (λ bytes. Some bytes.now) reader
 
 -- the records of the bytes that are left, in a state
 abbrev pub records_in : State → Option (List ℕ) → List (List (List ℕ))
@@ -18,7 +18,7 @@ records_in state None = []
 
 -- the records that a reader has left
 unfoldable pub records_left : Reader (Bor (List ℕ)) → List (List (List ℕ))
-records_left reader = records_in (reader_state reader) (unread reader)
+records_left reader = records_in (reader_state reader) (bytes_left reader)
 
 -- a reader of records of any length, by the default settings, that stands between two records
 pub record IsReading (reader : Reader (Bor (List ℕ))) : Type 0 where
@@ -27,7 +27,7 @@ pub record IsReading (reader : Reader (Bor (List ℕ))) : Type 0 where
   pub flexible : is_flexible reader ≡ true
   pub ready : Ready reader
   pub between : ends_at_end (reader_state reader) ≡ false
-  pub known : IsSome (unread reader)
+  pub known : IsSome (bytes_left reader)
 
 -- a record was found, or there are no more
 abbrev pub NextRecord : Bool → List (List (List ℕ)) → List (List ℕ) → List (List (List ℕ)) → Type 0

@@ -8,8 +8,8 @@ use Rattle.desk_units.specs.declared.tariff.Term.TheVariants as terms
 use Rattle.desk_units.specs.declared.tariff.TariffRow.{TariffRow}
 use Rattle.desk_units.specs.declared.tariff.TariffRow.TheVariants.{Surface, Weight, Delay, Cancel, Downgrade, Care, Compensation, Position}
 use Rattle.desk_units.specs.Ranks.{cabin_rank}
-use Rattle.desk_text.specs.declared.cause.Cause.{Cause}
-use Rattle.desk_text.specs.declared.cause.Cause.TheVariants.{Word, Fields}
+use Rattle.file_rows.specs.declared.cause.Cause.{Cause}
+use Rattle.file_rows.specs.declared.cause.Cause.TheVariants.{Word, Fields}
 use Rattle.desk_text.specs.Fields.{name_of, number_of, price_of, weight_of, haul_of, cabin_of}
 use Rattle.desk_text.specs.Rows.{◌>>=◌}
 use Rattle.read_tariff.specs.declared.kinds.Kind.{Kind}

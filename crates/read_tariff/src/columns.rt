@@ -3,7 +3,7 @@
 ghost use Rattle.std.specs.Prelude.{◌≡◌, [], ◌∷◌, ℕ, List, MatchOption, MatchResult};
 ghost use Rattle.std.specs.List.{list_all};
 ghost use Rattle.csv.specs.Records.{fields_of};
-ghost use Rattle.desk_text.specs.declared.cause.Cause.TheVariants as causes;
+ghost use Rattle.file_rows.specs.declared.cause.Cause.TheVariants as causes;
 ghost use Rattle.read_tariff.specs.Records.{is_printed};
 
 use csv::ByteRecord;

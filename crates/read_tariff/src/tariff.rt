@@ -45,10 +45,7 @@ pub fn read_tariff(alloc: Global, bytes: &[u8]) -> Result<Tariff, ReadFault>
     let mut rows = Vec::new(alloc);
     let is_too_long = bytes.len() > MOST_BYTES;
     if is_too_long {
-        return Err(ReadFault::Refused {
-            line: 0,
-            cause: Cause::Size,
-        });
+        return Err(ReadFault::at(0, Cause::Size));
     }
     let mut reader = records_of(alloc, bytes);
     let mut record = ByteRecord::new(alloc);
@@ -57,7 +54,7 @@ pub fn read_tariff(alloc: Global, bytes: &[u8]) -> Result<Tariff, ReadFault>
         line += 1;
         match record_row(&record) {
             Ok(row) => rows.push(row)?,
-            Err(cause) => return Err(ReadFault::Refused { line, cause }),
+            Err(cause) => return Err(ReadFault::at(line, cause)),
         }
     }
     Ok(Tariff { rows: List(rows) })

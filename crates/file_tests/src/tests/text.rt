@@ -2,7 +2,7 @@
 
 ghost use Rattle.std.specs.Prelude.{Ok, ◌<◌, ◌≤◌, length};
 ghost use Rattle.desk_text.specs.Fields.{name_of, number_of};
-ghost use Rattle.desk_text.specs.Rows.{◌>>=◌ as and_then, taken};
+ghost use Rattle.desk_text.specs.Rows.{◌>>=◌ as and_then, next_field};
 
 use desk_text::{
     Cause, Fields, Grammar, Minute, NoMem, ReadFault, RowFault, are_text, day_of, inbound, lines,
@@ -133,7 +133,7 @@ fn moments(rt: HostRuntime) {
 struct Sample;
 
 impl Grammar<u32> for Sample {
-    ghost row_of = { λ _ line fields. and_then (taken fields) (λ first. and_then (taken first.1) (λ second. and_then (number_of 1 9 first.0) (λ n. and_then (name_of second.0) (λ _. Ok n)))) };
+    ghost row_of = { λ _ line fields. and_then (next_field fields) (λ first. and_then (next_field first.1) (λ second. and_then (number_of 1 9 first.0) (λ n. and_then (name_of second.0) (λ _. Ok n)))) };
 
     ghost holds = { λ _ n. n ≤ 9 };
 

@@ -1,5 +1,5 @@
 use Rattle.std.proofs.Common.{◌≡◌, ◌+◌}
-use Rattle.build_tables.specs.Limits.{most_groups}
+use Rattle.file_rows.specs.Limits.{most_groups}
 use Rattle.build_refusals.specs.Position.{groups_in}
 use Rattle.build_refusals.proofs.position.past_limit.Given as goal
 

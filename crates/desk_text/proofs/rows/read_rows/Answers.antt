@@ -7,7 +7,7 @@ use Rattle.desk_text.proofs.RowLemmas.{goes_on, stops, ended, begins, too_long, 
 use Rattle.desk_text.proofs.rows.read_rows.Goals as goal
 
 pub returns-then-bytes-limit-clause-exact : goal.returns-then-bytes-limit-clause-exact
-returns-then-bytes-limit-clause-exact g c = too_long (g.G.Grammar.row_of c.args.grammar.now) c.args.limit c.args.bytes.now c.if-bytes-limit.true
+returns-then-bytes-limit-clause-exact g c = rw c.at.ensures (too_long (g.G.Grammar.row_of c.args.grammar.now) c.args.limit c.args.bytes.now c.if-bytes-limit.true)
 
 pub loop-line-init : goal.loop-line-init
 loop-line-init g c = rw (c.new-rows.ensures.items, c.of-lines.ensures.exact) (record {
@@ -24,7 +24,7 @@ loop-line-preserved g c = rw c.in_ok-push-in-Ok.ensures.items (record {
 })
 
 pub returns-in-Err-clause-exact : goal.returns-in-Err-clause-exact
-returns-in-Err-clause-exact g c = stops (g.G.Grammar.row_of c.args.grammar.now) c.loop-line.rows.items _ {Answer = Vec g.row.Row.Denot Global} (λ rows. rows.items) c.in-Some.line c.in-Some.text.now c.next.new.self c.loop-line.lines c.in-Err.fault c.at_line.result c.in-Some.ensures c.in-Err.ensures.exact c.at_line.ensures c.loop-line.invariant.read
+returns-in-Err-clause-exact g c = stops (g.G.Grammar.row_of c.args.grammar.now) c.loop-line.rows.items _ {Answer = Vec g.row.Row.Denot Global} (λ rows. rows.items) c.in-Some.line c.in-Some.text.now c.next.new.self c.loop-line.lines c.in-Err.fault c.at-in-Err.result c.in-Some.ensures c.in-Err.ensures.exact c.at-in-Err.ensures c.loop-line.invariant.read
 
 pub returns-clause-exact : goal.returns-clause-exact
 returns-clause-exact g c = ended (g.G.Grammar.row_of c.args.grammar.now) c.loop-line.rows.items _ c.loop-line.lines c.in_default.ensures.0 c.loop-line.invariant.read

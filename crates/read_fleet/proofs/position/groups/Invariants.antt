@@ -1,7 +1,7 @@
 use Rattle.std.proofs.Common.{◌≡◌, length}
 use Rattle.std.specs.Prelude.{All}
 use Rattle.read_fleet.specs.Position.{groups_of}
-use Rattle.read_fleet.specs.Facts.{IsGroup}
+use Rattle.file_rows.specs.Facts.{IsGroup}
 use Rattle.read_fleet.proofs.GroupLemmas.{behind}
 use Rattle.read_fleet.proofs.position.groups.Given as goal
 

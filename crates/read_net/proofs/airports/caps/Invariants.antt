@@ -1,7 +1,7 @@
 use Rattle.std.proofs.Common.{◌≡◌, ◌+◌, ◌*◌, length}
 use Rattle.std.specs.Prelude.{All}
 use Rattle.read_net.specs.Airports.{caps_of}
-use Rattle.read_net.specs.Facts.{IsCap}
+use Rattle.file_rows.specs.Facts.{IsCap}
 use Rattle.read_net.proofs.CapLemmas.{behind}
 use Rattle.read_net.proofs.airports.caps.Given as goal
 

@@ -1,7 +1,7 @@
 use Rattle.std.proofs.Common.{◌≡◌, ◌+◌, ◌*◌, length}
 use Rattle.std.specs.Prelude.{All}
 use Rattle.read_pax.specs.Itineraries.{legs_of}
-use Rattle.read_pax.specs.Facts.{IsLeg}
+use Rattle.file_rows.specs.Facts.{IsLeg}
 use Rattle.read_pax.proofs.LegLemmas.{behind}
 use Rattle.read_pax.proofs.itineraries.legs.Given as goal
 

@@ -11,7 +11,7 @@ use Rattle.read_tariff.proofs.RowLemmas.{begins, goes_on, refused, ended, too_lo
 use Rattle.read_tariff.proofs.tariff.read_tariff.Goals as goal
 
 pub returns-then-is_too_long-clause-exact : goal.returns-then-is_too_long-clause-exact
-returns-then-is_too_long-clause-exact c = too_long c.args.bytes.now c.if-is_too_long.true
+returns-then-is_too_long-clause-exact c = rw c.at.ensures (too_long c.args.bytes.now c.if-is_too_long.true)
 
 pub loop-record-init : goal.loop-record-init
 loop-record-init c = rw (c.new-rows.ensures.items, c.records_of-reader.ensures.exact) (record {
@@ -33,8 +33,8 @@ loop-record-preserved c =
 
 pub returns-in-Err-clause-exact : goal.returns-in-Err-clause-exact
 returns-in-Err-clause-exact c =
-    refused tariff_row c.loop-record.rows.items (tariff_rows c.args.bytes.now) (c.loop-record.line + 1) (fields_of c.read_next.new.into) (records_left c.read_next.new.reader) (records_left c.loop-record.reader) c.in-Err.cause
-    (rw c.if-branch.true at c.in_ok-read_next.ensures.exact) c.in-Err.ensures.exact c.loop-record.invariant.read
+    rw c.at-in-Err.ensures (refused tariff_row c.loop-record.rows.items (tariff_rows c.args.bytes.now) (c.loop-record.line + 1) (fields_of c.read_next.new.into) (records_left c.read_next.new.reader) (records_left c.loop-record.reader) c.in-Err.cause
+    (rw c.if-branch.true at c.in_ok-read_next.ensures.exact) c.in-Err.ensures.exact c.loop-record.invariant.read)
 
 pub returns-clause-exact : goal.returns-clause-exact
 returns-clause-exact c =

@@ -1,4 +1,4 @@
-use Rattle.desk_text.proofs.cause.ReadFaultDisplay.fmt.Goals as goal
+use Rattle.desk_text.proofs.fault.ReadFaultDisplay.fmt.Goals as goal
 
 pub returns-in-Refused-clause-writes : goal.returns-in-Refused-clause-writes
 returns-in-Refused-clause-writes g c plain ok = rw c.in-Refused.is (c.write.ensures.writes plain ok)

@@ -1,4 +1,4 @@
-//! The rows of the file of itineraries.
+//! The rows of itineraries.csv.
 
 use desk_units::{Cabin, List, Name, Price};
 

@@ -1,4 +1,4 @@
-//! The rows of the two files.
+//! The rows of flights.csv and rotations.csv.
 
 use desk_units::Name;
 

@@ -13,8 +13,8 @@ abbrev pub unless_refused : Option Refusal → Situation → Result Situation Re
 unless_refused None day = Ok day
 unless_refused (Some refusal) day = Err refusal
 
-unfoldable pub joined : Files → Result Situation Refusal
-joined x = unless_refused (refusal_of x) (day_of x)
+unfoldable pub day_of_files : Files → Result Situation Refusal
+day_of_files x = unless_refused (refusal_of x) (day_of x)
 
 -- a join gives this day, or refuses that line of that file; out of memory may come at any time
 abbrev pub JoinGives : Result Built BuildFault → Result Situation Refusal → Type 0

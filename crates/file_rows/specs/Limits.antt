@@ -1,5 +1,12 @@
--- How many rows the files may have, and what else has a limit.
+-- How many bytes and rows the files may have, and what else in them has a limit.
 use Rattle.std.specs.Prelude.{ℕ}
+
+-- the bytes of a text file, and of journal.csv
+abbrev pub most_bytes : ℕ
+most_bytes = 67108864
+
+abbrev pub most_journal_bytes : ℕ
+most_journal_bytes = 268435456
 
 -- the rows of flights.csv, and those of rotations.csv
 abbrev pub most_flights : ℕ
@@ -38,3 +45,7 @@ most_tariff_rows = 1000
 -- the latest scheduled departure, in minutes from the start of 2000
 abbrev pub latest_departure : ℕ
 latest_departure = 52480000
+
+-- the moment before which each departure of a plan is, in minutes from the start of 2000
+abbrev pub end_of_time : ℕ
+end_of_time = 52500000

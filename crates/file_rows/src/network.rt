@@ -1,4 +1,4 @@
-//! The rows of the files of the network.
+//! The rows of config.csv, airports.csv and dist.csv.
 
 use desk_units::{Haul, List, Minute, Name};
 

@@ -1,0 +1,5 @@
+pub mod Bytes
+pub mod Limits
+pub mod Causes
+pub mod Seen
+pub mod Facts
