@@ -1,2 +1,3 @@
+pub mod NameLaws
 mod KeyLemmas
 mod NameLemmas

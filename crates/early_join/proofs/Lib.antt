@@ -1,3 +1,2 @@
 mod EventLemmas
 mod JoinLemmas
-mod NamesLemmas

@@ -1,5 +1,5 @@
 -- How the journal's rows of the early form become events: names become numbers.
-use Rattle.std.specs.Prelude.{ℕ, ◌+◌, ◌==◌, ◌&&◌, List, [], ◌∷◌, ◌++◌, length, map, position, Option, Some, Result, Ok, Err, bytes_eq}
+use Rattle.std.specs.Prelude.{ℕ, ◌+◌, List, [], ◌∷◌, ◌++◌, length, Option, Some, Result, Ok, Err}
 use Rattle.std.specs.Option.{option_map_or}
 use Rattle.desk_data.specs.declared.row.Row.{Row}
 use Rattle.desk_data.specs.declared.row.Row.TheVariants as row
@@ -9,6 +9,7 @@ use Rattle.desk_data.specs.declared.moves.Move.{Move}
 use Rattle.desk_data.specs.Situation.{Situation}
 use Rattle.desk_model.specs.declared.answer.Event.{Event}
 use Rattle.desk_model.specs.declared.answer.Event.TheVariants as event
+use Rattle.day_names.specs.Names.{leg_named, plane_named}
 use Rattle.early_form.specs.declared.rows.NamedRow.{NamedRow}
 use Rattle.early_form.specs.declared.rows.NamedRow.TheVariants as named
 use Rattle.early_form.specs.declared.rows.JournalRow.{JournalRow}
@@ -22,20 +23,12 @@ join_from join before (row ∷ rows) = option_map_or (λ b. join_from join (befo
 abbrev pub join_all : {A B : Type 0} → (A → Option B) → List A → Result (List B) ℕ
 join_all join rows = join_from join [] rows
 
--- the place of a name among these names
-abbrev pub place_of : List (List ℕ) → List ℕ → Option ℕ
-place_of names name = position (bytes_eq name) names
-
 -- the row that a proposal names, where its aircraft is known
 unfoldable pub row_of : Situation → NamedRow → Option Row
 row_of I (named.Flown plane dep) = do
-  p ← place_of (map (λ a. a.name) I.parts.planes) plane
-  Some (row.Flown (record { 0 = p }) dep)
+  p ← plane_named I plane
+  Some (row.Flown p dep)
 row_of I named.Cancelled = Some row.Cancelled
-
--- the place of the leg of a flight on a day
-unfoldable pub leg_place : Situation → List ℕ → ℕ → Option ℕ
-leg_place I flight day = position (λ leg. bytes_eq flight leg.flight && (day == leg.day)) I.parts.legs
 
 -- the move with this one step
 abbrev pub move_of : Step → Move
@@ -44,10 +37,10 @@ move_of step = record { steps = step ∷ [] }
 -- the step of a proposal, where its leg and its aircraft are known
 unfoldable pub step_of : Situation → JournalRow → Option Step
 step_of I r = do
-  x ← leg_place I r.flight r.day
+  leg ← leg_named I r.flight r.day
   was ← row_of I r.was
   new ← row_of I r.new
-  Some (Set (record { 0 = x }) was new)
+  Some (Set leg was new)
 
 -- a proposal's caller and its move
 unfoldable pub event_of : Situation → JournalRow → Option (ℕ × Event)

@@ -1,4 +1,3 @@
 pub mod Join
-pub mod Names
 pub mod Gives
 pub mod Told

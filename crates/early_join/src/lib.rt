@@ -11,7 +11,6 @@
 
 mod fault;
 mod journal;
-mod names;
 
 pub use fault::JoinFault;
 pub use journal::join_journal;
