@@ -61,7 +61,7 @@ fn places_of_network<'a>(
 }
 
 impl<'a> Tables<'a> {
-    /// The tables of these rows.
+    /// The tables of these rows. The only error is out of memory.
     pub fn of(alloc: Global, files: &'a Files) -> Result<Tables<'a>, NoMem>
         ensures { IfOk result (λ tables. tables.files.now ≡ files.now) }
     {

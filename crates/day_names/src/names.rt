@@ -32,7 +32,7 @@ impl<'a> Model for DayNames<'a> {
 }
 
 impl<'a> DayNames<'a> {
-    /// The names of a day, in time that is near linear in its rows.
+    /// The names of a day, in time that is near linear in its rows. The only error is out of memory.
     pub fn of(alloc: Global, inst: &'a Instance) -> Result<DayNames<'a>, NoMem>
         ensures { IfOk result (λ names. names ≡ inst.now) }
     {
@@ -70,7 +70,8 @@ impl<'a> DayNames<'a> {
             .map(|place| Plane(place))
     }
 
-    /// The reservation of a name that is the way back, or the way out; `None` where there is none.
+    /// The reservation of a name, the way back where `inbound` is set, else the way out; `None` where
+    /// there is none.
     pub fn reservation(&self, name: &[u8], inbound: bool) -> Option<Res>
         ensures number { result ≡ res_named self.now name.now inbound }
         ensures within { IfSome result (λ r. r.0 < reservations_of self.now) }

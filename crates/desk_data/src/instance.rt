@@ -48,7 +48,8 @@ impl Model for Instance {
 }
 
 impl Instance {
-    /// The instance of these rows, with no orders. `are_parts` of day_checks tests its condition.
+    /// The instance of these rows, with no orders. `are_parts` of day_checks tests its condition. The
+    /// only error is out of memory.
     pub fn of(alloc: Global, parts: Parts) -> Result<Instance, NoMem>
         requires { AreParts parts }
         ensures { IfOk result (λ inst. inst ≡ record { parts = parts; orders = [] }) }
@@ -300,7 +301,8 @@ impl Instance {
         &self.prices
     }
 
-    /// An equal instance. The rows, the prices and what reservations booked are shared.
+    /// An equal instance. The rows, the prices and what reservations booked are shared. The only error
+    /// is out of memory.
     pub fn copy(&self, alloc: Global) -> Result<Instance, NoMem>
         ensures { IfOk result (λ copy. copy ≡ self.now) }
     {
@@ -319,7 +321,7 @@ impl Instance {
     }
 
     /// The plan as scheduled: each leg by its scheduled aircraft at its scheduled departure, and
-    /// the passengers of each reservation on its scheduled path.
+    /// the passengers of each reservation on its scheduled path. The only error is out of memory.
     pub fn schedule(&self, alloc: Global) -> Result<Plan, NoMem>
         ensures plan { IfOk result (λ plan. plan ≡ schedule self.now) }
         ensures valid { IfOk result (λ plan. IsPlanFor self.now plan) }

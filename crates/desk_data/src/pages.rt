@@ -27,7 +27,7 @@ impl Model for Pages {
 }
 
 impl Pages {
-    /// The pages of an equal plan.
+    /// The pages of an equal plan. The only error is out of memory.
     pub fn of(alloc: Global, plan: &Plan) -> Result<Pages, NoMem>
         ensures { IfOk result (λ pages. pages ≡ plan.now) }
     {
@@ -35,7 +35,7 @@ impl Pages {
         Ok(Pages { plan })
     }
 
-    /// Equal pages, which may be the same ones in memory.
+    /// Equal pages, which may be the same ones in memory. The only error is out of memory.
     pub fn share(&self, alloc: Global) -> Result<Pages, NoMem>
         ensures { IfOk result (λ shared. shared ≡ self.now) }
     {
@@ -43,7 +43,7 @@ impl Pages {
         Ok(Pages { plan })
     }
 
-    /// An equal plan.
+    /// An equal plan. The only error is out of memory.
     pub fn to_plan(&self, alloc: Global) -> Result<Plan, NoMem>
         ensures { IfOk result (λ plan. plan ≡ self.now) }
     {

@@ -42,7 +42,8 @@ impl Evaluator {
     ghost use Rattle.desk_rules.specs.Cost.{cost, grains};
     ghost use Rattle.desk_eval.specs.Evaluated.{after_change, row_reads, group_reads};
 
-    /// The evaluator of a plan, with an empty past.
+    /// The evaluator of a plan, with an empty past. The plan is one for the instance. The only error is
+    /// out of memory.
     pub fn open(alloc: Global, inst: Instance, plan: &Plan) -> Result<Evaluator, NoMem>
         requires { IsPlanFor inst plan.now }
         ensures { IfOk result (λ opened. opened ≡ record { inst = inst; rows = plan.now; past = [] }) }
@@ -96,9 +97,10 @@ impl Evaluator {
         self.past.len() as u32
     }
 
-    /// Gives a leg another row, and answers the one that it had. The past grows by one. Of the plan
-    /// it reads under `steps` at most 40 rows, and 20 for each group whose path has the leg. After
-    /// an error the evaluator is as before.
+    /// Gives a leg another row, and answers the one that it had. The past, which has fewer than
+    /// 2,000,000,000 changes, grows by one. Of the plan it reads under `steps` at most 40 rows, and 20
+    /// for each group whose path has the leg; what the check and the cost read is not counted, and is
+    /// the whole plan. After an error, which is out of memory, the evaluator is as before.
     pub fn set_row<L: Ledger>(
         &mut self,
         alloc: Global,
@@ -130,9 +132,11 @@ impl Evaluator {
         }
     }
 
-    /// Gives a reservation other groups, and answers those that it had. The past grows by one. Of
-    /// the plan it reads under `steps` at most 20 rows for each of the groups before and after.
-    /// After an error the evaluator is as before, and the groups handed in are given up.
+    /// Gives a reservation other groups, and answers those that it had. The past, which has fewer than
+    /// 2,000,000,000 changes, grows by one. Of the plan it reads under `steps` at most 20 rows for each
+    /// of the groups before and after; what the check and the cost read is not counted, and is the
+    /// whole plan. After an error, which is out of memory, the evaluator is as before, and the groups
+    /// handed in are given up.
     pub fn set_groups<L: Ledger>(
         &mut self,
         alloc: Global,
@@ -170,7 +174,7 @@ impl Evaluator {
         }
     }
 
-    /// An evaluator of the same instance and plan, with an empty past.
+    /// An evaluator of the same instance and plan, with an empty past. The only error is out of memory.
     pub fn copy(&self, alloc: Global) -> Result<Evaluator, NoMem>
         ensures { IfOk result (λ copy. copy ≡ record self.now { past = [] }) }
     {
@@ -185,8 +189,8 @@ impl Evaluator {
         })
     }
 
-    /// Takes the last change back: the plan and the past are those from before it. It takes no
-    /// memory.
+    /// Takes the last change back: the plan and the past are those from before it. The past is not
+    /// empty. It takes no memory.
     pub fn back(&mut self)
         requires { 0 < length self.old.past }
         ensures plan { self.new.rows ∷ self.new.past ≡ self.old.past }

@@ -21,7 +21,7 @@ use Rattle.desk_rules.specs.Passengers.{is_carried, all_flown, connects}
 use Rattle.desk_rules.specs.Carriage.{each_carried, is_good_path, is_in_time_path, keeps_c13, keeps_c14, keeps_c15}
 use Rattle.desk_rules.proofs.HourLaws.{length-numbers}
 use Rattle.desk_rules.proofs.Tests.{implies-from}
-use Rattle.desk_rules.proofs.CarriageLaws.{is_good_path-holds, is_good_path-from, is_in_time-holds, is_in_time-from, bound-holds, bound-from, keeps_c13-holds, keeps_c14-holds, keeps_c15-holds}
+use Rattle.desk_rules.proofs.CarriageLaws.{is_good_path-holds, is_good_path-from, is_in_time-holds, is_in_time-from, keeps_c13-holds, keeps_c14-holds, keeps_c15-holds}
 use Rattle.desk_model.specs.Rebook.{passengers_on, same_path, count_on, group_of}
 use Rattle.desk_model.specs.Tidy.{is_fit_path, IsFit, stays_carried, groups_after_tidy, after_tidy, AreNoMoreCarried, TidiesReservation}
 use Rattle.desk_model.proofs.PathOrder.{path_same, is_eq-holds, pairs_append}
@@ -252,11 +252,11 @@ fit_from I P r path good in_time is_bound =
 pub is_fit-holds : (I : Situation) (P : PlanRows) (r : ℕ) (path : List (Leg × Cabin)) → is_fit_path I P r path ≡ true → IsFit I P r path
 is_fit-holds I P r path fit =
     let parts = fit_parts I P r path fit in
-    record { there = is_good_path-holds I P r path parts.0; in_time = is_in_time-holds I P r path parts.1; begun = bound-holds I r (groups_at P r) path parts.2 }
+    record { there = is_good_path-holds I P r path parts.0; in_time = is_in_time-holds I P r path parts.1; begun = parts.2 }
 
 pub is_fit-from : (I : Situation) (P : PlanRows) (r : ℕ) (path : List (Leg × Cabin)) → IsFit I P r path → is_fit_path I P r path ≡ true
 is_fit-from I P r path fit =
-    fit_from I P r path (is_good_path-from I P r path fit.there) (is_in_time-from I P r path fit.in_time) (bound-from I r (groups_at P r) path fit.begun)
+    fit_from I P r path (is_good_path-from I P r path fit.there) (is_in_time-from I P r path fit.in_time) fit.begun
 
 tidy-good : (I : Situation) (P : PlanRows) (r : ℕ) (path : List (Leg × Cabin)) → is_good_path I (after_tidy I P) r path ≡ is_good_path I P r path
 unfolding after_tidy

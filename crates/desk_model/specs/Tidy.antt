@@ -8,7 +8,7 @@ use Rattle.desk_data.specs.PlanRows.{PlanRows, groups_at}
 use Rattle.desk_rules.specs.Numbers.{numbers}
 use Rattle.desk_rules.specs.Passengers.{is_carried}
 use Rattle.desk_rules.specs.Carriage.{is_good_path, is_in_time_path}
-use Rattle.desk_rules.specs.Words.{IsFlown, TakesThere, ArrivesInTime, BeginsAsBegun, MeetsC13, MeetsC14, MeetsC15}
+use Rattle.desk_rules.specs.Words.{IsFlown, TakesThere, ArrivesInTime, MeetsC13, MeetsC14, MeetsC15}
 use Rattle.desk_model.specs.Rebook.{passengers_on, count_on, group_of}
 
 -- whether a path meets C13, C14 and C15 for passengers of reservation r
@@ -29,11 +29,11 @@ groups_after_tidy I P r =
 unfoldable pub after_tidy : Situation → PlanRows → PlanRows
 after_tidy I P = record P { groups = map (groups_after_tidy I P) (numbers (reservations_of I)) }
 
--- the path meets them in words: it takes passengers of reservation r where they want to go, arrives in time where all its legs are flown, and begins as it has begun
+-- the path meets them in words: it takes passengers of reservation r where they want to go, arrives in time where all its legs are flown, and is one that they are bound to
 pub record IsFit (I : Situation) (P : PlanRows) (r : ℕ) (path : List (Leg × Cabin)) : Type 0 where
   pub there : TakesThere I P r path
   pub in_time : All (λ pair. IsFlown P pair.0.0) path → ArrivesInTime I P r path
-  pub begun : BeginsAsBegun I r path
+  pub begun : bound I r (groups_at P r) path ≡ true
 
 -- what a Tidy makes of reservation r, of plan P before the step and plan Q after it
 pub record TidiesReservation (I : Situation) (P Q : PlanRows) (r : ℕ) : Type 0 where

@@ -7,14 +7,14 @@ use Rattle.desk_data.specs.PlanRows.{PlanRows, row_at}
 use Rattle.desk_rules.specs.Numbers.{each_below, none_below, implies}
 use Rattle.desk_rules.specs.Rotations.{precedes, follows, is_first}
 use Rattle.desk_rules.proofs.Tests.{each_below-holds, each_below-from, none_below-holds, none_below-from, implies-holds, implies-from}
-use Rattle.plan_reads.specs.Before.{IsNearest, IsLastBefore}
+use Rattle.plan_reads.specs.Before.{IsNearest, IsLegBefore}
 use Rattle.plan_reads.proofs.OrderLaws.{comes_before-total, not_both, same_tests}
 
 -- where no leg comes before y, it is the first, and follows none
-pub none_first : (I : Situation) (P : PlanRows) (y : ℕ) → IsLastBefore P.rows (legs_of I) y None → is_first I P y ≡ true
+pub none_first : (I : Situation) (P : PlanRows) (y : ℕ) → IsLegBefore P.rows (legs_of I) y None → is_first I P y ≡ true
 none_first I P y h = none_below-from (legs_of I) (λ x. precedes P x y) (λ x lt before. not_both (precedes P x y) before (h x lt))
 
-pub none_follows : (I : Situation) (P : PlanRows) (y : ℕ) (test : ℕ → Bool) → IsLastBefore P.rows (legs_of I) y None → each_below (legs_of I) (λ x. implies (follows I P x y) (test x)) ≡ true
+pub none_follows : (I : Situation) (P : PlanRows) (y : ℕ) (test : ℕ → Bool) → IsLegBefore P.rows (legs_of I) y None → each_below (legs_of I) (λ x. implies (follows I P x y) (test x)) ≡ true
 none_follows I P y test h =
     each_below-from (legs_of I) (λ x. implies (follows I P x y) (test x)) (λ x lt.
     implies-from (follows I P x y) (test x) (λ next.

@@ -22,7 +22,7 @@ use Rattle.desk_data.specs.declared.row.Row.TheVariants.{Flown, Cancelled}
 use Rattle.desk_rules.specs.Numbers.{numbers}
 use Rattle.desk_rules.specs.Rotations.{is_earlier}
 use Rattle.plan_reads.specs.declared.order.Turn.{Turn}
-use Rattle.plan_reads.specs.Before.{precedes_in, IsNearest, IsLastBefore, AreBefore}
+use Rattle.plan_reads.specs.Before.{precedes_in, IsNearest, IsLegBefore, AreBefore}
 use Rattle.plan_reads.specs.Order.{turn_of, turns, turn_at, no_turn, neighbour}
 use Rattle.plan_reads.proofs.OrderLaws.{not_both, turns_cmp, is_ahead, in_order, ahead-from_cmp, ahead-asymmetric, ahead-from_order, order-from_ahead, ahead-irreflexive, between}
 
@@ -256,7 +256,7 @@ is_below a b h = grind (arith, nat_tests)
 other_plane : (k : ℕ) (same : Bool) → 0 < k → (ltb 0 k && same) ≡ false → same ≡ false
 other_plane k same less none = grind (arith, nat_tests)
 
-pub neighbour_last : (rows : List Row) (n : ℕ) (ts : List Turn) (k : ℕ) → IsTurnOrder rows n ts → k < length ts → IsLastBefore rows n (turn_at ts k).leg.0 (neighbour ts k)
+pub neighbour_last : (rows : List Row) (n : ℕ) (ts : List Turn) (k : ℕ) → IsTurnOrder rows n ts → k < length ts → IsLegBefore rows n (turn_at ts k).leg.0 (neighbour ts k)
 neighbour_last rows n ts k h lt =
     let some = ltb 0 k in
     let same = eqb (turn_at ts (k - 1)).plane.0 (turn_at ts k).plane.0 in
@@ -299,13 +299,13 @@ other_place ts j k within apart =
 unequal_numbers : (a b : ℕ) → eqb a b ≡ false → a ≢ b
 unequal_numbers a b h same = not_both (eqb a b) (equal_test a b same) h
 
-pub link_right : (rows : List Row) (n : ℕ) (ts : List Turn) (k : ℕ) (before : List (Option Leg)) → IsTurnOrder rows n ts → k < length ts → length before ≡ n → ((j : ℕ) → j < k → IsLastBefore rows n (leg_in ts j) (get_or before (leg_in ts j) None)) → (j : ℕ) → j < k + 1 → IsLastBefore rows n (leg_in ts j) (get_or (set before (leg_in ts k) (neighbour ts k)) (leg_in ts j) None)
+pub link_right : (rows : List Row) (n : ℕ) (ts : List Turn) (k : ℕ) (before : List (Option Leg)) → IsTurnOrder rows n ts → k < length ts → length before ≡ n → ((j : ℕ) → j < k → IsLegBefore rows n (leg_in ts j) (get_or before (leg_in ts j) None)) → (j : ℕ) → j < k + 1 → IsLegBefore rows n (leg_in ts j) (get_or (set before (leg_in ts k) (neighbour ts k)) (leg_in ts j) None)
 link_right rows n ts k before h lt legs right j within =
     let last = neighbour ts k in
     let room : leg_in ts k < length before = omega (arith, (h.sound k no_turn lt).within) in
     elim (cases_Bool (eqb (leg_in ts j) (leg_in ts k))) [
       | inl same ↦
-          subst (λ (x : ℕ). IsLastBefore rows n x (get_or (set before (leg_in ts k) last) x None)) (sym (equal_numbers (leg_in ts j) (leg_in ts k) same))
+          subst (λ (x : ℕ). IsLegBefore rows n x (get_or (set before (leg_in ts k) last) x None)) (sym (equal_numbers (leg_in ts j) (leg_in ts k) same))
           (rw (get_or-set_same before (leg_in ts k) last None room) (neighbour_last rows n ts k h lt))
       | inr apart ↦
           rw (get_or-set_other before (leg_in ts k) (leg_in ts j) last None (unequal_numbers (leg_in ts j) (leg_in ts k) apart))
@@ -326,16 +326,16 @@ none_before : (rows : List Row) (x y : ℕ) (row : Row) → row_in rows x ≡ ro
 none_before rows x y (Flown plane dep) e off = rw (e, off) refl
 none_before rows x y Cancelled e off = rw e refl
 
-linked_at : (rows : List Row) (ts : List Turn) (before : List (Option Leg)) → IsTurnOrder rows (length rows) ts → ((j : ℕ) → j < length ts → IsLastBefore rows (length rows) (leg_in ts j) (get_or before (leg_in ts j) None)) → ((y : ℕ) → y < length rows → row_in rows y ≡ Cancelled → get_or before y None ≡ None) → (y : ℕ) → y < length rows → (row : Row) → row_in rows y ≡ row → IsLastBefore rows (length rows) y (get_or before y None)
+linked_at : (rows : List Row) (ts : List Turn) (before : List (Option Leg)) → IsTurnOrder rows (length rows) ts → ((j : ℕ) → j < length ts → IsLegBefore rows (length rows) (leg_in ts j) (get_or before (leg_in ts j) None)) → ((y : ℕ) → y < length rows → row_in rows y ≡ Cancelled → get_or before y None ≡ None) → (y : ℕ) → y < length rows → (row : Row) → row_in rows y ≡ row → IsLegBefore rows (length rows) y (get_or before y None)
 linked_at rows ts before h right blank y within (Flown plane dep) e =
     let t : Turn = record { plane = plane; dep = dep; leg = record { 0 = y } } in
     let at = h.whole t (record { within = within; row = e }) in
     let leg : leg_in ts at.0 ≡ y = ap (λ (t : Turn). t.leg.0) (get_or_default ts at.0 no_turn t at.1 ∙ at.2) in
-    subst (λ (x : ℕ). IsLastBefore rows (length rows) x (get_or before x None)) leg (right at.0 at.1)
+    subst (λ (x : ℕ). IsLegBefore rows (length rows) x (get_or before x None)) leg (right at.0 at.1)
 linked_at rows ts before h right blank y within Cancelled e =
     rw (blank y within e) (λ x lt. none_before rows x y (row_in rows x) refl e)
 
-pub linked : (rows : List Row) (ts : List Turn) (before : List (Option Leg)) → IsTurnOrder rows (length rows) ts → length before ≡ length rows → ((j : ℕ) → j < length ts → IsLastBefore rows (length rows) (leg_in ts j) (get_or before (leg_in ts j) None)) → ((y : ℕ) → y < length rows → row_in rows y ≡ Cancelled → get_or before y None ≡ None) → AreBefore rows before
+pub linked : (rows : List Row) (ts : List Turn) (before : List (Option Leg)) → IsTurnOrder rows (length rows) ts → length before ≡ length rows → ((j : ℕ) → j < length ts → IsLegBefore rows (length rows) (leg_in ts j) (get_or before (leg_in ts j) None)) → ((y : ℕ) → y < length rows → row_in rows y ≡ Cancelled → get_or before y None ≡ None) → AreBefore rows before
 linked rows ts before h legs right blank = record {
   legs = legs;
   each = λ y within. linked_at rows ts before h right blank y within (row_in rows y) refl;

@@ -16,11 +16,11 @@ pub record IsNearest (rows : List Row) (n y x : ℕ) : Type 0 where
   pub nearest : (z : ℕ) → z < n → precedes_in rows z y ≡ true → precedes_in rows x z ≡ false
 
 -- the last of the first n legs that come before leg y, if any does
-abbrev pub IsLastBefore : List Row → ℕ → ℕ → Option Leg → Type 0
-IsLastBefore rows n y None = (x : ℕ) → x < n → precedes_in rows x y ≡ false
-IsLastBefore rows n y (Some leg) = IsNearest rows n y leg.0
+abbrev pub IsLegBefore : List Row → ℕ → ℕ → Option Leg → Type 0
+IsLegBefore rows n y None = (x : ℕ) → x < n → precedes_in rows x y ≡ false
+IsLegBefore rows n y (Some leg) = IsNearest rows n y leg.0
 
 -- for each leg of these rows the last that comes before it
 pub record AreBefore (rows : List Row) (before : List (Option Leg)) : Type 0 where
   pub legs : length before ≡ length rows
-  pub each : (y : ℕ) → y < length rows → IsLastBefore rows (length rows) y (slice_index_or before y None)
+  pub each : (y : ℕ) → y < length rows → IsLegBefore rows (length rows) y (slice_index_or before y None)

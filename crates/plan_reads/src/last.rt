@@ -34,6 +34,7 @@ impl Moments for Minute {
 
 /// Writes for each aircraft its last leg that departs before its moment, or `None` where none does,
 /// in one walk over all legs. Of two legs that depart together the greater number is the later one.
+/// `lasts` has a place for each aircraft.
 pub fn put_lasts<M: Moments, P: ReadPlan>(
     moments: &M,
     inst: &Instance,

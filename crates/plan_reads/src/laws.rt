@@ -7,13 +7,13 @@ ghost use Rattle.desk_data.specs.PlanRows.{PlanRows};
 ghost use Rattle.desk_rules.specs.Numbers.{none_below};
 ghost use Rattle.desk_rules.specs.Rotations.{follows, is_first};
 ghost use Rattle.desk_rules.specs.Maintenance.{departs_before, is_last_before, is_left_at};
-ghost use Rattle.plan_reads.specs.Before.{IsLastBefore};
+ghost use Rattle.plan_reads.specs.Before.{IsLegBefore};
 ghost use Rattle.plan_reads.specs.Last.{IsLastOf, stand};
 
 /// A leg follows the leg before it; where it has none, it is the first of its aircraft.
 pub fn the_leg_before_a_leg_is_followed_by_it()
-    ensures next { (I : Situation) (P : PlanRows) (y : ℕ) (leg : Leg) → IsLastBefore P.rows (legs_of I) y (Some leg) → follows I P leg.0 y ≡ true }
-    ensures first { (I : Situation) (P : PlanRows) (y : ℕ) → IsLastBefore P.rows (legs_of I) y None → is_first I P y ≡ true }
+    ensures next { (I : Situation) (P : PlanRows) (y : ℕ) (leg : Leg) → IsLegBefore P.rows (legs_of I) y (Some leg) → follows I P leg.0 y ≡ true }
+    ensures first { (I : Situation) (P : PlanRows) (y : ℕ) → IsLegBefore P.rows (legs_of I) y None → is_first I P y ≡ true }
 {}
 
 /// The last leg of an aircraft before a moment is the one of which the rules speak; where there is

@@ -17,7 +17,7 @@ pub(crate) struct Turn {
 
 /// For each leg the leg before it on its aircraft, or `None` where it is cancelled or the first: of
 /// two legs of an aircraft that depart together the lesser number comes first. The flown legs are
-/// sorted once.
+/// sorted once. There are at most 20,000 rows. The only error is out of memory.
 pub fn legs_before(alloc: Global, rows: &[Row]) -> Result<Vec<Option<Leg>>, NoMem>
     requires { length rows.now ≤ 20000 }
     ensures { IfOk result (λ before. AreBefore rows.now before.items) }

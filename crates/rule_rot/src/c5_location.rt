@@ -4,7 +4,7 @@ ghost use Rattle.std.specs.Prelude.{◌≡◌, ◌<◌};
 ghost use Rattle.desk_data.specs.Situation.{legs_of};
 ghost use Rattle.desk_data.specs.Valid.{IsPlanFor};
 ghost use Rattle.desk_rules.specs.Rules.{keeps_c5};
-ghost use Rattle.plan_reads.specs.Before.{IsLastBefore};
+ghost use Rattle.plan_reads.specs.Before.{IsLegBefore};
 
 use desk_data::{Instance, Leg, Plan, Row};
 use plan_reads::stand_of;
@@ -14,7 +14,7 @@ use plan_reads::stand_of;
 pub(crate) fn c5_location(inst: &Instance, plan: &Plan, leg: Leg, before: Option<Leg>) -> bool
     requires plan { IsPlanFor inst.now plan.now }
     requires leg { leg.0 < legs_of inst.now }
-    requires before { IsLastBefore plan.now.rows (legs_of inst.now) leg.0 before }
+    requires before { IsLegBefore plan.now.rows (legs_of inst.now) leg.0 before }
     ensures { result ≡ keeps_c5 inst.now plan.now leg.0 }
 {
     match plan.read_row(leg) {

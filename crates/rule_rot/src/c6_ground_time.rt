@@ -6,7 +6,7 @@ ghost use Rattle.desk_data.specs.Situation.{legs_of, planes_of};
 ghost use Rattle.desk_data.specs.Valid.{IsPlanFor};
 ghost use Rattle.desk_rules.specs.Rotations.{ground};
 ghost use Rattle.desk_rules.specs.Rules.{keeps_c6};
-ghost use Rattle.plan_reads.specs.Before.{IsLastBefore};
+ghost use Rattle.plan_reads.specs.Before.{IsLegBefore};
 ghost use Rattle.rule_rot.specs.Before.{is_ready};
 
 use desk_data::{Instance, Leg, Minute, Plan, Plane, Row};
@@ -17,7 +17,7 @@ use plan_reads::arrival;
 pub(crate) fn c6_ground_time(inst: &Instance, plan: &Plan, leg: Leg, before: Option<Leg>) -> bool
     requires plan { IsPlanFor inst.now plan.now }
     requires leg { leg.0 < legs_of inst.now }
-    requires before { IsLastBefore plan.now.rows (legs_of inst.now) leg.0 before }
+    requires before { IsLegBefore plan.now.rows (legs_of inst.now) leg.0 before }
     ensures { result ≡ keeps_c6 inst.now plan.now leg.0 }
 {
     match plan.read_row(leg) {

@@ -1,7 +1,7 @@
 use Rattle.std.proofs.Common.{◌≡◌, ℕ, ◌<◌, arith, sym, ap, ◌∙◌, subst, length, get_or, set}
 use Rattle.std.specs.Prelude.{None}
 use Rattle.std.proofs.lemmas.List.{get_or_default, length-set}
-use Rattle.plan_reads.specs.Before.{IsLastBefore}
+use Rattle.plan_reads.specs.Before.{IsLegBefore}
 use Rattle.plan_reads.specs.Order.{turn_at, no_turn, neighbour}
 use Rattle.plan_reads.proofs.TurnLaws.{sorted_turns, link_right, link_blank, linked}
 use Rattle.plan_reads.proofs.order.legs_before.Goals as goal
@@ -28,7 +28,7 @@ loop-k-preserved c =
     record {
       legs = length-set c.loop-k.before.items c.index.result.now.leg.0 c.left_neighbour.result ∙ c.loop-k.invariant.legs;
       right = λ j below.
-          subst (λ before. IsLastBefore rows (length rows) (turn_at ts j).leg.0 (get_or before (turn_at ts j).leg.0 None)) written
+          subst (λ before. IsLegBefore rows (length rows) (turn_at ts j).leg.0 (get_or before (turn_at ts j).leg.0 None)) written
           (link_right rows (length rows) ts c.loop-k.k c.loop-k.before.items order lt c.loop-k.invariant.legs c.loop-k.invariant.right j below);
       blank = λ y within off.
           subst (λ before. get_or before y None ≡ None) written
