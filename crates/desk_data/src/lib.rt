@@ -22,7 +22,6 @@ mod hours;
 mod info;
 mod instance;
 mod moves;
-mod pages;
 mod parts;
 mod path;
 mod plan;
@@ -38,7 +37,6 @@ pub use desk_units::{
 pub use info::{AirportInfo, Cap, LegInfo, Maint, PlaneInfo, PositionInfo, ResInfo};
 pub use instance::Instance;
 pub use moves::{Move, Step, fits};
-pub use pages::Pages;
 pub use parts::Parts;
 pub use path::Path;
 pub use plan::Plan;

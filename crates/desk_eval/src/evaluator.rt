@@ -4,7 +4,8 @@ ghost use Rattle.std.specs.Prelude.{◌≡◌, ◌+◌, ◌<◌, ◌≤◌, [], 
 
 use crate::change::{Change, Judged, Replaced};
 use crate::judge::{copied_groups, judge, judge_with_groups, judge_with_row, put_back};
-use desk_data::{Broken, Grains, Group, Instance, Leg, List, NoMem, Pages, Plan, Res, Row, Steps};
+use desk_data::{Broken, Grains, Group, Instance, Leg, List, NoMem, Plan, Res, Row, Steps};
+use plan_pages::Pages;
 use std::alloc::Global;
 use std::marker::Model;
 use std::sync::ledger::Ledger;

@@ -7,9 +7,10 @@ ghost use Rattle.desk_data.specs.Valid.{IsRowOf, AreGroupsOf, IsPlanFor};
 ghost use Rattle.desk_eval.specs.Past.{IsJudged, HasPlace, plan_before};
 
 use crate::change::{Judged, Replaced};
-use desk_data::{Group, Instance, Leg, NoMem, Pages, Res, Row};
+use desk_data::{Group, Instance, Leg, NoMem, Res, Row};
 use full_check::full_check;
 use full_cost::full_cost;
+use plan_pages::Pages;
 use std::alloc::Global;
 
 /// What a plan breaks first, and what it costs.

@@ -3,7 +3,7 @@
 ghost use Rattle.std.specs.Prelude.{◌≡◌, ◌<◌, length};
 ghost use Rattle.desk_data.specs.PlanRows.{AreGroups, IsRow, PlanRows, groups_at, row_at};
 
-use desk_data::{Group, Leg, Pages, Plan, Res, Row};
+use desk_data::{Group, Leg, Plan, Res, Row};
 
 /// What has the rows and the groups of a plan. No step is counted.
 pub trait ReadPlan {
@@ -32,17 +32,5 @@ impl ReadPlan for Plan {
 
     fn groups(&self, res: Res) -> &[Group] {
         Plan::groups(self, res)
-    }
-}
-
-impl ReadPlan for Pages {
-    ghost plan_of = { λ pages. pages };
-
-    fn read_row(&self, leg: Leg) -> Row {
-        Pages::read_row(self, leg)
-    }
-
-    fn groups(&self, res: Res) -> &[Group] {
-        Pages::groups(self, res)
     }
 }

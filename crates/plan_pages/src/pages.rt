@@ -3,9 +3,8 @@
 ghost use Rattle.std.specs.Prelude.{◌≡◌, ◌+◌, ◌<◌, length, IfOk, OnOk, OnErr};
 ghost use Rattle.desk_data.specs.PlanRows.{IsRow, AreGroups, IsSound, row_at, groups_at, with_row, with_groups};
 
-use crate::plan::Plan;
-use crate::row::{Group, Row};
-use desk_units::{Leg, NoMem, Res, Steps};
+use desk_data::{Group, Leg, NoMem, Plan, Res, Row, Steps};
+use plan_reads::ReadPlan;
 use std::alloc::Global;
 use std::marker::Model;
 use std::sync::ledger::Ledger;
@@ -128,5 +127,17 @@ impl Pages {
         ensures { self.new ≡ with_groups self.old res.0 groups.items }
     {
         self.plan.put_groups(res, groups);
+    }
+}
+
+impl ReadPlan for Pages {
+    ghost plan_of = { λ pages. pages };
+
+    fn read_row(&self, leg: Leg) -> Row {
+        Pages::read_row(self, leg)
+    }
+
+    fn groups(&self, res: Res) -> &[Group] {
+        Pages::groups(self, res)
     }
 }
