@@ -9,8 +9,10 @@ but for the airports and the tariff, so that half the distances are of half the 
 flies 20 legs there and back between two airports. The day, one of half its rows and one of no rows are
 run with a journal whose one line names a leg that is not there, so that a run ends when all is read and
 joined; and the first two with an empty journal, so that the schedule is checked and written too; and
-with one of moves that change nothing, for each of which the plan is copied, checked by all rules and its
-cost summed. The day of no rows tells the start of the program apart. The desk runs on one processor.
+with one of moves of one step that changes nothing but is judged: the plan is checked by all rules and its cost
+summed. The day of no rows tells the start of the program apart. Then the whole day is run with a journal
+of each of some usual moves, asked again and again, which are told and not limited. The desk runs on one
+processor.
 
 The last lines say how many bytes a second were read and joined, how long a move takes, and how much
 longer twice the rows took. The status is 1 where that is less than 40 MB a second, more than 100 ms a
@@ -31,6 +33,16 @@ AIRPORTS = 500
 UNKNOWN = "1,move,set F0 02/03/08 - -\n"
 MOVES = 40
 UNCHANGED = "1,move,set F0 01/03/08 + P0 01/03/08 00:00 + P0 01/03/08 00:00\n" * MOVES
+# usual moves, each refused, so that the next one meets the same plan; and how often each is asked
+USUAL = [
+    ("a set", "set F0 01/03/08 + P0 01/03/08 00:00 + P0 01/03/08 00:01", 40),
+    ("a delay by half an hour", "set F0 01/03/08 + P0 01/03/08 00:00 + P0 01/03/08 00:30 push P0 after F0 01/03/08 tidy", 5),
+    ("a cancellation", "set F0 01/03/08 + P0 01/03/08 00:00 - tidy", 5),
+    ("a swap", "swap P0 P500 01/03/08 12:00 push P0 all push P500 all tidy", 5),
+    ("a rebooking", "rebook R0 A 1 1 F0 01/03/08 B 0", 40),
+    ("a tidy", "tidy", 40),
+    ("a refill", "refill F0 01/03/08", 40),
+]
 LEAST_RATE = 40.0
 MOST_MILLISECONDS = 100.0
 MOST_RATIO = 2.3
@@ -143,8 +155,11 @@ def main():
     move_ratio = (whole_moved - whole_checked) / (half_moved - half_checked)
     print("%.1f MB a second read and joined (at least %.0f)" % (rate, LEAST_RATE))
     print("%.2f times as long for twice the rows (at most %.1f)" % (ratio, MOST_RATIO))
-    print("%.1f ms a move: copied, checked, its cost summed (at most %.0f)" % (move, MOST_MILLISECONDS))
+    print("%.1f ms a move: checked, its cost summed (at most %.0f)" % (move, MOST_MILLISECONDS))
     print("%.2f times as long for twice the legs (at most %.1f)" % (move_ratio, MOST_RATIO))
+    for name, steps, count in USUAL:
+        _, moved = run(legs, name, ("1,move,%s\n" % steps) * count)
+        print("%.1f ms %s" % (1000 * (moved - whole_checked) / count, name))
     held = rate >= LEAST_RATE and move <= MOST_MILLISECONDS and max(ratio, move_ratio) <= MOST_RATIO
     return 0 if held else 1
 

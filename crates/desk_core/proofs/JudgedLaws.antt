@@ -1,42 +1,48 @@
--- What judging a move at a state finds out, case by case.
-use Rattle.std.proofs.Common.{◌≡◌, ◌<◌, ◌≤◌, true, leb, refl, sym, ap, ◌∙◌}
-use Rattle.std.specs.Prelude.{None, Some, Option}
-use Rattle.std.proofs.lemmas.Bool.{le-leb}
+-- What judging a move at the plan of an evaluator finds out.
+use Rattle.std.proofs.Common.{◌≡◌, refl, ◌∙◌}
+use Rattle.std.specs.Prelude.{None, Some}
+use Rattle.desk_units.specs.declared.money.Grains.{Grains}
 use Rattle.desk_data.specs.declared.broken.Broken.{Broken}
-use Rattle.desk_data.specs.declared.moves.Move.{Move}
-use Rattle.desk_data.specs.Situation.{Situation}
-use Rattle.desk_data.specs.PlanRows.{PlanRows}
-use Rattle.desk_data.specs.Valid.{IsPlanFor}
+use Rattle.plan_moves.specs.declared.moves.Move.{Move}
 use Rattle.desk_rules.specs.Least.{least}
 use Rattle.desk_rules.specs.Cost.{cost, grains}
-use Rattle.desk_model.specs.declared.answer.Answer.TheVariants.{Breaks, Dearer, NoPlan}
+use Rattle.desk_model.specs.declared.answer.Answer.{Answer}
+use Rattle.desk_model.specs.declared.answer.Answer.TheVariants.{NoPlan}
+use Rattle.desk_model.specs.declared.answer.Event.TheVariants as event
 use Rattle.desk_model.specs.Steps.{after_move}
-use Rattle.desk_model.specs.States.{State, answer}
-use Rattle.desk_model.proofs.StateLaws.{accepted-from}
-use Rattle.desk_core.specs.declared.judged.Judged.TheVariants.{Published, Refused}
-use Rattle.desk_core.specs.Judged.{IsJudged}
+use Rattle.desk_model.specs.States.{verdict, answer}
+use Rattle.desk_eval.specs.Evaluated.{Evaluated}
+use Rattle.desk_moves.specs.Back.{WayBack, back_to}
+use Rattle.desk_core.specs.Judged.{state_in, IsVerdict, IsMoved, IsRefused}
 
--- a state by its parts
-abbrev pub at : Situation → PlanRows → Option Broken → State
-at I P broken = record { inst = I; plan = P; broken = broken }
-
-pub judged_without_plan : (I : Situation) (P : PlanRows) (broken : Option Broken) (m : Move) (item : Broken) → broken ≡ Some item → IsJudged (at I P broken) m (Refused (NoPlan item))
+-- where the rows break an item there is no plan
+pub judged_without_plan : (E : Evaluated) (m : Move) (item : Broken) → least E.inst E.rows ≡ Some item → IsRefused E m E (NoPlan item)
 unfolding answer
-judged_without_plan I P broken m item is = (rw is refl, refl)
+judged_without_plan E m item is = record { answered = rw is refl; refused = refl; same = refl }
 
-pub judged_breaks : (I : Situation) (P : PlanRows) (broken : Option Broken) (m : Move) (item : Broken) → broken ≡ None → least I (after_move I P m) ≡ Some item → IsJudged (at I P broken) m (Refused (Breaks item))
+-- evaluator A is that of a published plan, of this cost, behind a move
+pub record IsApplied (E A : Evaluated) (m : Move) (now : Grains) : Type 0 where
+  pub published : least E.inst E.rows ≡ None
+  pub costs : now ≡ grains (cost E.inst E.rows)
+  pub inst : A.inst ≡ E.inst
+  pub rows : A.rows ≡ after_move E.inst E.rows m
+
+-- the answer is then the verdict on what A breaks and costs
+answer_is : (E A : Evaluated) (m : Move) (now : Grains) → IsApplied E A m now → answer (state_in E) (event.Move m) ≡ verdict (least A.inst A.rows) now.0 (cost A.inst A.rows)
 unfolding answer
-judged_breaks I P broken m item is breaks = (rw (is, breaks) refl, refl)
+answer_is E A m now h = rw (h.published, h.costs, h.inst, h.rows) refl
 
-pub judged_dearer : (I : Situation) (P : PlanRows) (broken : Option Broken) (m : Move) → broken ≡ None → least I (after_move I P m) ≡ None → cost I P ≤ cost I (after_move I P m) → IsJudged (at I P broken) m (Refused (Dearer (grains (cost I P)) (grains (cost I (after_move I P m)))))
-unfolding answer
-judged_dearer I P broken m is feasible dear =
-    let test : leb (cost I P) (cost I (after_move I P m)) ≡ true = le-leb (cost I P) (cost I (after_move I P m)) dear in
-    (rw (is, feasible, test) refl, refl)
+pub judged_refused : (E A F : Evaluated) (m : Move) (now : Grains) (told : Answer) → IsApplied E A m now → IsVerdict (verdict (least A.inst A.rows) now.0 (cost A.inst A.rows)) (cost A.inst A.rows) (Some told) → F ≡ E → IsRefused E m F told
+judged_refused E A F m now told h is same = record {
+  answered = answer_is E A m now h ∙ is.0;
+  refused = is.1;
+  same = same;
+}
 
-pub judged_published : (I : Situation) (P Q : PlanRows) (broken : Option Broken) (m : Move) → broken ≡ None → Q ≡ after_move I P m → IsPlanFor I Q → least I Q ≡ None → cost I Q < cost I P → IsJudged (at I P broken) m (Published Q (grains (cost I Q)))
-judged_published I P Q broken m is made valid feasible cheaper = record {
-  answered = rw made (accepted-from (at I P broken) m is (ap (least I) (sym made) ∙ feasible) (rw (← made) cheaper));
-  made = made;
-  valid = valid;
+pub judged_moved : (E A : Evaluated) (m : Move) (now : Grains) (applied : WayBack) → IsApplied E A m now → IsVerdict (verdict (least A.inst A.rows) now.0 (cost A.inst A.rows)) (cost A.inst A.rows) None → back_to applied.depth A ≡ E → IsMoved E m A applied (grains (cost A.inst A.rows))
+judged_moved E A m now applied h is back = record {
+  answered = answer_is E A m now h ∙ is;
+  inst = h.inst;
+  rows = h.rows;
+  back = back;
 }

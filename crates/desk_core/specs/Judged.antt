@@ -1,24 +1,43 @@
 -- What judging a move finds out.
-use Rattle.std.specs.Prelude.{◌≡◌, false}
+use Rattle.std.specs.Prelude.{◌≡◌, ℕ, false, Option, Some, None}
 use Rattle.desk_units.specs.declared.money.Grains.{Grains}
-use Rattle.desk_data.specs.declared.moves.Move.{Move}
-use Rattle.desk_data.specs.PlanRows.{PlanRows}
-use Rattle.desk_data.specs.Valid.{IsPlanFor}
+use Rattle.plan_moves.specs.declared.moves.Move.{Move}
+use Rattle.desk_rules.specs.Least.{least}
+use Rattle.desk_rules.specs.Cost.{grains}
+use Rattle.desk_model.specs.declared.answer.Answer.{Answer}
 use Rattle.desk_model.specs.declared.answer.Answer.TheVariants.{Accepted}
 use Rattle.desk_model.specs.declared.answer.Event.TheVariants as event
 use Rattle.desk_model.specs.Steps.{after_move}
 use Rattle.desk_model.specs.States.{State, answer}
 use Rattle.desk_model.specs.Histories.{is_change}
+use Rattle.desk_eval.specs.Evaluated.{Evaluated}
+use Rattle.desk_moves.specs.Back.{WayBack, back_to}
 use Rattle.desk_core.specs.declared.judged.Judged.{Judged}
-use Rattle.desk_core.specs.declared.judged.Judged.TheVariants.{Published, Refused}
+use Rattle.desk_core.specs.declared.judged.Judged.TheVariants.{Moved, Refused}
 
--- the move is accepted at this cost, and this is the moved plan
-pub record IsPublished (S : State) (m : Move) (plan : PlanRows) (cost : Grains) : Type 0 where
-  pub answered : answer S (event.Move m) ≡ Accepted cost
-  pub made : plan ≡ after_move S.inst S.plan m
-  pub valid : IsPlanFor S.inst plan
+-- the state whose plan stands in an evaluator: what it breaks is what the plan breaks first
+abbrev pub state_in : Evaluated → State
+state_in E = record { inst = E.inst; plan = E.rows; broken = least E.inst E.rows }
 
--- the state's answer to the move, and with an acceptance the moved plan
-abbrev pub IsJudged : State → Move → Judged → Type 0
-IsJudged S m (Published plan cost) = IsPublished S m plan cost
-IsJudged S m (Refused told) = (answer S (event.Move m) ≡ told) × (is_change told ≡ false)
+-- whether a verdict refuses: where it does, this is told; else the move is accepted at this cost
+abbrev pub IsVerdict : Answer → ℕ → Option Answer → Type 0
+IsVerdict verdict would (Some told) = (verdict ≡ told) × (is_change told ≡ false)
+IsVerdict verdict would None = verdict ≡ Accepted (grains would)
+
+-- the move is accepted at this cost; the moved plan stands in the evaluator, and is taken back by this
+pub record IsMoved (before : Evaluated) (m : Move) (behind : Evaluated) (undo : WayBack) (cost : Grains) : Type 0 where
+  pub answered : answer (state_in before) (event.Move m) ≡ Accepted cost
+  pub inst : behind.inst ≡ before.inst
+  pub rows : behind.rows ≡ after_move before.inst before.rows m
+  pub back : back_to undo.depth behind ≡ before
+
+-- the move is refused with this answer, and the evaluator is as before
+pub record IsRefused (before : Evaluated) (m : Move) (behind : Evaluated) (told : Answer) : Type 0 where
+  pub answered : answer (state_in before) (event.Move m) ≡ told
+  pub refused : is_change told ≡ false
+  pub same : behind ≡ before
+
+-- what becomes of a move, between the evaluator before it and the one behind it
+abbrev pub IsJudged : Evaluated → Move → Evaluated → Judged → Type 0
+IsJudged before m behind (Moved undo cost) = IsMoved before m behind undo cost
+IsJudged before m behind (Refused told) = IsRefused before m behind told

@@ -2,12 +2,12 @@
 
 ghost use Rattle.std.specs.Prelude.{◌≡◌, ◌≤◌, [], length, drop, IfOk, OnOk, OnErr};
 
-use crate::judged::Judged;
-use crate::moved::{copied_move, moved_plan};
-use desk_data::{Broken, Grains, Instance, Move, NoMem, Plan};
+use crate::judged::{Judged, judge, publish};
+use desk_data::{Broken, Grains, Instance, NoMem};
+use plan_moves::Move;
+use desk_eval::Evaluator;
 use desk_model::{Answer, Entry, Event};
-use full_check::full_check;
-use full_cost::full_cost;
+use desk_moves::undo;
 use std::alloc::Global;
 use std::marker::Model;
 
@@ -18,12 +18,8 @@ const PROPOSAL_LIMIT: usize = 900_000;
 /// as the instance that it was opened with and its journal: its state is that of its journal.
 #[derive(Debug, Drop)]
 pub struct Book {
-    inst: Instance,
-    plan: Plan,
-    /// The first item that the plan breaks: there is no plan to publish where there is one.
-    broken: Option<Broken>,
-    /// What the plan costs.
-    cost: Grains,
+    /// The instance and the plan. Between two calls no change of the plan waits to be taken back.
+    eval: Evaluator,
     journal: Vec<Entry>,
     /// How many entries of the journal changed the plan.
     changes: u32,
@@ -35,21 +31,19 @@ impl Model for Book {
 
     ghost Value = { Recorded };
 
-    ghost view = { λ b. record { opening = b.inst; journal = b.journal.items } };
+    ghost view = { λ b. record { opening = b.eval.inst; journal = b.journal.items } };
 
-    ghost invariant = { λ b. IsBook b.inst b.plan b.broken b.cost b.changes b.journal.items };
+    ghost invariant = { λ b. IsBook b.eval b.changes b.journal.items };
 }
 
 impl Book {
-    ghost use Rattle.desk_data.specs.Valid.{IsPlanFor};
-    ghost use Rattle.desk_data.specs.Fits.{Fits};
+    ghost use Rattle.plan_moves.specs.Fits.{Fits};
     ghost use Rattle.desk_rules.specs.Cost.{grains};
     ghost use Rattle.desk_model.specs.declared.answer.Event.TheVariants as event;
     ghost use Rattle.desk_model.specs.States.{opening};
     ghost use Rattle.desk_model.specs.Histories.{changes, IsLegal};
     ghost use Rattle.desk_model.specs.Promises.{cost_of, KeepsPromises};
     ghost use Rattle.desk_core.specs.Recorded.{Recorded, state_of, reply, with_entry, accepted_count};
-    ghost use Rattle.desk_core.specs.Judged.{IsJudged};
 
     /// The book of an instance that has no orders: its plan is the schedule, and nothing is
     /// journalled yet.
@@ -58,13 +52,9 @@ impl Book {
         ensures { IfOk result (λ book. book ≡ record { opening = inst; journal = [] }) }
     {
         let plan = inst.schedule(alloc)?;
-        let broken = full_check(alloc, &inst, &plan)?;
-        let cost = full_cost(&inst, &plan);
+        let eval = Evaluator::open(alloc, inst, &plan)?;
         Ok(Book {
-            inst,
-            plan,
-            broken,
-            cost,
+            eval,
             journal: Vec::new(alloc),
             changes: 0,
         })
@@ -86,17 +76,23 @@ impl Book {
             });
         }
         self.journal.reserve(1)?;
-        let event = Event::Move(copied_move(alloc, m)?);
-        match self.judge(alloc, m)? {
-            Judged::Published { plan, cost } => {
+        let event = Event::Move(m.copy(alloc)?);
+        match judge(alloc, &mut self.eval, m)? {
+            Judged::Moved {
+                undo: applied,
+                cost,
+            } => {
                 let answer = Answer::Accepted { cost };
-                self.journal.push(Entry {
+                let entry = Entry {
                     caller,
                     event,
                     answer,
-                })?;
-                self.plan = plan;
-                self.cost = cost;
+                };
+                if let Err(error) = self.journal.push(entry) {
+                    undo(&mut self.eval, applied);
+                    return Err(NoMem::from(error));
+                }
+                publish(&mut self.eval, applied);
                 self.changes += 1;
                 Ok(answer)
             }
@@ -109,28 +105,6 @@ impl Book {
                 Ok(answer)
             }
         }
-    }
-
-    /// What becomes of a move at the book's state.
-    fn judge(&self, alloc: Global, m: &Move) -> Result<Judged, NoMem>
-        requires { Fits self.now.opening m.now }
-        ensures { IfOk result (λ judged. IsJudged (state_of self.now) m.now judged) }
-    {
-        if let Some(item) = self.broken {
-            return Ok(Judged::Refused(Answer::NoPlan(item)));
-        }
-        let plan = moved_plan(alloc, &self.inst, &self.plan, m)?;
-        if let Some(item) = full_check(alloc, &self.inst, &plan)? {
-            return Ok(Judged::Refused(Answer::Breaks(item)));
-        }
-        let cost = full_cost(&self.inst, &plan);
-        if cost.0 >= self.cost.0 {
-            return Ok(Judged::Refused(Answer::Dearer {
-                now: self.cost,
-                would: cost,
-            }));
-        }
-        Ok(Judged::Published { plan, cost })
     }
 
     /// How many entries the journal has, at most 900,000.
@@ -160,22 +134,23 @@ impl Book {
     pub fn broken(&self) -> Option<Broken>
         ensures { result ≡ (state_of self.now).broken }
     {
-        self.broken
+        self.eval.least_broken()
     }
 
     /// What the plan costs, also where there is none to publish.
     pub fn cost(&self) -> Grains
         ensures { result ≡ grains (cost_of (state_of self.now)) }
     {
-        self.cost
+        self.eval.cost()
     }
 
-    /// The plan as it stands.
-    pub fn plan(&self) -> &Plan
-        ensures plan { result.now ≡ (state_of self.now).plan }
-        ensures valid { IsPlanFor (state_of self.now).inst result.now }
+    /// The evaluator, in which the plan stands. Its past is empty.
+    pub fn eval(&self) -> &Evaluator
+        ensures rows { result.now.rows ≡ (state_of self.now).plan }
+        ensures inst { result.now.inst ≡ (state_of self.now).inst }
+        ensures past { result.now.past ≡ [] }
     {
-        &self.plan
+        &self.eval
     }
 
     /// The instance as it is disrupted, which is the one that the book was opened with.
@@ -183,7 +158,7 @@ impl Book {
         ensures now { result.now ≡ (state_of self.now).inst }
         ensures opening { result.now ≡ self.now.opening }
     {
-        &self.inst
+        self.eval.instance()
     }
 
     /// The journal: who proposed what, and what the answer was. Each answer is that of the state
@@ -225,6 +200,6 @@ fn copied_event(alloc: Global, event: &Event) -> Result<Event, NoMem>
     ensures { IfOk result (λ copy. copy ≡ event.now) }
 {
     match event {
-        Event::Move(m) => Ok(Event::Move(copied_move(alloc, m)?)),
+        Event::Move(m) => Ok(Event::Move(m.copy(alloc)?)),
     }
 }

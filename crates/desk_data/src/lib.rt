@@ -3,7 +3,7 @@
 //! `Instance` is a day: the rows of its airports, aircraft, legs and reservations, shared by its
 //! copies, and the orders taken so far. Airports, aircraft, legs and reservations are numbers, by
 //! their places among the rows. `Plan` has a row for each leg, and for each reservation its groups
-//! of passengers by path. `Move` is a proposed change, and `fits` tells whether it can be asked about.
+//! of passengers by path.
 //!
 //!     let inst = Instance::of(alloc, parts)?;            // `are_parts` of day_checks tests the rows
 //!     let plan = inst.schedule(alloc)?;                  // each leg as scheduled
@@ -12,7 +12,7 @@
 //!
 //! Contracts see a day as its rows and its list of orders, and a plan as its rows and groups
 //! (`specs/Situation`, `specs/PlanRows`). Proved: each look-up is the definition over these, from
-//! tables; a batch's orders are appended, or the day is as before; `fits` is exact. It stands on
+//! tables; a batch's orders are appended, or the day is as before. It stands on
 //! `desk_units`, `tariff_prices` and `day_orders`.
 #![tactic(auto)]
 
@@ -21,7 +21,6 @@ mod broken;
 mod hours;
 mod info;
 mod instance;
-mod moves;
 mod parts;
 mod path;
 mod plan;
@@ -36,7 +35,6 @@ pub use desk_units::{
 };
 pub use info::{AirportInfo, Cap, LegInfo, Maint, PlaneInfo, PositionInfo, ResInfo};
 pub use instance::Instance;
-pub use moves::{Move, Step, fits};
 pub use parts::Parts;
 pub use path::Path;
 pub use plan::Plan;

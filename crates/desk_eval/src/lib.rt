@@ -10,7 +10,7 @@
 //! Proved, as the invariant of the type: the broken item and the cost are those of the rows, from scratch;
 //! `back` gives the rows before the last change and takes no memory; where memory runs out, a change has
 //! not been made. This body asks `full_check` and `full_cost` at each change, so one takes the time of a
-//! whole check; nothing stands on it yet.
+//! whole check. desk_moves changes plans through it, and desk_core keeps the book's plan in it.
 #![tactic(auto)]
 
 mod change;

@@ -9,7 +9,7 @@ use Rattle.std.proofs.lemmas.List.Sums.{count_by_more_no, count_by_more_yes}
 use Rattle.std.proofs.Math.ListN.{get_or-append}
 use Rattle.std.proofs.Math.Seq.{get_or-append_seam, take-nil}
 use Rattle.std.proofs.lemmas.List.Elements.{recursion_from_All}
-use Rattle.desk_data.specs.declared.moves.Move.{Move}
+use Rattle.plan_moves.specs.declared.moves.Move.{Move}
 use Rattle.desk_units.specs.declared.money.Grains.{Grains}
 use Rattle.desk_data.specs.Situation.{Situation}
 use Rattle.desk_rules.specs.Cost.{grains}

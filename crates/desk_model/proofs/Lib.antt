@@ -4,6 +4,7 @@ pub mod SetLaws
 pub mod RebookLaws
 pub mod GroupPlans
 pub mod TidyLaws
+pub mod TidyParts
 pub mod RefillLaws
 pub mod RotationOrder
 pub mod BesideLaws
@@ -12,3 +13,5 @@ pub mod SwapLaws
 pub mod StateLaws
 pub mod HistoryLaws
 pub mod ValidLaws
+pub mod MoveLaws
+pub mod FallbackLaws

@@ -324,3 +324,30 @@ module _ (I : Situation) (P : PlanRows) (x : ℕ) (valid : IsValid I) (plan : Is
   pub after_refill-seats : (y : ℕ) (c : Cabin) → IsNotOverfilled I P (after_refill I P x) y c
   unfolding after_refill
   after_refill-seats y c = whole.seats y c
+
+-- ---- in turn
+
+-- refilling a reservation changes the groups of no other
+after_refilling-other : (I : Situation) (x : ℕ) (Q : PlanRows) (r s : ℕ) → (s ≡ r → ⊥) → groups_at (after_refilling I x Q r) s ≡ groups_at Q s
+after_refilling-other I x Q r s other = elim (cases_Bool (is_refilled I Q x r)) [
+  | inl holds ↦
+      ap (λ (S : PlanRows). groups_at S s) (after_refilling-yes I x Q r holds ∙ (refill-refills I Q r).is)
+      ∙ with_groups-other Q r s (groups_after_rebook [] (booked_path I r) (refill_count I Q r) (groups_at Q r)) other
+  | inr fails ↦ ap (λ (S : PlanRows). groups_at S s) (after_refilling-no I x Q r fails)
+]
+
+-- what a reservation gets in its turn, it keeps
+turn_stays : (I : Situation) (x : ℕ) (P : PlanRows) (r k : ℕ) → r < k → groups_at (plan_to I x P k) r ≡ groups_at (after_refilling I x (plan_to I x P r) r) r
+turn_stays I x P r zero lt = absurd (omega arith)
+turn_stays I x P r (suc k) lt = elim (below_more r k lt) [
+  | inl before ↦
+      ap (λ (S : PlanRows). groups_at S r) (plan_to-more I x P k)
+      ∙ (after_refilling-other I x (plan_to I x P k) k r (λ same. absurd (omega (arith, before, same))) ∙ turn_stays I x P r k before)
+  | inr same ↦
+      ap (λ (S : PlanRows). groups_at S r) (plan_to-more I x P k)
+      ∙ ap (λ (j : ℕ). groups_at (after_refilling I x (plan_to I x P j) j) r) (sym same)
+]
+
+pub after_refill-turn : (I : Situation) (P : PlanRows) (x r : ℕ) → r < reservations_of I → groups_at (after_refill I P x) r ≡ groups_at (after_refilling I x (fold (after_refilling I x) P (numbers r)) r) r
+unfolding after_refill
+after_refill-turn I P x r within = turn_stays I x P r (reservations_of I) within

@@ -4,7 +4,7 @@ use Rattle.std.specs.Prelude.{None, Some, Option}
 use Rattle.std.proofs.lemmas.Bool.{leb-false, lt-leb, true≢false}
 use Rattle.desk_units.specs.declared.money.Grains.{Grains}
 use Rattle.desk_data.specs.declared.broken.Broken.{Broken}
-use Rattle.desk_data.specs.declared.moves.Move.{Move}
+use Rattle.plan_moves.specs.declared.moves.Move.{Move}
 use Rattle.desk_data.specs.Situation.{Situation, schedule}
 use Rattle.desk_rules.specs.Least.{least}
 use Rattle.desk_rules.specs.Cost.{cost, grains}

@@ -1,7 +1,7 @@
 -- Histories: lists of entries, each with who asked, what was asked and the answer.
 use Rattle.std.specs.Prelude.{◌≡◌, ℕ, ◌+◌, Bool, true, false, nat_lt, if◌then◌else◌, List, [], ◌∷◌, Some, length, take, slice_get, count_by, All}
 use Rattle.desk_data.specs.Situation.{Situation}
-use Rattle.desk_data.specs.Fits.{Fits}
+use Rattle.plan_moves.specs.Fits.{Fits}
 use Rattle.desk_model.specs.declared.answer.Answer.{Answer}
 use Rattle.desk_model.specs.declared.answer.Answer.TheVariants.{Accepted}
 use Rattle.desk_model.specs.declared.answer.Event.{Event}

@@ -5,6 +5,7 @@ pub mod Rebook
 pub mod Tidy
 pub mod Refill
 pub mod Steps
+pub mod Fallback
 pub mod States
 pub mod Histories
 pub mod Promises

@@ -1,7 +1,7 @@
 -- The state of the desk, and what it answers to an event.
 use Rattle.std.specs.Prelude.{ℕ, nat_le, if◌then◌else◌, Option, Some, None}
 use Rattle.desk_data.specs.declared.broken.Broken.{Broken}
-use Rattle.desk_data.specs.declared.moves.Move.{Move}
+use Rattle.plan_moves.specs.declared.moves.Move.{Move}
 use Rattle.desk_data.specs.Situation.{Situation, schedule}
 use Rattle.desk_data.specs.PlanRows.{PlanRows}
 use Rattle.desk_rules.specs.Least.{least}

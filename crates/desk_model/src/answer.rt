@@ -1,6 +1,7 @@
 //! Events, the answers to them, and the entries of a journal.
 
-use desk_data::{Broken, Grains, Move};
+use desk_data::{Broken, Grains};
+use plan_moves::Move;
 
 /// What happens at the desk.
 #[derive(Debug, Drop)]

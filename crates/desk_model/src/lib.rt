@@ -1,23 +1,33 @@
 //! What becomes of a plan, as definitions: steps, answers, states and histories, and what they promise.
 //!
 //! The definitions stand in `specs/`: `Steps`, what a move makes of a plan; `States`, what the desk
-//! answers to an event, and the state after it; `Histories`, lists of entries and which of them are
-//! legal; `Promises`, what holds of each legal history. What a plan has to meet and what it costs
-//! stands in `desk_rules`, on which this crate stands.
+//! answers to an event, and the state after it; `Fallback`, what it falls back on when a disruption
+//! arrives; `Histories`, lists of entries and which of them are legal; `Promises`, what holds of each
+//! legal history. What a plan has to meet and what it costs stands in `desk_rules`, on which this
+//! crate stands.
 //!
-//! The code here is the types that the definitions speak of (`Event`, `Answer`, `Entry`), and laws:
-//! each is a public function with an empty body, whose contract is the law.
+//! The code here is the types that the definitions speak of (`Event`, `Answer`, `Entry`, `Fallback`),
+//! and laws: each is a public function with an empty body, whose contract is the law.
 //! `legal_histories_keep_the_promises` is the heart of what the desk promises: each published plan
 //! meets the rules, each stored cost is that of the rows, and costs only fall.
 #![tactic(auto)]
 
 mod answer;
+mod fallbacks;
 mod histories;
 mod steps;
 
 pub use answer::{Answer, Entry, Event};
-pub use desk_data::{Broken, Grains, Move};
+pub use desk_data::{Broken, Grains};
+pub use fallbacks::{
+    Fallback, Which, a_ground_plan_flies_no_movable_leg,
+    a_settled_plan_has_each_fixed_leg_as_it_is_due,
+    a_shift_cancels_legs_from_the_first_ordered_off_on,
+    a_shift_keeps_what_is_due_and_flies_no_leg_ordered_off, fallbacks_make_valid_plans,
+    the_fallback_is_the_first_that_is_feasible,
+};
 pub use histories::{legal_histories_keep_the_promises, runs_are_legal};
+pub use plan_moves::Move;
 pub use steps::{
     a_path_stays_bound_where_fewer_are_carried, a_push_places_each_leg_first,
     a_push_places_legs_in_their_order, a_rebook_moves_passengers_between_two_paths,

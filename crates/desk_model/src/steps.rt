@@ -1,6 +1,6 @@
 //! What holds of the steps, kind by kind.
 
-ghost use Rattle.std.specs.Prelude.{◌≡◌, ◌↔◌, ℕ, ◌<◌, ◌≤◌, ◌++◌, ◌∷◌, min, Bool, true, Option, None, Some, List as Items, length, All, AllPairs, Contains};
+ghost use Rattle.std.specs.Prelude.{◌≡◌, ◌↔◌, ℕ, ◌<◌, ◌≤◌, ◌++◌, ◌∷◌, min, Bool, true, Option, None, Some, List as Items, length, fold, All, AllPairs, Contains};
 ghost use Rattle.desk_units.specs.declared.numbers.Leg.{Leg};
 ghost use Rattle.desk_units.specs.declared.numbers.Cabin.{Cabin};
 ghost use Rattle.desk_data.specs.declared.row.Row.{Row};
@@ -8,18 +8,21 @@ ghost use Rattle.desk_data.specs.declared.row.Group.{Group};
 ghost use Rattle.desk_data.specs.Situation.{Situation, bound, legs_of, planes_of, reservations_of};
 ghost use Rattle.desk_data.specs.PlanRows.{PlanRows, groups_at, row_at};
 ghost use Rattle.desk_data.specs.Valid.{IsPathOf, IsPlanFor, IsRowOf, IsValid};
+ghost use Rattle.plan_moves.specs.Fits.{Fits};
+ghost use Rattle.plan_moves.specs.declared.moves.Move.{Move};
+ghost use Rattle.desk_rules.specs.Numbers.{numbers};
 ghost use Rattle.desk_rules.specs.Words.{Flies, Precedes};
 ghost use Rattle.desk_model.specs.Choices.{HoldsOfNone, IsFirstWithin, IsGreatestWithin, first_within, greatest_within};
 ghost use Rattle.desk_model.specs.Push.{ArrivesBeside, DepartsBeside, IsPushed, PlacesLeg, after_push, arrives_beside, departs_beside, pushed_legs};
 ghost use Rattle.desk_model.specs.Swap.{SwapsLeg, after_swap};
 ghost use Rattle.desk_model.specs.Rebook.{RebooksPassengers, after_rebook, count_on};
 ghost use Rattle.desk_model.specs.Tidy.{AreNoMoreCarried, IsFit, TidiesReservation, after_tidy, is_fit_path};
-ghost use Rattle.desk_model.specs.Refill.{HasSeatsFor, IsNotOverfilled, RefillsReservation, after_refill, has_seats_for};
-ghost use Rattle.desk_model.specs.Steps.{SetsLeg, after_set};
+ghost use Rattle.desk_model.specs.Refill.{HasSeatsFor, IsNotOverfilled, RefillsReservation, after_refill, after_refilling, has_seats_for};
+ghost use Rattle.desk_model.specs.Steps.{SetsLeg, after_move, after_set};
 
 /// Each step makes a valid plan of a valid plan, where its numbers are in range, its departures below
-/// 52,500,000 and its paths of at most 8 legs. A valid plan has all passengers of each reservation, so
-/// that no step makes or loses one.
+/// 52,500,000 and its paths of at most 8 legs, and so does each move that fits. A valid plan has all
+/// passengers of each reservation, so that no step makes or loses one.
 pub fn steps_make_valid_plans()
     ensures set { (I : Situation) (P : PlanRows) (x : ℕ) (was new : Row) → IsRowOf (planes_of I) new → IsPlanFor I P → IsPlanFor I (after_set P x was new) }
     ensures push { (I : Situation) (P : PlanRows) (p : ℕ) (after : Option Leg) → IsValid I → p < planes_of I → IsPlanFor I P → IsPlanFor I (after_push I P p after) }
@@ -27,6 +30,7 @@ pub fn steps_make_valid_plans()
     ensures rebook { (I : Situation) (P : PlanRows) (r : ℕ) (path to : Items (Leg × Cabin)) (count : ℕ) → length path ≤ 8 → length to ≤ 8 → IsPathOf (legs_of I) path → IsPathOf (legs_of I) to → IsPlanFor I P → IsPlanFor I (after_rebook P r path to count) }
     ensures tidy { (I : Situation) (P : PlanRows) → IsPlanFor I P → IsPlanFor I (after_tidy I P) }
     ensures refill { (I : Situation) (P : PlanRows) (x : ℕ) → IsValid I → IsPlanFor I P → IsPlanFor I (after_refill I P x) }
+    ensures moves { (I : Situation) (P : PlanRows) (m : Move) → IsValid I → Fits I m → IsPlanFor I P → IsPlanFor I (after_move I P m) }
 {}
 
 /// What the steps choose by a test of numbers is the first number of a span that passes, if any does,
@@ -105,10 +109,12 @@ pub fn a_path_stays_bound_where_fewer_are_carried()
 
 /// A Refill has passengers who are not carried go to their scheduled path, for each reservation whose
 /// scheduled path has the leg and meets C13, C14 and C15: until none is left, or one more would lack a
-/// seat. All others keep their groups, and no row changes. No leg's cabin gets more passengers than
-/// it has seats.
+/// seat. Those that stand earlier come first: each gets its seats in the plan as those before it left
+/// it. All others keep their groups, and no row changes. No leg's cabin gets more passengers than it
+/// has seats.
 pub fn a_refill_fills_the_seats_that_are_left()
     ensures reservation { (I : Situation) (P : PlanRows) (x r : ℕ) → IsValid I → IsPlanFor I P → r < reservations_of I → RefillsReservation I P (after_refill I P x) x r }
+    ensures turn { (I : Situation) (P : PlanRows) (x r : ℕ) → r < reservations_of I → groups_at (after_refill I P x) r ≡ groups_at (after_refilling I x (fold (after_refilling I x) P (numbers r)) r) r }
     ensures rows { (I : Situation) (P : PlanRows) (x : ℕ) → IsValid I → IsPlanFor I P → (after_refill I P x).rows ≡ P.rows }
     ensures seats { (I : Situation) (P : PlanRows) (x y : ℕ) (c : Cabin) → IsValid I → IsPlanFor I P → IsNotOverfilled I P (after_refill I P x) y c }
 {}

@@ -20,7 +20,7 @@ fn planned_rotations(alloc: Global, book: &Book) -> Result<Vec<u8>, NoMem>
 {
     match book.broken() {
         Some(_) => Ok(Vec::new(alloc)),
-        None => rotations_text(alloc, book.instance(), book.plan()),
+        None => rotations_text(alloc, book.instance(), book.eval().plan()),
     }
 }
 

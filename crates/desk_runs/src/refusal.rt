@@ -12,7 +12,7 @@ pub enum Cause {
     /// The line of journal.csv is not in its early form; at line 0 the file has more bytes than its
     /// limit.
     Form,
-    /// A cause of the text files; of journal.csv only that a name is unknown.
+    /// A cause of the text files; of journal.csv `Unknown` or `Move`, once its lines are in their form.
     Row(RowCause),
 }
 

@@ -1,7 +1,7 @@
 -- What holds of the rows and of the story that were read.
 use Rattle.std.specs.Prelude.{◌≡◌, []}
 use Rattle.build_tables.specs.Facts.{AreFileRows}
-use Rattle.early_form.specs.Facts.{AreProposals}
+use Rattle.journal_rows.specs.Facts.{AreRows}
 use Rattle.desk_model.specs.Histories.{AreAskable}
 use Rattle.desk_story.specs.declared.rows.InputRows.{InputRows}
 use Rattle.desk_story.specs.declared.story.InputStory.{InputStory}
@@ -15,7 +15,7 @@ as_rows rows = record { files = rows.files; journal = rows.journal.items }
 -- what the readers say of them
 pub record AreInputRows (rows : InputRows) : Type 0 where
   pub files : AreFileRows rows.files
-  pub journal : AreProposals rows.journal.items
+  pub journal : AreRows rows.journal.items
 
 -- the story, wherever it lies in memory
 abbrev pub as_story : InputStory → Story

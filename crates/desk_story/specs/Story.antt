@@ -3,7 +3,7 @@ use Rattle.std.specs.Prelude.{ℕ, List, [], ◌∷◌, length, Result, Ok, Err,
 use Rattle.desk_folder.specs.declared.files.File.{File}
 use Rattle.desk_folder.specs.declared.files.File.TheVariants as file
 use Rattle.file_rows.specs.declared.cause.Cause.{Cause as RowCause}
-use Rattle.file_rows.specs.declared.cause.Cause.TheVariants.{Size, Unknown}
+use Rattle.file_rows.specs.declared.cause.Cause.TheVariants.{Size}
 use Rattle.file_rows.specs.Limits.{most_bytes, most_journal_bytes}
 use Rattle.desk_text.specs.Rows.{◌>>=◌, text_rows}
 use Rattle.read_net.specs.Config.{config_of}
@@ -17,9 +17,9 @@ use Rattle.read_fleet.specs.Aircraft.{aircraft_row}
 use Rattle.read_fleet.specs.Position.{position_row}
 use Rattle.build_tables.specs.declared.files.Files.{Files}
 use Rattle.desk_build.specs.Join.{day_of_files}
-use Rattle.early_form.specs.declared.rows.JournalRow.{JournalRow}
+use Rattle.journal_rows.specs.declared.rows.JournalRow.{JournalRow}
 use Rattle.early_form.specs.Journal.{moves_of}
-use Rattle.early_join.specs.Join.{events_of}
+use Rattle.journal_join.specs.Join.{events_of}
 use Rattle.desk_runs.specs.declared.refusal.Cause.{Cause}
 use Rattle.desk_runs.specs.declared.refusal.Cause.TheVariants.{Form, Row}
 use Rattle.desk_runs.specs.declared.refusal.Refusal.{Refusal}
@@ -52,9 +52,9 @@ in_file file at = refusal file at.1 at.0
 abbrev pub not_joined : File × ℕ × RowCause → Refusal
 not_joined at = refusal at.0 (Row at.2) at.1
 
--- a line of the journal that names a leg or an aircraft that is not there
-abbrev pub not_known : ℕ → Refusal
-not_known line = refusal file.Journal (Row Unknown) line
+-- a line of the journal that gives no event on this day
+abbrev pub not_asked : ℕ × RowCause → Refusal
+not_asked at = refusal file.Journal (Row at.1) at.0
 
 -- ---- the rows of the files
 
@@ -146,7 +146,7 @@ rows_of x = read_all replay_files x no_rows
 unfoldable pub story_of_rows : Rows → Result Story Refusal
 story_of_rows rows = do
   day ← or_refused not_joined (day_of_files rows.files)
-  events ← or_refused not_known (events_of day rows.journal)
+  events ← or_refused not_asked (events_of day rows.journal)
   Ok (record { day = day; events = events })
 
 -- the grammar of each file comes before the join of any

@@ -11,8 +11,7 @@ use desk_folder::File;
 use desk_runs::{Cause, Ending, Refusal};
 use desk_text::ReadFault;
 use early_form::FormFault;
-use early_join::JoinFault;
-use file_rows::Cause as RowCause;
+use journal_join::JoinFault;
 
 /// Why the input gave no story.
 #[derive(Clone, Copy, Debug, PartialEq, Eq)]
@@ -96,11 +95,14 @@ impl From<JoinFault> for StoryFault {
 
     fn from(fault: JoinFault) -> StoryFault {
         match fault {
-            JoinFault::Unknown { line } => StoryFault::Refused(Refusal {
-                file: File::Journal,
-                line,
-                cause: Cause::Row(RowCause::Unknown),
-            }),
+            JoinFault::Refused { line, cause } => {
+                let cause = Cause::Row(cause);
+                StoryFault::Refused(Refusal {
+                    file: File::Journal,
+                    line,
+                    cause,
+                })
+            }
             JoinFault::Memory => StoryFault::Memory,
         }
     }

@@ -9,7 +9,8 @@ use crate::fault::FileFault;
 use desk_build::Files;
 use desk_folder::File;
 use desk_units::{List, Minute, Tariff};
-use early_form::{JournalRow, read_journal};
+use early_form::read_journal;
+use journal_rows::JournalRow;
 use read_fleet::{read_aircraft, read_position};
 use read_legs::{read_flights, read_rotations};
 use read_net::{Window, read_airports, read_config, read_dist};
@@ -21,7 +22,7 @@ use std::alloc::Global;
 #[derive(Drop)]
 pub(crate) struct InputRows {
     pub files: Files,
-    /// The proposed moves of journal.csv.
+    /// The rows of journal.csv.
     pub journal: Vec<JournalRow>,
 }
 

@@ -17,7 +17,7 @@ use desk_build::{Built, build};
 use desk_data::Instance;
 use desk_folder::Folder;
 use desk_model::Event;
-use early_join::join_journal;
+use journal_join::join_journal;
 use std::alloc::Global;
 
 /// A day, and the events that are taken on it, each with its caller.

@@ -1,72 +1,80 @@
 -- The file of proposed moves.
-use Rattle.std.specs.Prelude.{ℕ, ◌+◌, ◌*◌, List, not, Option, Some, None, Result, bytes_eq, codes, nat_lt, ◌==◌, if◌then◌else◌}
-use Rattle.std.specs.List.{list_any}
-use Rattle.file_rows.specs.Bytes.{space, comma}
+use Rattle.std.specs.Prelude.{ℕ, Bool, true, List, length, not, Option, Some, None, Result, bytes_eq, codes, nat_lt, ◌==◌, ◌&&◌, ◌||◌}
+use Rattle.std.specs.List.{list_all, list_any, slice_split}
+use Rattle.std.specs.Result.{result_ok}
+use Rattle.desk_units.specs.declared.numbers.Minute.{Minute}
+use Rattle.file_rows.specs.Bytes.{space, tab, comma}
 use Rattle.file_rows.specs.Limits.{end_of_time}
-use Rattle.early_form.specs.declared.rows.NamedRow.{NamedRow}
-use Rattle.early_form.specs.declared.rows.NamedRow.TheVariants.{Flown, Cancelled}
-use Rattle.early_form.specs.declared.rows.JournalRow.{JournalRow}
-use Rattle.early_form.specs.Fields.{◌>>=◌, only_if, cut, field, name_of, date_of, time_of, number_of}
+use Rattle.desk_text.specs.Lines.{is_full, is_text, fields}
+use Rattle.desk_text.specs.Fields.{number_from}
+use Rattle.journal_rows.specs.declared.rows.NamedRow.{NamedRow}
+use Rattle.journal_rows.specs.declared.rows.NamedRow.TheVariants.{Flown, Cancelled}
+use Rattle.journal_rows.specs.declared.rows.NamedStep.{NamedStep}
+use Rattle.journal_rows.specs.declared.rows.NamedStep.TheVariants.{Set, Swap}
+use Rattle.journal_rows.specs.declared.rows.NamedEvent.TheVariants.{Move}
+use Rattle.journal_rows.specs.declared.rows.JournalRow.{JournalRow}
+use Rattle.journal_rows.specs.Steps.{steps_of}
+use Rattle.early_form.specs.Fields.{◌>>=◌, only_if, cut}
+use Rattle.early_form.specs.Tokens.{early_tokens}
 use Rattle.early_form.specs.Rows.{rows_of}
 
--- a flown leg of these texts: AIRCRAFT, DATE and TIME, departing before minute 52,500,000
-unfoldable pub flown_of : List ℕ → List ℕ → List ℕ → Option NamedRow
-flown_of plane date time = do
-  name ← name_of plane
-  day ← date_of date
-  minute ← time_of time
-  only_if (nat_lt (1440 * day + minute) end_of_time) (Flown name (record { 0 = 1440 * day + minute }))
+-- ---- the text of a move
 
--- AIRCRAFT DATE TIME of a flown leg, and the bytes behind the space that follows
-unfoldable pub flown_at : List ℕ → Option (NamedRow × List ℕ)
-flown_at bytes = do
-  plane ← cut space bytes
-  date ← cut space plane.1
-  time ← cut space date.1
-  row ← flown_of plane.0 date.0 time.0
-  Some (row, time.1)
+-- whether such a byte is among them
+abbrev pub has : ℕ → List ℕ → Bool
+has byte bytes = list_any (λ b. b == byte) bytes
 
--- the row that a leg has: - for cancelled, or + AIRCRAFT DATE TIME, and the bytes behind the space that follows
-unfoldable pub was_at : List ℕ → Option (NamedRow × List ℕ)
-was_at bytes = do
-  sign ← cut space bytes
-  if bytes_eq sign.0 (codes "-") then Some (Cancelled, sign.1) else if bytes_eq sign.0 (codes "+") then flown_at sign.1 else None
+-- no text, or tokens with one space between any two of them, and none before the first or behind the last
+abbrev pub is_spaced : List ℕ → Bool
+is_spaced detail = (length detail == 0) || list_all is_full (slice_split (λ b. b == space) detail)
 
--- + AIRCRAFT DATE TIME, up to the end
-unfoldable pub flown_last : List ℕ → Option NamedRow
-flown_last bytes = do
-  sign ← cut space bytes
-  plane ← cut space sign.1
-  date ← cut space plane.1
-  if bytes_eq sign.0 (codes "+") then flown_of plane.0 date.0 date.1 else None
+-- the text of a move: bytes that may stand in a line, no tab among them, and spaces where they should be
+abbrev pub is_detail : List ℕ → Bool
+is_detail detail = list_all is_text detail && (not (has tab detail) && is_spaced detail)
 
--- the row that the leg is to have, up to the end
-unfoldable pub new_of : List ℕ → Option NamedRow
-new_of bytes = if bytes_eq bytes (codes "-") then Some Cancelled else flown_last bytes
+-- whether a moment is before minute 52,500,000
+abbrev pub is_in_time : Minute → Bool
+is_in_time at = nat_lt at.0 end_of_time
+
+abbrev pub row_in_time : NamedRow → Bool
+row_in_time (Flown plane dep) = is_in_time dep
+row_in_time Cancelled = true
+
+-- whether the departures that a step tells are, and the moment from which it swaps
+abbrev pub step_in_time : NamedStep → Bool
+step_in_time (Set leg was new) = row_in_time was && row_in_time new
+step_in_time (Swap first second at) = is_in_time at
+step_in_time other = true
+
+-- the steps of the text of a move
+unfoldable pub detail_steps : List ℕ → Option (List NamedStep)
+detail_steps detail = do
+  tokens ← only_if (is_detail detail) (fields detail)
+  steps ← result_ok (steps_of early_tokens tokens)
+  only_if (list_all step_in_time steps) steps
+
+-- ---- lines
 
 -- the bytes before a further field, which holds no comma and is passed over
 abbrev pub before_tail : List ℕ → Option (List ℕ × List ℕ) → Option (List ℕ)
 before_tail bytes None = Some bytes
-before_tail bytes (Some parts) = only_if (not (list_any (λ b. b == comma) parts.1)) parts.0
+before_tail bytes (Some parts) = only_if (not (has comma parts.1)) parts.0
 
--- set FLIGHT DATE WAS NEW
-unfoldable pub step_of : ℕ → List ℕ → Option JournalRow
-step_of caller bytes = do
-  word ← cut space bytes
-  flight ← field name_of word.1
-  day ← field date_of flight.1
-  was ← was_at day.1
-  new ← new_of was.1
-  only_if (bytes_eq word.0 (codes "set")) (record { caller = caller; flight = flight.0; day = day.0; was = was.0; new = new })
-
--- CALLER,move,STEP and perhaps a further field
-unfoldable pub move_at : List ℕ → Option JournalRow
-move_at line = do
+-- CALLER,move,DETAIL and perhaps a further field: the caller, and the text of the move
+unfoldable pub head_of : List ℕ → Option (ℕ × List ℕ)
+head_of line = do
   caller ← cut comma line
   event ← cut comma caller.1
-  number ← number_of 64 caller.0
-  step ← before_tail event.1 (cut comma event.1)
-  if bytes_eq event.0 (codes "move") then step_of number step else None
+  detail ← before_tail event.1 (cut comma event.1)
+  number ← number_from 0 64 caller.0
+  only_if (bytes_eq event.0 (codes "move")) (number, detail)
+
+-- the move of a line with its number
+unfoldable pub move_at : ℕ → List ℕ → Option JournalRow
+move_at number line = do
+  head ← head_of line
+  steps ← detail_steps head.1
+  Some (record { line = number; caller = head.0; event = Move steps })
 
 -- the moves of the bytes, or the number of the first line that is refused
 abbrev pub moves_of : List ℕ → Result (List JournalRow) ℕ

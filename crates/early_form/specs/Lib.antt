@@ -1,5 +1,6 @@
 pub mod Fields
+pub mod Tokens
 pub mod Rows
 pub mod Journal
-pub mod Facts
 pub mod Told
+pub use Rattle.journal_rows.specs.Facts

@@ -6,15 +6,19 @@ use Rattle.file_rows.specs.Bytes.{line_feed}
 use Rattle.early_form.specs.declared.fault.FormFault.{FormFault}
 use Rattle.early_form.specs.declared.fault.FormFault.TheVariants.{Form, Memory}
 
+-- how a line gives a row, by its number, from 1, and its bytes, where it does
+abbrev pub RowOf : Type 0 → Type 0
+RowOf Row = ℕ → List ℕ → Option Row
+
 -- The rows of the lines that are left, behind the rows before, or the number of the first line that gives no row.
 -- The last piece is behind the last line end: one that isn't empty is a line without its end.
-unfoldable pub rows_from : {Row : Type 0} → (List ℕ → Option Row) → List Row → List (List ℕ) → Result (List Row) ℕ
+unfoldable pub rows_from : {Row : Type 0} → RowOf Row → List Row → List (List ℕ) → Result (List Row) ℕ
 rows_from row before [] = Ok before
 rows_from row before (last ∷ []) = if length last == 0 then Ok before else Err (length before + 1)
-rows_from row before (line ∷ next ∷ lines) = option_map_or (λ r. rows_from row (before ++ r ∷ []) (next ∷ lines)) (row line) (Err (length before + 1))
+rows_from row before (line ∷ next ∷ lines) = option_map_or (λ r. rows_from row (before ++ r ∷ []) (next ∷ lines)) (row (length before + 1) line) (Err (length before + 1))
 
 -- the rows of the bytes, cut at each LF
-unfoldable pub rows_of : {Row : Type 0} → (List ℕ → Option Row) → List ℕ → Result (List Row) ℕ
+unfoldable pub rows_of : {Row : Type 0} → RowOf Row → List ℕ → Result (List Row) ℕ
 rows_of row bytes = rows_from row [] (slice_split (λ b. b == line_feed) bytes)
 
 -- a reader gives these rows, or refuses that line; out of memory may come at any time

@@ -1,158 +1,153 @@
 //! The file of proposed moves.
 
-ghost use Rattle.std.specs.Prelude.{◌≡◌, ◌<◌, ◌≤◌, ◌^◌, length, bytes_eq, ◌==◌, option_map, IfOk, IfSome};
-ghost use Rattle.std.specs.List.{list_any};
-ghost use Rattle.file_rows.specs.Bytes.{comma};
+ghost use Rattle.std.specs.Prelude.{◌≡◌, ◌<◌, ◌≤◌, ◌^◌, All, length, option_map, IfOk, IfSome, ◌==◌};
+ghost use Rattle.std.specs.List.{list_all, slice_split};
+ghost use Rattle.file_rows.specs.Bytes.{space, comma};
+ghost use Rattle.desk_text.specs.Lines.{is_full};
+ghost use Rattle.journal_rows.specs.Facts.{IsNamedStep, IsJournalRow, AreRows};
 ghost use Rattle.early_form.specs.Rows.{Gives};
-ghost use Rattle.early_form.specs.Fields.{cut};
-ghost use Rattle.early_form.specs.Journal.{flown_of, flown_at, was_at, flown_last, new_of, before_tail, step_of, move_at, moves_of};
-ghost use Rattle.early_form.specs.Facts.{IsNamedRow, IsProposal, AreProposals};
+ghost use Rattle.early_form.specs.Fields.{only_if, cut};
+ghost use Rattle.early_form.specs.Journal.{has, is_spaced, is_detail, row_in_time, step_in_time, detail_steps, before_tail, head_of, move_at, moves_of};
 
 use crate::fault::FormFault;
-use crate::fields::{cut, date, date_field, name, name_field, name_of, number, time};
-use crate::rows::{JournalRow, NamedRow};
+use crate::fields::cut;
 use crate::table::{Table, read_rows};
-use desk_units::Minute;
-use file_rows::{COMMA, END_OF_TIME, SPACE};
+use crate::tokens::EarlyTokens;
+use desk_text::{RowFault, are_text, number};
+use desk_units::{List, NoMem};
+use file_rows::{COMMA, END_OF_TIME, SPACE, TAB};
+use journal_rows::{JournalRow, NamedEvent, NamedRow, NamedStep, read_steps};
 use std::alloc::Global;
 
-/// A flown row of the texts of its aircraft, date and time.
-#[tactic(auto, unfolding(crate::specs::Journal::flown_of))]
-fn flown_of(plane: &[u8], day: &[u8], minute: &[u8]) -> Option<NamedRow>
-    ensures exact { result ≡ flown_of plane.now day.now minute.now }
-    ensures facts { IfSome result IsNamedRow }
+/// Whether such a byte is among the bytes.
+fn has(byte: u8, bytes: &[u8]) -> bool
+    ensures { result ≡ has byte bytes.now }
 {
-    let plane = name(plane)?;
-    let day = date(day)?;
-    let minute = time(minute)?;
-    let dep = 1440 * day + minute;
-    if dep < END_OF_TIME {
-        Some(NamedRow::Flown {
-            plane: name_of(plane),
-            dep: Minute(dep),
-        })
+    bytes.iter().any(|b| *b == byte)
+}
+
+/// Whether each token between spaces has a byte.
+fn are_full(detail: &[u8]) -> bool
+    ensures { result ≡ list_all is_full (slice_split (λ b. b == space) detail.now) }
+{
+    detail.split(|b| *b == SPACE).all(|token| !token.is_empty())
+}
+
+/// Whether one space stands between any two tokens, and none before the first or behind the last.
+fn is_spaced(detail: &[u8]) -> bool
+    ensures { result ≡ is_spaced detail.now }
+{
+    detail.is_empty() || are_full(detail)
+}
+
+/// Whether this can be the text of a move.
+fn is_detail(detail: &[u8]) -> bool
+    ensures { result ≡ is_detail detail.now }
+{
+    are_text(detail) && (!has(TAB, detail) && is_spaced(detail))
+}
+
+/// Whether a row, where it is flown, departs before minute 52,500,000.
+fn row_in_time(row: &NamedRow) -> bool
+    ensures { result ≡ row_in_time row.now }
+{
+    match row {
+        NamedRow::Flown { dep, .. } => dep.0 < END_OF_TIME,
+        NamedRow::Cancelled => true,
+    }
+}
+
+/// Whether the departures that a step tells, and the moment from which it swaps, are before minute
+/// 52,500,000.
+fn step_in_time(step: &NamedStep) -> bool
+    ensures { result ≡ step_in_time step.now }
+{
+    match step {
+        NamedStep::Set { was, new, .. } => row_in_time(was) && row_in_time(new),
+        NamedStep::Swap { at, .. } => at.0 < END_OF_TIME,
+        _ => true,
+    }
+}
+
+/// Whether all steps are in time.
+fn are_in_time(steps: &[NamedStep]) -> bool
+    ensures { result ≡ list_all step_in_time steps.now }
+{
+    steps.iter().all(step_in_time)
+}
+
+/// The steps, where all of them are in time.
+fn in_time(steps: List<NamedStep>) -> Option<List<NamedStep>>
+    ensures { result ≡ only_if (list_all step_in_time steps) steps }
+{
+    if are_in_time(steps.as_slice()) {
+        Some(steps)
     } else {
         None
     }
 }
 
-/// A flown row with a space behind it, and the bytes behind that space.
-#[tactic(auto, unfolding(crate::specs::Journal::flown_at))]
-fn flown_field(bytes: &[u8]) -> Option<(NamedRow, &[u8])>
-    ensures exact { option_map (λ x. (x.0, x.1.now)) result ≡ flown_at bytes.now }
-    ensures facts { IfSome result (λ x. IsNamedRow x.0) }
+/// The steps of the text of a move, or `None` where it is not in the form.
+#[tactic(auto, unfolding(crate::specs::Journal::detail_steps))]
+fn detail_steps(alloc: Global, detail: &[u8]) -> Result<Option<List<NamedStep>>, NoMem>
+    ensures exact { IfOk result (λ steps. steps ≡ detail_steps detail.now) }
+    ensures facts { IfOk result (λ steps. IfSome steps (λ steps. All IsNamedStep steps)) }
 {
-    let (plane, rest) = cut(bytes, SPACE)?;
-    let (day, rest) = cut(rest, SPACE)?;
-    let (minute, rest) = cut(rest, SPACE)?;
-    Some((flown_of(plane, day, minute)?, rest))
-}
-
-/// The row that a leg has, and the bytes behind the space that follows.
-#[tactic(auto, unfolding(crate::specs::Journal::was_at))]
-fn was_field(bytes: &[u8]) -> Option<(NamedRow, &[u8])>
-    ensures exact { option_map (λ x. (x.0, x.1.now)) result ≡ was_at bytes.now }
-    ensures facts { IfSome result (λ x. IsNamedRow x.0) }
-{
-    let (sign, rest) = cut(bytes, SPACE)?;
-    if sign == b"-".as_slice() {
-        Some((NamedRow::Cancelled, rest))
-    } else if sign == b"+".as_slice() {
-        flown_field(rest)
-    } else {
-        None
+    if !is_detail(detail) {
+        return Ok(None);
     }
-}
-
-/// A flown row up to the end.
-#[tactic(auto, unfolding(crate::specs::Journal::flown_last))]
-fn flown_last(bytes: &[u8]) -> Option<NamedRow>
-    ensures exact { result ≡ flown_last bytes.now }
-    ensures facts { IfSome result IsNamedRow }
-{
-    let (sign, rest) = cut(bytes, SPACE)?;
-    let (plane, rest) = cut(rest, SPACE)?;
-    let (day, minute) = cut(rest, SPACE)?;
-    if sign == b"+".as_slice() {
-        flown_of(plane, day, minute)
-    } else {
-        None
+    match read_steps(alloc, &EarlyTokens, detail) {
+        Ok(steps) => Ok(in_time(List(steps))),
+        Err(RowFault::Refused(_)) => Ok(None),
+        Err(RowFault::Memory) => Err(NoMem),
     }
-}
-
-/// The row that a leg is to have, up to the end.
-#[tactic(auto, unfolding(crate::specs::Journal::new_of))]
-fn new_of(bytes: &[u8]) -> Option<NamedRow>
-    ensures exact { result ≡ new_of bytes.now }
-    ensures facts { IfSome result IsNamedRow }
-{
-    if bytes == b"-".as_slice() {
-        Some(NamedRow::Cancelled)
-    } else {
-        flown_last(bytes)
-    }
-}
-
-/// Whether a comma is among the bytes.
-fn has_comma(bytes: &[u8]) -> bool
-    ensures { result ≡ list_any (λ b. b == comma) bytes.now }
-{
-    bytes.iter().any(|byte| *byte == COMMA)
 }
 
 /// The bytes before a further field, which is passed over and has no comma.
 fn before_tail(bytes: &[u8]) -> Option<&[u8]>
-    ensures { option_map (λ step. step.now) result ≡ before_tail bytes.now (cut comma bytes.now) }
+    ensures { option_map (λ detail. detail.now) result ≡ before_tail bytes.now (cut comma bytes.now) }
 {
     match cut(bytes, COMMA) {
         None => Some(bytes),
-        Some((step, tail)) => { if has_comma(tail) { None } else { Some(step) } }
+        Some((detail, tail)) => { if has(COMMA, tail) { None } else { Some(detail) } }
     }
 }
 
-/// The move of a step `set FLIGHT DATE WAS NEW`.
-#[tactic(auto, unfolding(crate::specs::Journal::step_of))]
-fn step_of(caller: u32, bytes: &[u8]) -> Option<JournalRow>
-    requires { caller ≤ 64 }
-    ensures exact { result ≡ step_of caller bytes.now }
-    ensures facts { IfSome result IsProposal }
-{
-    let (word, rest) = cut(bytes, SPACE)?;
-    let (flight, rest) = name_field(rest)?;
-    let (day, rest) = date_field(rest)?;
-    let Some((was, rest)) = was_field(rest) else {
-        return None;
-    };
-    let new = new_of(rest)?;
-    if word == b"set".as_slice() {
-        let flight = name_of(flight);
-        Some(JournalRow {
-            caller,
-            flight,
-            day,
-            was,
-            new,
-        })
-    } else {
-        None
-    }
-}
-
-/// The move of a line.
-#[tactic(auto, unfolding(crate::specs::Journal::move_at))]
-fn move_at(line: &[u8]) -> Option<JournalRow>
-    ensures exact { result ≡ move_at line.now }
-    ensures facts { IfSome result IsProposal }
+/// The caller of a line, and the text of its move.
+#[tactic(auto, unfolding(crate::specs::Journal::head_of))]
+fn head_of(line: &[u8]) -> Option<(u32, &[u8])>
+    ensures exact { option_map (λ head. (head.0, head.1.now)) result ≡ head_of line.now }
+    ensures caller { IfSome result (λ head. head.0 ≤ 64) }
 {
     let (caller, rest) = cut(line, COMMA)?;
     let (event, rest) = cut(rest, COMMA)?;
-    let caller = number(caller, 64)?;
-    let step = before_tail(rest)?;
+    let detail = before_tail(rest)?;
+    let caller = number(caller, 0, 64).ok()?;
     if event == b"move".as_slice() {
-        step_of(caller, step)
+        Some((caller, detail))
     } else {
         None
     }
+}
+
+/// The move of a line with its number, or `None` where the line is not in the form.
+#[tactic(auto, unfolding(crate::specs::Journal::move_at))]
+fn move_at(alloc: Global, line: u32, text: &[u8]) -> Result<Option<JournalRow>, NoMem>
+    ensures exact { IfOk result (λ row. row ≡ move_at line text.now) }
+    ensures facts { IfOk result (λ row. IfSome row IsJournalRow) }
+{
+    let Some((caller, detail)) = head_of(text) else {
+        return Ok(None);
+    };
+    let Some(steps) = detail_steps(alloc, detail)? else {
+        return Ok(None);
+    };
+    let event = NamedEvent::Move { steps };
+    Ok(Some(JournalRow {
+        line,
+        caller,
+        event,
+    }))
 }
 
 /// The form of the file of proposed moves.
@@ -161,22 +156,24 @@ struct Moves {}
 impl Table<JournalRow> for Moves {
     ghost reads = { λ _. move_at };
 
-    ghost holds = { λ _. IsProposal };
+    ghost holds = { λ _. IsJournalRow };
 
-    fn row(&self, line: &[u8]) -> Option<JournalRow> {
-        move_at(line)
+    fn row(&self, alloc: Global, line: u32, text: &[u8]) -> Result<Option<JournalRow>, NoMem> {
+        move_at(alloc, line, text)
     }
 }
 
-/// The proposed moves of the bytes, in the order of their lines, or the first line that is refused.
+/// The proposed moves of the bytes, in the order of their lines, each with the number of its line, or
+/// the first line that is refused.
 ///
-/// A line is `CALLER,move,set FLIGHT DATE WAS NEW`, a row being `-` for cancelled or
-/// `+ AIRCRAFT DATE TIME`; a further field without a comma may follow, and is passed over. It is
-/// refused where it is not in this form or a departure is at minute 52,500,000 or later.
+/// A line is `CALLER,move,DETAIL`; a further field without a comma may follow, and is passed over. The
+/// caller is a number from 0 to 64. The detail is the steps of the move, as `read_steps` reads them, with
+/// exactly one space between any two tokens; without a token there are no steps. A line is refused where
+/// it is not in this form, or a departure or a moment of a swap is minute 52,500,000 or later.
 pub fn read_journal(alloc: Global, bytes: &[u8]) -> Result<Vec<JournalRow>, FormFault>
     requires { length bytes.now < 2 ^ 32 }
     ensures exact { Gives (λ v. v.items) result (moves_of bytes.now) }
-    ensures rows { IfOk result (λ v. AreProposals v.items) }
+    ensures rows { IfOk result (λ v. AreRows v.items) }
 {
     read_rows(alloc, &Moves {}, bytes)
 }

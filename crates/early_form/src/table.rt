@@ -1,23 +1,24 @@
 //! Reading the rows of a file, one a line.
 
-ghost use Rattle.std.specs.Prelude.{◌≡◌, ◌<◌, ◌^◌, ℕ, List, Option, All, IfOk, IfSome, length};
-ghost use Rattle.early_form.specs.Rows.{rows_of, Gives};
+ghost use Rattle.std.specs.Prelude.{◌≡◌, ◌<◌, ◌^◌, All, IfOk, IfSome, length};
+ghost use Rattle.early_form.specs.Rows.{RowOf, rows_of, Gives};
 
 use crate::fault::FormFault;
 use crate::fields::cut;
+use desk_units::NoMem;
 use file_rows::LINE_FEED;
 use std::alloc::Global;
 
 /// How a line of a file becomes a row.
 pub(crate) trait Table<Row> {
-    ghost reads: { Self → List ℕ → Option Row };
+    ghost reads: { Self → RowOf Row };
 
     ghost holds: { Self → Row → Type 0 };
 
-    /// The row of a line, or `None` where the line is refused.
-    fn row(&self, line: &[u8]) -> Option<Row>
-        ensures exact { result ≡ reads self.now line.now }
-        ensures facts { IfSome result (λ row. holds self.now row) };
+    /// The row of a line, by its number, from 1, and its bytes, or `None` where the line is refused.
+    fn row(&self, alloc: Global, line: u32, text: &[u8]) -> Result<Option<Row>, NoMem>
+        ensures exact { IfOk result (λ row. row ≡ reads self.now line text.now) }
+        ensures facts { IfOk result (λ row. IfSome row (λ row. holds self.now row)) };
 }
 
 /// The rows of the bytes, or the first line that is refused.
@@ -37,10 +38,10 @@ pub(crate) fn read_rows<Row: Drop, T: Table<Row>>(
         let Some((text, after)) = cut(rest, LINE_FEED) else {
             return Err(FormFault::Form { line });
         };
-        match table.row(text) {
-            None => return Err(FormFault::Form { line }),
-            Some(row) => rows.push(row)?,
-        }
+        let Some(row) = table.row(alloc, line, text)? else {
+            return Err(FormFault::Form { line });
+        };
+        rows.push(row)?;
         rest = after;
     }
     Ok(rows)

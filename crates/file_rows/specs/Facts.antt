@@ -1,5 +1,6 @@
 -- What holds of the rows of the files, as their readers give them.
-use Rattle.std.specs.Prelude.{◌+◌, ◌<◌, ◌≤◌, length, All, IfSome}
+use Rattle.std.specs.Prelude.{ℕ, ◌+◌, ◌<◌, ◌≤◌, length, All, IfSome}
+use Rattle.std.specs.Option.{ForSome}
 use Rattle.desk_units.specs.declared.numbers.Seats.{Seats}
 use Rattle.desk_units.specs.Padded.{IsNameLength}
 use Rattle.file_rows.specs.declared.legs.FlightRow.{FlightRow}
@@ -12,6 +13,8 @@ use Rattle.file_rows.specs.declared.network.Window.{Window}
 use Rattle.file_rows.specs.declared.network.CapRow.{CapRow}
 use Rattle.file_rows.specs.declared.network.AirportRow.{AirportRow}
 use Rattle.file_rows.specs.declared.network.DistRow.{DistRow}
+use Rattle.file_rows.specs.declared.disruptions.AltRow.{AltRow}
+use Rattle.file_rows.specs.declared.disruptions.AltRow.TheVariants as alt
 use Rattle.file_rows.specs.declared.passengers.LegRow.{LegRow}
 use Rattle.file_rows.specs.declared.passengers.ItineraryRow.{ItineraryRow}
 use Rattle.file_rows.specs.Seen.{IsSeen}
@@ -113,3 +116,18 @@ pub record IsItinerary (row : ItineraryRow) : Type 0 where
   pub count : 1 ≤ row.count
   pub some : 1 ≤ length row.legs
   pub legs : All IsLeg row.legs
+
+-- ---- alt_flights.csv, alt_aircraft.csv, alt_airports.csv and feed.csv
+
+-- a day of the years 2000 to 2099, moments of these years, at most 2,880 minutes of delay, and at most 100,000 an hour
+abbrev pub IsAlt : AltRow → Type 0
+IsAlt (alt.Flight line flight day delay) = (day < 36525) × ForSome delay (λ minutes. minutes ≤ 2880)
+IsAlt (alt.Aircraft line aircraft from to) = (from.0 < 52596000) × (to.0 < 52596000)
+IsAlt (alt.Field line airport from to deps arrs) = ((from.0 < 52596000) × (to.0 < 52596000)) × ((deps ≤ 100000) × (arrs ≤ 100000))
+IsAlt (alt.Nothing line) = Unit {0}
+
+-- an order of the feed, with the number of its batch
+pub record IsFed (fed : ℕ × AltRow) : Type 0 where
+  pub least : 1 ≤ fed.0
+  pub most : fed.0 ≤ 999999999
+  pub row : IsAlt fed.1

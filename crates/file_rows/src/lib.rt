@@ -13,6 +13,7 @@
 
 mod bytes;
 mod cause;
+mod disruptions;
 mod fleet;
 mod legs;
 mod limits;
@@ -25,6 +26,7 @@ pub use bytes::{
 };
 pub use cause::Cause;
 pub use desk_units::{Cabin, Haul, List, Minute, Name, Price, Seats};
+pub use disruptions::AltRow;
 pub use fleet::{AircraftRow, MaintRow, PositionGroup, PositionRow};
 pub use legs::{FlightRow, RotationRow};
 pub use limits::{

@@ -1,5 +1,7 @@
--- The texts of legs, rows and broken items. What is out of range has an empty name.
-use Rattle.std.specs.Prelude.{ℕ, ◌/◌, ◌%◌, Bool, true, false, List, ◌++◌, codes}
+-- The texts of legs, rows, paths and broken items. What is out of range has an empty name.
+use Rattle.std.specs.Prelude.{ℕ, ◌/◌, ◌%◌, Bool, true, false, List, length, ◌++◌, codes, decimal}
+use Rattle.std.specs.List.{flat_map}
+use Rattle.desk_units.specs.declared.numbers.Leg.{Leg}
 use Rattle.desk_units.specs.declared.numbers.Cabin.{Cabin}
 use Rattle.desk_units.specs.declared.numbers.Cabin.TheVariants as cabin
 use Rattle.desk_data.specs.declared.row.Row.{Row}
@@ -26,6 +28,14 @@ abbrev pub cabin_text : Cabin → List ℕ
 cabin_text cabin.F = codes "F"
 cabin_text cabin.B = codes "B"
 cabin_text cabin.E = codes "E"
+
+-- FLIGHT DATE CABIN of a leg that passengers take, and their cabin
+unfoldable pub seat_text : Situation → Leg × Cabin → List ℕ
+seat_text I pair = leg_text I pair.0.0 ++ codes " " ++ cabin_text pair.1
+
+-- a path: its number of legs, then each of them, behind a space
+unfoldable pub path_text : Situation → List (Leg × Cabin) → List ℕ
+path_text I path = decimal (length path) ++ flat_map (λ pair. codes " " ++ seat_text I pair) path
 
 -- A for the way out, R for the way back
 abbrev pub direction_text : Bool → List ℕ

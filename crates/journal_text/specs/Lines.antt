@@ -1,20 +1,32 @@
 -- The lines of a journal.
-use Rattle.std.specs.Prelude.{List, ℕ, ◌++◌, codes, decimal}
+use Rattle.std.specs.Prelude.{List, ℕ, ◌++◌, Option, Some, None, codes, decimal}
 use Rattle.std.specs.List.{flat_map, join_by}
-use Rattle.desk_data.specs.declared.moves.Step.{Step}
-use Rattle.desk_data.specs.declared.moves.Step.TheVariants.{Set}
-use Rattle.desk_data.specs.declared.moves.Move.{Move}
-use Rattle.desk_data.specs.Situation.{Situation}
+use Rattle.desk_units.specs.declared.numbers.Leg.{Leg}
+use Rattle.plan_moves.specs.declared.moves.Step.{Step}
+use Rattle.plan_moves.specs.declared.moves.Step.TheVariants.{Set, Push, Swap, Rebook, Tidy, Refill}
+use Rattle.plan_moves.specs.declared.moves.Move.{Move}
+use Rattle.desk_data.specs.Situation.{Situation, plane_at}
 use Rattle.desk_model.specs.declared.answer.Answer.{Answer}
 use Rattle.desk_model.specs.declared.answer.Answer.TheVariants.{Accepted, Breaks, Dearer, NoPlan, Full}
 use Rattle.desk_model.specs.declared.answer.Event.{Event}
 use Rattle.desk_model.specs.declared.answer.Event.TheVariants as event
 use Rattle.desk_model.specs.declared.answer.Entry.{Entry}
-use Rattle.journal_text.specs.Items.{leg_text, row_text, broken_text}
+use Rattle.desk_text.specs.Texts.{moment_text}
+use Rattle.journal_text.specs.Items.{leg_text, row_text, reservation_text, path_text, broken_text}
 
--- set FLIGHT DATE WAS NEW
+-- which legs are pushed: all, or those after FLIGHT DATE
+abbrev pub after_text : Situation → Option Leg → List ℕ
+after_text I None = codes "all"
+after_text I (Some leg) = codes "after " ++ leg_text I leg.0
+
+-- set FLIGHT DATE WAS NEW, push AIRCRAFT WHICH, swap AIRCRAFT AIRCRAFT DATE TIME, rebook RESERVATION TYPE COUNT PATH PATH, tidy, refill FLIGHT DATE
 unfoldable pub step_text : Situation → Step → List ℕ
 step_text I (Set leg was new) = codes "set " ++ leg_text I leg.0 ++ codes " " ++ row_text I was ++ codes " " ++ row_text I new
+step_text I (Push plane after) = codes "push " ++ (plane_at I plane.0).name ++ codes " " ++ after_text I after
+step_text I (Swap first second at) = codes "swap " ++ (plane_at I first.0).name ++ codes " " ++ (plane_at I second.0).name ++ codes " " ++ moment_text at.0
+step_text I (Rebook res path to count) = codes "rebook " ++ reservation_text I res.0 ++ codes " " ++ decimal count ++ codes " " ++ path_text I path ++ codes " " ++ path_text I to
+step_text I Tidy = codes "tidy"
+step_text I (Refill leg) = codes "refill " ++ leg_text I leg.0
 
 -- the steps, joined by one space
 unfoldable pub move_text : Situation → Move → List ℕ

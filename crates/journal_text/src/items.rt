@@ -58,7 +58,7 @@ pub(crate) fn push_leg(
 
 /// Adds a word, a leg and a cabin.
 #[tactic(auto, unfolding(crate::specs::Items::leg_text))]
-fn push_cabin(
+pub(crate) fn push_cabin(
     text: &mut Vec<u8>,
     word: &[u8],
     inst: &Instance,
@@ -97,7 +97,12 @@ fn cabin_letter(cabin: Cabin) -> [u8; 1]
 }
 
 /// Adds a word and an aircraft.
-fn push_plane(text: &mut Vec<u8>, word: &[u8], inst: &Instance, plane: Plane) -> Result<(), NoMem>
+pub(crate) fn push_plane(
+    text: &mut Vec<u8>,
+    word: &[u8],
+    inst: &Instance,
+    plane: Plane,
+) -> Result<(), NoMem>
     requires { plane.0 < planes_of inst.now }
     ensures ok { OnOk result (
         text.new.items ≡ text.old.items ++ (word.now ++ (plane_at inst.now plane.0).name)) }
@@ -129,7 +134,12 @@ fn push_hour(
 
 /// Adds a word and a reservation.
 #[tactic(auto, unfolding(crate::specs::Items::reservation_text))]
-fn push_reservation(text: &mut Vec<u8>, word: &[u8], inst: &Instance, res: Res) -> Result<(), NoMem>
+pub(crate) fn push_reservation(
+    text: &mut Vec<u8>,
+    word: &[u8],
+    inst: &Instance,
+    res: Res,
+) -> Result<(), NoMem>
     requires { res.0 < reservations_of inst.now }
     ensures ok { OnOk result (
         text.new.items ≡ text.old.items ++ (word.now ++ reservation_text inst.now res.0)) }

@@ -13,6 +13,7 @@
 mod answers;
 mod items;
 mod lines;
+mod paths;
 mod steps;
 
 pub use desk_data::{Broken, Instance, NoMem};

@@ -1,4 +1,2 @@
-pub mod Records
 pub mod Rows
 pub mod Tariff
-pub mod Readers

@@ -11,7 +11,8 @@ use Rattle.desk_units.specs.Ranks.{cabin_rank}
 use Rattle.file_rows.specs.declared.cause.Cause.{Cause}
 use Rattle.file_rows.specs.declared.cause.Cause.TheVariants.{Word, Fields}
 use Rattle.desk_text.specs.Fields.{name_of, number_of, price_of, weight_of, haul_of, cabin_of}
-use Rattle.desk_text.specs.Rows.{◌>>=◌}
+use Rattle.desk_text.specs.Rows.{◌>>=◌, RowOf}
+use Rattle.comma_rows.specs.Records.{printed}
 use Rattle.read_tariff.specs.declared.kinds.Kind.{Kind}
 use Rattle.read_tariff.specs.declared.kinds.Kind.TheVariants as kinds
 
@@ -112,3 +113,7 @@ tariff_row (word ∷ fields) = do
   kind ← kind_of word
   row_of kind fields
 tariff_row [] = Err Fields
+
+-- the row of a record, whose bytes are tried first; it does not depend on the record's number
+abbrev pub record_row : RowOf TariffRow
+record_row = printed (λ line. tariff_row)

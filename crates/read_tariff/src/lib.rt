@@ -7,12 +7,10 @@
 //! cause.
 //!
 //! Proved: the answer is what the definition in `specs/` says of the records of the bytes (`exact`), and
-//! the rows are within the ranges that the prices rely on (`facts`). It stands on `desk_text`.
+//! the rows are within the ranges that the prices rely on (`facts`). It stands on `comma_rows`.
 #![tactic(auto)]
 
-mod columns;
 mod kinds;
-mod records;
 mod rows;
 mod tariff;
 

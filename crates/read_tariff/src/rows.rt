@@ -2,17 +2,15 @@
 
 ghost use Rattle.std.specs.Prelude.{◌≡◌, ◌<◌, ◌≤◌, IfOk};
 ghost use Rattle.std.specs.Option.{ForSome};
-ghost use Rattle.csv.specs.Records.{fields_of};
 ghost use Rattle.desk_units.specs.Ranks.{cabin_rank};
 ghost use Rattle.tariff_prices.specs.Rows.{IsPrice, IsThreshold, IsTariffRow};
-ghost use Rattle.read_tariff.specs.Records.{record_row};
-ghost use Rattle.read_tariff.specs.Rows.{term_of, threshold_of, below_of, cabin_price, threshold_price, surface_row, weight_row, downgrade_row, position_row, row_of, tariff_row};
+ghost use Rattle.read_tariff.specs.Rows.{term_of, threshold_of, below_of, cabin_price, threshold_price, surface_row, weight_row, downgrade_row, position_row, row_of, tariff_row, record_row};
 
-use crate::columns::{Columns, are_fields};
 use crate::kinds::{Kind, kind_named};
-use csv::ByteRecord;
-use desk_text::{Cause, cabin, haul, name, number, price, weight};
+use comma_rows::{Columns, CommaGrammar};
+use desk_text::{Cause, RowFault, cabin, haul, name, number, price, weight};
 use desk_units::{Cabin, Haul, Price, TariffRow, Term};
+use std::alloc::Global;
 
 /// The longest threshold of a row, in minutes.
 const MOST_MINUTES: u32 = 10_000;
@@ -186,25 +184,27 @@ fn row_of(kind: Kind, columns: Columns<'_>) -> Result<TariffRow, Cause>
 
 /// The row of a record whose bytes were tried.
 #[tactic(auto, unfolding(crate::specs::Rows::tariff_row))]
-fn tariff_row(fields: &ByteRecord) -> Result<TariffRow, Cause>
-    ensures exact { result ≡ tariff_row (fields_of fields.now) }
+fn tariff_row(mut columns: Columns<'_>) -> Result<TariffRow, Cause>
+    ensures exact { result ≡ tariff_row columns.entry }
     ensures facts { IfOk result IsTariffRow }
 {
-    let mut columns = Columns::of(fields);
     let word = columns.take()?;
     row_of(kind_named(word)?, columns)
 }
 
-/// The row of a record, or why it is refused: `Byte` for a byte that no field may have, then `Word`
-/// for an unknown first word, then `Fields` for a missing field, then the first cause of a field
-/// from the left.
-pub(crate) fn record_row(fields: &ByteRecord) -> Result<TariffRow, Cause>
-    ensures exact { result ≡ record_row tariff_row (fields_of fields.now) }
-    ensures facts { IfOk result IsTariffRow }
-{
-    if are_fields(fields) {
-        tariff_row(fields)
-    } else {
-        Err(Cause::Byte)
+/// The fields of a record: a kind, and what it names.
+#[derive(Drop)]
+pub(crate) struct TariffRecord;
+
+impl CommaGrammar<TariffRow> for TariffRecord {
+    ghost row_of = { λ _. record_row };
+
+    ghost holds = { λ _. IsTariffRow };
+
+    fn row(&self, _alloc: Global, _line: u32, columns: Columns<'_>) -> Result<TariffRow, RowFault> {
+        if !columns.are_printed() {
+            return Err(RowFault::Refused(Cause::Byte));
+        }
+        Ok(tariff_row(columns)?)
     }
 }

@@ -5,10 +5,8 @@ ghost use Rattle.desk_text.specs.Rows.{Gives};
 ghost use Rattle.tariff_prices.specs.Rows.{IsTariffRow};
 ghost use Rattle.read_tariff.specs.Tariff.{tariff_rows};
 
-use crate::records::{read_next, records_of};
-use crate::rows::record_row;
-use csv::ByteRecord;
-use desk_text::{Cause, MOST_BYTES, ReadFault};
+use crate::rows::TariffRecord;
+use comma_rows::{MOST_BYTES, ReadFault, read_records};
 use desk_units::{List, Tariff};
 use std::alloc::Global;
 
@@ -38,24 +36,11 @@ use std::alloc::Global;
 /// 0x20 to 0x7e, in whichever field; then `Word` for an unknown first word; then `Fields` for a
 /// missing field; then from the left the first cause of a field: `Size` of a name, `Word` of a
 /// haul, a cabin or a term, `Number` of a price, a weight or a threshold.
+#[tactic(auto, unfolding(crate::specs::Tariff::tariff_rows))]
 pub fn read_tariff(alloc: Global, bytes: &[u8]) -> Result<Tariff, ReadFault>
     ensures exact { Gives (λ tariff. tariff.rows) result (tariff_rows bytes.now) }
     ensures facts { IfOk result (λ tariff. All IsTariffRow tariff.rows) }
 {
-    let mut rows = Vec::new(alloc);
-    let is_too_long = bytes.len() > MOST_BYTES;
-    if is_too_long {
-        return Err(ReadFault::at(0, Cause::Size));
-    }
-    let mut reader = records_of(alloc, bytes);
-    let mut record = ByteRecord::new(alloc);
-    let mut line = 0;
-    while read_next(&mut reader, &mut record)? {
-        line += 1;
-        match record_row(&record) {
-            Ok(row) => rows.push(row)?,
-            Err(cause) => return Err(ReadFault::at(line, cause)),
-        }
-    }
+    let rows = read_records(alloc, &TariffRecord, MOST_BYTES, bytes)?;
     Ok(Tariff { rows: List(rows) })
 }

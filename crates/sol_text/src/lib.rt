@@ -5,10 +5,12 @@
 //! from 0x21 to 0x7e, so no name has a space, and names stand as they are.
 //!
 //! `rotations_text(alloc, &inst, &plan)` gives the bytes of the whole file. Proved: they are those of the
-//! definition in `specs/`, leg by leg. It stands on `desk_data` and, for dates, on `desk_text`.
+//! definition in `specs/`, leg by leg. It stands on `desk_data`, on `plan_pages` and, for dates, on
+//! `desk_text`.
 #![tactic(auto)]
 
 mod rotations;
 
-pub use desk_data::{Instance, NoMem, Plan};
+pub use desk_data::{Instance, NoMem};
+pub use plan_pages::Pages;
 pub use rotations::rotations_text;

@@ -5,23 +5,24 @@ ghost use Rattle.desk_data.specs.Situation.{planes_of};
 ghost use Rattle.desk_data.specs.Valid.{IsPlanFor, IsRowOf};
 ghost use Rattle.sol_text.specs.Rotations.{rotation_line, rotations_text};
 
-use desk_data::{Instance, LegInfo, NoMem, Plan, Row};
+use desk_data::{Instance, Leg, LegInfo, NoMem, Row};
 use desk_text::{date_text, moment_text, push_all};
+use plan_pages::Pages;
 use std::alloc::Global;
 
 /// The rotations of a plan: one line for each leg, in the order of the legs. The line of a flown leg
 /// is `FLIGHT DATE AIRCRAFT DATE TIME`, with its flight date, its aircraft and its departure, and
 /// that of a cancelled leg `FLIGHT DATE cancelled`. The only error is out of memory.
 #[tactic(auto, unfolding(crate::specs::Rotations::rotations_text))]
-pub fn rotations_text(alloc: Global, inst: &Instance, plan: &Plan) -> Result<Vec<u8>, NoMem>
+pub fn rotations_text(alloc: Global, inst: &Instance, plan: &Pages) -> Result<Vec<u8>, NoMem>
     requires { IsPlanFor inst.now plan.now }
     ensures { IfOk result (λ text. text.items ≡ rotations_text inst.now plan.now) }
 {
     let legs = inst.parts().legs.as_slice();
-    let rows = plan.rows();
     let mut text = Vec::new(alloc);
     for (x, leg) in legs.iter().enumerate() {
-        push_line(&mut text, inst, leg, rows[x])?;
+        let row = plan.read_row(Leg(x as u32));
+        push_line(&mut text, inst, leg, row)?;
     }
     Ok(text)
 }

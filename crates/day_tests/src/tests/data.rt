@@ -2,10 +2,8 @@
 
 use super::days::{airport_of, flown, instance_of, leg_of, name_of, plane_of, set};
 use day_checks::are_parts;
-use desk_data::{
-    Airport, AirportInfo, Cabin, Cap, Leg, LegInfo, List, Minute, Move, Parts, Path, PlaneInfo,
-    Price, ResInfo, Row, Seats, Tariff, TariffRow, fits,
-};
+use desk_data::{Airport, AirportInfo, Cabin, Cap, Leg, LegInfo, List, Minute, Parts, Path, PlaneInfo, Price, ResInfo, Row, Seats, Tariff, TariffRow};
+use plan_moves::{Move, fits};
 use std::alloc::Global;
 use std::test::Fail;
 
@@ -220,10 +218,9 @@ fn moves_have_edges(rt: HostRuntime) -> Result<(), Fail> {
         (1, 0, 0, 2, false),
     ];
     for (count, leg, dep, plane, expected) in table.iter() {
-        let step = set(*leg, Row::Cancelled, flown(*plane, *dep));
         let mut steps = Vec::new(rt.alloc());
         for _ in 0..*count {
-            steps.push(step)?;
+            steps.push(set(*leg, Row::Cancelled, flown(*plane, *dep)))?;
         }
         let asked = Move { steps: List(steps) };
         assert_eq!(rt;

@@ -3,15 +3,19 @@
 ghost use Rattle.journal_text.specs.Told.{Names};
 
 use super::days::{flown, instance_of, leg_of, name_of, parts_of, set};
-use desk_data::{
-    Airport, Broken, Cabin, Grains, Instance, Leg, List, Move, Path, Plane, Price, Res, ResInfo,
-    Row, fits,
-};
+use desk_data::{Airport, Broken, Cabin, Grains, Instance, Leg, List, Minute, Path, Plane, Price, Res, ResInfo, Row};
+use plan_moves::{Move, Step, fits};
 use desk_model::{Answer, Entry, Event};
 use journal_text::{journal_line, journal_text, push_broken};
 use std::alloc::Global;
 use std::process::Abort;
 use std::test::Fail;
+
+fn path_of(alloc: Global, legs: &[(Leg, Cabin)]) -> Result<Path, Fail> {
+    Ok(Path {
+        legs: List(Vec::from_slice(alloc, legs)?),
+    })
+}
 
 fn reservation_of(alloc: Global, inbound: bool) -> Result<ResInfo, Fail> {
     Ok(ResInfo {
@@ -19,9 +23,7 @@ fn reservation_of(alloc: Global, inbound: bool) -> Result<ResInfo, Fail> {
         inbound,
         price: Price(1),
         count: 1,
-        path: Path {
-            legs: List(vec![in alloc; (Leg(0), Cabin::E)]?),
-        },
+        path: path_of(alloc, &[(Leg(0), Cabin::E)])?,
     })
 }
 
@@ -123,5 +125,45 @@ fn entries_have_lines(rt: HostRuntime) -> Result<(), Fail> {
     let entries = [entry];
     let whole = journal_text(alloc, &inst, &entries)?;
     assert_eq!(rt; whole.as_slice(), line.as_slice());
+    Ok(())
+}
+
+#[test]
+fn steps_of_each_kind_have_texts(rt: HostRuntime) -> Result<(), Fail> {
+    let alloc = rt.alloc();
+    let inst = day_of(alloc)?;
+    let rebook = Step::Rebook {
+        res: Res(0),
+        path: path_of(alloc, &[])?,
+        to: path_of(alloc, &[(Leg(0), Cabin::B), (Leg(1), Cabin::E)])?,
+        count: 2,
+    };
+    let all = Step::Push {
+        plane: Plane(0),
+        after: None,
+    };
+    let some = Step::Push {
+        plane: Plane(1),
+        after: Some(Leg(1)),
+    };
+    let swap = Step::Swap {
+        first: Plane(1),
+        second: Plane(0),
+        at: Minute(4_294_560),
+    };
+    let refill = Step::Refill { leg: Leg(0) };
+    let asked = Move {
+        steps: List(vec![in alloc; all, some, swap, rebook, Step::Tidy, refill]?),
+    };
+    assert!(rt; fits(&inst, &asked));
+    let entry = Entry {
+        caller: 1,
+        event: Event::Move(asked),
+        answer: Answer::Accepted { cost: Grains(7) },
+    };
+    let line =
+        b"1,move,push P1 all push P2 after F22 01/03/08 swap P2 P1 01/03/08 08:00 rebook R7 A 2 0 2 F1 01/03/08 B F22 01/03/08 E tidy refill F1 01/03/08,accepted 7\n";
+    let text = journal_line(alloc, &inst, &entry)?;
+    assert_eq!(rt; text.as_slice(), line.as_slice());
     Ok(())
 }

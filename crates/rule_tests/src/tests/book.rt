@@ -2,7 +2,8 @@
 
 use super::days::{airport_of, instance_of, leg_of, parts_of, plane_of};
 use desk_core::Book;
-use desk_data::{Grains, Leg, List, Minute, Move, Parts, Plane, Row, Step, fits};
+use desk_data::{Grains, Leg, List, Minute, Parts, Plane, Row};
+use plan_moves::{Move, Step, fits};
 use desk_model::{Answer, Event};
 use std::alloc::Global;
 use std::test::Fail;
@@ -15,14 +16,10 @@ fn day_parts(alloc: Global) -> Result<Parts, Fail> {
     Ok(parts_of(alloc, airports, planes, legs, Vec::new(alloc)))
 }
 
-/// The step that cancels the second leg.
-const CANCEL: Step = Step::Set {
-    leg: Leg(1),
-    was: Row::Flown {
-        plane: Plane(0),
-        dep: Minute(570),
-    },
-    new: Row::Cancelled,
+/// The row of the second leg as it is scheduled.
+const SCHEDULED: Row = Row::Flown {
+    plane: Plane(0),
+    dep: Minute(570),
 };
 
 /// A book in which callers 1 and 2 have proposed the step, unless something is out of range.
@@ -42,8 +39,13 @@ fn book_of(alloc: Global, asked: &Move) -> Result<Option<Book>, Fail> {
 #[test]
 fn later_entries_are_copied(rt: HostRuntime) -> Result<(), Fail> {
     let alloc = rt.alloc();
+    let cancel = Step::Set {
+        leg: Leg(1),
+        was: SCHEDULED,
+        new: Row::Cancelled,
+    };
     let asked = Move {
-        steps: List(vec![in alloc; CANCEL]?),
+        steps: List(vec![in alloc; cancel]?),
     };
     let book = book_of(alloc, &asked)?.ok_or("something is out of range")?;
     assert_eq!(rt; (book.entries(), book.changes()), (2, 1));
@@ -61,6 +63,9 @@ fn later_entries_are_copied(rt: HostRuntime) -> Result<(), Fail> {
     };
     let Event::Move(proposed) = &entry.event;
     assert_eq!(rt; (entry.caller, entry.answer), (2, answer));
-    assert_eq!(rt; proposed.steps.as_slice(), [CANCEL].as_slice());
+    let [Step::Set { leg, was, new }] = proposed.steps.as_slice() else {
+        return Err(Fail::new("not one step that sets a row"));
+    };
+    assert_eq!(rt; (*leg, *was, *new), (Leg(1), SCHEDULED, Row::Cancelled));
     Ok(())
 }

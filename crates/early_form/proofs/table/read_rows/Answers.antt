@@ -1,4 +1,5 @@
-use Rattle.std.proofs.Common.{sym, ◌∙◌, arith}
+use Rattle.std.proofs.Common.{sym, subst, ◌∙◌, arith}
+use Rattle.std.specs.Prelude.{IfSome}
 use Rattle.std.proofs.lemmas.List.Elements.{All-nil, All-push}
 use Rattle.early_form.specs.Rows.{rows_of}
 use Rattle.early_form.proofs.RowLemmas.{goes_on, refused, unended, ended, begins, still_room}
@@ -11,16 +12,16 @@ pub returns-in_default-clause-exact : goal.returns-in_default-clause-exact
 returns-in_default-clause-exact g c =
     unended (g.T.Table.reads c.args.table.now) c.loop-rest.rows.items (rows_of (g.T.Table.reads c.args.table.now) c.args.bytes.now) c.len.result c.loop-rest.rest.now (omega arith) c.in_default.ensures.exact (sym c.is_empty.ensures ∙ c.loop-rest-test.true) c.loop-rest.invariant.read
 
-pub returns-in-None-clause-exact : goal.returns-in-None-clause-exact
-returns-in-None-clause-exact g c =
-    refused (g.T.Table.reads c.args.table.now) c.loop-rest.rows.items (rows_of (g.T.Table.reads c.args.table.now) c.args.bytes.now) c.len.result c.loop-rest.rest.now c.in-Some.text.now c.in-Some.after.now (omega arith) c.in-Some.ensures.exact c.in-None.ensures.exact c.loop-rest.invariant.read
+pub returns-in_default-2-clause-exact : goal.returns-in_default-2-clause-exact
+returns-in_default-2-clause-exact g c =
+    refused (g.T.Table.reads c.args.table.now) c.loop-rest.rows.items (rows_of (g.T.Table.reads c.args.table.now) c.args.bytes.now) c.len.result c.loop-rest.rest.now c.in-Some.text.now c.in-Some.after.now (omega arith) c.in-Some.ensures.exact (sym c.in_default-2.is ∙ c.in_ok-row.ensures.exact) c.loop-rest.invariant.read
 
 pub loop-rest-preserved : goal.loop-rest-preserved
 loop-rest-preserved g c =
-    rw c.in_ok-push-in-Some-row.ensures.items (record {
-      holds = All-push (λ row. g.T.Table.holds c.args.table.now row) c.loop-rest.rows.items c.in-Some-row.row c.loop-rest.invariant.holds c.in-Some-row.ensures.facts;
-      read = goes_on (g.T.Table.reads c.args.table.now) c.loop-rest.rows.items (rows_of (g.T.Table.reads c.args.table.now) c.args.bytes.now) c.loop-rest.rest.now c.in-Some.text.now c.in-Some.after.now c.in-Some-row.row c.in-Some.ensures.exact c.in-Some-row.ensures.exact c.loop-rest.invariant.read;
-      room = still_room c.loop-rest.rows.items c.in-Some-row.row c.in-Some.text.now c.in-Some.after.now c.loop-rest.rest.now c.args.bytes.now c.in-Some.ensures.size c.loop-rest.invariant.room;
+    rw c.in_ok-push.ensures.items (record {
+      holds = All-push (λ row. g.T.Table.holds c.args.table.now row) c.loop-rest.rows.items c.in-Some-2.row c.loop-rest.invariant.holds (subst (λ row. IfSome row (λ row. g.T.Table.holds c.args.table.now row)) c.in-Some-2.is c.in_ok-row.ensures.facts);
+      read = goes_on (g.T.Table.reads c.args.table.now) c.loop-rest.rows.items (rows_of (g.T.Table.reads c.args.table.now) c.args.bytes.now) c.len.result c.loop-rest.rest.now c.in-Some.text.now c.in-Some.after.now c.in-Some-2.row (omega arith) c.in-Some.ensures.exact (sym c.in-Some-2.is ∙ c.in_ok-row.ensures.exact) c.loop-rest.invariant.read;
+      room = still_room c.loop-rest.rows.items c.in-Some-2.row c.in-Some.text.now c.in-Some.after.now c.loop-rest.rest.now c.args.bytes.now c.in-Some.ensures.size c.loop-rest.invariant.room;
     })
 
 pub returns-clause-exact : goal.returns-clause-exact

@@ -5,4 +5,4 @@ pub returns-clause-legal : goal.returns-clause-legal
 returns-clause-legal c = rw (← c.self.view_is) c.self.invariant.legal
 
 pub returns-clause-promises : goal.returns-clause-promises
-returns-clause-promises c = rw (← c.self.view_is) (promises c.self.inside.inst c.self.inside.journal.items c.self.invariant.legal)
+returns-clause-promises c = rw (← c.self.view_is) (promises c.self.inside.eval.inst c.self.inside.journal.items c.self.invariant.legal)

@@ -1,30 +1,26 @@
 use Rattle.std.proofs.Common.{◌<◌, length, arith}
-use Rattle.desk_data.specs.Fits.{Fits}
-use Rattle.desk_model.specs.States.{opening}
-use Rattle.desk_model.specs.Histories.{state, proposal_limit}
-use Rattle.desk_core.specs.declared.judged.Judged.TheVariants.{Published, Refused}
-use Rattle.desk_core.specs.Judged.{IsJudged}
-use Rattle.desk_core.proofs.KeptLaws.{kept_refused, kept_published}
+use Rattle.plan_moves.specs.Fits.{Fits}
+use Rattle.desk_model.specs.Histories.{proposal_limit}
+use Rattle.desk_core.specs.Judged.{IsJudged, IsMoved, IsRefused}
+use Rattle.desk_core.proofs.KeptLaws.{kept_refused, kept_moved, settled_moved}
 use Rattle.desk_core.proofs.book.Book.propose.Goals as goal
-
-pub invariant_of-self-in-Published : goal.invariant_of-self-in-Published
-invariant_of-self-in-Published c =
-    let b = c.self.inside in
-    let few : length b.journal.items < proposal_limit = omega arith in
-    let fits : Fits b.inst c.args.m.now = rw (← c.self.view_is) at c.requires in
-    let at_call : IsJudged (state (opening b.inst) c.reserve.new.self.items) c.args.m.now c.in_ok-plan.field-0 = c.in_ok-plan.ensures in
-    let judged : IsJudged (state (opening b.inst) b.journal.items) c.args.m.now (Published c.in-Published.plan c.in-Published.cost) =
-    rw (c.reserve.ensures.items, c.in-Published.is) at at_call in
-    rw (c.in_ok-push-in-Published.ensures.items, c.reserve.ensures.items, c.in_ok-copied_move.ensures)
-    (kept_published b.inst b.plan c.in-Published.plan b.broken b.cost c.in-Published.cost b.changes b.journal.items c.args.caller c.args.m.now c.self.invariant few fits judged)
 
 pub invariant_of-self-in-Refused : goal.invariant_of-self-in-Refused
 invariant_of-self-in-Refused c =
     let b = c.self.inside in
     let few : length b.journal.items < proposal_limit = omega arith in
-    let fits : Fits b.inst c.args.m.now = rw (← c.self.view_is) at c.requires in
-    let at_call : IsJudged (state (opening b.inst) c.reserve.new.self.items) c.args.m.now c.in_ok-plan.field-0 = c.in_ok-plan.ensures in
-    let judged : IsJudged (state (opening b.inst) b.journal.items) c.args.m.now (Refused c.in-Refused.answer) =
-    rw (c.reserve.ensures.items, c.in-Refused.is) at at_call in
-    rw (c.in_ok-push-in-Refused.ensures.items, c.reserve.ensures.items, c.in_ok-copied_move.ensures)
-    (kept_refused b.inst b.plan b.broken b.cost b.changes b.journal.items c.args.caller c.args.m.now c.in-Refused.answer c.self.invariant few fits judged)
+    let fits : Fits b.eval.inst c.args.m.now = rw (← c.self.view_is) at c.requires in
+    let at_call : IsJudged b.eval c.args.m.now c.judge.new.eval c.in_ok-applied.field-0 = c.in_ok-applied.ensures.ok in
+    let judged : IsRefused b.eval c.args.m.now c.judge.new.eval c.in-Refused.answer = rw c.in-Refused.is at at_call in
+    rw (judged.same, c.in_ok-push-in-Refused.ensures.items, c.reserve.ensures.items, c.in_ok-copy.ensures)
+    (kept_refused b.eval b.changes b.journal.items c.args.caller c.args.m.now c.in-Refused.answer c.self.invariant few fits judged.answered judged.refused)
+
+pub invariant_of-self-in-Moved : goal.invariant_of-self-in-Moved
+invariant_of-self-in-Moved c =
+    let b = c.self.inside in
+    let few : length b.journal.items < proposal_limit = omega arith in
+    let fits : Fits b.eval.inst c.args.m.now = rw (← c.self.view_is) at c.requires in
+    let at_call : IsJudged b.eval c.args.m.now c.judge.new.eval c.in_ok-applied.field-0 = c.in_ok-applied.ensures.ok in
+    let judged : IsMoved b.eval c.args.m.now c.judge.new.eval c.in-Moved.applied c.in-Moved.cost = rw c.in-Moved.is at at_call in
+    rw (c.publish.ensures, settled_moved b.eval c.judge.new.eval c.args.m.now judged.inst judged.rows, c.in_default.ensures.items, c.reserve.ensures.items, c.in_ok-copy.ensures)
+    (kept_moved b.eval b.changes b.journal.items c.args.caller c.args.m.now c.in-Moved.cost c.self.invariant few fits judged.answered)

@@ -1,0 +1,10 @@
+use Rattle.std.proofs.Common.{◌≡◌, take}
+use Rattle.desk_data.specs.Valid.{IsPlanFor}
+use Rattle.plan_push.proofs.PlacedLaws.{placed_all}
+use Rattle.desk_fallback.proofs.pushes.push.Given as goal
+
+abbrev pub invariant-loop-placing : goal.invariant-loop-placing
+invariant-loop-placing l = record {
+  made : l.plan ≡ placed_all l.inst l.fn.plan l.plane.0 (take l.placing-index l.placing-items);
+  valid : IsPlanFor l.inst l.plan;
+}

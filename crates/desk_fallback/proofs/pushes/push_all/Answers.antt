@@ -1,0 +1,25 @@
+use Rattle.std.proofs.Common.{sym, ap, ◌∙◌, arith}
+use Rattle.std.specs.Prelude.{None}
+use Rattle.desk_data.specs.PlanRows.{PlanRows}
+use Rattle.desk_model.specs.Push.{after_push}
+use Rattle.desk_fallback.proofs.PushParts.{pushed_to-none, pushed_to-more, pushed_to-all}
+use Rattle.desk_fallback.proofs.pushes.push_all.Goals as goal
+
+pub loop-p-init : goal.loop-p-init
+loop-p-init c = record { made = sym (pushed_to-none c.args.inst.now c.args.plan.now); valid = c.requires }
+
+pub loop-p-preserved : goal.loop-p-preserved
+loop-p-preserved c =
+    let I = c.args.inst.now in
+    let p = c.loop-p.p in
+    record {
+      made = c.in_ok-push.ensures.made
+          ∙ ap (λ (Q : PlanRows). after_push I Q p None) c.loop-p.invariant.made
+          ∙ pushed_to-more I p c.args.plan.now;
+      valid = c.in_ok-push.ensures.valid;
+    }
+
+pub returns-clause-made : goal.returns-clause-made
+returns-clause-made c =
+    c.loop-p.invariant.made
+    ∙ pushed_to-all c.args.inst.now c.args.plan.now c.loop-p.p (omega (arith, c.planes-p-end.ensures.count))

@@ -1,0 +1,10 @@
+use Rattle.std.proofs.Common.{◌≡◌}
+use Rattle.desk_data.specs.Valid.{IsPlanFor}
+use Rattle.desk_fallback.proofs.PushParts.{pushed_to}
+use Rattle.desk_fallback.proofs.pushes.push_all.Given as goal
+
+abbrev pub invariant-loop-p : goal.invariant-loop-p
+invariant-loop-p l = record {
+  made : l.plan ≡ pushed_to l.inst l.p l.fn.plan;
+  valid : IsPlanFor l.inst l.plan;
+}

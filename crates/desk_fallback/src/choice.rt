@@ -1,0 +1,63 @@
+//! The first of the plan as it stands, Shift and Ground that is feasible.
+
+ghost use Rattle.std.specs.Prelude.{◌≡◌, IfOk};
+ghost use Rattle.desk_data.specs.Valid.{IsPlanFor};
+ghost use Rattle.desk_rules.specs.Least.{least};
+ghost use Rattle.desk_model.specs.declared.fallbacks.Which.TheVariants.{Shift};
+ghost use Rattle.desk_model.specs.Fallback.{chosen_or, fallback, grounded, last_choice, rows_of, shifted};
+
+use crate::make::{grounded, shifted};
+use desk_data::{Instance, NoMem, Plan};
+use desk_model::{Fallback, Which};
+use full_check::full_check;
+use std::alloc::Global;
+
+/// What the desk falls back on: the first that is feasible of the plan as it stands, Shift and Ground,
+/// with its name. Where none is, there is no plan: the rows are those of Ground, and the item is the
+/// first that they break. The rows are a valid plan either way. The only error is out of memory.
+#[tactic(auto, unfolding(desk_model::specs::Fallback::fallback))]
+pub fn fallback(alloc: Global, inst: &Instance, plan: &Plan) -> Result<Fallback, NoMem>
+    requires { IsPlanFor inst.now plan.now }
+    ensures first { IfOk result (λ made. made ≡ fallback inst.now plan.now) }
+    ensures valid { IfOk result (λ made. IsPlanFor inst.now (rows_of made)) }
+{
+    match full_check(alloc, inst, plan)? {
+        None => Ok(Fallback::Chosen {
+            which: Which::Keep,
+            plan: plan.copy(alloc)?,
+        }),
+        Some(_) => shift_or_ground(alloc, inst, plan),
+    }
+}
+
+/// The choice where the plan as it stands is not feasible.
+fn shift_or_ground(alloc: Global, inst: &Instance, plan: &Plan) -> Result<Fallback, NoMem>
+    requires { IsPlanFor inst.now plan.now }
+    ensures made { IfOk result (λ made. made ≡ chosen_or Shift (shifted inst.now plan.now) (least inst.now (shifted inst.now plan.now)) (last_choice (grounded inst.now plan.now) (least inst.now (grounded inst.now plan.now)))) }
+    ensures valid { IfOk result (λ made. IsPlanFor inst.now (rows_of made)) }
+{
+    let made = shifted(alloc, inst, plan)?;
+    match full_check(alloc, inst, &made)? {
+        None => Ok(Fallback::Chosen {
+            which: Which::Shift,
+            plan: made,
+        }),
+        Some(_) => ground_or_none(alloc, inst, plan),
+    }
+}
+
+/// The choice where Shift is not feasible either.
+fn ground_or_none(alloc: Global, inst: &Instance, plan: &Plan) -> Result<Fallback, NoMem>
+    requires { IsPlanFor inst.now plan.now }
+    ensures made { IfOk result (λ made. made ≡ last_choice (grounded inst.now plan.now) (least inst.now (grounded inst.now plan.now))) }
+    ensures valid { IfOk result (λ made. IsPlanFor inst.now (rows_of made)) }
+{
+    let made = grounded(alloc, inst, plan)?;
+    match full_check(alloc, inst, &made)? {
+        None => Ok(Fallback::Chosen {
+            which: Which::Ground,
+            plan: made,
+        }),
+        Some(broken) => Ok(Fallback::NoPlan { broken, plan: made }),
+    }
+}

@@ -1,0 +1,56 @@
+//! Every aircraft is pushed, with all its movable legs.
+
+ghost use Rattle.std.specs.Prelude.{◌≡◌, ◌<◌, None, OnOk};
+ghost use Rattle.desk_data.specs.PlanRows.{PlanRows};
+ghost use Rattle.desk_data.specs.Situation.{planes_of};
+ghost use Rattle.desk_data.specs.Valid.{IsPlanFor};
+ghost use Rattle.desk_model.specs.Fallback.{all_pushed};
+ghost use Rattle.desk_model.specs.Push.{after_placing, after_push};
+ghost use Rattle.plan_push.specs.Placings.{AreLegs, IsPlacing};
+
+use desk_data::{Instance, NoMem, Plan, Plane, Row};
+use plan_push::{Placing, first_departure, placings};
+use std::alloc::Global;
+
+/// Pushes all aircraft in ascending order, each in the plan as those before it left it. After an error,
+/// which is out of memory, some may have been pushed.
+pub(crate) fn push_all(alloc: Global, inst: &Instance, plan: &mut Plan) -> Result<(), NoMem>
+    requires { IsPlanFor inst.now plan.old }
+    ensures made { OnOk result (plan.new ≡ all_pushed inst.now plan.old) }
+    ensures valid { OnOk result (IsPlanFor inst.now plan.new) }
+{
+    for p in 0..inst.planes() {
+        push(alloc, inst, plan, Plane(p))?;
+    }
+    Ok(())
+}
+
+/// Pushes an aircraft. Which legs are placed, and which leg is before each, is that of the plan at the
+/// start. After an error legs may have been placed.
+fn push(alloc: Global, inst: &Instance, plan: &mut Plan, plane: Plane) -> Result<(), NoMem>
+    requires plan { IsPlanFor inst.now plan.old }
+    requires plane { plane.0 < planes_of inst.now }
+    ensures made { OnOk result (plan.new ≡ after_push inst.now plan.old plane.0 None) }
+    ensures valid { OnOk result (IsPlanFor inst.now plan.new) }
+{
+    let all = placings(alloc, inst, &*plan, plane, None)?;
+    for placing in &all {
+        place(inst, plan, plane, placing);
+    }
+    Ok(())
+}
+
+/// Places a leg: it departs at the first moment at which it may, and keeps its row where there is none.
+/// The plan at the start is any of which the leg before it is that.
+fn place(inst: &Instance, plan: &mut Plan, plane: Plane, placing: &Placing)
+    requires plan { IsPlanFor inst.now plan.old }
+    requires plane { plane.0 < planes_of inst.now }
+    requires legs { AreLegs inst.now placing.now }
+    ensures made { (start : PlanRows) → IsPlacing inst.now start placing.now → plan.new ≡ after_placing inst.now start plane.0 plan.old placing.now.leg.0 }
+    ensures valid { IsPlanFor inst.now plan.new }
+{
+    match first_departure(inst, &*plan, plane, placing) {
+        Some(dep) => plan.put_row(placing.leg, Row::Flown { plane, dep }),
+        None => {}
+    }
+}

@@ -1,0 +1,5 @@
+pub mod BackLaws
+pub mod SwapLaws
+pub mod GroupLaws
+pub mod PushLaws
+pub mod StepLaws

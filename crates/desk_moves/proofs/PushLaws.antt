@@ -1,0 +1,90 @@
+-- Legs that are placed, one at a time, and how many they are.
+use Rattle.std.proofs.Common.{◌≡◌, ℕ, ◌+◌, ◌<◌, ◌≤◌, inl, inr, Bool, true, ◌&&◌, not, List, [], ◌∷◌, length, get_or, take, sym, ap, ◌∙◌, arith, length-append}
+use Rattle.std.specs.Prelude.{Option, filter, fold, map}
+use Rattle.std.proofs.lemmas.Bool.{cases_Bool}
+use Rattle.std.proofs.lemmas.List.{length-map}
+use Rattle.std.proofs.lemmas.List.Folds.{fold-map}
+use Rattle.std.proofs.lemmas.List.Sums.{fold_more}
+use Rattle.desk_units.specs.declared.numbers.Leg.{Leg}
+use Rattle.desk_data.specs.Situation.{Situation, legs_of, fixed}
+use Rattle.desk_data.specs.PlanRows.{PlanRows}
+use Rattle.desk_rules.specs.Numbers.{numbers}
+use Rattle.desk_rules.specs.Rotations.{precedes}
+use Rattle.desk_rules.specs.Maintenance.{flies}
+use Rattle.desk_rules.proofs.HourLaws.{length-numbers}
+use Rattle.desk_rules.proofs.RotationLaws.{precedes-holds}
+use Rattle.desk_model.specs.Push.{with_leg, rotation, comes_behind, pushed_legs, after_placing, after_push}
+use Rattle.desk_model.proofs.RotationOrder.{precedes-itself, precedes-trans}
+use Rattle.plan_push.specs.declared.pushed.Placing.{Placing}
+
+-- ---- how many legs are placed
+
+length-filter-le : (p : ℕ → Bool) (xs : List ℕ) → length (filter p xs) ≤ length xs
+length-filter-le p [] = omega arith
+length-filter-le p (x ∷ xs) =
+    let ih = length-filter-le p xs in
+    elim (cases_Bool (p x)) [
+      | inl passes ↦ rw passes (omega (arith, ih))
+      | inr fails ↦ rw fails (omega (arith, ih))
+    ]
+
+-- two tests that no number passes both keep no more than there are
+length-filters : (p q : ℕ → Bool) (xs : List ℕ) → ((x : ℕ) → p x ≡ true → q x ≡ true → ⊥) → length (filter p xs) + length (filter q xs) ≤ length xs
+length-filters p q [] apart = omega arith
+length-filters p q (x ∷ xs) apart =
+    let ih = length-filters p q xs apart in
+    elim (cases_Bool (p x)) [
+      | inl first ↦ elim (cases_Bool (q x)) [
+        | inl second ↦ absurd (apart x first second)
+        | inr not_second ↦ rw (first, not_second) (omega (arith, ih))
+      ]
+      | inr not_first ↦ elim (cases_Bool (q x)) [
+        | inl second ↦ rw (not_first, second) (omega (arith, ih))
+        | inr not_second ↦ rw (not_first, not_second) (omega (arith, ih))
+      ]
+    ]
+
+not_both : (P : PlanRows) (x y : ℕ) → precedes P y x ≡ true → precedes P x y ≡ true → ⊥
+not_both P x y before behind = precedes-itself P x (precedes-trans P x y x (precedes-holds P x y behind) (precedes-holds P y x before))
+
+length-with_leg : (P : PlanRows) (legs : List ℕ) (x : ℕ) → length (with_leg P legs x) ≤ length legs + 1
+length-with_leg P legs x =
+    let both = length-filters (λ y. precedes P y x) (λ y. precedes P x y) legs (λ y before behind. not_both P x y before behind) in
+    let all = length-append (filter (λ y. precedes P y x) legs) (x ∷ filter (λ y. precedes P x y) legs) in
+    omega (arith, both, all)
+
+length-legs : (P : PlanRows) (legs more : List ℕ) → length (fold (with_leg P) legs more) ≤ length legs + length more
+length-legs P legs [] = omega arith
+length-legs P legs (x ∷ more) = omega (arith, length-legs P (with_leg P legs x) more, length-with_leg P legs x)
+
+length-rotation : (I : Situation) (P : PlanRows) (p : ℕ) → length (rotation I P p) ≤ legs_of I
+unfolding rotation
+length-rotation I P p =
+    let flown = length-filter-le (flies P p) (numbers (legs_of I)) in
+    let all = length-legs P [] (filter (flies P p) (numbers (legs_of I))) in
+    omega (arith, flown, all, length-numbers (legs_of I))
+
+-- no more legs are placed than there are
+pub length-pushed_legs : (I : Situation) (P : PlanRows) (p : ℕ) (after : Option Leg) → length (pushed_legs I P p after) ≤ legs_of I
+unfolding pushed_legs
+length-pushed_legs I P p after =
+    omega (arith, length-filter-le (λ x. not (fixed I x) && comes_behind P after x) (rotation I P p), length-rotation I P p)
+
+-- ---- the legs, one at a time
+
+-- the plan once some legs are placed
+abbrev pub placed_all : Situation → PlanRows → ℕ → List Placing → PlanRows
+placed_all I P p all = fold (λ Q placing. after_placing I P p Q placing.leg.0) P all
+
+-- one leg more of a list
+pub placed_all-more : (I : Situation) (P : PlanRows) (p : ℕ) (all : List Placing) (i : ℕ) (d : Placing) → i < length all → after_placing I P p (placed_all I P p (take i all)) (get_or all i d).leg.0 ≡ placed_all I P p (take (i + 1) all)
+placed_all-more I P p all i d within = sym (fold_more (λ Q placing. after_placing I P p Q placing.leg.0) P all i d within)
+
+pub placed_all-is : (I : Situation) (P : PlanRows) (p : ℕ) (after : Option Leg) (all : List Placing) → map (λ placing. placing.leg.0) all ≡ pushed_legs I P p after → placed_all I P p all ≡ after_push I P p after
+unfolding after_push
+placed_all-is I P p after all is =
+    sym (fold-map (after_placing I P p) (λ (placing : Placing). placing.leg.0) P all) ∙ ap (fold (after_placing I P p) P) is
+
+pub length-placings : (I : Situation) (P : PlanRows) (p : ℕ) (after : Option Leg) (all : List Placing) → map (λ placing. placing.leg.0) all ≡ pushed_legs I P p after → length all ≤ legs_of I
+length-placings I P p after all is =
+    omega (arith, length-map all (λ (placing : Placing). placing.leg.0), ap length is, length-pushed_legs I P p after)

@@ -1,0 +1,78 @@
+//! Swap: two aircraft fly each other's legs from a moment on.
+
+ghost use Rattle.std.specs.Prelude.{◌≡◌, ◌<◌, OnOk, length};
+ghost use Rattle.desk_data.specs.Situation.{legs_of, planes_of};
+ghost use Rattle.desk_data.specs.PlanRows.{row_at, with_row};
+ghost use Rattle.desk_model.specs.Swap.{after_swap, other_plane, row_after_swap};
+ghost use Rattle.desk_moves.specs.Back.{IsAfter};
+
+use crate::changes::set_row;
+use crate::sizes::leg_count;
+use desk_data::{Leg, Minute, NoMem, Plane, Row};
+use desk_eval::Evaluator;
+use std::alloc::Global;
+
+/// Two aircraft, and the moment from which they fly each other's legs.
+#[derive(Clone, Copy, Debug)]
+pub(crate) struct Exchange {
+    pub first: Plane,
+    pub second: Plane,
+    pub at: Minute,
+}
+
+/// Takes a Swap. After an error, which is out of memory, some legs may have gone over.
+pub(crate) fn swap_step(
+    alloc: Global,
+    eval: &mut Evaluator,
+    exchange: Exchange,
+) -> Result<(), NoMem>
+    requires first { exchange.first.0 < planes_of eval.old.inst }
+    requires second { exchange.second.0 < planes_of eval.old.inst }
+    requires depth { length eval.old.past < 1950000000 }
+    ensures rows { OnOk result (eval.new.rows ≡ after_swap eval.old.rows exchange.first.0 exchange.second.0 exchange.at.0) }
+    ensures after { IsAfter 100000 eval.old eval.new }
+{
+    for x in 0..leg_count(eval) {
+        swap_leg(alloc, eval, exchange, Leg(x))?;
+    }
+    Ok(())
+}
+
+/// Gives a leg its row after the swap.
+fn swap_leg(alloc: Global, eval: &mut Evaluator, exchange: Exchange, leg: Leg) -> Result<(), NoMem>
+    requires first { exchange.first.0 < planes_of eval.old.inst }
+    requires second { exchange.second.0 < planes_of eval.old.inst }
+    requires leg { leg.0 < legs_of eval.old.inst }
+    requires depth { length eval.old.past < 2000000000 }
+    ensures rows { OnOk result (eval.new.rows ≡ with_row eval.old.rows leg.0 (row_after_swap exchange.first.0 exchange.second.0 exchange.at.0 (row_at eval.old.rows leg.0))) }
+    ensures after { IsAfter 1 eval.old eval.new }
+{
+    let row = row_after_swap(exchange, eval.plan().read_row(leg));
+    set_row(alloc, eval, leg, row)
+}
+
+/// The row of a leg after the swap.
+fn row_after_swap(exchange: Exchange, row: Row) -> Row
+    ensures { result ≡ row_after_swap exchange.first.0 exchange.second.0 exchange.at.0 row }
+{
+    match row {
+        Row::Flown { plane, dep } if exchange.at.0 <= dep.0 => Row::Flown {
+            plane: other_plane(exchange, plane),
+            dep,
+        },
+        _ => row,
+    }
+}
+
+/// Of the two aircraft the one that another is not; a third is itself.
+fn other_plane(exchange: Exchange, plane: Plane) -> Plane
+    ensures { result.0 ≡ other_plane exchange.first.0 exchange.second.0 plane.0 }
+{
+    if plane.0 == exchange.first.0 {
+        exchange.second
+    } else if plane.0 == exchange.second.0 {
+        exchange.first
+    } else {
+        plane
+    }
+}

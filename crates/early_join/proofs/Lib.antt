@@ -1,2 +1,0 @@
-mod EventLemmas
-mod JoinLemmas

@@ -1,0 +1,126 @@
+-- Lists that are joined one by one, and what holds of all that is joined.
+use Rattle.std.proofs.Common.{◌≡◌, ℕ, suc, ◌+◌, ◌<◌, ◌≤◌, List, [], ◌∷◌, ◌++◌, length, drop, get_or, Result, Ok, Err, refl, sym, ap, subst, ◌∙◌, arith, drop-cons, append_assoc}
+use Rattle.std.specs.List.{AllByRecursion}
+use Rattle.std.proofs.Math.ListN.{drop_of_length-le}
+use Rattle.std.proofs.lemmas.List.{append-nil}
+use Rattle.std.specs.Result.{IsErrAnd}
+use Rattle.file_rows.specs.declared.cause.Cause.{Cause}
+use Rattle.desk_text.specs.declared.fault.RowFault.{RowFault}
+use Rattle.desk_text.specs.declared.fault.RowFault.TheVariants as row_fault
+use Rattle.desk_text.specs.Rows.{◌>>=◌, at_line, GivesRow}
+use Rattle.desk_data.specs.Situation.{Situation}
+use Rattle.desk_model.specs.declared.answer.Event.{Event}
+use Rattle.journal_rows.specs.declared.rows.JournalRow.{JournalRow}
+use Rattle.journal_join.specs.declared.fault.JoinFault.{JoinFault}
+use Rattle.journal_join.specs.Join.{all_of, event_of, asked_of}
+use Rattle.journal_join.specs.Gives.{JoinGives, fault_at}
+
+-- these, and behind them what is still joined
+abbrev pub behind : {B E : Type 0} → List B → Result (List B) E → Result (List B) E
+behind before (Ok ys) = Ok (before ++ ys)
+behind before (Err e) = Err e
+
+one_more : {B E : Type 0} (before : List B) (y : B) (rest : Result (List B) E) → behind (before ++ y ∷ []) rest ≡ behind before (rest >>= λ ys. Ok (y ∷ ys))
+one_more before y (Ok ys) = ap Ok (append_assoc before (y ∷ []) ys)
+one_more before y (Err e) = refl
+
+nothing_before : {B E : Type 0} (rest : Result (List B) E) → behind [] rest ≡ rest
+nothing_before (Ok ys) = refl
+nothing_before (Err e) = refl
+
+module _ {A B E : Type 0} (f : A → Result B E) (xs : List A) where
+  -- nothing is joined yet
+  pub begins : behind [] (all_of f xs) ≡ all_of f xs
+  begins = nothing_before (all_of f xs)
+
+  rest_at : (k : ℕ) (x : A) → k < length xs → x ≡ get_or xs k x → drop k xs ≡ x ∷ drop (k + 1) xs
+  rest_at k x below is =
+      let next : suc k ≡ k + 1 = omega arith in
+      drop-cons xs k x below ∙ (λ i. sym is i ∷ drop (next i) xs)
+
+  from_here : (before : List B) (k : ℕ) (x : A) (total : Result (List B) E) → k < length xs → x ≡ get_or xs k x → behind before (all_of f (drop k xs)) ≡ total
+      → behind before (f x >>= λ y. all_of f (drop (k + 1) xs) >>= λ ys. Ok (y ∷ ys)) ≡ total
+  unfolding all_of
+  from_here before k x total below is so_far = sym (ap (λ (rest : List A). behind before (all_of f rest)) (rest_at k x below is)) ∙ so_far
+
+  -- one gives something
+  pub goes_on : (before : List B) (k : ℕ) (x : A) (y : B) (total : Result (List B) E) → k < length xs → x ≡ get_or xs k x → f x ≡ Ok y → behind before (all_of f (drop k xs)) ≡ total
+      → behind (before ++ y ∷ []) (all_of f (drop (k + 1) xs)) ≡ total
+  goes_on before k x y total below is gives so_far =
+      one_more before y (all_of f (drop (k + 1) xs))
+      ∙ ap (λ (r : Result B E). behind before (r >>= λ z. all_of f (drop (k + 1) xs) >>= λ ys. Ok (z ∷ ys))) (sym gives)
+      ∙ from_here before k x total below is so_far
+
+  -- one is refused
+  pub refused : (before : List B) (k : ℕ) (x : A) (e : E) (total : Result (List B) E) → k < length xs → x ≡ get_or xs k x → f x ≡ Err e → behind before (all_of f (drop k xs)) ≡ total → total ≡ Err e
+  refused before k x e total below is gives so_far =
+      sym (from_here before k x total below is so_far)
+      ∙ ap (λ (r : Result B E). behind before (r >>= λ z. all_of f (drop (k + 1) xs) >>= λ ys. Ok (z ∷ ys))) gives
+
+  -- all are joined
+  pub ends : (before : List B) (k : ℕ) (total : Result (List B) E) → length xs ≤ k → behind before (all_of f (drop k xs)) ≡ total → total ≡ Ok before
+  unfolding all_of
+  ends before k total over so_far =
+      sym so_far ∙ ap (λ (rest : List A). behind before (all_of f rest)) (drop_of_length-le xs {i = k} over) ∙ ap Ok (append-nil before)
+
+-- ---- faults
+
+-- an answer that is a fault
+pub told_fault : {X : Type 0} (result : Result X RowFault) (fault : RowFault) (join : Result X Cause) → IsErrAnd result (λ e. e ≡ fault) → GivesRow {Row = X} (Err fault) join → GivesRow result join
+told_fault (Ok x) fault join is h = absurd is
+told_fault (Err e) fault join is h = subst (λ (f : RowFault). GivesRow (Err f) join) (sym is) h
+
+module _ {A B : Type 0} (f : A → Result B Cause) (xs : List A) (before : List B) (k : ℕ) (x : A) (total : Result (List B) Cause) where
+  -- one is not joined
+  pub stops : (fault : RowFault) → k < length xs → x ≡ get_or xs k x → GivesRow {Row = B} (Err fault) (f x) → behind before (all_of f (drop k xs)) ≡ total → GivesRow {Row = List B} (Err fault) total
+  stops (row_fault.Refused why) below is gives so_far = refused f xs before k x why total below is gives so_far
+  stops row_fault.Memory below is gives so_far = tt
+
+-- ---- rows
+
+-- a row that gives an event
+pub row_gives : (I : Situation) (row : JournalRow) (e : Event) → event_of I row.event ≡ Ok e → asked_of I row ≡ Ok (row.caller, e)
+unfolding asked_of
+row_gives I row e h = ap (λ (r : Result Event Cause). at_line row.line r >>= λ asked. Ok (row.caller, asked)) h
+
+row_refused : (I : Situation) (row : JournalRow) (why : Cause) → event_of I row.event ≡ Err why → asked_of I row ≡ Err (row.line, why)
+unfolding asked_of
+row_refused I row why h = ap (λ (r : Result Event Cause). at_line row.line r >>= λ asked. Ok (row.caller, asked)) h
+
+-- a row that gives none ends the join
+pub row_stops : {Answer : Type 0} (view : Answer → List (ℕ × Event)) (I : Situation) (rows : List JournalRow) (before : List (ℕ × Event)) (k : ℕ) (row : JournalRow) (total : Result (List (ℕ × Event)) (ℕ × Cause)) (fault : RowFault) (end : JoinFault)
+    → k < length rows → row ≡ get_or rows k row → GivesRow {Row = Event} (Err fault) (event_of I row.event) → end ≡ fault_at row.line fault → behind before (all_of (asked_of I) (drop k rows)) ≡ total → JoinGives view (Err end) total
+row_stops view I rows before k row total (row_fault.Refused why) end below is gives told so_far =
+    subst (λ (f : JoinFault). JoinGives view (Err f) total) (sym told) (refused (asked_of I) rows before k row (row.line, why) total below is (row_refused I row why gives) so_far)
+row_stops view I rows before k row total row_fault.Memory end below is gives told so_far = subst (λ (f : JoinFault). JoinGives view (Err f) total) (sym told) tt
+
+-- ---- what holds of all that is joined
+
+module _ {A B E : Type 0} (f : A → Result B E) where
+  parts_by : (x : A) (xs : List A) (ys : List B) (first : Result B E) (rest : Result (List B) E) → f x ≡ first → all_of f xs ≡ rest → (first >>= λ z. rest >>= λ zs. Ok (z ∷ zs)) ≡ Ok ys
+      → (z : B) × (zs : List B) × (f x ≡ Ok z) × (all_of f xs ≡ Ok zs) × (z ∷ zs ≡ ys)
+  parts_by x xs ys (Err e) rest is more h = absurd cc
+  parts_by x xs ys (Ok z) (Err e) is more h = absurd cc
+  parts_by x xs ys (Ok z) (Ok zs) is more h = (z, zs, is, more, cc)
+
+  parts : (x : A) (xs : List A) (ys : List B) → all_of f (x ∷ xs) ≡ Ok ys → (z : B) × (zs : List B) × (f x ≡ Ok z) × (all_of f xs ≡ Ok zs) × (z ∷ zs ≡ ys)
+  unfolding all_of
+  parts x xs ys h = parts_by x xs ys (f x) (all_of f xs) refl refl h
+
+  none : (ys : List B) → all_of f [] ≡ Ok ys → [] ≡ ys
+  unfolding all_of
+  none ys h = cc
+
+  -- what follows for one follows for all
+  pub all_of-All : (P : A → Type 0) (Q : B → Type 0) → ((x : A) (y : B) → P x → f x ≡ Ok y → Q y) → (xs : List A) (ys : List B) → AllByRecursion P xs → all_of f xs ≡ Ok ys → AllByRecursion Q ys
+  all_of-All P Q one [] ys p h = subst (AllByRecursion Q) (none ys h) tt
+  all_of-All P Q one (x ∷ xs) ys p h =
+      let at = parts x xs ys h in
+      subst (AllByRecursion Q) at.4 (one x at.0 p.0 at.2, all_of-All P Q one xs at.1 p.1 at.3)
+
+  -- as many are joined as there are
+  pub all_of-length : (xs : List A) (ys : List B) → all_of f xs ≡ Ok ys → length ys ≡ length xs
+  all_of-length [] ys h = ap length (sym (none ys h))
+  all_of-length (x ∷ xs) ys h =
+      let at = parts x xs ys h in
+      ap length (sym at.4) ∙ ap suc (all_of-length xs at.1 at.3)

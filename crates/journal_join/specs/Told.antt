@@ -1,0 +1,10 @@
+-- What is printed for a fault.
+use Rattle.std.specs.Prelude.{ℕ, List, ◌++◌, codes, decimal}
+use Rattle.file_rows.specs.Causes.{cause_name}
+use Rattle.journal_join.specs.declared.fault.JoinFault.{JoinFault}
+use Rattle.journal_join.specs.declared.fault.JoinFault.TheVariants.{Refused, Memory}
+
+-- what is printed for a fault
+abbrev pub fault_text : JoinFault → List ℕ
+fault_text (Refused line cause) = codes "line " ++ (decimal line ++ (codes " is refused: " ++ cause_name cause))
+fault_text Memory = codes "out of memory"

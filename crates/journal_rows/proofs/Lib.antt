@@ -1,0 +1,3 @@
+mod SeatLemmas
+mod ShortLemmas
+mod StepLemmas

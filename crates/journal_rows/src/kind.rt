@@ -1,0 +1,12 @@
+//! The six kinds of steps.
+
+/// What a step does, by its first word.
+#[derive(Clone, Copy, Debug, PartialEq, Eq)]
+pub(crate) enum Kind {
+    Set,
+    Push,
+    Swap,
+    Rebook,
+    Tidy,
+    Refill,
+}

@@ -1,0 +1,131 @@
+//! The usual moves, made of the plan of a book and answered by it.
+
+ghost use Rattle.std.specs.Prelude.{IfOk};
+ghost use Rattle.std.specs.Option.{ForSome};
+ghost use Rattle.plan_moves.specs.Fits.{Fits};
+
+use super::day::{LATER, NOWHERE, OFF, Way, flown, path_of, small_day};
+use desk_core::Book;
+use desk_data::{Grains, Leg, Minute, Plane, Res, Row};
+use plan_moves::{Move, fits};
+use desk_model::Answer;
+use desk_moves::{cancel, delay, rebook, reroute, swap};
+use plan_reads::departure;
+use std::alloc::Global;
+use std::test::Fail;
+
+/// A usual move, by what it is made of.
+#[derive(Clone, Copy, Debug)]
+enum Asked {
+    /// A leg, and how many minutes later it departs.
+    Delay(Leg, u32),
+    Cancel(Leg),
+    Swap(Plane, Plane, Minute),
+    Reroute(Leg, Plane),
+    /// Of a reservation, the path that so many leave, and the one that they take.
+    Rebook(Res, Way, Way, u32),
+}
+
+/// The move at the plan of a book, unless it does not fit.
+fn move_of(alloc: Global, book: &Book, asked: Asked) -> Result<Option<Move>, Fail>
+    ensures { IfOk result (λ made. ForSome made (Fits book.now.opening)) }
+{
+    let inst = book.instance();
+    let plan = book.eval().plan();
+    let made = match asked {
+        Asked::Delay(leg, minutes) => {
+            if leg.0 >= inst.legs() || minutes > 60 || departure(plan, leg) > 52_000_000 {
+                return Ok(None);
+            }
+            delay(alloc, inst, plan, leg, minutes)?
+        }
+        Asked::Cancel(leg) => {
+            if leg.0 >= inst.legs() {
+                return Ok(None);
+            }
+            cancel(alloc, inst, plan, leg)?
+        }
+        Asked::Swap(first, second, at) => swap(alloc, first, second, at)?,
+        Asked::Reroute(leg, plane) => {
+            if leg.0 >= inst.legs() || plane.0 >= inst.planes() {
+                return Ok(None);
+            }
+            reroute(alloc, inst, plan, leg, plane)?
+        }
+        Asked::Rebook(res, from, to, count) => {
+            let from = path_of(alloc, from)?;
+            let to = path_of(alloc, to)?;
+            rebook(alloc, res, &from, &to, count)?
+        }
+    };
+    if !fits(inst, &made) {
+        return Ok(None);
+    }
+    Ok(Some(made))
+}
+
+/// What a book answers to a usual move, unless it does not fit.
+fn answered(alloc: Global, book: &mut Book, asked: Asked) -> Result<Option<Answer>, Fail> {
+    match move_of(alloc, book, asked)? {
+        Some(m) => Ok(Some(book.propose(alloc, 1, &m)?)),
+        None => Ok(None),
+    }
+}
+
+fn accepted(cost: u128) -> Answer {
+    Answer::Accepted { cost: Grains(cost) }
+}
+
+fn dearer(now: u128, would: u128) -> Answer {
+    Answer::Dearer {
+        now: Grains(now),
+        would: Grains(would),
+    }
+}
+
+/// The rows of the three legs, unless there are others.
+fn rows_of(book: &Book) -> Option<[Row; 3]> {
+    if book.instance().legs() != 3 {
+        return None;
+    }
+    let plan = book.eval().plan();
+    Some([
+        plan.read_row(Leg(0)),
+        plan.read_row(Leg(1)),
+        plan.read_row(Leg(2)),
+    ])
+}
+
+#[test]
+fn usual_moves_are_answered(rt: HostRuntime) -> Result<(), Fail> {
+    let alloc = rt.alloc();
+    let mut book = Book::open(alloc, small_day(alloc)?)?;
+    let table = [
+        // two passengers are 10 minutes late; the second leg departs at 580
+        (
+            Asked::Delay(Leg(0), 10),
+            dearer(150_000_000_000, 162_000_000_000),
+        ),
+        // the dearer aircraft has one leg, and no longer two
+        (
+            Asked::Swap(Plane(0), Plane(1), Minute(0)),
+            accepted(120_000_000_000),
+        ),
+        // it has none
+        (Asked::Reroute(Leg(2), Plane(1)), accepted(90_000_000_000)),
+        // two passengers are not carried
+        (
+            Asked::Rebook(Res(1), LATER, NOWHERE, 2),
+            dearer(90_000_000_000, 91_200_000_000),
+        ),
+        // all three are not, and two legs are flown
+        (Asked::Cancel(Leg(2)), accepted(61_800_000_000)),
+    ];
+    for (asked, expected) in table.iter() {
+        let answer = answered(alloc, &mut book, *asked)?;
+        assert_eq!(rt; answer, Some(*expected), "{asked:?}");
+    }
+    assert_eq!(rt; (book.entries(), book.changes()), (5, 3));
+    assert_eq!(rt; rows_of(&book), Some([flown(1, 480), flown(1, 570), OFF]));
+    Ok(())
+}

@@ -1,0 +1,31 @@
+//! What the steps Rebook, Tidy and Refill make of the groups of one reservation.
+//!
+//!     groups_after_rebook(alloc, &inst, &plan, res, path, to, count)?    // from one path to another
+//!     groups_after_tidy(alloc, &inst, &plan, res)?                       // off the paths that break a rule
+//!     groups_after_refill(alloc, &inst, &plan, leg, res)?                // back to the scheduled path
+//!
+//! Each call answers the groups that the step makes, or `None` where the reservation keeps those that it
+//! has; a Tidy takes memory only where groups change. A Tidy is `groups_after_tidy` of each reservation in
+//! the plan at its start. A Refill is `groups_after_refill` of one reservation after another, each in the
+//! plan as those before it left it: it walks over all groups of the plan once for each reservation that
+//! has someone to refill. The plan is whatever has its rows and groups, by the trait `ReadPlan`.
+//!
+//! Proved: the groups are those of which desk_model speaks, they ascend by path, and their passengers are
+//! all those of the reservation; the answer is `None` just where nobody goes, or the two paths are one, and
+//! of a Tidy where no path breaks a rule, and there it is never out of memory. It stands on `desk_model`
+//! and `plan_reads`.
+#![tactic(auto)]
+
+mod aboard;
+mod counts;
+mod fits;
+mod made;
+mod order;
+mod rebook;
+mod refill;
+mod seats;
+mod tidy;
+
+pub use rebook::groups_after_rebook;
+pub use refill::groups_after_refill;
+pub use tidy::groups_after_tidy;

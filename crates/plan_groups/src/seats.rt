@@ -1,0 +1,58 @@
+//! For how many more passengers the legs of a path have seats.
+
+ghost use Rattle.std.specs.Prelude.{◌≡◌, ◌<◌, ◌≤◌, length};
+ghost use Rattle.desk_data.specs.PlanRows.{row_at};
+ghost use Rattle.desk_data.specs.Situation.{legs_of, planes_of};
+ghost use Rattle.desk_data.specs.Valid.{IsPathOf, IsPlanFor, IsRowOf};
+ghost use Rattle.desk_model.specs.Choices.{greatest_within};
+ghost use Rattle.desk_model.specs.Refill.{has_seats_for, seats_of};
+ghost use Rattle.desk_rules.specs.Passengers.{seats_in};
+ghost use Rattle.plan_groups.specs.Aboard.{AreAboard};
+
+use desk_data::{Cabin, Instance, Leg, Row, Seats};
+use plan_reads::ReadPlan;
+
+/// The greatest number of passengers waiting for whom all legs of a path have seats left, given those
+/// aboard each of its pairs.
+pub(crate) fn fitting<P: ReadPlan>(
+    inst: &Instance,
+    plan: &P,
+    path: &[(Leg, Cabin)],
+    aboard: &[u32],
+    waiting: u32,
+) -> u32
+    requires plan { IsPlanFor inst.now (P.plan_of plan.now) }
+    requires path { IsPathOf (legs_of inst.now) path.now }
+    requires aboard { AreAboard (P.plan_of plan.now) path.now aboard.now }
+    ensures { result ≡ greatest_within waiting (has_seats_for inst.now (P.plan_of plan.now) path.now) }
+{
+    let mut most = waiting;
+    for k in 0..path.len() {
+        let (leg, cabin) = path[k];
+        let seats = seats_of(inst, plan.read_row(leg), cabin);
+        most = most.min(seats.saturating_sub(aboard[k]));
+    }
+    most
+}
+
+/// The seats of a row in a cabin; a cancelled leg has none.
+fn seats_of(inst: &Instance, row: Row, cabin: Cabin) -> u32
+    requires { IsRowOf (planes_of inst.now) row }
+    ensures { result ≡ seats_of inst.now cabin row }
+{
+    match row {
+        Row::Flown { plane, .. } => seats_in(inst.plane(plane).seats, cabin),
+        Row::Cancelled => 0,
+    }
+}
+
+/// The seats of a cabin.
+fn seats_in(seats: Seats, cabin: Cabin) -> u32
+    ensures { result ≡ seats_in seats cabin }
+{
+    match cabin {
+        Cabin::F => seats.f,
+        Cabin::B => seats.b,
+        Cabin::E => seats.e,
+    }
+}

@@ -1,0 +1,6 @@
+mod AgreeLaws
+mod RuledOutLaws
+mod DepartLaws
+mod LeftLaws
+mod SortedLaws
+pub mod PlacedLaws

@@ -1,0 +1,161 @@
+-- The sorted turns of an aircraft are its legs in their order.
+use Rattle.std.proofs.Common.{◌≡◌, ℕ, zero, suc, ◌<◌, ◌⊎◌, inl, inr, true, false, eqb, List, [], ◌∷◌, ◌++◌, length, get_or, map, refl, sym, subst, ◌∙◌, arith, is_lt, nat_cmp}
+use Rattle.std.specs.Prelude.{filter}
+use Rattle.std.specs.List.{All, AllPairs, Contains, IsDistinct}
+use Rattle.std.specs.List.Sorted.{IsSorted, IsPermutation}
+use Rattle.std.specs.Cmp.{IsTotalOrder, nat_cmp_total, nat_eq_equiv}
+use Rattle.std.specs.Ordering.{ordering_then}
+use Rattle.std.specs.declared.cmp.Ordering.{Ordering}
+use Rattle.std.proofs.lemmas.Bool.{cases_Bool}
+use Rattle.std.proofs.lemmas.Bool.Decides.{nat_tests}
+use Rattle.std.proofs.lemmas.Cmp.{then_total, on_total}
+use Rattle.std.proofs.lemmas.List.{append-nil, get_or-map, length-map, map-id}
+use Rattle.std.proofs.lemmas.Simd.{map-map}
+use Rattle.std.proofs.lemmas.List.Elements.{All-nil, All-cons, All-append, All-weaker, All-filter, All-map, All-contains, filter_passes, filter-append, Contains-append_left, Contains-push}
+use Rattle.std.proofs.lemmas.List.Folds.{list_any_none}
+use Rattle.std.proofs.lemmas.List.Sorted.{ranks_by, sorted_far, All-permutation, Contains-permutation, IsPermutation-map}
+use Rattle.std.proofs.lemmas.Map.Keys.{IsDistinct-push, IsDistinct-IsPermutation, apart_from_distinct}
+use Rattle.desk_data.specs.Situation.{Situation, legs_of}
+use Rattle.desk_data.specs.PlanRows.{PlanRows}
+use Rattle.desk_rules.specs.Numbers.{numbers}
+use Rattle.desk_rules.specs.Rotations.{dep, precedes}
+use Rattle.desk_rules.specs.Maintenance.{flies}
+use Rattle.desk_rules.specs.Words.{Flies, Precedes}
+use Rattle.desk_rules.proofs.RotationLaws.{precedes-holds}
+use Rattle.desk_rules.proofs.MaintenanceLaws.{flies-holds}
+use Rattle.plan_reads.proofs.OrderLaws.{in_order}
+use Rattle.desk_model.specs.Push.{rotation}
+use Rattle.desk_model.proofs.RotationOrder.{Contains-filter, rotation-ordered, rotation-flown, rotation-each}
+use Rattle.plan_push.specs.declared.turns.Turn.{Turn}
+use Rattle.plan_push.specs.Turns.{turn, turns}
+use Rattle.plan_push.proofs.AgreeLaws.{same_ordered}
+
+-- ---- the legs of an aircraft, by leg
+
+abbrev flown : PlanRows → ℕ → ℕ → List ℕ
+flown P p n = filter (flies P p) (numbers n)
+
+numbers-below : (n : ℕ) → All (λ x. x < n) (numbers n)
+numbers-below zero = All-nil (λ x. x < 0)
+numbers-below (suc n) =
+    All-append (λ x. x < suc n) (numbers n) (n ∷ [])
+    (All-weaker (λ x. x < n) (λ x. x < suc n) (λ x lt. omega (arith, lt)) (numbers n) (numbers-below n))
+    (All-cons (λ x. x < suc n) n [] (omega arith) (All-nil (λ x. x < suc n)))
+
+numbers-each : (n x : ℕ) → x < n → Contains (numbers n) x
+numbers-each zero x lt = absurd (omega (arith, lt))
+numbers-each (suc n) x lt =
+    let cases : (x < n) ⊎ (n ≡ x) = grind (arith, lt) in
+    elim cases [
+      | inl less ↦ Contains-append_left (numbers n) (n ∷ []) x (numbers-each n x less)
+      | inr last ↦ subst (Contains (numbers n ++ n ∷ [])) last (Contains-push (numbers n) n)
+    ]
+
+not_below : (n x : ℕ) → x < n → eqb n x ≡ false
+not_below n x h = grind (arith, nat_tests)
+
+flown-apart : (P : PlanRows) (p n : ℕ) → IsDistinct eqb (flown P p n)
+unfolding IsDistinct
+flown-apart P p zero = tt
+flown-apart P p (suc n) =
+    let parts = filter-append (flies P p) (numbers n) (n ∷ []) in
+    elim (cases_Bool (flies P p n)) [
+      | inl here ↦ subst (IsDistinct eqb) (sym (parts ∙ rw here refl))
+          (IsDistinct-push nat_eq_equiv (flown P p n) n (flown-apart P p n)
+          (list_any_none (eqb n) (flown P p n) (All-weaker (λ x. x < n) (λ x. eqb n x ≡ false) (λ x lt. not_below n x lt) (flown P p n) (All-filter (flies P p) (λ x. x < n) (numbers n) (numbers-below n)))))
+      | inr gone ↦ subst (IsDistinct eqb) (sym (parts ∙ rw gone (append-nil (flown P p n)))) (flown-apart P p n)
+    ]
+
+-- ---- their turns
+
+abbrev pub leg_of : Turn → ℕ
+leg_of t = t.leg.0
+
+-- t is the turn of one of the first n legs, which aircraft p flies
+record IsTurn (P : PlanRows) (p n : ℕ) (t : Turn) : Type 0 where
+  within : t.leg.0 < n
+  flown : flies P p t.leg.0 ≡ true
+  departs : t.dep.0 ≡ dep P t.leg.0
+
+turns-sound : (P : PlanRows) (p n : ℕ) → All (IsTurn P p n) (turns P p n)
+turns-sound P p n =
+    let below = All-filter (flies P p) (λ x. x < n) (numbers n) (numbers-below n) in
+    let passed = filter_passes (flies P p) (numbers n) in
+    All-map (IsTurn P p n) (turn P) (flown P p n) (λ k d lt. record { within = below k d lt; flown = passed k d lt; departs = refl })
+
+turns-legs : (P : PlanRows) (p n : ℕ) → map leg_of (turns P p n) ≡ flown P p n
+turns-legs P p n = map-map leg_of (turn P) (flown P p n) ∙ map-id (flown P p n)
+
+-- ---- sorted
+
+abbrev turn_cmp : Turn → Turn → Ordering
+turn_cmp s t = ordering_then (nat_cmp s.dep.0 t.dep.0) (nat_cmp s.leg.0 t.leg.0)
+
+turn_total : IsTotalOrder turn_cmp
+turn_total = then_total (on_total (λ t. t.dep.0) nat_cmp_total) (on_total (λ t. t.leg.0) nat_cmp_total)
+
+ordered_so : (p x d y e : ℕ) → is_lt (ordering_then (nat_cmp e d) (nat_cmp y x)) ≡ false → eqb x y ≡ false → in_order p x d p y e ≡ true
+ordered_so p x d y e h apart = grind (arith, nat_tests)
+
+precedes_at : (P : PlanRows) (p x d y e : ℕ) → Flies P x p d → Flies P y p e → in_order p x d p y e ≡ true → precedes P x y ≡ true
+precedes_at P p x d y e first second h = rw (first, second) h
+
+-- the turn at a place, and else a turn of nothing
+abbrev no_turn : Turn
+no_turn = record { dep = record { 0 = 0 }; leg = record { 0 = 0 } }
+
+abbrev turn_in : List Turn → ℕ → Turn
+turn_in ts k = get_or ts k no_turn
+
+rising : (P : PlanRows) (p n : ℕ) (ts : List Turn) → All (IsTurn P p n) ts → IsSorted turn_cmp ts → IsDistinct eqb (map leg_of ts) → (i j : ℕ) → i < j → j < length ts → Precedes P (turn_in ts i).leg.0 (turn_in ts j).leg.0
+rising P p n ts sound up apart i j less within =
+    let s = turn_in ts i in
+    let t = turn_in ts j in
+    let in_i : i < length ts = omega (arith, less, within) in
+    let of_s : IsTurn P p n s = sound i no_turn in_i in
+    let of_t : IsTurn P p n t = sound j no_turn within in
+    let x = s.leg.0 in
+    let y = t.leg.0 in
+    let far : is_lt (turn_cmp t s) ≡ false = sorted_far (λ s t. is_lt (turn_cmp s t)) (ranks_by turn_total (λ t. t)) ts up i j no_turn (omega (arith, less)) within in
+    let cmp : is_lt (ordering_then (nat_cmp (dep P y) (dep P x)) (nat_cmp y x)) ≡ false = rw (sym of_s.departs, sym of_t.departs) far in
+    let long : j < length (map leg_of ts) = rw (length-map ts leg_of) within in
+    let other : eqb x y ≡ false =
+    subst (λ (k : ℕ). eqb x k ≡ false) (get_or-map leg_of ts j no_turn 0 within)
+    (subst (λ (k : ℕ). eqb k (get_or (map leg_of ts) j 0) ≡ false) (get_or-map leg_of ts i no_turn 0 in_i) (apart_from_distinct eqb (map leg_of ts) i j 0 apart less long)) in
+    precedes-holds P x y (precedes_at P p x (dep P x) y (dep P y) (flies-holds P p x of_s.flown) (flies-holds P p y of_t.flown) (ordered_so p x (dep P x) y (dep P y) cmp other))
+
+-- the turns of all legs of the aircraft, sorted
+record AreSorted (P : PlanRows) (p n : ℕ) (ts : List Turn) : Type 0 where
+  sound : All (IsTurn P p n) ts
+  ordered : AllPairs (Precedes P) (map leg_of ts)
+  each : (x : ℕ) → x < n → flies P p x ≡ true → Contains (map leg_of ts) x
+
+sorted : (P : PlanRows) (p n : ℕ) (made ts : List Turn) → made ≡ turns P p n → IsPermutation made ts → IsSorted turn_cmp ts → AreSorted P p n ts
+sorted P p n made ts is shuffled up =
+    let moved : IsPermutation (turns P p n) ts = subst (λ xs. IsPermutation xs ts) is shuffled in
+    let legs : IsPermutation (flown P p n) (map leg_of ts) = subst (λ (xs : List ℕ). IsPermutation xs (map leg_of ts)) (turns-legs P p n) (IsPermutation-map leg_of (turns P p n) ts moved) in
+    let sound = All-permutation (IsTurn P p n) (turns P p n) ts moved (turns-sound P p n) in
+    let apart = IsDistinct-IsPermutation eqb nat_eq_equiv.symm (flown P p n) (map leg_of ts) legs (flown-apart P p n) in
+    record {
+      sound = sound;
+      ordered = λ i j d less within.
+          let in_j : j < length ts = rw (sym (length-map ts leg_of)) within in
+          let in_i : i < length ts = omega (arith, less, in_j) in
+          rw (get_or-map leg_of ts i no_turn d in_i, get_or-map leg_of ts j no_turn d in_j) (rising P p n ts sound up apart i j less in_j);
+      each = λ x lt here. Contains-permutation (flown P p n) (map leg_of ts) x legs (Contains-filter (flies P p) (numbers n) x (numbers-each n x lt) here);
+    }
+
+pub sorted-rotation : (I : Situation) (P : PlanRows) (p : ℕ) (made ts : List Turn) → made ≡ turns P p (legs_of I) → IsPermutation made ts → IsSorted turn_cmp ts → map leg_of ts ≡ rotation I P p
+sorted-rotation I P p made ts is shuffled up =
+    let own = sorted P p (legs_of I) made ts is shuffled up in
+    same_ordered P (map leg_of ts) (rotation I P p) own.ordered (rotation-ordered I P p)
+    (λ z has.
+    let sound = All-contains (λ x. (x < legs_of I) × (flies P p x ≡ true)) (map leg_of ts) z (All-map (λ x. (x < legs_of I) × (flies P p x ≡ true)) leg_of ts (λ k d lt. (let s = own.sound k d lt in (s.within, s.flown)))) has in
+    rotation-each I P p z sound.0 sound.1)
+    (λ z has.
+    let here = All-contains (λ x. (x < legs_of I) × (flies P p x ≡ true)) (rotation I P p) z (rotation-flown I P p) has in
+    own.each z here.0 here.1)
+
+pub sorted-within : (P : PlanRows) (p n : ℕ) (made ts : List Turn) → made ≡ turns P p n → IsPermutation made ts → All (λ (t : Turn). t.leg.0 < n) ts
+sorted-within P p n made ts is shuffled =
+    All-permutation (λ (t : Turn). t.leg.0 < n) made ts shuffled (subst (All (λ (t : Turn). t.leg.0 < n)) (sym is) (All-weaker (IsTurn P p n) (λ (t : Turn). t.leg.0 < n) (λ t h. h.within) (turns P p n) (turns-sound P p n)))

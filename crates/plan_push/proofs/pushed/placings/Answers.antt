@@ -1,0 +1,44 @@
+use Rattle.std.proofs.Common.{◌≡◌, ◌+◌, ◌<◌, ◌∙◌, map, length, sym, ap, subst, arith}
+use Rattle.std.proofs.lemmas.List.{length-map, get_or-map}
+use Rattle.plan_push.specs.declared.pushed.Placing.{Placing}
+use Rattle.plan_push.proofs.LeftLaws.{ArePlaced, leg_in, left_next, placed_at, placed-more, placed-same, placed-all}
+use Rattle.plan_push.proofs.SortedLaws.{leg_of}
+use Rattle.plan_push.proofs.pushed.placings.Goals as goal
+use Rattle.plan_push.proofs.pushed.placings.Goals.{then-is_placed+in_ok-push, else-is_placed}
+
+pub loop-k-preserved : goal.loop-k-preserved
+loop-k-preserved g c =
+    let I = c.args.inst.now in
+    let P = g.P.ReadPlan.plan_of c.args.plan.now in
+    let turns = c.in_ok-turns.turns.items in
+    let order = map leg_of turns in
+    let k = c.loop-k.k in
+    let leg = c.index.result.now.leg in
+    let lt : k < length turns = omega arith in
+    let long : k < length order = rw (length-map turns leg_of) lt in
+    let here : leg_in order k ≡ leg.0 = get_or-map leg_of turns k c.index.result.now 0 lt ∙ ap leg_of (sym c.index.ensures) in
+    let left = left_next order k leg here in
+    elim c.if-is_placed.branch [
+      | then-is_placed+in_ok-push w ↦
+          let placing : Placing = record { leg = leg; before = c.loop-k.before } in
+          let pushed = ap (λ v. v.items) w.all-is ∙ w.in_ok-push.ensures.items in
+          record {
+            placed = subst (ArePlaced I P c.args.after order (k + 1)) (sym pushed)
+                (placed-more I P c.args.after order k c.loop-k.all.items placing long here (sym c.is_placed.ensures ∙ w.if-is_placed.true)
+                (placed_at I P c.args.plane.0 k order c.loop-k.before leg c.in_ok-turns.ensures.order long c.loop-k.invariant.left here) c.loop-k.invariant.placed);
+            left = left;
+          }
+      | else-is_placed w ↦
+          let kept = ap (λ v. v.items) w.all-is in
+          record {
+            placed = subst (ArePlaced I P c.args.after order (k + 1)) (sym kept)
+                (placed-same I P c.args.after order k c.loop-k.all.items leg long here (sym c.is_placed.ensures ∙ w.if-is_placed.false) c.loop-k.invariant.placed);
+            left = left;
+          }
+    ]
+
+pub returns-clause-legs : goal.returns-clause-legs
+returns-clause-legs g c =
+    let turns = c.in_ok-turns.turns.items in
+    let whole : c.loop-k.k ≡ length (map leg_of turns) = rw (length-map turns leg_of) (omega arith) in
+    placed-all c.args.inst.now (g.P.ReadPlan.plan_of c.args.plan.now) c.args.plane.0 c.args.after (map leg_of turns) c.loop-k.k c.loop-k.all.items c.in_ok-turns.ensures.order whole c.loop-k.invariant.placed

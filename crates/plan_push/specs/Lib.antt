@@ -1,0 +1,4 @@
+pub mod RuledOut
+pub mod Placings
+pub mod Room
+pub mod Turns

@@ -1,0 +1,27 @@
+//! Push: which legs of an aircraft it places, in their order, and the first moment at which each can
+//! depart.
+//!
+//!     let placed = placings(alloc, &inst, &plan, plane, after)?;     // once, at the step's start
+//!     for placing in &placed {
+//!         first_departure(&inst, &plan, plane, placing)              // in the plan as it stands then
+//!     }
+//!
+//! Whoever takes the step writes each departure into the plan before it asks for the next. The plan is read
+//! through `ReadPlan`, so that whatever has rows and groups can be pushed.
+//!
+//! Proved: the legs are `pushed_legs` of desk_model, each with the leg before it at the step's start, and
+//! the moment is `first_departure` of desk_model.
+//!
+//! The search jumps over spans, the maintenance and full hours, and counts an hour only where it has a
+//! cap, in one walk over the legs; no clause says so. It stands on `desk_data`, `desk_rules`, `desk_model`
+//! and `plan_reads`.
+#![tactic(auto)]
+
+mod departs;
+mod pushed;
+mod room;
+mod ruled_out;
+mod turns;
+
+pub use departs::first_departure;
+pub use pushed::{Placing, placings};

@@ -1,0 +1,68 @@
+-- The orders of the files of disruptions: what a flight, an aircraft or an airport is told.
+use Rattle.std.specs.Prelude.{ℕ, List, Option, Some, None, Result, Ok, bytes_eq, codes, if◌then◌else◌}
+use Rattle.file_rows.specs.declared.cause.Cause.{Cause}
+use Rattle.file_rows.specs.declared.disruptions.AltRow.{AltRow}
+use Rattle.file_rows.specs.declared.disruptions.AltRow.TheVariants as alt
+use Rattle.desk_text.specs.Fields.{name_of, number_of, date_of}
+use Rattle.desk_text.specs.Moments.{moment_of}
+use Rattle.desk_text.specs.Rows.{◌>>=◌, RowOf, next_field}
+
+-- a delay in minutes, or none where the field is '-1': the leg is not flown
+unfoldable pub delay_of : List ℕ → Result (Option ℕ) Cause
+delay_of field = if bytes_eq field (codes "-1") then Ok None else (number_of 0 2880 field >>= λ minutes. Ok (Some minutes))
+
+-- what a flight is told
+unfoldable pub flight_order : ℕ → List ℕ → List ℕ → List ℕ → Result AltRow Cause
+flight_order line flight date delay = do
+  flight ← name_of flight
+  day ← date_of date
+  delay ← delay_of delay
+  Ok (alt.Flight line flight day delay)
+
+-- what an aircraft is told: the first moment, and the last
+unfoldable pub aircraft_order : ℕ → List ℕ → List ℕ × List ℕ → List ℕ × List ℕ → Result AltRow Cause
+aircraft_order line aircraft first last = do
+  aircraft ← name_of aircraft
+  from ← moment_of first.0 first.1
+  to ← moment_of last.0 last.1
+  Ok (alt.Aircraft line aircraft from to)
+
+-- what an airport is told: the first moment and the last, and its departures and arrivals per hour
+unfoldable pub airport_order : ℕ → List ℕ → List ℕ × List ℕ → List ℕ × List ℕ → List ℕ × List ℕ → Result AltRow Cause
+airport_order line airport first last caps = do
+  airport ← name_of airport
+  from ← moment_of first.0 first.1
+  to ← moment_of last.0 last.1
+  deps ← number_of 0 100000 caps.0
+  arrs ← number_of 0 100000 caps.1
+  Ok (alt.Field line airport from to deps arrs)
+
+-- FLIGHT DATE DELAY
+unfoldable pub flight_row : RowOf AltRow
+flight_row line fields = do
+  first ← next_field fields
+  second ← next_field first.1
+  third ← next_field second.1
+  flight_order line first.0 second.0 third.0
+
+-- AIRCRAFT DATE TIME DATE TIME
+unfoldable pub aircraft_row : RowOf AltRow
+aircraft_row line fields = do
+  first ← next_field fields
+  second ← next_field first.1
+  third ← next_field second.1
+  fourth ← next_field third.1
+  fifth ← next_field fourth.1
+  aircraft_order line first.0 (second.0, third.0) (fourth.0, fifth.0)
+
+-- AIRPORT DATE TIME DATE TIME DEPARTURES ARRIVALS
+unfoldable pub airport_row : RowOf AltRow
+airport_row line fields = do
+  first ← next_field fields
+  second ← next_field first.1
+  third ← next_field second.1
+  fourth ← next_field third.1
+  fifth ← next_field fourth.1
+  sixth ← next_field fifth.1
+  seventh ← next_field sixth.1
+  airport_order line first.0 (second.0, third.0) (fourth.0, fifth.0) (sixth.0, seventh.0)

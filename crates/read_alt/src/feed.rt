@@ -1,0 +1,193 @@
+//! The file of the feed.
+
+ghost use Rattle.std.specs.Prelude.{◌≡◌, ◌+◌, ◌<◌, ◌≤◌, All, IfOk};
+ghost use Rattle.desk_text.specs.Rows.{Gives};
+ghost use Rattle.file_rows.specs.Facts.{IsAlt, IsFed};
+ghost use Rattle.comma_rows.specs.Records.{printed};
+ghost use Rattle.read_alt.specs.Orders.{flight_row, aircraft_row, airport_row};
+ghost use Rattle.read_alt.specs.Feed.{kind_of, width_of, order_of, fed_row, feed_rows};
+
+use crate::orders::{aircraft_order, airport_order, flight_order};
+use comma_rows::{Columns, CommaGrammar, read_records};
+use desk_text::{Cause, MOST_BYTES, ReadFault, RowFault, number};
+use file_rows::AltRow;
+use std::alloc::Global;
+
+/// The greatest number that a batch may have.
+const MOST_BATCH: u32 = 999_999_999;
+
+/// What a record of the feed is about.
+#[derive(Clone, Copy, Debug)]
+enum Kind {
+    Flight,
+    Aircraft,
+    Airport,
+    Nothing,
+}
+
+impl Kind {
+    /// The kind that a word names, else `Word`.
+    fn named(word: &[u8]) -> Result<Kind, Cause>
+        ensures { result ≡ kind_of word.now }
+    {
+        if word == b"flight".as_slice() {
+            Ok(Kind::Flight)
+        } else if word == b"aircraft".as_slice() {
+            Ok(Kind::Aircraft)
+        } else if word == b"airport".as_slice() {
+            Ok(Kind::Airport)
+        } else if word == b"none".as_slice() {
+            Ok(Kind::Nothing)
+        } else {
+            Err(Cause::Word)
+        }
+    }
+
+    /// How many fields stand behind the word.
+    fn width(self) -> usize
+        ensures { result ≡ width_of self }
+    {
+        match self {
+            Kind::Flight => 3,
+            Kind::Aircraft => 5,
+            Kind::Airport => 7,
+            Kind::Nothing => 0,
+        }
+    }
+}
+
+/// What a flight is told, by its fields.
+#[tactic(auto, unfolding(crate::specs::Orders::flight_row))]
+fn flight(line: u32, mut columns: Columns<'_>) -> Result<AltRow, Cause>
+    ensures exact { result ≡ flight_row line columns.entry }
+    ensures facts { IfOk result IsAlt }
+{
+    let flight = columns.take()?;
+    let day = columns.take()?;
+    let delay = columns.take()?;
+    flight_order(line, flight, day, delay)
+}
+
+/// What an aircraft is told, by its fields.
+#[tactic(auto, unfolding(crate::specs::Orders::aircraft_row))]
+fn aircraft(line: u32, mut columns: Columns<'_>) -> Result<AltRow, Cause>
+    ensures exact { result ≡ aircraft_row line columns.entry }
+    ensures facts { IfOk result IsAlt }
+{
+    let aircraft = columns.take()?;
+    let first_day = columns.take()?;
+    let first_time = columns.take()?;
+    let last_day = columns.take()?;
+    let last_time = columns.take()?;
+    aircraft_order(
+        line,
+        aircraft,
+        (first_day, first_time),
+        (last_day, last_time),
+    )
+}
+
+/// What an airport is told, by its fields.
+#[tactic(auto, unfolding(crate::specs::Orders::airport_row))]
+fn airport(line: u32, mut columns: Columns<'_>) -> Result<AltRow, Cause>
+    ensures exact { result ≡ airport_row line columns.entry }
+    ensures facts { IfOk result IsAlt }
+{
+    let airport = columns.take()?;
+    let first_day = columns.take()?;
+    let first_time = columns.take()?;
+    let last_day = columns.take()?;
+    let last_time = columns.take()?;
+    let deps = columns.take()?;
+    let arrs = columns.take()?;
+    airport_order(
+        line,
+        airport,
+        (first_day, first_time),
+        (last_day, last_time),
+        (deps, arrs),
+    )
+}
+
+/// The order of a kind, by the fields behind its word.
+fn order(kind: Kind, line: u32, columns: Columns<'_>) -> Result<AltRow, Cause>
+    ensures exact { result ≡ order_of kind line columns.entry }
+    ensures facts { IfOk result IsAlt }
+{
+    match kind {
+        Kind::Flight => flight(line, columns),
+        Kind::Aircraft => aircraft(line, columns),
+        Kind::Airport => airport(line, columns),
+        Kind::Nothing => Ok(AltRow::Nothing { line }),
+    }
+}
+
+/// The batch and the order of a record whose bytes were tried.
+#[tactic(auto, unfolding(crate::specs::Feed::fed_row))]
+fn fed(line: u32, mut columns: Columns<'_>) -> Result<(u32, AltRow), Cause>
+    ensures exact { result ≡ fed_row line columns.entry }
+    ensures facts { IfOk result IsFed }
+{
+    let batch = columns.take()?;
+    let word = columns.take()?;
+    let kind = Kind::named(word)?;
+    if columns.count() != kind.width() {
+        return Err(Cause::Fields);
+    }
+    let batch = number(batch, 1, MOST_BATCH)?;
+    let order = order(kind, line, columns)?;
+    Ok((batch, order))
+}
+
+/// The fields of a record: the number of a batch, a word, and what the word names.
+#[derive(Drop)]
+struct FeedRecord;
+
+impl CommaGrammar<(u32, AltRow)> for FeedRecord {
+    ghost row_of = { λ _. printed fed_row };
+
+    ghost holds = { λ _. IsFed };
+
+    fn row(
+        &self,
+        _alloc: Global,
+        line: u32,
+        columns: Columns<'_>,
+    ) -> Result<(u32, AltRow), RowFault> {
+        if !columns.are_printed() {
+            return Err(RowFault::Refused(Cause::Byte));
+        }
+        Ok(fed(line, columns)?)
+    }
+}
+
+/// The orders of the feed, each with the number of its batch, in the order of the records; or the
+/// first record that is refused.
+///
+/// The file is read as the crate `csv` reads one by its default settings, without a header row and
+/// with records of any length; a byte order mark at the start is dropped. A record's line is its
+/// number from 1: an empty line is no record, and a line end in quotes ends none. A record is the
+/// number of a batch, from 1 to 999,999,999, a word, and exactly the fields of that word:
+///
+/// - `flight`: those of alt_flights.csv, as `1,flight,F1,01/03/08,-1`.
+/// - `aircraft`: those of alt_aircraft.csv, dates and times being fields of their own, as
+///   `1,aircraft,P1,01/03/08,08:00,01/03/08,10:00`.
+/// - `airport`: those of alt_airports.csv, as `2,airport,AAA,01/03/08,08:00,01/03/08,10:00,0,0`.
+/// - `none`: no fields; the batch has a row, `AltRow::Nothing`, and no order by it.
+///
+/// Names may have spaces and commas. A file without records has no rows. The order of the batches,
+/// and how many orders there are, is not looked at.
+///
+/// # Errors
+///
+/// `Size` at line 0 for more than 67,108,864 bytes. Of a record `Byte` for a byte that is not from
+/// 0x20 to 0x7e, in whichever field; then `Fields` for a record of one field; then `Word` for an
+/// unknown word; then `Fields` where there are fewer or more fields than the word has; then from the
+/// left the first cause of a field: `Number`, `Size`, `Date` or `Time`.
+#[tactic(auto, unfolding(crate::specs::Feed::feed_rows))]
+pub fn read_feed(alloc: Global, bytes: &[u8]) -> Result<Vec<(u32, AltRow)>, ReadFault>
+    ensures exact { Gives (λ rows. rows.items) result (feed_rows bytes.now) }
+    ensures facts { IfOk result (λ rows. All IsFed rows.items) }
+{
+    read_records(alloc, &FeedRecord, MOST_BYTES, bytes)
+}

@@ -1,7 +1,0 @@
-use Rattle.std.proofs.Common.{refl}
-use Rattle.read_tariff.specs.Readers.{records_left}
-use Rattle.read_tariff.proofs.records.records_of.Goals as goal
-
-pub returns-clause-exact : goal.returns-clause-exact
-unfolding records_left
-returns-clause-exact c = rw (c.from_reader.ensures.state, c.from_reader.ensures.source) refl

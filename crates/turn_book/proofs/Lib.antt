@@ -1,0 +1,10 @@
+pub mod Bools
+pub mod Prefixes
+pub mod Places
+pub mod Views
+pub mod Moves
+pub mod Naming
+pub mod Forks
+pub mod Chains
+pub mod Closing
+pub mod Wording
