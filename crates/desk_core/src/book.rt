@@ -4,10 +4,10 @@ ghost use Rattle.std.specs.Prelude.{◌≡◌, ◌≤◌, [], length, drop, IfOk
 
 use crate::judged::{Judged, judge, publish};
 use desk_data::{Broken, Grains, Instance, NoMem};
-use plan_moves::Move;
 use desk_eval::Evaluator;
 use desk_model::{Answer, Entry, Event};
 use desk_moves::undo;
+use plan_moves::Move;
 use std::alloc::Global;
 use std::marker::Model;
 

@@ -8,12 +8,12 @@ ghost use Rattle.journal_join.specs.Join.{set_of, push_of, swap_of, rebook_of, r
 use crate::names::{after_of, leg_of, path_of, plane_of, res_of, row_of};
 use day_names::DayNames;
 use desk_data::Row;
-use plan_moves::{Move, Step};
 use desk_model::Event;
 use desk_text::RowFault;
 use desk_units::{List, Minute, Name};
 use file_rows::{Cause, END_OF_TIME};
 use journal_rows::{NamedEvent, NamedLeg, NamedPath, NamedRes, NamedRow, NamedStep};
+use plan_moves::{Move, Step};
 use std::alloc::Global;
 
 #[tactic(auto, unfolding(crate::specs::Join::set_of))]

@@ -13,8 +13,8 @@ ghost use Rattle.journal_text.specs.Lines.{after_text, step_text, move_text};
 use crate::items::{push_leg, push_plane, push_reservation, push_row};
 use crate::paths::push_path;
 use desk_data::{Instance, Leg, Minute, NoMem, Path, Plane, Row};
-use plan_moves::{Move, Step};
 use desk_text::{moment_text, push_all, push_number};
+use plan_moves::{Move, Step};
 
 /// Adds the steps of a move, joined by one space.
 #[tactic(auto, unfolding(crate::specs::Lines::move_text))]

@@ -13,10 +13,17 @@ use std::alloc::Global;
 #[derive(Debug, Drop)]
 pub enum Step {
     /// Where the leg's row is `was`, it becomes `new`; else nothing changes.
-    Set { leg: Leg, was: Row, new: Row },
+    Set {
+        leg: Leg,
+        was: Row,
+        new: Row,
+    },
     /// The movable legs of the aircraft that stand behind the leg `after`, or all of them where it is
     /// `None`, are placed anew, one by one, each at the first moment at which it may depart.
-    Push { plane: Plane, after: Option<Leg> },
+    Push {
+        plane: Plane,
+        after: Option<Leg>,
+    },
     /// The legs of two aircraft that depart at the moment or after it go from one to the other.
     Swap {
         first: Plane,
@@ -35,7 +42,9 @@ pub enum Step {
     Tidy,
     /// Passengers who are not carried and whose scheduled path has the leg go back to it, as far as it
     /// has seats.
-    Refill { leg: Leg },
+    Refill {
+        leg: Leg,
+    },
 }
 
 impl Step {

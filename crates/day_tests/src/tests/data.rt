@@ -2,7 +2,10 @@
 
 use super::days::{airport_of, flown, instance_of, leg_of, name_of, plane_of, set};
 use day_checks::are_parts;
-use desk_data::{Airport, AirportInfo, Cabin, Cap, Leg, LegInfo, List, Minute, Parts, Path, PlaneInfo, Price, ResInfo, Row, Seats, Tariff, TariffRow};
+use desk_data::{
+    Airport, AirportInfo, Cabin, Cap, Leg, LegInfo, List, Minute, Parts, Path, PlaneInfo, Price,
+    ResInfo, Row, Seats, Tariff, TariffRow,
+};
 use plan_moves::{Move, fits};
 use std::alloc::Global;
 use std::test::Fail;

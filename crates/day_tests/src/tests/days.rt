@@ -1,7 +1,10 @@
 //! Rows of small days, for the other modules.
 
 use day_checks::are_parts;
-use desk_data::{Airport, AirportInfo, Cap, Haul, Instance, Leg, LegInfo, List, Minute, Name, Parts, Plane, PlaneInfo, Price, Row, Seats, Tariff};
+use desk_data::{
+    Airport, AirportInfo, Cap, Haul, Instance, Leg, LegInfo, List, Minute, Name, Parts, Plane,
+    PlaneInfo, Price, Row, Seats, Tariff,
+};
 use plan_moves::Step;
 use std::alloc::Global;
 use std::test::Fail;

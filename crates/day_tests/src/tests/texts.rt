@@ -3,10 +3,13 @@
 ghost use Rattle.journal_text.specs.Told.{Names};
 
 use super::days::{flown, instance_of, leg_of, name_of, parts_of, set};
-use desk_data::{Airport, Broken, Cabin, Grains, Instance, Leg, List, Minute, Path, Plane, Price, Res, ResInfo, Row};
-use plan_moves::{Move, Step, fits};
+use desk_data::{
+    Airport, Broken, Cabin, Grains, Instance, Leg, List, Minute, Path, Plane, Price, Res, ResInfo,
+    Row,
+};
 use desk_model::{Answer, Entry, Event};
 use journal_text::{journal_line, journal_text, push_broken};
+use plan_moves::{Move, Step, fits};
 use std::alloc::Global;
 use std::process::Abort;
 use std::test::Fail;

@@ -3,8 +3,8 @@
 use super::days::{airport_of, instance_of, leg_of, parts_of, plane_of};
 use desk_core::Book;
 use desk_data::{Grains, Leg, List, Minute, Parts, Plane, Row};
-use plan_moves::{Move, Step, fits};
 use desk_model::{Answer, Event};
+use plan_moves::{Move, Step, fits};
 use std::alloc::Global;
 use std::test::Fail;
 
