@@ -9,8 +9,8 @@ but for the airports and the tariff, so that half the distances are of half the 
 flies 20 legs there and back between two airports. The day, one of half its rows and one of no rows are
 run with a journal whose one line names a leg that is not there, so that a run ends when all is read and
 joined; and the first two with an empty journal, so that the schedule is checked and written too; and
-with one of moves of one step that changes nothing but is judged: the plan is checked by all rules and its cost
-summed. The day of no rows tells the start of the program apart. Then the whole day is run with a journal
+with one of moves of one step, each of which is judged and refused: the moved plan is checked by all rules and its
+cost summed. The day of no rows tells the start of the program apart. Then the whole day is run with a journal
 of each of some usual moves, asked again and again, which are told and not limited. The desk runs on one
 processor.
 
@@ -32,7 +32,7 @@ LEGS_OF_AIRCRAFT = 20
 AIRPORTS = 500
 UNKNOWN = "1,move,set F0 02/03/08 - -\n"
 MOVES = 40
-UNCHANGED = "1,move,set F0 01/03/08 + P0 01/03/08 00:00 + P0 01/03/08 00:00\n" * MOVES
+REFUSED = "1,move,set F0 01/03/08 + P0 01/03/08 00:00 + P0 01/03/08 00:01\n" * MOVES
 # usual moves, each refused, so that the next one meets the same plan; and how often each is asked
 USUAL = [
     ("a set", "set F0 01/03/08 + P0 01/03/08 00:00 + P0 01/03/08 00:01", 40),
@@ -147,8 +147,8 @@ def main():
     size, whole = run(legs, "read and joined", UNKNOWN)
     _, half_checked = run(legs // 2, "and checked", "")
     _, whole_checked = run(legs, "and checked", "")
-    _, half_moved = run(legs // 2, "and moves answered", UNCHANGED)
-    _, whole_moved = run(legs, "and moves answered", UNCHANGED)
+    _, half_moved = run(legs // 2, "and moves answered", REFUSED)
+    _, whole_moved = run(legs, "and moves answered", REFUSED)
     rate = size / 1e6 / (whole - nothing)
     ratio = (whole - nothing) / (half - nothing)
     move = 1000 * (whole_moved - whole_checked) / MOVES
