@@ -1,6 +1,7 @@
 -- Histories: lists of entries, each with who asked, what was asked and the answer.
-use Rattle.std.specs.Prelude.{◌≡◌, ℕ, ◌+◌, Bool, true, false, nat_lt, if◌then◌else◌, List, [], ◌∷◌, Some, length, take, slice_get, count_by, All}
+use Rattle.std.specs.Prelude.{◌≡◌, ℕ, ◌+◌, Bool, true, false, not, nat_lt, if◌then◌else◌, List, [], ◌∷◌, Some, length, take, take_while, reverse, slice_get, count_by, All}
 use Rattle.desk_data.specs.Situation.{Situation}
+use Rattle.desk_data.specs.Valid.{IsOrder}
 use Rattle.plan_moves.specs.Fits.{Fits}
 use Rattle.desk_model.specs.declared.answer.Answer.{Answer}
 use Rattle.desk_model.specs.declared.answer.Answer.TheVariants.{Accepted}
@@ -18,12 +19,18 @@ state S (entry ∷ entries) = state (after S entry.event) entries
 abbrev pub proposal_limit : ℕ
 proposal_limit = 900000
 
+-- and batches while it has fewer than this
+abbrev pub batch_limit : ℕ
+batch_limit = 1000000
+
 -- whether a journal of n entries takes the event
 abbrev pub has_room : ℕ → Event → Bool
+has_room n (event.Batch B) = nat_lt n batch_limit
 has_room n (event.Move m) = nat_lt n proposal_limit
 
--- what can be asked of an instance
+-- what can be asked of an instance. Only its joined rows are looked at: the orders taken make no difference
 abbrev pub IsAskable : Situation → Event → Type 0
+IsAskable I (event.Batch B) = All (IsOrder I.parts) B.orders
 IsAskable I (event.Move m) = Fits I m
 
 -- each of these events, each with its caller, can be asked
@@ -40,14 +47,32 @@ pub record Stands (S : State) (before : List Entry) (entry : Entry) : Type 0 whe
 abbrev pub IsLegal : State → List Entry → Type 0
 IsLegal S h = (i : ℕ) (entry : Entry) → slice_get h i ≡ Some entry → Stands S (take i h) entry
 
--- whether an answer changed the plan
-abbrev pub is_change : Answer → Bool
-is_change (Accepted cost) = true
-is_change other = false
+-- whether the event is a batch
+abbrev pub is_batch : Event → Bool
+is_batch (event.Batch B) = true
+is_batch (event.Move m) = false
 
--- how many entries of a history changed the plan
+-- whether a proposal was accepted
+abbrev pub is_accepted : Answer → Bool
+is_accepted (Accepted cost) = true
+is_accepted other = false
+
+-- whether the event with its answer changed the state: each batch does, and a proposal that was accepted
+abbrev pub is_change : Event → Answer → Bool
+is_change (event.Batch B) told = true
+is_change (event.Move m) told = is_accepted told
+
+-- how many entries of a history changed the state
 abbrev pub changes : List Entry → ℕ
-changes h = count_by (λ entry. is_change entry.answer) h
+changes h = count_by (λ entry. is_change entry.event entry.answer) h
+
+-- the entries behind the last batch, the last first
+abbrev pub since_batch : List Entry → List Entry
+since_batch h = take_while (λ entry. not (is_batch entry.event)) (reverse h)
+
+-- how many proposals were accepted since the last batch
+abbrev pub accepted_since_batch : List Entry → ℕ
+accepted_since_batch h = count_by (λ entry. is_accepted entry.answer) (since_batch h)
 
 -- the entry of an event at a state
 abbrev pub entry_of : State → ℕ → Event → Entry

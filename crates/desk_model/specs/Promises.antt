@@ -3,15 +3,18 @@ use Rattle.std.specs.Prelude.{◌≡◌, ◌↔◌, ℕ, ◌+◌, ◌<◌, ◌�
 use Rattle.desk_units.specs.declared.money.Grains.{Grains}
 use Rattle.desk_data.specs.declared.broken.Broken.{Broken}
 use Rattle.plan_moves.specs.declared.moves.Move.{Move}
+use Rattle.day_orders.specs.declared.orders.Batch.{Batch}
 use Rattle.desk_data.specs.Situation.{Situation}
 use Rattle.desk_rules.specs.Cost.{cost, grains}
 use Rattle.desk_rules.specs.Words.{IsFeasible, IsLeast}
-use Rattle.desk_model.specs.declared.answer.Answer.TheVariants.{Accepted}
+use Rattle.desk_model.specs.declared.answer.Answer.TheVariants.{Taken, Accepted}
+use Rattle.desk_model.specs.declared.fallbacks.Which.{Which}
+use Rattle.desk_model.specs.Fallback.{FallsBack, rows_of}
 use Rattle.desk_model.specs.declared.answer.Event.TheVariants as event
 use Rattle.desk_model.specs.declared.answer.Entry.{Entry}
 use Rattle.desk_model.specs.Steps.{after_move}
-use Rattle.desk_model.specs.States.{State, opening}
-use Rattle.desk_model.specs.Histories.{state, changes, is_change}
+use Rattle.desk_model.specs.States.{State, opening, with_batch, fallback_on}
+use Rattle.desk_model.specs.Histories.{state, changes, is_batch, is_accepted, is_change}
 
 -- the state after the first i entries
 abbrev pub state_at : Situation → List Entry → ℕ → State
@@ -31,22 +34,35 @@ pub record Improves (S : State) (m : Move) : Type 0 where
   pub feasible : IsFeasible S.inst (after_move S.inst S.plan m)
   pub cheaper : cost S.inst (after_move S.inst S.plan m) < cost_of S
 
+-- a batch, between the state before it and the state after it: its orders are taken behind the others, and the rows are those that the desk falls back on, from the rows as they stood, under the orders that there are then
+pub record IsTakenIn (before : State) (B : Batch) (behind : State) : Type 0 where
+  pub orders : behind.inst ≡ with_batch before.inst B
+  pub chosen : FallsBack behind.inst before.plan
+  pub rows : behind.plan ≡ rows_of (fallback_on before B)
+
 -- entry i of the history, between the state before it and the state after it
 pub record IsKept (before : State) (entry : Entry) (behind : State) : Type 0 where
+  pub taken : (B : Batch) → entry.event ≡ event.Batch B → IsTakenIn before B behind
+  -- the cost that is told of a batch is the cost of the rows after it, under the new orders
+  pub priced : (which : Which) (told : Grains) → entry.answer ≡ Taken which told → told ≡ grains (cost_of behind)
   -- a proposal to a published plan is accepted exactly where the moved plan is feasible and cheaper
-  pub accepted : (m : Move) → entry.event ≡ event.Move m → before.broken ≡ None → is_change entry.answer ≡ true ↔ Improves before m
-  -- the cost that is told of a change is the cost of the rows after it, and less than before
+  pub accepted : (m : Move) → entry.event ≡ event.Move m → before.broken ≡ None → is_accepted entry.answer ≡ true ↔ Improves before m
+  -- the cost that is told of an accepted proposal is the cost of the rows after it, and less than before
   pub stored : (told : Grains) → entry.answer ≡ Accepted told → (told ≡ grains (cost_of behind)) × (cost_of behind < cost_of before)
-  -- a change publishes the moved plan
-  pub moved_to : (m : Move) → entry.event ≡ event.Move m → is_change entry.answer ≡ true → (behind.plan ≡ after_move before.inst before.plan m) × (behind.broken ≡ None)
+  -- an accepted proposal publishes the moved plan
+  pub moved_to : (m : Move) → entry.event ≡ event.Move m → is_accepted entry.answer ≡ true → (behind.inst ≡ before.inst) × (behind.plan ≡ after_move before.inst before.plan m) × (behind.broken ≡ None)
   -- every other answer leaves the state
-  pub refused : is_change entry.answer ≡ false → behind ≡ before
+  pub refused : is_change entry.event entry.answer ≡ false → behind ≡ before
+
+-- none of the entries from place i up to but not including place j is a batch
+abbrev pub AreProposals : List Entry → ℕ → ℕ → Type 0
+AreProposals h i j = (k : ℕ) (entry : Entry) → i ≤ k → k < j → slice_get h k ≡ Some entry → is_batch entry.event ≡ false
 
 -- what holds of a history from the opening of an instance
 pub record KeepsPromises (I : Situation) (h : List Entry) : Type 0 where
   pub honest : (i : ℕ) → IsHonest (state_at I h i)
   pub entries : (i : ℕ) (entry : Entry) → slice_get h i ≡ Some entry → IsKept (state_at I h i) entry (state_at I h (i + 1))
-  -- costs only fall
-  pub falls : (i j : ℕ) → i ≤ j → cost_of (state_at I h j) ≤ cost_of (state_at I h i)
+  -- between two batches costs only fall
+  pub falls : (i j : ℕ) → i ≤ j → AreProposals h i j → cost_of (state_at I h j) ≤ cost_of (state_at I h i)
   -- equally many changes make the same state
   pub same : (i j : ℕ) → i ≤ j → j ≤ length h → changes (take i h) ≡ changes (take j h) → state_at I h i ≡ state_at I h j

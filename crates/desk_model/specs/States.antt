@@ -1,5 +1,6 @@
 -- The state of the desk, and what it answers to an event.
-use Rattle.std.specs.Prelude.{ℕ, nat_le, if◌then◌else◌, Option, Some, None}
+use Rattle.std.specs.Prelude.{ℕ, ◌++◌, nat_le, if◌then◌else◌, Option, Some, None}
+use Rattle.day_orders.specs.declared.orders.Batch.{Batch}
 use Rattle.desk_data.specs.declared.broken.Broken.{Broken}
 use Rattle.plan_moves.specs.declared.moves.Move.{Move}
 use Rattle.desk_data.specs.Situation.{Situation, schedule}
@@ -7,9 +8,12 @@ use Rattle.desk_data.specs.PlanRows.{PlanRows}
 use Rattle.desk_rules.specs.Least.{least}
 use Rattle.desk_rules.specs.Cost.{cost, grains}
 use Rattle.desk_model.specs.declared.answer.Answer.{Answer}
-use Rattle.desk_model.specs.declared.answer.Answer.TheVariants.{Accepted, Breaks, Dearer, NoPlan}
+use Rattle.desk_model.specs.declared.answer.Answer.TheVariants.{Taken, Accepted, Breaks, Dearer, NoPlan}
 use Rattle.desk_model.specs.declared.answer.Event.{Event}
 use Rattle.desk_model.specs.declared.answer.Event.TheVariants as event
+use Rattle.desk_model.specs.declared.fallbacks.Fallback.{Fallback}
+use Rattle.desk_model.specs.declared.fallbacks.Fallback.TheVariants as fallen
+use Rattle.desk_model.specs.Fallback.{fallback}
 use Rattle.desk_model.specs.Steps.{after_move}
 
 -- the instance as disrupted, the rows, and the item that they break: there is a plan where they break none
@@ -21,6 +25,28 @@ pub record State : Type 0 where
 -- before anything has happened the plan is the schedule
 unfoldable pub opening : Situation → State
 opening I = record { inst = I; plan = schedule I; broken = least I (schedule I) }
+
+-- ---- news
+
+-- the instance with the orders of a batch behind those taken before
+abbrev pub with_batch : Situation → Batch → Situation
+with_batch I B = record I { orders = I.orders ++ B.orders }
+
+-- what the desk falls back on when the batch arrives: it is made of the rows as they stand, under the orders that there are then
+unfoldable pub fallback_on : State → Batch → Fallback
+fallback_on S B = fallback (with_batch S.inst B) S.plan
+
+-- the answer to a batch: the name of the plan that is chosen, and its cost under the new orders; or where there is no plan the item
+abbrev pub batch_answer : Situation → Fallback → Answer
+batch_answer J (fallen.Chosen which Q) = Taken which (grains (cost J Q))
+batch_answer J (fallen.NoPlan item Q) = NoPlan item
+
+-- the state after a batch: the new orders, and the rows that were chosen or are left
+abbrev pub fallen_state : Situation → Fallback → State
+fallen_state J (fallen.Chosen which Q) = record { inst = J; plan = Q; broken = None }
+fallen_state J (fallen.NoPlan item Q) = record { inst = J; plan = Q; broken = Some item }
+
+-- ---- proposals
 
 -- the answer to a proposal at a plan: what the moved plan breaks, else whether it is cheaper
 abbrev pub verdict : Option Broken → ℕ → ℕ → Answer
@@ -35,6 +61,7 @@ move_answer S m None =
     verdict (least S.inst moved_plan) (cost S.inst S.plan) (cost S.inst moved_plan)
 
 unfoldable pub answer : State → Event → Answer
+answer S (event.Batch B) = batch_answer (with_batch S.inst B) (fallback_on S B)
 answer S (event.Move m) = move_answer S m S.broken
 
 -- an accepted move is published, and every other answer leaves the state
@@ -43,4 +70,5 @@ answered_state S m (Accepted cost) = record { inst = S.inst; plan = after_move S
 answered_state S m other = S
 
 unfoldable pub after : State → Event → State
+after S (event.Batch B) = fallen_state (with_batch S.inst B) (fallback_on S B)
 after S (event.Move m) = answered_state S m (answer S (event.Move m))

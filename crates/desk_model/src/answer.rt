@@ -1,11 +1,14 @@
 //! Events, the answers to them, and the entries of a journal.
 
-use desk_data::{Broken, Grains};
+use crate::fallbacks::Which;
+use desk_data::{Batch, Broken, Grains};
 use plan_moves::Move;
 
 /// What happens at the desk.
 #[derive(Debug, Drop)]
 pub enum Event {
+    /// News of disruptions arrives.
+    Batch(Batch),
     /// Someone proposes a move.
     Move(Move),
 }
@@ -13,15 +16,19 @@ pub enum Event {
 /// What the desk answers to an event.
 #[derive(Clone, Copy, Debug, PartialEq, Eq)]
 pub enum Answer {
+    /// News is taken: this is what the desk falls back on, and what the plan then costs.
+    Taken { which: Which, cost: Grains },
     /// The moved plan is feasible and cheaper; it is published, at this cost.
     Accepted { cost: Grains },
     /// The moved plan breaks this item, the first one that it breaks.
     Breaks(Broken),
     /// The moved plan is feasible and not cheaper.
     Dearer { now: Grains, would: Grains },
-    /// There is no plan to move; this is the first item that the rows as they stand break.
+    /// There is no plan: this is the first item that the rows break. Of a proposal they are the rows
+    /// as they stand, and of news those that are left where nothing that the desk falls back on is
+    /// feasible.
     NoPlan(Broken),
-    /// The journal has this many entries and takes no more proposals.
+    /// The journal has this many entries, and takes no more of such events.
     Full { entries: u32 },
 }
 

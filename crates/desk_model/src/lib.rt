@@ -18,7 +18,7 @@ mod histories;
 mod steps;
 
 pub use answer::{Answer, Entry, Event};
-pub use desk_data::{Broken, Grains};
+pub use desk_data::{Batch, Broken, Grains};
 pub use fallbacks::{
     Fallback, Which, a_ground_plan_flies_no_movable_leg,
     a_settled_plan_has_each_fixed_leg_as_it_is_due,
