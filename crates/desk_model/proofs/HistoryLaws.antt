@@ -1,28 +1,38 @@
 -- What holds of histories.
-use Rattle.std.proofs.Common.{◌≡◌, ◌↔◌, ℕ, zero, suc, ◌+◌, ◌-◌, ◌<◌, ◌≤◌, ◌⊎◌, inl, inr, Bool, true, false, cond, List, [], ◌∷◌, ◌++◌, length, take, drop, refl, sym, ap, subst, ◌∙◌, arith, append_assoc, length-append}
+use Rattle.std.proofs.Common.{◌≡◌, ◌↔◌, ℕ, zero, suc, ◌+◌, ◌-◌, ◌<◌, ◌≤◌, ◌⊎◌, inl, inr, Bool, true, false, cond, List, [], ◌∷◌, ◌++◌, length, take, refl, sym, ap, subst, ◌∙◌, arith, append_assoc, length-append}
 use Rattle.std.specs.Prelude.{None, Some, slice_get}
-use Rattle.std.specs.List.{AllByRecursion}
+use Rattle.std.specs.List.{AllByRecursion, All}
+use Rattle.std.specs.Option.{ForSome}
 use Rattle.std.proofs.lemmas.Bool.{cases_Bool}
 use Rattle.std.proofs.lemmas.Option.{slice_get_within, get_or_from_slice_get, slice_get-get_or}
-use Rattle.std.proofs.lemmas.List.{take_more, take-append-drop, take-append-le, append-nil, take_all}
+use Rattle.std.proofs.lemmas.List.{take_more, take-append-le, append-nil, take_all}
 use Rattle.std.proofs.lemmas.List.Sums.{count_by_more_no, count_by_more_yes}
 use Rattle.std.proofs.Math.ListN.{get_or-append}
 use Rattle.std.proofs.Math.Seq.{get_or-append_seam, take-nil}
-use Rattle.std.proofs.lemmas.List.Elements.{recursion_from_All}
+use Rattle.std.proofs.lemmas.List.Elements.{recursion_from_All, All-weaker}
 use Rattle.plan_moves.specs.declared.moves.Move.{Move}
+use Rattle.plan_moves.specs.declared.moves.Step.{Step}
+use Rattle.plan_moves.specs.declared.moves.Step.TheVariants as step
+use Rattle.plan_moves.specs.Fits.{StepFits, Fits, IsPathIn}
+use Rattle.day_orders.specs.declared.orders.Order.{Order}
+use Rattle.day_orders.specs.declared.orders.Batch.{Batch}
+use Rattle.desk_data.specs.declared.parts.Parts.{Parts}
+use Rattle.desk_data.specs.Valid.{IsOrder, IsRowOf}
 use Rattle.desk_units.specs.declared.money.Grains.{Grains}
 use Rattle.desk_data.specs.Situation.{Situation}
 use Rattle.desk_rules.specs.Cost.{grains}
 use Rattle.desk_rules.proofs.LeastLaws.{feasible-holds, feasible-from, least-holds}
-use Rattle.desk_model.specs.declared.answer.Answer.TheVariants.{Accepted}
+use Rattle.desk_model.specs.declared.answer.Answer.TheVariants.{Taken, Accepted}
+use Rattle.desk_model.specs.declared.fallbacks.Which.{Which}
 use Rattle.desk_model.specs.declared.answer.Event.{Event}
 use Rattle.desk_model.specs.declared.answer.Event.TheVariants as event
 use Rattle.desk_model.specs.declared.answer.Entry.{Entry}
 use Rattle.desk_model.specs.Steps.{after_move}
-use Rattle.desk_model.specs.States.{State, opening, answer, after}
-use Rattle.desk_model.specs.Histories.{state, has_room, IsAskable, AreAskable, Stands, IsLegal, is_change, changes, entry_of, entries, run}
-use Rattle.desk_model.specs.Promises.{state_at, cost_of, IsHonest, Improves, IsKept, KeepsPromises}
-use Rattle.desk_model.proofs.StateLaws.{accepted-cause, accepted-from, IsTold, after-told, opening-told, after-inst, after-unchanged, after-accepted, change-told, after-falls}
+use Rattle.desk_model.specs.States.{State, opening, with_batch, answer, after}
+use Rattle.desk_model.specs.Histories.{state, has_room, IsAskable, AreAskable, Stands, IsLegal, is_batch, is_accepted, is_change, changes, news_of, orders_of, entry_of, entries, run}
+use Rattle.desk_model.specs.Promises.{state_at, cost_of, IsHonest, Improves, IsTakenIn, IsKept, AreProposals, KeepsPromises}
+use Rattle.desk_model.proofs.FallbackLaws.{falls_back}
+use Rattle.desk_model.proofs.StateLaws.{accepted-cause, accepted-from, batch-not-accepted, batch-priced, move-not-taken, after-batch-inst, after-batch-plan, IsTold, after-told, opening-told, after-move-inst, after-parts, after-unchanged, after-accepted, accepted-told, after-falls}
 
 -- ---- the state after a history
 
@@ -34,13 +44,22 @@ pub state-told : (S : State) (h : List Entry) → IsTold S → IsTold (state S h
 state-told S [] told = told
 state-told S (entry ∷ h) told = state-told (after S entry.event) h (after-told S entry.event told)
 
-pub state-inst : (S : State) (h : List Entry) → (state S h).inst ≡ S.inst
-state-inst S [] = refl
-state-inst S (entry ∷ h) = state-inst (after S entry.event) h ∙ after-inst S entry.event
+-- a history leaves the joined rows
+pub state-parts : (S : State) (h : List Entry) → (state S h).inst.parts ≡ S.inst.parts
+state-parts S [] = refl
+state-parts S (entry ∷ h) = state-parts (after S entry.event) h ∙ after-parts S entry.event
 
-pub state-falls : (S : State) (h : List Entry) → cost_of (state S h) ≤ cost_of S
-state-falls S [] = omega arith
-state-falls S (entry ∷ h) = omega (arith, state-falls (after S entry.event) h, after-falls S entry.event)
+after_orders : (S : State) (e : Event) → (after S e).inst.orders ≡ S.inst.orders ++ news_of e
+after_orders S (event.Batch B) = ap (λ (J : Situation). J.orders) (after-batch-inst S B)
+after_orders S (event.Move m) = ap (λ (J : Situation). J.orders) (after-move-inst S m) ∙ sym (append-nil S.inst.orders)
+
+-- the orders are those that there were, and behind them those of the history's batches
+pub state-orders : (S : State) (h : List Entry) → (state S h).inst.orders ≡ S.inst.orders ++ orders_of h
+state-orders S [] = sym (append-nil S.inst.orders)
+state-orders S (entry ∷ h) =
+    state-orders (after S entry.event) h
+    ∙ ap (λ (os : List Order). os ++ orders_of h) (after_orders S entry.event)
+    ∙ append_assoc S.inst.orders (news_of entry.event) (orders_of h)
 
 -- the entry at i is the next after the first i
 pub take-next : (h : List Entry) (i : ℕ) (entry : Entry) → slice_get h i ≡ Some entry → take (i + 1) h ≡ take i h ++ entry ∷ []
@@ -53,71 +72,97 @@ state-next S h i entry at = ap (state S) (take-next h i entry at) ∙ state-appe
 
 -- ---- an entry of a legal history
 
-kept_accepted : (S : State) (entry : Entry) (m : Move) → entry.event ≡ event.Move m → entry.answer ≡ answer S entry.event → S.broken ≡ None → is_change entry.answer ≡ true ↔ Improves S m
+kept_taken : (S : State) (entry : Entry) (B : Batch) → entry.event ≡ event.Batch B → IsTakenIn S B (after S entry.event)
+kept_taken S entry B is = record {
+  orders = ap (λ (e : Event). (after S e).inst) is ∙ after-batch-inst S B;
+  chosen = falls_back _ _;
+  rows = ap (λ (e : Event). (after S e).plan) is ∙ after-batch-plan S B;
+}
+
+kept_priced : (S : State) (entry : Entry) (e : Event) (which : Which) (told : Grains) → entry.event ≡ e → entry.answer ≡ answer S entry.event → entry.answer ≡ Taken which told → told ≡ grains (cost_of (after S entry.event))
+kept_priced S entry (event.Batch B) which told is by h =
+    batch-priced S B which told (sym (by ∙ ap (answer S) is) ∙ h) ∙ ap (λ (e : Event). grains (cost_of (after S e))) (sym is)
+kept_priced S entry (event.Move m) which told is by h = absurd (move-not-taken S m which told (sym (by ∙ ap (answer S) is) ∙ h))
+
+kept_accepted : (S : State) (entry : Entry) (m : Move) → entry.event ≡ event.Move m → entry.answer ≡ answer S entry.event → S.broken ≡ None → is_accepted entry.answer ≡ true ↔ Improves S m
 kept_accepted S entry m is told had = (
-  (λ change.
-      let by = change-told entry.answer change in
+  (λ accepted.
+      let by = accepted-told entry.answer accepted in
       let cause = accepted-cause S m by.0 (sym (told ∙ ap (answer S) is) ∙ by.1) in
       record { feasible = feasible-holds _ _ cause.feasible; cheaper = cause.cheaper }),
-  (λ better. ap is_change (told ∙ ap (answer S) is ∙ accepted-from S m had (feasible-from _ _ better.feasible) better.cheaper)),
+  (λ better. ap is_accepted (told ∙ ap (answer S) is ∙ accepted-from S m had (feasible-from _ _ better.feasible) better.cheaper)),
 )
 
 kept_stored : (S : State) (entry : Entry) (e : Event) (told : Grains) → entry.event ≡ e → entry.answer ≡ answer S entry.event → entry.answer ≡ Accepted told → (told ≡ grains (cost_of (after S entry.event))) × (cost_of (after S entry.event) < cost_of S)
+kept_stored S entry (event.Batch B) told is by h = absurd (batch-not-accepted S B told (sym (by ∙ ap (answer S) is) ∙ h))
 kept_stored S entry (event.Move m) told is by h =
     let cause = accepted-cause S m told (sym (by ∙ ap (answer S) is) ∙ h) in
     let there = ap (after S) is ∙ after-accepted S m told (sym (by ∙ ap (answer S) is) ∙ h) in
     rw there (cause.stored, cause.cheaper)
 
-kept_moved : (S : State) (entry : Entry) (m : Move) → entry.event ≡ event.Move m → entry.answer ≡ answer S entry.event → is_change entry.answer ≡ true → ((after S entry.event).plan ≡ after_move S.inst S.plan m) × ((after S entry.event).broken ≡ None)
-kept_moved S entry m is told change =
-    let by = change-told entry.answer change in
+kept_moved : (S : State) (entry : Entry) (m : Move) → entry.event ≡ event.Move m → entry.answer ≡ answer S entry.event → is_accepted entry.answer ≡ true → ((after S entry.event).inst ≡ S.inst) × ((after S entry.event).plan ≡ after_move S.inst S.plan m) × ((after S entry.event).broken ≡ None)
+kept_moved S entry m is told accepted =
+    let by = accepted-told entry.answer accepted in
     let there = ap (after S) is ∙ after-accepted S m by.0 (sym (told ∙ ap (answer S) is) ∙ by.1) in
-    (ap (λ (T : State). T.plan) there, ap (λ (T : State). T.broken) there)
+    (ap (λ (T : State). T.inst) there, ap (λ (T : State). T.plan) there, ap (λ (T : State). T.broken) there)
 
 pub kept : (S : State) (entry : Entry) → entry.answer ≡ answer S entry.event → IsKept S entry (after S entry.event)
 kept S entry told = record {
+  taken = λ B is. kept_taken S entry B is;
+  priced = λ which cost is. kept_priced S entry entry.event which cost refl told is;
   accepted = λ m is had. kept_accepted S entry m is told had;
   stored = λ cost is. kept_stored S entry entry.event cost refl told is;
-  moved_to = λ m is change. kept_moved S entry m is told change;
-  refused = λ change. after-unchanged S entry.event (ap is_change (sym told) ∙ change);
+  moved_to = λ m is accepted. kept_moved S entry m is told accepted;
+  refused = λ change. after-unchanged S entry.event (ap (is_change entry.event) (sym told) ∙ change);
 }
 
 -- ---- prefixes
-
-take-take : (h : List Entry) (i j : ℕ) → i ≤ j → take i (take j h) ≡ take i h
-take-take [] i j le = ap (take i) (take-nil j)
-take-take (e ∷ h) zero j le = refl
-take-take (e ∷ h) (suc i) zero le = absurd (omega arith)
-take-take (e ∷ h) (suc i) (suc j) le = ap (λ (t : List Entry). e ∷ t) (take-take h i j (omega arith))
-
--- a longer prefix is a shorter one and what is behind it
-state-longer : (S : State) (h : List Entry) (i j : ℕ) → i ≤ j → state S (take j h) ≡ state (state S (take i h)) (drop i (take j h))
-state-longer S h i j le =
-    ap (state S) (sym (take-append-drop i (take j h)))
-    ∙ state-append S (take i (take j h)) (drop i (take j h))
-    ∙ ap (λ (t : List Entry). state (state S t) (drop i (take j h))) (take-take h i j le)
-
-prefix-falls : (S : State) (h : List Entry) (i j : ℕ) → i ≤ j → cost_of (state S (take j h)) ≤ cost_of (state S (take i h))
-prefix-falls S h i j le =
-    subst (λ (T : State). cost_of T ≤ cost_of (state S (take i h))) (sym (state-longer S h i j le)) (state-falls (state S (take i h)) (drop i (take j h)))
 
 entry_at : (h : List Entry) (i : ℕ) → i < length h → (entry : Entry) × (slice_get h i ≡ Some entry)
 entry_at [] i lt = absurd (omega arith)
 entry_at (e ∷ h) zero lt = (e, refl)
 entry_at (e ∷ h) (suc i) lt = entry_at h i (omega arith)
 
-changes_step : (h : List Entry) (i : ℕ) (entry : Entry) (b : Bool) → slice_get h i ≡ Some entry → is_change entry.answer ≡ b → changes (take (i + 1) h) ≡ changes (take i h) + cond b 1 0
+-- no proposal makes the rows dearer
+falls_step : (S : State) (h : List Entry) (k : ℕ) → ((entry : Entry) → slice_get h k ≡ Some entry → is_batch entry.event ≡ false) → cost_of (state S (take (k + 1) h)) ≤ cost_of (state S (take k h))
+falls_step S h k proposal =
+    let cases : (k < length h) ⊎ (length h ≤ k) = grind arith in
+    elim cases [
+      | inl within ↦
+          let at = entry_at h k within in
+          subst (λ (T : State). cost_of T ≤ cost_of (state S (take k h))) (sym (state-next S h k at.0 at.1)) (after-falls (state S (take k h)) at.0.event (proposal at.0 at.1))
+      | inr past ↦
+          let here : take (k + 1) h ≡ take k h = take_all (k + 1) h (omega (arith, past)) ∙ sym (take_all k h past) in
+          rw here (omega arith)
+    ]
+
+falls_along : (S : State) (h : List Entry) (i n : ℕ) → AreProposals h i (i + n) → cost_of (state S (take (i + n) h)) ≤ cost_of (state S (take i h))
+falls_along S h i zero proposals = subst (λ (j : ℕ). cost_of (state S (take j h)) ≤ cost_of (state S (take i h))) (let e : i ≡ i + 0 = omega arith in e) (omega arith)
+falls_along S h i (suc n) proposals =
+    let before : AreProposals h i (i + n) = λ k entry low high at. proposals k entry low (omega (arith, high)) at in
+    let last : (entry : Entry) → slice_get h (i + n) ≡ Some entry → is_batch entry.event ≡ false = λ entry at. proposals (i + n) entry (omega arith) (omega arith) at in
+    let more = falls_step S h (i + n) last in
+    let less = falls_along S h i n before in
+    subst (λ (j : ℕ). cost_of (state S (take j h)) ≤ cost_of (state S (take i h))) (let e : i + n + 1 ≡ i + suc n = omega arith in e) (omega (arith, more, less))
+
+-- where no batch stands between, costs only fall
+prefix-falls : (S : State) (h : List Entry) (i j : ℕ) → i ≤ j → AreProposals h i j → cost_of (state S (take j h)) ≤ cost_of (state S (take i h))
+prefix-falls S h i j le proposals =
+    let n : i + (j - i) ≡ j = omega (arith, le) in
+    subst (λ (k : ℕ). cost_of (state S (take k h)) ≤ cost_of (state S (take i h))) n (falls_along S h i (j - i) (subst (AreProposals h i) (sym n) proposals))
+
+changes_step : (h : List Entry) (i : ℕ) (entry : Entry) (b : Bool) → slice_get h i ≡ Some entry → is_change entry.event entry.answer ≡ b → changes (take (i + 1) h) ≡ changes (take i h) + cond b 1 0
 changes_step h i entry true at is =
-    count_by_more_yes (λ (e : Entry). is_change e.answer) h i entry (slice_get_within h i entry at) (ap (λ (e : Entry). is_change e.answer) (get_or_from_slice_get h i entry entry at) ∙ is)
+    count_by_more_yes (λ (e : Entry). is_change e.event e.answer) h i entry (slice_get_within h i entry at) (ap (λ (e : Entry). is_change e.event e.answer) (get_or_from_slice_get h i entry entry at) ∙ is)
 changes_step h i entry false at is =
-    let step = count_by_more_no (λ (e : Entry). is_change e.answer) h i entry (slice_get_within h i entry at) (ap (λ (e : Entry). is_change e.answer) (get_or_from_slice_get h i entry entry at) ∙ is) in
+    let step = count_by_more_no (λ (e : Entry). is_change e.event e.answer) h i entry (slice_get_within h i entry at) (ap (λ (e : Entry). is_change e.event e.answer) (get_or_from_slice_get h i entry entry at) ∙ is) in
     omega (arith, step)
 
 -- no entry has fewer changes behind it than before it
 changes_rise : (h : List Entry) (i : ℕ) → i < length h → changes (take i h) ≤ changes (take (i + 1) h)
 changes_rise h i lt =
     let at = entry_at h i lt in
-    let step = changes_step h i at.0 (is_change at.0.answer) at.1 refl in
+    let step = changes_step h i at.0 (is_change at.0.event at.0.answer) at.1 refl in
     omega (arith, step)
 
 changes_grow : (h : List Entry) (i n : ℕ) → i + n ≤ length h → changes (take i h) ≤ changes (take (i + n) h)
@@ -131,10 +176,10 @@ changes_grow h i (suc n) le =
 same_step : (S : State) (h : List Entry) (i : ℕ) → IsLegal S h → i < length h → changes (take (i + 1) h) ≡ changes (take i h) → state S (take i h) ≡ state S (take (i + 1) h)
 same_step S h i legal lt same =
     let at = entry_at h i lt in
-    let step = changes_step h i at.0 (is_change at.0.answer) at.1 refl in
-    elim (cases_Bool (is_change at.0.answer)) [
+    let step = changes_step h i at.0 (is_change at.0.event at.0.answer) at.1 refl in
+    elim (cases_Bool (is_change at.0.event at.0.answer)) [
       | inl change ↦ let none : changes (take (i + 1) h) ≡ changes (take i h) + 1 = step ∙ ap (λ (b : Bool). changes (take i h) + cond b 1 0) change in absurd (omega (arith, none, same))
-      | inr stays ↦ sym (state-next S h i at.0 at.1 ∙ after-unchanged (state S (take i h)) at.0.event (ap is_change (sym (legal i at.0 at.1).told) ∙ stays))
+      | inr stays ↦ sym (state-next S h i at.0 at.1 ∙ after-unchanged (state S (take i h)) at.0.event (ap (is_change at.0.event) (sym (legal i at.0 at.1).told) ∙ stays))
     ]
 
 same_state : (S : State) (h : List Entry) (i n : ℕ) → IsLegal S h → i + n ≤ length h → changes (take i h) ≡ changes (take (i + n) h) → state S (take i h) ≡ state S (take (i + n) h)
@@ -192,6 +237,21 @@ legal-append S h entry legal stands i e at =
 pub legal-nil : (S : State) → IsLegal S []
 legal-nil S i entry at = absurd cc
 
+-- ---- what can be asked
+
+fits_step : (I J : Situation) → I.parts ≡ J.parts → (s : Step) → StepFits I s → StepFits J s
+fits_step I J same (step.Set leg was new) h = subst (λ (p : Parts). (leg.0 < length p.legs) × IsRowOf (length p.planes) was × IsRowOf (length p.planes) new) same h
+fits_step I J same (step.Push plane after) h = subst (λ (p : Parts). (plane.0 < length p.planes) × ForSome after (λ leg. leg.0 < length p.legs)) same h
+fits_step I J same (step.Swap first second at) h = subst (λ (p : Parts). (first.0 < length p.planes) × (second.0 < length p.planes) × (at.0 < 52500000)) same h
+fits_step I J same (step.Rebook res path to count) h = subst (λ (p : Parts). (res.0 < length p.res) × IsPathIn (length p.legs) path × IsPathIn (length p.legs) to × (1 ≤ count) × (count ≤ 1000)) same h
+fits_step I J same step.Tidy h = h
+fits_step I J same (step.Refill leg) h = subst (λ (p : Parts). leg.0 < length p.legs) same h
+
+-- orders make no difference to what can be asked
+pub askable-parts : (I J : Situation) (e : Event) → I.parts ≡ J.parts → IsAskable I e → IsAskable J e
+askable-parts I J (event.Batch B) same asked = subst (λ (p : Parts). All (IsOrder p) B.orders) same asked
+askable-parts I J (event.Move m) same asked = record { some = asked.some; most = asked.most; each = All-weaker (StepFits I) (StepFits J) (fits_step I J same) m.steps asked.each }
+
 -- ---- runs
 
 -- a history with the entry of one more event, where there is room for it
@@ -220,7 +280,7 @@ with_event-legal : (S : State) (h : List Entry) (e : ℕ × Event) → IsLegal S
 with_event-legal S h e legal asked =
     elim (cases_Bool (has_room (length h) e.1)) [
       | inl room ↦
-          let stands : Stands S h (entry_of (state S h) e.0 e.1) = record { room = room; asked = subst (λ (I : Situation). IsAskable I e.1) (sym (state-inst S h)) asked; told = refl } in
+          let stands : Stands S h (entry_of (state S h) e.0 e.1) = record { room = room; asked = askable-parts S.inst (state S h).inst e.1 (sym (state-parts S h)) asked; told = refl } in
           rw room (legal-append S h (entry_of (state S h) e.0 e.1) legal stands)
       | inr full ↦ rw full legal
     ]

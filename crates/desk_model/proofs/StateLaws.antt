@@ -3,18 +3,25 @@ use Rattle.std.proofs.Common.{◌≡◌, ℕ, ◌<◌, ◌≤◌, Bool, true, fa
 use Rattle.std.specs.Prelude.{None, Some, Option}
 use Rattle.std.proofs.lemmas.Bool.{leb-false, lt-leb, true≢false}
 use Rattle.desk_units.specs.declared.money.Grains.{Grains}
+use Rattle.day_orders.specs.declared.orders.Batch.{Batch}
 use Rattle.desk_data.specs.declared.broken.Broken.{Broken}
 use Rattle.plan_moves.specs.declared.moves.Move.{Move}
 use Rattle.desk_data.specs.Situation.{Situation, schedule}
+use Rattle.desk_data.specs.PlanRows.{PlanRows}
 use Rattle.desk_rules.specs.Least.{least}
 use Rattle.desk_rules.specs.Cost.{cost, grains}
 use Rattle.desk_model.specs.declared.answer.Answer.{Answer}
-use Rattle.desk_model.specs.declared.answer.Answer.TheVariants.{Accepted, Breaks, Dearer, NoPlan, Full}
+use Rattle.desk_model.specs.declared.answer.Answer.TheVariants.{Taken, Accepted, Breaks, Dearer, NoPlan, Full}
 use Rattle.desk_model.specs.declared.answer.Event.{Event}
 use Rattle.desk_model.specs.declared.answer.Event.TheVariants as event
+use Rattle.desk_model.specs.declared.fallbacks.Which.{Which}
+use Rattle.desk_model.specs.declared.fallbacks.Which.TheVariants.{Keep, Shift}
+use Rattle.desk_model.specs.declared.fallbacks.Fallback.{Fallback}
+use Rattle.desk_model.specs.declared.fallbacks.Fallback.TheVariants as fallen
+use Rattle.desk_model.specs.Fallback.{fallback, shifted, grounded, chosen_or, last_choice, rows_of}
 use Rattle.desk_model.specs.Steps.{after_move}
-use Rattle.desk_model.specs.States.{State, opening, verdict, move_answer, answer, answered_state, after}
-use Rattle.desk_model.specs.Histories.{is_change}
+use Rattle.desk_model.specs.States.{State, opening, with_batch, fallback_on, batch_answer, fallen_state, verdict, move_answer, answer, answered_state, after}
+use Rattle.desk_model.specs.Histories.{is_batch, is_accepted, is_change}
 use Rattle.desk_model.specs.Promises.{cost_of}
 
 -- why a move was accepted
@@ -51,6 +58,64 @@ accepted-from S m had feasible cheaper =
     let dear : leb (cost S.inst S.plan) (cost S.inst (after_move S.inst S.plan m)) ≡ false = lt-leb _ _ cheaper in
     rw (had, feasible, dear) refl
 
+-- ---- batches
+
+-- a batch is answered Taken or NoPlan
+batch_accepted : (J : Situation) (F : Fallback) (told : Grains) → batch_answer J F ≡ Accepted told → ⊥
+batch_accepted J (fallen.Chosen which Q) told h = absurd cc
+batch_accepted J (fallen.NoPlan item Q) told h = absurd cc
+
+pub batch-not-accepted : (S : State) (B : Batch) (told : Grains) → answer S (event.Batch B) ≡ Accepted told → ⊥
+unfolding answer
+batch-not-accepted S B told h = batch_accepted (with_batch S.inst B) (fallback_on S B) told h
+
+batch_priced : (J : Situation) (F : Fallback) (which : Which) (told : Grains) → batch_answer J F ≡ Taken which told → told ≡ grains (cost_of (fallen_state J F))
+batch_priced J (fallen.Chosen w Q) which told h = cc
+batch_priced J (fallen.NoPlan item Q) which told h = absurd cc
+
+-- the cost that is told of a batch is that of the rows after it
+pub batch-priced : (S : State) (B : Batch) (which : Which) (told : Grains) → answer S (event.Batch B) ≡ Taken which told → told ≡ grains (cost_of (after S (event.Batch B)))
+unfolding answer after
+batch-priced S B which told h = batch_priced (with_batch S.inst B) (fallback_on S B) which told h
+
+verdict_taken : (b : Option Broken) (now would : ℕ) (dear : Bool) (which : Which) (told : Grains) → leb now would ≡ dear → verdict b now would ≡ Taken which told → ⊥
+verdict_taken (Some item) now would dear which told test h = absurd cc
+verdict_taken None now would true which told test h =
+    let now_is : cond true (Dearer (grains now) (grains would)) (Accepted (grains would)) ≡ Taken which told = rw test at h in
+    absurd cc
+verdict_taken None now would false which told test h =
+    let now_is : cond false (Dearer (grains now) (grains would)) (Accepted (grains would)) ≡ Taken which told = rw test at h in
+    absurd cc
+
+proposed_taken : (S : State) (m : Move) (b : Option Broken) (which : Which) (told : Grains) → move_answer S m b ≡ Taken which told → ⊥
+proposed_taken S m (Some item) which told h = absurd cc
+proposed_taken S m None which told h =
+    let moved_plan = after_move S.inst S.plan m in
+    verdict_taken (least S.inst moved_plan) (cost S.inst S.plan) (cost S.inst moved_plan) (leb (cost S.inst S.plan) (cost S.inst moved_plan)) which told refl h
+
+-- no proposal is answered Taken
+pub move-not-taken : (S : State) (m : Move) (which : Which) (told : Grains) → answer S (event.Move m) ≡ Taken which told → ⊥
+unfolding answer
+move-not-taken S m which told h = proposed_taken S m S.broken which told h
+
+fallen_inst : (J : Situation) (F : Fallback) → (fallen_state J F).inst ≡ J
+fallen_inst J (fallen.Chosen which Q) = refl
+fallen_inst J (fallen.NoPlan item Q) = refl
+
+-- the orders of a batch are taken behind the others
+pub after-batch-inst : (S : State) (B : Batch) → (after S (event.Batch B)).inst ≡ with_batch S.inst B
+unfolding after
+after-batch-inst S B = fallen_inst (with_batch S.inst B) (fallback_on S B)
+
+fallen_plan : (J : Situation) (F : Fallback) → (fallen_state J F).plan ≡ rows_of F
+fallen_plan J (fallen.Chosen which Q) = refl
+fallen_plan J (fallen.NoPlan item Q) = refl
+
+-- the rows are those that the desk falls back on
+pub after-batch-plan : (S : State) (B : Batch) → (after S (event.Batch B)).plan ≡ rows_of (fallback_on S B)
+unfolding after
+after-batch-plan S B = fallen_plan (with_batch S.inst B) (fallback_on S B)
+
 -- ---- the state after an answer
 
 -- the item of a state is the first that its rows break
@@ -59,13 +124,25 @@ IsTold S = S.broken ≡ least S.inst S.plan
 
 published-told : (S : State) (m : Move) (a : Answer) → answer S (event.Move m) ≡ a → IsTold S → IsTold (answered_state S m a)
 published-told S m (Accepted told) e h = sym (accepted-cause S m told e).feasible
+published-told S m (Taken which told) e h = h
 published-told S m (Breaks item) e h = h
 published-told S m (Dearer now would) e h = h
 published-told S m (NoPlan item) e h = h
 published-told S m (Full entries) e h = h
 
+choice_told : (J : Situation) (P Q G : PlanRows) (a b c : Option Broken) → least J P ≡ a → least J Q ≡ b → least J G ≡ c → IsTold (fallen_state J (chosen_or Keep P a (chosen_or Shift Q b (last_choice G c))))
+choice_told J P Q G None b c p s g = sym p
+choice_told J P Q G (Some i) None c p s g = sym s
+choice_told J P Q G (Some i) (Some j) None p s g = sym g
+choice_told J P Q G (Some i) (Some j) (Some k) p s g = sym g
+
+fallen_told : (J : Situation) (P : PlanRows) → IsTold (fallen_state J (fallback J P))
+unfolding fallback
+fallen_told J P = choice_told J P (shifted J P) (grounded J P) (least J P) (least J (shifted J P)) (least J (grounded J P)) refl refl refl
+
 pub after-told : (S : State) (e : Event) → IsTold S → IsTold (after S e)
-unfolding after
+unfolding after fallback_on
+after-told S (event.Batch B) h = fallen_told (with_batch S.inst B) S.plan
 after-told S (event.Move m) h = published-told S m (answer S (event.Move m)) refl h
 
 pub opening-told : (I : Situation) → IsTold (opening I)
@@ -74,14 +151,21 @@ opening-told I = refl
 
 published-inst : (S : State) (m : Move) (a : Answer) → (answered_state S m a).inst ≡ S.inst
 published-inst S m (Accepted told) = refl
+published-inst S m (Taken which told) = refl
 published-inst S m (Breaks item) = refl
 published-inst S m (Dearer now would) = refl
 published-inst S m (NoPlan item) = refl
 published-inst S m (Full entries) = refl
 
-pub after-inst : (S : State) (e : Event) → (after S e).inst ≡ S.inst
+-- a proposal leaves the instance
+pub after-move-inst : (S : State) (m : Move) → (after S (event.Move m)).inst ≡ S.inst
 unfolding after
-after-inst S (event.Move m) = published-inst S m (answer S (event.Move m))
+after-move-inst S m = published-inst S m (answer S (event.Move m))
+
+-- every event leaves the joined rows
+pub after-parts : (S : State) (e : Event) → (after S e).inst.parts ≡ S.inst.parts
+after-parts S (event.Batch B) = ap (λ (J : Situation). J.parts) (after-batch-inst S B)
+after-parts S (event.Move m) = ap (λ (J : Situation). J.parts) (after-move-inst S m)
 
 pub opening-inst : (I : Situation) → (opening I).inst ≡ I
 unfolding opening
@@ -91,42 +175,47 @@ pub opening-plan : (I : Situation) → (opening I).plan ≡ schedule I
 unfolding opening
 opening-plan I = refl
 
-published-unchanged : (S : State) (m : Move) (a : Answer) → is_change a ≡ false → answered_state S m a ≡ S
+published-unchanged : (S : State) (m : Move) (a : Answer) → is_accepted a ≡ false → answered_state S m a ≡ S
 published-unchanged S m (Accepted told) h = absurd (true≢false h)
+published-unchanged S m (Taken which told) h = refl
 published-unchanged S m (Breaks item) h = refl
 published-unchanged S m (Dearer now would) h = refl
 published-unchanged S m (NoPlan item) h = refl
 published-unchanged S m (Full entries) h = refl
 
 -- an answer that is no change leaves the state
-pub after-unchanged : (S : State) (e : Event) → is_change (answer S e) ≡ false → after S e ≡ S
+pub after-unchanged : (S : State) (e : Event) → is_change e (answer S e) ≡ false → after S e ≡ S
 unfolding after
+after-unchanged S (event.Batch B) h = absurd (true≢false h)
 after-unchanged S (event.Move m) h = published-unchanged S m (answer S (event.Move m)) h
 
--- a change publishes the moved plan
+-- an accepted move is published
 pub after-accepted : (S : State) (m : Move) (told : Grains) → answer S (event.Move m) ≡ Accepted told → after S (event.Move m) ≡ record { inst = S.inst; plan = after_move S.inst S.plan m; broken = None }
 unfolding after
 after-accepted S m told h = ap (answered_state S m) h
 
-change_is : (a : Answer) → is_change a ≡ true → (told : Grains) × (a ≡ Accepted told)
-change_is (Accepted told) h = (told, refl)
-change_is (Breaks item) h = absurd (true≢false (sym h))
-change_is (Dearer now would) h = absurd (true≢false (sym h))
-change_is (NoPlan item) h = absurd (true≢false (sym h))
-change_is (Full entries) h = absurd (true≢false (sym h))
+accepted_is : (a : Answer) → is_accepted a ≡ true → (told : Grains) × (a ≡ Accepted told)
+accepted_is (Accepted told) h = (told, refl)
+accepted_is (Taken which told) h = absurd (true≢false (sym h))
+accepted_is (Breaks item) h = absurd (true≢false (sym h))
+accepted_is (Dearer now would) h = absurd (true≢false (sym h))
+accepted_is (NoPlan item) h = absurd (true≢false (sym h))
+accepted_is (Full entries) h = absurd (true≢false (sym h))
 
--- an answer that is a change tells a cost
-pub change-told : (a : Answer) → is_change a ≡ true → (told : Grains) × (a ≡ Accepted told)
-change-told = change_is
+-- an answer that accepts tells a cost
+pub accepted-told : (a : Answer) → is_accepted a ≡ true → (told : Grains) × (a ≡ Accepted told)
+accepted-told = accepted_is
 
 falls_by : (S : State) (m : Move) (a : Answer) → answer S (event.Move m) ≡ a → cost_of (answered_state S m a) ≤ cost_of S
 falls_by S m (Accepted told) e = let cause = accepted-cause S m told e in omega (arith, cause.cheaper)
+falls_by S m (Taken which told) e = omega arith
 falls_by S m (Breaks item) e = omega arith
 falls_by S m (Dearer now would) e = omega arith
 falls_by S m (NoPlan item) e = omega arith
 falls_by S m (Full entries) e = omega arith
 
--- no event makes the rows dearer
-pub after-falls : (S : State) (e : Event) → cost_of (after S e) ≤ cost_of S
+-- no proposal makes the rows dearer
+pub after-falls : (S : State) (e : Event) → is_batch e ≡ false → cost_of (after S e) ≤ cost_of S
 unfolding after
-after-falls S (event.Move m) = falls_by S m (answer S (event.Move m)) refl
+after-falls S (event.Batch B) other = absurd (true≢false other)
+after-falls S (event.Move m) other = falls_by S m (answer S (event.Move m)) refl

@@ -1,5 +1,6 @@
 -- Histories: lists of entries, each with who asked, what was asked and the answer.
-use Rattle.std.specs.Prelude.{◌≡◌, ℕ, ◌+◌, Bool, true, false, not, nat_lt, if◌then◌else◌, List, [], ◌∷◌, Some, length, take, take_while, reverse, slice_get, count_by, All}
+use Rattle.std.specs.Prelude.{◌≡◌, ℕ, ◌+◌, Bool, true, false, not, nat_lt, if◌then◌else◌, List, [], ◌∷◌, ◌++◌, Some, length, take, take_while, reverse, slice_get, count_by, All}
+use Rattle.day_orders.specs.declared.orders.Order.{Order}
 use Rattle.desk_data.specs.Situation.{Situation}
 use Rattle.desk_data.specs.Valid.{IsOrder}
 use Rattle.plan_moves.specs.Fits.{Fits}
@@ -61,6 +62,16 @@ is_accepted other = false
 abbrev pub is_change : Event → Answer → Bool
 is_change (event.Batch B) told = true
 is_change (event.Move m) told = is_accepted told
+
+-- the orders that an event brings
+abbrev pub news_of : Event → List Order
+news_of (event.Batch B) = B.orders
+news_of (event.Move m) = []
+
+-- the orders of the batches of a history, in the order in which they were taken
+abbrev pub orders_of : List Entry → List Order
+orders_of [] = []
+orders_of (entry ∷ entries) = news_of entry.event ++ orders_of entries
 
 -- how many entries of a history changed the state
 abbrev pub changes : List Entry → ℕ
