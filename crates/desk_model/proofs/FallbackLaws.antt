@@ -352,7 +352,7 @@ grounded-valid I P valid plan =
 
 -- ---- the choice
 
-infeasible : (I : Situation) (P : PlanRows) (item : Broken) → least I P ≡ Some item → IsFeasible I P → ⊥
+pub infeasible : (I : Situation) (P : PlanRows) (item : Broken) → least I P ≡ Some item → IsFeasible I P → ⊥
 infeasible I P item is feasible = let both = sym (feasible-from I P feasible) ∙ is in absurd cc
 
 choice-valid : (I : Situation) (P S G : PlanRows) (a b c : Option Broken) → IsPlanFor I P → IsPlanFor I S → IsPlanFor I G → IsPlanFor I (rows_of (chosen_or Keep P a (chosen_or Shift S b (last_choice G c))))

@@ -8,12 +8,12 @@ use Rattle.std.proofs.lemmas.Option.{slice_get_within, get_or_from_slice_get, sl
 use Rattle.std.proofs.lemmas.List.{take_more, take-append-le, append-nil, take_all}
 use Rattle.std.proofs.lemmas.List.Sums.{count_by_more_no, count_by_more_yes}
 use Rattle.std.proofs.Math.ListN.{get_or-append}
-use Rattle.std.proofs.Math.Seq.{get_or-append_seam, take-nil}
+use Rattle.std.proofs.Math.Seq.{get_or-append_seam}
 use Rattle.std.proofs.lemmas.List.Elements.{recursion_from_All, All-weaker}
 use Rattle.plan_moves.specs.declared.moves.Move.{Move}
 use Rattle.plan_moves.specs.declared.moves.Step.{Step}
 use Rattle.plan_moves.specs.declared.moves.Step.TheVariants as step
-use Rattle.plan_moves.specs.Fits.{StepFits, Fits, IsPathIn}
+use Rattle.plan_moves.specs.Fits.{StepFits, IsPathIn}
 use Rattle.day_orders.specs.declared.orders.Order.{Order}
 use Rattle.day_orders.specs.declared.orders.Batch.{Batch}
 use Rattle.desk_data.specs.declared.parts.Parts.{Parts}
@@ -28,7 +28,7 @@ use Rattle.desk_model.specs.declared.answer.Event.{Event}
 use Rattle.desk_model.specs.declared.answer.Event.TheVariants as event
 use Rattle.desk_model.specs.declared.answer.Entry.{Entry}
 use Rattle.desk_model.specs.Steps.{after_move}
-use Rattle.desk_model.specs.States.{State, opening, with_batch, answer, after}
+use Rattle.desk_model.specs.States.{State, opening, answer, after}
 use Rattle.desk_model.specs.Histories.{state, has_room, IsAskable, AreAskable, Stands, IsLegal, is_batch, is_accepted, is_change, changes, news_of, orders_of, entry_of, entries, run}
 use Rattle.desk_model.specs.Promises.{state_at, cost_of, IsHonest, Improves, IsTakenIn, IsKept, AreProposals, KeepsPromises}
 use Rattle.desk_model.proofs.FallbackLaws.{falls_back}
@@ -118,7 +118,7 @@ kept S entry told = record {
 
 -- ---- prefixes
 
-entry_at : (h : List Entry) (i : ℕ) → i < length h → (entry : Entry) × (slice_get h i ≡ Some entry)
+pub entry_at : (h : List Entry) (i : ℕ) → i < length h → (entry : Entry) × (slice_get h i ≡ Some entry)
 entry_at [] i lt = absurd (omega arith)
 entry_at (e ∷ h) zero lt = (e, refl)
 entry_at (e ∷ h) (suc i) lt = entry_at h i (omega arith)

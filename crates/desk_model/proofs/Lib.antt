@@ -15,3 +15,6 @@ pub mod HistoryLaws
 pub mod ValidLaws
 pub mod MoveLaws
 pub mod FallbackLaws
+mod ScheduleLaws
+pub mod NewsLaws
+pub mod OrderedLaws

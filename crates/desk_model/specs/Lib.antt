@@ -9,3 +9,4 @@ pub mod Fallback
 pub mod States
 pub mod Histories
 pub mod Promises
+pub mod News

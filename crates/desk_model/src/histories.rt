@@ -1,16 +1,22 @@
 //! What holds of the desk's histories.
 
-ghost use Rattle.std.specs.Prelude.{◌≡◌, ℕ, List as Items};
+ghost use Rattle.std.specs.Prelude.{◌≡◌, ◌↔◌, ℕ, ◌++◌, None, Some, List as Items};
+ghost use Rattle.desk_data.specs.declared.broken.Broken.{Broken};
 ghost use Rattle.desk_data.specs.Situation.{Situation};
+ghost use Rattle.desk_data.specs.Valid.{IsValid};
+ghost use Rattle.desk_rules.specs.Words.{IsFeasible, IsLeast};
 ghost use Rattle.desk_model.specs.declared.answer.Entry.{Entry as Recorded};
 ghost use Rattle.desk_model.specs.declared.answer.Event.{Event as Asked};
 ghost use Rattle.desk_model.specs.States.{opening};
-ghost use Rattle.desk_model.specs.Histories.{AreAskable, IsLegal, run};
-ghost use Rattle.desk_model.specs.Promises.{KeepsPromises};
+ghost use Rattle.desk_model.specs.Histories.{AreAskable, IsAskable, IsLegal, orders_of, run, state};
+ghost use Rattle.desk_model.specs.News.{HasPlanRows};
+ghost use Rattle.desk_model.specs.Promises.{KeepsPromises, state_at};
 
-/// In a legal history from the opening of an instance each published plan meets all rules, each
-/// stored cost is the cost of the rows, costs only fall, a proposal to a published plan is accepted
-/// exactly where the moved plan is feasible and cheaper, and every other answer changes nothing.
+/// In a legal history from the opening of an instance each published plan meets all rules, and each
+/// stored cost is the cost of the rows. A batch adds its orders, and leaves the rows that the desk
+/// falls back on. A proposal to a published plan is accepted exactly where the moved plan is feasible
+/// and cheaper, and every other answer to one changes nothing, so that between two batches costs only
+/// fall. Two beginnings of the history with equally many changes have the same state.
 pub fn legal_histories_keep_the_promises()
     ensures { (I : Situation) (h : Items Recorded) → IsLegal (opening I) h → KeepsPromises I h }
 {}
@@ -18,4 +24,31 @@ pub fn legal_histories_keep_the_promises()
 /// The history of any events that can be asked is legal.
 pub fn runs_are_legal()
     ensures { (I : Situation) (events : Items (ℕ × Asked)) → AreAskable I events → IsLegal (opening I) (run (opening I) events) }
+{}
+
+/// A state has a plan exactly where its rows are feasible, and else it has the first item that they
+/// break.
+pub fn a_state_has_a_plan_exactly_where_its_rows_are_feasible()
+    ensures planned { (I : Situation) (h : Items Recorded) → (state (opening I) h).broken ≡ None ↔ IsFeasible (state (opening I) h).inst (state (opening I) h).plan }
+    ensures unplanned { (I : Situation) (h : Items Recorded) (item : Broken) → (state (opening I) h).broken ≡ Some item ↔ IsLeast (state (opening I) h).inst (state (opening I) h).plan item }
+{}
+
+/// The instance of a state is that of the opening with the orders of all batches, in the order in
+/// which they were taken.
+pub fn a_states_orders_are_those_of_its_batches()
+    ensures { (I : Situation) (h : Items Recorded) → (state (opening I) h).inst ≡ record I { orders = I.orders ++ orders_of h } }
+{}
+
+/// What can be asked depends on the joined rows alone, and on none of the orders taken. So what can
+/// be asked at the opening can be asked at each state.
+pub fn orders_make_no_difference_to_what_can_be_asked()
+    ensures rows { (I J : Situation) (e : Asked) → I.parts ≡ J.parts → IsAskable I e → IsAskable J e }
+    ensures states { (I : Situation) (h : Items Recorded) (e : Asked) → IsAskable (state (opening I) h).inst e ↔ IsAskable I e }
+{}
+
+/// In a legal history from the opening of a valid instance the rows of each state are a plan for its
+/// instance, which is valid: each leg has a row, no number is out of range, and no passenger is made
+/// or lost.
+pub fn the_rows_of_each_state_are_a_plan_for_its_instance()
+    ensures { (I : Situation) (h : Items Recorded) → IsValid I → IsLegal (opening I) h → (i : ℕ) → HasPlanRows (state_at I h i) }
 {}

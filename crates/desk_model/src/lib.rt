@@ -1,20 +1,21 @@
 //! What becomes of a plan, as definitions: steps, answers, states and histories, and what they promise.
 //!
 //! The definitions stand in `specs/`: `Steps`, what a move makes of a plan; `States`, what the desk
-//! answers to an event, and the state after it; `Fallback`, what it falls back on when a disruption
-//! arrives; `Histories`, lists of entries and which of them are legal; `Promises`, what holds of each
-//! legal history. What a plan has to meet and what it costs stands in `desk_rules`, on which this
-//! crate stands.
+//! answers to an event, and the state after it; `Fallback`, what it falls back on when a batch of
+//! disruptions arrives; `Histories`, lists of entries and which of them are legal; `Promises`, what
+//! holds of each legal history; `News`, which orders decide and what is answered to a batch. What a
+//! plan has to meet and what it costs stands in `desk_rules`, on which this crate stands.
 //!
 //! The code here is the types that the definitions speak of (`Event`, `Answer`, `Entry`, `Fallback`),
 //! and laws: each is a public function with an empty body, whose contract is the law.
 //! `legal_histories_keep_the_promises` is the heart of what the desk promises: each published plan
-//! meets the rules, each stored cost is that of the rows, and costs only fall.
+//! meets the rules, each stored cost is that of the rows, and between two batches costs only fall.
 #![tactic(auto)]
 
 mod answer;
 mod fallbacks;
 mod histories;
+mod news;
 mod steps;
 
 pub use answer::{Answer, Entry, Event};
@@ -26,7 +27,13 @@ pub use fallbacks::{
     a_shift_keeps_what_is_due_and_flies_no_leg_ordered_off, fallbacks_make_valid_plans,
     the_fallback_is_the_first_that_is_feasible,
 };
-pub use histories::{legal_histories_keep_the_promises, runs_are_legal};
+pub use histories::{
+    a_state_has_a_plan_exactly_where_its_rows_are_feasible,
+    a_states_orders_are_those_of_its_batches, legal_histories_keep_the_promises,
+    orders_make_no_difference_to_what_can_be_asked, runs_are_legal,
+    the_rows_of_each_state_are_a_plan_for_its_instance,
+};
+pub use news::{a_batch_is_answered_by_the_first_that_is_feasible, later_orders_decide};
 pub use plan_moves::Move;
 pub use steps::{
     a_path_stays_bound_where_fewer_are_carried, a_push_places_each_leg_first,
