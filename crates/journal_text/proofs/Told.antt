@@ -1,5 +1,5 @@
 -- Each entry of a legal history can be told.
-use Rattle.std.proofs.Common.{◌≡◌, ℕ, zero, suc, ◌<◌, Bool, true, false, cond, leb, List, [], ◌∷◌, ◌++◌, get_or, take, refl, sym, subst, ◌∙◌, arith}
+use Rattle.std.proofs.Common.{◌≡◌, ℕ, zero, suc, ◌<◌, Bool, true, false, cond, leb, List, [], ◌∷◌, ◌++◌, length, get_or, take, refl, sym, subst, ◌∙◌, arith}
 use Rattle.std.specs.Prelude.{find, map, None, Some, Option, All}
 use Rattle.std.specs.List.{AllByRecursion, flat_map}
 use Rattle.std.proofs.lemmas.List.{map-append}
@@ -13,22 +13,28 @@ use Rattle.desk_units.specs.declared.numbers.Cabin.{Cabin}
 use Rattle.desk_units.specs.declared.numbers.Cabin.TheVariants.{F, B, E}
 use Rattle.desk_data.specs.declared.broken.Broken.{Broken}
 use Rattle.desk_data.specs.declared.broken.Broken.TheVariants.{C1, C2, C3, C4, C5, C6, C7, C8, C9, C10, C11, C12, C13, C14, C15}
+use Rattle.desk_data.specs.declared.parts.Parts.{Parts}
 use Rattle.plan_moves.specs.declared.moves.Move.{Move}
 use Rattle.desk_data.specs.Situation.{Situation, legs_of, planes_of, airports_of, reservations_of}
 use Rattle.desk_data.specs.PlanRows.{PlanRows}
 use Rattle.desk_rules.specs.Numbers.{numbers}
 use Rattle.desk_rules.specs.Least.{breaks, leg, plane, airport, res, all_hours, each_leg, each_plane, each_hour, each_cabin, each_res, rotation_items, slot_items, pax_items, items, least}
 use Rattle.desk_rules.specs.Cost.{cost, grains}
-use Rattle.desk_model.specs.declared.answer.Answer.TheVariants.{Dearer, Accepted}
+use Rattle.desk_model.specs.declared.answer.Answer.{Answer}
+use Rattle.desk_model.specs.declared.answer.Answer.TheVariants.{Taken, Accepted, Breaks, Dearer, NoPlan, Full}
 use Rattle.desk_model.specs.declared.answer.Event.{Event}
 use Rattle.desk_model.specs.declared.answer.Event.TheVariants as event
 use Rattle.desk_model.specs.declared.answer.Entry.{Entry}
+use Rattle.desk_model.specs.declared.fallbacks.Which.{Which}
+use Rattle.desk_model.specs.declared.fallbacks.Which.TheVariants as which
+use Rattle.desk_model.specs.declared.fallbacks.Fallback.{Fallback}
+use Rattle.desk_model.specs.Fallback.{chosen_or, fallback, grounded, last_choice, shifted}
 use Rattle.desk_model.specs.Steps.{after_move}
-use Rattle.desk_model.specs.States.{State, opening, verdict, move_answer, answer}
+use Rattle.desk_model.specs.States.{State, opening, verdict, move_answer, with_batch, batch_answer, answer, fallback_on}
 use Rattle.desk_model.specs.Histories.{state, IsAskable, Stands, IsLegal}
 use Rattle.desk_model.proofs.StateLaws.{IsTold, opening-told}
-use Rattle.desk_model.proofs.HistoryLaws.{state-told, state-inst}
-use Rattle.journal_text.specs.Told.{Names, AnswerNames, CanBeTold}
+use Rattle.desk_model.proofs.HistoryLaws.{state-told, state-parts, askable-parts}
+use Rattle.journal_text.specs.Told.{Names, AnswerNames, EventNames, CanBeTold}
 
 -- ---- the items of an instance
 
@@ -120,6 +126,35 @@ pub least-names : (I : Situation) (P : PlanRows) (item : Broken) → least I P �
 unfolding least
 least-names I P item h = found_among (Names I) (breaks I P) (items I) item (items_name I) h
 
+-- ---- orders name nothing
+
+module _ (I J : Situation) (same : J.parts ≡ I.parts) where
+  -- what an item names under some orders is there under any others
+  item_under : (item : Broken) → Names J item → Names I item
+  item_under (C1 leg) h = subst (λ (p : Parts). leg.0 < length p.legs) same h
+  item_under (C2 leg) h = subst (λ (p : Parts). leg.0 < length p.legs) same h
+  item_under (C3 leg) h = subst (λ (p : Parts). leg.0 < length p.legs) same h
+  item_under (C4 leg) h = subst (λ (p : Parts). leg.0 < length p.legs) same h
+  item_under (C5 leg) h = subst (λ (p : Parts). leg.0 < length p.legs) same h
+  item_under (C6 leg) h = subst (λ (p : Parts). leg.0 < length p.legs) same h
+  item_under (C7 leg) h = subst (λ (p : Parts). leg.0 < length p.legs) same h
+  item_under (C8 plane) h = subst (λ (p : Parts). plane.0 < length p.planes) same h
+  item_under (C9 plane) h = subst (λ (p : Parts). plane.0 < length p.planes) same h
+  item_under (C10 airport hour) h = (subst (λ (p : Parts). airport.0 < length p.airports) same h.0, h.1)
+  item_under (C11 airport hour) h = (subst (λ (p : Parts). airport.0 < length p.airports) same h.0, h.1)
+  item_under (C12 leg cabin) h = subst (λ (p : Parts). leg.0 < length p.legs) same h
+  item_under (C13 res) h = subst (λ (p : Parts). res.0 < length p.res) same h
+  item_under (C14 res) h = subst (λ (p : Parts). res.0 < length p.res) same h
+  item_under (C15 res) h = subst (λ (p : Parts). res.0 < length p.res) same h
+
+  answer_under : (a : Answer) → AnswerNames J a → AnswerNames I a
+  answer_under (Taken which cost) h = tt
+  answer_under (Accepted cost) h = tt
+  answer_under (Breaks item) h = item_under item h
+  answer_under (Dearer now would) h = tt
+  answer_under (NoPlan item) h = item_under item h
+  answer_under (Full entries) h = tt
+
 -- ---- answers
 
 judged_names : (I : Situation) (P : PlanRows) (b : Option Broken) (now would : ℕ) → least I P ≡ b → AnswerNames I (verdict b now would)
@@ -131,20 +166,44 @@ proposed_names : (S : State) (m : Move) (b : Option Broken) → S.broken ≡ b �
 proposed_names S m (Some item) is told = least-names S.inst S.plan item (sym told ∙ is)
 proposed_names S m None is told = judged_names S.inst (after_move S.inst S.plan m) (least S.inst (after_move S.inst S.plan m)) (cost S.inst S.plan) (cost S.inst (after_move S.inst S.plan m)) refl
 
+last_names : (J : Situation) (Q : PlanRows) (b : Option Broken) → least J Q ≡ b → AnswerNames J (batch_answer J (last_choice Q b))
+last_names J Q None is = tt
+last_names J Q (Some item) is = least-names J Q item is
+
+chosen_names : (J : Situation) (which : Which) (Q : PlanRows) (b : Option Broken) (next : Fallback) → AnswerNames J (batch_answer J next) → AnswerNames J (batch_answer J (chosen_or which Q b next))
+chosen_names J which Q None next h = tt
+chosen_names J which Q (Some item) next h = h
+
+-- what nothing mends is named
+fallen_names : (J : Situation) (P : PlanRows) → AnswerNames J (batch_answer J (fallback J P))
+unfolding fallback
+fallen_names J P =
+    let last = last_names J (grounded J P) (least J (grounded J P)) refl in
+    let shift = chosen_names J which.Shift (shifted J P) (least J (shifted J P)) (last_choice (grounded J P) (least J (grounded J P))) last in
+    chosen_names J which.Keep P (least J P) (chosen_or which.Shift (shifted J P) (least J (shifted J P)) (last_choice (grounded J P) (least J (grounded J P)))) shift
+
 answer_names : (S : State) (e : Event) → IsTold S → AnswerNames S.inst (answer S e)
-unfolding answer
+unfolding answer fallback_on
+answer_names S (event.Batch news) told =
+    let J = with_batch S.inst news in
+    answer_under S.inst J refl (batch_answer J (fallback J S.plan)) (fallen_names J S.plan)
 answer_names S (event.Move m) told = proposed_names S m S.broken refl told
 
 -- ---- histories
+
+-- the steps of a move that can be asked have numbers in range
+event_names : (I : Situation) (e : Event) → IsAskable I e → EventNames I e
+event_names I (event.Batch news) asked = tt
+event_names I (event.Move m) asked = asked.each
 
 stands_told : (I : Situation) (before : List Entry) (entry : Entry) → Stands (opening I) before entry → CanBeTold I entry
 unfolding opening
 stands_told I before entry stands =
     let S = state (opening I) before in
-    let same : S.inst ≡ I = state-inst (opening I) before in
+    let same : S.inst.parts ≡ I.parts = state-parts (opening I) before in
     record {
-      event = subst (λ (J : Situation). IsAskable J entry.event) same stands.asked;
-      answer = subst (λ (J : Situation). AnswerNames J entry.answer) same (subst (AnswerNames S.inst) (sym stands.told) (answer_names S entry.event (state-told (opening I) before (opening-told I))));
+      event = event_names I entry.event (askable-parts S.inst I entry.event same stands.asked);
+      answer = answer_under I S.inst same entry.answer (subst (AnswerNames S.inst) (sym stands.told) (answer_names S entry.event (state-told (opening I) before (opening-told I))));
     }
 
 pub legal-told : (I : Situation) (h : List Entry) → IsLegal (opening I) h → All (CanBeTold I) h

@@ -1,3 +1,4 @@
 pub mod Items
+pub mod Quoting
 pub mod Lines
 pub mod Told

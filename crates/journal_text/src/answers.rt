@@ -1,12 +1,12 @@
 //! The texts of answers.
 
 ghost use Rattle.std.specs.Prelude.{◌≡◌, ◌++◌, OnOk, decimal};
-ghost use Rattle.journal_text.specs.Lines.{answer_text};
+ghost use Rattle.journal_text.specs.Lines.{answer_text, which_text};
 ghost use Rattle.journal_text.specs.Told.{AnswerNames};
 
 use crate::items::push_broken;
 use desk_data::{Grains, Instance, NoMem};
-use desk_model::Answer;
+use desk_model::{Answer, Which};
 use desk_text::{push_all, push_number};
 
 /// Adds an answer; costs are in grains.
@@ -16,6 +16,7 @@ pub(crate) fn push_answer(text: &mut Vec<u8>, inst: &Instance, answer: &Answer) 
     ensures { OnOk result (text.new.items ≡ text.old.items ++ answer_text inst.now answer.now) }
 {
     match *answer {
+        Answer::Taken { which, cost } => push_cost(text, which_text(which), cost),
         Answer::Accepted { cost } => push_cost(text, b"accepted ", cost),
         Answer::Breaks(item) => {
             push_all(text, &[b"breaks "])?;
@@ -33,6 +34,18 @@ pub(crate) fn push_answer(text: &mut Vec<u8>, inst: &Instance, answer: &Answer) 
             push_all(text, &[b"full "])?;
             push_number(text, u128::from(entries))
         }
+    }
+}
+
+/// The word for what the desk falls back on, and a space.
+#[tactic(auto, unfolding(crate::specs::Lines::which_text))]
+fn which_text(which: Which) -> &'static [u8]
+    ensures { result.now ≡ which_text which }
+{
+    match which {
+        Which::Keep => b"keep ",
+        Which::Shift => b"shift ",
+        Which::Ground => b"ground ",
     }
 }
 

@@ -4,65 +4,115 @@ ghost use Rattle.std.specs.Prelude.{◌≡◌, ◌++◌, OnOk, IfOk, All, List a
 ghost use Rattle.desk_data.specs.Situation.{Situation};
 ghost use Rattle.desk_model.specs.declared.answer.Entry.{Entry as Recorded};
 ghost use Rattle.desk_model.specs.States.{opening};
-ghost use Rattle.desk_model.specs.Histories.{IsAskable, IsLegal};
-ghost use Rattle.journal_text.specs.Lines.{event_text, line_text, journal_text};
-ghost use Rattle.journal_text.specs.Told.{CanBeTold};
+ghost use Rattle.desk_model.specs.Histories.{IsLegal, is_batch};
+ghost use Rattle.journal_text.specs.Lines.{detail_text, kind_text, line_text, journal_text};
+ghost use Rattle.journal_text.specs.Told.{CanBeTold, EventNames};
 
 use crate::answers::push_answer;
+use crate::quoting::push_quoted;
 use crate::steps::push_move;
 use desk_data::{Instance, NoMem};
 use desk_model::{Entry, Event};
 use desk_text::{push_all, push_number};
 use std::alloc::Global;
 
-/// A journal as text: the line of each entry, in order. The only error is out of memory.
+/// A journal as text: the line of each entry, in order, a batch's number being how many batches
+/// stand before it. The only error is out of memory.
 #[tactic(auto, unfolding(crate::specs::Lines::journal_text))]
 pub fn journal_text(alloc: Global, inst: &Instance, entries: &[Entry]) -> Result<Vec<u8>, NoMem>
     requires { All (CanBeTold inst.now) entries.now }
     ensures { IfOk result (λ text. text.items ≡ journal_text inst.now entries.now) }
 {
     let mut text = Vec::new(alloc);
+    let mut field = Vec::new(alloc);
+    let mut batches = 0;
     for entry in entries {
-        push_line(&mut text, inst, entry)?;
+        push_line(&mut text, &mut field, inst, batches, entry)?;
+        if is_batch(&entry.event) {
+            batches += 1;
+        }
     }
     Ok(text)
 }
 
-/// The line of an entry: `CALLER,move,STEPS,REPLY` and LF. The only error is out of memory.
-pub fn journal_line(alloc: Global, inst: &Instance, entry: &Entry) -> Result<Vec<u8>, NoMem>
+/// The line of an entry: `CALLER,batch,NUMBER,REPLY` or `CALLER,move,STEPS,REPLY`, and LF. A field
+/// that has a comma or a quote mark stands between quote marks, each quote mark in it twice. A batch
+/// has this number; of a move it is not looked at. The only error is out of memory.
+pub fn journal_line(
+    alloc: Global,
+    inst: &Instance,
+    number: u32,
+    entry: &Entry,
+) -> Result<Vec<u8>, NoMem>
     requires { CanBeTold inst.now entry.now }
-    ensures { IfOk result (λ text. text.items ≡ line_text inst.now entry.now) }
+    ensures { IfOk result (λ text. text.items ≡ line_text inst.now number entry.now) }
 {
     let mut text = Vec::new(alloc);
-    push_line(&mut text, inst, entry)?;
+    let mut field = Vec::new(alloc);
+    push_line(&mut text, &mut field, inst, number as usize, entry)?;
     Ok(text)
 }
 
-/// Adds the line of an entry.
+/// Whether an event is a batch.
+fn is_batch(event: &Event) -> bool
+    ensures { result ≡ is_batch event.now }
+{
+    match event {
+        Event::Batch(_) => true,
+        Event::Move(_) => false,
+    }
+}
+
+/// Adds the line of an entry; a batch has this number. The fields that may need quotes are made in
+/// `field`, whatever it had.
 #[tactic(auto, unfolding(crate::specs::Lines::line_text))]
-fn push_line(text: &mut Vec<u8>, inst: &Instance, entry: &Entry) -> Result<(), NoMem>
+fn push_line(
+    text: &mut Vec<u8>,
+    field: &mut Vec<u8>,
+    inst: &Instance,
+    number: usize,
+    entry: &Entry,
+) -> Result<(), NoMem>
     requires { CanBeTold inst.now entry.now }
-    ensures { OnOk result (text.new.items ≡ text.old.items ++ line_text inst.now entry.now) }
+    ensures { OnOk result (text.new.items ≡ text.old.items ++ line_text inst.now number entry.now) }
 {
     push_number(text, u128::from(entry.caller))?;
+    push_all(text, &[b",", kind_text(&entry.event), b","])?;
+    field.clear();
+    push_detail(field, inst, number, &entry.event)?;
+    push_quoted(text, field)?;
     push_all(text, &[b","])?;
-    push_event(text, inst, &entry.event)?;
-    push_all(text, &[b","])?;
-    push_answer(text, inst, &entry.answer)?;
+    field.clear();
+    push_answer(field, inst, &entry.answer)?;
+    push_quoted(text, field)?;
     push_all(text, &[b"\n"])
 }
 
-/// Adds the kind of an event and what it says.
-#[tactic(auto, unfolding(crate::specs::Lines::event_text))]
-fn push_event(text: &mut Vec<u8>, inst: &Instance, event: &Event) -> Result<(), NoMem>
-    requires { IsAskable inst.now event.now }
-    ensures { OnOk result (text.new.items ≡ text.old.items ++ event_text inst.now event.now) }
+/// The word for the kind of an event.
+#[tactic(auto, unfolding(crate::specs::Lines::kind_text))]
+fn kind_text(event: &Event) -> &'static [u8]
+    ensures { result.now ≡ kind_text event.now }
 {
     match event {
-        Event::Move(m) => {
-            push_all(text, &[b"move,"])?;
-            push_move(text, inst, m)
-        }
+        Event::Batch(_) => b"batch",
+        Event::Move(_) => b"move",
+    }
+}
+
+/// Adds what an event says: the number of a batch, or the steps of a move.
+#[tactic(auto, unfolding(crate::specs::Lines::detail_text))]
+fn push_detail(
+    text: &mut Vec<u8>,
+    inst: &Instance,
+    number: usize,
+    event: &Event,
+) -> Result<(), NoMem>
+    requires { EventNames inst.now event.now }
+    ensures { OnOk result (text.new.items ≡ text.old.items ++ detail_text inst.now number event.now) }
+{
+    match event {
+        Event::Batch(_) => push_number(text, number as u128),
+        Event::Move(m) => push_move(text, inst, m),
     }
 }
 

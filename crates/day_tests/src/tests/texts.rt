@@ -1,13 +1,15 @@
 //! What the journal of a small day names.
 
+ghost use Rattle.std.specs.Prelude.{◌≡◌, true};
+ghost use Rattle.desk_model.specs.Histories.{is_batch};
 ghost use Rattle.journal_text.specs.Told.{Names};
 
 use super::days::{flown, instance_of, leg_of, name_of, parts_of, set};
 use desk_data::{
-    Airport, Broken, Cabin, Grains, Instance, Leg, List, Minute, Path, Plane, Price, Res, ResInfo,
-    Row,
+    Airport, Batch, Broken, Cabin, Grains, Instance, Leg, List, Minute, Path, Plane, Price, Res,
+    ResInfo, Row,
 };
-use desk_model::{Answer, Entry, Event};
+use desk_model::{Answer, Entry, Event, Which};
 use journal_text::{journal_line, journal_text, push_broken};
 use plan_moves::{Move, Step, fits};
 use std::alloc::Global;
@@ -123,11 +125,76 @@ fn entries_have_lines(rt: HostRuntime) -> Result<(), Fail> {
     };
     let line =
         b"64,move,set F1 01/03/08 + P2 01/03/08 00:00 - set F22 01/03/08 - + P1 01/03/08 23:59,dearer 0 192000000000\n";
-    let text = journal_line(alloc, &inst, &entry)?;
+    let text = journal_line(alloc, &inst, 0, &entry)?;
     assert_eq!(rt; text.as_slice(), line.as_slice());
     let entries = [entry];
     let whole = journal_text(alloc, &inst, &entries)?;
     assert_eq!(rt; whole.as_slice(), line.as_slice());
+    Ok(())
+}
+
+fn batch_of(alloc: Global, answer: Answer) -> Entry
+    ensures told { result.answer ≡ answer }
+    ensures event { is_batch result.event ≡ true }
+{
+    Entry {
+        caller: 0,
+        event: Event::Batch(Batch {
+            orders: List(Vec::new(alloc)),
+        }),
+        answer,
+    }
+}
+
+#[test]
+fn batches_have_their_numbers(rt: HostRuntime) -> Result<(), Fail> {
+    let alloc = rt.alloc();
+    let inst = day_of(alloc)?;
+    assert!(rt; inst.legs() == 2);
+    let ground = Answer::Taken {
+        which: Which::Ground,
+        cost: Grains(5),
+    };
+    let first = batch_of(alloc, ground);
+    let second = batch_of(alloc, Answer::NoPlan(Broken::C2(Leg(0))));
+    let text = journal_line(alloc, &inst, 1_000, &second)?;
+    assert_eq!(rt;
+        text.as_slice(),
+        b"0,batch,1000,no plan C2 F1 01/03/08\n".as_slice()
+    );
+    let entries = [first, second];
+    let whole = journal_text(alloc, &inst, &entries)?;
+    assert_eq!(rt;
+        whole.as_slice(),
+        b"0,batch,0,ground 5\n0,batch,1,no plan C2 F1 01/03/08\n".as_slice()
+    );
+    Ok(())
+}
+
+#[test]
+fn names_with_commas_and_quote_marks_are_quoted(rt: HostRuntime) -> Result<(), Fail> {
+    let alloc = rt.alloc();
+    let legs = vec![in alloc;
+        leg_of(b"F,1", 4_294_080, 1)?,
+        leg_of(b"\"F2", 4_295_519, 1)?,
+    ]?;
+    let inst = instance_of(alloc, parts_of(alloc, legs)?)?;
+    assert!(rt; inst.legs() == 2);
+    let refill = Step::Refill { leg: Leg(0) };
+    let asked = Move {
+        steps: List(vec![in alloc; refill]?),
+    };
+    assert!(rt; fits(&inst, &asked));
+    let entry = Entry {
+        caller: 7,
+        event: Event::Move(asked),
+        answer: Answer::Breaks(Broken::C5(Leg(1))),
+    };
+    let text = journal_line(alloc, &inst, 0, &entry)?;
+    assert_eq!(rt;
+        text.as_slice(),
+        b"7,move,\"refill F,1 01/03/08\",\"breaks C5 \"\"F2 01/03/08\"\n".as_slice()
+    );
     Ok(())
 }
 
@@ -166,7 +233,7 @@ fn steps_of_each_kind_have_texts(rt: HostRuntime) -> Result<(), Fail> {
     };
     let line =
         b"1,move,push P1 all push P2 after F22 01/03/08 swap P2 P1 01/03/08 08:00 rebook R7 A 2 0 2 F1 01/03/08 B F22 01/03/08 E tidy refill F1 01/03/08,accepted 7\n";
-    let text = journal_line(alloc, &inst, &entry)?;
+    let text = journal_line(alloc, &inst, 0, &entry)?;
     assert_eq!(rt; text.as_slice(), line.as_slice());
     Ok(())
 }
