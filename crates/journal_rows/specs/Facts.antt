@@ -9,7 +9,7 @@ use Rattle.journal_rows.specs.declared.rows.NamedRow.TheVariants.{Flown, Cancell
 use Rattle.journal_rows.specs.declared.rows.NamedStep.{NamedStep}
 use Rattle.journal_rows.specs.declared.rows.NamedStep.TheVariants.{Set, Push, Swap, Rebook, Tidy, Refill}
 use Rattle.journal_rows.specs.declared.rows.NamedEvent.{NamedEvent}
-use Rattle.journal_rows.specs.declared.rows.NamedEvent.TheVariants.{Move}
+use Rattle.journal_rows.specs.declared.rows.NamedEvent.TheVariants.{Batch, Move}
 use Rattle.journal_rows.specs.declared.rows.JournalRow.{JournalRow}
 
 -- a leg's flight can be seen, and its day is of the years 2000 to 2099
@@ -36,8 +36,9 @@ IsNamedStep (Rebook res path to count) = IsSeen res.name × IsNamedPath path × 
 IsNamedStep Tidy = ⊤
 IsNamedStep (Refill leg) = IsNamedLeg leg
 
--- each step of an event is one that a reader gives
+-- a batch's number is 0 to 1,000; each step of a move is one that a reader gives
 abbrev pub IsNamedEvent : NamedEvent → Type 0
+IsNamedEvent (Batch number) = number ≤ 1000
 IsNamedEvent (Move steps) = All IsNamedStep steps
 
 -- a row has a caller that there may be

@@ -1,8 +1,8 @@
 //! The rows of a journal, and the reader of a move's steps from its text.
 //!
-//! A row has its line, its caller and what the caller asks for: a move, in whose steps legs, aircraft
-//! and reservations have their names. The join makes numbers of them. What a reader says of its rows is
-//! told in `specs/Facts`, as `IsJournalRow`.
+//! A row has its line, its caller and an event: the batch of a number, or a move, in whose steps legs,
+//! aircraft and reservations have their names. The join makes numbers of them. What a reader says of its
+//! rows is told in `specs/Facts`, as `IsJournalRow`.
 //!
 //!     read_steps(alloc, &form, b"push P1 after F3 01/03/08 tidy")    // a push and a tidy
 //!

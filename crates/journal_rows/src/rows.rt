@@ -66,14 +66,16 @@ pub enum NamedStep {
     },
 }
 
-/// What a caller asks for.
+/// What a caller tells or asks for.
 #[derive(Debug, Drop)]
 pub enum NamedEvent {
+    /// News of disruptions: the batch of orders with this number, 0 to 1,000.
+    Batch { number: u32 },
     /// A move of these steps, any number of them.
     Move { steps: List<NamedStep> },
 }
 
-/// A row of the journal: its line, from 1, its caller, 0 to 64, and what the caller asks for.
+/// A row of the journal: its line, from 1, its caller, 0 to 64, and what the caller tells or asks for.
 #[derive(Debug, Drop)]
 pub struct JournalRow {
     pub line: u32,
