@@ -1,5 +1,5 @@
--- The file of proposed moves.
-use Rattle.std.specs.Prelude.{ℕ, Bool, true, List, length, not, Option, Some, None, Result, bytes_eq, codes, nat_lt, ◌==◌, ◌&&◌, ◌||◌}
+-- The file of events: batches and proposed moves.
+use Rattle.std.specs.Prelude.{ℕ, Bool, true, List, length, not, Option, Some, None, Result, bytes_eq, codes, nat_lt, ◌==◌, ◌&&◌, ◌||◌, if◌then◌else◌}
 use Rattle.std.specs.List.{list_all, list_any, slice_split}
 use Rattle.std.specs.Result.{result_ok}
 use Rattle.desk_units.specs.declared.numbers.Minute.{Minute}
@@ -11,7 +11,8 @@ use Rattle.journal_rows.specs.declared.rows.NamedRow.{NamedRow}
 use Rattle.journal_rows.specs.declared.rows.NamedRow.TheVariants.{Flown, Cancelled}
 use Rattle.journal_rows.specs.declared.rows.NamedStep.{NamedStep}
 use Rattle.journal_rows.specs.declared.rows.NamedStep.TheVariants.{Set, Swap}
-use Rattle.journal_rows.specs.declared.rows.NamedEvent.TheVariants.{Move}
+use Rattle.journal_rows.specs.declared.rows.NamedEvent.{NamedEvent}
+use Rattle.journal_rows.specs.declared.rows.NamedEvent.TheVariants.{Batch, Move}
 use Rattle.journal_rows.specs.declared.rows.JournalRow.{JournalRow}
 use Rattle.journal_rows.specs.Steps.{steps_of}
 use Rattle.early_form.specs.Fields.{◌>>=◌, only_if, cut}
@@ -60,22 +61,45 @@ abbrev pub before_tail : List ℕ → Option (List ℕ × List ℕ) → Option (
 before_tail bytes None = Some bytes
 before_tail bytes (Some parts) = only_if (not (has comma parts.1)) parts.0
 
--- CALLER,move,DETAIL and perhaps a further field: the caller, and the text of the move
-unfoldable pub head_of : List ℕ → Option (ℕ × List ℕ)
+-- CALLER,WORD,DETAIL and perhaps a further field: the caller, the word and the detail
+unfoldable pub head_of : List ℕ → Option (ℕ × List ℕ × List ℕ)
 head_of line = do
   caller ← cut comma line
-  event ← cut comma caller.1
-  detail ← before_tail event.1 (cut comma event.1)
+  word ← cut comma caller.1
+  detail ← before_tail word.1 (cut comma word.1)
   number ← number_from 0 64 caller.0
-  only_if (bytes_eq event.0 (codes "move")) (number, detail)
+  Some (number, word.0, detail)
 
--- the move of a line with its number
-unfoldable pub move_at : ℕ → List ℕ → Option JournalRow
-move_at number line = do
+-- ---- events
+
+-- the batch whose number, 0 to 1,000, the detail spells
+unfoldable pub batch_of : List ℕ → Option NamedEvent
+batch_of detail = do
+  number ← number_from 0 1000 detail
+  Some (Batch number)
+
+-- the move whose steps the detail spells
+unfoldable pub move_of : List ℕ → Option NamedEvent
+move_of detail = do
+  steps ← detail_steps detail
+  Some (Move steps)
+
+-- the event of a word and a detail: the word is "batch" or "move"
+unfoldable pub event_of : List ℕ → List ℕ → Option NamedEvent
+event_of word detail =
+    if bytes_eq word (codes "batch") then batch_of detail
+    else (if bytes_eq word (codes "move") then move_of detail
+    else None)
+
+-- ---- rows
+
+-- the row of a line with its number
+unfoldable pub row_at : ℕ → List ℕ → Option JournalRow
+row_at number line = do
   head ← head_of line
-  steps ← detail_steps head.1
-  Some (record { line = number; caller = head.0; event = Move steps })
+  event ← event_of head.1 head.2
+  Some (record { line = number; caller = head.0; event = event })
 
--- the moves of the bytes, or the number of the first line that is refused
-abbrev pub moves_of : List ℕ → Result (List JournalRow) ℕ
-moves_of bytes = rows_of move_at bytes
+-- the rows of the bytes, or the number of the first line that is refused
+abbrev pub rows_of_journal : List ℕ → Result (List JournalRow) ℕ
+rows_of_journal bytes = rows_of row_at bytes

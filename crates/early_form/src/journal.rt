@@ -1,13 +1,13 @@
-//! The file of proposed moves.
+//! The file of events: batches and proposed moves.
 
 ghost use Rattle.std.specs.Prelude.{◌≡◌, ◌<◌, ◌≤◌, ◌^◌, All, length, option_map, IfOk, IfSome, ◌==◌};
 ghost use Rattle.std.specs.List.{list_all, slice_split};
 ghost use Rattle.file_rows.specs.Bytes.{space, comma};
 ghost use Rattle.desk_text.specs.Lines.{is_full};
-ghost use Rattle.journal_rows.specs.Facts.{IsNamedStep, IsJournalRow, AreRows};
+ghost use Rattle.journal_rows.specs.Facts.{IsNamedStep, IsNamedEvent, IsJournalRow, AreRows};
 ghost use Rattle.early_form.specs.Rows.{Gives};
 ghost use Rattle.early_form.specs.Fields.{only_if, cut};
-ghost use Rattle.early_form.specs.Journal.{has, is_spaced, is_detail, row_in_time, step_in_time, detail_steps, before_tail, head_of, move_at, moves_of};
+ghost use Rattle.early_form.specs.Journal.{has, is_spaced, is_detail, row_in_time, step_in_time, detail_steps, before_tail, head_of, batch_of, move_of, event_of, row_at, rows_of_journal};
 
 use crate::fault::FormFault;
 use crate::fields::cut;
@@ -113,36 +113,68 @@ fn before_tail(bytes: &[u8]) -> Option<&[u8]>
     }
 }
 
-/// The caller of a line, and the text of its move.
+/// The caller of a line, the word behind it, and the detail behind that.
 #[tactic(auto, unfolding(crate::specs::Journal::head_of))]
-fn head_of(line: &[u8]) -> Option<(u32, &[u8])>
-    ensures exact { option_map (λ head. (head.0, head.1.now)) result ≡ head_of line.now }
+fn head_of(line: &[u8]) -> Option<(u32, &[u8], &[u8])>
+    ensures exact { option_map (λ head. (head.0, head.1.now, head.2.now)) result ≡ head_of line.now }
     ensures caller { IfSome result (λ head. head.0 ≤ 64) }
 {
     let (caller, rest) = cut(line, COMMA)?;
-    let (event, rest) = cut(rest, COMMA)?;
+    let (word, rest) = cut(rest, COMMA)?;
     let detail = before_tail(rest)?;
     let caller = number(caller, 0, 64).ok()?;
-    if event == b"move".as_slice() {
-        Some((caller, detail))
-    } else {
-        None
-    }
+    Some((caller, word, detail))
 }
 
-/// The move of a line with its number, or `None` where the line is not in the form.
-#[tactic(auto, unfolding(crate::specs::Journal::move_at))]
-fn move_at(alloc: Global, line: u32, text: &[u8]) -> Result<Option<JournalRow>, NoMem>
-    ensures exact { IfOk result (λ row. row ≡ move_at line text.now) }
-    ensures facts { IfOk result (λ row. IfSome row IsJournalRow) }
+/// The batch whose number a detail spells, or `None` where it is not in the form.
+#[tactic(auto, unfolding(crate::specs::Journal::batch_of))]
+fn batch_of(detail: &[u8]) -> Option<NamedEvent>
+    ensures exact { result ≡ batch_of detail.now }
+    ensures facts { IfSome result IsNamedEvent }
 {
-    let Some((caller, detail)) = head_of(text) else {
-        return Ok(None);
-    };
+    let number = number(detail, 0, 1000).ok()?;
+    Some(NamedEvent::Batch { number })
+}
+
+/// The move whose steps a detail spells, or `None` where it is not in the form.
+#[tactic(auto, unfolding(crate::specs::Journal::move_of))]
+fn move_of(alloc: Global, detail: &[u8]) -> Result<Option<NamedEvent>, NoMem>
+    ensures exact { IfOk result (λ event. event ≡ move_of detail.now) }
+    ensures facts { IfOk result (λ event. IfSome event IsNamedEvent) }
+{
     let Some(steps) = detail_steps(alloc, detail)? else {
         return Ok(None);
     };
-    let event = NamedEvent::Move { steps };
+    Ok(Some(NamedEvent::Move { steps }))
+}
+
+/// The event of a word and a detail, or `None` where they are not in the form.
+#[tactic(auto, unfolding(crate::specs::Journal::event_of))]
+fn event_of(alloc: Global, word: &[u8], detail: &[u8]) -> Result<Option<NamedEvent>, NoMem>
+    ensures exact { IfOk result (λ event. event ≡ event_of word.now detail.now) }
+    ensures facts { IfOk result (λ event. IfSome event IsNamedEvent) }
+{
+    if word == b"batch".as_slice() {
+        Ok(batch_of(detail))
+    } else if word == b"move".as_slice() {
+        move_of(alloc, detail)
+    } else {
+        Ok(None)
+    }
+}
+
+/// The row of a line with its number, or `None` where the line is not in the form.
+#[tactic(auto, unfolding(crate::specs::Journal::row_at))]
+fn row_at(alloc: Global, line: u32, text: &[u8]) -> Result<Option<JournalRow>, NoMem>
+    ensures exact { IfOk result (λ row. row ≡ row_at line text.now) }
+    ensures facts { IfOk result (λ row. IfSome row IsJournalRow) }
+{
+    let Some((caller, word, detail)) = head_of(text) else {
+        return Ok(None);
+    };
+    let Some(event) = event_of(alloc, word, detail)? else {
+        return Ok(None);
+    };
     Ok(Some(JournalRow {
         line,
         caller,
@@ -150,30 +182,31 @@ fn move_at(alloc: Global, line: u32, text: &[u8]) -> Result<Option<JournalRow>, 
     }))
 }
 
-/// The form of the file of proposed moves.
-struct Moves {}
+/// The form of the lines of the file of events.
+struct EarlyLines {}
 
-impl Table<JournalRow> for Moves {
-    ghost reads = { λ _. move_at };
+impl Table<JournalRow> for EarlyLines {
+    ghost reads = { λ _. row_at };
 
     ghost holds = { λ _. IsJournalRow };
 
     fn row(&self, alloc: Global, line: u32, text: &[u8]) -> Result<Option<JournalRow>, NoMem> {
-        move_at(alloc, line, text)
+        row_at(alloc, line, text)
     }
 }
 
-/// The proposed moves of the bytes, in the order of their lines, each with the number of its line, or
-/// the first line that is refused.
+/// The rows of the bytes, in the order of their lines, each with the number of its line, or the first
+/// line that is refused.
 ///
-/// A line is `CALLER,move,DETAIL`; a further field without a comma may follow, and is passed over. The
-/// caller is a number from 0 to 64. The detail is the steps of the move, as `read_steps` reads them, with
-/// exactly one space between any two tokens; without a token there are no steps. A line is refused where
-/// it is not in this form, or a departure or a moment of a swap is minute 52,500,000 or later.
+/// A line is `CALLER,batch,NUMBER` or `CALLER,move,DETAIL`; a further field without a comma may follow,
+/// and is passed over. The caller is a number from 0 to 64, and a batch's number one from 0 to 1,000.
+/// The detail is the steps of the move, as `read_steps` reads them, with exactly one space between any
+/// two tokens; without a token there are no steps. A line is refused where it is not in this form, or a
+/// departure or a moment of a swap is minute 52,500,000 or later.
 pub fn read_journal(alloc: Global, bytes: &[u8]) -> Result<Vec<JournalRow>, FormFault>
     requires { length bytes.now < 2 ^ 32 }
-    ensures exact { Gives (λ v. v.items) result (moves_of bytes.now) }
+    ensures exact { Gives (λ v. v.items) result (rows_of_journal bytes.now) }
     ensures rows { IfOk result (λ v. AreRows v.items) }
 {
-    read_rows(alloc, &Moves {}, bytes)
+    read_rows(alloc, &EarlyLines {}, bytes)
 }
