@@ -7,41 +7,44 @@ use Rattle.std.specs.Result.{IsErrAnd}
 use Rattle.file_rows.specs.declared.cause.Cause.{Cause}
 use Rattle.desk_text.specs.declared.fault.RowFault.{RowFault}
 use Rattle.desk_text.specs.declared.fault.RowFault.TheVariants as row_fault
-use Rattle.desk_text.specs.Rows.{◌>>=◌, at_line, GivesRow}
-use Rattle.desk_data.specs.Situation.{Situation}
-use Rattle.desk_model.specs.declared.answer.Event.{Event}
-use Rattle.journal_rows.specs.declared.rows.JournalRow.{JournalRow}
-use Rattle.journal_join.specs.declared.fault.JoinFault.{JoinFault}
-use Rattle.journal_join.specs.Join.{all_of, event_of, asked_of}
-use Rattle.journal_join.specs.Gives.{JoinGives, fault_at}
+use Rattle.desk_text.specs.Rows.{◌>>=◌, GivesRow}
+use Rattle.journal_join.specs.Join.{all_of}
 
 -- these, and behind them what is still joined
 abbrev pub behind : {B E : Type 0} → List B → Result (List B) E → Result (List B) E
 behind before (Ok ys) = Ok (before ++ ys)
 behind before (Err e) = Err e
 
-one_more : {B E : Type 0} (before : List B) (y : B) (rest : Result (List B) E) → behind (before ++ y ∷ []) rest ≡ behind before (rest >>= λ ys. Ok (y ∷ ys))
+pub one_more : {B E : Type 0} (before : List B) (y : B) (rest : Result (List B) E) → behind (before ++ y ∷ []) rest ≡ behind before (rest >>= λ ys. Ok (y ∷ ys))
 one_more before y (Ok ys) = ap Ok (append_assoc before (y ∷ []) ys)
 one_more before y (Err e) = refl
 
-nothing_before : {B E : Type 0} (rest : Result (List B) E) → behind [] rest ≡ rest
+pub nothing_before : {B E : Type 0} (rest : Result (List B) E) → behind [] rest ≡ rest
 nothing_before (Ok ys) = refl
 nothing_before (Err e) = refl
+
+-- what is left begins with the next one
+pub rest_at : {A : Type 0} (xs : List A) (k : ℕ) (x : A) → k < length xs → x ≡ get_or xs k x → drop k xs ≡ x ∷ drop (k + 1) xs
+rest_at xs k x below is =
+    let next : suc k ≡ k + 1 = omega arith in
+    drop-cons xs k x below ∙ (λ i. sym is i ∷ drop (next i) xs)
+
+-- the parts of a list that is read one by one
+pub parts_read : {B E : Type 0} (first : Result B E) (rest : Result (List B) E) (ys : List B) → (first >>= λ z. rest >>= λ zs. Ok (z ∷ zs)) ≡ Ok ys
+    → (z : B) × (zs : List B) × (first ≡ Ok z) × (rest ≡ Ok zs) × (z ∷ zs ≡ ys)
+parts_read (Err e) rest ys h = absurd cc
+parts_read (Ok z) (Err e) ys h = absurd cc
+parts_read (Ok z) (Ok zs) ys h = (z, zs, refl, refl, cc)
 
 module _ {A B E : Type 0} (f : A → Result B E) (xs : List A) where
   -- nothing is joined yet
   pub begins : behind [] (all_of f xs) ≡ all_of f xs
   begins = nothing_before (all_of f xs)
 
-  rest_at : (k : ℕ) (x : A) → k < length xs → x ≡ get_or xs k x → drop k xs ≡ x ∷ drop (k + 1) xs
-  rest_at k x below is =
-      let next : suc k ≡ k + 1 = omega arith in
-      drop-cons xs k x below ∙ (λ i. sym is i ∷ drop (next i) xs)
-
   from_here : (before : List B) (k : ℕ) (x : A) (total : Result (List B) E) → k < length xs → x ≡ get_or xs k x → behind before (all_of f (drop k xs)) ≡ total
       → behind before (f x >>= λ y. all_of f (drop (k + 1) xs) >>= λ ys. Ok (y ∷ ys)) ≡ total
   unfolding all_of
-  from_here before k x total below is so_far = sym (ap (λ (rest : List A). behind before (all_of f rest)) (rest_at k x below is)) ∙ so_far
+  from_here before k x total below is so_far = sym (ap (λ (rest : List A). behind before (all_of f rest)) (rest_at xs k x below is)) ∙ so_far
 
   -- one gives something
   pub goes_on : (before : List B) (k : ℕ) (x : A) (y : B) (total : Result (List B) E) → k < length xs → x ≡ get_or xs k x → f x ≡ Ok y → behind before (all_of f (drop k xs)) ≡ total
@@ -76,36 +79,12 @@ module _ {A B : Type 0} (f : A → Result B Cause) (xs : List A) (before : List 
   stops (row_fault.Refused why) below is gives so_far = refused f xs before k x why total below is gives so_far
   stops row_fault.Memory below is gives so_far = tt
 
--- ---- rows
-
--- a row that gives an event
-pub row_gives : (I : Situation) (row : JournalRow) (e : Event) → event_of I row.event ≡ Ok e → asked_of I row ≡ Ok (row.caller, e)
-unfolding asked_of
-row_gives I row e h = ap (λ (r : Result Event Cause). at_line row.line r >>= λ asked. Ok (row.caller, asked)) h
-
-row_refused : (I : Situation) (row : JournalRow) (why : Cause) → event_of I row.event ≡ Err why → asked_of I row ≡ Err (row.line, why)
-unfolding asked_of
-row_refused I row why h = ap (λ (r : Result Event Cause). at_line row.line r >>= λ asked. Ok (row.caller, asked)) h
-
--- a row that gives none ends the join
-pub row_stops : {Answer : Type 0} (view : Answer → List (ℕ × Event)) (I : Situation) (rows : List JournalRow) (before : List (ℕ × Event)) (k : ℕ) (row : JournalRow) (total : Result (List (ℕ × Event)) (ℕ × Cause)) (fault : RowFault) (end : JoinFault)
-    → k < length rows → row ≡ get_or rows k row → GivesRow {Row = Event} (Err fault) (event_of I row.event) → end ≡ fault_at row.line fault → behind before (all_of (asked_of I) (drop k rows)) ≡ total → JoinGives view (Err end) total
-row_stops view I rows before k row total (row_fault.Refused why) end below is gives told so_far =
-    subst (λ (f : JoinFault). JoinGives view (Err f) total) (sym told) (refused (asked_of I) rows before k row (row.line, why) total below is (row_refused I row why gives) so_far)
-row_stops view I rows before k row total row_fault.Memory end below is gives told so_far = subst (λ (f : JoinFault). JoinGives view (Err f) total) (sym told) tt
-
 -- ---- what holds of all that is joined
 
 module _ {A B E : Type 0} (f : A → Result B E) where
-  parts_by : (x : A) (xs : List A) (ys : List B) (first : Result B E) (rest : Result (List B) E) → f x ≡ first → all_of f xs ≡ rest → (first >>= λ z. rest >>= λ zs. Ok (z ∷ zs)) ≡ Ok ys
-      → (z : B) × (zs : List B) × (f x ≡ Ok z) × (all_of f xs ≡ Ok zs) × (z ∷ zs ≡ ys)
-  parts_by x xs ys (Err e) rest is more h = absurd cc
-  parts_by x xs ys (Ok z) (Err e) is more h = absurd cc
-  parts_by x xs ys (Ok z) (Ok zs) is more h = (z, zs, is, more, cc)
-
   parts : (x : A) (xs : List A) (ys : List B) → all_of f (x ∷ xs) ≡ Ok ys → (z : B) × (zs : List B) × (f x ≡ Ok z) × (all_of f xs ≡ Ok zs) × (z ∷ zs ≡ ys)
   unfolding all_of
-  parts x xs ys h = parts_by x xs ys (f x) (all_of f xs) refl refl h
+  parts x xs ys h = parts_read (f x) (all_of f xs) ys h
 
   none : (ys : List B) → all_of f [] ≡ Ok ys → [] ≡ ys
   unfolding all_of

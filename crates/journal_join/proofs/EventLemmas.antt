@@ -1,8 +1,9 @@
 -- The events of rows can be asked.
-use Rattle.std.proofs.Common.{◌≡◌, ℕ, ◌<◌, ◌≤◌, Bool, true, false, cond, List, length, Option, Some, None, Result, Ok, Err, refl, ap, subst, ◌∙◌, arith}
-use Rattle.std.specs.Prelude.{All, IfOk, ok_or}
+use Rattle.std.proofs.Common.{◌≡◌, ℕ, ◌<◌, ◌≤◌, ◌==◌, Bool, true, false, cond, List, [], length, Option, Some, None, Result, Ok, Err, refl, ap, subst, ◌∙◌, arith}
+use Rattle.std.specs.Prelude.{All, IfOk, ok_or, slice_get}
 use Rattle.std.specs.Option.{ForSome}
 use Rattle.std.proofs.lemmas.Bool.{and_parts, leb-true, ltb-true}
+use Rattle.std.proofs.lemmas.Option.{get_or_from_slice_get, slice_get_within}
 use Rattle.std.proofs.lemmas.List.Elements.{recursion_from_All, All-from_recursion}
 use Rattle.std.proofs.lemmas.List.Sums.{AllPass-from_list_all}
 use Rattle.desk_units.specs.declared.numbers.Leg.{Leg}
@@ -18,7 +19,7 @@ use Rattle.desk_data.specs.declared.row.Row.TheVariants as row
 use Rattle.plan_moves.specs.declared.moves.Step.{Step}
 use Rattle.plan_moves.specs.declared.moves.Step.TheVariants.{Set, Push, Swap, Rebook, Tidy, Refill}
 use Rattle.desk_data.specs.Situation.{Situation, legs_of, planes_of, reservations_of}
-use Rattle.desk_data.specs.Valid.{IsRowOf}
+use Rattle.desk_data.specs.Valid.{IsOrder, IsRowOf}
 use Rattle.plan_moves.specs.Fits.{IsPathIn, StepFits}
 use Rattle.desk_model.specs.declared.answer.Event.{Event}
 use Rattle.desk_model.specs.declared.answer.Event.TheVariants as event
@@ -36,10 +37,13 @@ use Rattle.journal_rows.specs.declared.rows.NamedEvent.{NamedEvent}
 use Rattle.journal_rows.specs.declared.rows.NamedEvent.TheVariants as named_event
 use Rattle.journal_rows.specs.declared.rows.JournalRow.{JournalRow}
 use Rattle.journal_rows.specs.Facts.{IsNamedLeg, IsNamedPath, IsNamedStep, IsNamedEvent, IsJournalRow, AreRows}
-use Rattle.journal_join.specs.declared.fault.JoinFault.{JoinFault}
-use Rattle.journal_join.specs.Join.{all_of, leg_of, plane_of, res_of, after_of, seat_of, path_of, row_of, set_of, push_of, swap_of, rebook_of, refill_of, step_of, row_is_in_time, step_is_in_time, is_move, move_of, joined_move, event_of, asked_of, events_of}
+use Rattle.desk_build.specs.declared.fault.BuildFault.{BuildFault}
+use Rattle.desk_build.specs.declared.joining.Built.{Built}
+use Rattle.day_orders.specs.declared.orders.Batch.{Batch}
+use Rattle.journal_join.specs.Join.{all_of, leg_of, plane_of, res_of, after_of, seat_of, path_of, row_of, set_of, push_of, swap_of, rebook_of, refill_of, step_of, row_is_in_time, step_is_in_time, is_move, move_of, joined_move, batch_of, told_batch, batches_in, event_of, asked_of, all_behind, events_of}
 use Rattle.journal_join.specs.Gives.{JoinGives}
 use Rattle.journal_join.proofs.AllOf.{all_of-All, all_of-length}
+use Rattle.journal_join.proofs.AllBehind.{all_behind-All}
 
 -- what comes after something that was given
 bound : {A B E : Type 0} (r : Result A E) (f : A → Result B E) (y : B) → (r >>= f) ≡ Ok y → (x : A) × (r ≡ Ok x) × (f x ≡ Ok y)
@@ -181,8 +185,31 @@ joined_fits I named asked facts h =
     let fit = all_of-All (step_of I) IsNamedStep (FitsInTime I) (step_fits I) named joined.0 (recursion_from_All IsNamedStep named facts) joined.1 in
     move_fits I joined.0 asked (All-from_recursion (FitsInTime I) joined.0 fit) joined.2
 
-event_fits : (I : Situation) (e : NamedEvent) (asked : Event) → IsNamedEvent e → event_of I e ≡ Ok asked → IsAskable I asked
-event_fits I (named_event.Move steps) asked facts h = joined_fits I steps asked facts h
+-- ---- batches
+
+-- the orders of each batch are of the day
+abbrev pub AreOrders : Situation → List Batch → Type 0
+AreOrders I batches = All (λ batch. All (IsOrder I.parts) batch.orders) batches
+
+there_by : (b : Bool) (o : Option Batch) (batch : Batch) → (let given : Result Batch Cause = cond b (ok_or o cause.Batch) (Err cause.Batch) in given) ≡ Ok batch → o ≡ Some batch
+there_by true o batch h = known o cause.Batch batch h
+there_by false o batch h = absurd cc
+
+there : (batches : List Batch) (due number : ℕ) (batch : Batch) → batch_of batches due number ≡ Ok batch → slice_get batches number ≡ Some batch
+unfolding batch_of
+there batches due number batch h = there_by (number == due) (slice_get batches number) batch h
+
+told_fits : (I : Situation) (batches : List Batch) (due number : ℕ) (asked : Event) → AreOrders I batches → told_batch batches due number ≡ Ok asked → IsAskable I asked
+unfolding told_batch
+told_fits I batches due number asked orders h =
+    let batch = bound (batch_of batches due number) (λ batch. Ok (event.Batch batch)) asked h in
+    let is = there batches due number batch.0 batch.1 in
+    let same = get_or_from_slice_get batches number batch.0 batch.0 is in
+    subst (IsAskable I) (same_Ok (event.Batch batch.0) asked batch.2) (subst (λ (b : Batch). All (IsOrder I.parts) b.orders) same (orders number batch.0 (slice_get_within batches number batch.0 is)))
+
+event_fits : (I : Situation) (batches : List Batch) (due : ℕ) (e : NamedEvent) (asked : Event) → AreOrders I batches → IsNamedEvent e → event_of I batches due e ≡ Ok asked → IsAskable I asked
+event_fits I batches due (named_event.Batch number) asked orders facts h = told_fits I batches due number asked orders h
+event_fits I batches due (named_event.Move steps) asked orders facts h = joined_fits I steps asked facts h
 
 -- ---- rows
 
@@ -194,26 +221,30 @@ at_line-Ok : (line : ℕ) (r : Result Event Cause) (e : Event) → at_line line 
 at_line-Ok line (Ok x) e h = ap Ok (same_Ok x e h)
 at_line-Ok line (Err why) e h = absurd cc
 
-row_asks : (I : Situation) (r : JournalRow) (asked : ℕ × Event) → IsJournalRow r → asked_of I r ≡ Ok asked → CanBeAsked I asked
+row_asks : (I : Situation) (batches : List Batch) → AreOrders I batches → (before : List JournalRow) (r : JournalRow) (asked : ℕ × Event) → IsJournalRow r → asked_of I batches before r ≡ Ok asked → CanBeAsked I asked
 unfolding asked_of
-row_asks I r asked facts h =
-    let e = bound (at_line r.line (event_of I r.event)) (λ e. Ok (r.caller, e)) asked h in
-    subst (CanBeAsked I) (same_Ok (r.caller, e.0) asked e.2) (event_fits I r.event e.0 facts.event (at_line-Ok r.line (event_of I r.event) e.0 e.1), facts.caller)
+row_asks I batches orders before r asked facts h =
+    let given = event_of I batches (batches_in before) r.event in
+    let e = bound (at_line r.line given) (λ e. Ok (r.caller, e)) asked h in
+    subst (CanBeAsked I) (same_Ok (r.caller, e.0) asked e.2) (event_fits I batches (batches_in before) r.event e.0 orders facts.event (at_line-Ok r.line given e.0 e.1), facts.caller)
 
-all_fit : (I : Situation) (rows : List JournalRow) (events : List (ℕ × Event)) → AreRows rows → events_of I rows ≡ Ok events → All (CanBeAsked I) events
+all_fit : (built : Built) (rows : List JournalRow) (events : List (ℕ × Event)) → AreOrders built.inst built.batches → AreRows rows → events_of built rows ≡ Ok events → All (CanBeAsked built.inst) events
 unfolding events_of
-all_fit I rows events facts h =
-    All-from_recursion (CanBeAsked I) events (all_of-All (asked_of I) IsJournalRow (CanBeAsked I) (row_asks I) rows events (recursion_from_All IsJournalRow rows facts) h)
+all_fit built rows events orders facts h =
+    All-from_recursion (CanBeAsked built.inst) events (all_behind-All (asked_of built.inst built.batches) IsJournalRow (CanBeAsked built.inst) (row_asks built.inst built.batches orders) [] rows events (recursion_from_All IsJournalRow rows facts) h)
 
--- events by the places of an instance are those of the instance
-pub events_give : {Answer : Type 0} (I J : Situation) (rows : List JournalRow) (result : Result Answer JoinFault) (view : Answer → List (ℕ × Event)) → J ≡ I → JoinGives view result (all_of (asked_of J) rows) → JoinGives view result (events_of I rows)
+-- events by the places and the batches of a day are those of the day
+pub events_give : {Answer : Type 0} (built : Built) (J : Situation) (batches : List Batch) (rows : List JournalRow) (result : Result Answer BuildFault) (view : Answer → List (ℕ × Event)) → J ≡ built.inst → batches ≡ built.batches
+    → JoinGives view result (all_behind (asked_of J batches) [] rows) → JoinGives view result (events_of built rows)
 unfolding events_of
-events_give I J rows result view same h = subst (λ (K : Situation). JoinGives view result (all_of (asked_of K) rows)) same h
+events_give built J batches rows result view same all h =
+    subst (λ (bs : List Batch). JoinGives view result (all_behind (asked_of built.inst bs) [] rows)) all
+    (subst (λ (K : Situation). JoinGives view result (all_behind (asked_of K batches) [] rows)) same h)
 
-pub all_asked : {Answer : Type 0} (I : Situation) (rows : List JournalRow) (result : Result Answer JoinFault) (view : Answer → List (ℕ × Event)) → AreRows rows → JoinGives view result (events_of I rows) → IfOk result (λ v. AreAskable I (view v))
-all_asked I rows (Ok v) view facts h = λ k d below. (all_fit I rows (view v) facts h k d below).0
-all_asked I rows (Err fault) view facts h = tt
+pub all_asked : {Answer : Type 0} (built : Built) (rows : List JournalRow) (result : Result Answer BuildFault) (view : Answer → List (ℕ × Event)) → AreOrders built.inst built.batches → AreRows rows → JoinGives view result (events_of built rows) → IfOk result (λ v. AreAskable built.inst (view v))
+all_asked built rows (Ok v) view orders facts h = λ k d below. (all_fit built rows (view v) orders facts h k d below).0
+all_asked built rows (Err fault) view orders facts h = tt
 
-pub all_callers : {Answer : Type 0} (I : Situation) (rows : List JournalRow) (result : Result Answer JoinFault) (view : Answer → List (ℕ × Event)) → AreRows rows → JoinGives view result (events_of I rows) → IfOk result (λ v. All (λ asked. asked.0 ≤ 64) (view v))
-all_callers I rows (Ok v) view facts h = λ k d below. (all_fit I rows (view v) facts h k d below).1
-all_callers I rows (Err fault) view facts h = tt
+pub all_callers : {Answer : Type 0} (built : Built) (rows : List JournalRow) (result : Result Answer BuildFault) (view : Answer → List (ℕ × Event)) → AreOrders built.inst built.batches → AreRows rows → JoinGives view result (events_of built rows) → IfOk result (λ v. All (λ asked. asked.0 ≤ 64) (view v))
+all_callers built rows (Ok v) view orders facts h = λ k d below. (all_fit built rows (view v) orders facts h k d below).1
+all_callers built rows (Err fault) view orders facts h = tt

@@ -1,2 +1,4 @@
 mod AllOf
+mod AllBehind
+mod RowLemmas
 mod EventLemmas

@@ -1,5 +1,5 @@
--- How the rows of a journal become events: names become numbers.
-use Rattle.std.specs.Prelude.{ℕ, Bool, true, ◌&&◌, nat_le, nat_lt, if◌then◌else◌, List, [], ◌∷◌, length, Option, Some, None, ok_or, Result, Ok, Err}
+-- How the rows of a journal become events: names become numbers, and a batch's number its orders.
+use Rattle.std.specs.Prelude.{ℕ, Bool, true, false, ◌&&◌, ◌==◌, nat_le, nat_lt, if◌then◌else◌, List, [], ◌∷◌, ◌++◌, length, count_by, slice_get, Option, Some, None, ok_or, Result, Ok, Err}
 use Rattle.std.specs.List.{list_all}
 use Rattle.desk_units.specs.declared.numbers.Leg.{Leg}
 use Rattle.desk_units.specs.declared.numbers.Plane.{Plane}
@@ -10,6 +10,7 @@ use Rattle.file_rows.specs.declared.cause.Cause.{Cause}
 use Rattle.file_rows.specs.declared.cause.Cause.TheVariants as cause
 use Rattle.file_rows.specs.Limits.{end_of_time}
 use Rattle.desk_text.specs.Rows.{◌>>=◌, at_line}
+use Rattle.day_orders.specs.declared.orders.Batch.{Batch}
 use Rattle.desk_data.specs.declared.row.Row.{Row}
 use Rattle.desk_data.specs.declared.row.Row.TheVariants as row
 use Rattle.plan_moves.specs.declared.moves.Step.{Step}
@@ -17,6 +18,7 @@ use Rattle.plan_moves.specs.declared.moves.Step.TheVariants.{Set, Push, Swap, Re
 use Rattle.desk_data.specs.Situation.{Situation}
 use Rattle.desk_model.specs.declared.answer.Event.{Event}
 use Rattle.desk_model.specs.declared.answer.Event.TheVariants as event
+use Rattle.desk_build.specs.declared.joining.Built.{Built}
 use Rattle.day_names.specs.Names.{leg_named, plane_named, res_named}
 use Rattle.journal_rows.specs.declared.rows.NamedLeg.{NamedLeg}
 use Rattle.journal_rows.specs.declared.rows.NamedRes.{NamedRes}
@@ -35,6 +37,14 @@ all_of f [] = Ok []
 all_of f (x ∷ xs) = do
   y ← f x
   ys ← all_of f xs
+  Ok (y ∷ ys)
+
+-- what each gives behind those that stand before it, in order, or the first refusal
+unfoldable pub all_behind : {A B E : Type 0} → (List A → A → Result B E) → List A → List A → Result (List B) E
+all_behind f before [] = Ok []
+all_behind f before (x ∷ xs) = do
+  y ← f before x
+  ys ← all_behind f (before ++ x ∷ []) xs
   Ok (y ∷ ys)
 
 -- ---- names: one that nothing has is unknown
@@ -141,17 +151,40 @@ joined_move I named = do
   steps ← all_of (step_of I) named
   move_of steps
 
-abbrev pub event_of : Situation → NamedEvent → Result Event Cause
-event_of I (named_event.Move steps) = joined_move I steps
+-- ---- batches
+
+-- whether an event is a batch
+abbrev pub is_batch : NamedEvent → Bool
+is_batch (named_event.Batch number) = true
+is_batch (named_event.Move steps) = false
+
+-- how many of the rows are batches. So the batch behind them is due to have this number: 0 where there is none before it, and else one more than the last
+abbrev pub batches_in : List JournalRow → ℕ
+batches_in rows = count_by (λ row. is_batch row.event) rows
+
+-- the batch of this number, where it is the one that is due and it is there
+unfoldable pub batch_of : List Batch → ℕ → ℕ → Result Batch Cause
+batch_of batches due number = if number == due then ok_or (slice_get batches number) cause.Batch else Err cause.Batch
+
+-- the event of that batch
+unfoldable pub told_batch : List Batch → ℕ → ℕ → Result Event Cause
+told_batch batches due number = do
+  batch ← batch_of batches due number
+  Ok (event.Batch batch)
 
 -- ---- rows
 
--- a row's caller and its event, or the row's line and why it is refused
-unfoldable pub asked_of : Situation → JournalRow → Result (ℕ × Event) (ℕ × Cause)
-asked_of I row = do
-  event ← at_line row.line (event_of I row.event)
+-- the event of a row, where batch `due` is the next one
+abbrev pub event_of : Situation → List Batch → ℕ → NamedEvent → Result Event Cause
+event_of I batches due (named_event.Batch number) = told_batch batches due number
+event_of I batches due (named_event.Move steps) = joined_move I steps
+
+-- a row's caller and its event behind the rows before it, or the row's line and why it is refused
+unfoldable pub asked_of : Situation → List Batch → List JournalRow → JournalRow → Result (ℕ × Event) (ℕ × Cause)
+asked_of I batches before row = do
+  event ← at_line row.line (event_of I batches (batches_in before) row.event)
   Ok (row.caller, event)
 
 -- the events of the rows, each with its caller, or the line of the first row that is refused, with the cause
-unfoldable pub events_of : Situation → List JournalRow → Result (List (ℕ × Event)) (ℕ × Cause)
-events_of I rows = all_of (asked_of I) rows
+unfoldable pub events_of : Built → List JournalRow → Result (List (ℕ × Event)) (ℕ × Cause)
+events_of built rows = all_behind (asked_of built.inst built.batches) [] rows

@@ -1,32 +1,72 @@
 //! The rows of a journal, joined.
 
-ghost use Rattle.std.specs.Prelude.{◌≤◌, All, IfOk};
+ghost use Rattle.std.specs.Prelude.{◌≡◌, ◌≤◌, [], All, IfOk};
+ghost use Rattle.desk_data.specs.Valid.{IsOrder};
 ghost use Rattle.desk_model.specs.Histories.{AreAskable};
+ghost use Rattle.desk_text.specs.Rows.{GivesRow};
 ghost use Rattle.journal_rows.specs.Facts.{AreRows};
-ghost use Rattle.journal_join.specs.Join.{all_of, asked_of, events_of};
-ghost use Rattle.journal_join.specs.Gives.{JoinGives};
+ghost use Rattle.journal_join.specs.Join.{all_behind, asked_of, event_of, events_of};
+ghost use Rattle.journal_join.specs.Gives.{JoinGives, fault_at};
 
-use crate::fault::JoinFault;
-use crate::steps::event_of;
+use crate::batches::{due_behind, told_batch};
+use crate::steps::joined_move;
 use day_names::DayNames;
-use desk_data::Instance;
+use desk_build::{BuildFault, Built};
+use desk_data::Batch;
+use desk_folder::File;
 use desk_model::Event;
-use journal_rows::JournalRow;
+use desk_text::RowFault;
+use journal_rows::{JournalRow, NamedEvent};
 use std::alloc::Global;
+
+/// The event of a row, where the batch of the number `due` is the next one.
+fn event_of(
+    alloc: Global,
+    names: &DayNames<'_>,
+    batches: &[Batch],
+    due: usize,
+    event: &NamedEvent,
+) -> Result<Event, RowFault>
+    ensures { GivesRow result (event_of names.now batches.now due event.now) }
+{
+    match event {
+        NamedEvent::Batch { number } => told_batch(alloc, batches, due, *number),
+        NamedEvent::Move { steps } => joined_move(alloc, names, steps.as_slice()),
+    }
+}
+
+/// The row of this line gave no event.
+fn fault_at(line: u32, fault: RowFault) -> BuildFault
+    ensures { result ≡ fault_at line fault }
+{
+    match fault {
+        RowFault::Refused(cause) => BuildFault::Refused {
+            file: File::Journal,
+            line,
+            cause,
+        },
+        RowFault::Memory => BuildFault::Memory,
+    }
+}
 
 /// The events of rows, or the first row that is refused.
 fn events(
     alloc: Global,
     names: &DayNames<'_>,
+    batches: &[Batch],
     rows: &[JournalRow],
-) -> Result<Vec<(u32, Event)>, JoinFault>
-    ensures { JoinGives (λ v. v.items) result (all_of (asked_of names.now) rows.now) }
+) -> Result<Vec<(u32, Event)>, BuildFault>
+    ensures { JoinGives (λ v. v.items) result (all_behind (asked_of names.now batches.now) [] rows.now) }
 {
     let mut events = Vec::with_capacity(alloc, rows.len())?;
+    let mut due = 0;
     for row in rows {
-        match event_of(alloc, names, &row.event) {
-            Ok(event) => events.push((row.caller, event))?,
-            Err(fault) => return Err(JoinFault::at(row.line, fault)),
+        match event_of(alloc, names, batches, due, &row.event) {
+            Ok(event) => {
+                due = due_behind(due, &row.event);
+                events.push((row.caller, event))?;
+            }
+            Err(fault) => return Err(fault_at(row.line, fault)),
         }
     }
     Ok(events)
@@ -34,24 +74,28 @@ fn events(
 
 /// The events of rows in their order, each with its caller.
 ///
-/// A leg is named by its flight and the day of its schedule, an aircraft by its name, and a
-/// reservation by its name and its way, out or back. The time is near linear in the rows of the day
-/// and of the journal.
+/// A batch is named by its number, and its event has the orders that this batch has among those of the
+/// day. In a move a leg is named by its flight and the day of its schedule, an aircraft by its name, and
+/// a reservation by its name and its way, out or back. A move may stand before the first batch. The time
+/// is near linear in the rows of the day and of the journal and in the orders.
 ///
 /// # Errors
-/// `Refused` for the first row that is refused, with its line: `Unknown` where a leg, an aircraft or
-/// a reservation that it names is not there; else `Move` where its move has not 1 to 16 steps, or one
-/// of them departs or swaps at minute 52,500,000 or later. `Memory` at any time.
+/// `Refused` for the first row that is refused, with its line of `File::Journal`. For a batch the cause
+/// is `Batch`: the first batch is not number 0, or a later one is not one more than the last, or there
+/// is no such batch. For a move it is `Unknown` where a leg, an aircraft or a reservation that it names
+/// is not there; else `Move` where it has not 1 to 16 steps, or one of them departs or swaps at minute
+/// 52,500,000 or later. `Memory` at any time.
 pub fn join_journal(
     alloc: Global,
-    inst: &Instance,
+    built: &Built,
     rows: &[JournalRow],
-) -> Result<Vec<(u32, Event)>, JoinFault>
-    requires { AreRows rows.now }
-    ensures exact { JoinGives (λ v. v.items) result (events_of inst.now rows.now) }
-    ensures asked { IfOk result (λ v. AreAskable inst.now v.items) }
+) -> Result<Vec<(u32, Event)>, BuildFault>
+    requires rows { AreRows rows.now }
+    requires batches { All (λ batch. All (IsOrder built.now.inst.parts) batch.orders) built.now.batches }
+    ensures exact { JoinGives (λ v. v.items) result (events_of built.now rows.now) }
+    ensures asked { IfOk result (λ v. AreAskable built.now.inst v.items) }
     ensures callers { IfOk result (λ v. All (λ asked. asked.0 ≤ 64) v.items) }
 {
-    let names = DayNames::of(alloc, inst)?;
-    events(alloc, &names, rows)
+    let names = DayNames::of(alloc, &built.inst)?;
+    events(alloc, &names, built.batches.as_slice(), rows)
 }

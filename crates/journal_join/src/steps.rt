@@ -3,7 +3,7 @@
 ghost use Rattle.std.specs.Prelude.{◌≡◌};
 ghost use Rattle.std.specs.List.{list_all};
 ghost use Rattle.desk_text.specs.Rows.{GivesRow};
-ghost use Rattle.journal_join.specs.Join.{set_of, push_of, swap_of, rebook_of, refill_of, step_of, all_of, row_is_in_time, step_is_in_time, is_move, move_of, joined_move, event_of};
+ghost use Rattle.journal_join.specs.Join.{set_of, push_of, swap_of, rebook_of, refill_of, step_of, all_of, row_is_in_time, step_is_in_time, is_move, move_of, joined_move};
 
 use crate::names::{after_of, leg_of, path_of, plane_of, res_of, row_of};
 use day_names::DayNames;
@@ -12,7 +12,7 @@ use desk_model::Event;
 use desk_text::RowFault;
 use desk_units::{List, Minute, Name};
 use file_rows::{Cause, END_OF_TIME};
-use journal_rows::{NamedEvent, NamedLeg, NamedPath, NamedRes, NamedRow, NamedStep};
+use journal_rows::{NamedLeg, NamedPath, NamedRes, NamedRow, NamedStep};
 use plan_moves::{Move, Step};
 use std::alloc::Global;
 
@@ -165,22 +165,13 @@ fn move_of(steps: List<Step>) -> Result<Event, Cause>
 
 /// The move of named steps: first all that they name is found, and then they are a move.
 #[tactic(auto, unfolding(crate::specs::Join::joined_move))]
-fn joined_move(alloc: Global, names: &DayNames<'_>, named: &[NamedStep]) -> Result<Event, RowFault>
+pub(crate) fn joined_move(
+    alloc: Global,
+    names: &DayNames<'_>,
+    named: &[NamedStep],
+) -> Result<Event, RowFault>
     ensures { GivesRow result (joined_move names.now named.now) }
 {
     let steps = steps_of(alloc, names, named)?;
     Ok(move_of(steps)?)
-}
-
-/// The event that a row asks for.
-pub(crate) fn event_of(
-    alloc: Global,
-    names: &DayNames<'_>,
-    event: &NamedEvent,
-) -> Result<Event, RowFault>
-    ensures { GivesRow result (event_of names.now event.now) }
-{
-    match event {
-        NamedEvent::Move { steps } => joined_move(alloc, names, steps.as_slice()),
-    }
 }

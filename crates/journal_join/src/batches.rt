@@ -1,0 +1,58 @@
+//! The batches that a journal tells of.
+
+ghost use Rattle.std.specs.Prelude.{◌≡◌, ◌+◌, ◌<◌, ◌^◌, Ok, Err, IfOk, MatchResult, if◌then◌else◌};
+ghost use Rattle.desk_text.specs.Rows.{GivesRow};
+ghost use Rattle.journal_join.specs.Join.{batch_of, is_batch, told_batch};
+
+use desk_data::Batch;
+use desk_model::Event;
+use desk_text::RowFault;
+use desk_units::{List, NoMem};
+use file_rows::Cause;
+use journal_rows::NamedEvent;
+use std::alloc::Global;
+
+/// The batch of a number, where it is the one that is due and there is such a batch.
+#[tactic(auto, unfolding(crate::specs::Join::batch_of))]
+fn batch_of(batches: &[Batch], due: usize, number: u32) -> Result<&Batch, Cause>
+    ensures { MatchResult result (λ batch. batch_of batches.now due number ≡ Ok batch.now) (λ cause. batch_of batches.now due number ≡ Err cause) }
+{
+    if number as usize == due {
+        batches.get(number as usize).ok_or(Cause::Batch)
+    } else {
+        Err(Cause::Batch)
+    }
+}
+
+/// An equal batch.
+fn copied(alloc: Global, batch: &Batch) -> Result<Batch, NoMem>
+    ensures { IfOk result (λ copy. copy ≡ batch.now) }
+{
+    let orders = List(Vec::from_slice(alloc, batch.orders.as_slice())?);
+    Ok(Batch { orders })
+}
+
+/// The event of the batch of a number, where it is the one that is due.
+#[tactic(auto, unfolding(crate::specs::Join::told_batch))]
+pub(crate) fn told_batch(
+    alloc: Global,
+    batches: &[Batch],
+    due: usize,
+    number: u32,
+) -> Result<Event, RowFault>
+    ensures { GivesRow result (told_batch batches.now due number) }
+{
+    let batch = batch_of(batches, due, number)?;
+    Ok(Event::Batch(copied(alloc, batch)?))
+}
+
+/// The number of the batch that is due behind an event, by the one that was due at it.
+pub(crate) fn due_behind(due: usize, event: &NamedEvent) -> usize
+    requires { due < 2 ^ 63 }
+    ensures { result ≡ (if is_batch event.now then due + 1 else due) }
+{
+    match event {
+        NamedEvent::Batch { number: _ } => due + 1,
+        NamedEvent::Move { steps: _ } => due,
+    }
+}
