@@ -1,5 +1,5 @@
 -- Rows that fit together, so that they make a day.
-use Rattle.std.specs.Prelude.{◌≡◌, ◌≢◌, ◌≤◌, false, List, length, sum_by, All, Some, IsSome}
+use Rattle.std.specs.Prelude.{◌≡◌, ◌≢◌, ℕ, ◌+◌, ◌<◌, ◌≤◌, false, List, length, take, get_or, sum_by, All, Some, IsSome}
 use Rattle.std.specs.List.{AllPairs}
 use Rattle.std.specs.Option.{ForSome}
 use Rattle.file_rows.specs.declared.network.AirportRow.{AirportRow}
@@ -7,11 +7,14 @@ use Rattle.file_rows.specs.declared.legs.FlightRow.{FlightRow}
 use Rattle.file_rows.specs.declared.legs.RotationRow.{RotationRow}
 use Rattle.file_rows.specs.declared.fleet.AircraftRow.{AircraftRow}
 use Rattle.file_rows.specs.declared.passengers.ItineraryRow.{ItineraryRow}
+use Rattle.file_rows.specs.declared.disruptions.AltRow.{AltRow}
+use Rattle.file_rows.specs.declared.disruptions.AltRow.TheVariants as alt
 use Rattle.tariff_prices.specs.Rows.{same_key}
 use Rattle.build_tables.specs.declared.files.Files.{Files}
 use Rattle.build_tables.specs.Departures.{departure_on}
 use Rattle.file_rows.specs.Limits.{most_flights, most_aircraft, most_airports, most_itineraries, most_passengers, most_legs, most_groups, most_tariff_rows, latest_departure}
 use Rattle.build_tables.specs.Names.{flight_named, rotation_place, airport_place, aircraft_place}
+use Rattle.build_tables.specs.Batches.{last_batch}
 
 -- no file has more rows than its limit
 pub record AreFew (x : Files) : Type 0 where
@@ -49,7 +52,19 @@ pub record IsOnRotations (rotations : List RotationRow) (row : ItineraryRow) : T
   pub short : length row.legs ≤ most_legs
   pub legs : All (λ leg. IsSome (rotation_place rotations leg.flight leg.day)) row.legs
 
--- the rows are few, no two are alike, and each name in them is known
+-- what an order is about is known: its leg, its aircraft or its airport; a row without an order is about nothing
+abbrev pub IsAboutKnown : Files → AltRow → Type 0
+IsAboutKnown x (alt.Flight line flight day delay) = IsSome (rotation_place x.rotations flight day)
+IsAboutKnown x (alt.Aircraft line aircraft from to) = IsSome (aircraft_place x.aircraft aircraft)
+IsAboutKnown x (alt.Field line airport from to deps arrs) = IsSome (airport_place x.airports airport)
+IsAboutKnown x (alt.Nothing line) = Unit {0}
+
+-- behind these rows of the feed, a row is of the batch of the last one or of the next batch
+pub record IsInTurn (before : List (ℕ × AltRow)) (fed : ℕ × AltRow) : Type 0 where
+  pub least : last_batch before ≤ fed.0
+  pub most : fed.0 ≤ last_batch before + 1
+
+-- the rows are few, no two are alike, each name in them is known, and the batches of the feed come in turn
 pub record FitTogether (x : Files) : Type 0 where
   pub few : AreFew x
   pub apart : AreApart x
@@ -57,3 +72,8 @@ pub record FitTogether (x : Files) : Type 0 where
   pub aircraft : All (HasKnownAirports x.airports) x.aircraft
   pub itineraries : All (IsOnRotations x.rotations) x.itineraries
   pub position : All (λ row. IsSome (airport_place x.airports row.airport)) x.position
+  pub alt_flights : All (IsAboutKnown x) x.alt_flights
+  pub alt_aircraft : All (IsAboutKnown x) x.alt_aircraft
+  pub alt_airports : All (IsAboutKnown x) x.alt_airports
+  pub feed : All (λ fed. IsAboutKnown x fed.1) x.feed
+  pub turns : (k : ℕ) (fed : ℕ × AltRow) → k < length x.feed → IsInTurn (take k x.feed) (get_or x.feed k fed)

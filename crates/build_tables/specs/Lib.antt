@@ -3,4 +3,5 @@ pub mod Found
 pub mod Names
 pub mod Departures
 pub mod Facts
+pub mod Batches
 pub mod Fitting

@@ -2,7 +2,8 @@
 
 use desk_units::{List, Tariff};
 use file_rows::{
-    AircraftRow, AirportRow, DistRow, FlightRow, ItineraryRow, PositionRow, RotationRow, Window,
+    AircraftRow, AirportRow, AltRow, DistRow, FlightRow, ItineraryRow, PositionRow, RotationRow,
+    Window,
 };
 
 /// The rows of the input files, each list in the order of its file's lines. A day takes at most as many
@@ -25,6 +26,14 @@ pub struct Files {
     pub itineraries: List<ItineraryRow>,
     /// Of position.csv, with at most 10,000 groups in all.
     pub position: List<PositionRow>,
+    /// Of alt_flights.csv. The orders of the three alt files and of the feed are at most 100,000 in all.
+    pub alt_flights: List<AltRow>,
+    /// Of alt_aircraft.csv.
+    pub alt_aircraft: List<AltRow>,
+    /// Of alt_airports.csv.
+    pub alt_airports: List<AltRow>,
     /// Of tariff.csv, at most 1,000 rows.
     pub tariff: Tariff,
+    /// Of feed.csv, each with the number of its batch, from 1 to 1,000.
+    pub feed: List<(u32, AltRow)>,
 }

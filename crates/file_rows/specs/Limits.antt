@@ -42,6 +42,13 @@ most_groups = 10000
 abbrev pub most_tariff_rows : ℕ
 most_tariff_rows = 1000
 
+-- the batches of feed.csv, and the orders of the alt files and of feed.csv together
+abbrev pub most_batches : ℕ
+most_batches = 1000
+
+abbrev pub most_orders : ℕ
+most_orders = 100000
+
 -- the latest scheduled departure, in minutes from the start of 2000
 abbrev pub latest_departure : ℕ
 latest_departure = 52480000

@@ -1,7 +1,7 @@
 //! How many bytes and rows the files may have, and what else in them has a limit.
 
 ghost use Rattle.std.specs.Prelude.{◌≡◌};
-ghost use Rattle.file_rows.specs.Limits.{most_bytes, most_journal_bytes, most_flights, most_aircraft, most_airports, most_distances, most_itineraries, most_passengers, most_legs, most_groups, most_tariff_rows, latest_departure, end_of_time};
+ghost use Rattle.file_rows.specs.Limits.{most_bytes, most_journal_bytes, most_flights, most_aircraft, most_airports, most_distances, most_itineraries, most_passengers, most_legs, most_groups, most_tariff_rows, most_batches, most_orders, latest_departure, end_of_time};
 
 /// The most bytes of a text file: 64 MiB.
 pub const MOST_BYTES: usize = 67_108_864;
@@ -36,6 +36,12 @@ pub const MOST_GROUPS: usize = 10_000;
 /// The most rows of tariff.csv.
 pub const MOST_TARIFF_ROWS: usize = 1_000;
 
+/// The most batches of feed.csv.
+pub const MOST_BATCHES: u32 = 1_000;
+
+/// The most orders of alt_flights.csv, alt_aircraft.csv, alt_airports.csv and feed.csv together.
+pub const MOST_ORDERS: usize = 100_000;
+
 /// The latest departure that a schedule may have, in minutes from the start of 2000.
 pub const LATEST_DEPARTURE: u64 = 52_480_000;
 
@@ -55,6 +61,8 @@ pub fn limits_are_told()
     ensures legs { MOST_LEGS ≡ most_legs }
     ensures groups { MOST_GROUPS ≡ most_groups }
     ensures tariff_rows { MOST_TARIFF_ROWS ≡ most_tariff_rows }
+    ensures batches { MOST_BATCHES ≡ most_batches }
+    ensures orders { MOST_ORDERS ≡ most_orders }
     ensures latest { LATEST_DEPARTURE ≡ latest_departure }
     ensures end { END_OF_TIME ≡ end_of_time }
 {}
