@@ -7,5 +7,7 @@ pub mod Airports
 pub mod Dist
 pub mod Itineraries
 pub mod Position
+pub mod Orders
 pub mod Tariff
+pub mod Feed
 pub mod Refusals

@@ -1,14 +1,16 @@
 //! The join.
 
-ghost use Rattle.std.specs.Prelude.{◌≡◌, [], IfOk};
+ghost use Rattle.std.specs.Prelude.{◌≡◌, [], All, IfOk};
+ghost use Rattle.desk_data.specs.Valid.{IsOrder};
 ghost use Rattle.build_tables.specs.Facts.{AreFileRows};
-ghost use Rattle.desk_build.specs.Join.{day_of_files, JoinGives};
+ghost use Rattle.desk_build.specs.Join.{built_of, JoinGives};
 
 use crate::fault::BuildFault;
-use build_day::day_of;
+use build_day::{batches_of, day_of};
 use build_refusals::first_refusal;
 use build_tables::{Files, Tables};
-use desk_data::Instance;
+use desk_data::{Batch, Instance};
+use desk_units::List;
 use std::alloc::Global;
 
 /// What the rows of the input files make.
@@ -16,27 +18,37 @@ use std::alloc::Global;
 pub struct Built {
     /// The joined day, with no orders yet.
     pub inst: Instance,
+    /// Batch 0, which has the orders of the alt files, and those of the feed, each at its number. Their
+    /// orders are about legs, aircraft and airports of the day.
+    pub batches: List<Batch>,
 }
 
-/// The day of the rows of these tables, or the first refusal.
+/// The day and the batches of the rows of these tables, or the first refusal.
 fn join(alloc: Global, tables: &Tables<'_>) -> Result<Built, BuildFault>
     requires { AreFileRows tables.now.files.now }
-    ensures exact { JoinGives result (day_of_files tables.now.files.now) }
+    ensures exact { JoinGives result (built_of tables.now.files.now) }
     ensures fresh { IfOk result (λ built. built.inst.orders ≡ []) }
+    ensures batches { IfOk result (λ built. All (λ batch. All (IsOrder built.inst.parts) batch.orders) built.batches) }
 {
     if let Some((file, line, cause)) = first_refusal(tables) {
         return Err(BuildFault::Refused { file, line, cause });
     }
     let inst = day_of(alloc, tables)?;
-    Ok(Built { inst })
+    let batches = batches_of(alloc, tables)?;
+    Ok(Built {
+        inst,
+        batches: List(batches),
+    })
 }
 
-/// The day of the rows, with no orders yet, or the first refusal in the order of the files, then of
-/// their lines, then of the causes. `BuildFault::Memory` may come at any time.
+/// The day of the rows, with no orders yet, and the batches of the alt files and the feed, or the first
+/// refusal in the order of the files, then of their lines, then of the causes. `BuildFault::Memory` may
+/// come at any time.
 pub fn build(alloc: Global, files: &Files) -> Result<Built, BuildFault>
     requires { AreFileRows files.now }
-    ensures exact { JoinGives result (day_of_files files.now) }
+    ensures exact { JoinGives result (built_of files.now) }
     ensures fresh { IfOk result (λ built. built.inst.orders ≡ []) }
+    ensures batches { IfOk result (λ built. All (λ batch. All (IsOrder built.inst.parts) batch.orders) built.batches) }
 {
     let tables = Tables::of(alloc, files)?;
     join(alloc, &tables)
