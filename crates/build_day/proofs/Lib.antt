@@ -6,3 +6,5 @@ mod ValidPlanes
 mod ValidLegs
 mod ValidPax
 mod ValidParts
+mod OrderLemmas
+mod FilledLemmas

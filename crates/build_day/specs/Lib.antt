@@ -1,2 +1,3 @@
 pub mod Legs
 pub mod Day
+pub mod Batches

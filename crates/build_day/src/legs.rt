@@ -75,7 +75,7 @@ fn previous_leg(tables: &Tables<'_>, flight: &FlightRow, day: u32) -> Option<Leg
 }
 
 /// The number of an aircraft: its place, or 0 for an unknown name.
-fn plane_of(tables: &Tables<'_>, name: &Name) -> Plane
+pub(crate) fn plane_of(tables: &Tables<'_>, name: &Name) -> Plane
     requires { AreFew tables.now.files.now }
     ensures { result.0 ≡ unwrap_or (aircraft_place tables.now.files.now.aircraft name.now) 0 }
 {

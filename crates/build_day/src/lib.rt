@@ -3,13 +3,15 @@
 //! `day_of(alloc, &tables)` makes the `Instance` of rows that fit together: airports, aircraft, legs and
 //! reservations become numbers, by their places in their files; a leg gets the distance and the haul of its
 //! two airports, its moments from its flight and date, and its previous leg. A file of `src/` is a part of
-//! the day. The time is linear in the rows.
+//! the day. `batches_of(alloc, &tables)` makes the batches of the orders of the alt files and of the feed. The
+//! time is linear in the rows.
 //!
 //! Proved: the day is that of the definition in `specs/Day`, row for row, and its parts are in range, so that
-//! it can be made. It stands on `desk_data` and `build_tables`, beside `build_refusals`.
+//! it can be made; the batches are those of the definition in `specs/Batches`, and the day can take each. It stands on `desk_data` and `build_tables`, beside `build_refusals`.
 #![tactic(auto)]
 
 mod airports;
+mod batches;
 mod day;
 mod legs;
 mod planes;
@@ -17,5 +19,6 @@ mod positions;
 mod reservations;
 mod surface;
 
+pub use batches::batches_of;
 pub use day::day_of;
 pub use desk_data::Instance;

@@ -1,5 +1,5 @@
 -- Rows of which none is refused fit together.
-use Rattle.std.proofs.Common.{◌≡◌, ◌≢◌, ℕ, Bool, true, false, eqb, ltb, List, length, get_or, bytes_eq, Option, Some, None, refl, sym, ap, ◌∙◌}
+use Rattle.std.proofs.Common.{◌≡◌, ◌≢◌, ℕ, Bool, true, false, eqb, ltb, List, length, take, get_or, bytes_eq, Option, Some, None, refl, sym, ap, ◌∙◌}
 use Rattle.std.specs.Prelude.{is_some, IsSome, IfNone}
 use Rattle.std.specs.Option.{option_map_or, ForSome}
 use Rattle.std.proofs.lemmas.Bool.{and_parts, and_from, ltb-false, eq-eqb, both_ways, false≢true}
@@ -20,12 +20,14 @@ use Rattle.build_tables.specs.Fitting.{AreFew, AreApart, IsRotationOf, IsOnRotat
 use Rattle.build_tables.specs.Keys.{type_number}
 use Rattle.file_rows.specs.Limits.{most_passengers, most_legs, latest_departure}
 use Rattle.build_tables.specs.Names.{flight_named, rotation_place, airport_place, aircraft_place}
+use Rattle.build_tables.specs.Batches.{number_of_last}
 use Rattle.build_refusals.specs.Rotations.{departs_late, has_airports, is_known, is_same_leg}
 use Rattle.build_refusals.specs.Aircraft.{has_known_maintenance}
 use Rattle.build_refusals.specs.Itineraries.{is_same_reservation}
 use Rattle.build_refusals.specs.Refusals.{Refusal, refusal_of}
 use Rattle.build_refusals.proofs.NoneLemmas.{none_alike}
-use Rattle.build_refusals.proofs.PassLemmas.{ItineraryPasses, each_rotation, each_aircraft, each_airport, each_itinerary, each_position, each_tariff, few_rotations, few_aircraft, few_airports, few_itineraries, few_wanted, few_tariff}
+use Rattle.build_refusals.proofs.OrderPasses.{in_turn}
+use Rattle.build_refusals.proofs.PassLemmas.{ItineraryPasses, each_rotation, each_aircraft, each_airport, each_itinerary, each_position, each_tariff, each_alt_flight, each_alt_aircraft, each_alt_airport, each_fed, few_rotations, few_aircraft, few_airports, few_itineraries, few_wanted, few_tariff}
 
 -- names that are not tested alike differ
 names_differ : (a b : List ℕ) → bytes_eq b a ≡ false → a ≢ b
@@ -104,6 +106,11 @@ module _ (x : Files) (e : refusal_of x ≡ None) where
     aircraft = λ k d below. let passes = each_aircraft x e k d below in record { origin = passes.origin; maint = maintenance_fits x.airports (get_or x.aircraft k d).maint passes.maintenance };
     itineraries = λ k d below. itinerary_fits x k (get_or x.itineraries k d) (each_itinerary x e k d below);
     position = λ k d below. (each_position x e k d below).known;
+    alt_flights = each_alt_flight x e;
+    alt_aircraft = each_alt_aircraft x e;
+    alt_airports = each_alt_airport x e;
+    feed = λ k d below. (each_fed x e k d below).1;
+    turns = λ k d below. let turn = in_turn (number_of_last (take k x.feed)) (get_or x.feed k d).0 (each_fed x e k d below).0 in record { least = turn.0; most = turn.1 };
   }
 
 -- where no refusal is answered

@@ -1,5 +1,5 @@
 -- What holds of each row where nothing is refused.
-use Rattle.std.proofs.Common.{◌≡◌, ℕ, ◌+◌, ◌<◌, ◌≤◌, true, false, ◌&&◌, ◌||◌, leb, ltb, List, [], ◌∷◌, length, take, get_or, bytes_eq, None, arith, subst}
+use Rattle.std.proofs.Common.{◌≡◌, ℕ, ◌+◌, ◌<◌, ◌≤◌, true, false, ◌&&◌, ◌||◌, leb, ltb, List, [], ◌∷◌, length, take, get_or, bytes_eq, None, arith, subst, All}
 use Rattle.std.specs.Prelude.{is_some}
 use Rattle.std.specs.List.{list_any, sum_by}
 use Rattle.std.proofs.lemmas.Bool.{and_parts, or_parts, not-false, ltb-false}
@@ -11,11 +11,14 @@ use Rattle.file_rows.specs.declared.legs.RotationRow.{RotationRow}
 use Rattle.file_rows.specs.declared.fleet.AircraftRow.{AircraftRow}
 use Rattle.file_rows.specs.declared.fleet.PositionRow.{PositionRow}
 use Rattle.file_rows.specs.declared.passengers.ItineraryRow.{ItineraryRow}
+use Rattle.file_rows.specs.declared.disruptions.AltRow.{AltRow}
 use Rattle.desk_units.specs.declared.tariff.TariffRow.{TariffRow}
 use Rattle.tariff_prices.specs.Rows.{same_key}
 use Rattle.build_tables.specs.declared.files.Files.{Files}
-use Rattle.file_rows.specs.Limits.{most_flights, most_aircraft, most_airports, most_itineraries, most_passengers, most_legs, most_groups, most_tariff_rows}
+use Rattle.file_rows.specs.Limits.{most_flights, most_aircraft, most_airports, most_itineraries, most_passengers, most_legs, most_groups, most_tariff_rows, most_orders}
 use Rattle.build_tables.specs.Names.{airport_place}
+use Rattle.build_tables.specs.Batches.{number_of_last}
+use Rattle.build_tables.specs.Fitting.{IsAboutKnown}
 use Rattle.build_refusals.specs.First.{first_refusal_in}
 use Rattle.build_refusals.specs.Flights.{flight_cause, has_good_previous}
 use Rattle.build_refusals.specs.Rotations.{rotation_cause, departs_late, is_known, has_distance, is_same_leg}
@@ -24,8 +27,11 @@ use Rattle.build_refusals.specs.Airports.{airport_cause}
 use Rattle.build_refusals.specs.Itineraries.{itinerary_cause, is_same_reservation, has_known_legs}
 use Rattle.build_refusals.specs.Position.{groups_in, position_cause}
 use Rattle.build_refusals.specs.Tariff.{tariff_cause, tariff_refusal}
-use Rattle.build_refusals.specs.Refusals.{refusal_of_schedule, refusal_of_demand, refusal_of}
+use Rattle.build_refusals.specs.Orders.{line_of, alt_cause}
+use Rattle.build_refusals.specs.Feed.{is_in_turn, feed_cause}
+use Rattle.build_refusals.specs.Refusals.{refusal_of_schedule, room_for_aircraft, room_for_airports, room_for_feed, refusal_of_alternatives, refusal_of_demand, refusal_of}
 use Rattle.build_refusals.proofs.NoneLemmas.{neither, not_in_file, passed, held, none_refused, none_refused_at, few_rows}
+use Rattle.build_refusals.proofs.OrderPasses.{order_passes, fed_passes}
 
 -- nothing is refused in any file
 pub record NoneRefused (x : Files) : Type 0 where
@@ -35,10 +41,14 @@ pub record NoneRefused (x : Files) : Type 0 where
   pub airports : first_refusal_in (airport_cause x.airports) (λ row. row.line) x.airports ≡ None
   pub itineraries : first_refusal_in (itinerary_cause x) (λ row. row.line) x.itineraries ≡ None
   pub position : first_refusal_in (position_cause x) (λ row. row.line) x.position ≡ None
+  pub alt_flights : first_refusal_in (alt_cause x most_orders x.alt_flights) line_of x.alt_flights ≡ None
+  pub alt_aircraft : first_refusal_in (alt_cause x (room_for_aircraft x) x.alt_aircraft) line_of x.alt_aircraft ≡ None
+  pub alt_airports : first_refusal_in (alt_cause x (room_for_airports x) x.alt_airports) line_of x.alt_airports ≡ None
   pub tariff : tariff_refusal x.tariff.rows ≡ None
+  pub feed : first_refusal_in (feed_cause x (room_for_feed x) x.feed) (λ fed. line_of fed.1) x.feed ≡ None
 
 pub none_refused_in : (x : Files) → refusal_of x ≡ None → NoneRefused x
-unfolding refusal_of refusal_of_schedule refusal_of_demand
+unfolding refusal_of refusal_of_schedule refusal_of_demand refusal_of_alternatives
 none_refused_in x e =
     let both = neither (refusal_of_schedule x) (refusal_of_demand x) e in
     let window = neither _ _ both.0 in
@@ -48,6 +58,10 @@ none_refused_in x e =
     let airports = neither _ _ aircraft.1 in
     let itineraries = neither _ _ both.1 in
     let position = neither _ _ itineraries.1 in
+    let alternatives = neither (refusal_of_alternatives x) _ position.1 in
+    let alt_flights = neither _ _ alternatives.0 in
+    let alt_aircraft = neither _ _ alt_flights.1 in
+    let tariff = neither _ _ alternatives.1 in
     record {
       flights = not_in_file file.Flights _ flights.0;
       rotations = not_in_file file.Rotations _ rotations.0;
@@ -55,7 +69,11 @@ none_refused_in x e =
       airports = not_in_file file.Airports _ airports.0;
       itineraries = not_in_file file.Itineraries _ itineraries.0;
       position = not_in_file file.Position _ position.0;
-      tariff = not_in_file file.Tariff _ position.1;
+      alt_flights = not_in_file file.AltFlights _ alt_flights.0;
+      alt_aircraft = not_in_file file.AltAircraft _ alt_aircraft.0;
+      alt_airports = not_in_file file.AltAirports _ alt_aircraft.1;
+      tariff = not_in_file file.Tariff _ tariff.0;
+      feed = not_in_file file.Feed _ tariff.1;
     }
 
 -- what the causes of a file say of a row at its place
@@ -181,6 +199,21 @@ module _ (x : Files) (e : refusal_of x ≡ None) where
 
   pub each_tariff : (k : ℕ) (d : TariffRow) → k < length x.tariff.rows → TariffPasses x.tariff.rows k (get_or x.tariff.rows k d)
   each_tariff k d below = tariff_passes x.tariff.rows k (get_or x.tariff.rows k d) (none_refused_at (tariff_cause x.tariff.rows) (λ n row. n + 1) x.tariff.rows (none_refused_in x e).tariff k d below)
+
+  each_order : (room : ℕ) (rows : List AltRow) → first_refusal_in (alt_cause x room rows) line_of rows ≡ None → All (IsAboutKnown x) rows
+  each_order room rows none k d below = order_passes x _ (get_or rows k d) (none_refused (alt_cause x room rows) line_of rows none k d below)
+
+  pub each_alt_flight : All (IsAboutKnown x) x.alt_flights
+  each_alt_flight = each_order most_orders x.alt_flights (none_refused_in x e).alt_flights
+
+  pub each_alt_aircraft : All (IsAboutKnown x) x.alt_aircraft
+  each_alt_aircraft = each_order (room_for_aircraft x) x.alt_aircraft (none_refused_in x e).alt_aircraft
+
+  pub each_alt_airport : All (IsAboutKnown x) x.alt_airports
+  each_alt_airport = each_order (room_for_airports x) x.alt_airports (none_refused_in x e).alt_airports
+
+  pub each_fed : (k : ℕ) (d : ℕ × AltRow) → k < length x.feed → (is_in_turn (number_of_last (take k x.feed)) (get_or x.feed k d).0 ≡ true) × IsAboutKnown x (get_or x.feed k d).1
+  each_fed k d below = fed_passes x (number_of_last (take k x.feed)) _ (get_or x.feed k d) (none_refused (feed_cause x (room_for_feed x) x.feed) (λ fed. line_of fed.1) x.feed (none_refused_in x e).feed k d below)
 
   -- no file has more rows than its limit
   pub few_flights : length x.flights ≤ most_flights

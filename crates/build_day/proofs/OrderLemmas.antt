@@ -1,0 +1,70 @@
+-- The orders of the day are about its legs, aircraft and airports.
+use Rattle.std.proofs.Common.{◌≡◌, ℕ, ◌+◌, ◌<◌, ◌≤◌, List, [], ◌∷◌, ◌++◌, length, map, take, get_or, Option, Some, None, refl, sym, ap, subst, ◌∙◌, All}
+use Rattle.std.specs.List.{filter, filter_map, range_with_len, cons_option}
+use Rattle.std.proofs.lemmas.List.{length-map}
+use Rattle.std.proofs.lemmas.List.Elements.{All-nil, All-cons, All-head, All-tail, All-map, All-append, All-filter, filter_map-append}
+use Rattle.day_orders.specs.declared.orders.Order.{Order}
+use Rattle.day_orders.specs.declared.orders.Order.TheVariants as order
+use Rattle.day_orders.specs.declared.orders.Batch.{Batch}
+use Rattle.desk_data.specs.Valid.{IsOrder}
+use Rattle.file_rows.specs.declared.disruptions.AltRow.{AltRow}
+use Rattle.file_rows.specs.declared.disruptions.AltRow.TheVariants as alt
+use Rattle.file_rows.specs.Facts.{IsAlt, IsFed}
+use Rattle.build_tables.specs.declared.files.Files.{Files}
+use Rattle.build_tables.specs.Facts.{AreFileRows}
+use Rattle.build_tables.specs.Fitting.{IsAboutKnown, FitTogether}
+use Rattle.build_tables.specs.Batches.{last_batch}
+use Rattle.build_tables.proofs.BatchLemmas.{rows_more}
+use Rattle.build_day.specs.Legs.{leg_of}
+use Rattle.build_day.specs.Day.{airport_info, plane_info, parts_of}
+use Rattle.build_day.specs.Batches.{order_of, orders_of, orders_fed, opening_orders, orders_in_batch, batch_with, batches_of}
+use Rattle.build_day.proofs.FoundLemmas.{known_within}
+
+-- the orders of one row more
+pub orders_more : {Row : Type 0} (f : Row → Option Order) (rows : List Row) (i : ℕ) (row : Row) → i < length rows → row ≡ get_or rows i row → filter_map f (take i rows) ++ filter_map f (row ∷ []) ≡ filter_map f (take (i + 1) rows)
+orders_more f rows i row below is = sym (ap (filter_map f) (rows_more rows i row below is) ∙ filter_map-append f (take i rows) (row ∷ []))
+
+-- what holds of what each row gives holds of all that is given
+given_by : {Row : Type 0} (Q : Order → Type 0) (o : Option Order) (rest : List Order) → ((y : Order) → o ≡ Some y → Q y) → All Q rest → All Q (cons_option o rest)
+given_by Q None rest one more = more
+given_by Q (Some y) rest one more = All-cons Q y rest (one y refl) more
+
+all_given : {Row : Type 0} (P : Row → Type 0) (Q : Order → Type 0) (f : Row → Option Order) → ((row : Row) (y : Order) → P row → f row ≡ Some y → Q y) → (rows : List Row) → All P rows → All Q (filter_map f rows)
+all_given P Q f each [] h = All-nil Q
+all_given P Q f each (row ∷ rows) h = given_by Q (f row) (filter_map f rows) (λ y e. each row y (All-head P row rows h) e) (all_given P Q f each rows (All-tail P row rows h))
+
+-- a row whose names are known and whose numbers are in their ranges
+abbrev IsGood : Files → AltRow → Type 0
+IsGood x row = IsAboutKnown x row × IsAlt row
+
+is_order : (x : Files) (row : AltRow) (y : Order) → IsGood x row → order_of x row ≡ Some y → IsOrder (parts_of x) y
+unfolding parts_of
+is_order x (alt.Flight line flight day delay) y good e =
+    let same : order.Flight _ delay ≡ y = cc in
+    subst (IsOrder (parts_of x)) same (rw (length-map x.rotations (leg_of x)) (known_within _ x.rotations good.0), good.1.1)
+is_order x (alt.Aircraft line aircraft from to) y good e =
+    let same : order.Aircraft _ from to ≡ y = cc in
+    subst (IsOrder (parts_of x)) same (rw (length-map x.aircraft (plane_info x)) (known_within _ x.aircraft good.0))
+is_order x (alt.Field line airport from to deps arrs) y good e =
+    let same : order.Field _ from to deps arrs ≡ y = cc in
+    subst (IsOrder (parts_of x)) same (rw (length-map x.airports airport_info) (known_within _ x.airports good.0))
+is_order x (alt.Nothing line) y good e = absurd cc
+
+module _ (x : Files) (rows : AreFileRows x) (fit : FitTogether x) where
+  are_orders : (alts : List AltRow) → All IsAlt alts → All (IsAboutKnown x) alts → All (IsOrder (parts_of x)) (orders_of x alts)
+  are_orders alts alt known = all_given (IsGood x) (IsOrder (parts_of x)) (order_of x) (is_order x) alts (λ k d below. (known k d below, alt k d below))
+
+  opening_good : All (IsOrder (parts_of x)) (opening_orders x)
+  opening_good = All-append (IsOrder (parts_of x)) _ _ (are_orders x.alt_flights rows.alt_flights fit.alt_flights)
+      (All-append (IsOrder (parts_of x)) _ _ (are_orders x.alt_aircraft rows.alt_aircraft fit.alt_aircraft) (are_orders x.alt_airports rows.alt_airports fit.alt_airports))
+
+  feed_good : All (λ fed. IsGood x fed.1) x.feed
+  feed_good = λ k d below. (fit.feed k d below, (rows.feed k d below).row)
+
+  batch_good : (k : ℕ) → All (IsOrder (parts_of x)) (orders_in_batch x x.feed k)
+  batch_good k = all_given (λ (fed : ℕ × AltRow). IsGood x fed.1) (IsOrder (parts_of x)) (λ (fed : ℕ × AltRow). order_of x fed.1) (λ fed y. is_order x fed.1 y) (filter _ x.feed) (All-filter _ (λ (fed : ℕ × AltRow). IsGood x fed.1) x.feed feed_good)
+
+  pub batches_good : All (λ (batch : Batch). All (IsOrder (parts_of x)) batch.orders) (batches_of x)
+  unfolding batches_of
+  batches_good = All-cons (λ (batch : Batch). All (IsOrder (parts_of x)) batch.orders) (batch_with (opening_orders x)) _ opening_good
+      (All-map (λ (batch : Batch). All (IsOrder (parts_of x)) batch.orders) (λ k. batch_with (orders_in_batch x x.feed k)) (range_with_len 1 (last_batch x.feed)) (λ k d below. batch_good _))

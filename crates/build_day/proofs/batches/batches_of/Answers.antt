@@ -1,0 +1,5 @@
+use Rattle.build_day.proofs.OrderLemmas.{batches_good}
+use Rattle.build_day.proofs.batches.batches_of.Goals as goal
+
+pub returns-clause-orders : goal.returns-clause-orders
+returns-clause-orders c = ?

@@ -1,0 +1,150 @@
+//! The batches of the alt files and of the feed.
+
+ghost use Rattle.std.specs.Prelude.{◌≡◌, ◌++◌, [], ◌∷◌, ◌==◌, if◌then◌else◌, All, IfOk, OnOk};
+ghost use Rattle.desk_data.specs.Valid.{IsOrder};
+ghost use Rattle.build_tables.specs.Facts.{AreFileRows};
+ghost use Rattle.build_tables.specs.Fitting.{AreFew, FitTogether};
+ghost use Rattle.build_day.specs.Day.{parts_of};
+ghost use Rattle.build_day.specs.Batches.{order_of, orders_of, opening_orders, batch_with, batches_of};
+
+use crate::legs::{airport_of, leg_at, plane_of};
+use build_tables::Tables;
+use desk_data::{Batch, Order};
+use desk_units::{List, NoMem};
+use file_rows::AltRow;
+use std::alloc::Global;
+
+/// The order of a row, where it has one.
+fn order_of(tables: &Tables<'_>, row: &AltRow) -> Option<Order>
+    requires { AreFew tables.now.files.now }
+    ensures { result ≡ order_of tables.now.files.now row.now }
+{
+    match row {
+        AltRow::Flight {
+            flight, day, delay, ..
+        } => Some(Order::Flight {
+            leg: leg_at(tables, flight, *day),
+            delay: *delay,
+        }),
+        AltRow::Aircraft {
+            aircraft, from, to, ..
+        } => Some(Order::Aircraft {
+            plane: plane_of(tables, aircraft),
+            from: *from,
+            to: *to,
+        }),
+        AltRow::Field {
+            airport,
+            from,
+            to,
+            deps,
+            arrs,
+            ..
+        } => Some(Order::Field {
+            airport: airport_of(tables, airport),
+            from: *from,
+            to: *to,
+            deps: *deps,
+            arrs: *arrs,
+        }),
+        AltRow::Nothing { .. } => None,
+    }
+}
+
+/// Adds the order of a row, where it has one.
+fn push_order(tables: &Tables<'_>, orders: &mut Vec<Order>, row: &AltRow) -> Result<(), NoMem>
+    requires { AreFew tables.now.files.now }
+    ensures { OnOk result (orders.new.items ≡ orders.old.items ++ orders_of tables.now.files.now (row.now ∷ [])) }
+{
+    if let Some(order) = order_of(tables, row) {
+        orders.push(order)?;
+    }
+    Ok(())
+}
+
+/// Adds the orders of rows.
+fn push_orders(
+    tables: &Tables<'_>,
+    orders: &mut Vec<Order>,
+    rows: &[AltRow],
+) -> Result<(), NoMem>
+    requires { AreFew tables.now.files.now }
+    ensures { OnOk result (orders.new.items ≡ orders.old.items ++ orders_of tables.now.files.now rows.now) }
+{
+    for row in rows {
+        push_order(tables, orders, row)?;
+    }
+    Ok(())
+}
+
+/// The orders of the alt files, in file order.
+fn opening_orders(alloc: Global, tables: &Tables<'_>) -> Result<Vec<Order>, NoMem>
+    requires { AreFew tables.now.files.now }
+    ensures { IfOk result (λ orders. orders.items ≡ opening_orders tables.now.files.now) }
+{
+    let files = tables.files;
+    let mut orders = Vec::new(alloc);
+    push_orders(tables, &mut orders, files.alt_flights.as_slice())?;
+    push_orders(tables, &mut orders, files.alt_aircraft.as_slice())?;
+    push_orders(tables, &mut orders, files.alt_airports.as_slice())?;
+    Ok(orders)
+}
+
+/// The orders so far of the batch that a row of the feed is of, with those of the row. Where it is not the
+/// batch of the rows before it, their batch is done.
+fn take_row(
+    alloc: Global,
+    tables: &Tables<'_>,
+    done: &mut Vec<Batch>,
+    orders: Vec<Order>,
+    number: u32,
+    fed: &(u32, AltRow),
+) -> Result<Vec<Order>, NoMem>
+    requires { AreFew tables.now.files.now }
+    ensures done { OnOk result (done.new.items ≡ (if fed.now.0 == number then done.old.items else done.old.items ++ batch_with orders.items ∷ [])) }
+    ensures orders { IfOk result (λ taken. taken.items ≡ (if fed.now.0 == number then orders.items else []) ++ orders_of tables.now.files.now (fed.now.1 ∷ [])) }
+{
+    if fed.0 == number {
+        let mut taken = orders;
+        push_order(tables, &mut taken, &fed.1)?;
+        return Ok(taken);
+    }
+    done.push(Batch {
+        orders: List(orders),
+    })?;
+    let mut taken = Vec::new(alloc);
+    push_order(tables, &mut taken, &fed.1)?;
+    Ok(taken)
+}
+
+/// Batch 0 and the batches of the feed: each row is looked at once.
+fn filled(alloc: Global, tables: &Tables<'_>) -> Result<Vec<Batch>, NoMem>
+    requires rows { AreFileRows tables.now.files.now }
+    requires fit { FitTogether tables.now.files.now }
+    ensures { IfOk result (λ batches. batches.items ≡ batches_of tables.now.files.now) }
+{
+    let rows = tables.files.feed.as_slice();
+    let mut orders = opening_orders(alloc, tables)?;
+    let mut done = Vec::new(alloc);
+    let mut number = 0;
+    for fed in rows {
+        orders = take_row(alloc, tables, &mut done, orders, number, fed)?;
+        number = fed.0;
+    }
+    done.push(Batch {
+        orders: List(orders),
+    })?;
+    Ok(done)
+}
+
+/// The batches: batch 0 has the orders of alt_flights.csv, alt_aircraft.csv and alt_airports.csv in this
+/// order, and batch k those of the rows of the feed with the number k, from 1 to the last number. A batch
+/// may be empty. The only error is out of memory.
+pub fn batches_of(alloc: Global, tables: &Tables<'_>) -> Result<Vec<Batch>, NoMem>
+    requires rows { AreFileRows tables.now.files.now }
+    requires fit { FitTogether tables.now.files.now }
+    ensures exact { IfOk result (λ batches. batches.items ≡ batches_of tables.now.files.now) }
+    ensures orders { IfOk result (λ batches. All (λ batch. All (IsOrder (parts_of tables.now.files.now)) batch.orders) batches.items) }
+{
+    filled(alloc, tables)
+}
