@@ -9,29 +9,37 @@ use Rattle.std.proofs.lemmas.List.Elements.{All-nil, All-cons, All-head, All-tai
 use Rattle.day_orders.specs.declared.orders.Order.{Order}
 use Rattle.day_orders.specs.declared.orders.Batch.{Batch}
 use Rattle.file_rows.specs.declared.disruptions.AltRow.{AltRow}
+use Rattle.file_rows.specs.Facts.{IsFed}
 use Rattle.build_tables.specs.declared.files.Files.{Files}
+use Rattle.build_tables.specs.Facts.{AreFileRows}
+use Rattle.build_tables.specs.Fitting.{IsInTurn, FitTogether}
 use Rattle.build_tables.specs.Batches.{last_batch}
 use Rattle.build_tables.proofs.BatchLemmas.{rows_more, number_of_next}
 use Rattle.build_day.specs.Batches.{orders_of, orders_fed, opening_orders, orders_in_batch, batch_with, batches_of}
 
 -- the orders of batch k, where these are the rows of the feed
-orders_at : Files → List (ℕ × AltRow) → ℕ → List Order
+abbrev orders_at : Files → List (ℕ × AltRow) → ℕ → List Order
 orders_at x feed zero = opening_orders x
 orders_at x feed (suc k) = orders_in_batch x feed (suc k)
 
-batch_at : Files → List (ℕ × AltRow) → ℕ → Batch
+abbrev batch_at : Files → List (ℕ × AltRow) → ℕ → Batch
 batch_at x feed k = batch_with (orders_at x feed k)
 
 -- these batches are done, and these are the orders of the batch with the last number, where these are the rows of the feed
 pub record AreFilled (x : Files) (feed : List (ℕ × AltRow)) (number : ℕ) (done : List Batch) (orders : List Order) : Type 0 where
   pub last : number ≡ last_batch feed
   pub most : All (λ fed. fed.0 ≤ number) feed
-  pub done : done ≡ map (batch_at x feed) (range_with_len 0 number)
-  pub orders : orders ≡ orders_at x feed number
+  pub before : done ≡ map (batch_at x feed) (range_with_len 0 number)
+  pub own : orders ≡ orders_at x feed number
 
--- at the start batch 0 is being filled
-pub none_filled : (x : Files) (orders : List Order) → orders ≡ opening_orders x → AreFilled x [] 0 [] orders
-none_filled x orders opening = record { last = refl; most = All-nil (λ (fed : ℕ × AltRow). fed.0 ≤ 0); done = refl; orders = opening }
+-- a row of the feed has a batch, and comes in turn
+pub fed_facts : (x : Files) → AreFileRows x → FitTogether x → (feed : List (ℕ × AltRow)) → feed ≡ x.feed → (i : ℕ) (fed : ℕ × AltRow) → i < length feed → fed ≡ get_or feed i fed → IsFed fed × IsInTurn (take i feed) fed
+fed_facts x rows fit feed same i fed below is =
+    let inside : i < length x.feed = subst (λ (f : List (ℕ × AltRow)). i < length f) same below in
+    let own : fed ≡ get_or x.feed i fed = is ∙ ap (λ (f : List (ℕ × AltRow)). get_or f i fed) same in (
+      subst IsFed (sym own) (rows.feed i fed inside),
+      subst (λ (f : List (ℕ × AltRow)). IsInTurn (take i f) fed) (sym same) (subst (IsInTurn (take i x.feed)) (sym own) (fit.turns i fed inside)),
+    )
 
 -- two functions that agree on the numbers from a on, n of them
 same_on : {A : Type 0} (f g : ℕ → A) (a n : ℕ) → ((k : ℕ) → a ≤ k → k < a + n → f k ≡ g k) → map f (range_with_len a n) ≡ map g (range_with_len a n)
@@ -90,8 +98,8 @@ module _ (x : Files) (feed : List (ℕ × AltRow)) (fed : ℕ × AltRow) (number
   same_filled is = record {
     last = last;
     most = most_more;
-    done = filled.done ∙ ap (λ n. map (batch_at x feed) (range_with_len 0 n)) (sym is) ∙ sym (same_batches x feed fed fed.0 (omega arith));
-    orders = ap (λ items. items ++ orders_of x (fed.1 ∷ [])) (filled.orders ∙ ap (orders_at x feed) (sym is)) ∙ sym (own_orders x feed fed fed.0 some refl);
+    before = filled.before ∙ ap (λ n. map (batch_at x feed) (range_with_len 0 n)) (sym is) ∙ sym (same_batches x feed fed fed.0 (omega arith));
+    own = ap (λ items. items ++ orders_of x (fed.1 ∷ [])) (filled.own ∙ ap (orders_at x feed) (sym is)) ∙ sym (own_orders x feed fed fed.0 some refl);
   }
 
   -- a row of the next batch
@@ -99,12 +107,12 @@ module _ (x : Files) (feed : List (ℕ × AltRow)) (fed : ℕ × AltRow) (number
   next_filled is = record {
     last = last;
     most = most_more;
-    done = ap (λ items. items ++ batch_with orders ∷ []) filled.done
-        ∙ ap (λ items. map (batch_at x feed) (range_with_len 0 number) ++ batch_with items ∷ []) filled.orders
-        ∙ sym (map-range_with_len_more (batch_at x feed) 0 number number refl)
+    before = ap (λ items. items ++ batch_with orders ∷ []) filled.before
+        ∙ ap (λ items. map (batch_at x feed) (range_with_len 0 number) ++ batch_with items ∷ []) filled.own
+        ∙ sym (map-range_with_len_more (batch_at x feed) 0 number number (omega arith))
         ∙ ap (λ n. map (batch_at x feed) (range_with_len 0 n)) (sym is)
         ∙ sym (same_batches x feed fed fed.0 (omega arith));
-    orders = ap (λ items. items ++ orders_of x (fed.1 ∷ [])) (sym (empty_orders x feed number fed.0 filled.most (omega (arith, is)))) ∙ sym (own_orders x feed fed fed.0 some refl);
+    own = ap (λ items. items ++ orders_of x (fed.1 ∷ [])) (sym (empty_orders x feed number fed.0 filled.most (omega (arith, is)))) ∙ sym (own_orders x feed fed fed.0 some refl);
   }
 
   either_filled : (new_done : List Batch) (new_orders : List Order) → new_done ≡ cond (eqb fed.0 number) done (done ++ batch_with orders ∷ []) → new_orders ≡ cond (eqb fed.0 number) orders [] ++ orders_of x (fed.1 ∷ [])
@@ -132,16 +140,16 @@ filled_more x rows i fed number done new_done orders new_orders filled below is 
     let more = rows_more rows i fed below is in
     let last : fed.0 ≡ last_batch (take (i + 1) rows) = sym (ap (λ o. unwrap_or o 0) (number_of_next rows i fed below is)) in
     subst (λ (feed : List (ℕ × AltRow)). AreFilled x feed fed.0 new_done new_orders) (sym more)
-        (either_filled x (take i rows) fed number done orders filled some (omega (arith, filled.last, least)) (omega (arith, filled.last, next)) (last ∙ ap last_batch more) new_done new_orders is_done are_orders)
+    (either_filled x (take i rows) fed number done orders filled some (omega (arith, filled.last, least)) (omega (arith, filled.last, next)) (last ∙ ap last_batch more) new_done new_orders is_done are_orders)
 
 -- with the last batch, these are all
 pub all_filled : (x : Files) (number : ℕ) (done : List Batch) (orders : List Order) → AreFilled x x.feed number done orders → done ++ batch_with orders ∷ [] ≡ batches_of x
 unfolding batches_of
 all_filled x number done orders filled =
-    let count : 1 + number ≡ number + 1 = omega arith in
-    ap (λ items. items ++ batch_with orders ∷ []) filled.done
-    ∙ ap (λ items. map (batch_at x x.feed) (range_with_len 0 number) ++ batch_with items ∷ []) filled.orders
-    ∙ sym (map-range_with_len_more (batch_at x x.feed) 0 number number refl)
+    let count : suc number ≡ number + 1 = omega arith in
+    ap (λ items. items ++ batch_with orders ∷ []) filled.before
+    ∙ ap (λ items. map (batch_at x x.feed) (range_with_len 0 number) ++ batch_with items ∷ []) filled.own
+    ∙ sym (map-range_with_len_more (batch_at x x.feed) 0 number number (omega arith))
     ∙ ap (λ n. map (batch_at x x.feed) (range_with_len 0 n)) (sym count)
     ∙ ap (λ (others : List Batch). batch_with (opening_orders x) ∷ others) (same_on (batch_at x x.feed) (λ k. batch_with (orders_in_batch x x.feed k)) 1 number (λ k from below. from_one k from))
     ∙ ap (λ n. batch_with (opening_orders x) ∷ map (λ k. batch_with (orders_in_batch x x.feed k)) (range_with_len 1 n)) filled.last

@@ -15,9 +15,9 @@ use Rattle.build_tables.specs.Facts.{AreFileRows}
 use Rattle.build_tables.specs.Fitting.{IsAboutKnown, FitTogether}
 use Rattle.build_tables.specs.Batches.{last_batch}
 use Rattle.build_tables.proofs.BatchLemmas.{rows_more}
-use Rattle.build_day.specs.Legs.{leg_of}
+use Rattle.build_day.specs.Legs.{airport_of, leg_at, leg_of}
 use Rattle.build_day.specs.Day.{airport_info, plane_info, parts_of}
-use Rattle.build_day.specs.Batches.{order_of, orders_of, orders_fed, opening_orders, orders_in_batch, batch_with, batches_of}
+use Rattle.build_day.specs.Batches.{plane_of, order_of, orders_of, orders_fed, opening_orders, orders_in_batch, batch_with, batches_of}
 use Rattle.build_day.proofs.FoundLemmas.{known_within}
 
 -- the orders of one row more
@@ -25,7 +25,7 @@ pub orders_more : {Row : Type 0} (f : Row → Option Order) (rows : List Row) (i
 orders_more f rows i row below is = sym (ap (filter_map f) (rows_more rows i row below is) ∙ filter_map-append f (take i rows) (row ∷ []))
 
 -- what holds of what each row gives holds of all that is given
-given_by : {Row : Type 0} (Q : Order → Type 0) (o : Option Order) (rest : List Order) → ((y : Order) → o ≡ Some y → Q y) → All Q rest → All Q (cons_option o rest)
+given_by : (Q : Order → Type 0) (o : Option Order) (rest : List Order) → ((y : Order) → o ≡ Some y → Q y) → All Q rest → All Q (cons_option o rest)
 given_by Q None rest one more = more
 given_by Q (Some y) rest one more = All-cons Q y rest (one y refl) more
 
@@ -40,13 +40,13 @@ IsGood x row = IsAboutKnown x row × IsAlt row
 is_order : (x : Files) (row : AltRow) (y : Order) → IsGood x row → order_of x row ≡ Some y → IsOrder (parts_of x) y
 unfolding parts_of
 is_order x (alt.Flight line flight day delay) y good e =
-    let same : order.Flight _ delay ≡ y = cc in
+    let same : order.Flight (leg_at x.rotations flight day) delay ≡ y = cc in
     subst (IsOrder (parts_of x)) same (rw (length-map x.rotations (leg_of x)) (known_within _ x.rotations good.0), good.1.1)
 is_order x (alt.Aircraft line aircraft from to) y good e =
-    let same : order.Aircraft _ from to ≡ y = cc in
+    let same : order.Aircraft (plane_of x.aircraft aircraft) from to ≡ y = cc in
     subst (IsOrder (parts_of x)) same (rw (length-map x.aircraft (plane_info x)) (known_within _ x.aircraft good.0))
 is_order x (alt.Field line airport from to deps arrs) y good e =
-    let same : order.Field _ from to deps arrs ≡ y = cc in
+    let same : order.Field (airport_of x.airports airport) from to deps arrs ≡ y = cc in
     subst (IsOrder (parts_of x)) same (rw (length-map x.airports airport_info) (known_within _ x.airports good.0))
 is_order x (alt.Nothing line) y good e = absurd cc
 

@@ -21,13 +21,19 @@ fn order_of(tables: &Tables<'_>, row: &AltRow) -> Option<Order>
 {
     match row {
         AltRow::Flight {
-            flight, day, delay, ..
+            flight,
+            day,
+            delay,
+            ..
         } => Some(Order::Flight {
             leg: leg_at(tables, flight, *day),
             delay: *delay,
         }),
         AltRow::Aircraft {
-            aircraft, from, to, ..
+            aircraft,
+            from,
+            to,
+            ..
         } => Some(Order::Aircraft {
             plane: plane_of(tables, aircraft),
             from: *from,
@@ -63,11 +69,7 @@ fn push_order(tables: &Tables<'_>, orders: &mut Vec<Order>, row: &AltRow) -> Res
 }
 
 /// Adds the orders of rows.
-fn push_orders(
-    tables: &Tables<'_>,
-    orders: &mut Vec<Order>,
-    rows: &[AltRow],
-) -> Result<(), NoMem>
+fn push_orders(tables: &Tables<'_>, orders: &mut Vec<Order>, rows: &[AltRow]) -> Result<(), NoMem>
     requires { AreFew tables.now.files.now }
     ensures { OnOk result (orders.new.items ≡ orders.old.items ++ orders_of tables.now.files.now rows.now) }
 {
@@ -146,5 +148,6 @@ pub fn batches_of(alloc: Global, tables: &Tables<'_>) -> Result<Vec<Batch>, NoMe
     ensures exact { IfOk result (λ batches. batches.items ≡ batches_of tables.now.files.now) }
     ensures orders { IfOk result (λ batches. All (λ batch. All (IsOrder (parts_of tables.now.files.now)) batch.orders) batches.items) }
 {
-    filled(alloc, tables)
+    let batches = filled(alloc, tables)?;
+    Ok(batches)
 }

@@ -9,7 +9,7 @@ loop-row-preserved c =
     let x = c.args.tables.now.files.now in
     let rows = c.args.rows.now in
     let row = c.row-item.result in
-    let before = c.args.orders.old.items in
+    let before = c.args.orders.now.items in
     c.in_ok-push_order.ensures
     ∙ ap (λ items. items ++ orders_of x (row ∷ [])) c.loop-row.invariant
     ∙ append_assoc before (orders_of x (take c.loop-row.row-index rows)) (orders_of x (row ∷ []))
