@@ -1,5 +1,5 @@
 -- The orders of the day are about its legs, aircraft and airports.
-use Rattle.std.proofs.Common.{◌≡◌, ℕ, ◌+◌, ◌<◌, ◌≤◌, List, [], ◌∷◌, ◌++◌, length, map, take, get_or, Option, Some, None, refl, sym, ap, subst, ◌∙◌, All}
+use Rattle.std.proofs.Common.{◌≡◌, ℕ, ◌+◌, ◌<◌, List, [], ◌∷◌, ◌++◌, length, take, get_or, Option, Some, None, refl, sym, ap, subst, ◌∙◌, All}
 use Rattle.std.specs.List.{filter, filter_map, range_with_len, cons_option}
 use Rattle.std.proofs.lemmas.List.{length-map}
 use Rattle.std.proofs.lemmas.List.Elements.{All-nil, All-cons, All-head, All-tail, All-map, All-append, All-filter, filter_map-append}
@@ -9,7 +9,7 @@ use Rattle.day_orders.specs.declared.orders.Batch.{Batch}
 use Rattle.desk_data.specs.Valid.{IsOrder}
 use Rattle.file_rows.specs.declared.disruptions.AltRow.{AltRow}
 use Rattle.file_rows.specs.declared.disruptions.AltRow.TheVariants as alt
-use Rattle.file_rows.specs.Facts.{IsAlt, IsFed}
+use Rattle.file_rows.specs.Facts.{IsAlt}
 use Rattle.build_tables.specs.declared.files.Files.{Files}
 use Rattle.build_tables.specs.Facts.{AreFileRows}
 use Rattle.build_tables.specs.Fitting.{IsAboutKnown, FitTogether}
@@ -17,7 +17,7 @@ use Rattle.build_tables.specs.Batches.{last_batch}
 use Rattle.build_tables.proofs.BatchLemmas.{rows_more}
 use Rattle.build_day.specs.Legs.{airport_of, leg_at, leg_of}
 use Rattle.build_day.specs.Day.{airport_info, plane_info, parts_of}
-use Rattle.build_day.specs.Batches.{plane_of, order_of, orders_of, orders_fed, opening_orders, orders_in_batch, batch_with, batches_of}
+use Rattle.build_day.specs.Batches.{plane_of, order_of, orders_of, opening_orders, orders_in_batch, batch_with, batches_of}
 use Rattle.build_day.proofs.FoundLemmas.{known_within}
 
 -- the orders of one row more

@@ -1,5 +1,5 @@
 -- The batches of the alt files and of the feed: names become numbers.
-use Rattle.std.specs.Prelude.{ℕ, zero, suc, ◌==◌, List, [], ◌∷◌, ◌++◌, map, Option, Some, None, unwrap_or}
+use Rattle.std.specs.Prelude.{ℕ, ◌==◌, List, ◌∷◌, ◌++◌, map, Option, Some, None, unwrap_or}
 use Rattle.std.specs.List.{filter, filter_map, range_with_len}
 use Rattle.desk_units.specs.declared.numbers.Plane.{Plane}
 use Rattle.day_orders.specs.declared.orders.Order.{Order}

@@ -11,7 +11,7 @@ pub returns-in_err-inst-clause-exact : goal.returns-in_err-inst-clause-exact
 returns-in_err-inst-clause-exact c = memory_gives _ _ c.from_residual.ensures.1
 
 pub returns-in_err-batches-clause-exact : goal.returns-in_err-batches-clause-exact
-returns-in_err-batches-clause-exact c = memory_gives _ _ c.from_residual.ensures.1
+returns-in_err-batches-clause-exact c = memory_gives _ _ c.from_residual-in_err-batches.ensures.1
 
 pub returns-clause-exact : goal.returns-clause-exact
 returns-clause-exact c = built_of-is c.args.tables.now.files.now _ (sym c.first_refusal.ensures.exact ∙ c.in_default.is) (λ i. record { inst = c.in_ok-inst.ensures i; batches = c.in_ok-batches.ensures.exact i })
