@@ -1,86 +1,166 @@
 -- What a book keeps when it is opened and when an entry is added.
-use Rattle.std.proofs.Common.{◌≡◌, ℕ, ◌+◌, ◌<◌, Bool, true, false, cond, List, [], ◌∷◌, ◌++◌, length, refl, sym, ap, ◌∙◌, arith, length-append}
-use Rattle.std.specs.Prelude.{None}
+use Rattle.std.proofs.Common.{◌≡◌, ℕ, ◌+◌, ◌<◌, Bool, true, false, cond, List, [], ◌∷◌, ◌++◌, length, refl, sym, ap, subst, ◌∙◌, arith, length-append}
+use Rattle.std.specs.Prelude.{None, reverse, take_while, count_by, not}
+use Rattle.std.specs.List.{All}
 use Rattle.std.proofs.lemmas.Bool.{lt-ltb}
-use Rattle.std.proofs.lemmas.List.Sums.{sum_by-append}
+use Rattle.std.proofs.lemmas.List.{reverse-append}
+use Rattle.std.proofs.lemmas.List.Sums.{sum_by-append, sum_by-cons, take_while-cons}
 use Rattle.desk_units.specs.declared.money.Grains.{Grains}
+use Rattle.day_orders.specs.declared.orders.Order.{Order}
+use Rattle.day_orders.specs.declared.orders.Batch.{Batch}
 use Rattle.plan_moves.specs.declared.moves.Move.{Move}
 use Rattle.desk_data.specs.Situation.{Situation, schedule}
 use Rattle.desk_data.specs.PlanRows.{PlanRows}
+use Rattle.desk_data.specs.Valid.{IsOrder}
 use Rattle.plan_moves.specs.Fits.{Fits}
 use Rattle.desk_model.specs.declared.answer.Answer.{Answer}
 use Rattle.desk_model.specs.declared.answer.Answer.TheVariants.{Accepted}
+use Rattle.desk_model.specs.declared.answer.Event.{Event}
 use Rattle.desk_model.specs.declared.answer.Event.TheVariants as event
 use Rattle.desk_model.specs.declared.answer.Entry.{Entry}
 use Rattle.desk_model.specs.Steps.{after_move}
-use Rattle.desk_model.specs.States.{opening, answer, after}
-use Rattle.desk_model.specs.Histories.{state, proposal_limit, Stands, changes, is_change}
+use Rattle.desk_model.specs.States.{State, opening, answer, after}
+use Rattle.desk_model.specs.Histories.{state, proposal_limit, batch_limit, has_room, IsAskable, Stands, IsLegal, is_batch, is_accepted, is_change, changes, since_batch, accepted_since_batch}
 use Rattle.desk_model.proofs.StateLaws.{accepted-cause, after-accepted, after-unchanged}
-use Rattle.desk_model.proofs.HistoryLaws.{state-append, legal-append, legal-nil}
+use Rattle.desk_model.proofs.HistoryLaws.{state-append, legal-append, legal-nil, askable-parts}
 use Rattle.desk_eval.specs.Evaluated.{Evaluated}
-use Rattle.desk_core.specs.BookParts.{IsBook}
+use Rattle.desk_core.specs.BookParts.{undisturbed, IsBook}
 use Rattle.desk_core.specs.Judged.{state_in}
+use Rattle.desk_core.specs.Taken.{IsTaken}
 
 -- an evaluator with an empty past
 abbrev pub settled_at : Situation → PlanRows → Evaluated
 settled_at I P = record { inst = I; rows = P; past = [] }
 
-pub kept_opening : (I : Situation) → I.orders ≡ [] → IsBook (settled_at I (schedule I)) 0 []
+-- an instance without orders is the one before any batch
+pub undisturbed_is : (I : Situation) → I.orders ≡ [] → undisturbed I ≡ I
+undisturbed_is I none = ap (λ (os : List Order). let at : Situation = record I { orders = os } in at) (sym none)
+
+pub kept_opening : (I : Situation) → I.orders ≡ [] → IsBook (settled_at I (schedule I)) 0 0 []
 unfolding opening
 kept_opening I none = record {
-  undisturbed = none;
   settled = refl;
-  legal = legal-nil (opening I);
-  reached = refl;
+  legal = legal-nil (opening (undisturbed I));
+  reached = rw (undisturbed_is I none) refl;
   changed = refl;
+  since = refl;
+  within = omega arith;
   few = omega arith;
+}
+
+-- ---- counts
+
+-- one entry more counts one change where its answer is one
+changes-push : (h : List Entry) (entry : Entry) (b : Bool) → is_change entry.event entry.answer ≡ b → changes (h ++ entry ∷ []) ≡ changes h + cond b 1 0
+changes-push h entry b is =
+    sum_by-append (λ (e : Entry). cond (is_change e.event e.answer) 1 0) h (entry ∷ [])
+    ∙ rw is (omega arith)
+
+since_is : (h : List Entry) (entry : Entry) → since_batch (h ++ entry ∷ []) ≡ cond (not (is_batch entry.event)) (entry ∷ since_batch h) []
+since_is h entry =
+    ap (take_while (λ (e : Entry). not (is_batch e.event))) (reverse-append h (entry ∷ []))
+    ∙ take_while-cons (λ (e : Entry). not (is_batch e.event)) entry (reverse h)
+
+-- a batch is the last one: none was accepted since
+since-batch : (h : List Entry) (entry : Entry) → is_batch entry.event ≡ true → accepted_since_batch (h ++ entry ∷ []) ≡ 0
+since-batch h entry is =
+    let none : cond (not (is_batch entry.event)) (entry ∷ since_batch h) [] ≡ [] = rw is refl in
+    let nothing : List Entry = [] in
+    let step : since_batch (h ++ entry ∷ []) ≡ nothing = since_is h entry ∙ none in
+    ap (count_by (λ (e : Entry). is_accepted e.answer)) step
+
+-- a proposal counts one where it is accepted
+since-push : (h : List Entry) (entry : Entry) (b : Bool) → is_batch entry.event ≡ false → is_accepted entry.answer ≡ b → accepted_since_batch (h ++ entry ∷ []) ≡ accepted_since_batch h + cond b 1 0
+since-push h entry b proposal is =
+    let more : cond (not (is_batch entry.event)) (entry ∷ since_batch h) [] ≡ entry ∷ since_batch h = rw proposal refl in
+    let step : since_batch (h ++ entry ∷ []) ≡ entry ∷ since_batch h = since_is h entry ∙ more in
+    ap (count_by (λ (e : Entry). is_accepted e.answer)) step
+    ∙ sum_by-cons (λ (e : Entry). cond (is_accepted e.answer) 1 0) entry (since_batch h)
+    ∙ rw is (omega arith)
+
+-- ---- one entry more
+
+entry_at : ℕ → Event → Answer → Entry
+entry_at caller e told = record { caller = caller; event = e; answer = told }
+
+stands : (E : Evaluated) (h : List Entry) (caller : ℕ) (e : Event) (told : Answer) → state (opening (undisturbed E.inst)) h ≡ state_in E → has_room (length h) e ≡ true → IsAskable E.inst e → answer (state_in E) e ≡ told → Stands (opening (undisturbed E.inst)) h (entry_at caller e told)
+unfolding entry_at
+stands E h caller e told reached room asked is = record {
+  room = room;
+  asked = rw reached asked;
+  told = rw reached (sym is);
 }
 
 -- the entry of a move
 abbrev entry_of_move : ℕ → Move → Answer → Entry
 entry_of_move caller m told = record { caller = caller; event = event.Move m; answer = told }
 
--- one entry more counts one change where its answer is one
-changes-push : (h : List Entry) (entry : Entry) (b : Bool) → is_change entry.answer ≡ b → changes (h ++ entry ∷ []) ≡ changes h + cond b 1 0
-changes-push h entry b is =
-    sum_by-append (λ (e : Entry). cond (is_change e.answer) 1 0) h (entry ∷ [])
-    ∙ rw is (omega arith)
+stands_move : (E : Evaluated) (h : List Entry) (caller : ℕ) (m : Move) (told : Answer) → state (opening (undisturbed E.inst)) h ≡ state_in E → length h < proposal_limit → Fits E.inst m → answer (state_in E) (event.Move m) ≡ told → Stands (opening (undisturbed E.inst)) h (entry_of_move caller m told)
+unfolding entry_at
+stands_move E h caller m told reached few fits is = stands E h caller (event.Move m) told reached (lt-ltb (length h) proposal_limit few) fits is
 
-stands : (E : Evaluated) (h : List Entry) (caller : ℕ) (m : Move) (told : Answer) → state (opening E.inst) h ≡ state_in E → length h < proposal_limit → Fits E.inst m → answer (state_in E) (event.Move m) ≡ told → Stands (opening E.inst) h (entry_of_move caller m told)
-stands E h caller m told reached few fits is = record {
-  room = lt-ltb (length h) proposal_limit few;
-  asked = rw reached fits;
-  told = rw reached (sym is);
-}
-
-pub kept_refused : (E : Evaluated) (counted : ℕ) (h : List Entry) (caller : ℕ) (m : Move) (told : Answer) → IsBook E counted h → length h < proposal_limit → Fits E.inst m → answer (state_in E) (event.Move m) ≡ told → is_change told ≡ false → IsBook E counted (h ++ entry_of_move caller m told ∷ [])
-kept_refused E counted h caller m told kept few fits is refused =
+pub kept_refused : (E : Evaluated) (counted accepted : ℕ) (h : List Entry) (caller : ℕ) (m : Move) (told : Answer) → IsBook E counted accepted h → length h < proposal_limit → Fits E.inst m → answer (state_in E) (event.Move m) ≡ told → is_accepted told ≡ false → IsBook E counted accepted (h ++ entry_of_move caller m told ∷ [])
+kept_refused E counted accepted h caller m told kept few fits is refused =
     let entry = entry_of_move caller m told in
     record {
-      undisturbed = kept.undisturbed;
       settled = kept.settled;
-      legal = legal-append (opening E.inst) h entry kept.legal (stands E h caller m told kept.reached few fits is);
-      reached = state-append (opening E.inst) h (entry ∷ []) ∙ rw kept.reached (after-unchanged (state_in E) (event.Move m) (ap is_change is ∙ refused));
+      legal = legal-append (opening (undisturbed E.inst)) h entry kept.legal (stands_move E h caller m told kept.reached few fits is);
+      reached = state-append (opening (undisturbed E.inst)) h (entry ∷ []) ∙ rw kept.reached (after-unchanged (state_in E) (event.Move m) (ap is_accepted is ∙ refused));
       changed = kept.changed ∙ sym (changes-push h entry false refused ∙ (let none : changes h + 0 ≡ changes h = omega arith in none));
+      since = kept.since ∙ sym (since-push h entry false refl refused ∙ (let none : accepted_since_batch h + 0 ≡ accepted_since_batch h = omega arith in none));
+      within = kept.within;
       few = omega (arith, few, length-append h (entry ∷ []));
     }
 
-pub kept_moved : (E : Evaluated) (counted : ℕ) (h : List Entry) (caller : ℕ) (m : Move) (told : Grains) → IsBook E counted h → length h < proposal_limit → Fits E.inst m → answer (state_in E) (event.Move m) ≡ Accepted told → IsBook (settled_at E.inst (after_move E.inst E.rows m)) (counted + 1) (h ++ entry_of_move caller m (Accepted told) ∷ [])
-kept_moved E counted h caller m told kept few fits is =
+pub kept_moved : (E : Evaluated) (counted accepted : ℕ) (h : List Entry) (caller : ℕ) (m : Move) (told : Grains) → IsBook E counted accepted h → length h < proposal_limit → Fits E.inst m → answer (state_in E) (event.Move m) ≡ Accepted told → IsBook (settled_at E.inst (after_move E.inst E.rows m)) (counted + 1) (accepted + 1) (h ++ entry_of_move caller m (Accepted told) ∷ [])
+kept_moved E counted accepted h caller m told kept few fits is =
     let S = state_in E in
     let entry = entry_of_move caller m (Accepted told) in
     let cause = accepted-cause S m told is in
     let F = settled_at E.inst (after_move E.inst E.rows m) in
-    let here : after (state (opening E.inst) h) (event.Move m) ≡ record { inst = F.inst; plan = F.rows; broken = None } = rw kept.reached (after-accepted S m told is) in
+    let here : after (state (opening (undisturbed E.inst)) h) (event.Move m) ≡ record { inst = F.inst; plan = F.rows; broken = None } = rw kept.reached (after-accepted S m told is) in
     let there : state_in F ≡ record { inst = F.inst; plan = F.rows; broken = None } = rw cause.feasible refl in
+    let grown = kept.within in
     record {
-      undisturbed = kept.undisturbed;
       settled = refl;
-      legal = legal-append (opening E.inst) h entry kept.legal (stands E h caller m (Accepted told) kept.reached few fits is);
-      reached = state-append (opening E.inst) h (entry ∷ []) ∙ here ∙ sym there;
+      legal = legal-append (opening (undisturbed E.inst)) h entry kept.legal (stands_move E h caller m (Accepted told) kept.reached few fits is);
+      reached = state-append (opening (undisturbed E.inst)) h (entry ∷ []) ∙ here ∙ sym there;
       changed = ap (λ n. n + 1) kept.changed ∙ sym (changes-push h entry true refl);
+      since = ap (λ n. n + 1) kept.since ∙ sym (since-push h entry true refl refl);
+      within = omega (arith, grown);
       few = omega (arith, few, length-append h (entry ∷ []));
     }
+
+-- the entry of a batch
+abbrev entry_of_batch : ℕ → Batch → Answer → Entry
+entry_of_batch caller B told = record { caller = caller; event = event.Batch B; answer = told }
+
+stands_batch : (E : Evaluated) (h : List Entry) (caller : ℕ) (B : Batch) (told : Answer) → state (opening (undisturbed E.inst)) h ≡ state_in E → length h < batch_limit → All (IsOrder E.inst.parts) B.orders → answer (state_in E) (event.Batch B) ≡ told → Stands (opening (undisturbed E.inst)) h (entry_of_batch caller B told)
+unfolding entry_at
+stands_batch E h caller B told reached few orders is = stands E h caller (event.Batch B) told reached (lt-ltb (length h) batch_limit few) orders is
+
+pub kept_taken : (E F : Evaluated) (counted accepted : ℕ) (h : List Entry) (caller : ℕ) (B : Batch) (told : Answer) → IsBook E counted accepted h → length h < batch_limit → All (IsOrder E.inst.parts) B.orders → IsTaken E B F told → IsBook F (counted + 1) 0 (h ++ entry_of_batch caller B told ∷ [])
+kept_taken E F counted accepted h caller B told kept few orders taken =
+    let entry = entry_of_batch caller B told in
+    let same : undisturbed E.inst ≡ undisturbed F.inst = sym (ap undisturbed taken.inst) in
+    let legal = legal-append (opening (undisturbed E.inst)) h entry kept.legal (stands_batch E h caller B told kept.reached few orders taken.answered) in
+    let reached : state (opening (undisturbed E.inst)) (h ++ entry ∷ []) ≡ state_in F
+    = state-append (opening (undisturbed E.inst)) h (entry ∷ []) ∙ ap (λ (S : State). after S (event.Batch B)) kept.reached ∙ taken.reached in
+    record {
+      settled = taken.settled;
+      legal = subst (λ (I : Situation). IsLegal (opening I) (h ++ entry ∷ [])) same legal;
+      reached = subst (λ (I : Situation). state (opening I) (h ++ entry ∷ []) ≡ state_in F) same reached;
+      changed = ap (λ n. n + 1) kept.changed ∙ sym (changes-push h entry true refl);
+      since = sym (since-batch h entry refl);
+      within = omega arith;
+      few = omega (arith, few, length-append h (entry ∷ []));
+    }
+
+-- ---- what can be asked
+
+-- a move that fits the instance before any batch fits it with all their orders
+pub fits_disturbed : (I : Situation) (m : Move) → Fits (undisturbed I) m → Fits I m
+fits_disturbed I m fits = askable-parts (undisturbed I) I (event.Move m) refl fits
 
 -- the evaluator behind a move, once its past is forgotten
 pub settled_moved : (E F : Evaluated) (m : Move) → F.inst ≡ E.inst → F.rows ≡ after_move E.inst E.rows m → record F { past = [] } ≡ settled_at E.inst (after_move E.inst E.rows m)

@@ -1,2 +1,4 @@
 pub mod JudgedLaws
+pub mod TakenLaws
 pub mod KeptLaws
+pub mod TurnedLaws

@@ -1,16 +1,22 @@
 -- What every book keeps.
 use Rattle.std.specs.Prelude.{◌≡◌, ℕ, ◌≤◌, List, [], length}
+use Rattle.desk_data.specs.Situation.{Situation}
 use Rattle.desk_eval.specs.Evaluated.{Evaluated}
 use Rattle.desk_model.specs.declared.answer.Entry.{Entry}
 use Rattle.desk_model.specs.States.{opening}
-use Rattle.desk_model.specs.Histories.{state, proposal_limit, IsLegal, changes}
+use Rattle.desk_model.specs.Histories.{state, batch_limit, IsLegal, changes, accepted_since_batch}
 use Rattle.desk_core.specs.Judged.{state_in}
 
--- the plan in the evaluator and the count of changes are those of the journal h, and no change waits to be taken back
-pub record IsBook (E : Evaluated) (counted : ℕ) (h : List Entry) : Type 0 where
-  pub undisturbed : E.inst.orders ≡ []
+-- the instance before any batch: its joined rows, and no orders
+abbrev pub undisturbed : Situation → Situation
+undisturbed I = record I { orders = [] }
+
+-- the plan in the evaluator and both counts are those of the journal h, and no change waits to be taken back
+pub record IsBook (E : Evaluated) (counted accepted : ℕ) (h : List Entry) : Type 0 where
   pub settled : E.past ≡ []
-  pub legal : IsLegal (opening E.inst) h
-  pub reached : state (opening E.inst) h ≡ state_in E
+  pub legal : IsLegal (opening (undisturbed E.inst)) h
+  pub reached : state (opening (undisturbed E.inst)) h ≡ state_in E
   pub changed : counted ≡ changes h
-  pub few : length h ≤ proposal_limit
+  pub since : accepted ≡ accepted_since_batch h
+  pub within : accepted ≤ counted
+  pub few : length h ≤ batch_limit

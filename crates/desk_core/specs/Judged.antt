@@ -9,7 +9,7 @@ use Rattle.desk_model.specs.declared.answer.Answer.TheVariants.{Accepted}
 use Rattle.desk_model.specs.declared.answer.Event.TheVariants as event
 use Rattle.desk_model.specs.Steps.{after_move}
 use Rattle.desk_model.specs.States.{State, answer}
-use Rattle.desk_model.specs.Histories.{is_change}
+use Rattle.desk_model.specs.Histories.{is_accepted}
 use Rattle.desk_eval.specs.Evaluated.{Evaluated}
 use Rattle.desk_moves.specs.Back.{WayBack, back_to}
 use Rattle.desk_core.specs.declared.judged.Judged.{Judged}
@@ -21,7 +21,7 @@ state_in E = record { inst = E.inst; plan = E.rows; broken = least E.inst E.rows
 
 -- whether a verdict refuses: where it does, this is told; else the move is accepted at this cost
 abbrev pub IsVerdict : Answer → ℕ → Option Answer → Type 0
-IsVerdict verdict would (Some told) = (verdict ≡ told) × (is_change told ≡ false)
+IsVerdict verdict would (Some told) = (verdict ≡ told) × (is_accepted told ≡ false)
 IsVerdict verdict would None = verdict ≡ Accepted (grains would)
 
 -- the move is accepted at this cost; the moved plan stands in the evaluator, and is taken back by this
@@ -34,7 +34,7 @@ pub record IsMoved (before : Evaluated) (m : Move) (behind : Evaluated) (undo : 
 -- the move is refused with this answer, and the evaluator is as before
 pub record IsRefused (before : Evaluated) (m : Move) (behind : Evaluated) (told : Answer) : Type 0 where
   pub answered : answer (state_in before) (event.Move m) ≡ told
-  pub refused : is_change told ≡ false
+  pub refused : is_accepted told ≡ false
   pub same : behind ≡ before
 
 -- what becomes of a move, between the evaluator before it and the one behind it

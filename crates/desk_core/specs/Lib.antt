@@ -6,3 +6,5 @@ pub use Rattle.desk_eval.specs.Evaluated
 pub mod Recorded
 pub mod BookParts
 pub mod Judged
+pub mod Taken
+pub mod Turned

@@ -7,7 +7,7 @@ use Rattle.desk_model.specs.declared.answer.Event.{Event}
 use Rattle.desk_model.specs.declared.answer.Entry.{Entry}
 use Rattle.desk_model.specs.States as states
 use Rattle.desk_model.specs.States.{State}
-use Rattle.desk_model.specs.Histories.{state, has_room, changes, entry_of}
+use Rattle.desk_model.specs.Histories.{state, has_room, entry_of}
 
 -- the instance that a book was opened with, and its journal
 pub record Recorded : Type 0 where
@@ -26,7 +26,3 @@ reply B event = if has_room (length B.journal) event then states.answer (state_o
 abbrev pub with_entry : Recorded → ℕ → Event → Recorded
 with_entry B caller event =
     if has_room (length B.journal) event then record B { journal = B.journal ++ entry_of (state_of B) caller event ∷ [] } else B
-
--- how many proposals were accepted since the last batch; there are no batches, so each change is one
-abbrev pub accepted_count : List Entry → ℕ
-accepted_count h = changes h

@@ -1,9 +1,10 @@
 //! The book.
 
-ghost use Rattle.std.specs.Prelude.{◌≡◌, ◌≤◌, [], length, drop, IfOk, OnOk, OnErr};
+ghost use Rattle.std.specs.Prelude.{◌≡◌, ◌≤◌, [], length, drop, All, IfOk, OnOk, OnErr};
 
 use crate::judged::{Judged, judge, publish};
-use desk_data::{Broken, Grains, Instance, NoMem};
+use crate::taken::{Taken, copied_batch, take_in};
+use desk_data::{Batch, Broken, Grains, Instance, NoMem};
 use desk_eval::Evaluator;
 use desk_model::{Answer, Entry, Event};
 use desk_moves::undo;
@@ -14,36 +15,43 @@ use std::marker::Model;
 /// A journal of fewer entries than this takes a proposal.
 const PROPOSAL_LIMIT: usize = 900_000;
 
-/// The desk's book: the state, and the journal of what was proposed and answered. Contracts see it
-/// as the instance that it was opened with and its journal: its state is that of its journal.
+/// A journal of fewer entries than this takes a batch.
+const BATCH_LIMIT: usize = 1_000_000;
+
+/// The desk's book: the state, and the journal of what arrived, what was proposed and what was
+/// answered. Contracts see it as the instance that it was opened with and its journal: its state is
+/// that of its journal.
 #[derive(Debug, Drop)]
 pub struct Book {
     /// The instance and the plan. Between two calls no change of the plan waits to be taken back.
     eval: Evaluator,
     journal: Vec<Entry>,
-    /// How many entries of the journal changed the plan.
+    /// How many entries of the journal changed the state.
     changes: u32,
+    /// How many proposals were accepted since the last batch.
+    accepted: u32,
 }
 
 impl Model for Book {
     ghost use Rattle.desk_core.specs.Recorded.{Recorded};
-    ghost use Rattle.desk_core.specs.BookParts.{IsBook};
+    ghost use Rattle.desk_core.specs.BookParts.{IsBook, undisturbed};
 
     ghost Value = { Recorded };
 
-    ghost view = { λ b. record { opening = b.eval.inst; journal = b.journal.items } };
+    ghost view = { λ b. record { opening = undisturbed b.eval.inst; journal = b.journal.items } };
 
-    ghost invariant = { λ b. IsBook b.eval b.changes b.journal.items };
+    ghost invariant = { λ b. IsBook b.eval b.changes b.accepted b.journal.items };
 }
 
 impl Book {
+    ghost use Rattle.desk_data.specs.Valid.{IsOrder};
     ghost use Rattle.plan_moves.specs.Fits.{Fits};
     ghost use Rattle.desk_rules.specs.Cost.{grains};
     ghost use Rattle.desk_model.specs.declared.answer.Event.TheVariants as event;
     ghost use Rattle.desk_model.specs.States.{opening};
-    ghost use Rattle.desk_model.specs.Histories.{changes, IsLegal};
+    ghost use Rattle.desk_model.specs.Histories.{accepted_since_batch, changes, IsLegal};
     ghost use Rattle.desk_model.specs.Promises.{cost_of, KeepsPromises};
-    ghost use Rattle.desk_core.specs.Recorded.{Recorded, state_of, reply, with_entry, accepted_count};
+    ghost use Rattle.desk_core.specs.Recorded.{Recorded, state_of, reply, with_entry};
 
     /// The book of an instance that has no orders: its plan is the schedule, and nothing is
     /// journalled yet.
@@ -57,7 +65,37 @@ impl Book {
             eval,
             journal: Vec::new(alloc),
             changes: 0,
+            accepted: 0,
         })
+    }
+
+    /// Takes the news of a batch. Where the journal has 1,000,000 entries, the answer is `Full` and
+    /// nothing changes. Else the batch's orders are taken, the plan is what the desk falls back on,
+    /// and one entry is journalled. After `NoMem` the book is as before.
+    pub fn intake(&mut self, alloc: Global, caller: u32, batch: &Batch) -> Result<Answer, NoMem>
+        requires { All (IsOrder self.old.opening.parts) batch.now.orders }
+        ensures answer { IfOk result (λ told. told ≡ reply self.old (event.Batch batch.now)) }
+        ensures after { OnOk result (self.new ≡ with_entry self.old caller (event.Batch batch.now)) }
+        ensures err { OnErr result (self.new ≡ self.old) }
+        ensures opening { self.new.opening ≡ self.old.opening }
+    {
+        if self.journal.len() >= BATCH_LIMIT {
+            return Ok(Answer::Full {
+                entries: self.entries(),
+            });
+        }
+        self.journal.reserve(1)?;
+        let event = Event::Batch(copied_batch(alloc, batch)?);
+        let Taken { eval, answer } = take_in(alloc, &self.eval, batch)?;
+        self.journal.push(Entry {
+            caller,
+            event,
+            answer,
+        })?;
+        self.eval = eval;
+        self.changes += 1;
+        self.accepted = 0;
+        Ok(answer)
     }
 
     /// Proposes a move. Where the journal has 900,000 entries, the answer is `Full` and nothing
@@ -94,6 +132,7 @@ impl Book {
                 }
                 publish(&mut self.eval, applied);
                 self.changes += 1;
+                self.accepted += 1;
                 Ok(answer)
             }
             Judged::Refused(answer) => {
@@ -107,30 +146,30 @@ impl Book {
         }
     }
 
-    /// How many entries the journal has, at most 900,000.
+    /// How many entries the journal has, at most 1,000,000. The journal is legal.
     pub fn entries(&self) -> u32
         ensures count { result ≡ length self.now.journal }
-        ensures limit { result ≤ 900000 }
+        ensures limit { result ≤ 1000000 }
+        ensures legal { IsLegal (opening self.now.opening) self.now.journal }
     {
         self.journal.len() as u32
     }
 
-    /// How many entries changed the plan.
+    /// How many entries changed the state: all batches, and the proposals that were accepted.
     pub fn changes(&self) -> u32
         ensures { result ≡ changes self.now.journal }
     {
         self.changes
     }
 
-    /// How many proposals were accepted since the last batch. There are no batches, so each change
-    /// is one.
+    /// How many proposals were accepted since the last batch.
     pub fn accepted(&self) -> u32
-        ensures { result ≡ accepted_count self.now.journal }
+        ensures { result ≡ accepted_since_batch self.now.journal }
     {
-        self.changes
+        self.accepted
     }
 
-    /// The first item that the plan breaks. There is a plan to publish where there is none.
+    /// The first item that the rows break. There is a plan exactly where there is none.
     pub fn broken(&self) -> Option<Broken>
         ensures { result ≡ (state_of self.now).broken }
     {
@@ -153,15 +192,16 @@ impl Book {
         &self.eval
     }
 
-    /// The instance as it is disrupted, which is the one that the book was opened with.
+    /// The instance as it is disrupted: the one that the book was opened with, and the orders of all
+    /// batches.
     pub fn instance(&self) -> &Instance
         ensures now { result.now ≡ (state_of self.now).inst }
-        ensures opening { result.now ≡ self.now.opening }
+        ensures parts { result.now.parts ≡ self.now.opening.parts }
     {
         self.eval.instance()
     }
 
-    /// The journal: who proposed what, and what the answer was. Each answer is that of the state
+    /// The journal: who asked, what arrived or was proposed, and what the answer was. Each answer is that of the state
     /// before it, and so it keeps what is promised of every legal history.
     pub fn journal(&self) -> &[Entry]
         ensures entries { result.now ≡ self.now.journal }
@@ -200,6 +240,7 @@ fn copied_event(alloc: Global, event: &Event) -> Result<Event, NoMem>
     ensures { IfOk result (λ copy. copy ≡ event.now) }
 {
     match event {
+        Event::Batch(batch) => Ok(Event::Batch(copied_batch(alloc, batch)?)),
         Event::Move(m) => Ok(Event::Move(m.copy(alloc)?)),
     }
 }

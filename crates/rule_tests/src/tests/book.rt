@@ -61,7 +61,9 @@ fn later_entries_are_copied(rt: HostRuntime) -> Result<(), Fail> {
         now: half,
         would: half,
     };
-    let Event::Move(proposed) = &entry.event;
+    let Event::Move(proposed) = &entry.event else {
+        return Err(Fail::new("not a move"));
+    };
     assert_eq!(rt; (entry.caller, entry.answer), (2, answer));
     let [Step::Set { leg, was, new }] = proposed.steps.as_slice() else {
         return Err(Fail::new("not one step that sets a row"));

@@ -1,0 +1,140 @@
+-- A book as turns serve it.
+use Rattle.std.proofs.Common.{◌≡◌, ℕ, Bool, true, false, leb, List, ◌++◌, length, take, refl, sym, ap, subst, ◌∙◌, inl, inr}
+use Rattle.std.specs.Prelude.{None, Some, Option, is_none, not, Result, Ok, Err, IfOk, OnOk}
+use Rattle.std.proofs.lemmas.Bool.{cases_Bool}
+use Rattle.std.proofs.lemmas.List.{append-nil}
+use Rattle.plan_moves.specs.declared.moves.Move.{Move}
+use Rattle.desk_data.specs.declared.broken.Broken.{Broken}
+use Rattle.desk_data.specs.Situation.{Situation}
+use Rattle.desk_rules.specs.Least.{least}
+use Rattle.desk_rules.specs.Cost.{cost}
+use Rattle.desk_model.specs.declared.answer.Answer.{Answer}
+use Rattle.desk_model.specs.declared.answer.Event.{Event}
+use Rattle.desk_model.specs.declared.answer.Event.TheVariants as event
+use Rattle.desk_model.specs.declared.answer.Entry.{Entry}
+use Rattle.desk_model.specs.declared.fallbacks.Fallback.{Fallback}
+use Rattle.desk_model.specs.declared.fallbacks.Fallback.TheVariants as fallen
+use Rattle.desk_model.specs.Steps.{after_move}
+use Rattle.desk_model.specs.States.{State, opening, with_batch, fallback_on, batch_answer, verdict, move_answer, answer}
+use Rattle.desk_model.specs.Histories.{state, has_room, IsAskable, Stands, IsLegal, entry_of}
+use Rattle.desk_model.specs.Promises.{KeepsPromises}
+use Rattle.desk_model.proofs.HistoryLaws.{promises}
+use Rattle.desk_model.proofs.NewsLaws.{askable_along}
+use Rattle.turn_book.specs.Histories as turn
+use Rattle.turn_book.specs.Passes.{Called}
+use Rattle.turn_book.specs.declared.view.View.{View}
+use Rattle.desk_core.specs.Recorded.{Recorded, reply, with_entry}
+use Rattle.desk_core.specs.Turned.{is_full, entry_added, Replies, IsToldOf}
+
+-- ---- no state answers Full
+
+batch_tells : (I : Situation) (F : Fallback) → is_full (batch_answer I F) ≡ false
+batch_tells I (fallen.Chosen which Q) = refl
+batch_tells I (fallen.NoPlan item Q) = refl
+
+verdict_tells : (b : Option Broken) (now would : ℕ) → is_full (verdict b now would) ≡ false
+verdict_tells (Some item) now would = refl
+verdict_tells None now would =
+    elim (cases_Bool (leb now would)) [
+      | inl dear ↦ rw dear refl
+      | inr cheap ↦ rw cheap refl
+    ]
+
+move_tells : (S : State) (m : Move) (b : Option Broken) → is_full (move_answer S m b) ≡ false
+move_tells S m (Some item) = refl
+move_tells S m None = verdict_tells (least S.inst (after_move S.inst S.plan m)) (cost S.inst S.plan) (cost S.inst (after_move S.inst S.plan m))
+
+pub answer_tells : (S : State) (e : Event) → is_full (answer S e) ≡ false
+unfolding answer
+answer_tells S (event.Batch B) = batch_tells (with_batch S.inst B) (fallback_on S B)
+answer_tells S (event.Move m) = move_tells S m S.broken
+
+-- ---- what is served
+
+reply_tells : (I : Situation) (g : List Entry) (caller : ℕ) (e : Event) → is_full (reply (record { opening = I; journal = g }) e) ≡ is_none (entry_added I g caller e)
+reply_tells I g caller e =
+    elim (cases_Bool (has_room (length g) e)) [
+      | inl room ↦ rw room (answer_tells (state (opening I) g) e)
+      | inr full ↦ rw full refl
+    ]
+
+journal_grows : (R : Recorded) (caller : ℕ) (e : Event) → (with_entry R caller e).journal ≡ R.journal ++ turn.listed (entry_added R.opening R.journal caller e)
+journal_grows R caller e =
+    elim (cases_Bool (has_room (length R.journal) e)) [
+      | inl room ↦ rw room refl
+      | inr full ↦ rw full (sym (append-nil R.journal))
+    ]
+
+pub served : (R Q : Recorded) (caller : ℕ) (e : Event) (told : Answer) → told ≡ reply R e → Q ≡ with_entry R caller e → turn.Served Replies R.opening R.journal caller e told Q.journal
+served R Q caller e told is behind = (
+  entry_added R.opening R.journal caller e,
+  record { answered = is; recorded = refl; full = ap is_full is ∙ reply_tells R.opening R.journal caller e },
+  ap (λ (S : Recorded). S.journal) behind ∙ journal_grows R caller e,
+)
+
+-- and of a call that is Ok or not
+pub served_call : {E : Type 0} (R Q : Recorded) (caller : ℕ) (e : Event) (result : Result Answer E) → IfOk result (λ told. told ≡ reply R e) → OnOk result (Q ≡ with_entry R caller e) → IfOk result (λ told. turn.Served Replies R.opening R.journal caller e told Q.journal)
+served_call R Q caller e (Ok told) is behind = served R Q caller e told is behind
+served_call R Q caller e (Err error) is behind = tt
+
+-- ---- legal histories
+
+answered_at : (I : Situation) (g : List Entry) (entry : Entry) → Stands (opening I) g entry → Replies I g entry.caller entry.event entry.answer (Some entry)
+answered_at I g entry s =
+    let S = state (opening I) g in
+    record {
+      answered = rw s.room s.told;
+      recorded = rw s.room (ap (λ (a : Answer). let at : Entry = record { caller = entry.caller; event = entry.event; answer = a } in Some at) s.told);
+      full = ap is_full s.told ∙ answer_tells S entry.event;
+    }
+
+-- a legal history of the desk is one that turns have
+pub turn_legal : (I : Situation) (h : List Entry) → IsLegal (opening I) h → turn.IsLegal IsAskable Replies I h
+turn_legal I h legal k entry at =
+    let s = legal k entry at in
+    (entry.caller, entry.event, entry.answer, (askable_along I (take k h) entry.event).0 s.asked, answered_at I (take k h) entry s)
+
+added_is : (I : Situation) (g : List Entry) (caller : ℕ) (e : Event) (entry : Entry) (b : Bool) → has_room (length g) e ≡ b → Some entry ≡ entry_added I g caller e → (has_room (length g) e ≡ true) × (entry ≡ entry_of (state (opening I) g) caller e)
+added_is I g caller e entry true room is =
+    let some : Some entry ≡ Some (entry_of (state (opening I) g) caller e) = rw room at is in
+    (room, cc)
+added_is I g caller e entry false room is =
+    let none : Some entry ≡ None = rw room at is in
+    absurd cc
+
+stands_at : (I : Situation) (g : List Entry) (caller : ℕ) (e : Event) (told : Answer) (entry : Entry) → IsAskable I e → Replies I g caller e told (Some entry) → Stands (opening I) g entry
+stands_at I g caller e told entry asked replies =
+    let facts = added_is I g caller e entry (has_room (length g) e) refl replies.recorded in
+    let made : Stands (opening I) g (entry_of (state (opening I) g) caller e) = record { room = facts.0; asked = (askable_along I g e).1 asked; told = refl } in
+    subst (λ (x : Entry). Stands (opening I) g x) (sym facts.1) made
+
+-- and what turns have is a legal history of the desk
+pub desk_legal : (I : Situation) (h : List Entry) → turn.IsLegal IsAskable Replies I h → IsLegal (opening I) h
+desk_legal I h legal k entry at =
+    let by = legal k entry at in
+    stands_at I (take k h) by.0 by.1 by.2 entry by.3 by.4
+
+pub turn_promises : (I : Situation) (h : List Entry) → turn.IsLegal IsAskable Replies I h → KeepsPromises I h
+turn_promises I h legal = promises I h (desk_legal I h legal)
+
+-- ---- what a call tells
+
+told_none : (I : Situation) (g : List Entry) (caller : ℕ) (e : Event) → is_none (entry_added I g caller e) ≡ not (has_room (length g) e)
+told_none I g caller e =
+    elim (cases_Bool (has_room (length g) e)) [
+      | inl room ↦ rw room refl
+      | inr full ↦ rw full refl
+    ]
+
+pub told_of : (I : Situation) (v : View Situation Entry) (caller : ℕ) (e : Event) (told : Answer) (w : View Situation Entry) → Called Replies I v caller e told w → IsToldOf I v caller e told w
+told_of I v caller e told w called = record {
+  history = called.before;
+  began = called.began;
+  room = λ room.
+      let added : called.added ≡ Some (entry_of (state (opening I) called.before) caller e) = called.answered.recorded ∙ rw room refl in
+      (called.answered.answered ∙ rw room refl, called.seen ∙ rw added refl, called.made ∙ rw added refl);
+  none = λ full.
+      let added : called.added ≡ None = called.answered.recorded ∙ rw full refl in
+      (called.answered.answered ∙ rw full refl, called.seen ∙ rw added (append-nil called.before), called.made ∙ rw added (append-nil v.made));
+  tells = called.answered.full ∙ ap is_none called.answered.recorded ∙ told_none I called.before caller e;
+}
