@@ -1,6 +1,6 @@
 -- A book as turns serve it.
 use Rattle.std.proofs.Common.{◌≡◌, ℕ, Bool, true, false, leb, List, ◌++◌, length, take, refl, sym, ap, subst, ◌∙◌, inl, inr}
-use Rattle.std.specs.Prelude.{None, Some, Option, is_none, not, Result, Ok, Err, IfOk, OnOk}
+use Rattle.std.specs.Prelude.{None, Some, Option, is_some, not, Result, Ok, Err, IfOk, OnOk}
 use Rattle.std.proofs.lemmas.Bool.{cases_Bool}
 use Rattle.std.proofs.lemmas.List.{append-nil}
 use Rattle.plan_moves.specs.declared.moves.Move.{Move}
@@ -24,7 +24,7 @@ use Rattle.turn_book.specs.Histories as turn
 use Rattle.turn_book.specs.Passes.{Called}
 use Rattle.turn_book.specs.declared.view.View.{View}
 use Rattle.desk_core.specs.Recorded.{Recorded, reply, with_entry}
-use Rattle.desk_core.specs.Turned.{is_full, entry_added, Replies, IsToldOf}
+use Rattle.desk_core.specs.Turned.{is_full, tells_entry, entry_added, Replies, IsToldOf}
 
 -- ---- no state answers Full
 
@@ -51,10 +51,10 @@ answer_tells S (event.Move m) = move_tells S m S.broken
 
 -- ---- what is served
 
-reply_tells : (I : Situation) (g : List Entry) (caller : ℕ) (e : Event) → is_full (reply (record { opening = I; journal = g }) e) ≡ is_none (entry_added I g caller e)
+reply_tells : (I : Situation) (g : List Entry) (caller : ℕ) (e : Event) → is_some (entry_added I g caller e) ≡ tells_entry (reply (record { opening = I; journal = g }) e)
 reply_tells I g caller e =
     elim (cases_Bool (has_room (length g) e)) [
-      | inl room ↦ rw room (answer_tells (state (opening I) g) e)
+      | inl room ↦ (let quiet = answer_tells (state (opening I) g) e in rw (room, quiet) refl)
       | inr full ↦ rw full refl
     ]
 
@@ -65,15 +65,16 @@ journal_grows R caller e =
       | inr full ↦ rw full (sym (append-nil R.journal))
     ]
 
-pub served : (R Q : Recorded) (caller : ℕ) (e : Event) (told : Answer) → told ≡ reply R e → Q ≡ with_entry R caller e → turn.Served Replies R.opening R.journal caller e told Q.journal
+pub served : (R Q : Recorded) (caller : ℕ) (e : Event) (told : Answer) → told ≡ reply R e → Q ≡ with_entry R caller e → turn.Served Replies tells_entry R.opening R.journal caller e told Q.journal
 served R Q caller e told is behind = (
   entry_added R.opening R.journal caller e,
-  record { answered = is; recorded = refl; full = ap is_full is ∙ reply_tells R.opening R.journal caller e },
+  record { answered = is; recorded = refl },
   ap (λ (S : Recorded). S.journal) behind ∙ journal_grows R caller e,
+  reply_tells R.opening R.journal caller e ∙ sym (ap tells_entry is),
 )
 
 -- and of a call that is Ok or not
-pub served_call : {E : Type 0} (R Q : Recorded) (caller : ℕ) (e : Event) (result : Result Answer E) → IfOk result (λ told. told ≡ reply R e) → OnOk result (Q ≡ with_entry R caller e) → IfOk result (λ told. turn.Served Replies R.opening R.journal caller e told Q.journal)
+pub served_call : {E : Type 0} (R Q : Recorded) (caller : ℕ) (e : Event) (result : Result Answer E) → IfOk result (λ told. told ≡ reply R e) → OnOk result (Q ≡ with_entry R caller e) → IfOk result (λ told. turn.Served Replies tells_entry R.opening R.journal caller e told Q.journal)
 served_call R Q caller e (Ok told) is behind = served R Q caller e told is behind
 served_call R Q caller e (Err error) is behind = tt
 
@@ -85,7 +86,6 @@ answered_at I g entry s =
     record {
       answered = rw s.room s.told;
       recorded = rw s.room (ap (λ (a : Answer). let at : Entry = record { caller = entry.caller; event = entry.event; answer = a } in Some at) s.told);
-      full = ap is_full s.told ∙ answer_tells S entry.event;
     }
 
 -- a legal history of the desk is one that turns have
@@ -119,14 +119,14 @@ turn_promises I h legal = promises I h (desk_legal I h legal)
 
 -- ---- what a call tells
 
-told_none : (I : Situation) (g : List Entry) (caller : ℕ) (e : Event) → is_none (entry_added I g caller e) ≡ not (has_room (length g) e)
-told_none I g caller e =
+full_is : (I : Situation) (g : List Entry) (e : Event) → is_full (reply (record { opening = I; journal = g }) e) ≡ not (has_room (length g) e)
+full_is I g e =
     elim (cases_Bool (has_room (length g) e)) [
-      | inl room ↦ rw room refl
+      | inl room ↦ rw room (answer_tells (state (opening I) g) e)
       | inr full ↦ rw full refl
     ]
 
-pub told_of : (I : Situation) (v : View Situation Entry) (caller : ℕ) (e : Event) (told : Answer) (w : View Situation Entry) → Called Replies I v caller e told w → IsToldOf I v caller e told w
+pub told_of : (I : Situation) (v : View Situation Entry) (caller : ℕ) (e : Event) (told : Answer) (w : View Situation Entry) → Called Replies tells_entry I v caller e told w → IsToldOf I v caller e told w
 told_of I v caller e told w called = record {
   history = called.before;
   began = called.began;
@@ -136,5 +136,5 @@ told_of I v caller e told w called = record {
   none = λ full.
       let added : called.added ≡ None = called.answered.recorded ∙ rw full refl in
       (called.answered.answered ∙ rw full refl, called.seen ∙ rw added (append-nil called.before), called.made ∙ rw added (append-nil v.made));
-  tells = called.answered.full ∙ ap is_none called.answered.recorded ∙ told_none I called.before caller e;
+  tells = ap is_full called.answered.answered ∙ full_is I called.before e;
 }

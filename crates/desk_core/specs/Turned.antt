@@ -1,5 +1,5 @@
 -- What a turn is told of a book.
-use Rattle.std.specs.Prelude.{◌≡◌, ℕ, Bool, true, false, not, if◌then◌else◌, List, [], ◌∷◌, ◌++◌, length, Option, Some, None, is_none}
+use Rattle.std.specs.Prelude.{◌≡◌, ℕ, Bool, true, false, not, if◌then◌else◌, List, [], ◌∷◌, ◌++◌, length, Option, Some, None}
 use mathlib.Core.List.{IsPrefix}
 use Rattle.desk_data.specs.Situation.{Situation}
 use Rattle.desk_model.specs.declared.answer.Answer.{Answer}
@@ -16,15 +16,18 @@ abbrev pub is_full : Answer → Bool
 is_full (Full entries) = true
 is_full other = false
 
+-- an answer tells that an entry was added unless it is Full
+abbrev pub tells_entry : Answer → Bool
+tells_entry told = not (is_full told)
+
 -- the entry that an event adds behind a history, or none where there is no room for it
 abbrev pub entry_added : Situation → List Entry → ℕ → Event → Option Entry
 entry_added I g caller e = if has_room (length g) e then Some (entry_of (state (opening I) g) caller e) else None
 
--- at the history g from the opening of an instance a caller's event is answered with this, and this entry is added, or none. The answer tells which: it is Full exactly where none is
+-- at the history g from the opening of an instance a caller's event is answered with this, and this entry is added, or none
 pub record Replies (I : Situation) (g : List Entry) (caller : ℕ) (e : Event) (told : Answer) (added : Option Entry) : Type 0 where
   pub answered : told ≡ reply (record { opening = I; journal = g }) e
   pub recorded : added ≡ entry_added I g caller e
-  pub full : is_full told ≡ is_none added
 
 -- what a pass is told by a call, and what it then has seen and made
 pub record IsToldOf (I : Situation) (v : View Situation Entry) (caller : ℕ) (e : Event) (told : Answer) (w : View Situation Entry) : Type 0 where

@@ -12,7 +12,7 @@ ghost use Rattle.desk_model.specs.Promises.{KeepsPromises};
 ghost use Rattle.turn_book.specs.declared.view.View.{View as Pass};
 ghost use Rattle.turn_book.specs.Histories as turns;
 ghost use Rattle.turn_book.specs.Passes.{Called};
-ghost use Rattle.desk_core.specs.Turned.{IsToldOf, Replies};
+ghost use Rattle.desk_core.specs.Turned.{IsToldOf, Replies, tells_entry};
 
 use crate::book::Book;
 use desk_data::{Instance, NoMem};
@@ -38,6 +38,8 @@ impl Kept for Book {
     ghost may_ask = { IsAskable };
 
     ghost answers = { Replies };
+
+    ghost tells = { tells_entry };
 
     fn entries(&self) -> u32 {
         Book::entries(self)
@@ -68,5 +70,5 @@ pub fn what_a_pass_has_seen_keeps_the_promises()
 /// room for it, the answer is `Full` with the length of that history, and there is no entry. The
 /// answer tells which.
 pub fn a_pass_is_told_the_answer_at_the_history_of_its_turn()
-    ensures { (I : Situation) (v w : Pass Situation Recorded) (caller : ℕ) (e : Asked) (told : Told) → Called Replies I v caller e told w → IsToldOf I v caller e told w }
+    ensures { (I : Situation) (v w : Pass Situation Recorded) (caller : ℕ) (e : Asked) (told : Told) → Called Replies tells_entry I v caller e told w → IsToldOf I v caller e told w }
 {}

@@ -1,5 +1,5 @@
 -- Journals of a book, and histories of a turn, as lists.
-use Rattle.std.specs.Prelude.{◌≡◌, ℕ, zero, suc, List, [], ◌∷◌, ◌++◌, Option, Some, None, length, take, slice_get}
+use Rattle.std.specs.Prelude.{◌≡◌, ℕ, zero, suc, Bool, List, [], ◌∷◌, ◌++◌, Option, Some, None, is_some, length, take, slice_get}
 
 -- what an answer puts behind a journal: its item, or nothing
 abbrev pub listed : {I : Type 0} → Option I → List I
@@ -27,7 +27,7 @@ module _ {O A R I : Type 0} (may_ask : O → A → Type 0) (answers : O → List
   IsLegal o xs = (k : ℕ) (x : I) → slice_get xs k ≡ Some x
       → (caller : ℕ) × (ask : A) × (reply : R) × may_ask o ask × answers o (take k xs) caller ask reply (Some x)
 
-module _ {O A R I : Type 0} (answers : O → List I → ℕ → A → R → Option I → Type 0) where
-  -- The reply is one at the journal before, and behind that journal stands the item of the answer, or none.
+module _ {O A R I : Type 0} (answers : O → List I → ℕ → A → R → Option I → Type 0) (tells : R → Bool) where
+  -- The reply is one at the journal before, and behind that journal stands the item of the answer, or none, as the reply tells.
   abbrev pub Served : O → List I → ℕ → A → R → List I → Type 0
-  Served o before caller ask reply after = (added : Option I) × answers o before caller ask reply added × (after ≡ before ++ listed added)
+  Served o before caller ask reply after = (added : Option I) × answers o before caller ask reply added × (after ≡ before ++ listed added) × (is_some added ≡ tells reply)

@@ -1,5 +1,5 @@
 -- What clauses say of a turn and its passes.
-use Rattle.std.specs.Prelude.{◌≡◌, ℕ, List, ◌++◌, Option, Some}
+use Rattle.std.specs.Prelude.{◌≡◌, ℕ, Bool, List, ◌++◌, Option, Some, is_some}
 use mathlib.Core.List.{IsPrefix}
 use Rattle.turn_book.specs.declared.turn.Pass.{Pass}
 use Rattle.turn_book.specs.declared.turn.Turn.{Turn}
@@ -51,13 +51,14 @@ pub record Looked {O I : Type 0} (v w : View O I) : Type 0 where
   pub made : w.made ≡ v.made
   pub tags : w.tags ≡ v.tags
 
-module _ {O A R I : Type 0} (answers : O → List I → ℕ → A → R → Option I → Type 0) (o : O) where
-  -- A call. Before is the history that stood at its turn. It begins with all that was seen, and the reply is one at it; the item of the answer, if there is one, stands behind it, and its place is made.
+module _ {O A R I : Type 0} (answers : O → List I → ℕ → A → R → Option I → Type 0) (tells : R → Bool) (o : O) where
+  -- A call. Before is the history that stood at its turn. It begins with all that was seen, and the reply is one at it, and tells whether there is an item; that stands behind it, and its place is made.
   pub record Called (v : View O I) (caller : ℕ) (ask : A) (reply : R) (w : View O I) : Type 0 where
     pub before : List I
     pub added : Option I
     pub began : IsPrefix v.seen before
     pub answered : answers o before caller ask reply added
+    pub told : is_some added ≡ tells reply
     pub seen : w.seen ≡ before ++ listed added
     pub made : w.made ≡ v.made ++ placed before added
     pub tags : w.tags ≡ v.tags

@@ -60,8 +60,8 @@ impl<B: Kept> Turn<B> {
         }
     }
 
-    /// Asks the book, once it is this pass's turn. Where the reply or `NoMem` tells that no entry was
-    /// added, the pass has seen more, and its places are as they were.
+    /// Asks the book, once it is this pass's turn. The reply tells whether an entry was added. Where none
+    /// was, as after `NoMem`, the pass has seen more, and its places are as they were.
     pub fn call<R: Wait>(
         &self,
         rt: &R,
@@ -73,7 +73,7 @@ impl<B: Kept> Turn<B> {
         requires of { IsPassOf B.opening self.now pass.old }
         requires ask { B.may_ask (B.opening (first_book self.now)) ask.now }
         ensures of { IsPassOf B.opening self.now pass.new }
-        ensures ok { IfOk result (λ reply. Called B.answers (B.opening (first_book self.now)) (known pass.old) caller ask.now reply (known pass.new)) }
+        ensures ok { IfOk result (λ reply. Called B.answers B.tells (B.opening (first_book self.now)) (known pass.old) caller ask.now reply (known pass.new)) }
         ensures err { IfErr result (λ _. Looked (known pass.old) (known pass.new)) }
         ensures began { IsPrefix (seen pass.old) (seen pass.new) }
         ensures tags { tags pass.new ≡ tags pass.old }

@@ -124,7 +124,7 @@ impl<B: Kept> Turn<B> {
         ensures of { IsSeatOf B.opening self.now seat.new }
         ensures rests { IsAtRest seat.new.me }
         ensures count { result.1 ≡ length seat.new.me.0.seen }
-        ensures ok { IfOk result.0 (λ r. Called B.answers (B.opening self.now.table.shared.key.value) seat.old.me.0 caller ask.now r seat.new.me.0) }
+        ensures ok { IfOk result.0 (λ r. Called B.answers B.tells (B.opening self.now.table.shared.key.value) seat.old.me.0 caller ask.now r seat.new.me.0) }
         ensures err { IfErr result.0 (λ _. Looked seat.old.me.0 seat.new.me.0) }
         ensures legal { IsLegal B.may_ask B.answers (B.opening self.now.table.shared.key.value) seat.new.me.0.seen }
         ensures sound { IsSound seat.new.me.0 }

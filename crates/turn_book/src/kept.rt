@@ -1,6 +1,6 @@
 //! What a turn needs of a book.
 
-ghost use Rattle.std.specs.Prelude.{◌≡◌, ℕ, ◌≤◌, ◌++◌, List, Option, length, drop, IfOk, IfErr};
+ghost use Rattle.std.specs.Prelude.{◌≡◌, ℕ, ◌≤◌, ◌++◌, Bool, List, Option, length, drop, IfOk, IfErr};
 ghost use Rattle.turn_book.specs.Histories.{IsLegal, Served};
 
 use desk_units::NoMem;
@@ -34,6 +34,9 @@ pub trait Kept: Send {
     /// the item that is added, or none.
     ghost answers: { Self.Opening → List Self.Item → ℕ → Self.Ask → Self.Reply → Option Self.Item → Type 0 };
 
+    /// Whether a reply tells that an item was added.
+    ghost tells: { Self.Reply → Bool };
+
     /// How many items the journal has: at most 4,294,967,295. The journal is legal.
     fn entries(&self) -> u32
         ensures count { result ≡ length (journal self.now) }
@@ -45,7 +48,7 @@ pub trait Kept: Send {
     fn serve(&mut self, alloc: Global, caller: u32, ask: &Self::Ask) -> Result<Self::Reply, NoMem>
         requires { may_ask (opening self.old) ask.now }
         ensures opening { opening self.new ≡ opening self.old }
-        ensures ok { IfOk result (λ reply. Served answers (opening self.old) (journal self.old) caller ask.now reply (journal self.new)) }
+        ensures ok { IfOk result (λ reply. Served answers tells (opening self.old) (journal self.old) caller ask.now reply (journal self.new)) }
         ensures err { IfErr result (λ _. journal self.new ≡ journal self.old) };
 
     /// The journal from place `n` on.

@@ -1,6 +1,6 @@
 //! A book of numbers, whose reply is the sum so far.
 
-ghost use Rattle.std.specs.Prelude.{◌≡◌, ◌+◌, ◌≤◌, ◌*◌, ◌^◌, [], length, sum, Some, None};
+ghost use Rattle.std.specs.Prelude.{◌≡◌, ◌+◌, ◌≤◌, ◌*◌, ◌^◌, [], length, sum, Some, None, is_some};
 
 use desk_units::NoMem;
 use std::alloc::Global;
@@ -56,6 +56,8 @@ impl Kept for Sums {
     ghost may_ask = { λ room ask. Unit {0} };
 
     ghost answers = { λ room before caller ask reply added. AddsUp room before ask reply added };
+
+    ghost tells = { is_some };
 
     fn entries(&self) -> u32 {
         self.numbers.len() as u32
