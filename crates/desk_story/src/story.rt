@@ -25,7 +25,8 @@ use std::alloc::Global;
 pub struct InputStory {
     /// The joined day, with no orders yet.
     pub inst: Instance,
-    /// The recorded events in their order, each with its caller from 0 to 64.
+    /// The recorded events in their order, batches with their orders and moves, each with its caller
+    /// from 0 to 64.
     pub events: Vec<(u32, Event)>,
 }
 
@@ -37,8 +38,9 @@ fn joined_story(alloc: Global, rows: &InputRows) -> Result<InputStory, StoryFaul
     ensures runs { IfOk result CanBeRun }
     ensures cause { IfErr result NeedsNoFault }
 {
-    let Built { inst } = build(alloc, &rows.files)?;
-    let events = join_journal(alloc, &inst, rows.journal.as_slice())?;
+    let built = build(alloc, &rows.files)?;
+    let events = join_journal(alloc, &built, rows.journal.as_slice())?;
+    let Built { inst, .. } = built;
     Ok(InputStory { inst, events })
 }
 
