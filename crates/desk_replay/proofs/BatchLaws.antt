@@ -1,16 +1,18 @@
 -- The lines of the batches among entries, one entry after another.
 use Rattle.std.proofs.Common.{◌≡◌, ℕ, zero, suc, ◌+◌, ◌<◌, ◌≤◌, Bool, true, false, List, [], ◌∷◌, ◌++◌, length, take, get_or, refl, sym, ap, ◌∙◌, arith, append_assoc, length-append, add-one}
-use Rattle.std.specs.Prelude.{filter}
+use Rattle.std.specs.Prelude.{filter, codes, decimal}
 use Rattle.std.specs.List.{flat_map, zip}
 use Rattle.std.proofs.lemmas.List.{append-nil, take_more}
 use Rattle.std.proofs.lemmas.List.Elements.{filter-append}
 use Rattle.std.proofs.lemmas.Grind.{flat_map-append}
+use Rattle.std.proofs.Math.Path.{fun_ext}
 use Rattle.desk_data.specs.Situation.{Situation}
 use Rattle.desk_rules.specs.Numbers.{numbers}
 use Rattle.desk_rules.proofs.HourLaws.{length-numbers}
 use Rattle.desk_model.specs.declared.answer.Entry.{Entry}
 use Rattle.desk_model.specs.Histories.{is_batch}
-use Rattle.desk_runs.specs.Outcome.{batches_of, batch_line, batch_lines}
+use Rattle.journal_text.proofs.PartsLaws.{answer-same}
+use Rattle.desk_runs.specs.Outcome.{line, batches_of, batch_line, batch_lines}
 
 zip_behind : {A B : Type 0} (xs : List A) (ys : List B) (x : A) (y : B) → length xs ≡ length ys → zip (xs ++ x ∷ []) (ys ++ y ∷ []) ≡ zip xs ys ++ (x, y) ∷ []
 zip_behind [] [] x y e = refl
@@ -82,3 +84,10 @@ told-move I before now number i h entry lt at is told =
       number_is = told.number_is ∙ ap length (sym (batches-move (take i h) entry is)) ∙ ap (λ (t : List Entry). length (batches_of t)) (sym more);
       small = omega (arith, told.small);
     }
+
+-- the orders taken make no difference to the lines
+pub lines-same : (I J : Situation) → I.parts ≡ J.parts → (h : List Entry) → batch_lines I h ≡ batch_lines J h
+unfolding batch_lines
+lines-same I J same h =
+    ap (λ (text : ℕ × Entry → List ℕ). flat_map text (zip (numbers (length (batches_of h))) (batches_of h)))
+    (fun_ext (λ (numbered : ℕ × Entry). ap (λ (told : List ℕ). line (codes "batch " ++ decimal numbered.0 ++ codes " " ++ told)) (answer-same I J same numbered.1.answer)))

@@ -1,9 +1,11 @@
 //! The texts that a run writes.
 
-ghost use Rattle.std.specs.Prelude.{◌≡◌, ◌++◌, IfOk, OnOk, Option};
+ghost use Rattle.std.specs.Prelude.{◌≡◌, ◌++◌, All, IfOk, OnOk, Option};
 ghost use Rattle.desk_core.specs.Recorded.{state_of};
+ghost use Rattle.desk_model.specs.Histories.{is_batch};
 ghost use Rattle.journal_text.specs.Lines.{journal_text};
-ghost use Rattle.desk_runs.specs.Outcome.{planned_rotations, report_text, outcome};
+ghost use Rattle.journal_text.specs.Told.{AnswerNames, CanBeTold};
+ghost use Rattle.desk_runs.specs.Outcome.{planned_rotations, batch_line, batch_lines, end_lines, report_text, outcome};
 ghost use Rattle.desk_runs.specs.Writing.{as_texts};
 
 use desk_core::Book;
@@ -29,7 +31,7 @@ fn planned_rotations(alloc: Global, book: &Book) -> Result<Vec<u8>, NoMem>
 fn push_batch(
     text: &mut Vec<u8>,
     inst: &Instance,
-    number: u64,
+    number: usize,
     answer: &Answer,
 ) -> Result<(), NoMem>
     requires { AnswerNames inst.now answer.now }
@@ -57,7 +59,7 @@ fn push_batches(text: &mut Vec<u8>, inst: &Instance, entries: &[Entry]) -> Resul
     requires { All (CanBeTold inst.now) entries.now }
     ensures { OnOk result (text.new.items ≡ text.old.items ++ batch_lines inst.now entries.now) }
 {
-    let mut number = 0u64;
+    let mut number = 0;
     for entry in entries {
         if is_batch(&entry.event) {
             push_batch(text, inst, number, &entry.answer)?;
