@@ -62,6 +62,9 @@ pub fn read_story<F: Folder>(alloc: Global, folder: &mut F) -> Result<InputStory
     ensures stops { IfErr result (StopsAtFault (F.outside folder.old) (F.outside folder.new)) }
     ensures runs { IfOk result CanBeRun }
 {
-    let rows = read_files(alloc, folder, &REPLAY_FILES, InputRows::new(alloc))?;
+    let rows = match read_files(alloc, folder, &REPLAY_FILES, InputRows::new(alloc)) {
+        Ok(rows) => rows,
+        Err(fault) => return Err(fault),
+    };
     joined_story(alloc, &rows)
 }
