@@ -11,12 +11,14 @@ run with a journal whose one line names a leg that is not there, so that a run e
 joined; and the first two with an empty journal, so that the schedule is checked and written too; and
 with one of moves of one step, each of which is judged and refused: the moved plan is checked by all rules and its
 cost summed. The day of no rows tells the start of the program apart. Then the whole day is run with a journal
-of each of some usual moves, asked again and again, which are told and not limited. The desk runs on one
+of each of some usual moves, asked again and again, which are told and not limited. Last the whole day and
+half of it take a batch: each 50th leg is half an hour late, each 100th aircraft is out of service for an hour, and
+each 50th airport is closed for one, so that the schedule does not stand, and the desk shifts. The desk runs on one
 processor.
 
-The last lines say how many bytes a second were read and joined, how long a move takes, and how much
+The last lines say how many bytes a second were read and joined, how long a move and a batch take, and how much
 longer twice the rows took. The status is 1 where that is less than 40 MB a second, more than 100 ms a
-move, or more than 2.3 times as long.
+move, more than 500 ms a batch, or more than 2.3 times as long.
 """
 import os
 import subprocess
@@ -43,8 +45,10 @@ USUAL = [
     ("a tidy", "tidy", 40),
     ("a refill", "refill F0 01/03/08", 40),
 ]
+BATCH = "0,batch,0\n"
 LEAST_RATE = 40.0
 MOST_MILLISECONDS = 100.0
+MOST_BATCH_MILLISECONDS = 500.0
 MOST_RATIO = 2.3
 
 
@@ -114,6 +118,9 @@ def day_of(legs):
         "dist.csv": distances_of(legs * 25 // 2, airports),
         "itineraries.csv": itineraries_of(legs),
         "position.csv": ["%s %s" % (a, groups) for a in airports],
+        "alt_flights.csv": ["F%d 01/03/08 30" % i for i in range(0, legs, 50)],
+        "alt_aircraft.csv": ["P%d 01/03/08 10:00 01/03/08 11:00" % i for i in range(0, legs // LEGS_OF_AIRCRAFT, 100)],
+        "alt_airports.csv": ["%s 01/03/08 12:00 01/03/08 13:00 0 0" % a for a in airports[::50]],
         "tariff.csv": tariff_of() if legs else [],
     }
     return {name: "".join(line + "\n" for line in of) for name, of in lines.items()}
@@ -160,7 +167,13 @@ def main():
     for name, steps, count in USUAL:
         _, moved = run(legs, name, ("1,move,%s\n" % steps) * count)
         print("%.1f ms %s" % (1000 * (moved - whole_checked) / count, name))
-    held = rate >= LEAST_RATE and move <= MOST_MILLISECONDS and max(ratio, move_ratio) <= MOST_RATIO
+    _, half_fallen = run(legs // 2, "and a batch taken", BATCH)
+    _, fallen = run(legs, "and a batch taken", BATCH)
+    batch = 1000 * (fallen - whole_checked)
+    batch_ratio = (fallen - whole_checked) / (half_fallen - half_checked)
+    print("%.1f ms a batch (at most %.0f)" % (batch, MOST_BATCH_MILLISECONDS))
+    print("%.2f times as long for twice the legs (at most %.1f)" % (batch_ratio, MOST_RATIO))
+    held = rate >= LEAST_RATE and move <= MOST_MILLISECONDS and batch <= MOST_BATCH_MILLISECONDS and max(ratio, move_ratio, batch_ratio) <= MOST_RATIO
     return 0 if held else 1
 
 

@@ -1,5 +1,5 @@
 #!/usr/bin/env python3
-"""Refuses each allocation of six runs of the built desk over the sample day in turn, over the host's
+"""Refuses each allocation of seven runs of the built desk over the disrupted sample day in turn, over the host's
 folder by the program, and over the folder in memory by its test, where that is built.
 
 Each run must end with status 6 or with its own status, and with its own status it must write what it
@@ -17,7 +17,7 @@ CRATES = os.path.join(os.path.dirname(HERE), "crates")
 PROGRAM = os.path.join(CRATES, "desk", "out", "desk")
 TESTS = os.path.join(CRATES, "desk_top", "out", "desk_top_tests")
 TEST = "tests::running_out_of_memory_gives_status_6_or_the_runs_own"
-DAY = os.path.join(os.path.dirname(HERE), "examples", "day")
+DAY = os.path.join(os.path.dirname(HERE), "examples", "disrupted")
 ROTATIONS = "F1 01/03/08 P1\nF2 01/03/08 P1\nF3 01/03/08 P2\n"
 CHEAPER = "1,move,set F3 01/03/08 + P2 01/03/08 12:00 + P1 01/03/08 12:00\n"
 CANCEL = "1,move,set F3 01/03/08 + P2 01/03/08 12:00 -\n"
@@ -28,6 +28,7 @@ RUNS = (
     (ROTATIONS, "2,move,set F1 01/03/08 + P1 01/03/08 08:00 -\n"),
     (ROTATIONS, "2,move,set F1 01/03/08 + P1 01/03/08 08:00 + P1 01/03/08 08:01\n"),
     (ROTATIONS.split("\n", 1)[1], ""),
+    (ROTATIONS, "0,batch,0\n0,batch,1\n"),
 )
 OUTPUTS = ("sol_rotations.csv", "journal.csv")
 

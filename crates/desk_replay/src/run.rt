@@ -16,6 +16,10 @@ fn take_event(alloc: Global, book: &mut Book, caller: u32, event: &Event) -> Res
     ensures { OnOk result (book.new ≡ with_entry book.old caller event.now) }
 {
     match event {
+        Event::Batch(batch) => {
+            book.intake(alloc, caller, batch)?;
+            Ok(())
+        }
         Event::Move(m) => {
             book.propose(alloc, caller, m)?;
             Ok(())

@@ -1,16 +1,19 @@
 //! The texts that a run writes.
 
-ghost use Rattle.std.specs.Prelude.{◌≡◌, ◌++◌, IfOk, OnOk, Option};
+ghost use Rattle.std.specs.Prelude.{◌≡◌, ◌++◌, All, IfOk, OnOk, Option};
 ghost use Rattle.desk_core.specs.Recorded.{state_of};
+ghost use Rattle.desk_model.specs.Histories.{is_batch};
 ghost use Rattle.journal_text.specs.Lines.{journal_text};
-ghost use Rattle.desk_runs.specs.Outcome.{planned_rotations, report_text, outcome};
+ghost use Rattle.journal_text.specs.Told.{AnswerNames, CanBeTold};
+ghost use Rattle.desk_runs.specs.Outcome.{planned_rotations, batch_line, batch_lines, end_lines, report_text, outcome};
 ghost use Rattle.desk_runs.specs.Writing.{as_texts};
 
 use desk_core::Book;
-use desk_data::NoMem;
+use desk_data::{Instance, NoMem};
 use desk_folder::File;
+use desk_model::{Answer, Entry, Event};
 use desk_runs::OutputTexts;
-use journal_text::{journal_text, legal_entries_can_be_told, push_broken};
+use journal_text::{journal_text, legal_entries_can_be_told, push_answer, push_broken};
 use sol_text::rotations_text;
 use std::alloc::Global;
 
@@ -24,26 +27,82 @@ fn planned_rotations(alloc: Global, book: &Book) -> Result<Vec<u8>, NoMem>
     }
 }
 
-// How many changes there were, and the cost of the plan or what is broken.
-#[tactic(auto, unfolding(desk_runs::specs::Outcome::report_text))]
-fn report_text(alloc: Global, book: &Book) -> Result<Vec<u8>, NoMem>
-    ensures { IfOk result (λ text. text.items ≡ report_text book.now.opening book.now.journal) }
+// Adds the line of a batch, by its number: what was answered to it.
+fn push_batch(
+    text: &mut Vec<u8>,
+    inst: &Instance,
+    number: usize,
+    answer: &Answer,
+) -> Result<(), NoMem>
+    requires { AnswerNames inst.now answer.now }
+    ensures { OnOk result (text.new.items ≡ text.old.items ++ batch_line inst.now number answer.now) }
 {
+    let head = format!(in *text.allocator(); "batch {number} ")?;
+    text.extend_from_slice(head.as_bytes())?;
+    push_answer(text, inst, answer)?;
+    text.push(b'\n')?;
+    Ok(())
+}
+
+// Whether an event is a batch.
+fn is_batch(event: &Event) -> bool
+    ensures { result ≡ is_batch event.now }
+{
+    match event {
+        Event::Batch(_) => true,
+        Event::Move(_) => false,
+    }
+}
+
+// Adds a line for each batch of these entries, numbered from 0.
+fn push_batches(text: &mut Vec<u8>, inst: &Instance, entries: &[Entry]) -> Result<(), NoMem>
+    requires { All (CanBeTold inst.now) entries.now }
+    ensures { OnOk result (text.new.items ≡ text.old.items ++ batch_lines inst.now entries.now) }
+{
+    let mut number = 0;
+    for entry in entries {
+        if is_batch(&entry.event) {
+            push_batch(text, inst, number, &entry.answer)?;
+            number += 1;
+        }
+    }
+    Ok(())
+}
+
+// Adds how many changes there were, and the cost of the plan or what is broken.
+#[tactic(auto, unfolding(desk_runs::specs::Outcome::end_lines))]
+fn push_end(text: &mut Vec<u8>, book: &Book) -> Result<(), NoMem>
+    ensures { OnOk result (text.new.items ≡ text.old.items ++ end_lines book.now.opening book.now.journal) }
+{
+    let alloc = *text.allocator();
     let changes = book.changes();
     match book.broken() {
         None => {
             let cost = book.cost().0;
-            let text = format!(in alloc; "changes {changes}\ncost {cost}\n")?;
-            Ok(Vec::from_slice(alloc, text.as_bytes())?)
+            let end = format!(in alloc; "changes {changes}\ncost {cost}\n")?;
+            text.extend_from_slice(end.as_bytes())?;
+            Ok(())
         }
         Some(item) => {
-            let head = format!(in alloc; "changes {changes}\nno plan ")?;
-            let mut text = Vec::from_slice(alloc, head.as_bytes())?;
-            push_broken(&mut text, book.instance(), &item)?;
+            let end = format!(in alloc; "changes {changes}\nno plan ")?;
+            text.extend_from_slice(end.as_bytes())?;
+            push_broken(text, book.instance(), &item)?;
             text.push(b'\n')?;
-            Ok(text)
+            Ok(())
         }
     }
+}
+
+// What was answered to each batch, how many changes there were, and the cost of the plan or what is
+// broken.
+#[tactic(auto, unfolding(desk_runs::specs::Outcome::report_text))]
+fn report_text(alloc: Global, book: &Book) -> Result<Vec<u8>, NoMem>
+    ensures { IfOk result (λ text. text.items ≡ report_text book.now.opening book.now.journal) }
+{
+    let mut text = Vec::new(alloc);
+    push_batches(&mut text, book.instance(), book.journal())?;
+    push_end(&mut text, book)?;
+    Ok(text)
 }
 
 // The journal of the book.

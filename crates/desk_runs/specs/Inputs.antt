@@ -8,7 +8,7 @@ use Rattle.folder_io.specs.Outputs.{is_among}
 -- the files that `replay` reads, in file order
 abbrev pub replay_files : List File
 replay_files =
-    file.Config ∷ file.Flights ∷ file.Rotations ∷ file.Aircraft ∷ file.Airports ∷ file.Dist ∷ file.Itineraries ∷ file.Position ∷ file.Tariff ∷ file.Journal ∷ []
+    file.Config ∷ file.Flights ∷ file.Rotations ∷ file.Aircraft ∷ file.Airports ∷ file.Dist ∷ file.Itineraries ∷ file.Position ∷ file.AltFlights ∷ file.AltAircraft ∷ file.AltAirports ∷ file.Tariff ∷ file.Feed ∷ file.Journal ∷ []
 
 -- the bytes of each file
 abbrev pub Inputs : Type 0

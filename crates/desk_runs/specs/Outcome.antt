@@ -1,18 +1,21 @@
 -- What comes of a story: the status, and the texts that a run writes.
-use Rattle.std.specs.Prelude.{ℕ, List, [], ◌∷◌, ◌++◌, Option, Some, None, codes, decimal}
+use Rattle.std.specs.Prelude.{ℕ, List, [], ◌∷◌, ◌++◌, Option, Some, None, length, filter, codes, decimal}
+use Rattle.std.specs.List.{flat_map, zip}
 use Rattle.desk_folder.specs.Files.{file_name}
 use Rattle.desk_folder.specs.declared.files.File.TheVariants as file
 use Rattle.folder_io.specs.Outputs.{FileText}
 use Rattle.file_rows.specs.Causes.{cause_name as row_cause_name}
 use Rattle.desk_data.specs.Situation.{Situation}
 use Rattle.desk_data.specs.declared.broken.Broken.{Broken}
+use Rattle.desk_rules.specs.Numbers.{numbers}
+use Rattle.desk_model.specs.declared.answer.Answer.{Answer}
 use Rattle.desk_model.specs.declared.answer.Event.{Event}
 use Rattle.desk_model.specs.declared.answer.Entry.{Entry}
 use Rattle.desk_model.specs.States.{State, opening}
-use Rattle.desk_model.specs.Histories.{state, changes, run}
+use Rattle.desk_model.specs.Histories.{state, changes, is_batch, run}
 use Rattle.desk_model.specs.Promises.{cost_of}
 use Rattle.journal_text.specs.Items.{broken_text}
-use Rattle.journal_text.specs.Lines.{journal_text}
+use Rattle.journal_text.specs.Lines.{answer_text, journal_text}
 use Rattle.sol_text.specs.Rotations.{rotations_text}
 use Rattle.desk_runs.specs.declared.refusal.Cause.{Cause}
 use Rattle.desk_runs.specs.declared.refusal.Cause.TheVariants.{Form, Row}
@@ -44,11 +47,27 @@ abbrev pub cost_or_broken : Situation → ℕ → Option Broken → List ℕ
 cost_or_broken I cost None = codes "cost " ++ decimal cost
 cost_or_broken I cost (Some item) = codes "no plan " ++ broken_text I item
 
--- the report of a history: how many changes there were, and the cost of its last plan, or what is broken
-unfoldable pub report_text : Situation → List Entry → List ℕ
-report_text I h =
+-- the entries of the batches of a history, in order
+abbrev pub batches_of : List Entry → List Entry
+batches_of h = filter (λ entry. is_batch entry.event) h
+
+-- the line of a batch, by its number: what was answered to it
+abbrev pub batch_line : Situation → ℕ → Answer → List ℕ
+batch_line I number told = line (codes "batch " ++ decimal number ++ codes " " ++ answer_text I told)
+
+-- a line for each batch of a history, numbered from 0
+unfoldable pub batch_lines : Situation → List Entry → List ℕ
+batch_lines I h = flat_map (λ numbered. batch_line I numbered.0 numbered.1.answer) (zip (numbers (length (batches_of h))) (batches_of h))
+
+-- how many changes there were, and the cost of the last plan, or what is broken
+unfoldable pub end_lines : Situation → List Entry → List ℕ
+end_lines I h =
     let S = state (opening I) h in
     line (codes "changes " ++ decimal (changes h)) ++ line (cost_or_broken S.inst (cost_of S) S.broken)
+
+-- the report of a history: what was answered to each batch, and how it ended
+unfoldable pub report_text : Situation → List Entry → List ℕ
+report_text I h = batch_lines I h ++ end_lines I h
 
 -- the rotations of a state's plan; where there is no plan, none
 abbrev pub planned_rotations : State → Option Broken → List ℕ

@@ -42,10 +42,11 @@ pub record Headline (before now : World) (s : Story) (h : List Entry) : Type 0 w
   -- it is the history of the events that were read, in their order, from the opening of the day that was read
   pub events : h ≡ run (opening s.day) s.events
   pub legal : IsLegal (opening s.day) h
-  -- each published plan meets all rules, each stored cost is the cost of the rows, costs only fall, and a proposal to a
-  -- published plan is accepted exactly where the moved plan is feasible and cheaper
+  -- whatever batches arrive between the proposals: each published plan meets all rules of the day under the orders taken by then,
+  -- each stored cost is the cost of the rows under these, between two batches costs only fall, and a proposal to a published
+  -- plan is accepted exactly where the moved plan is feasible and cheaper
   pub promises : KeepsPromises s.day h
-  -- journal.csv is the journal of the history, and the report tells its changes and the cost of the last plan
+  -- journal.csv is the journal of the history, and the report tells its batches, its changes and the cost of the last plan
   pub journal : Appends (before.folder.written file.Journal) (now.folder.written file.Journal) (journal_text s.day h)
   pub reported : Appends before.sink.written now.sink.written (report_text s.day h)
   -- sol_rotations.csv is that of the last plan, and is written only where there is one

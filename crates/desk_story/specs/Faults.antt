@@ -7,8 +7,6 @@ use Rattle.desk_build.specs.declared.fault.BuildFault.{BuildFault}
 use Rattle.desk_build.specs.declared.fault.BuildFault.TheVariants as build
 use Rattle.early_form.specs.declared.fault.FormFault.{FormFault}
 use Rattle.early_form.specs.declared.fault.FormFault.TheVariants as form
-use Rattle.journal_join.specs.declared.fault.JoinFault.{JoinFault}
-use Rattle.journal_join.specs.declared.fault.JoinFault.TheVariants as join
 use Rattle.desk_runs.specs.declared.refusal.Cause.{Cause}
 use Rattle.desk_runs.specs.declared.refusal.Cause.TheVariants.{Form, Row}
 use Rattle.desk_runs.specs.declared.ending.Ending.{Ending}
@@ -17,7 +15,7 @@ use Rattle.desk_story.specs.declared.fault.FileFault.{FileFault}
 use Rattle.desk_story.specs.declared.fault.FileFault.TheVariants as of_file
 use Rattle.desk_story.specs.declared.fault.StoryFault.{StoryFault}
 use Rattle.desk_story.specs.declared.fault.StoryFault.TheVariants as fault
-use Rattle.desk_story.specs.Story.{Rows, refusal, not_joined, not_asked}
+use Rattle.desk_story.specs.Story.{Rows, refusal, not_joined}
 
 -- a line of a text file, and a line of the journal that is not in its form
 abbrev pub row_fault : ReadFault → FileFault
@@ -33,14 +31,10 @@ abbrev pub file_fault : File → FileFault → StoryFault
 file_fault file (of_file.Refused line cause) = fault.Refused (refusal file cause line)
 file_fault file of_file.Memory = fault.Memory
 
--- a line that does not fit those of the other files, and one of the journal that gives no event
+-- a line that does not fit those of the other files; of the journal, one that gives no event
 abbrev pub build_fault : BuildFault → StoryFault
 build_fault (build.Refused file line cause) = fault.Refused (not_joined (file, line, cause))
 build_fault build.Memory = fault.Memory
-
-abbrev pub join_fault : JoinFault → StoryFault
-join_fault (join.Refused line cause) = fault.Refused (not_asked (line, cause))
-join_fault join.Memory = fault.Memory
 
 -- how a run ends where its input gave no story
 abbrev pub story_end : StoryFault → Ending

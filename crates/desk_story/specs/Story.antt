@@ -1,4 +1,4 @@
--- What the input files say: the day that is read, and the events that are taken, or the first refusal.
+-- What the input files say: the day that is read, and the events that are taken on it, batches and moves, or the first refusal.
 use Rattle.std.specs.Prelude.{ℕ, List, [], ◌∷◌, length, Result, Ok, Err, nat_lt, if◌then◌else◌}
 use Rattle.desk_folder.specs.declared.files.File.{File}
 use Rattle.desk_folder.specs.declared.files.File.TheVariants as file
@@ -11,14 +11,16 @@ use Rattle.read_net.specs.Airports.{airport_row}
 use Rattle.read_net.specs.Dist.{dist_row}
 use Rattle.read_pax.specs.Itineraries.{itinerary_row}
 use Rattle.read_tariff.specs.Tariff.{tariff_rows}
+use Rattle.read_alt.specs.Orders as orders
+use Rattle.read_alt.specs.Feed.{feed_rows}
 use Rattle.read_legs.specs.Flights.{flight_row}
 use Rattle.read_legs.specs.Rotations.{rotation_row}
 use Rattle.read_fleet.specs.Aircraft.{aircraft_row}
 use Rattle.read_fleet.specs.Position.{position_row}
 use Rattle.build_tables.specs.declared.files.Files.{Files}
-use Rattle.desk_build.specs.Join.{day_of_files}
+use Rattle.desk_build.specs.Join.{built_of}
 use Rattle.journal_rows.specs.declared.rows.JournalRow.{JournalRow}
-use Rattle.early_form.specs.Journal.{moves_of}
+use Rattle.early_form.specs.Journal.{rows_of_journal}
 use Rattle.journal_join.specs.Join.{events_of}
 use Rattle.desk_runs.specs.declared.refusal.Cause.{Cause}
 use Rattle.desk_runs.specs.declared.refusal.Cause.TheVariants.{Form, Row}
@@ -75,7 +77,11 @@ no_rows = record {
     dist = [];
     itineraries = [];
     position = [];
+    alt_flights = [];
+    alt_aircraft = [];
+    alt_airports = [];
     tariff = record { rows = [] };
+    feed = [];
   };
   journal = [];
 }
@@ -116,11 +122,23 @@ with_rows file.Itineraries bytes rows = do
 with_rows file.Position bytes rows = do
   position ← or_refused in_text (text_rows most_bytes position_row bytes)
   Ok (record rows { files = record rows.files { position = position } })
+with_rows file.AltFlights bytes rows = do
+  alt_flights ← or_refused in_text (text_rows most_bytes orders.flight_row bytes)
+  Ok (record rows { files = record rows.files { alt_flights = alt_flights } })
+with_rows file.AltAircraft bytes rows = do
+  alt_aircraft ← or_refused in_text (text_rows most_bytes orders.aircraft_row bytes)
+  Ok (record rows { files = record rows.files { alt_aircraft = alt_aircraft } })
+with_rows file.AltAirports bytes rows = do
+  alt_airports ← or_refused in_text (text_rows most_bytes orders.airport_row bytes)
+  Ok (record rows { files = record rows.files { alt_airports = alt_airports } })
 with_rows file.Tariff bytes rows = do
   tariff ← or_refused in_text (tariff_rows bytes)
   Ok (record rows { files = record rows.files { tariff = record { rows = tariff } } })
+with_rows file.Feed bytes rows = do
+  feed ← or_refused in_text (feed_rows bytes)
+  Ok (record rows { files = record rows.files { feed = feed } })
 with_rows file.Journal bytes rows = do
-  journal ← or_refused not_in_form (moves_of bytes)
+  journal ← or_refused not_in_form (rows_of_journal bytes)
   Ok (record rows { journal = journal })
 with_rows other bytes rows = Ok rows
 
@@ -142,12 +160,12 @@ rows_of x = read_all replay_files x no_rows
 
 -- ---- the story
 
--- the files are joined, and then the journal
+-- the files are joined to a day and its batches, and then the journal says which of them are taken, and when
 unfoldable pub story_of_rows : Rows → Result Story Refusal
 story_of_rows rows = do
-  day ← or_refused not_joined (day_of_files rows.files)
-  events ← or_refused not_asked (events_of day rows.journal)
-  Ok (record { day = day; events = events })
+  built ← or_refused not_joined (built_of rows.files)
+  events ← or_refused not_asked (events_of built rows.journal)
+  Ok (record { day = built.inst; events = events })
 
 -- the grammar of each file comes before the join of any
 unfoldable pub story_of : Inputs → Result Story Refusal

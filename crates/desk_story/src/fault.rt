@@ -4,14 +4,13 @@
 ghost use Rattle.std.specs.Prelude.{◌≡◌};
 ghost use Rattle.desk_story.specs.declared.fault.StoryFault.TheVariants as fault;
 ghost use Rattle.desk_story.specs.declared.fault.FileFault.TheVariants as of_file;
-ghost use Rattle.desk_story.specs.Faults.{row_fault, form_fault, build_fault, join_fault, file_fault, story_end};
+ghost use Rattle.desk_story.specs.Faults.{row_fault, form_fault, build_fault, file_fault, story_end};
 
 use desk_build::BuildFault;
 use desk_folder::File;
 use desk_runs::{Cause, Ending, Refusal};
 use desk_text::ReadFault;
 use early_form::FormFault;
-use journal_join::JoinFault;
 
 /// Why the input gave no story.
 #[derive(Clone, Copy, Debug, PartialEq, Eq)]
@@ -86,24 +85,6 @@ impl From<BuildFault> for StoryFault {
                 cause: Cause::Row(cause),
             }),
             BuildFault::Memory => StoryFault::Memory,
-        }
-    }
-}
-
-impl From<JoinFault> for StoryFault {
-    ghost from_gives = { λ fault e. e ≡ join_fault fault };
-
-    fn from(fault: JoinFault) -> StoryFault {
-        match fault {
-            JoinFault::Refused { line, cause } => {
-                let cause = Cause::Row(cause);
-                StoryFault::Refused(Refusal {
-                    file: File::Journal,
-                    line,
-                    cause,
-                })
-            }
-            JoinFault::Memory => StoryFault::Memory,
         }
     }
 }

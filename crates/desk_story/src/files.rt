@@ -20,7 +20,7 @@ use folder_io::{ReadEnd, read_file};
 use std::alloc::Global;
 
 /// The files that `replay` reads, in file order.
-pub const REPLAY_FILES: [File; 10] = [
+pub const REPLAY_FILES: [File; 14] = [
     File::Config,
     File::Flights,
     File::Rotations,
@@ -29,7 +29,11 @@ pub const REPLAY_FILES: [File; 10] = [
     File::Dist,
     File::Itineraries,
     File::Position,
+    File::AltFlights,
+    File::AltAircraft,
+    File::AltAirports,
     File::Tariff,
+    File::Feed,
     File::Journal,
 ];
 

@@ -11,6 +11,7 @@ use desk_folder::File;
 use desk_units::{List, Minute, Tariff};
 use early_form::read_journal;
 use journal_rows::JournalRow;
+use read_alt::{read_alt_aircraft, read_alt_airports, read_alt_flights, read_feed};
 use read_fleet::{read_aircraft, read_position};
 use read_legs::{read_flights, read_rotations};
 use read_net::{Window, read_airports, read_config, read_dist};
@@ -47,9 +48,13 @@ impl InputRows {
                 dist: List(Vec::new(alloc)),
                 itineraries: List(Vec::new(alloc)),
                 position: List(Vec::new(alloc)),
+                alt_flights: List(Vec::new(alloc)),
+                alt_aircraft: List(Vec::new(alloc)),
+                alt_airports: List(Vec::new(alloc)),
                 tariff: Tariff {
                     rows: List(Vec::new(alloc)),
                 },
+                feed: List(Vec::new(alloc)),
             },
             journal: Vec::new(alloc),
         }
@@ -75,7 +80,11 @@ impl InputRows {
             File::Dist => files.dist = List(read_dist(alloc, bytes)?),
             File::Itineraries => files.itineraries = List(read_itineraries(alloc, bytes)?),
             File::Position => files.position = List(read_position(alloc, bytes)?),
+            File::AltFlights => files.alt_flights = List(read_alt_flights(alloc, bytes)?),
+            File::AltAircraft => files.alt_aircraft = List(read_alt_aircraft(alloc, bytes)?),
+            File::AltAirports => files.alt_airports = List(read_alt_airports(alloc, bytes)?),
             File::Tariff => files.tariff = read_tariff(alloc, bytes)?,
+            File::Feed => files.feed = List(read_feed(alloc, bytes)?),
             File::Journal => self.journal = read_journal(alloc, bytes)?,
             _ => {}
         }

@@ -25,7 +25,8 @@ use std::alloc::Global;
 pub struct InputStory {
     /// The joined day, with no orders yet.
     pub inst: Instance,
-    /// The recorded events in their order, each with its caller from 0 to 64.
+    /// The recorded events in their order, batches with their orders and moves, each with its caller
+    /// from 0 to 64.
     pub events: Vec<(u32, Event)>,
 }
 
@@ -37,8 +38,9 @@ fn joined_story(alloc: Global, rows: &InputRows) -> Result<InputStory, StoryFaul
     ensures runs { IfOk result CanBeRun }
     ensures cause { IfErr result NeedsNoFault }
 {
-    let Built { inst } = build(alloc, &rows.files)?;
-    let events = join_journal(alloc, &inst, rows.journal.as_slice())?;
+    let built = build(alloc, &rows.files)?;
+    let events = join_journal(alloc, &built, rows.journal.as_slice())?;
+    let Built { inst, .. } = built;
     Ok(InputStory { inst, events })
 }
 
@@ -60,6 +62,9 @@ pub fn read_story<F: Folder>(alloc: Global, folder: &mut F) -> Result<InputStory
     ensures stops { IfErr result (StopsAtFault (F.outside folder.old) (F.outside folder.new)) }
     ensures runs { IfOk result CanBeRun }
 {
-    let rows = read_files(alloc, folder, &REPLAY_FILES, InputRows::new(alloc))?;
+    let rows = match read_files(alloc, folder, &REPLAY_FILES, InputRows::new(alloc)) {
+        Ok(rows) => rows,
+        Err(fault) => return Err(fault),
+    };
     joined_story(alloc, &rows)
 }

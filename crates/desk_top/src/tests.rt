@@ -5,8 +5,9 @@ use desk_data::NoMem;
 use desk_folder::{File, FreeGate, MemFolder, MemSink};
 use std::alloc::Global;
 
-/// A day with a reservation on each leg, with prices, and with a proposal for each kind of answer.
-const DAY: [(File, &str); 10] = [
+/// A day with a reservation on each leg, with prices, with orders of each kind, and with a proposal for
+/// each kind of answer, before two batches and between them.
+const DAY: [(File, &str); 14] = [
     (File::Config, "01/03/08 06:00 02/03/08 06:00\n"),
     (
         File::Flights,
@@ -30,27 +31,34 @@ const DAY: [(File, &str); 10] = [
         "R1 A 100 10 F1 01/03/08 E\nR2 A 50.5 4 F2 01/03/08 E\nR3 A 80 9 F3 01/03/08 E\n",
     ),
     (File::Position, "AAA M1 0/0/9 1\nBBB M1 0/0/10 1\n"),
+    (File::AltFlights, "F3 01/03/08 30\n"),
+    (
+        File::AltAircraft,
+        "P2 01/03/08 12:00 01/03/08 12:45\n",
+    ),
+    (
+        File::AltAirports,
+        "BBB 01/03/08 09:00 01/03/08 10:00 0 0\n",
+    ),
     (
         File::Tariff,
         "delay,D,E,10\ncancel,D,E,200\ncare,D,120,20\ncompensation,D,none,250\nposition,500\n",
     ),
+    (File::Feed, "1,flight,F2,01/03/08,-1\n"),
     (
         File::Journal,
-        "1,move,set F3 01/03/08 + P2 01/03/08 12:00 + P2 02/03/08 06:00\n1,move,set F3 01/03/08 + P2 01/03/08 12:00 + P1 01/03/08 12:00\n1,move,set F3 01/03/08 + P1 01/03/08 12:00 -\n",
+        "1,move,set F3 01/03/08 + P2 01/03/08 12:00 + P2 02/03/08 06:00\n1,move,set F3 01/03/08 + P2 01/03/08 12:00 + P1 01/03/08 12:00\n1,move,set F3 01/03/08 + P1 01/03/08 12:00 -\n0,batch,0\n1,move,tidy\n0,batch,1\n",
     ),
 ];
 
 /// A file that is changed, its text, and the status of that run.
-const RUNS: [(File, &str, u8); 5] = [
+const RUNS: [(File, &str, u8); 6] = [
     (File::Config, "01/03/08 06:00 02/03/08 06:00\n", 0),
     (File::Itineraries, "", 0),
-    (
-        File::Aircraft,
-        "P1 M1 NB 0/0/10 600 100 30 20 BBB NULL\nP2 M1 NB 0/0/9 600 120 30 20 AAA NULL\n",
-        1,
-    ),
+    (File::Config, "01/03/08 09:00 02/03/08 06:00\n", 1),
     (File::Dist, "AAA BBB 60 X\n", 3),
     (File::Tariff, "position,1\nposition,2\n", 3),
+    (File::Feed, "2,none\n", 3),
 ];
 
 /// A folder with the files of the day, but for one that has this text.

@@ -11,8 +11,8 @@ use desk_runs::Ending;
 use desk_story::{InputStory, read_story};
 use std::alloc::Global;
 
-/// Reads a day and a journal from the input directory, answers each recorded move in order, and
-/// writes the journal with its answers, the rotations of the last plan where there is one, and the
+/// Reads a day, its batches of news and a journal from the input directory, takes each recorded batch
+/// and answers each recorded move in order, and writes the journal with its answers, the rotations of the last plan where there is one, and the
 /// report.
 ///
 /// It ends with `Done` or `NoPlan` when all is written, and with `Refused` or a fault of naming or

@@ -196,15 +196,19 @@ event_names : (I : Situation) (e : Event) → IsAskable I e → EventNames I e
 event_names I (event.Batch news) asked = tt
 event_names I (event.Move m) asked = asked.each
 
-stands_told : (I : Situation) (before : List Entry) (entry : Entry) → Stands (opening I) before entry → CanBeTold I entry
+stands_told : (I J : Situation) → I.parts ≡ J.parts → (before : List Entry) (entry : Entry) → Stands (opening I) before entry → CanBeTold J entry
 unfolding opening
-stands_told I before entry stands =
+stands_told I J rows before entry stands =
     let S = state (opening I) before in
-    let same : S.inst.parts ≡ I.parts = state-parts (opening I) before in
+    let same : S.inst.parts ≡ J.parts = state-parts (opening I) before ∙ rows in
     record {
-      event = event_names I entry.event (askable-parts S.inst I entry.event same stands.asked);
-      answer = answer_under I S.inst same entry.answer (subst (AnswerNames S.inst) (sym stands.told) (answer_names S entry.event (state-told (opening I) before (opening-told I))));
+      event = event_names J entry.event (askable-parts S.inst J entry.event same stands.asked);
+      answer = answer_under J S.inst same entry.answer (subst (AnswerNames S.inst) (sym stands.told) (answer_names S entry.event (state-told (opening I) before (opening-told I))));
     }
 
+-- a legal history from the opening of a day can be told of each day of the same rows, whatever orders that has
+pub legal-told-of : (I J : Situation) → I.parts ≡ J.parts → (h : List Entry) → IsLegal (opening I) h → All (CanBeTold J) h
+legal-told-of I J rows h legal k d lt = stands_told I J rows (take k h) (get_or h k d) (legal k (get_or h k d) (slice_get-get_or h k d lt))
+
 pub legal-told : (I : Situation) (h : List Entry) → IsLegal (opening I) h → All (CanBeTold I) h
-legal-told I h legal k d lt = stands_told I (take k h) (get_or h k d) (legal k (get_or h k d) (slice_get-get_or h k d lt))
+legal-told I h legal = legal-told-of I I refl h legal

@@ -11,7 +11,7 @@ use desk_text::{push_all, push_number};
 
 /// Adds an answer; costs are in grains.
 #[tactic(auto, unfolding(crate::specs::Lines::answer_text))]
-pub(crate) fn push_answer(text: &mut Vec<u8>, inst: &Instance, answer: &Answer) -> Result<(), NoMem>
+pub fn push_answer(text: &mut Vec<u8>, inst: &Instance, answer: &Answer) -> Result<(), NoMem>
     requires { AnswerNames inst.now answer.now }
     ensures { OnOk result (text.new.items ≡ text.old.items ++ answer_text inst.now answer.now) }
 {

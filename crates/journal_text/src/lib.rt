@@ -22,5 +22,6 @@ mod steps;
 
 pub use desk_data::{Broken, Instance, NoMem};
 pub use desk_model::{Answer, Entry, Event};
+pub use answers::push_answer;
 pub use items::push_broken;
 pub use lines::{journal_line, journal_text, legal_entries_can_be_told};

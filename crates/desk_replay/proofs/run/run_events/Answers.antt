@@ -1,5 +1,14 @@
+use Rattle.std.proofs.Common.{ℕ, sym, subst}
+use Rattle.desk_model.specs.declared.answer.Event.{Event}
+use Rattle.desk_model.specs.Histories.{IsAskable}
 use Rattle.desk_replay.proofs.RunLaws.{continues-next, continues-end}
 use Rattle.desk_replay.proofs.run.run_events.Goals as goal
+
+pub take_event-requires : goal.take_event-requires
+take_event-requires c =
+    rw c.loop-asked.invariant.same
+    (subst (λ (asked : ℕ × Event). IsAskable c.args.inst asked.1) (sym c.asked-item.is)
+    (c.requires.asked c.loop-asked.asked-index c.asked-item.result c.loop-asked-test.true))
 
 pub loop-asked-preserved : goal.loop-asked-preserved
 loop-asked-preserved c =

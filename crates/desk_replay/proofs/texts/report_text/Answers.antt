@@ -1,14 +1,21 @@
-use Rattle.std.proofs.Common.{sym, ◌∙◌}
-use Rattle.desk_model.specs.States.{opening}
-use Rattle.desk_model.specs.Histories.{state}
-use Rattle.desk_model.proofs.StateLaws.{opening-told}
-use Rattle.desk_model.proofs.HistoryLaws.{state-told}
-use Rattle.journal_text.proofs.Told.{least-names}
+use Rattle.std.proofs.Common.{◌≡◌, ℕ, List, ◌++◌, sym, ap, ◌∙◌}
+use Rattle.desk_model.specs.declared.answer.Entry.{Entry}
+use Rattle.desk_runs.specs.Outcome.{batch_lines, end_lines, report_text}
+use Rattle.journal_text.proofs.Told.{legal-told-of}
+use Rattle.desk_replay.proofs.BatchLaws.{lines-same}
 use Rattle.desk_replay.proofs.texts.report_text.Goals as goal
 
-pub push_broken-requires : goal.push_broken-requires
-push_broken-requires c =
-    let book = c.args.book.now in
-    let S = state (opening book.opening) book.journal in
-    let told = state-told (opening book.opening) book.journal (opening-told book.opening) in
-    rw c.instance.ensures.now (least-names S.inst S.plan c.in-Some.item (sym told ∙ sym c.in-Some.ensures))
+pub push_batches-requires : goal.push_batches-requires
+push_batches-requires c =
+    rw c.journal.ensures.entries
+    (legal-told-of c.args.book.now.opening c.instance.result.now (sym c.instance.ensures.parts) c.args.book.now.journal c.journal.ensures.legal)
+
+pub returns : goal.returns
+unfolding report_text
+returns c =
+    c.in_ok-push_end.ensures
+    ∙ ap (λ (text : List ℕ). text ++ end_lines c.args.book.now.opening c.args.book.now.journal)
+    (c.in_ok-push_batches.ensures
+    ∙ ap (λ (text : List ℕ). text ++ batch_lines c.instance.result.now c.journal.result.now) c.new-text.ensures.items
+    ∙ ap (λ (h : List Entry). batch_lines c.instance.result.now h) c.journal.ensures.entries
+    ∙ lines-same c.instance.result.now c.args.book.now.opening c.instance.ensures.parts c.args.book.now.journal)

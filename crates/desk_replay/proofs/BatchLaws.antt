@@ -1,0 +1,93 @@
+-- The lines of the batches among entries, one entry after another.
+use Rattle.std.proofs.Common.{◌≡◌, ℕ, zero, suc, ◌+◌, ◌<◌, ◌≤◌, Bool, true, false, List, [], ◌∷◌, ◌++◌, length, take, get_or, refl, sym, ap, ◌∙◌, arith, append_assoc, length-append, add-one}
+use Rattle.std.specs.Prelude.{filter, codes, decimal}
+use Rattle.std.specs.List.{flat_map, zip}
+use Rattle.std.proofs.lemmas.List.{append-nil, take_more}
+use Rattle.std.proofs.lemmas.List.Elements.{filter-append}
+use Rattle.std.proofs.lemmas.Grind.{flat_map-append}
+use Rattle.std.proofs.Math.Path.{fun_ext}
+use Rattle.desk_data.specs.Situation.{Situation}
+use Rattle.desk_rules.specs.Numbers.{numbers}
+use Rattle.desk_rules.proofs.HourLaws.{length-numbers}
+use Rattle.desk_model.specs.declared.answer.Entry.{Entry}
+use Rattle.desk_model.specs.Histories.{is_batch}
+use Rattle.journal_text.proofs.PartsLaws.{answer-same}
+use Rattle.desk_runs.specs.Outcome.{line, batches_of, batch_line, batch_lines}
+
+zip_behind : {A B : Type 0} (xs : List A) (ys : List B) (x : A) (y : B) → length xs ≡ length ys → zip (xs ++ x ∷ []) (ys ++ y ∷ []) ≡ zip xs ys ++ (x, y) ∷ []
+zip_behind [] [] x y e = refl
+zip_behind [] (b ∷ ys) x y e = absurd (omega (arith, e))
+zip_behind (a ∷ xs) [] x y e = absurd (omega (arith, e))
+zip_behind (a ∷ xs) (b ∷ ys) x y e = ap (λ (t : List _). (a, b) ∷ t) (zip_behind xs ys x y (omega (arith, e)))
+
+-- one batch more
+batches-batch : (h : List Entry) (entry : Entry) → is_batch entry.event ≡ true → batches_of (h ++ entry ∷ []) ≡ batches_of h ++ entry ∷ []
+batches-batch h entry is = filter-append (λ (e : Entry). is_batch e.event) h (entry ∷ []) ∙ (rw is refl)
+
+batches-move : (h : List Entry) (entry : Entry) → is_batch entry.event ≡ false → batches_of (h ++ entry ∷ []) ≡ batches_of h
+batches-move h entry is = filter-append (λ (e : Entry). is_batch e.event) h (entry ∷ []) ∙ (rw is (append-nil (batches_of h)))
+
+-- the numbers of a list with one element more
+numbered-more : (bs : List Entry) (entry : Entry) → zip (numbers (length (bs ++ entry ∷ []))) (bs ++ entry ∷ []) ≡ zip (numbers (length bs)) bs ++ (length bs, entry) ∷ []
+numbered-more bs entry =
+    let n : length (bs ++ entry ∷ []) ≡ suc (length bs) = length-append bs (entry ∷ []) ∙ add-one (length bs) in
+    ap (λ (k : ℕ). zip (numbers k) (bs ++ entry ∷ [])) n ∙ zip_behind (numbers (length bs)) bs (length bs) entry (length-numbers (length bs))
+
+pub lines-batch : (I : Situation) (h : List Entry) (entry : Entry) → is_batch entry.event ≡ true → batch_lines I (h ++ entry ∷ []) ≡ batch_lines I h ++ batch_line I (length (batches_of h)) entry.answer
+unfolding batch_lines
+lines-batch I h entry is =
+    let line = λ (numbered : ℕ × Entry). batch_line I numbered.0 numbered.1.answer in
+    ap (λ (bs : List Entry). flat_map line (zip (numbers (length bs)) bs)) (batches-batch h entry is)
+    ∙ ap (flat_map line) (numbered-more (batches_of h) entry)
+    ∙ flat_map-append line (zip (numbers (length (batches_of h))) (batches_of h)) ((length (batches_of h), entry) ∷ [])
+    ∙ ap (λ (t : List ℕ). batch_lines I h ++ t) (append-nil (batch_line I (length (batches_of h)) entry.answer))
+
+pub lines-move : (I : Situation) (h : List Entry) (entry : Entry) → is_batch entry.event ≡ false → batch_lines I (h ++ entry ∷ []) ≡ batch_lines I h
+unfolding batch_lines
+lines-move I h entry is =
+    let line = λ (numbered : ℕ × Entry). batch_line I numbered.0 numbered.1.answer in
+    ap (λ (bs : List Entry). flat_map line (zip (numbers (length bs)) bs)) (batches-move h entry is)
+
+-- so many bytes are told of the first entries, and so many batches are among them
+pub record IsTold (I : Situation) (before now : List ℕ) (number i : ℕ) (h : List Entry) : Type 0 where
+  pub text : now ≡ before ++ batch_lines I (take i h)
+  pub number_is : number ≡ length (batches_of (take i h))
+  pub small : number ≤ i
+
+pub told-start : (I : Situation) (before : List ℕ) (h : List Entry) → IsTold I before before 0 0 h
+unfolding batch_lines
+told-start I before h = record { text = sym (append-nil before); number_is = refl; small = omega arith }
+
+one_more : (h : List Entry) (i : ℕ) (entry : Entry) → i < length h → entry ≡ get_or h i entry → take (i + 1) h ≡ take i h ++ entry ∷ []
+one_more h i entry lt at = take_more h i entry lt ∙ ap (λ (e : Entry). take i h ++ e ∷ []) (sym at)
+
+pub told-batch : (I : Situation) (before mid now : List ℕ) (number i : ℕ) (h : List Entry) (entry : Entry) → i < length h → entry ≡ get_or h i entry → is_batch entry.event ≡ true → now ≡ mid ++ batch_line I number entry.answer → IsTold I before mid number i h → IsTold I before now (number + 1) (i + 1) h
+told-batch I before mid now number i h entry lt at is text told =
+    let n = told.number_is in
+    let more = one_more h i entry lt at in
+    record {
+      text = text
+          ∙ ap (λ (t : List ℕ). t ++ batch_line I number entry.answer) told.text
+          ∙ append_assoc before (batch_lines I (take i h)) (batch_line I number entry.answer)
+          ∙ ap (λ (k : ℕ). before ++ (batch_lines I (take i h) ++ batch_line I k entry.answer)) n
+          ∙ ap (λ (t : List ℕ). before ++ t) (sym (lines-batch I (take i h) entry is))
+          ∙ ap (λ (t : List Entry). before ++ batch_lines I t) (sym more);
+      number_is = ap (λ (k : ℕ). k + 1) n ∙ sym (length-append (batches_of (take i h)) (entry ∷ [])) ∙ ap length (sym (batches-batch (take i h) entry is)) ∙ ap (λ (t : List Entry). length (batches_of t)) (sym more);
+      small = omega (arith, told.small);
+    }
+
+pub told-move : (I : Situation) (before now : List ℕ) (number i : ℕ) (h : List Entry) (entry : Entry) → i < length h → entry ≡ get_or h i entry → is_batch entry.event ≡ false → IsTold I before now number i h → IsTold I before now number (i + 1) h
+told-move I before now number i h entry lt at is told =
+    let more = one_more h i entry lt at in
+    record {
+      text = told.text ∙ ap (λ (t : List ℕ). before ++ t) (sym (lines-move I (take i h) entry is)) ∙ ap (λ (t : List Entry). before ++ batch_lines I t) (sym more);
+      number_is = told.number_is ∙ ap length (sym (batches-move (take i h) entry is)) ∙ ap (λ (t : List Entry). length (batches_of t)) (sym more);
+      small = omega (arith, told.small);
+    }
+
+-- the orders taken make no difference to the lines
+pub lines-same : (I J : Situation) → I.parts ≡ J.parts → (h : List Entry) → batch_lines I h ≡ batch_lines J h
+unfolding batch_lines
+lines-same I J same h =
+    ap (λ (text : ℕ × Entry → List ℕ). flat_map text (zip (numbers (length (batches_of h))) (batches_of h)))
+    (fun_ext (λ (numbered : ℕ × Entry). ap (λ (told : List ℕ). line (codes "batch " ++ decimal numbered.0 ++ codes " " ++ told)) (answer-same I J same numbered.1.answer)))
