@@ -6,6 +6,7 @@ use Rattle.std.proofs.lemmas.Bool.{true≢false, cases_Bool, cases_lt, and_parts
 use Rattle.std.proofs.lemmas.List.{length-map, get_or-map, get_or_past}
 use Rattle.std.proofs.lemmas.List.Elements.{All-map, All-weaker, All-get_or, recursion_from_All}
 use Rattle.std.proofs.lemmas.List.Folds.{list_any_at, list_any-append}
+use Rattle.std.proofs.lemmas.List.Sums.{fold-append}
 use Rattle.desk_units.specs.declared.numbers.Plane.{Plane}
 use Rattle.desk_units.specs.declared.numbers.Minute.{Minute}
 use Rattle.desk_data.specs.declared.row.Row.{Row}
@@ -24,10 +25,11 @@ use Rattle.desk_rules.proofs.RotationLaws.{precedes-holds, precedes-from}
 use Rattle.desk_model.specs.declared.fallbacks.Which.TheVariants.{Keep, Shift}
 use Rattle.desk_model.specs.declared.fallbacks.Fallback.{Fallback}
 use Rattle.desk_model.specs.Push.{after_push}
-use Rattle.desk_model.specs.Tidy.{after_tidy}
-use Rattle.desk_model.specs.Fallback.{with_each_row, settled, cancelled, is_movable_off, is_at_or_before, is_stopped, stopped, all_pushed, shifted, grounded, chosen_or, last_choice, fallback, rows_of, IsStopped, CarriesFit, FallsBack}
+use Rattle.desk_model.specs.Tidy.{TidiesReservation, after_tidy}
+use Rattle.desk_model.specs.Fallback.{with_each_row, settled, cancelled, is_movable_off, is_at_or_before, is_stopped, stopped, first_pushed, all_pushed, shifted, grounded, chosen_or, last_choice, fallback, rows_of, IsFlownBy, IsStopped, CarriesFit, FallsBack}
 use Rattle.desk_model.proofs.GroupPlans.{numbers-at}
-use Rattle.desk_model.proofs.PushLaws.{latest-lt, after_push-others, after_push-valid}
+use Rattle.desk_model.proofs.PushLaws.{latest-lt, after_push-groups, after_push-others, after_push-plane, after_push-valid}
+use Rattle.desk_model.proofs.RotationOrder.{flown_once}
 use Rattle.desk_model.proofs.TidyLaws.{after_tidy-rows, after_tidy-valid, after_tidy-tidies}
 
 -- ---- rows of all legs
@@ -279,13 +281,56 @@ unfolding all_pushed
 all_pushed-valid I P valid plan =
     some_pushed-valid I P (numbers (planes_of I)) valid (recursion_from_All (λ p. p < planes_of I) (numbers (planes_of I)) (numbers-below (planes_of I))) plan
 
-all_pushed-fixed : (I : Situation) (P : PlanRows) (x : ℕ) → fixed I x ≡ true → row_at (all_pushed I P) x ≡ row_at P x
+pub all_pushed-fixed : (I : Situation) (P : PlanRows) (x : ℕ) → fixed I x ≡ true → row_at (all_pushed I P) x ≡ row_at P x
 unfolding all_pushed
 all_pushed-fixed I P x is = some_pushed-fixed I P (numbers (planes_of I)) x is
 
-all_pushed-cancelled : (I : Situation) (P : PlanRows) (x : ℕ) → row_at P x ≡ Cancelled → row_at (all_pushed I P) x ≡ Cancelled
+pub all_pushed-cancelled : (I : Situation) (P : PlanRows) (x : ℕ) → row_at P x ≡ Cancelled → row_at (all_pushed I P) x ≡ Cancelled
 unfolding all_pushed
 all_pushed-cancelled I P x is = some_pushed-cancelled I P (numbers (planes_of I)) x is
+
+some_pushed-groups : (I : Situation) (P : PlanRows) (planes : List ℕ) → (some_pushed I P planes).groups ≡ P.groups
+some_pushed-groups I P [] = refl
+some_pushed-groups I P (p ∷ planes) = some_pushed-groups I (after_push I P p None) planes ∙ after_push-groups I P p None
+
+some_pushed-plane : (I : Situation) (P : PlanRows) (planes : List ℕ) (x q : ℕ) → IsFlownBy P x q → IsFlownBy (some_pushed I P planes) x q
+some_pushed-plane I P [] x q flown = flown
+some_pushed-plane I P (p ∷ planes) x q flown = some_pushed-plane I (after_push I P p None) planes x q (after_push-plane I P p None x q flown)
+
+pub all_pushed-groups : (I : Situation) (P : PlanRows) → (all_pushed I P).groups ≡ P.groups
+unfolding all_pushed
+all_pushed-groups I P = some_pushed-groups I P (numbers (planes_of I))
+
+pub all_pushed-plane : (I : Situation) (P : PlanRows) (x q : ℕ) → IsFlownBy P x q → IsFlownBy (all_pushed I P) x q
+unfolding all_pushed
+all_pushed-plane I P x q flown = some_pushed-plane I P (numbers (planes_of I)) x q flown
+
+one_more : (I : Situation) (P : PlanRows) (m : ℕ) → first_pushed I P (suc m) ≡ after_push I (first_pushed I P m) m None
+one_more I P m = fold-append (λ Q p. after_push I Q p None) P (numbers m) (m ∷ [])
+
+-- a leg of another aircraft does not move
+push-other : (I : Situation) (P : PlanRows) (x n m : ℕ) → n < m → IsFlownBy P x n → row_at (after_push I P m None) x ≡ row_at P x
+push-other I P x n m less flown =
+    after_push-others I P m None x (λ pushed.
+    let same : n ≡ m = flown_once P x n m flown.dep pushed.dep flown.flown pushed.flown in
+    absurd (omega (arith, less, same)))
+
+pushed_in_turn : (I : Situation) (P : PlanRows) (m n x : ℕ) → n < m → IsFlownBy P x n → row_at (first_pushed I P m) x ≡ row_at (after_push I (first_pushed I P n) n None) x
+pushed_in_turn I P zero n x less flown = absurd (omega (arith, less))
+pushed_in_turn I P (suc m) n x less flown =
+    elim (cases_lt n m) [
+      | inl before ↦
+          ap (λ (Q : PlanRows). row_at Q x) (one_more I P m)
+          ∙ push-other I (first_pushed I P m) x n m before (some_pushed-plane I P (numbers m) x n flown)
+          ∙ pushed_in_turn I P m n x before flown
+      | inr past ↦ (let last : m ≡ n = omega (arith, less, past) in
+          ap (λ (Q : PlanRows). row_at Q x) (one_more I P m)
+          ∙ ap (λ (k : ℕ). row_at (after_push I (first_pushed I P k) k None) x) last)
+    ]
+
+pub all_pushed-turn : (I : Situation) (P : PlanRows) (n x : ℕ) → n < planes_of I → IsFlownBy P x n → row_at (all_pushed I P) x ≡ row_at (after_push I (first_pushed I P n) n None) x
+unfolding all_pushed
+all_pushed-turn I P n x less flown = pushed_in_turn I P (planes_of I) n x less flown
 
 -- ---- Shift and Ground
 
@@ -318,6 +363,33 @@ shifted-off I P x within movable off =
     tidy-row I (all_pushed I (stopped I (settled I P))) x
     ∙ all_pushed-cancelled I (stopped I (settled I P)) x (stopped-off I (settled I P) x within movable off)
 
+pub shifted-rows : (I : Situation) (P : PlanRows) → (shifted I P).rows ≡ (all_pushed I (stopped I (settled I P))).rows
+unfolding shifted
+shifted-rows I P = after_tidy-rows I (all_pushed I (stopped I (settled I P)))
+
+pub shifted-stopped : (I : Situation) (P : PlanRows) (x : ℕ) → IsStopped I (settled I P) x → row_at (shifted I P) x ≡ Cancelled
+shifted-stopped I P x h =
+    ap (λ (rows : List Row). get_or rows x Cancelled) (shifted-rows I P)
+    ∙ all_pushed-cancelled I (stopped I (settled I P)) x (stopped-holds I (settled I P) x h)
+
+-- a movable leg that no order stops keeps its row until aircraft are pushed
+stopped-kept : (I : Situation) (P : PlanRows) (x : ℕ) → x < legs_of I → fixed I x ≡ false → (IsStopped I (settled I P) x → ⊥) → row_at (stopped I (settled I P)) x ≡ row_at P x
+unfolding stopped
+stopped-kept I P x within movable none =
+    cancelled-kept I (is_stopped I (settled I P)) (settled I P) x within (not_stopped I (settled I P) x none)
+    ∙ settled-at I P x within
+    ∙ ap (λ (o : Option Row). unwrap_or o (row_at P x)) (due-movable I x movable)
+
+pub shifted-flown : (I : Situation) (P : PlanRows) (x p : ℕ) → x < legs_of I → fixed I x ≡ false → (IsStopped I (settled I P) x → ⊥) → IsFlownBy P x p → IsFlownBy (shifted I P) x p
+shifted-flown I P x p within movable none flown =
+    let before : IsFlownBy (stopped I (settled I P)) x p = record { dep = flown.dep; flown = stopped-kept I P x within movable none ∙ flown.flown } in
+    let pushed = all_pushed-plane I (stopped I (settled I P)) x p before in
+    record { dep = pushed.dep; flown = ap (λ (rows : List Row). get_or rows x Cancelled) (shifted-rows I P) ∙ pushed.flown }
+
+pub shifted-tidied : (I : Situation) (P : PlanRows) (r : ℕ) → r < reservations_of I → TidiesReservation I (all_pushed I (stopped I (settled I P))) (shifted I P) r
+unfolding shifted
+shifted-tidied I P r within = after_tidy-tidies I (all_pushed I (stopped I (settled I P))) r within
+
 pub shifted-carried : (I : Situation) (P : PlanRows) (r : ℕ) → r < reservations_of I → CarriesFit I (shifted I P) r
 unfolding shifted
 shifted-carried I P r within = tidy-fit I (all_pushed I (stopped I (settled I P))) r within
@@ -340,6 +412,14 @@ unfolding grounded
 grounded-movable I P x movable =
     tidy-row I (cancelled I (λ y. not (fixed I y)) (settled I P)) x
     ∙ cancelled-holds I (λ y. not (fixed I y)) (settled I P) x (not_from_false (fixed I x) movable)
+
+pub grounded-rows : (I : Situation) (P : PlanRows) → (grounded I P).rows ≡ (cancelled I (λ x. not (fixed I x)) (settled I P)).rows
+unfolding grounded
+grounded-rows I P = after_tidy-rows I (cancelled I (λ x. not (fixed I x)) (settled I P))
+
+pub grounded-tidied : (I : Situation) (P : PlanRows) (r : ℕ) → r < reservations_of I → TidiesReservation I (cancelled I (λ x. not (fixed I x)) (settled I P)) (grounded I P) r
+unfolding grounded
+grounded-tidied I P r within = after_tidy-tidies I (cancelled I (λ x. not (fixed I x)) (settled I P)) r within
 
 pub grounded-carried : (I : Situation) (P : PlanRows) (r : ℕ) → r < reservations_of I → CarriesFit I (grounded I P) r
 unfolding grounded

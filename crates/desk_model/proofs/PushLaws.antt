@@ -28,6 +28,7 @@ use Rattle.desk_rules.proofs.RotationLaws.{precedes-holds, precedes-from, follow
 use Rattle.desk_rules.proofs.MaintenanceLaws.{flies-holds, flies-from}
 use Rattle.desk_rules.proofs.LegLaws.{meets_span-holds, meets_span-from}
 use Rattle.desk_model.specs.Push.{rotation, comes_behind, pushed_legs, leg_before, ready_moment, meets_maintenance, is_free, departures_beside, arrivals_beside, is_below, has_slots, can_depart, first_departure, with_departure, after_placing, after_push, IsPushed, MayDepart, DepartsFirst, KeepsItsRow, PlacesLeg}
+use Rattle.desk_model.specs.Fallback.{IsFlownBy}
 use Rattle.desk_model.proofs.ChoiceLaws.{FirstAt, found_first, first_within-holds, first_within-none}
 use Rattle.desk_model.proofs.ValidLaws.{with_row-valid}
 use Rattle.desk_model.proofs.RotationOrder.{flown_once, precedes-itself, precedes-total, Contains-filter, All-behind, pairs_across, pairs_behind, rotation-ordered, rotation-flown, rotation-each}
@@ -342,3 +343,38 @@ place_all-valid I P p Q (x ∷ legs) valid plane plan =
 pub after_push-valid : (I : Situation) (P : PlanRows) (p : ℕ) (after : Option Leg) → IsValid I → p < planes_of I → IsPlanFor I P → IsPlanFor I (after_push I P p after)
 unfolding after_push
 after_push-valid I P p after valid plane plan = place_all-valid I P p P (pushed_legs I P p after) valid plane plan
+
+-- ---- a push keeps the aircraft of each leg
+
+placing-plane : (I : Situation) (Q : PlanRows) (p y x q d : ℕ) (o : Option ℕ) → (y ≡ x → q ≡ p) → Flies Q y q d → IsFlownBy (with_departure Q p x o) y q
+placing-plane I Q p y x q d None same flown = record { dep = d; flown = flown }
+placing-plane I Q p y x q d (Some t) same flown =
+    elim (cases_eq y x) [
+      | inl own ↦ elim (cases_lt y (length Q.rows)) [
+        | inl within ↦
+            let at : x < length Q.rows = subst (λ (k : ℕ). k < length Q.rows) own within in
+            let there : row_at (with_departure Q p x (Some t)) x ≡ Flown (record { 0 = p }) (record { 0 = t }) = get_or-set_same Q.rows x _ Cancelled at in
+            record {
+              dep = t;
+              flown = ap (row_at (with_departure Q p x (Some t))) own ∙ there ∙ ap (λ (k : ℕ). Flown (record { 0 = k }) (record { 0 = t })) (sym (same own));
+            }
+        | inr past ↦ (let none = sym (get_or_past Q.rows y Cancelled past) ∙ flown in absurd cc)
+      ]
+      | inr other ↦ record { dep = d; flown = with_departure-other Q p x y (Some t) other ∙ flown }
+    ]
+
+place_all-plane : (I : Situation) (P : PlanRows) (p : ℕ) (Q : PlanRows) (legs : List ℕ) (y q : ℕ) → AllByRecursion (λ x. y ≡ x → q ≡ p) legs → IsFlownBy Q y q → IsFlownBy (place_all I P p Q legs) y q
+place_all-plane I P p Q [] y q same flown = flown
+place_all-plane I P p Q (x ∷ legs) y q same flown =
+    place_all-plane I P p (after_placing I P p Q x) legs y q same.1
+    (placing-plane I Q p y x q flown.dep (first_departure I P Q p x) same.0 flown.flown)
+
+pub after_push-plane : (I : Situation) (P : PlanRows) (p : ℕ) (after : Option Leg) (y q : ℕ) → IsFlownBy P y q → IsFlownBy (after_push I P p after) y q
+unfolding after_push
+after_push-plane I P p after y q flown =
+    place_all-plane I P p P (pushed_legs I P p after) y q
+    (recursion_from_All (λ x. y ≡ x → q ≡ p) (pushed_legs I P p after)
+    (All-weaker (IsPushed I P p after) (λ x. y ≡ x → q ≡ p)
+    (λ x is same. flown_once P x q p flown.dep is.dep (subst (λ (k : ℕ). Flies P k q flown.dep) same flown.flown) is.flown)
+    (pushed_legs I P p after) (pushed-all I P p after)))
+    flown

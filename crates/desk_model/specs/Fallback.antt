@@ -9,7 +9,7 @@ use Rattle.desk_data.specs.PlanRows.{PlanRows, row_at}
 use Rattle.desk_rules.specs.Numbers.{numbers}
 use Rattle.desk_rules.specs.Rotations.{precedes}
 use Rattle.desk_rules.specs.Least.{least}
-use Rattle.desk_rules.specs.Words.{Precedes, IsFeasible, IsLeast, MeetsC13, MeetsC14, MeetsC15}
+use Rattle.desk_rules.specs.Words.{Flies, Precedes, IsFeasible, IsLeast, MeetsC13, MeetsC14, MeetsC15}
 use Rattle.desk_model.specs.declared.fallbacks.Which.{Which}
 use Rattle.desk_model.specs.declared.fallbacks.Which.TheVariants.{Keep, Shift, Ground}
 use Rattle.desk_model.specs.declared.fallbacks.Fallback.{Fallback}
@@ -49,9 +49,13 @@ is_stopped I P x = not (fixed I x) && list_any (λ y. is_movable_off I y && is_a
 unfoldable pub stopped : Situation → PlanRows → PlanRows
 stopped I P = cancelled I (is_stopped I P) P
 
--- all aircraft are pushed in ascending order, each with all its movable legs, and each in the plan as those before it left it
+-- the first n aircraft are pushed in ascending order, each with all its movable legs, and each in the plan as those before it left it
+abbrev pub first_pushed : Situation → PlanRows → ℕ → PlanRows
+first_pushed I P n = fold (λ Q p. after_push I Q p None) P (numbers n)
+
+-- all aircraft are pushed so
 unfoldable pub all_pushed : Situation → PlanRows → PlanRows
-all_pushed I P = fold (λ Q p. after_push I Q p None) P (numbers (planes_of I))
+all_pushed I P = first_pushed I P (planes_of I)
 
 -- Shift: the plan is settled; legs are cancelled from the first on that is ordered off; what is left is pushed; then a Tidy
 unfoldable pub shifted : Situation → PlanRows → PlanRows
@@ -97,6 +101,11 @@ pub record IsStopped (I : Situation) (P : PlanRows) (x : ℕ) : Type 0 where
   pub off_movable : fixed I cause ≡ false
   pub off : ordered_off I cause ≡ true
   pub place : (cause ≡ x) ⊎ Precedes P cause x
+
+-- aircraft p flies leg x, whenever it departs
+pub record IsFlownBy (P : PlanRows) (x p : ℕ) : Type 0 where
+  pub dep : ℕ
+  pub flown : Flies P x p dep
 
 -- the carried paths of reservation r meet C13, C14 and C15
 pub record CarriesFit (I : Situation) (P : PlanRows) (r : ℕ) : Type 0 where

@@ -1,12 +1,14 @@
 //! What the desk falls back on when a disruption arrives, and what holds of it.
 
-ghost use Rattle.std.specs.Prelude.{◌≡◌, ℕ, ◌<◌, false, true};
+ghost use Rattle.std.specs.Prelude.{◌≡◌, ℕ, ◌<◌, None, false, not, true};
 ghost use Rattle.desk_data.specs.declared.row.Row.TheVariants.{Cancelled};
-ghost use Rattle.desk_data.specs.Situation.{Situation, fixed, legs_of, ordered_off, reservations_of};
+ghost use Rattle.desk_data.specs.Situation.{Situation, fixed, legs_of, ordered_off, planes_of, reservations_of};
 ghost use Rattle.desk_data.specs.PlanRows.{PlanRows, row_at};
 ghost use Rattle.desk_data.specs.Valid.{IsPlanFor, IsValid};
 ghost use Rattle.desk_rules.specs.Words.{MeetsC1};
-ghost use Rattle.desk_model.specs.Fallback.{CarriesFit, FallsBack, IsStopped, fallback, grounded, rows_of, settled, shifted, stopped};
+ghost use Rattle.desk_model.specs.Push.{after_push};
+ghost use Rattle.desk_model.specs.Tidy.{TidiesReservation};
+ghost use Rattle.desk_model.specs.Fallback.{CarriesFit, FallsBack, IsFlownBy, IsStopped, all_pushed, cancelled, fallback, first_pushed, grounded, rows_of, settled, shifted, stopped};
 
 use desk_data::{Broken, Plan};
 
@@ -56,19 +58,41 @@ pub fn a_shift_cancels_legs_from_the_first_ordered_off_on()
     ensures groups { (I : Situation) (P : PlanRows) → (stopped I P).groups ≡ P.groups }
 {}
 
-/// A Shift leaves each fixed leg as it is due, each movable leg cancelled that is ordered off, and no
-/// passenger on a carried path that breaks C13, C14 or C15.
+/// A Shift pushes all aircraft, those with lesser numbers first. Each leg of an aircraft is where it
+/// stands once that aircraft is pushed, in the plan as the aircraft before it left it: those that come
+/// after it do not move it. Each leg that is flown stays with its aircraft, each that is cancelled stays
+/// so, each fixed leg keeps its row, and each reservation its groups.
+pub fn a_shift_pushes_all_aircraft_in_turn()
+    ensures turn { (I : Situation) (P : PlanRows) (n x : ℕ) → n < planes_of I → IsFlownBy P x n → row_at (all_pushed I P) x ≡ row_at (after_push I (first_pushed I P n) n None) x }
+    ensures flown { (I : Situation) (P : PlanRows) (x p : ℕ) → IsFlownBy P x p → IsFlownBy (all_pushed I P) x p }
+    ensures cancelled { (I : Situation) (P : PlanRows) (x : ℕ) → row_at P x ≡ Cancelled → row_at (all_pushed I P) x ≡ Cancelled }
+    ensures fixed { (I : Situation) (P : PlanRows) (x : ℕ) → fixed I x ≡ true → row_at (all_pushed I P) x ≡ row_at P x }
+    ensures groups { (I : Situation) (P : PlanRows) → (all_pushed I P).groups ≡ P.groups }
+{}
+
+/// A Shift leaves the rows that the pushes make of a settled plan in which legs are cancelled from the
+/// first on that is ordered off. So each fixed leg is as it is due, each movable leg that is ordered off
+/// or comes behind such a leg on its aircraft is cancelled, and each other movable leg that was flown is
+/// flown by the same aircraft. Each reservation is tidied: the passengers on a carried path that meets
+/// C13, C14 and C15 stay on it, and there is none on another carried path.
 pub fn a_shift_keeps_what_is_due_and_flies_no_leg_ordered_off()
+    ensures rows { (I : Situation) (P : PlanRows) → (shifted I P).rows ≡ (all_pushed I (stopped I (settled I P))).rows }
     ensures due { (I : Situation) (P : PlanRows) (x : ℕ) → x < legs_of I → MeetsC1 I (shifted I P) x }
     ensures off { (I : Situation) (P : PlanRows) (x : ℕ) → x < legs_of I → fixed I x ≡ false → ordered_off I x ≡ true → row_at (shifted I P) x ≡ Cancelled }
+    ensures stopped { (I : Situation) (P : PlanRows) (x : ℕ) → IsStopped I (settled I P) x → row_at (shifted I P) x ≡ Cancelled }
+    ensures flown { (I : Situation) (P : PlanRows) (x p : ℕ) → x < legs_of I → fixed I x ≡ false → (IsStopped I (settled I P) x → ⊥) → IsFlownBy P x p → IsFlownBy (shifted I P) x p }
+    ensures tidied { (I : Situation) (P : PlanRows) (r : ℕ) → r < reservations_of I → TidiesReservation I (all_pushed I (stopped I (settled I P))) (shifted I P) r }
     ensures carried { (I : Situation) (P : PlanRows) (r : ℕ) → r < reservations_of I → CarriesFit I (shifted I P) r }
 {}
 
-/// Ground leaves each fixed leg as it is due, no movable leg flown, and no passenger on a carried path
-/// that breaks C13, C14 or C15.
+/// Ground leaves the rows of a settled plan in which each movable leg is cancelled. So each fixed leg is
+/// as it is due, and no movable leg is flown. Each reservation is tidied: the passengers on a carried
+/// path that meets C13, C14 and C15 stay on it, and there is none on another carried path.
 pub fn a_ground_plan_flies_no_movable_leg()
+    ensures rows { (I : Situation) (P : PlanRows) → (grounded I P).rows ≡ (cancelled I (λ x. not (fixed I x)) (settled I P)).rows }
     ensures due { (I : Situation) (P : PlanRows) (x : ℕ) → x < legs_of I → MeetsC1 I (grounded I P) x }
     ensures movable { (I : Situation) (P : PlanRows) (x : ℕ) → fixed I x ≡ false → row_at (grounded I P) x ≡ Cancelled }
+    ensures tidied { (I : Situation) (P : PlanRows) (r : ℕ) → r < reservations_of I → TidiesReservation I (cancelled I (λ x. not (fixed I x)) (settled I P)) (grounded I P) r }
     ensures carried { (I : Situation) (P : PlanRows) (r : ℕ) → r < reservations_of I → CarriesFit I (grounded I P) r }
 {}
 
