@@ -1,5 +1,5 @@
 -- The seats that are left on each leg, as a table.
-use Rattle.std.specs.Prelude.{◌≡◌, ℕ, ◌-◌, ◌<◌, min, List, length, slice_index_or, slice_set}
+use Rattle.std.specs.Prelude.{◌≡◌, ℕ, ◌-◌, ◌<◌, min, ◌==◌, if◌then◌else◌, List, [], length, slice_index_or, slice_set}
 use Rattle.desk_units.specs.declared.numbers.Cabin.{Cabin}
 use Rattle.desk_units.specs.declared.numbers.Cabin.TheVariants as cabin
 use Rattle.desk_units.specs.declared.numbers.Seats.{Seats}
@@ -8,7 +8,7 @@ use Rattle.desk_gen.specs.declared.demand.Trip.TheVariants.{One, Two}
 use Rattle.desk_gen.specs.declared.demand.Request.{Request}
 use Rattle.desk_gen.specs.Fleet.{kind_of, seats_of}
 use Rattle.desk_gen.specs.Schedule.{legs_of}
-use Rattle.desk_gen.specs.Demand.{Line, left}
+use Rattle.desk_gen.specs.Demand.{Line, left, itinerary_line}
 
 -- no seats in any cabin
 abbrev pub no_seats : Seats
@@ -67,3 +67,11 @@ trip_without rows cabin count (Two x y) = row_without (row_without rows cabin co
 
 abbrev pub rows_without : List Seats → Request → ℕ → List Seats
 rows_without rows request count = trip_without rows request.cabin count request.trip
+
+-- a table behind a reservation that got seats, as far as there are some, and its line where it got any
+abbrev pub rows_served : List Seats → Request → List Seats
+rows_served rows request = if granted_by rows request == 0 then rows else rows_without rows request (granted_by rows request)
+
+abbrev pub text_served : List Seats → Request → List ℕ
+text_served rows request =
+    if granted_by rows request == 0 then [] else itinerary_line (record { request = request; count = granted_by rows request })

@@ -1,8 +1,9 @@
 //! What reservations ask for.
 
-ghost use Rattle.std.specs.Prelude.{◌≡◌, ◌<◌, ◌≤◌, ◌*◌, ◌+◌, ⊤};
+ghost use Rattle.std.specs.Prelude.{◌≡◌, ◌<◌, ◌≤◌, ◌*◌, ◌+◌};
 ghost use Rattle.desk_gen.specs.Draws.{state_after};
 ghost use Rattle.desk_gen.specs.Demand.{trip_of, cabin_of, request_at, behind_tours};
+ghost use Rattle.desk_gen.specs.Seats.{IsTripWithin};
 
 use crate::draws::{draw, seeded};
 use crate::fleet::is_bus;
@@ -32,7 +33,8 @@ pub struct Request {
 // The legs of a reservation with this aircraft, by its kind.
 fn trip_of(plane: u32, kind: u32) -> Trip
     requires { plane < 240 }
-    ensures { result ≡ trip_of plane kind }
+    ensures trip { result ≡ trip_of plane kind }
+    ensures within { IsTripWithin (4 * plane + 3) result }
 {
     match kind {
         0 => Trip::One(4 * plane),
@@ -53,6 +55,7 @@ fn cabin_of(plane: u32, luck: u32) -> Cabin
     }
 }
 
+#[tactic(auto, unfolding(crate::specs::Draws::state_after))]
 /// The generator behind the draws of all tours of a day of this seed and size, 1 to 40.
 pub(crate) fn behind_tours(seed: u32, size: u32) -> Xoshiro256PlusPlus
     requires { size ≤ 40 }
@@ -66,11 +69,13 @@ pub(crate) fn behind_tours(seed: u32, size: u32) -> Xoshiro256PlusPlus
 }
 
 /// What reservation `number` asks for, by the next five draws, in a day of this size, 1 to 40.
-#[tactic(auto, unfolding(crate::specs::Demand::request_at))]
+#[tactic(auto, unfolding(crate::specs::Demand::request_at, crate::specs::Draws::draw, crate::specs::Draws::state_after))]
 pub(crate) fn next_request(words: &mut Xoshiro256PlusPlus, size: u32, number: u32) -> Request
     requires least { 1 ≤ size }
     requires most { size ≤ 40 }
     ensures request { result ≡ request_at words.old size number }
+    ensures within { IsTripWithin (24 * size) result.trip }
+    ensures number { result.number ≡ number }
     ensures moved { words.new ≡ state_after words.old 5 }
 {
     let plane = draw(words, 6 * size);

@@ -1,7 +1,7 @@
 //! Numbers that are drawn.
 
-ghost use Rattle.std.specs.Prelude.{◌≡◌, ◌<◌, ◌*◌};
-ghost use Rattle.desk_gen.specs.Draws.{seeded, state_after, draw};
+ghost use Rattle.std.specs.Prelude.{◌≡◌, ◌<◌, ◌%◌};
+ghost use Rattle.desk_gen.specs.Draws.{seeded, word_of, next_state};
 
 use rand_core::SeedableRng;
 use rand_core::utils::NextWord;
@@ -16,11 +16,11 @@ pub(crate) fn seeded(seed: u32) -> Xoshiro256PlusPlus
 }
 
 /// The next word, modulo `below`.
-#[tactic(auto, unfolding(crate::specs::Draws::draw, crate::specs::Draws::word_of, crate::specs::Draws::next_state, crate::specs::Draws::state_after))]
+#[tactic(auto, unfolding(crate::specs::Draws::word_of, crate::specs::Draws::next_state))]
 pub(crate) fn draw(words: &mut Xoshiro256PlusPlus, below: u32) -> u32
     requires { 0 < below }
-    ensures value { result ≡ draw words.old 0 below }
-    ensures moved { words.new ≡ state_after words.old 1 }
+    ensures value { result ≡ word_of words.old % below }
+    ensures moved { words.new ≡ next_state words.old }
     ensures small { result < below }
 {
     (words.next_word() % u64::from(below)) as u32

@@ -1,15 +1,16 @@
 //! The file of the itineraries.
 
-ghost use Rattle.std.specs.Prelude.{◌≡◌, ◌<◌, ◌≤◌, ◌++◌, ◌∷◌, [], IfOk, OnOk};
+ghost use Rattle.std.specs.Prelude.{◌≡◌, ◌<◌, ◌≤◌, ◌++◌, ◌∷◌, [], length, IfOk, OnOk};
 ghost use Rattle.std.specs.List.{flat_map};
 ghost use Rattle.desk_gen.specs.Schedule.{flight_name};
 ghost use Rattle.desk_gen.specs.Demand.{cabin_text, seat_text, trip_legs, itinerary_line, itineraries_text};
+ghost use Rattle.desk_gen.specs.Seats.{IsTripWithin, rows_served, text_served};
 ghost use Rattle.desk_gen.specs.Generated.{IsSize};
 
 use crate::demand::{Request, Trip, behind_tours, next_request};
 use crate::seats::{all_seats, granted, take};
 use desk_text::push_all;
-use desk_units::{Cabin, NoMem};
+use desk_units::{Cabin, NoMem, Seats};
 use itoa::Buffer;
 use std::alloc::Global;
 
@@ -25,13 +26,24 @@ pub(crate) fn itineraries_text(alloc: Global, seed: u32, size: u32) -> Result<Ve
     let mut text = Vec::new(alloc);
     for number in 0..40 * size {
         let request = next_request(&mut words, size, number);
-        let count = granted(&rows, &request);
-        if count > 0 {
-            take(rows.as_mut_slice(), &request, count);
-            push_line(&mut text, &request, count)?;
-        }
+        serve(&mut rows, &mut text, &request)?;
     }
     Ok(text)
+}
+
+/// Gives a reservation seats, as far as there are some, and adds its line where it got any.
+fn serve(rows: &mut Vec<Seats>, text: &mut Vec<u8>, request: &Request) -> Result<(), NoMem>
+    requires within { IsTripWithin (length rows.old.items) request.now.trip }
+    requires number { request.now.number < 1600 }
+    ensures rows { OnOk result (rows.new.items ≡ rows_served rows.old.items request.now) }
+    ensures text { OnOk result (text.new.items ≡ text.old.items ++ text_served rows.old.items request.now) }
+{
+    let count = granted(rows, request);
+    if count == 0 {
+        return Ok(());
+    }
+    take(rows, request, count);
+    push_line(text, request, count)
 }
 
 /// Adds the line of a reservation, with the number of passengers who have seats.

@@ -15,10 +15,11 @@ mod demand;
 mod draws;
 mod files;
 mod fleet;
-
 mod itineraries;
 mod schedule;
 mod seats;
+#[cfg(test)]
+mod tests;
 mod texts;
 
 pub use desk_folder::File;

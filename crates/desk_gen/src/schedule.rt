@@ -66,7 +66,7 @@ fn nth_station(number: u32) -> Outstation
 }
 
 // The tour of the next aircraft, by three draws.
-#[tactic(auto, unfolding(crate::specs::Schedule::tour_at))]
+#[tactic(auto, unfolding(crate::specs::Schedule::tour_at, crate::specs::Draws::draw, crate::specs::Draws::state_after))]
 fn next_tour(words: &mut Xoshiro256PlusPlus) -> Tour
     ensures tour { result ≡ tour_at words.old }
     ensures moved { words.new ≡ state_after words.old 3 }
@@ -169,12 +169,9 @@ fn push_flight(
             b" ",
             destination,
             b" ",
-            &leaves,
-            b" ",
-            &arrives,
-            b" 0\n",
         ],
-    )
+    )?;
+    push_all(text, &[&leaves, b" ", &arrives, b" 0\n"])
 }
 
 /// The legs of a day of this size, 1 to 40, each with its aircraft. The only error is out of memory.

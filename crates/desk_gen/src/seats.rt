@@ -74,19 +74,19 @@ pub(crate) fn granted(rows: &[Seats], request: &Request) -> u32
 }
 
 // Takes so many seats of a cabin on one leg.
-fn take_seats(rows: &mut [Seats], x: u32, cabin: Cabin, count: u32)
-    requires leg { x < length rows.old }
-    requires room { count ≤ in_cabin (row_at rows.old x) cabin }
-    ensures { rows.new ≡ slice_set rows.old x (fewer (row_at rows.old x) cabin count) }
+fn take_seats(rows: &mut Vec<Seats>, x: u32, cabin: Cabin, count: u32)
+    requires leg { x < length rows.old.items }
+    requires room { count ≤ in_cabin (row_at rows.old.items x) cabin }
+    ensures { rows.new.items ≡ slice_set rows.old.items x (fewer (row_at rows.old.items x) cabin count) }
 {
     rows[x as usize] = fewer(rows[x as usize], cabin, count);
 }
 
 /// Takes the seats of a reservation for so many passengers, for whom there are seats.
-pub(crate) fn take(rows: &mut [Seats], request: &Request, count: u32)
-    requires within { IsTripWithin (length rows.old) request.now.trip }
-    requires room { count ≤ granted_by rows.old request.now }
-    ensures { rows.new ≡ rows_without rows.old request.now count }
+pub(crate) fn take(rows: &mut Vec<Seats>, request: &Request, count: u32)
+    requires within { IsTripWithin (length rows.old.items) request.now.trip }
+    requires room { count ≤ granted_by rows.old.items request.now }
+    ensures { rows.new.items ≡ rows_without rows.old.items request.now count }
 {
     match request.trip {
         Trip::One(x) => take_seats(rows, x, request.cabin, count),

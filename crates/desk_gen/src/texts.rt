@@ -75,16 +75,25 @@ fn push_airport(text: &mut Vec<u8>, name: &[u8], size: u32) -> Result<(), NoMem>
 }
 
 // The aircraft that have to stand at the hub at the end of a day of this size.
-#[tactic(auto, unfolding(crate::specs::Generated::position_text))]
 fn position_text(alloc: Global, size: u32) -> Result<Vec<u8>, NoMem>
     requires { size ≤ 40 }
     ensures { IfOk result (λ text. text.items ≡ position_text size) }
 {
     let mut text = Vec::new(alloc);
+    push_position(&mut text, size)?;
+    Ok(text)
+}
+
+/// Adds the line of the hub.
+#[tactic(auto, unfolding(crate::specs::Generated::position_text))]
+fn push_position(text: &mut Vec<u8>, size: u32) -> Result<(), NoMem>
+    requires { size ≤ 40 }
+    ensures { OnOk result (text.new.items ≡ text.old.items ++ position_text size) }
+{
     let mut large = Buffer::new();
     let mut small = Buffer::new();
     push_all(
-        &mut text,
+        text,
         &[
             b"HUB M1 0/20/100 ",
             large.format(3 * size).as_bytes(),
@@ -92,6 +101,5 @@ fn position_text(alloc: Global, size: u32) -> Result<Vec<u8>, NoMem>
             small.format(2 * size).as_bytes(),
             b"\n",
         ],
-    )?;
-    Ok(text)
+    )
 }

@@ -8,7 +8,9 @@ use Rattle.desk_words.specs.declared.choice.Choice.TheVariants.{Seed, Size}
 use Rattle.desk_words.specs.declared.read.Places.{Places}
 use Rattle.desk_words.specs.declared.read.Places.TheVariants.{Nothing, One, Two}
 use Rattle.desk_words.specs.declared.read.Read.{Read}
-use Rattle.desk_words.specs.Arguments.{Argument, Place, Setting}
+use Rattle.desk_words.specs.declared.read.Expected.{Expected}
+use Rattle.desk_words.specs.declared.read.Expected.TheVariants as expected
+use Rattle.desk_words.specs.Arguments.{Argument, Place, Setting, is_directory, choice_of, setting_of, only_places, arguments_behind}
 use Rattle.desk_words.specs.Commands.{Asking, default_of, least_of, most_of, input_and_output, output_alone}
 
 -- what is kept
@@ -62,6 +64,39 @@ with_all kept [] = Some kept
 with_all kept (argument ∷ others) = do
   more ← with_argument kept argument
   with_all more others
+
+-- what is kept behind the arguments of some words, where they have arguments
+abbrev pub kept_behind : Kept → Option (List Argument) → Option Kept
+kept_behind kept None = None
+kept_behind kept (Some arguments) = with_all kept arguments
+
+-- what comes of an option, or else of none
+abbrev pub by_choice : Option Choice → (Choice → Option (Expected × Kept)) → Option (Expected × Kept) → Option (Expected × Kept)
+by_choice (Some choice) some none = some choice
+by_choice None some none = none
+
+-- the arguments of words, by what the first of them may be
+abbrev pub arguments_by : Expected → List (List ℕ) → Option (List Argument)
+arguments_by expected.Any words = arguments_behind None words
+arguments_by (expected.Value choice) words = arguments_behind (Some choice) words
+arguments_by expected.Place words = only_places words
+
+-- what the next word may be, and what is kept
+abbrev pub after : Expected × Read → Expected × Kept
+after pair = (pair.0, kept_of pair.1)
+
+-- behind one word
+unfoldable pub of_any : Kept → List ℕ → Option (Expected × Kept)
+of_any kept word =
+    if is_directory word then (with_place kept word >>= λ more. Some (expected.Any, more)) else (
+    if bytes_eq word (codes "--") then Some (expected.Place, kept) else
+    by_choice (choice_of word) (λ choice. Some (expected.Value choice, kept))
+    (setting_of word >>= λ set. with_setting kept set.0 set.1 >>= λ more. Some (expected.Any, more)))
+
+unfoldable pub of_word : Expected → Kept → List ℕ → Option (Expected × Kept)
+of_word expected.Any kept word = of_any kept word
+of_word (expected.Value choice) kept word = with_setting kept choice word >>= λ more. Some (expected.Any, more)
+of_word expected.Place kept word = if is_directory word then (with_place kept word >>= λ more. Some (expected.Place, more)) else None
 
 -- an option that isn't set
 abbrev pub unset : Option ℕ → Option (Unit {0})

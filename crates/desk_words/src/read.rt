@@ -1,11 +1,10 @@
 //! Reading the words behind a command.
 
-ghost use Rattle.std.specs.Prelude.{◌≡◌, map};
+ghost use Rattle.std.specs.Prelude.{◌≡◌, [], ◌∷◌, map, MatchOption};
 ghost use Rattle.std.specs.String.{string_bytes};
 ghost use Rattle.std.specs.Option.{option_map};
-ghost use Rattle.desk_text.specs.Fields.{◌>>=◌};
-ghost use Rattle.desk_words.specs.Arguments.{is_directory, only_places, arguments_behind};
-ghost use Rattle.desk_words.specs.Read.{kept_of, nothing, with_place, first_value, with_setting, with_all};
+ghost use Rattle.desk_words.specs.Arguments.{is_directory};
+ghost use Rattle.desk_words.specs.Read.{kept_of, nothing, with_place, first_value, with_setting, kept_behind, arguments_by, after, of_any, of_word};
 
 use crate::choice::{Choice, choice_of, setting_of};
 use desk_text::number;
@@ -50,7 +49,7 @@ pub(crate) fn nothing<'a>() -> Read<'a>
 // One directory more, where there are not yet two.
 #[tactic(auto, unfolding(crate::specs::Read::with_place))]
 fn with_place<'a>(read: Read<'a>, word: &'a str) -> Option<Read<'a>>
-    ensures { option_map kept_of result ≡ with_place (kept_of read) word.now }
+    ensures { option_map kept_of result ≡ with_place (kept_of read.entry) word.now }
 {
     let places = match read.places {
         Places::Nothing => Places::One(word),
@@ -76,7 +75,7 @@ fn first_value(choice: Choice, value: Option<u32>, text: &[u8]) -> Option<u32>
 // An option that is set.
 #[tactic(auto, unfolding(crate::specs::Read::with_setting))]
 fn with_setting<'a>(read: Read<'a>, choice: Choice, text: &[u8]) -> Option<Read<'a>>
-    ensures { option_map kept_of result ≡ with_setting (kept_of read) choice text.now }
+    ensures { option_map kept_of result ≡ with_setting (kept_of read.entry) choice text.now }
 {
     match choice {
         Choice::Seed => {
@@ -90,52 +89,98 @@ fn with_setting<'a>(read: Read<'a>, choice: Choice, text: &[u8]) -> Option<Read<
     }
 }
 
-// Reads words that are all directories.
-fn read_places<'a>(read: Read<'a>, words: &'a [String]) -> Option<Read<'a>>
-    ensures { option_map kept_of result ≡ (only_places (map string_bytes words.now) >>= with_all (kept_of read)) }
+/// What the next word may be.
+#[derive(Clone, Copy, Debug)]
+pub enum Expected {
+    /// a directory, an option or `--`
+    Any,
+    /// the value of this option
+    Value(Choice),
+    /// a directory
+    Place,
+}
+
+// Reads a word that may be anything but a value.
+#[tactic(auto, unfolding(crate::specs::Read::of_any))]
+fn read_any<'a>(read: Read<'a>, word: &'a str) -> Option<(Expected, Read<'a>)>
+    ensures { option_map after result ≡ of_any (kept_of read.entry) word.now }
 {
-    match words {
-        [] => Some(read),
-        [word, others @ ..] => {
-            let word = word.as_str();
+    if is_directory(word) {
+        let more = with_place(read, word)?;
+        return Some((Expected::Any, more));
+    }
+    if word == "--" {
+        return Some((Expected::Place, read));
+    }
+    if let Some(choice) = choice_of(word) {
+        return Some((Expected::Value(choice), read));
+    }
+    let (choice, text) = setting_of(word)?;
+    let more = with_setting(read, choice, text)?;
+    Some((Expected::Any, more))
+}
+
+// Reads a word, and says what the next one may be.
+#[tactic(auto, unfolding(crate::specs::Read::of_word))]
+fn read_word<'a>(
+    expected: Expected,
+    read: Read<'a>,
+    word: &'a str,
+) -> Option<(Expected, Read<'a>)>
+    ensures { option_map after result ≡ of_word expected (kept_of read.entry) word.now }
+{
+    match expected {
+        Expected::Any => read_any(read, word),
+        Expected::Value(choice) => {
+            let more = with_setting(read, choice, word.as_bytes())?;
+            Some((Expected::Any, more))
+        }
+        Expected::Place => {
             if !is_directory(word) {
                 return None;
             }
-            read_places(with_place(read, word)?, others)
+            let more = with_place(read, word)?;
+            Some((Expected::Place, more))
         }
     }
 }
 
-/// Reads words. Where one is the name of an option, its value is the first of them.
+// What was read, where no word is left.
+fn at_end<'a>(expected: Expected, read: Read<'a>) -> Option<Read<'a>>
+    ensures { option_map kept_of result ≡ kept_behind (kept_of read.entry) (arguments_by expected []) }
+{
+    match expected {
+        Expected::Any | Expected::Place => Some(read),
+        Expected::Value(_) => None,
+    }
+}
+
+/// The first word and the others.
+pub(crate) fn first_word(words: &[String]) -> Option<(&str, &[String])>
+    ensures { MatchOption result
+        (map string_bytes words.now ≡ [])
+        (λ parts. map string_bytes words.now ≡ parts.0.now ∷ map string_bytes parts.1.now) }
+{
+    match words {
+        [] => None,
+        [word, others @ ..] => Some((word.as_str(), others)),
+    }
+}
+
+/// Reads words, of which the first may be what is expected.
 pub(crate) fn read_words<'a>(
+    expected: Expected,
     read: Read<'a>,
-    named: Option<Choice>,
     words: &'a [String],
 ) -> Option<Read<'a>>
     ensures { option_map kept_of result
-        ≡ (arguments_behind named (map string_bytes words.now) >>= with_all (kept_of read)) }
+        ≡ kept_behind (kept_of read.entry) (arguments_by expected (map string_bytes words.now)) }
 {
-    match words {
-        [] => match named {
-            None => Some(read),
-            Some(_) => None,
+    match first_word(words) {
+        None => at_end(expected, read),
+        Some((word, others)) => match read_word(expected, read, word) {
+            None => None,
+            Some((next, more)) => read_words(next, more, others),
         },
-        [word, others @ ..] => {
-            let word = word.as_str();
-            if let Some(choice) = named {
-                return read_words(with_setting(read, choice, word.as_bytes())?, None, others);
-            }
-            if is_directory(word) {
-                return read_words(with_place(read, word)?, None, others);
-            }
-            if word == "--" {
-                return read_places(read, others);
-            }
-            if let Some(choice) = choice_of(word) {
-                return read_words(read, Some(choice), others);
-            }
-            let (choice, text) = setting_of(word)?;
-            read_words(with_setting(read, choice, text)?, None, others)
-        }
     }
 }

@@ -8,25 +8,25 @@ ghost use Rattle.desk_words.specs.Asked.{asking};
 ghost use Rattle.desk_words.specs.Read.{kept_of, plain_kept, generating_kept, asked_kept};
 
 use crate::asked::{Asked, Command};
-use crate::read::{Places, Read, nothing, read_words};
+use crate::read::{Expected, Places, Read, first_word, nothing, read_words};
 
 /// The command of these words, the program's name left out, with its directories; or `None` where they
 /// are no command.
 pub fn command(words: &[String]) -> Option<Asked<'_>>
     ensures { option_map asking result ≡ command (map string_bytes words.now) }
 {
-    match words {
-        [] => None,
-        [word, others @ ..] => {
-            let read = read_words(nothing(), None, others)?;
-            asked(word.as_str(), read)
-        }
+    match first_word(words) {
+        None => None,
+        Some((word, others)) => match read_words(Expected::Any, nothing(), others) {
+            None => None,
+            Some(read) => asked(word, read),
+        },
     }
 }
 
 // What a command's word makes of the words behind it.
 fn asked<'a>(word: &str, read: Read<'a>) -> Option<Asked<'a>>
-    ensures { option_map asking result ≡ asked_kept word.now (kept_of read) }
+    ensures { option_map asking result ≡ asked_kept word.now (kept_of read.entry) }
 {
     match word {
         "replay" => plain(Command::Replay, read),
@@ -39,7 +39,7 @@ fn asked<'a>(word: &str, read: Read<'a>) -> Option<Asked<'a>>
 // A command that takes an input and an output directory, and no options.
 #[tactic(auto, unfolding(crate::specs::Read::plain_kept))]
 fn plain<'a>(command: Command, read: Read<'a>) -> Option<Asked<'a>>
-    ensures { option_map asking result ≡ plain_kept command (kept_of read) }
+    ensures { option_map asking result ≡ plain_kept command (kept_of read.entry) }
 {
     match (read.seed, read.size, read.places) {
         (None, None, Places::Two(input, output)) => Some(Asked {
@@ -54,7 +54,7 @@ fn plain<'a>(command: Command, read: Read<'a>) -> Option<Asked<'a>>
 // The command `gen`.
 #[tactic(auto, unfolding(crate::specs::Read::generating_kept))]
 fn generating<'a>(read: Read<'a>) -> Option<Asked<'a>>
-    ensures { option_map asking result ≡ generating_kept (kept_of read) }
+    ensures { option_map asking result ≡ generating_kept (kept_of read.entry) }
 {
     match read.places {
         Places::One(output) => Some(Asked {

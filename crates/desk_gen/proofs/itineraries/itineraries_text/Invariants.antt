@@ -7,7 +7,7 @@ use Rattle.desk_gen.proofs.itineraries.itineraries_text.Given as goal
 
 abbrev pub invariant-loop-number : goal.invariant-loop-number
 invariant-loop-number l = record {
-  words : l.words ≡ state_after (behind_tours l.seed l.size) (5 * l.number);
-  left : AreLeft l.size (lines_of l.seed l.size l.number) l.rows.items;
-  text : l.text.items ≡ flat_map itinerary_line (lines_of l.seed l.size l.number);
+  words : l.words ≡ state_after (behind_tours l.fn.seed l.fn.size) (5 * l.number);
+  left : AreLeft l.fn.size (lines_of l.fn.seed l.fn.size l.number) l.rows.items;
+  text : l.text.items ≡ flat_map itinerary_line (lines_of l.fn.seed l.fn.size l.number);
 }

@@ -6,6 +6,6 @@ use Rattle.desk_gen.proofs.schedule.flights_text.Given as goal
 
 abbrev pub invariant-loop-plane : goal.invariant-loop-plane
 invariant-loop-plane l = record {
-  words : l.words ≡ state_after (seeded l.seed) (3 * l.plane);
-  text : l.text.items ≡ flat_map (λ plane. tour_lines plane (tour_of l.seed plane)) (numbers l.plane);
+  words : l.words ≡ state_after (seeded l.fn.seed) (3 * l.plane);
+  text : l.text.items ≡ flat_map (λ plane. tour_lines plane (tour_of l.fn.seed plane)) (numbers l.plane);
 }
