@@ -1,5 +1,5 @@
 -- What is kept of words is what their arguments say.
-use Rattle.std.proofs.Common.{◌≡◌, ℕ, Bool, true, false, if◌then◌else◌, eqb, List, [], ◌∷◌, ◌++◌, Option, Some, None, Unit, unwrap_or, ap, sym, ◌∙◌, refl, subst, codes, bytes_eq}
+use Rattle.std.proofs.Common.{◌≡◌, ℕ, Bool, true, false, if◌then◌else◌, eqb, List, [], ◌∷◌, ◌++◌, Option, Some, None, unwrap_or, ap, sym, ◌∙◌, refl, subst, codes, bytes_eq}
 use Rattle.std.proofs.lemmas.List.{append_assoc, append-nil}
 use Rattle.desk_text.specs.Fields.{◌>>=◌, number_from}
 use Rattle.desk_words.specs.declared.asked.Command.{Command}
@@ -10,7 +10,7 @@ use Rattle.desk_words.specs.declared.read.Expected.{Expected}
 use Rattle.desk_words.specs.declared.read.Expected.TheVariants as expected
 use Rattle.desk_words.specs.Arguments.{Argument, Place, Setting, is_directory, choice_of, setting_of, before, named_or, set_before, only_places, arguments_behind, arguments, places, values, choice_number}
 use Rattle.desk_words.specs.Commands.{Asking, default_of, least_of, most_of, value_in, value_of, none_in, is_unset, input_and_output, output_alone, plain, generating, asked_by, command}
-use Rattle.desk_words.specs.Read.{Kept, nothing, one_more, first_value, with_place, with_setting, with_argument, with_all, kept_behind, by_choice, arguments_by, of_any, of_word, unset, plain_kept, generating_kept, asked_kept}
+use Rattle.desk_words.specs.Read.{Kept, nothing, one_more, first_value, with_place, with_setting, with_argument, with_all, kept_behind, by_choice, next_is, arguments_by, of_any, of_word, unset, plain_kept, generating_kept, asked_kept}
 
 nowhere : {X : Type 0} (more : Option X) (f : X → Option Kept) → ((x : X) → f x ≡ None) → (more >>= f) ≡ None
 nowhere None f none = refl
@@ -22,11 +22,15 @@ unfolding with_all
 kept_before kept argument (Some list) = refl
 kept_before kept argument None = sym (nowhere (with_argument kept argument) (λ more. kept_behind more None) (λ more. refl))
 
-bind_twice : (more : Option Kept) (next : Expected) (f : Expected × Kept → Option Kept) → ((more >>= λ kept. Some (next, kept)) >>= f) ≡ (more >>= λ kept. f (next, kept))
+-- what is kept of the words behind one
+abbrev go_on : List (List ℕ) → Expected × Kept → Option Kept
+go_on words next = kept_behind next.1 (arguments_by next.0 words)
+
+bind_twice : (more : Option Kept) (next : Expected) (f : Expected × Kept → Option Kept) → ((more >>= next_is next) >>= f) ≡ (more >>= λ kept. f (next, kept))
 bind_twice None next f = refl
 bind_twice (Some kept) next f = refl
 
-kept_any : (kept : Kept) (word : List ℕ) (words : List (List ℕ)) → kept_behind kept (arguments_behind None (word ∷ words)) ≡ (of_any kept word >>= λ next. kept_behind next.1 (arguments_by next.0 words))
+kept_any : (kept : Kept) (word : List ℕ) (words : List (List ℕ)) → kept_behind kept (arguments_behind None (word ∷ words)) ≡ (of_any kept word >>= go_on words)
 unfolding of_any arguments_behind
 kept_any kept word words = by_tests (is_directory word) (bytes_eq word (codes "--")) (choice_of word) (setting_of word)
   where
@@ -34,24 +38,24 @@ kept_any kept word words = by_tests (is_directory word) (bytes_eq word (codes "-
     kept_behind kept (if place then before (Place word) (arguments_behind None words) else (
     if dashes then only_places words else
     named_or choice (λ c. arguments_behind (Some c) words) (set_before set (arguments_behind None words))))
-    ≡ ((if place then (with_place kept word >>= λ more. Some (expected.Any, more)) else (
-    if dashes then Some (expected.Place, kept) else
-    by_choice choice (λ c. Some (expected.Value c, kept)) (set >>= λ s. with_setting kept s.0 s.1 >>= λ more. Some (expected.Any, more)))) >>= λ next. kept_behind next.1 (arguments_by next.0 words))
-  by_tests true dashes choice set = kept_before kept (Place word) (arguments_behind None words) ∙ sym (bind_twice (with_place kept word) expected.Any (λ next. kept_behind next.1 (arguments_by next.0 words)))
+    ≡ ((if place then (with_place kept word >>= next_is expected.Any) else (
+    if dashes then next_is expected.Place kept else
+    by_choice choice (λ c. next_is (expected.Value c) kept) (set >>= λ s. with_setting kept s.0 s.1 >>= next_is expected.Any))) >>= go_on words)
+  by_tests true dashes choice set = kept_before kept (Place word) (arguments_behind None words) ∙ sym (bind_twice (with_place kept word) expected.Any (go_on words))
   by_tests false true choice set = refl
   by_tests false false (Some c) set = refl
   by_tests false false None None = refl
-  by_tests false false None (Some s) = kept_before kept (Setting s.0 s.1) (arguments_behind None words) ∙ sym (bind_twice (with_setting kept s.0 s.1) expected.Any (λ next. kept_behind next.1 (arguments_by next.0 words)))
+  by_tests false false None (Some s) = kept_before kept (Setting s.0 s.1) (arguments_behind None words) ∙ sym (bind_twice (with_setting kept s.0 s.1) expected.Any (go_on words))
 
 -- what words say is what the first of them says, and then the others
-pub kept_word : (mode : Expected) (kept : Kept) (word : List ℕ) (words : List (List ℕ)) → kept_behind kept (arguments_by mode (word ∷ words)) ≡ (of_word mode kept word >>= λ next. kept_behind next.1 (arguments_by next.0 words))
+pub kept_word : (mode : Expected) (kept : Kept) (word : List ℕ) (words : List (List ℕ)) → kept_behind kept (arguments_by mode (word ∷ words)) ≡ (of_word mode kept word >>= go_on words)
 unfolding of_word arguments_behind only_places
 kept_word expected.Any kept word words = kept_any kept word words
-kept_word (expected.Value choice) kept word words = kept_before kept (Setting choice word) (arguments_behind None words) ∙ sym (bind_twice (with_setting kept choice word) expected.Any (λ next. kept_behind next.1 (arguments_by next.0 words)))
+kept_word (expected.Value choice) kept word words = kept_before kept (Setting choice word) (arguments_behind None words) ∙ sym (bind_twice (with_setting kept choice word) expected.Any (go_on words))
 kept_word expected.Place kept word words = by_test (is_directory word)
   where
-  by_test : (test : Bool) → kept_behind kept (if test then before (Place word) (only_places words) else None) ≡ ((if test then (with_place kept word >>= λ more. Some (expected.Place, more)) else None) >>= λ next. kept_behind next.1 (arguments_by next.0 words))
-  by_test true = kept_before kept (Place word) (only_places words) ∙ sym (bind_twice (with_place kept word) expected.Place (λ next. kept_behind next.1 (arguments_by next.0 words)))
+  by_test : (test : Bool) → kept_behind kept (if test then before (Place word) (only_places words) else None) ≡ ((if test then (with_place kept word >>= next_is expected.Place) else None) >>= go_on words)
+  by_test true = kept_before kept (Place word) (only_places words) ∙ sym (bind_twice (with_place kept word) expected.Place (go_on words))
   by_test false = refl
 
 places-append : (a b : List Argument) → places (a ++ b) ≡ places a ++ places b
@@ -300,11 +304,11 @@ asked_of_kept word (Some list) = kept_all word [] list nothing says_nothing
 -- reading stops at a word, or goes on behind it
 pub read_stops : (mode : Expected) (kept : Kept) (word : List ℕ) (words all : List (List ℕ)) → all ≡ word ∷ words → None ≡ of_word mode kept word → None ≡ kept_behind kept (arguments_by mode all)
 read_stops mode kept word words all e none =
-    ap (λ next. next >>= λ pair. kept_behind pair.1 (arguments_by pair.0 words)) none ∙ sym (kept_word mode kept word words) ∙ ap (λ l. kept_behind kept (arguments_by mode l)) (sym e)
+    ap (λ next. next >>= go_on words) none ∙ sym (kept_word mode kept word words) ∙ ap (λ l. kept_behind kept (arguments_by mode l)) (sym e)
 
 pub read_goes : (mode : Expected) (kept : Kept) (word : List ℕ) (words all : List (List ℕ)) (next : Expected × Kept) (answer : Option Kept) → all ≡ word ∷ words → Some next ≡ of_word mode kept word → answer ≡ kept_behind next.1 (arguments_by next.0 words) → answer ≡ kept_behind kept (arguments_by mode all)
 read_goes mode kept word words all next answer e some rest =
-    rest ∙ ap (λ n. n >>= λ pair. kept_behind pair.1 (arguments_by pair.0 words)) some ∙ sym (kept_word mode kept word words) ∙ ap (λ l. kept_behind kept (arguments_by mode l)) (sym e)
+    rest ∙ ap (λ n. n >>= go_on words) some ∙ sym (kept_word mode kept word words) ∙ ap (λ l. kept_behind kept (arguments_by mode l)) (sym e)
 
 -- the command of words, by what is kept of those behind the first
 pub command_is : (word : List ℕ) (words all : List (List ℕ)) → all ≡ word ∷ words → (kept_behind nothing (arguments words) >>= asked_kept word) ≡ command all

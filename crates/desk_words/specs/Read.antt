@@ -72,8 +72,8 @@ kept_behind kept (Some arguments) = with_all kept arguments
 
 -- what comes of an option, or else of none
 abbrev pub by_choice : Option Choice → (Choice → Option (Expected × Kept)) → Option (Expected × Kept) → Option (Expected × Kept)
-by_choice (Some choice) some none = some choice
-by_choice None some none = none
+by_choice (Some choice) named other = named choice
+by_choice None named other = other
 
 -- the arguments of words, by what the first of them may be
 abbrev pub arguments_by : Expected → List (List ℕ) → Option (List Argument)
@@ -85,18 +85,22 @@ arguments_by expected.Place words = only_places words
 abbrev pub after : Expected × Read → Expected × Kept
 after pair = (pair.0, kept_of pair.1)
 
+-- what the next word may be, where so much is kept
+abbrev pub next_is : Expected → Kept → Option (Expected × Kept)
+next_is mode kept = Some (mode, kept)
+
 -- behind one word
 unfoldable pub of_any : Kept → List ℕ → Option (Expected × Kept)
 of_any kept word =
-    if is_directory word then (with_place kept word >>= λ more. Some (expected.Any, more)) else (
-    if bytes_eq word (codes "--") then Some (expected.Place, kept) else
-    by_choice (choice_of word) (λ choice. Some (expected.Value choice, kept))
-    (setting_of word >>= λ set. with_setting kept set.0 set.1 >>= λ more. Some (expected.Any, more)))
+    if is_directory word then (with_place kept word >>= next_is expected.Any) else (
+    if bytes_eq word (codes "--") then next_is expected.Place kept else
+    by_choice (choice_of word) (λ choice. next_is (expected.Value choice) kept)
+    (setting_of word >>= λ set. with_setting kept set.0 set.1 >>= next_is expected.Any))
 
 unfoldable pub of_word : Expected → Kept → List ℕ → Option (Expected × Kept)
 of_word expected.Any kept word = of_any kept word
-of_word (expected.Value choice) kept word = with_setting kept choice word >>= λ more. Some (expected.Any, more)
-of_word expected.Place kept word = if is_directory word then (with_place kept word >>= λ more. Some (expected.Place, more)) else None
+of_word (expected.Value choice) kept word = with_setting kept choice word >>= next_is expected.Any
+of_word expected.Place kept word = if is_directory word then (with_place kept word >>= next_is expected.Place) else None
 
 -- an option that isn't set
 abbrev pub unset : Option ℕ → Option (Unit {0})

@@ -146,6 +146,7 @@ fn read_word<'a>(
 }
 
 // What was read, where no word is left.
+#[tactic(auto, unfolding(crate::specs::Arguments::arguments_behind, crate::specs::Arguments::only_places, crate::specs::Read::with_all))]
 fn at_end<'a>(expected: Expected, read: Read<'a>) -> Option<Read<'a>>
     ensures { option_map kept_of result ≡ kept_behind (kept_of read.entry) (arguments_by expected []) }
 {

@@ -1,9 +1,13 @@
 use Rattle.std.proofs.Common.{◌≡◌, ap, sym, ◌∙◌, map}
+use Rattle.desk_words.specs.Read.{kept_of, kept_behind, arguments_by}
 use Rattle.desk_words.proofs.WordLaws.{read_stops, read_goes}
 use Rattle.desk_words.proofs.read.+read_words.Goals as goal
 
 pub returns-in-None : goal.returns-in-None
-returns-in-None t c = ?
+returns-in-None t c = c.at_end.ensures ∙ ap (λ l. kept_behind (kept_of c.args.read) (arguments_by c.args.expected l)) (sym c.in-None.ensures)
 
-pub returns-in-Some : goal.returns-in-Some
-returns-in-Some t c = ?
+pub returns-in-None-read_word : goal.returns-in-None-read_word
+returns-in-None-read_word t c = ?
+
+pub returns-in-Some-read_word : goal.returns-in-Some-read_word
+returns-in-Some-read_word t c = ?
