@@ -311,10 +311,18 @@ read_goes mode kept word words all next answer e some rest =
     rest ∙ ap (λ n. n >>= go_on words) some ∙ sym (kept_word mode kept word words) ∙ ap (λ l. kept_behind kept (arguments_by mode l)) (sym e)
 
 -- the command of words, by what is kept of those behind the first
-pub command_is : (word : List ℕ) (words all : List (List ℕ)) → all ≡ word ∷ words → (kept_behind nothing (arguments words) >>= asked_kept word) ≡ command all
+command_is : (word : List ℕ) (words all : List (List ℕ)) → all ≡ word ∷ words → (kept_behind nothing (arguments words) >>= asked_kept word) ≡ command all
 unfolding command
 command_is word words all e = sym (asked_of_kept word (arguments words)) ∙ ap command (sym e)
 
 pub no_command : (all : List (List ℕ)) → all ≡ [] → None ≡ command all
 unfolding command
 no_command all e = ap command (sym e)
+
+pub command_stops : (first : Kept) (word : List ℕ) (words all : List (List ℕ)) → all ≡ word ∷ words → first ≡ nothing → None ≡ kept_behind first (arguments words) → None ≡ command all
+command_stops first word words all e start none =
+    ap (λ (kept : Option Kept). kept >>= asked_kept word) (none ∙ ap (λ k. kept_behind k (arguments words)) start) ∙ command_is word words all e
+
+pub command_goes : (first : Kept) (word : List ℕ) (words all : List (List ℕ)) (kept : Kept) (answer : Option Asking) → all ≡ word ∷ words → first ≡ nothing → Some kept ≡ kept_behind first (arguments words) → answer ≡ asked_kept word kept → answer ≡ command all
+command_goes first word words all kept answer e start some is =
+    is ∙ ap (λ (k : Option Kept). k >>= asked_kept word) (some ∙ ap (λ k. kept_behind k (arguments words)) start) ∙ command_is word words all e
