@@ -131,9 +131,9 @@ pub left_behind : (size : ℕ) (lines : List Line) (rows : List Seats) (request 
 left_behind size lines rows request count h within = record {
   legs = trip_length rows request.cabin count request.trip ∙ h.legs;
   each = λ x less.
-    trip_behind rows request.cabin count request.trip x within
-    ∙ ap (λ s. fewer_if (has_leg request.trip x) s request.cabin count) (h.each x less)
-    ∙ sym (seats_left_more lines request count x);
+      trip_behind rows request.cabin count request.trip x within
+      ∙ ap (λ s. fewer_if (has_leg request.trip x) s request.cabin count) (h.each x less)
+      ∙ sym (seats_left_more lines request count x);
 }
 
 -- the seats of a cabin in the row of a leg

@@ -82,5 +82,14 @@ fn push_line(text: &mut Vec<u8>, plane: u32) -> Result<(), NoMem>
 {
     let mut buffer = Buffer::new();
     let number = buffer.format(plane + 1);
-    push_all(text, &[b"P", number.as_bytes(), b" ", kind_text(kind_of(plane)), b"\n"])
+    push_all(
+        text,
+        &[
+            b"P",
+            number.as_bytes(),
+            b" ",
+            kind_text(kind_of(plane)),
+            b"\n",
+        ],
+    )
 }

@@ -1,7 +1,6 @@
 //! The seats that are left on each leg.
 
 ghost use Rattle.std.specs.Prelude.{◌≡◌, [], ◌++◌, ◌∷◌, ◌<◌, ◌≤◌, length, slice_set, IfOk};
-
 ghost use Rattle.desk_gen.specs.Seats.{in_cabin, fewer, plane_seats, row_at, AreLeft, IsTripWithin, granted_by, rows_without};
 
 use crate::demand::{Request, Trip};

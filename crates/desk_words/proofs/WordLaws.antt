@@ -1,5 +1,5 @@
 -- What is kept of words is what their arguments say.
-use Rattle.std.proofs.Common.{◌≡◌, ℕ, Bool, true, false, if◌then◌else◌, eqb, List, [], ◌∷◌, ◌++◌, Option, Some, None, unwrap_or, ap, sym, ◌∙◌, refl, subst, codes, bytes_eq}
+use Rattle.std.proofs.Common.{◌≡◌, ℕ, Bool, true, false, if◌then◌else◌, eqb, List, [], ◌∷◌, ◌++◌, Option, Some, None, unwrap_or, ap, sym, ◌∙◌, refl, codes, bytes_eq}
 use Rattle.std.proofs.lemmas.List.{append_assoc, append-nil}
 use Rattle.desk_text.specs.Fields.{◌>>=◌, number_from}
 use Rattle.desk_words.specs.declared.asked.Command.{Command}
@@ -9,8 +9,8 @@ use Rattle.desk_words.specs.declared.choice.Choice.TheVariants.{Seed, Size}
 use Rattle.desk_words.specs.declared.read.Expected.{Expected}
 use Rattle.desk_words.specs.declared.read.Expected.TheVariants as expected
 use Rattle.desk_words.specs.Arguments.{Argument, Place, Setting, is_directory, choice_of, setting_of, before, named_or, set_before, only_places, arguments_behind, arguments, places, values, choice_number}
-use Rattle.desk_words.specs.Commands.{Asking, default_of, least_of, most_of, value_in, value_of, none_in, is_unset, input_and_output, output_alone, plain, generating, asked_by, command}
-use Rattle.desk_words.specs.Read.{Kept, nothing, one_more, first_value, with_place, with_setting, with_argument, with_all, kept_behind, by_choice, next_is, arguments_by, of_any, of_word, unset, plain_kept, generating_kept, asked_kept}
+use Rattle.desk_words.specs.Commands.{Asking, default_of, least_of, most_of, value_in, value_of, none_in, is_unset, input_and_output, plain, generating, asked_by, command}
+use Rattle.desk_words.specs.Read.{Kept, nothing, one_more, with_place, with_setting, with_argument, with_all, kept_behind, by_choice, next_is, arguments_by, of_any, of_word, unset, plain_kept, generating_kept, asked_kept}
 
 nowhere : {X : Type 0} (more : Option X) (f : X → Option Kept) → ((x : X) → f x ≡ None) → (more >>= f) ≡ None
 nowhere None f none = refl
@@ -34,18 +34,18 @@ kept_any : (kept : Kept) (word : List ℕ) (words : List (List ℕ)) → kept_be
 unfolding of_any arguments_behind
 kept_any kept word words = by_tests (is_directory word) (bytes_eq word (codes "--")) (choice_of word) (setting_of word)
   where
-  by_tests : (place dashes : Bool) (choice : Option Choice) (set : Option (Choice × List ℕ)) →
-    kept_behind kept (if place then before (Place word) (arguments_behind None words) else (
-    if dashes then only_places words else
-    named_or choice (λ c. arguments_behind (Some c) words) (set_before set (arguments_behind None words))))
-    ≡ ((if place then (with_place kept word >>= next_is expected.Any) else (
-    if dashes then next_is expected.Place kept else
-    by_choice choice (λ c. next_is (expected.Value c) kept) (set >>= λ s. with_setting kept s.0 s.1 >>= next_is expected.Any))) >>= go_on words)
-  by_tests true dashes choice set = kept_before kept (Place word) (arguments_behind None words) ∙ sym (bind_twice (with_place kept word) expected.Any (go_on words))
-  by_tests false true choice set = refl
-  by_tests false false (Some c) set = refl
-  by_tests false false None None = refl
-  by_tests false false None (Some s) = kept_before kept (Setting s.0 s.1) (arguments_behind None words) ∙ sym (bind_twice (with_setting kept s.0 s.1) expected.Any (go_on words))
+    by_tests : (place dashes : Bool) (choice : Option Choice) (set : Option (Choice × List ℕ)) →
+        kept_behind kept (if place then before (Place word) (arguments_behind None words) else (
+        if dashes then only_places words else
+        named_or choice (λ c. arguments_behind (Some c) words) (set_before set (arguments_behind None words))))
+        ≡ ((if place then (with_place kept word >>= next_is expected.Any) else (
+        if dashes then next_is expected.Place kept else
+        by_choice choice (λ c. next_is (expected.Value c) kept) (set >>= λ s. with_setting kept s.0 s.1 >>= next_is expected.Any))) >>= go_on words)
+    by_tests true dashes choice set = kept_before kept (Place word) (arguments_behind None words) ∙ sym (bind_twice (with_place kept word) expected.Any (go_on words))
+    by_tests false true choice set = refl
+    by_tests false false (Some c) set = refl
+    by_tests false false None None = refl
+    by_tests false false None (Some s) = kept_before kept (Setting s.0 s.1) (arguments_behind None words) ∙ sym (bind_twice (with_setting kept s.0 s.1) expected.Any (go_on words))
 
 -- what words say is what the first of them says, and then the others
 pub kept_word : (mode : Expected) (kept : Kept) (word : List ℕ) (words : List (List ℕ)) → kept_behind kept (arguments_by mode (word ∷ words)) ≡ (of_word mode kept word >>= go_on words)
@@ -54,9 +54,9 @@ kept_word expected.Any kept word words = kept_any kept word words
 kept_word (expected.Value choice) kept word words = kept_before kept (Setting choice word) (arguments_behind None words) ∙ sym (bind_twice (with_setting kept choice word) expected.Any (go_on words))
 kept_word expected.Place kept word words = by_test (is_directory word)
   where
-  by_test : (test : Bool) → kept_behind kept (if test then before (Place word) (only_places words) else None) ≡ ((if test then (with_place kept word >>= next_is expected.Place) else None) >>= go_on words)
-  by_test true = kept_before kept (Place word) (only_places words) ∙ sym (bind_twice (with_place kept word) expected.Place (go_on words))
-  by_test false = refl
+    by_test : (test : Bool) → kept_behind kept (if test then before (Place word) (only_places words) else None) ≡ ((if test then (with_place kept word >>= next_is expected.Place) else None) >>= go_on words)
+    by_test true = kept_before kept (Place word) (only_places words) ∙ sym (bind_twice (with_place kept word) expected.Place (go_on words))
+    by_test false = refl
 
 places-append : (a b : List Argument) → places (a ++ b) ≡ places a ++ places b
 unfolding places
@@ -98,9 +98,9 @@ unset_read : (choice : Choice) (texts : List (List ℕ)) (value : Option ℕ) �
 unset_read choice [] value e = ap unset (some_of None value e)
 unset_read choice (text ∷ []) value e = of_number (number_from (least_of choice) (most_of choice) text) value e
   where
-  of_number : (n : Option ℕ) (value : Option ℕ) → (n >>= λ k. Some (Some k)) ≡ Some value → None ≡ unset value
-  of_number None value e = none_some value e
-  of_number (Some k) value e = ap unset (some_of (Some k) value e)
+    of_number : (n : Option ℕ) (value : Option ℕ) → (n >>= λ k. Some (Some k)) ≡ Some value → None ≡ unset value
+    of_number None value e = none_some value e
+    of_number (Some k) value e = ap unset (some_of (Some k) value e)
 unset_read choice (text ∷ other ∷ others) value e = none_some value e
 
 -- and its number is the one that is kept, or its default
@@ -108,9 +108,9 @@ value_kept : (choice : Choice) (texts : List (List ℕ)) (value : Option ℕ) �
 value_kept choice [] value e = ap (λ v. Some (unwrap_or v (default_of choice))) (some_of None value e)
 value_kept choice (text ∷ []) value e = of_number (number_from (least_of choice) (most_of choice) text) value e
   where
-  of_number : (n : Option ℕ) (value : Option ℕ) → (n >>= λ k. Some (Some k)) ≡ Some value → n ≡ Some (unwrap_or value (default_of choice))
-  of_number None value e = none_some value e
-  of_number (Some k) value e = ap (λ v. Some (unwrap_or v (default_of choice))) (some_of (Some k) value e)
+    of_number : (n : Option ℕ) (value : Option ℕ) → (n >>= λ k. Some (Some k)) ≡ Some value → n ≡ Some (unwrap_or value (default_of choice))
+    of_number None value e = none_some value e
+    of_number (Some k) value e = ap (λ v. Some (unwrap_or v (default_of choice))) (some_of (Some k) value e)
 value_kept choice (text ∷ other ∷ others) value e = none_some value e
 
 plain_says : (command : Command) (done : List Argument) (kept : Kept) → Says done kept → plain command done ≡ plain_kept command kept
@@ -206,8 +206,8 @@ place_step done kept word (first ∷ second ∷ third ∷ others) e h = stops (r
 twice : (choice : Choice) (texts : List (List ℕ)) (value : ℕ) (text : List ℕ) (others : List (List ℕ)) → value_read choice texts ≡ Some (Some value) → value_in choice (texts ++ text ∷ others) ≡ None
 twice choice [] value text others e = absurd (none_value value (some_of None (Some value) e))
   where
-  none_value : (value : ℕ) → None ≡ Some value → ⊥
-  none_value value e = cc
+    none_value : (value : ℕ) → None ≡ Some value → ⊥
+    none_value value e = cc
 twice choice (first ∷ []) value text others e = refl
 twice choice (first ∷ second ∷ more) value text others e = refl
 
@@ -215,9 +215,9 @@ not_yet : (choice : Choice) (texts : List (List ℕ)) → value_read choice text
 not_yet choice [] e = refl
 not_yet choice (text ∷ []) e = of_number (number_from (least_of choice) (most_of choice) text) e
   where
-  of_number : (n : Option ℕ) → (n >>= λ k. Some (Some k)) ≡ Some None → text ∷ [] ≡ []
-  of_number None e = none_some None e
-  of_number (Some k) e = none_some k (sym (some_of (Some k) None e))
+    of_number : (n : Option ℕ) → (n >>= λ k. Some (Some k)) ≡ Some None → text ∷ [] ≡ []
+    of_number None e = none_some None e
+    of_number (Some k) e = none_some k (sym (some_of (Some k) None e))
 not_yet choice (text ∷ other ∷ others) e = none_some None e
 
 no_number : (choice : Choice) (text : List ℕ) (others : List (List ℕ)) → number_from (least_of choice) (most_of choice) text ≡ None → value_in choice (text ∷ others) ≡ None

@@ -1,5 +1,5 @@
 -- The words behind a command: directories and options in any order.
-use Rattle.std.specs.Prelude.{ℕ, Bool, true, false, not, ◌==◌, if◌then◌else◌, List, [], ◌∷◌, length, take, drop, Option, Some, None, option_map, codes, bytes_eq}
+use Rattle.std.specs.Prelude.{ℕ, Bool, false, not, ◌==◌, if◌then◌else◌, List, [], ◌∷◌, length, take, drop, Option, Some, None, option_map, codes, bytes_eq}
 use Rattle.desk_words.specs.declared.choice.Choice.{Choice}
 use Rattle.desk_words.specs.declared.choice.Choice.TheVariants.{Seed, Size}
 

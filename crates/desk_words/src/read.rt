@@ -80,11 +80,17 @@ fn with_setting<'a>(read: Read<'a>, choice: Choice, text: &[u8]) -> Option<Read<
     match choice {
         Choice::Seed => {
             let seed = first_value(choice, read.seed, text)?;
-            Some(Read { seed: Some(seed), ..read })
+            Some(Read {
+                seed: Some(seed),
+                ..read
+            })
         }
         Choice::Size => {
             let size = first_value(choice, read.size, text)?;
-            Some(Read { size: Some(size), ..read })
+            Some(Read {
+                size: Some(size),
+                ..read
+            })
         }
     }
 }
@@ -122,11 +128,7 @@ fn read_any<'a>(read: Read<'a>, word: &'a str) -> Option<(Expected, Read<'a>)>
 
 // Reads a word, and says what the next one may be.
 #[tactic(auto, unfolding(crate::specs::Read::of_word))]
-fn read_word<'a>(
-    expected: Expected,
-    read: Read<'a>,
-    word: &'a str,
-) -> Option<(Expected, Read<'a>)>
+fn read_word<'a>(expected: Expected, read: Read<'a>, word: &'a str) -> Option<(Expected, Read<'a>)>
     ensures { option_map after result ≡ of_word expected (kept_of read.entry) word.now }
 {
     match expected {

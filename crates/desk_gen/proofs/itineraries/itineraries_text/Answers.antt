@@ -16,15 +16,15 @@ serve-requires-clause-within c = subst (λ n. IsTripWithin n c.next_request-requ
 pub loop-number-preserved : goal.loop-number-preserved
 loop-number-preserved c =
     let within : IsTripWithin (length c.loop-number.rows.items) c.next_request-request.result.trip =
-      subst (λ n. IsTripWithin n c.next_request-request.result.trip) (sym c.loop-number.invariant.left.legs) c.next_request-request.ensures.within in
+    subst (λ n. IsTripWithin n c.next_request-request.result.trip) (sym c.loop-number.invariant.left.legs) c.next_request-request.ensures.within in
     record {
       words =
-        c.next_request-request.ensures.moved
-        ∙ after_step (behind_tours c.args.seed c.args.size) c.loop-number.words (5 * c.loop-number.number) (5 * (c.loop-number.number + 1)) 5 c.loop-number.invariant.words (omega arith);
+          c.next_request-request.ensures.moved
+          ∙ after_step (behind_tours c.args.seed c.args.size) c.loop-number.words (5 * c.loop-number.number) (5 * (c.loop-number.number + 1)) 5 c.loop-number.invariant.words (omega arith);
       left =
-        left_next c.args.seed c.args.size c.loop-number.number c.loop-number.words c.next_request-request.result c.loop-number.rows.items c.serve.new.rows.items
-        c.loop-number.invariant.words c.next_request-request.ensures.request c.loop-number.invariant.left within c.in_ok-serve.ensures.rows;
+          left_next c.args.seed c.args.size c.loop-number.number c.loop-number.words c.next_request-request.result c.loop-number.rows.items c.serve.new.rows.items
+          c.loop-number.invariant.words c.next_request-request.ensures.request c.loop-number.invariant.left within c.in_ok-serve.ensures.rows;
       text =
-        text_next c.args.seed c.args.size c.loop-number.number c.loop-number.words c.next_request-request.result c.loop-number.rows.items c.loop-number.text.items c.serve.new.text.items
-        c.loop-number.invariant.words c.next_request-request.ensures.request c.loop-number.invariant.left within c.loop-number.invariant.text c.in_ok-serve.ensures.text;
+          text_next c.args.seed c.args.size c.loop-number.number c.loop-number.words c.next_request-request.result c.loop-number.rows.items c.loop-number.text.items c.serve.new.text.items
+          c.loop-number.invariant.words c.next_request-request.ensures.request c.loop-number.invariant.left within c.loop-number.invariant.text c.in_ok-serve.ensures.text;
     }
