@@ -16,8 +16,10 @@ use Rattle.desk_rules.proofs.RulesLaws.{breaks-holds, breaks-from}
 use Rattle.desk_rules.proofs.LeastLaws.{feasible-holds, least-holds}
 use Rattle.desk_model.specs.declared.answer.Answer.TheVariants.{Taken, NoPlan}
 use Rattle.desk_model.specs.declared.answer.Event.TheVariants as event
+use Rattle.desk_units.specs.declared.money.Grains.{Grains}
+use Rattle.desk_model.specs.declared.fallbacks.Which.{Which}
 use Rattle.desk_model.specs.declared.fallbacks.Which.TheVariants.{Keep, Shift, Ground}
-use Rattle.desk_model.specs.Fallback.{fallback, shifted, grounded, chosen_or, last_choice}
+use Rattle.desk_model.specs.Fallback.{fallback, shifted, grounded, chosen_or, last_choice, rows_of, rows_named}
 use Rattle.desk_model.specs.States.{State, with_batch, fallback_on, batch_answer, answer}
 use Rattle.desk_model.specs.News.{TellsOfBatch}
 use Rattle.desk_model.proofs.FallbackLaws.{infeasible}
@@ -77,3 +79,31 @@ unfolding answer fallback_on fallback
 tells_of_batch S B =
     let J = with_batch S.inst B in
     tells_by J S.plan (least J S.plan) (least J (shifted J S.plan)) (least J (grounded J S.plan)) refl refl refl
+
+-- ---- the rows that are told of
+
+named_by : (J : Situation) (P : PlanRows) (a b c : Option Broken) (which : Which) (price : Grains) → batch_answer J (chosen_or Keep P a (chosen_or Shift (shifted J P) b (last_choice (grounded J P) c))) ≡ Taken which price → rows_of (chosen_or Keep P a (chosen_or Shift (shifted J P) b (last_choice (grounded J P) c))) ≡ rows_named J P which
+named_by J P None b c which price h = let same : Keep ≡ which = cc in ap (rows_named J P) same
+named_by J P (Some i) None c which price h = let same : Shift ≡ which = cc in ap (rows_named J P) same
+named_by J P (Some i) (Some j) None which price h = let same : Ground ≡ which = cc in ap (rows_named J P) same
+named_by J P (Some i) (Some j) (Some k) which price h = absurd cc
+
+-- the rows are those that the name stands for
+pub rows_of_name : (S : State) (B : Batch) (which : Which) (price : Grains) → answer S (event.Batch B) ≡ Taken which price → rows_of (fallback_on S B) ≡ rows_named (with_batch S.inst B) S.plan which
+unfolding answer fallback_on fallback
+rows_of_name S B which price h =
+    let J = with_batch S.inst B in
+    named_by J S.plan (least J S.plan) (least J (shifted J S.plan)) (least J (grounded J S.plan)) which price h
+
+left_by : (J : Situation) (P : PlanRows) (a b c : Option Broken) (item : Broken) → batch_answer J (chosen_or Keep P a (chosen_or Shift (shifted J P) b (last_choice (grounded J P) c))) ≡ NoPlan item → rows_of (chosen_or Keep P a (chosen_or Shift (shifted J P) b (last_choice (grounded J P) c))) ≡ grounded J P
+left_by J P None b c item h = absurd cc
+left_by J P (Some i) None c item h = absurd cc
+left_by J P (Some i) (Some j) None item h = absurd cc
+left_by J P (Some i) (Some j) (Some k) item h = refl
+
+-- where there is no plan they are those of Ground
+pub rows_left : (S : State) (B : Batch) (item : Broken) → answer S (event.Batch B) ≡ NoPlan item → rows_of (fallback_on S B) ≡ grounded (with_batch S.inst B) S.plan
+unfolding answer fallback_on fallback
+rows_left S B item h =
+    let J = with_batch S.inst B in
+    left_by J S.plan (least J S.plan) (least J (shifted J S.plan)) (least J (grounded J S.plan)) item h

@@ -29,11 +29,12 @@ use Rattle.desk_model.specs.declared.answer.Event.{Event}
 use Rattle.desk_model.specs.declared.answer.Event.TheVariants as event
 use Rattle.desk_model.specs.declared.answer.Entry.{Entry}
 use Rattle.desk_model.specs.Steps.{after_move}
-use Rattle.desk_model.specs.States.{State, opening, with_batch, answer, after}
+use Rattle.desk_model.specs.States.{State, opening, with_batch, fallback_on, answer, after}
 use Rattle.desk_model.specs.Histories.{state, has_room, IsAskable, AreAskable, Stands, IsLegal, is_batch, is_accepted, is_change, changes, news_of, orders_of, entry_of, entries, run}
 use Rattle.desk_model.specs.Promises.{state_at, cost_of, IsHonest, Improves, IsTakenIn, HadNoPlan, BreaksFirst, IsDearer, IsKept, AreProposals, KeepsPromises}
+use Rattle.desk_model.specs.Fallback.{grounded, rows_of, rows_named}
 use Rattle.desk_model.specs.News.{TellsOfBatch}
-use Rattle.desk_model.proofs.BatchLaws.{tells_of_batch}
+use Rattle.desk_model.proofs.BatchLaws.{tells_of_batch, rows_of_name, rows_left}
 use Rattle.desk_model.proofs.StateLaws.{accepted-cause, accepted-from, batch-not-accepted, batch-priced, batch-published, batch-unplanned, move-not-taken, move-unplanned, move-broken, dearer-cause, after-batch-inst, after-batch-plan, IsTold, after-told, opening-told, after-move-inst, after-parts, after-unchanged, after-accepted, accepted-told, after-falls}
 
 -- ---- the state after a history
@@ -75,12 +76,17 @@ state-next S h i entry at = ap (state S) (take-next h i entry at) ∙ state-appe
 -- ---- an entry of a legal history
 
 kept_taken : (S : State) (entry : Entry) (B : Batch) → entry.event ≡ event.Batch B → entry.answer ≡ answer S entry.event → IsTakenIn S B entry.answer (after S entry.event)
-kept_taken S entry B is by = record {
-  orders = ap (λ (e : Event). (after S e).inst) is ∙ after-batch-inst S B;
-  told = subst (λ (J : Situation). TellsOfBatch J S.plan entry.answer) (sym (ap (λ (e : Event). (after S e).inst) is ∙ after-batch-inst S B))
-      (subst (TellsOfBatch (with_batch S.inst B) S.plan) (sym (by ∙ ap (answer S) is)) (tells_of_batch S B));
-  rows = ap (λ (e : Event). (after S e).plan) is ∙ after-batch-plan S B;
-}
+kept_taken S entry B is by =
+    let orders : (after S entry.event).inst ≡ with_batch S.inst B = ap (λ (e : Event). (after S e).inst) is ∙ after-batch-inst S B in
+    let rows : (after S entry.event).plan ≡ rows_of (fallback_on S B) = ap (λ (e : Event). (after S e).plan) is ∙ after-batch-plan S B in
+    let given : entry.answer ≡ answer S (event.Batch B) = by ∙ ap (answer S) is in
+    record {
+      orders = orders;
+      told = subst (λ (J : Situation). TellsOfBatch J S.plan entry.answer) (sym orders) (subst (TellsOfBatch (with_batch S.inst B) S.plan) (sym given) (tells_of_batch S B));
+      rows = rows;
+      named = λ which price h. rows ∙ rows_of_name S B which price (sym given ∙ h) ∙ ap (λ (J : Situation). rows_named J S.plan which) (sym orders);
+      left = λ item h. rows ∙ rows_left S B item (sym given ∙ h) ∙ ap (λ (J : Situation). grounded J S.plan) (sym orders);
+    }
 
 kept_priced : (S : State) (entry : Entry) (e : Event) (which : Which) (told : Grains) → entry.event ≡ e → entry.answer ≡ answer S entry.event → entry.answer ≡ Taken which told → (told ≡ grains (cost_of (after S entry.event))) × ((after S entry.event).broken ≡ None)
 kept_priced S entry (event.Batch B) which told is by h =

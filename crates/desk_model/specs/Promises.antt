@@ -10,7 +10,7 @@ use Rattle.desk_rules.specs.Words.{IsFeasible, IsLeast}
 use Rattle.desk_model.specs.declared.answer.Answer.{Answer}
 use Rattle.desk_model.specs.declared.answer.Answer.TheVariants.{Taken, Accepted, Breaks, Dearer, NoPlan}
 use Rattle.desk_model.specs.declared.fallbacks.Which.{Which}
-use Rattle.desk_model.specs.Fallback.{rows_of}
+use Rattle.desk_model.specs.Fallback.{grounded, rows_of, rows_named}
 use Rattle.desk_model.specs.declared.answer.Event.TheVariants as event
 use Rattle.desk_model.specs.declared.answer.Entry.{Entry}
 use Rattle.desk_model.specs.Steps.{after_move}
@@ -36,11 +36,13 @@ pub record Improves (S : State) (m : Move) : Type 0 where
   pub feasible : IsFeasible S.inst (after_move S.inst S.plan m)
   pub cheaper : cost S.inst (after_move S.inst S.plan m) < cost_of S
 
--- a batch and the answer to it, between the state before it and the state after it: its orders are taken behind the others. The answer names the first of the three that is feasible, made of the rows as they stood, under the orders that there are then, or tells the first item that the rows of Ground break. The rows are those that the desk falls back on
+-- a batch and the answer to it, between the state before it and the state after it: its orders are taken behind the others. The answer names the first of the three that is feasible, made of the rows as they stood, under the orders that there are then, or tells the first item that the rows of Ground break. The rows are those that the desk falls back on: those that the name stands for, or where no name is told those of Ground
 pub record IsTakenIn (before : State) (B : Batch) (given : Answer) (behind : State) : Type 0 where
   pub orders : behind.inst ≡ with_batch before.inst B
   pub told : TellsOfBatch behind.inst before.plan given
   pub rows : behind.plan ≡ rows_of (fallback_on before B)
+  pub named : (which : Which) (price : Grains) → given ≡ Taken which price → behind.plan ≡ rows_named behind.inst before.plan which
+  pub left : (item : Broken) → given ≡ NoPlan item → behind.plan ≡ grounded behind.inst before.plan
 
 -- there was no plan to move, and nothing changes: the item told is the one that was told before
 pub record HadNoPlan (before : State) (item : Broken) (behind : State) : Type 0 where
