@@ -19,20 +19,23 @@ use Rattle.day_orders.specs.declared.orders.Batch.{Batch}
 use Rattle.desk_data.specs.declared.parts.Parts.{Parts}
 use Rattle.desk_data.specs.Valid.{IsOrder, IsRowOf}
 use Rattle.desk_units.specs.declared.money.Grains.{Grains}
+use Rattle.desk_data.specs.declared.broken.Broken.{Broken}
 use Rattle.desk_data.specs.Situation.{Situation}
 use Rattle.desk_rules.specs.Cost.{grains}
 use Rattle.desk_rules.proofs.LeastLaws.{feasible-holds, feasible-from, least-holds}
-use Rattle.desk_model.specs.declared.answer.Answer.TheVariants.{Taken, Accepted}
+use Rattle.desk_model.specs.declared.answer.Answer.TheVariants.{Taken, Accepted, Breaks, Dearer, NoPlan}
 use Rattle.desk_model.specs.declared.fallbacks.Which.{Which}
 use Rattle.desk_model.specs.declared.answer.Event.{Event}
 use Rattle.desk_model.specs.declared.answer.Event.TheVariants as event
 use Rattle.desk_model.specs.declared.answer.Entry.{Entry}
 use Rattle.desk_model.specs.Steps.{after_move}
-use Rattle.desk_model.specs.States.{State, opening, answer, after}
+use Rattle.desk_model.specs.States.{State, opening, with_batch, fallback_on, answer, after}
 use Rattle.desk_model.specs.Histories.{state, has_room, IsAskable, AreAskable, Stands, IsLegal, is_batch, is_accepted, is_change, changes, news_of, orders_of, entry_of, entries, run}
-use Rattle.desk_model.specs.Promises.{state_at, cost_of, IsHonest, Improves, IsTakenIn, IsKept, AreProposals, KeepsPromises}
-use Rattle.desk_model.proofs.FallbackLaws.{falls_back}
-use Rattle.desk_model.proofs.StateLaws.{accepted-cause, accepted-from, batch-not-accepted, batch-priced, move-not-taken, after-batch-inst, after-batch-plan, IsTold, after-told, opening-told, after-move-inst, after-parts, after-unchanged, after-accepted, accepted-told, after-falls}
+use Rattle.desk_model.specs.Promises.{state_at, cost_of, IsHonest, Improves, IsTakenIn, HadNoPlan, BreaksFirst, IsDearer, IsKept, AreProposals, KeepsPromises}
+use Rattle.desk_model.specs.Fallback.{grounded, rows_of, rows_named}
+use Rattle.desk_model.specs.News.{TellsOfBatch}
+use Rattle.desk_model.proofs.BatchLaws.{tells_of_batch, rows_of_name, rows_left}
+use Rattle.desk_model.proofs.StateLaws.{accepted-cause, accepted-from, batch-not-accepted, batch-priced, batch-published, batch-unplanned, move-not-taken, move-unplanned, move-broken, dearer-cause, after-batch-inst, after-batch-plan, IsTold, after-told, opening-told, after-move-inst, after-parts, after-unchanged, after-accepted, accepted-told, after-falls}
 
 -- ---- the state after a history
 
@@ -72,17 +75,45 @@ state-next S h i entry at = ap (state S) (take-next h i entry at) ∙ state-appe
 
 -- ---- an entry of a legal history
 
-kept_taken : (S : State) (entry : Entry) (B : Batch) → entry.event ≡ event.Batch B → IsTakenIn S B (after S entry.event)
-kept_taken S entry B is = record {
-  orders = ap (λ (e : Event). (after S e).inst) is ∙ after-batch-inst S B;
-  chosen = falls_back _ _;
-  rows = ap (λ (e : Event). (after S e).plan) is ∙ after-batch-plan S B;
-}
+kept_taken : (S : State) (entry : Entry) (B : Batch) → entry.event ≡ event.Batch B → entry.answer ≡ answer S entry.event → IsTakenIn S B entry.answer (after S entry.event)
+kept_taken S entry B is by =
+    let orders : (after S entry.event).inst ≡ with_batch S.inst B = ap (λ (e : Event). (after S e).inst) is ∙ after-batch-inst S B in
+    let rows : (after S entry.event).plan ≡ rows_of (fallback_on S B) = ap (λ (e : Event). (after S e).plan) is ∙ after-batch-plan S B in
+    let given : entry.answer ≡ answer S (event.Batch B) = by ∙ ap (answer S) is in
+    record {
+      orders = orders;
+      told = subst (λ (J : Situation). TellsOfBatch J S.plan entry.answer) (sym orders) (subst (TellsOfBatch (with_batch S.inst B) S.plan) (sym given) (tells_of_batch S B));
+      rows = rows;
+      named = λ which price h. rows ∙ rows_of_name S B which price (sym given ∙ h) ∙ ap (λ (J : Situation). rows_named J S.plan which) (sym orders);
+      left = λ item h. rows ∙ rows_left S B item (sym given ∙ h) ∙ ap (λ (J : Situation). grounded J S.plan) (sym orders);
+    }
 
-kept_priced : (S : State) (entry : Entry) (e : Event) (which : Which) (told : Grains) → entry.event ≡ e → entry.answer ≡ answer S entry.event → entry.answer ≡ Taken which told → told ≡ grains (cost_of (after S entry.event))
+kept_priced : (S : State) (entry : Entry) (e : Event) (which : Which) (told : Grains) → entry.event ≡ e → entry.answer ≡ answer S entry.event → entry.answer ≡ Taken which told → (told ≡ grains (cost_of (after S entry.event))) × ((after S entry.event).broken ≡ None)
 kept_priced S entry (event.Batch B) which told is by h =
-    batch-priced S B which told (sym (by ∙ ap (answer S) is) ∙ h) ∙ ap (λ (e : Event). grains (cost_of (after S e))) (sym is)
+    let own : answer S (event.Batch B) ≡ Taken which told = sym (by ∙ ap (answer S) is) ∙ h in
+    (batch-priced S B which told own ∙ ap (λ (e : Event). grains (cost_of (after S e))) (sym is), ap (λ (e : Event). (after S e).broken) is ∙ batch-published S B which told own)
 kept_priced S entry (event.Move m) which told is by h = absurd (move-not-taken S m which told (sym (by ∙ ap (answer S) is) ∙ h))
+
+kept_unmoved : (S : State) (entry : Entry) (m : Move) (item : Broken) → entry.event ≡ event.Move m → entry.answer ≡ answer S entry.event → entry.answer ≡ NoPlan item → HadNoPlan S item (after S entry.event)
+kept_unmoved S entry m item is by h =
+    let own : answer S (event.Move m) ≡ NoPlan item = sym (by ∙ ap (answer S) is) ∙ h in
+    record { had = move-unplanned S m item own; stays = ap (after S) is ∙ after-unchanged S (event.Move m) (ap is_accepted own) }
+
+kept_unplanned : (S : State) (entry : Entry) (e : Event) (item : Broken) → entry.event ≡ e → entry.answer ≡ answer S entry.event → entry.answer ≡ NoPlan item → (after S entry.event).broken ≡ Some item
+kept_unplanned S entry (event.Batch B) item is by h = ap (λ (e : Event). (after S e).broken) is ∙ batch-unplanned S B item (sym (by ∙ ap (answer S) is) ∙ h)
+kept_unplanned S entry (event.Move m) item is by h =
+    let same = kept_unmoved S entry m item is by h in
+    ap (λ (T : State). T.broken) same.stays ∙ same.had
+
+kept_breaking : (S : State) (entry : Entry) (m : Move) (item : Broken) → entry.event ≡ event.Move m → entry.answer ≡ answer S entry.event → entry.answer ≡ Breaks item → BreaksFirst S m item
+kept_breaking S entry m item is by h =
+    let cause = move-broken S m item (sym (by ∙ ap (answer S) is) ∙ h) in
+    record { had = cause.0; least = least-holds _ _ item cause.1 }
+
+kept_dearer : (S : State) (entry : Entry) (m : Move) (now would : Grains) → entry.event ≡ event.Move m → entry.answer ≡ answer S entry.event → entry.answer ≡ Dearer now would → IsDearer S m now would
+kept_dearer S entry m now would is by h =
+    let cause = dearer-cause S m now would (sym (by ∙ ap (answer S) is) ∙ h) in
+    record { had = cause.had_plan; feasible = feasible-holds _ _ cause.feasible; no_cheaper = cause.dearer; now_costs = cause.now_costs; would_cost = cause.would_cost }
 
 kept_accepted : (S : State) (entry : Entry) (m : Move) → entry.event ≡ event.Move m → entry.answer ≡ answer S entry.event → S.broken ≡ None → is_accepted entry.answer ≡ true ↔ Improves S m
 kept_accepted S entry m is told had = (
@@ -108,8 +139,12 @@ kept_moved S entry m is told accepted =
 
 pub kept : (S : State) (entry : Entry) → entry.answer ≡ answer S entry.event → IsKept S entry (after S entry.event)
 kept S entry told = record {
-  taken = λ B is. kept_taken S entry B is;
+  taken = λ B is. kept_taken S entry B is told;
   priced = λ which cost is. kept_priced S entry entry.event which cost refl told is;
+  unplanned = λ item is. kept_unplanned S entry entry.event item refl told is;
+  unmoved = λ m item is no_plan. kept_unmoved S entry m item is told no_plan;
+  breaking = λ m item is breaks. kept_breaking S entry m item is told breaks;
+  dearer = λ m now would is dear. kept_dearer S entry m now would is told dear;
   accepted = λ m is had. kept_accepted S entry m is told had;
   stored = λ cost is. kept_stored S entry entry.event cost refl told is;
   moved_to = λ m is accepted. kept_moved S entry m is told accepted;

@@ -11,6 +11,7 @@ pub mod BesideLaws
 pub mod PushLaws
 pub mod SwapLaws
 pub mod StateLaws
+pub mod BatchLaws
 pub mod HistoryLaws
 pub mod ValidLaws
 pub mod MoveLaws

@@ -1,11 +1,9 @@
--- What is answered to a batch, and which plans histories have.
-use Rattle.std.proofs.Common.{◌≡◌, ◌↔◌, ℕ, zero, suc, ◌+◌, ◌<◌, ◌≤◌, ◌⊎◌, inl, inr, true, List, [], ◌∷◌, ◌++◌, length, take, refl, sym, ap, subst, ◌∙◌, arith}
-use Rattle.std.specs.Prelude.{find, Option, None, Some}
-use Rattle.std.specs.List.{All, AllByRecursion}
-use Rattle.std.proofs.lemmas.Bool.{cases_Bool}
+-- Which plans histories have.
+use Rattle.std.proofs.Common.{◌≡◌, ◌↔◌, ℕ, zero, suc, ◌+◌, ◌<◌, ◌≤◌, ◌⊎◌, inl, inr, List, ◌++◌, length, take, sym, ap, subst, ◌∙◌, arith}
+use Rattle.std.specs.Prelude.{None, Some}
+use Rattle.std.specs.List.{All}
 use Rattle.std.proofs.lemmas.List.{take_all}
-use Rattle.std.proofs.lemmas.List.Folds.{find-append}
-use Rattle.std.proofs.lemmas.List.Elements.{All-append, recursion_from_All}
+use Rattle.std.proofs.lemmas.List.Elements.{All-append}
 use Rattle.day_orders.specs.declared.orders.Order.{Order}
 use Rattle.day_orders.specs.declared.orders.Batch.{Batch}
 use Rattle.desk_data.specs.declared.broken.Broken.{Broken}
@@ -15,83 +13,24 @@ use Rattle.desk_data.specs.declared.parts.Parts.{Parts}
 use Rattle.desk_data.specs.Situation.{Situation}
 use Rattle.desk_data.specs.PlanRows.{PlanRows}
 use Rattle.desk_data.specs.Valid.{IsOrder, IsValid, IsPlanFor}
-use Rattle.desk_rules.specs.Least.{breaks, least}
-use Rattle.desk_rules.specs.Words.{Meets, IsFeasible, IsLeast}
-use Rattle.desk_rules.proofs.FindLaws.{cons-none}
-use Rattle.desk_rules.proofs.RulesLaws.{breaks-holds, breaks-from}
+use Rattle.desk_rules.specs.Words.{IsFeasible, IsLeast}
 use Rattle.desk_rules.proofs.LeastLaws.{feasible-holds, feasible-from, least-holds}
 use Rattle.desk_model.specs.declared.answer.Answer.{Answer}
 use Rattle.desk_model.specs.declared.answer.Answer.TheVariants.{Taken, Accepted, Breaks, Dearer, NoPlan, Full}
 use Rattle.desk_model.specs.declared.answer.Event.{Event}
 use Rattle.desk_model.specs.declared.answer.Event.TheVariants as event
 use Rattle.desk_model.specs.declared.answer.Entry.{Entry}
-use Rattle.desk_model.specs.declared.fallbacks.Which.TheVariants.{Keep, Shift, Ground}
-use Rattle.desk_model.specs.Fallback.{fallback, shifted, grounded, chosen_or, last_choice, rows_of}
-use Rattle.desk_model.specs.States.{State, opening, with_batch, fallback_on, batch_answer, answer, answered_state, after}
+use Rattle.desk_model.specs.Fallback.{rows_of}
+use Rattle.desk_model.specs.States.{State, opening, with_batch, fallback_on, answer, answered_state, after}
 use Rattle.desk_model.specs.Histories.{state, IsAskable, IsLegal, orders_of}
 use Rattle.desk_model.specs.Promises.{state_at}
-use Rattle.desk_model.specs.News.{TellsOfBatch, HasPlanRows}
+use Rattle.desk_model.specs.News.{HasPlanRows}
 use Rattle.desk_model.proofs.ScheduleLaws.{plan_for_schedule}
 use Rattle.desk_model.proofs.MoveLaws.{after_move-valid}
-use Rattle.desk_model.proofs.FallbackLaws.{infeasible, fallback-valid}
+use Rattle.desk_model.proofs.FallbackLaws.{fallback-valid}
 use Rattle.desk_model.proofs.StateLaws.{after-batch-inst, after-batch-plan, opening-told, opening-inst, opening-plan}
+use Rattle.desk_model.proofs.BatchLaws.{least-from}
 use Rattle.desk_model.proofs.HistoryLaws.{state-told, state-parts, state-orders, state-next, entry_at, askable-parts}
-
--- ---- the first item
-
-none_found : (I : Situation) (P : PlanRows) (xs : List Broken) → AllByRecursion (Meets I P) xs → find (breaks I P) xs ≡ None
-none_found I P [] met = refl
-none_found I P (x ∷ xs) met = cons-none (breaks I P) x xs (breaks-from I P x met.0) (none_found I P xs met.1)
-
--- an item that the rows break, and none before it, is the first
-least-from : (I : Situation) (P : PlanRows) (item : Broken) → IsLeast I P item → least I P ≡ Some item
-unfolding least
-least-from I P item h =
-    let broken : breaks I P item ≡ true
-    = elim (cases_Bool (breaks I P item)) [
-      | inl holds ↦ holds
-      | inr met ↦ absurd (h.broken (breaks-holds I P item met))
-    ] in
-    ap (find (breaks I P)) h.place
-    ∙ find-append (breaks I P) h.before (item ∷ h.behind)
-    ∙ rw (none_found I P h.before (recursion_from_All (Meets I P) h.before h.kept), broken) refl
-
--- ---- the answer to a batch
-
-tells_by : (J : Situation) (P : PlanRows) (a b c : Option Broken) → least J P ≡ a → least J (shifted J P) ≡ b → least J (grounded J P) ≡ c → TellsOfBatch J P (batch_answer J (chosen_or Keep P a (chosen_or Shift (shifted J P) b (last_choice (grounded J P) c))))
-tells_by J P None b c p s g = record {
-  keep = λ price. ((λ h. (feasible-holds J P p, cc)), (λ both. ap (Taken Keep) (sym both.1)));
-  shift = λ price. ((λ h. absurd cc), (λ all. absurd (all.0 (feasible-holds J P p))));
-  ground = λ price. ((λ h. absurd cc), (λ all. absurd (all.0 (feasible-holds J P p))));
-  none = λ item. ((λ h. absurd cc), (λ all. absurd (all.0 (feasible-holds J P p))));
-}
-tells_by J P (Some i) None c p s g = record {
-  keep = λ price. ((λ h. absurd cc), (λ both. absurd (infeasible J P i p both.0)));
-  shift = λ price. ((λ h. (infeasible J P i p, feasible-holds J (shifted J P) s, cc)), (λ all. ap (Taken Shift) (sym all.2)));
-  ground = λ price. ((λ h. absurd cc), (λ all. absurd (all.1 (feasible-holds J (shifted J P) s))));
-  none = λ item. ((λ h. absurd cc), (λ all. absurd (all.1 (feasible-holds J (shifted J P) s))));
-}
-tells_by J P (Some i) (Some j) None p s g = record {
-  keep = λ price. ((λ h. absurd cc), (λ both. absurd (infeasible J P i p both.0)));
-  shift = λ price. ((λ h. absurd cc), (λ all. absurd (infeasible J (shifted J P) j s all.1)));
-  ground = λ price. ((λ h. (infeasible J P i p, infeasible J (shifted J P) j s, feasible-holds J (grounded J P) g, cc)), (λ all. ap (Taken Ground) (sym all.3)));
-  none = λ item. ((λ h. absurd cc), (λ all. let both : None ≡ Some item = sym g ∙ least-from J (grounded J P) item all.2 in absurd cc));
-}
-tells_by J P (Some i) (Some j) (Some k) p s g = record {
-  keep = λ price. ((λ h. absurd cc), (λ both. absurd (infeasible J P i p both.0)));
-  shift = λ price. ((λ h. absurd cc), (λ all. absurd (infeasible J (shifted J P) j s all.1)));
-  ground = λ price. ((λ h. absurd cc), (λ all. absurd (infeasible J (grounded J P) k g all.2)));
-  none = λ item. (
-    (λ h. let same : k ≡ item = cc in (infeasible J P i p, infeasible J (shifted J P) j s, subst (IsLeast J (grounded J P)) same (least-holds J (grounded J P) k g))),
-    (λ all. let both : Some k ≡ Some item = sym g ∙ least-from J (grounded J P) item all.2 in let same : k ≡ item = cc in ap NoPlan same),
-  );
-}
-
-pub tells_of_batch : (S : State) (B : Batch) → TellsOfBatch (with_batch S.inst B) S.plan (answer S (event.Batch B))
-unfolding answer fallback_on fallback
-tells_of_batch S B =
-    let J = with_batch S.inst B in
-    tells_by J S.plan (least J S.plan) (least J (shifted J S.plan)) (least J (grounded J S.plan)) refl refl refl
 
 -- ---- a plan, exactly where the rows are feasible
 

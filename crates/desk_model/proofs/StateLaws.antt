@@ -1,7 +1,7 @@
 -- What answers say of states.
 use Rattle.std.proofs.Common.{◌≡◌, ℕ, ◌<◌, ◌≤◌, Bool, true, false, cond, leb, refl, sym, ap, arith}
 use Rattle.std.specs.Prelude.{None, Some, Option}
-use Rattle.std.proofs.lemmas.Bool.{leb-false, lt-leb, true≢false}
+use Rattle.std.proofs.lemmas.Bool.{leb-false, leb-true, lt-leb, true≢false}
 use Rattle.desk_units.specs.declared.money.Grains.{Grains}
 use Rattle.day_orders.specs.declared.orders.Batch.{Batch}
 use Rattle.desk_data.specs.declared.broken.Broken.{Broken}
@@ -77,6 +77,94 @@ batch_priced J (fallen.NoPlan item Q) which told h = absurd cc
 pub batch-priced : (S : State) (B : Batch) (which : Which) (told : Grains) → answer S (event.Batch B) ≡ Taken which told → told ≡ grains (cost_of (after S (event.Batch B)))
 unfolding answer after
 batch-priced S B which told h = batch_priced (with_batch S.inst B) (fallback_on S B) which told h
+
+batch_published : (J : Situation) (F : Fallback) (which : Which) (told : Grains) → batch_answer J F ≡ Taken which told → (fallen_state J F).broken ≡ None
+batch_published J (fallen.Chosen w Q) which told h = refl
+batch_published J (fallen.NoPlan item Q) which told h = absurd cc
+
+-- and they are published
+pub batch-published : (S : State) (B : Batch) (which : Which) (told : Grains) → answer S (event.Batch B) ≡ Taken which told → (after S (event.Batch B)).broken ≡ None
+unfolding answer after
+batch-published S B which told h = batch_published (with_batch S.inst B) (fallback_on S B) which told h
+
+batch_unplanned : (J : Situation) (F : Fallback) (item : Broken) → batch_answer J F ≡ NoPlan item → (fallen_state J F).broken ≡ Some item
+batch_unplanned J (fallen.Chosen which Q) item h = absurd cc
+batch_unplanned J (fallen.NoPlan other Q) item h = let same : other ≡ item = cc in ap Some same
+
+-- the item that is told of a batch is that of the state after it
+pub batch-unplanned : (S : State) (B : Batch) (item : Broken) → answer S (event.Batch B) ≡ NoPlan item → (after S (event.Batch B)).broken ≡ Some item
+unfolding answer after
+batch-unplanned S B item h = batch_unplanned (with_batch S.inst B) (fallback_on S B) item h
+
+-- ---- proposals that are refused
+
+judged_unplanned : (b : Option Broken) (now would : ℕ) (dear : Bool) (item : Broken) → leb now would ≡ dear → verdict b now would ≡ NoPlan item → ⊥
+judged_unplanned (Some other) now would dear item test h = absurd cc
+judged_unplanned None now would true item test h =
+    let now_is : cond true (Dearer (grains now) (grains would)) (Accepted (grains would)) ≡ NoPlan item = rw test at h in
+    absurd cc
+judged_unplanned None now would false item test h =
+    let now_is : cond false (Dearer (grains now) (grains would)) (Accepted (grains would)) ≡ NoPlan item = rw test at h in
+    absurd cc
+
+proposed_unplanned : (S : State) (m : Move) (b : Option Broken) (item : Broken) → move_answer S m b ≡ NoPlan item → b ≡ Some item
+proposed_unplanned S m (Some other) item h = let same : other ≡ item = cc in ap Some same
+proposed_unplanned S m None item h =
+    let moved_plan = after_move S.inst S.plan m in
+    absurd (judged_unplanned (least S.inst moved_plan) (cost S.inst S.plan) (cost S.inst moved_plan) (leb (cost S.inst S.plan) (cost S.inst moved_plan)) item refl h)
+
+-- a proposal is told that there is no plan where there is none
+pub move-unplanned : (S : State) (m : Move) (item : Broken) → answer S (event.Move m) ≡ NoPlan item → S.broken ≡ Some item
+unfolding answer
+move-unplanned S m item h = proposed_unplanned S m S.broken item h
+
+judged_broken : (b : Option Broken) (now would : ℕ) (dear : Bool) (item : Broken) → leb now would ≡ dear → verdict b now would ≡ Breaks item → b ≡ Some item
+judged_broken (Some other) now would dear item test h = let same : other ≡ item = cc in ap Some same
+judged_broken None now would true item test h =
+    let now_is : cond true (Dearer (grains now) (grains would)) (Accepted (grains would)) ≡ Breaks item = rw test at h in
+    absurd cc
+judged_broken None now would false item test h =
+    let now_is : cond false (Dearer (grains now) (grains would)) (Accepted (grains would)) ≡ Breaks item = rw test at h in
+    absurd cc
+
+proposed_broken : (S : State) (m : Move) (b : Option Broken) (item : Broken) → move_answer S m b ≡ Breaks item → (b ≡ None) × (least S.inst (after_move S.inst S.plan m) ≡ Some item)
+proposed_broken S m (Some other) item h = absurd cc
+proposed_broken S m None item h =
+    let moved_plan = after_move S.inst S.plan m in
+    (refl, judged_broken (least S.inst moved_plan) (cost S.inst S.plan) (cost S.inst moved_plan) (leb (cost S.inst S.plan) (cost S.inst moved_plan)) item refl h)
+
+-- a proposal is told an item where there is a plan, and the moved plan breaks it first
+pub move-broken : (S : State) (m : Move) (item : Broken) → answer S (event.Move m) ≡ Breaks item → (S.broken ≡ None) × (least S.inst (after_move S.inst S.plan m) ≡ Some item)
+unfolding answer
+move-broken S m item h = proposed_broken S m S.broken item h
+
+-- why a move was refused as dearer
+pub record Refusal (S : State) (m : Move) (now would : Grains) : Type 0 where
+  pub had_plan : S.broken ≡ None
+  pub feasible : least S.inst (after_move S.inst S.plan m) ≡ None
+  pub dearer : cost_of S ≤ cost S.inst (after_move S.inst S.plan m)
+  pub now_costs : now ≡ grains (cost_of S)
+  pub would_cost : would ≡ grains (cost S.inst (after_move S.inst S.plan m))
+
+judged_dearer : (b : Option Broken) (now would : ℕ) (dear : Bool) (first second : Grains) → leb now would ≡ dear → verdict b now would ≡ Dearer first second → (b ≡ None) × (now ≤ would) × (first ≡ grains now) × (second ≡ grains would)
+judged_dearer (Some item) now would dear first second test h = absurd cc
+judged_dearer None now would true first second test h =
+    let now_is : cond true (Dearer (grains now) (grains would)) (Accepted (grains would)) ≡ Dearer first second = rw test at h in
+    (refl, leb-true now would test, cc, cc)
+judged_dearer None now would false first second test h =
+    let now_is : cond false (Dearer (grains now) (grains would)) (Accepted (grains would)) ≡ Dearer first second = rw test at h in
+    absurd cc
+
+proposed_dearer : (S : State) (m : Move) (b : Option Broken) (now would : Grains) → S.broken ≡ b → move_answer S m b ≡ Dearer now would → Refusal S m now would
+proposed_dearer S m (Some item) now would here h = absurd cc
+proposed_dearer S m None now would here h =
+    let moved_plan = after_move S.inst S.plan m in
+    let facts = judged_dearer (least S.inst moved_plan) (cost S.inst S.plan) (cost S.inst moved_plan) (leb (cost S.inst S.plan) (cost S.inst moved_plan)) now would refl h in
+    record { had_plan = here; feasible = facts.0; dearer = facts.1; now_costs = facts.2; would_cost = facts.3 }
+
+pub dearer-cause : (S : State) (m : Move) (now would : Grains) → answer S (event.Move m) ≡ Dearer now would → Refusal S m now would
+unfolding answer
+dearer-cause S m now would h = proposed_dearer S m S.broken now would refl h
 
 verdict_taken : (b : Option Broken) (now would : ℕ) (dear : Bool) (which : Which) (told : Grains) → leb now would ≡ dear → verdict b now would ≡ Taken which told → ⊥
 verdict_taken (Some item) now would dear which told test h = absurd cc

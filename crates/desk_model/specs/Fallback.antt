@@ -91,6 +91,12 @@ abbrev pub rows_of : Fallback → PlanRows
 rows_of (Chosen which plan) = plan
 rows_of (NoPlan broken plan) = plan
 
+-- the rows that a name stands for
+abbrev pub rows_named : Situation → PlanRows → Which → PlanRows
+rows_named I P Keep = P
+rows_named I P Shift = shifted I P
+rows_named I P Ground = grounded I P
+
 -- ---- in words
 
 -- leg x is movable, and it, or a leg before it on its aircraft, is a movable leg ordered off

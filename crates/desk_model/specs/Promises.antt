@@ -7,13 +7,15 @@ use Rattle.day_orders.specs.declared.orders.Batch.{Batch}
 use Rattle.desk_data.specs.Situation.{Situation}
 use Rattle.desk_rules.specs.Cost.{cost, grains}
 use Rattle.desk_rules.specs.Words.{IsFeasible, IsLeast}
-use Rattle.desk_model.specs.declared.answer.Answer.TheVariants.{Taken, Accepted}
+use Rattle.desk_model.specs.declared.answer.Answer.{Answer}
+use Rattle.desk_model.specs.declared.answer.Answer.TheVariants.{Taken, Accepted, Breaks, Dearer, NoPlan}
 use Rattle.desk_model.specs.declared.fallbacks.Which.{Which}
-use Rattle.desk_model.specs.Fallback.{FallsBack, rows_of}
+use Rattle.desk_model.specs.Fallback.{grounded, rows_of, rows_named}
 use Rattle.desk_model.specs.declared.answer.Event.TheVariants as event
 use Rattle.desk_model.specs.declared.answer.Entry.{Entry}
 use Rattle.desk_model.specs.Steps.{after_move}
 use Rattle.desk_model.specs.States.{State, opening, with_batch, fallback_on}
+use Rattle.desk_model.specs.News.{TellsOfBatch}
 use Rattle.desk_model.specs.Histories.{state, changes, is_batch, is_accepted, is_change}
 
 -- the state after the first i entries
@@ -34,17 +36,44 @@ pub record Improves (S : State) (m : Move) : Type 0 where
   pub feasible : IsFeasible S.inst (after_move S.inst S.plan m)
   pub cheaper : cost S.inst (after_move S.inst S.plan m) < cost_of S
 
--- a batch, between the state before it and the state after it: its orders are taken behind the others, and the rows are those that the desk falls back on, from the rows as they stood, under the orders that there are then
-pub record IsTakenIn (before : State) (B : Batch) (behind : State) : Type 0 where
+-- a batch and the answer to it, between the state before it and the state after it: its orders are taken behind the others. The answer names the first of the three that is feasible, made of the rows as they stood, under the orders that there are then, or tells the first item that the rows of Ground break. The rows are those that the desk falls back on: those that the name stands for, or where no name is told those of Ground
+pub record IsTakenIn (before : State) (B : Batch) (given : Answer) (behind : State) : Type 0 where
   pub orders : behind.inst ≡ with_batch before.inst B
-  pub chosen : FallsBack behind.inst before.plan
+  pub told : TellsOfBatch behind.inst before.plan given
   pub rows : behind.plan ≡ rows_of (fallback_on before B)
+  pub named : (which : Which) (price : Grains) → given ≡ Taken which price → behind.plan ≡ rows_named behind.inst before.plan which
+  pub left : (item : Broken) → given ≡ NoPlan item → behind.plan ≡ grounded behind.inst before.plan
+
+-- there was no plan to move, and nothing changes: the item told is the one that was told before
+pub record HadNoPlan (before : State) (item : Broken) (behind : State) : Type 0 where
+  pub had : before.broken ≡ Some item
+  pub stays : behind ≡ before
+
+-- there was a plan to move, and the item told is the first that the moved plan breaks
+pub record BreaksFirst (before : State) (m : Move) (item : Broken) : Type 0 where
+  pub had : before.broken ≡ None
+  pub least : IsLeast before.inst (after_move before.inst before.plan m) item
+
+-- there was a plan to move, and the moved plan is feasible and no cheaper. The costs told are that of the rows and that of the moved plan
+pub record IsDearer (before : State) (m : Move) (now would : Grains) : Type 0 where
+  pub had : before.broken ≡ None
+  pub feasible : IsFeasible before.inst (after_move before.inst before.plan m)
+  pub no_cheaper : cost_of before ≤ cost before.inst (after_move before.inst before.plan m)
+  pub now_costs : now ≡ grains (cost_of before)
+  pub would_cost : would ≡ grains (cost before.inst (after_move before.inst before.plan m))
 
 -- entry i of the history, between the state before it and the state after it
 pub record IsKept (before : State) (entry : Entry) (behind : State) : Type 0 where
-  pub taken : (B : Batch) → entry.event ≡ event.Batch B → IsTakenIn before B behind
-  -- the cost that is told of a batch is the cost of the rows after it, under the new orders
-  pub priced : (which : Which) (told : Grains) → entry.answer ≡ Taken which told → told ≡ grains (cost_of behind)
+  pub taken : (B : Batch) → entry.event ≡ event.Batch B → IsTakenIn before B entry.answer behind
+  -- the cost that is told of a batch is the cost of the rows after it, under the new orders, and they are published
+  pub priced : (which : Which) (told : Grains) → entry.answer ≡ Taken which told → (told ≡ grains (cost_of behind)) × (behind.broken ≡ None)
+  -- where the answer is that there is no plan, there is none after the event, and the item told is the one that the rows break
+  pub unplanned : (item : Broken) → entry.answer ≡ NoPlan item → behind.broken ≡ Some item
+  -- a proposal is answered so where there was none before it
+  pub unmoved : (m : Move) (item : Broken) → entry.event ≡ event.Move m → entry.answer ≡ NoPlan item → HadNoPlan before item behind
+  -- what is told of a proposal that is refused
+  pub breaking : (m : Move) (item : Broken) → entry.event ≡ event.Move m → entry.answer ≡ Breaks item → BreaksFirst before m item
+  pub dearer : (m : Move) (now would : Grains) → entry.event ≡ event.Move m → entry.answer ≡ Dearer now would → IsDearer before m now would
   -- a proposal to a published plan is accepted exactly where the moved plan is feasible and cheaper
   pub accepted : (m : Move) → entry.event ≡ event.Move m → before.broken ≡ None → is_accepted entry.answer ≡ true ↔ Improves before m
   -- the cost that is told of an accepted proposal is the cost of the rows after it, and less than before

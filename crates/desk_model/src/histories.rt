@@ -14,9 +14,12 @@ ghost use Rattle.desk_model.specs.Promises.{KeepsPromises, state_at};
 
 /// In a legal history from the opening of an instance each published plan meets all rules, and each
 /// stored cost is the cost of the rows. A batch adds its orders, and leaves the rows that the desk
-/// falls back on. A proposal to a published plan is accepted exactly where the moved plan is feasible
-/// and cheaper, and every other answer to one changes nothing, so that between two batches costs only
-/// fall. Two beginnings of the history with equally many changes have the same state.
+/// falls back on; it is answered with the name of the first of the three that is feasible, or with the
+/// first item that the rows of Ground break. Where the answer is that there is no plan, the state after
+/// it has none, and breaks the item that was told. A proposal to a published plan is accepted exactly
+/// where the moved plan is feasible and cheaper, and every other answer to one changes nothing, so that
+/// between two batches costs only fall; each tells the item or the costs of the moved plan, or that
+/// there was no plan. Two beginnings of the history with equally many changes have the same state.
 pub fn legal_histories_keep_the_promises()
     ensures { (I : Situation) (h : Items Recorded) → IsLegal (opening I) h → KeepsPromises I h }
 {}

@@ -1,4 +1,4 @@
-use Rattle.desk_model.proofs.NewsLaws.{tells_of_batch}
+use Rattle.desk_model.proofs.BatchLaws.{tells_of_batch}
 use Rattle.desk_model.proofs.news.a_batch_is_answered_by_the_first_that_is_feasible.Goals as goal
 
 pub returns : goal.returns
