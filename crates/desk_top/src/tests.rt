@@ -32,14 +32,8 @@ const DAY: [(File, &str); 14] = [
     ),
     (File::Position, "AAA M1 0/0/9 1\nBBB M1 0/0/10 1\n"),
     (File::AltFlights, "F3 01/03/08 30\n"),
-    (
-        File::AltAircraft,
-        "P2 01/03/08 12:00 01/03/08 12:45\n",
-    ),
-    (
-        File::AltAirports,
-        "BBB 01/03/08 09:00 01/03/08 10:00 0 0\n",
-    ),
+    (File::AltAircraft, "P2 01/03/08 12:00 01/03/08 12:45\n"),
+    (File::AltAirports, "BBB 01/03/08 09:00 01/03/08 10:00 0 0\n"),
     (
         File::Tariff,
         "delay,D,E,10\ncancel,D,E,200\ncare,D,120,20\ncompensation,D,none,250\nposition,500\n",

@@ -20,8 +20,8 @@ mod paths;
 mod quoting;
 mod steps;
 
+pub use answers::push_answer;
 pub use desk_data::{Broken, Instance, NoMem};
 pub use desk_model::{Answer, Entry, Event};
-pub use answers::push_answer;
 pub use items::push_broken;
 pub use lines::{journal_line, journal_text, legal_entries_can_be_told};
