@@ -1,15 +1,13 @@
 //! What the journal of a small day names.
 
-ghost use Rattle.std.specs.Prelude.{◌≡◌, true};
-ghost use Rattle.desk_model.specs.Histories.{is_batch};
 ghost use Rattle.journal_text.specs.Told.{Names};
 
 use super::days::{flown, instance_of, leg_of, name_of, parts_of, set};
 use desk_data::{
-    Airport, Batch, Broken, Cabin, Grains, Instance, Leg, List, Minute, Path, Plane, Price, Res,
-    ResInfo, Row,
+    Airport, Broken, Cabin, Grains, Instance, Leg, List, Minute, Path, Plane, Price, Res, ResInfo,
+    Row,
 };
-use desk_model::{Answer, Entry, Event, Which};
+use desk_model::{Answer, Entry, Event};
 use journal_text::{journal_line, journal_text, push_broken};
 use plan_moves::{Move, Step, fits};
 use std::alloc::Global;
@@ -130,44 +128,6 @@ fn entries_have_lines(rt: HostRuntime) -> Result<(), Fail> {
     let entries = [entry];
     let whole = journal_text(alloc, &inst, &entries)?;
     assert_eq!(rt; whole.as_slice(), line.as_slice());
-    Ok(())
-}
-
-fn batch_of(alloc: Global, answer: Answer) -> Entry
-    ensures told { result.answer ≡ answer }
-    ensures event { is_batch result.event ≡ true }
-{
-    Entry {
-        caller: 0,
-        event: Event::Batch(Batch {
-            orders: List(Vec::new(alloc)),
-        }),
-        answer,
-    }
-}
-
-#[test]
-fn batches_have_their_numbers(rt: HostRuntime) -> Result<(), Fail> {
-    let alloc = rt.alloc();
-    let inst = day_of(alloc)?;
-    assert!(rt; inst.legs() == 2);
-    let ground = Answer::Taken {
-        which: Which::Ground,
-        cost: Grains(5),
-    };
-    let first = batch_of(alloc, ground);
-    let second = batch_of(alloc, Answer::NoPlan(Broken::C2(Leg(0))));
-    let text = journal_line(alloc, &inst, 1_000, &second)?;
-    assert_eq!(rt;
-        text.as_slice(),
-        b"0,batch,1000,no plan C2 F1 01/03/08\n".as_slice()
-    );
-    let entries = [first, second];
-    let whole = journal_text(alloc, &inst, &entries)?;
-    assert_eq!(rt;
-        whole.as_slice(),
-        b"0,batch,0,ground 5\n0,batch,1,no plan C2 F1 01/03/08\n".as_slice()
-    );
     Ok(())
 }
 
