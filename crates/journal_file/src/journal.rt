@@ -83,11 +83,7 @@ fn asked_row(
 
 /// The row of a record, of which the fourth field is passed over.
 #[tactic(auto, unfolding(crate::specs::Journal::journal_row, crate::specs::Journal::record_row, crate::specs::Journal::looked_at), using(crate::proofs::TextLemmas::text_if_printed))]
-fn record_row(
-    alloc: Global,
-    line: u32,
-    mut columns: Columns<'_>,
-) -> Result<JournalRow, RowFault>
+fn record_row(alloc: Global, line: u32, mut columns: Columns<'_>) -> Result<JournalRow, RowFault>
     ensures exact { GivesRow result (journal_row line columns.entry) }
     ensures facts { IfOk result IsJournalRow }
 {
@@ -128,12 +124,7 @@ impl CommaGrammar<JournalRow> for JournalRecord {
 
     ghost holds = { λ _. IsJournalRow };
 
-    fn row(
-        &self,
-        alloc: Global,
-        line: u32,
-        columns: Columns<'_>,
-    ) -> Result<JournalRow, RowFault> {
+    fn row(&self, alloc: Global, line: u32, columns: Columns<'_>) -> Result<JournalRow, RowFault> {
         record_row(alloc, line, columns)
     }
 }

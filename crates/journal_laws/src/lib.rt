@@ -1,0 +1,14 @@
+//! A written journal reads back.
+//!
+//! What `journal_text` writes of a history, `journal_file` reads, and `journal_join` makes the history's
+//! events of: by `written_journals_read_back`, a public function with an empty body, whose contract is the
+//! law. On the way stand two others: numbers, dates and times that are written are those that are read,
+//! and a line is what the crate `csv` writes of its fields.
+//!
+//! The names of the day have 1 to 32 bytes each, which is what its type of names holds. The crate has no
+//! other code. It stands on the crates whose definitions it compares.
+#![tactic(auto)]
+
+mod laws;
+
+pub use laws::{lines_are_records, tokens_read_back, written_journals_read_back};
