@@ -1,7 +1,5 @@
 //! What the journal of a small day names.
 
-ghost use Rattle.std.specs.Prelude.{◌≡◌, true};
-ghost use Rattle.desk_model.specs.Histories.{is_batch};
 ghost use Rattle.journal_text.specs.Told.{Names};
 
 use super::days::{flown, instance_of, leg_of, name_of, parts_of, set};
@@ -133,19 +131,6 @@ fn entries_have_lines(rt: HostRuntime) -> Result<(), Fail> {
     Ok(())
 }
 
-fn batch_of(alloc: Global, answer: Answer) -> Entry
-    ensures told { result.answer ≡ answer }
-    ensures event { is_batch result.event ≡ true }
-{
-    Entry {
-        caller: 0,
-        event: Event::Batch(Batch {
-            orders: List(Vec::new(alloc)),
-        }),
-        answer,
-    }
-}
-
 #[test]
 fn batches_have_their_numbers(rt: HostRuntime) -> Result<(), Fail> {
     let alloc = rt.alloc();
@@ -155,8 +140,20 @@ fn batches_have_their_numbers(rt: HostRuntime) -> Result<(), Fail> {
         which: Which::Ground,
         cost: Grains(5),
     };
-    let first = batch_of(alloc, ground);
-    let second = batch_of(alloc, Answer::NoPlan(Broken::C2(Leg(0))));
+    let first = Entry {
+        caller: 0,
+        event: Event::Batch(Batch {
+            orders: List(Vec::new(alloc)),
+        }),
+        answer: ground,
+    };
+    let second = Entry {
+        caller: 0,
+        event: Event::Batch(Batch {
+            orders: List(Vec::new(alloc)),
+        }),
+        answer: Answer::NoPlan(Broken::C2(Leg(0))),
+    };
     let text = journal_line(alloc, &inst, 1_000, &second)?;
     assert_eq!(rt;
         text.as_slice(),
