@@ -89,7 +89,7 @@ fn is_printed(byte: u8) -> bool
 }
 
 /// Whether each byte of a field is from 0x20 to 0x7e.
-fn is_field(field: &[u8]) -> bool
+pub fn is_field(field: &[u8]) -> bool
     ensures { result ≡ list_all is_printed field.now }
 {
     field.iter().all(|byte| is_printed(*byte))

@@ -1,5 +1,5 @@
-//! Tests of what reads and writes files and text: the readers of the input files, the early form of
-//! the journal, the lines and fields of text, and the folder and its loops.
+//! Tests of what reads and writes files and text: the readers of the input files and of
+//! journal.csv, the lines and fields of text, and the folder and its loops.
 //!
 //! There is no code here but tests: a crate with tests is proved twice, so they stand in a crate of their
 //! own. A table of like cases is one test, and a row that fails names itself. What a run of the program

@@ -1,3 +1,3 @@
 mod SeatLemmas
 mod ShortLemmas
-mod StepLemmas
+pub mod StepLemmas

@@ -1,0 +1,2 @@
+pub mod Journal
+pub use Rattle.journal_rows.specs.Facts

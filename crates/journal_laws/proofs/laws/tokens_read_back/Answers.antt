@@ -1,0 +1,11 @@
+use Rattle.journal_laws.proofs.Spelled.{number_back, date_back, time_back}
+use Rattle.journal_laws.proofs.laws.tokens_read_back.Goals as goal
+
+pub returns-clause-number : goal.returns-clause-number
+returns-clause-number c = number_back
+
+pub returns-clause-date : goal.returns-clause-date
+returns-clause-date c = date_back
+
+pub returns-clause-time : goal.returns-clause-time
+returns-clause-time c = time_back

@@ -1,0 +1,38 @@
+//! What a journal is written as is read again.
+
+ghost use Rattle.std.specs.Prelude.{◌≡◌, ℕ, ◌<◌, ◌≤◌, ◌^◌, Ok, List as Items, decimal, map};
+ghost use Rattle.csv.specs.Writing.{default_writer, row_text};
+ghost use Rattle.desk_build.specs.declared.joining.Built.{Built as Joined};
+ghost use Rattle.desk_data.specs.Situation.{Situation};
+ghost use Rattle.desk_model.specs.declared.answer.Entry.{Entry as Recorded};
+ghost use Rattle.desk_model.specs.States.{opening};
+ghost use Rattle.desk_model.specs.Histories.{IsLegal, run};
+ghost use Rattle.desk_text.specs.Fields.{number_of, date_of};
+ghost use Rattle.desk_text.specs.Moments.{minute_of};
+ghost use Rattle.desk_text.specs.Texts.{date_text, time_text};
+ghost use Rattle.journal_file.specs.Journal.{journal_rows_of};
+ghost use Rattle.journal_join.specs.Join.{events_of};
+ghost use Rattle.journal_text.specs.Lines.{journal_text, line_text};
+ghost use Rattle.journal_laws.specs.Named.{CanBeReadBack, asked, fields_at, rows_of_history};
+
+/// A number, a date and a time that are written are those that are read.
+pub fn tokens_read_back()
+    ensures number { (low high n : ℕ) → low ≤ n → n ≤ high → high < 1000000000 → number_of low high (decimal n) ≡ Ok n }
+    ensures date { (day : ℕ) → day < 36525 → date_of (date_text day) ≡ Ok day }
+    ensures time { (minute : ℕ) → minute < 1440 → minute_of (time_text minute) ≡ Ok minute }
+{}
+
+/// The line of an entry is what the crate `csv` writes of its four fields by its default settings.
+pub fn lines_are_records()
+    ensures { (I : Situation) (number : ℕ) (entry : Recorded) → entry.caller < 2 ^ 64 → line_text I number entry ≡ row_text default_writer (fields_at I number entry) }
+{}
+
+/// A written journal reads back. Of a history that is legal from the opening of a day, whose callers
+/// are at most 64, whose batches are the first ones of the day in their order, and whose text is not too
+/// long: the text is read as the rows of its entries, and these are joined to its events, each with its
+/// caller. And the run of a legal history's events is the history.
+pub fn written_journals_read_back()
+    ensures rows { (built : Joined) (h : Items Recorded) → CanBeReadBack built.inst built.batches h → journal_rows_of (journal_text built.inst h) ≡ Ok (rows_of_history built.inst h) }
+    ensures events { (built : Joined) (h : Items Recorded) → CanBeReadBack built.inst built.batches h → events_of built (rows_of_history built.inst h) ≡ Ok (map asked h) }
+    ensures run { (I : Situation) (h : Items Recorded) → IsLegal (opening I) h → run (opening I) (map asked h) ≡ h }
+{}
