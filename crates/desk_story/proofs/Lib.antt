@@ -1,2 +1,4 @@
 pub mod Orders
 pub mod Chain
+pub mod Commands
+pub mod Batches

@@ -47,8 +47,9 @@ fn next_leg(fields: &mut Fields<'_>) -> Result<Option<LegRow>, Cause>
     Ok(Some(leg(flight, day, class)?))
 }
 
-/// The legs of all fields, three by three.
-fn legs(alloc: Global, mut fields: Fields<'_>) -> Result<List<LegRow>, RowFault>
+/// The legs of all fields, three by three, as `FLIGHT DATE CABIN`; no fields have none. The first cause
+/// from the left: `Fields` for a leg that is not whole, `Size` of a name, `Date`, `Word` of a cabin.
+pub fn legs(alloc: Global, mut fields: Fields<'_>) -> Result<List<LegRow>, RowFault>
     ensures exact { GivesRow result (legs_of fields.entry) }
     ensures size { IfOk result (λ legs. 3 * length legs ≡ length fields.entry) }
     ensures facts { IfOk result (All IsLeg) }

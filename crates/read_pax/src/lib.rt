@@ -15,4 +15,4 @@ mod itineraries;
 pub use desk_text::{Cause, ReadFault};
 pub use desk_units::{Cabin, List, Name, Price};
 pub use file_rows::{ItineraryRow, LegRow};
-pub use itineraries::read_itineraries;
+pub use itineraries::{legs, read_itineraries};

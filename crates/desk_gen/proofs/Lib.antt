@@ -1,0 +1,4 @@
+mod DrawLaws
+mod NumberLaws
+mod SeatLaws
+mod LineLaws

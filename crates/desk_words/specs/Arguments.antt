@@ -1,0 +1,86 @@
+-- The words behind a command: directories and options in any order.
+use Rattle.std.specs.Prelude.{ℕ, Bool, true, false, not, ◌==◌, if◌then◌else◌, List, [], ◌∷◌, length, take, drop, Option, Some, None, option_map, codes, bytes_eq}
+use Rattle.desk_words.specs.declared.choice.Choice.{Choice}
+use Rattle.desk_words.specs.declared.choice.Choice.TheVariants.{Seed, Size}
+
+-- a directory isn't empty and doesn't begin with -
+abbrev pub is_directory : List ℕ → Bool
+is_directory [] = false
+is_directory (byte ∷ bytes) = not (byte == 45)
+
+-- what words say: a directory, or an option with the text of its value
+pub data Argument : Type 0 where
+  Place : List ℕ → Argument
+  Setting : Choice → List ℕ → Argument
+
+-- the option that a word names, whose value is the next word
+abbrev pub choice_of : List ℕ → Option Choice
+choice_of word =
+    if bytes_eq word (codes "--seed") then Some Seed else (
+    if bytes_eq word (codes "--size") then Some Size else None)
+
+-- what is behind these bytes, of a word that begins with them
+abbrev pub behind : List ℕ → List ℕ → Option (List ℕ)
+behind front word = if bytes_eq (take (length front) word) front then Some (drop (length front) word) else None
+
+-- the first of two, or the second where there is no first
+abbrev pub or_else : {X : Type 0} → Option X → Option X → Option X
+or_else (Some x) other = Some x
+or_else None other = other
+
+-- the option that a word sets, with the text of its value behind =
+abbrev pub setting_of : List ℕ → Option (Choice × List ℕ)
+setting_of word =
+    or_else (option_map (λ text. (Seed, text)) (behind (codes "--seed=") word))
+    (option_map (λ text. (Size, text)) (behind (codes "--size=") word))
+
+-- an argument before others
+abbrev pub before : Argument → Option (List Argument) → Option (List Argument)
+before argument others = option_map (λ list. argument ∷ list) others
+
+-- the argument of a word that sets an option, before others; other words are none
+abbrev pub set_before : Option (Choice × List ℕ) → Option (List Argument) → Option (List Argument)
+set_before None others = None
+set_before (Some set) others = before (Setting set.0 set.1) others
+
+-- where a word is the name of an option, what comes of that, else what comes of other words
+abbrev pub named_or : Option Choice → (Choice → Option (List Argument)) → Option (List Argument) → Option (List Argument)
+named_or (Some choice) named other = named choice
+named_or None named other = other
+
+-- words that are all directories
+unfoldable pub only_places : List (List ℕ) → Option (List Argument)
+only_places [] = Some []
+only_places (word ∷ words) = if is_directory word then before (Place word) (only_places words) else None
+
+-- the arguments that words say, or none where some word is none: behind a word -- all are directories; behind the name of an
+-- option, which is told first here, stands its value
+unfoldable pub arguments_behind : Option Choice → List (List ℕ) → Option (List Argument)
+arguments_behind None [] = Some []
+arguments_behind (Some choice) [] = None
+arguments_behind (Some choice) (word ∷ words) = before (Setting choice word) (arguments_behind None words)
+arguments_behind None (word ∷ words) =
+    if is_directory word then before (Place word) (arguments_behind None words) else (
+    if bytes_eq word (codes "--") then only_places words else
+    named_or (choice_of word) (λ choice. arguments_behind (Some choice) words) (set_before (setting_of word) (arguments_behind None words)))
+
+abbrev pub arguments : List (List ℕ) → Option (List Argument)
+arguments words = arguments_behind None words
+
+-- the directories among arguments
+unfoldable pub places : List Argument → List (List ℕ)
+places [] = []
+places (Place word ∷ others) = word ∷ places others
+places (Setting choice text ∷ others) = places others
+
+-- the number of an option, by which one is told from another
+abbrev pub choice_number : Choice → ℕ
+choice_number Seed = 0
+choice_number Size = 1
+
+-- the texts of the values of one option
+unfoldable pub values : Choice → List Argument → List (List ℕ)
+values choice [] = []
+values choice (Place word ∷ others) = values choice others
+values choice (Setting other text ∷ others) =
+    if choice_number other == choice_number choice then text ∷ values choice others else values choice others

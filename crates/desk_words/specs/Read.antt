@@ -1,0 +1,127 @@
+-- What is kept of the words that were read: the directories, at most two, and the numbers of the options.
+use Rattle.std.specs.Prelude.{ℕ, if◌then◌else◌, List, [], ◌∷◌, ◌++◌, Option, Some, None, option_map, unwrap_or, codes, bytes_eq}
+use Rattle.desk_text.specs.Fields.{◌>>=◌, number_from}
+use Rattle.desk_words.specs.declared.asked.Command.{Command}
+use Rattle.desk_words.specs.declared.asked.Command.TheVariants.{Replay, Check, Gen}
+use Rattle.desk_words.specs.declared.choice.Choice.{Choice}
+use Rattle.desk_words.specs.declared.choice.Choice.TheVariants.{Seed, Size}
+use Rattle.desk_words.specs.declared.read.Places.{Places}
+use Rattle.desk_words.specs.declared.read.Places.TheVariants.{Nothing, One, Two}
+use Rattle.desk_words.specs.declared.read.Read.{Read}
+use Rattle.desk_words.specs.declared.read.Expected.{Expected}
+use Rattle.desk_words.specs.declared.read.Expected.TheVariants as expected
+use Rattle.desk_words.specs.Arguments.{Argument, Place, Setting, is_directory, choice_of, setting_of, only_places, arguments_behind}
+use Rattle.desk_words.specs.Commands.{Asking, default_of, least_of, most_of, input_and_output, output_alone}
+
+-- what is kept
+pub record Kept : Type 0 where
+  pub places : List (List ℕ)
+  pub seed : Option ℕ
+  pub size : Option ℕ
+
+abbrev pub place_list : Places → List (List ℕ)
+place_list Nothing = []
+place_list (One first) = first.now ∷ []
+place_list (Two first second) = first.now ∷ second.now ∷ []
+
+abbrev pub kept_of : Read → Kept
+kept_of read = record { places = place_list read.places; seed = read.seed; size = read.size }
+
+abbrev pub nothing : Kept
+nothing = record { places = []; seed = None; size = None }
+
+-- one directory more, where there are not yet two
+abbrev pub one_more : List (List ℕ) → List ℕ → Option (List (List ℕ))
+one_more [] word = Some (word ∷ [])
+one_more (first ∷ []) word = Some (first ∷ word ∷ [])
+one_more words word = None
+
+unfoldable pub with_place : Kept → List ℕ → Option Kept
+with_place kept word = do
+  places ← one_more kept.places word
+  Some (record { places = places; seed = kept.seed; size = kept.size })
+
+-- the number of an option that has none yet
+abbrev pub first_value : Choice → Option ℕ → List ℕ → Option ℕ
+first_value choice None text = number_from (least_of choice) (most_of choice) text
+first_value choice (Some value) text = None
+
+unfoldable pub with_setting : Kept → Choice → List ℕ → Option Kept
+with_setting kept Seed text = do
+  seed ← first_value Seed kept.seed text
+  Some (record { places = kept.places; seed = Some seed; size = kept.size })
+with_setting kept Size text = do
+  size ← first_value Size kept.size text
+  Some (record { places = kept.places; seed = kept.seed; size = Some size })
+
+-- what is kept behind one argument more, and behind some
+abbrev pub with_argument : Kept → Argument → Option Kept
+with_argument kept (Place word) = with_place kept word
+with_argument kept (Setting choice text) = with_setting kept choice text
+
+unfoldable pub with_all : Kept → List Argument → Option Kept
+with_all kept [] = Some kept
+with_all kept (argument ∷ others) = do
+  more ← with_argument kept argument
+  with_all more others
+
+-- what is kept behind the arguments of some words, where they have arguments
+abbrev pub kept_behind : Kept → Option (List Argument) → Option Kept
+kept_behind kept None = None
+kept_behind kept (Some arguments) = with_all kept arguments
+
+-- what comes of an option, or else of none
+abbrev pub by_choice : Option Choice → (Choice → Option (Expected × Kept)) → Option (Expected × Kept) → Option (Expected × Kept)
+by_choice (Some choice) named other = named choice
+by_choice None named other = other
+
+-- the arguments of words, by what the first of them may be
+abbrev pub arguments_by : Expected → List (List ℕ) → Option (List Argument)
+arguments_by expected.Any words = arguments_behind None words
+arguments_by (expected.Value choice) words = arguments_behind (Some choice) words
+arguments_by expected.Place words = only_places words
+
+-- what the next word may be, and what is kept
+abbrev pub after : Expected × Read → Expected × Kept
+after pair = (pair.0, kept_of pair.1)
+
+-- what the next word may be, where so much is kept
+abbrev pub next_is : Expected → Kept → Option (Expected × Kept)
+next_is mode kept = Some (mode, kept)
+
+-- behind one word
+unfoldable pub of_any : Kept → List ℕ → Option (Expected × Kept)
+of_any kept word =
+    if is_directory word then (with_place kept word >>= next_is expected.Any) else (
+    if bytes_eq word (codes "--") then next_is expected.Place kept else
+    by_choice (choice_of word) (λ choice. next_is (expected.Value choice) kept)
+    (setting_of word >>= λ set. with_setting kept set.0 set.1 >>= next_is expected.Any))
+
+unfoldable pub of_word : Expected → Kept → List ℕ → Option (Expected × Kept)
+of_word expected.Any kept word = of_any kept word
+of_word (expected.Value choice) kept word = with_setting kept choice word >>= next_is expected.Any
+of_word expected.Place kept word = if is_directory word then (with_place kept word >>= next_is expected.Place) else None
+
+-- an option that isn't set
+abbrev pub unset : Option ℕ → Option (Unit {0})
+unset None = Some tt
+unset (Some value) = None
+
+-- what a command's word makes of what was kept
+unfoldable pub plain_kept : Command → Kept → Option Asking
+plain_kept command kept = do
+  seed ← unset kept.seed
+  size ← unset kept.size
+  dirs ← input_and_output kept.places
+  Some (command, dirs)
+
+unfoldable pub generating_kept : Kept → Option Asking
+generating_kept kept = do
+  dirs ← output_alone kept.places
+  Some (Gen (unwrap_or kept.seed (default_of Seed)) (unwrap_or kept.size (default_of Size)), dirs)
+
+abbrev pub asked_kept : List ℕ → Kept → Option Asking
+asked_kept word kept =
+    if bytes_eq word (codes "replay") then plain_kept Replay kept else (
+    if bytes_eq word (codes "check") then plain_kept Check kept else (
+    if bytes_eq word (codes "gen") then generating_kept kept else None))

@@ -1,0 +1,23 @@
+//! The words of the program.
+//!
+//! A command stands first, then its directories and options in any order. An option's value is the
+//! next word or follows `=`, and behind a word `--` all words are directories. An option stands at most
+//! once; a directory isn't empty and doesn't begin with `-`. All else is a usage refusal, a call for
+//! help among it.
+//!
+//!     replay IN OUT
+//!     check IN OUT
+//!     gen OUT [--seed 0 to 999999999] [--size 1 to 40]      // each 1 if it isn't there
+//!
+//! `command(words)` gives the command and its directories, or `None`. Proved: it is that of the
+//! definition in `specs/`, by the bytes of the words. It stands on `desk_text` for the numbers and takes
+//! no memory.
+#![tactic(auto)]
+
+mod asked;
+mod choice;
+mod read;
+mod words;
+
+pub use asked::{Asked, Command};
+pub use words::command;

@@ -1,0 +1,4 @@
+pub mod Legs
+pub mod Groups
+pub mod Facts
+pub mod Grammar
