@@ -1,6 +1,6 @@
 -- What stands outside after a run, from how it ended.
 use Rattle.std.proofs.Common.{◌≡◌, ℕ, false, ◌≤◌, List, length, take, refl, sym, subst, ap, ◌∙◌, arith, inl, inr, ◌⊎◌}
-use Rattle.std.specs.Prelude.{Option, Some, None, Result, Ok, Err, nat_le}
+use Rattle.std.specs.Prelude.{Option, Some, None, IfSome, Result, Ok, Err, nat_le}
 use Rattle.std.specs.Io.KnownBytes.{Appends, Keeps}
 use Rattle.std.proofs.KnownBytes.{Appends-trans}
 use Rattle.std.proofs.lemmas.Bool.{cases_Bool, leb-true, leb-false}
@@ -8,7 +8,7 @@ use Rattle.std.proofs.lemmas.List.{take_all}
 use Rattle.desk_folder.specs.declared.files.File.{File}
 use Rattle.desk_folder.specs.declared.faults.FolderFault.{FolderFault}
 use Rattle.desk_folder.specs.declared.faults.FolderFault.TheVariants as fault
-use Rattle.desk_folder.specs.Outside.{Outside, SinkSide}
+use Rattle.desk_folder.specs.Outside.{Outside, SinkSide, Directories}
 use Rattle.desk_folder.specs.Calls.{AppendsPrefix, Rose}
 use Rattle.folder_io.specs.Texts.{PutsReport}
 use Rattle.folder_io.specs.Outputs.{is_among, IsUnput}
@@ -21,7 +21,7 @@ use Rattle.desk_runs.specs.Commands.{Ask, files_read, files_written, reads, writ
 use Rattle.desk_runs.specs.Inputs.{Inputs, Tells}
 use Rattle.desk_runs.specs.Reading.{IsUnread, StopsAt}
 use Rattle.desk_runs.specs.Outcome.{Texts, fault_text, status_of}
-use Rattle.desk_runs.specs.Runs.{World, Meaning, IsUntold, IsWritten, Stops, StopsIn, StopsInReport, IsTold, Does, AreRead, IsUntouched, Obeys, EndsBy, Runs, status_after}
+use Rattle.desk_runs.specs.Runs.{World, Meaning, AreNamed, IsUntold, IsWritten, Stops, StopsIn, StopsInReport, IsTold, Does, AreRead, IsUntouched, Obeys, EndsBy, Runs, status_after}
 use Rattle.desk_runs.specs.Causes.{IsDoneAt}
 use Rattle.desk_runs.specs.Standing.{texts_by, finished_texts, AreBegun, AreWhole, IsRefusedSo, IsToldLast, IsNamedAt}
 use Rattle.desk_runs.proofs.CausesLaw.{status_cases, cause_after, caused-by}
