@@ -3,7 +3,7 @@ use Rattle.std.specs.declared.alloc.Global.{Global}
 use Rattle.std.specs.declared.vec.Vec.{Vec}
 use Rattle.desk_folder.specs.declared.files.File.{File}
 use Rattle.desk_folder.specs.Entries.{named_texts}
-use Rattle.desk_units.specs.declared.numbers.Grains.{Grains}
+use Rattle.desk_units.specs.declared.money.Grains.{Grains}
 use Rattle.desk_runs.specs.declared.ending.Ending.{Ending}
 use Rattle.desk_runs.specs.Runs.{world}
 use Rattle.desk_runs.specs.Finishing.{Completes}
