@@ -10,7 +10,9 @@
 
 use desk_data::NoMem;
 use desk_folder::{File, FreeGate, HostFolder, HostSink};
+use desk_runs::files_written;
 use desk_top::desk_main;
+use desk_words::command;
 use folder_io::put_report;
 use std::alloc::Global;
 use std::env;
@@ -42,11 +44,9 @@ fn words_of<R: Env + Alloc<A = Global>>(rt: &R) -> Result<Vec<String>, NoMem> {
 
 // The files that the command of these words may write.
 fn outputs_of(words: &[String]) -> &'static [File] {
-    match words {
-        [word, ..] if word.as_str() == "replay" => {
-            &[File::SolRotations, File::SolItineraries, File::Journal]
-        }
-        _ => &[],
+    match command(words) {
+        Some(asked) => files_written(&asked.command),
+        None => &[],
     }
 }
 

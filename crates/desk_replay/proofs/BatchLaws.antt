@@ -12,7 +12,8 @@ use Rattle.desk_rules.proofs.HourLaws.{length-numbers}
 use Rattle.desk_model.specs.declared.answer.Entry.{Entry}
 use Rattle.desk_model.specs.Histories.{is_batch}
 use Rattle.journal_text.proofs.PartsLaws.{answer-same}
-use Rattle.desk_runs.specs.Outcome.{line, batches_of, batch_line, batch_lines}
+use Rattle.desk_runs.specs.Outcome.{line}
+use Rattle.desk_tasks.specs.Play.{batches_of, batch_line, batch_lines}
 
 zip_behind : {A B : Type 0} (xs : List A) (ys : List B) (x : A) (y : B) → length xs ≡ length ys → zip (xs ++ x ∷ []) (ys ++ y ∷ []) ≡ zip xs ys ++ (x, y) ∷ []
 zip_behind [] [] x y e = refl

@@ -2,9 +2,10 @@
 
 ghost use Rattle.std.specs.Prelude.{◌≡◌, []};
 ghost use Rattle.desk_model.specs.Histories.{AreAskable};
-ghost use Rattle.desk_runs.specs.Outcome.{story_on, end_with};
 ghost use Rattle.desk_runs.specs.Runs.{world};
-ghost use Rattle.desk_runs.specs.Finishing.{Plays};
+ghost use Rattle.desk_runs.specs.Finishing.{Completes};
+ghost use Rattle.desk_tasks.specs.Play.{story_on, played, played_end};
+ghost use Rattle.desk_tasks.specs.Tasks.{play, files_for};
 
 use crate::run::run_events;
 use crate::texts::output_texts;
@@ -16,7 +17,7 @@ use std::alloc::Global;
 
 // How a run ends that wrote all of its texts, by what its last plan breaks.
 fn end_with(broken: Option<Broken>) -> Ending
-    ensures { result ≡ end_with broken }
+    ensures { result ≡ played_end broken }
 {
     match broken {
         None => Ending::Done,
@@ -38,8 +39,8 @@ pub fn play_events<F: Folder, O: Sink>(
 ) -> Ending
     requires fresh { inst.orders ≡ [] }
     requires asked { AreAskable inst events.now }
-    ensures { Plays (world (F.outside folder.old) (O.report out.old))
-        (world (F.outside folder.new) (O.report out.new)) (story_on inst events.now) result }
+    ensures { Completes (files_for (play (story_on inst events.now))) (world (F.outside folder.old) (O.report out.old))
+        (world (F.outside folder.new) (O.report out.new)) (played (story_on inst events.now)) result }
 {
     let book = match run_events(alloc, inst, events) {
         Ok(book) => book,

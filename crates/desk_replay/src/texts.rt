@@ -5,7 +5,7 @@ ghost use Rattle.desk_core.specs.Recorded.{state_of};
 ghost use Rattle.desk_model.specs.Histories.{is_batch};
 ghost use Rattle.journal_text.specs.Lines.{journal_text};
 ghost use Rattle.journal_text.specs.Told.{AnswerNames, CanBeTold};
-ghost use Rattle.desk_runs.specs.Outcome.{planned_rotations, batch_line, batch_lines, end_lines, report_text, outcome};
+ghost use Rattle.desk_tasks.specs.Play.{planned_rotations, planned_itineraries, batch_line, batch_lines, end_lines, report_text, history_outcome};
 ghost use Rattle.desk_runs.specs.Writing.{as_texts};
 
 use desk_core::Book;
@@ -14,7 +14,7 @@ use desk_folder::File;
 use desk_model::{Answer, Entry, Event};
 use desk_runs::OutputTexts;
 use journal_text::{journal_text, legal_entries_can_be_told, push_answer, push_broken};
-use sol_text::rotations_text;
+use sol_text::{itineraries_text, rotations_text};
 use std::alloc::Global;
 
 // The rotations of the book's plan, or nothing where it has none.
@@ -24,6 +24,16 @@ fn planned_rotations(alloc: Global, book: &Book) -> Result<Vec<u8>, NoMem>
     match book.broken() {
         Some(_) => Ok(Vec::new(alloc)),
         None => rotations_text(alloc, book.instance(), book.eval().plan()),
+    }
+}
+
+// The itineraries of the book's plan, or nothing where it has none.
+fn planned_itineraries(alloc: Global, book: &Book) -> Result<Vec<u8>, NoMem>
+    ensures { IfOk result (λ text. text.items ≡ planned_itineraries (state_of book.now) (state_of book.now).broken) }
+{
+    match book.broken() {
+        Some(_) => Ok(Vec::new(alloc)),
+        None => itineraries_text(alloc, book.instance(), book.eval().plan()),
     }
 }
 
@@ -95,7 +105,7 @@ fn push_end(text: &mut Vec<u8>, book: &Book) -> Result<(), NoMem>
 
 // What was answered to each batch, how many changes there were, and the cost of the plan or what is
 // broken.
-#[tactic(auto, unfolding(desk_runs::specs::Outcome::report_text))]
+#[tactic(auto, unfolding(desk_tasks::specs::Play::report_text))]
 fn report_text(alloc: Global, book: &Book) -> Result<Vec<u8>, NoMem>
     ensures { IfOk result (λ text. text.items ≡ report_text book.now.opening book.now.journal) }
 {
@@ -114,12 +124,13 @@ fn book_journal(alloc: Global, book: &Book) -> Result<Vec<u8>, NoMem>
 }
 
 /// The texts of a book's journal and state.
-#[tactic(auto, unfolding(desk_runs::specs::Outcome::outcome))]
+#[tactic(auto, unfolding(desk_tasks::specs::Play::history_outcome))]
 pub(crate) fn output_texts(alloc: Global, book: &Book) -> Result<OutputTexts, NoMem>
-    ensures { IfOk result (λ t. as_texts t ≡ (outcome book.now.opening book.now.journal).texts) }
+    ensures { IfOk result (λ t. as_texts t ≡ (history_outcome book.now.opening book.now.journal).texts) }
 {
     let mut files = Vec::new(alloc);
     files.push((File::SolRotations, planned_rotations(alloc, book)?))?;
+    files.push((File::SolItineraries, planned_itineraries(alloc, book)?))?;
     files.push((File::Journal, book_journal(alloc, book)?))?;
     let report = report_text(alloc, book)?;
     Ok(OutputTexts { files, report })

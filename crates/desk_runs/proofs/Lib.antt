@@ -1,5 +1,6 @@
 pub mod Composed
-pub mod HeadlineLaw
 pub mod CausesLaw
+pub mod DoneLaw
 pub mod StandingLaw
 pub mod PutLaws
+pub mod CompleteLaws

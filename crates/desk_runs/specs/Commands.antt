@@ -1,33 +1,56 @@
--- The words of the program.
-use Rattle.std.specs.Prelude.{ℕ, Bool, false, not, ◌&&◌, ◌==◌, if◌then◌else◌, List, [], ◌∷◌, Option, Some, None, codes, bytes_eq}
+-- The files that each command reads and writes, and what is asked of the desk.
+use Rattle.std.specs.Prelude.{◌≤◌, ℕ, List, [], ◌∷◌, ◌++◌, Option, Some, None}
+use Rattle.std.specs.Option.{option_map}
 use Rattle.desk_folder.specs.declared.files.File.{File}
 use Rattle.desk_folder.specs.declared.files.File.TheVariants as file
 use Rattle.desk_folder.specs.Outside.{Directories}
-use Rattle.desk_runs.specs.Inputs.{replay_files}
+use Rattle.desk_words.specs.declared.asked.Command.{Command}
+use Rattle.desk_words.specs.declared.asked.Command.TheVariants as command_is
+use Rattle.desk_words.specs.Commands.{Asking, command}
 
--- a directory isn't empty and doesn't begin with -
-abbrev pub is_directory : List ℕ → Bool
-is_directory [] = false
-is_directory (byte ∷ bytes) = not (byte == 45)
+-- the files that tell a day and its disruptions, in file order
+abbrev pub day_files : List File
+day_files = file.Config ∷ file.Flights ∷ file.Rotations ∷ file.Aircraft ∷ file.Airports ∷ file.Dist ∷ file.Itineraries ∷ file.Position ∷ file.AltFlights ∷ file.AltAircraft ∷ file.AltAirports ∷ file.Tariff ∷ file.Feed ∷ []
 
-abbrev pub directories : List ℕ → List ℕ → Directories
-directories input output = record { input = input; output = output }
+-- the files that a command reads, in file order
+abbrev pub files_read : Command → List File
+files_read command_is.Replay = day_files ++ file.Journal ∷ []
+files_read command_is.Check = day_files ++ file.SolRotations ∷ file.SolItineraries ∷ []
+files_read (command_is.Gen seed size) = []
 
--- the command `replay IN OUT`; all other words are a usage refusal
-abbrev pub command : List (List ℕ) → Option Directories
-command (word ∷ input ∷ output ∷ []) =
-    if bytes_eq word (codes "replay") && is_directory input && is_directory output then Some (directories input output)
-    else None
-command words = None
+-- the files that a command may write, in the order in which it writes them
+abbrev pub files_written : Command → List File
+files_written command_is.Replay = file.SolRotations ∷ file.SolItineraries ∷ file.Journal ∷ []
+files_written command_is.Check = []
+files_written (command_is.Gen seed size) = day_files
 
--- the files that a command reads, and those that it may write; words that are no command read and write none
-abbrev pub files_read : Option Directories → List File
-files_read None = []
-files_read (Some dirs) = replay_files
+-- what is asked of the desk: a command, and the directories that are to be named for it, where there are any
+pub record Ask : Type 0 where
+  pub command : Command
+  pub place : Option Directories
 
-abbrev pub output_files : List File
-output_files = file.SolRotations ∷ file.Journal ∷ []
+abbrev pub asks : Asking → Ask
+asks asking = record { command = asking.0; place = Some asking.1 }
 
-abbrev pub files_written : Option Directories → List File
-files_written None = []
-files_written (Some dirs) = output_files
+-- by the words of the program; words that spell no command ask for nothing
+abbrev pub asked_by : List (List ℕ) → Option Ask
+asked_by words = option_map asks (command words)
+
+-- by a command alone, whose directories are named already
+abbrev pub asked_here : Command → Option Ask
+asked_here c = Some (record { command = c; place = None })
+
+-- the files that are read, and those that may be written, where so much is asked
+abbrev pub reads : Option Ask → List File
+reads None = []
+reads (Some a) = files_read a.command
+
+abbrev pub writes : Option Ask → List File
+writes None = []
+writes (Some a) = files_written a.command
+
+-- the numbers of a command that has any: a seed of at most nine digits, and a size from 1 to 40
+abbrev pub IsCommand : Command → Type 0
+IsCommand command_is.Replay = Unit {0}
+IsCommand command_is.Check = Unit {0}
+IsCommand (command_is.Gen seed size) = (seed ≤ 999999999) × (1 ≤ size) × (size ≤ 40)

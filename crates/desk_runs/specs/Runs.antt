@@ -1,33 +1,30 @@
 -- What a run does to the outside, by how it ends.
-use Rattle.std.specs.Prelude.{◌≡◌, ◌≢◌, ◌≤◌, ◌⊎◌, ℕ, true, false, List, Option, Some, None, IfSome, IsSome, Result, Ok, Err, MatchOption}
+use Rattle.std.specs.Prelude.{◌≡◌, ◌≢◌, ◌≤◌, ◌⊎◌, ℕ, true, false, List, Option, Some, None, IfSome, Result, Ok, Err, MatchOption}
 use Rattle.std.specs.Io.KnownBytes.{Appends, Keeps}
 use Rattle.desk_folder.specs.declared.files.File.{File}
-use Rattle.desk_folder.specs.declared.files.File.TheVariants as file
 use Rattle.desk_folder.specs.declared.faults.FolderFault.{FolderFault}
 use Rattle.desk_folder.specs.declared.faults.FolderFault.TheVariants as fault
 use Rattle.desk_folder.specs.Outside.{Outside, SinkSide, Directories}
 use Rattle.desk_folder.specs.Calls.{AppendsPrefix, Rose}
 use Rattle.folder_io.specs.Texts.{PutsReport}
 use Rattle.folder_io.specs.Outputs.{is_among, ArePut, IsUnput}
-use Rattle.desk_model.specs.declared.answer.Entry.{Entry}
-use Rattle.desk_model.specs.States.{opening}
-use Rattle.desk_model.specs.Histories.{IsLegal, run, state}
-use Rattle.desk_model.specs.Promises.{KeepsPromises}
-use Rattle.journal_text.specs.Lines.{journal_text}
-use Rattle.sol_text.specs.Rotations.{rotations_text}
+use Rattle.desk_words.specs.declared.asked.Command.{Command}
 use Rattle.desk_runs.specs.declared.ending.Ending.{Ending}
 use Rattle.desk_runs.specs.declared.ending.Ending.TheVariants as ending
 use Rattle.desk_runs.specs.declared.refusal.Refusal.{Refusal}
-use Rattle.desk_runs.specs.Inputs.{Inputs, replay_files, Tells}
+use Rattle.desk_runs.specs.Inputs.{Inputs, Tells}
 use Rattle.desk_runs.specs.Reading.{IsRead, IsUnread, StopsAt, StandsFirst}
-use Rattle.desk_runs.specs.Outcome.{Story, Texts, texts_of, done_status, report_text, fault_text, status_of}
-use Rattle.desk_runs.specs.Commands.{output_files, command}
+use Rattle.desk_runs.specs.Outcome.{Texts, Outcome, fault_text, status_of}
+use Rattle.desk_runs.specs.Commands.{Ask, files_read, files_written}
 
--- what inputs say: their rows, or the first refusal by a grammar; and their story, or the first refusal. Nothing else is asked
--- of the two, so what follows holds of any
-pub record Meaning (Rows : Type 0) : Type 0 where
-  pub rows : Inputs → Result Rows Refusal
-  pub story : Inputs → Result Story Refusal
+-- what inputs say to a command: their rows, or the first refusal by a grammar; and the task that they set, or the first
+-- refusal. Then what each task comes to, and what reading it makes sure of. Nothing else is asked of the four, so what follows
+-- holds of any
+pub record Meaning (Rows Task : Type 0) : Type 1 where
+  pub rows : Command → Inputs → Result Rows Refusal
+  pub task : Command → Inputs → Result Task Refusal
+  pub outcome : Task → Outcome
+  pub IsSound : Task → Type 0
 
 -- the folder and the sink
 pub record World : Type 0 where
@@ -36,24 +33,6 @@ pub record World : Type 0 where
 
 abbrev pub world : Outside → SinkSide → World
 world folder sink = record { folder = folder; sink = sink }
-
--- the promise of the desk, for a run that was done: the history behind what was written
-pub record Headline (before now : World) (s : Story) (h : List Entry) : Type 0 where
-  -- it is the history of the events that were read, in their order, from the opening of the day that was read
-  pub events : h ≡ run (opening s.day) s.events
-  pub legal : IsLegal (opening s.day) h
-  -- whatever batches arrive between the proposals: each published plan meets all rules of the day under the orders taken by then,
-  -- each stored cost is the cost of the rows under these, between two batches costs only fall, and a proposal to a published
-  -- plan is accepted exactly where the moved plan is feasible and cheaper
-  pub promises : KeepsPromises s.day h
-  -- journal.csv is the journal of the history, and the report tells its batches, its changes and the cost of the last plan
-  pub journal : Appends (before.folder.written file.Journal) (now.folder.written file.Journal) (journal_text s.day h)
-  pub reported : Appends before.sink.written now.sink.written (report_text s.day h)
-  -- sol_rotations.csv is that of the last plan, and is written only where there is one
-  pub rotations : (state (opening s.day) h).broken ≡ None →
-      Appends (before.folder.written file.SolRotations) (now.folder.written file.SolRotations)
-      (rotations_text (state (opening s.day) h).inst (state (opening s.day) h).plan)
-  pub no_rotations : IsSome (state (opening s.day) h).broken → Keeps (before.folder.written file.SolRotations) (now.folder.written file.SolRotations)
 
 -- no file has got a byte, and nothing is reported
 pub record IsUntold (before now : World) : Type 0 where
@@ -75,56 +54,65 @@ StopsInReport before now t = ArePut (λ f. ⊥) (AppendsPrefix before.sink.writt
 abbrev pub Stops : World → World → Texts → Type 0
 Stops before now t = ArePut (λ f. Keeps before.sink.written now.sink.written) (AppendsPrefix before.sink.written now.sink.written t.report) t.files before.folder now.folder
 
--- the story that the input tells
-abbrev pub IsTold : {Rows : Type 0} → Meaning Rows → Inputs → Story → Type 0
-IsTold M x s = M.story x ≡ Ok s
+-- the task that the inputs set the command
+abbrev pub IsTold : {Rows Task : Type 0} → Meaning Rows Task → Command → Inputs → Task → Type 0
+IsTold M c x t = M.task c x ≡ Ok t
 
--- what a run that was done did: it wrote all texts of the story, which are those of a history with the headline
-pub record Finishes (before now : World) (s : Story) (status : ℕ) : Type 0 where
-  pub status_is : done_status s ≡ status
-  pub written : IsWritten before now (texts_of s)
-  pub history : List Entry
-  pub headline : Headline before now s history
+-- what a run that was done did: it wrote all texts that the task comes to
+pub record Finishes {Rows Task : Type 0} (M : Meaning Rows Task) (before now : World) (t : Task) (status : ℕ) : Type 0 where
+  pub sound : M.IsSound t
+  pub status_is : (M.outcome t).status ≡ status
+  pub written : IsWritten before now (M.outcome t).texts
 
--- what a run did on these inputs, by its ending; where a file could not be read, no grammar refuses one before it
-abbrev pub Does : {Rows : Type 0} → Meaning Rows → World → World → Inputs → Ending → Type 0
-Does M before now x ending.Done = (s : Story) × IsTold M x s × Finishes before now s 0
-Does M before now x ending.NoPlan = (s : Story) × IsTold M x s × Finishes before now s 1
-Does M before now x ending.Usage = ⊥
-Does M before now x (ending.Refused r) = M.story x ≡ Err r
-Does M before now x ending.PlaceFault = Unit {0}
-Does M before now x (ending.ReadFault f) = StandsFirst f (M.rows x)
-Does M before now x (ending.WriteFault f) = (s : Story) × IsTold M x s × StopsIn f before now (texts_of s)
-Does M before now x ending.ReportFault = (s : Story) × IsTold M x s × StopsInReport before now (texts_of s)
-Does M before now x ending.Memory = IsUntold before now ⊎ ((s : Story) × IsTold M x s × Stops before now (texts_of s))
+-- what a run of a command did on these inputs, by its ending; where a file could not be read, no grammar refuses one before it
+abbrev pub Does : {Rows Task : Type 0} → Meaning Rows Task → Command → World → World → Inputs → Ending → Type 0
+Does {Task = Task} M c before now x ending.Done = (t : Task) × IsTold M c x t × Finishes M before now t 0
+Does {Task = Task} M c before now x ending.NoPlan = (t : Task) × IsTold M c x t × Finishes M before now t 1
+Does {Task = Task} M c before now x ending.BrokenRule = (t : Task) × IsTold M c x t × Finishes M before now t 7
+Does M c before now x ending.Usage = ⊥
+Does M c before now x (ending.Refused r) = M.task c x ≡ Err r
+Does M c before now x ending.PlaceFault = Unit {0}
+Does M c before now x (ending.ReadFault f) = StandsFirst f (M.rows c x)
+Does {Task = Task} M c before now x (ending.WriteFault f) = (t : Task) × IsTold M c x t × StopsIn f before now (M.outcome t).texts
+Does {Task = Task} M c before now x ending.ReportFault = (t : Task) × IsTold M c x t × StopsInReport before now (M.outcome t).texts
+Does {Task = Task} M c before now x ending.Memory = IsUntold before now ⊎ ((t : Task) × IsTold M c x t × Stops before now (M.outcome t).texts)
 
--- only a fault of the outside ends a run so: its count of that very call and file rose, and the command reads or writes the file
-abbrev pub HasCauseAmong : List File → World → World → Ending → Type 0
-HasCauseAmong outputs before now ending.PlaceFault = Rose before.folder.place_faults now.folder.place_faults
-HasCauseAmong outputs before now (ending.ReadFault f) = (is_among f replay_files ≡ true) × Rose (before.folder.next_faults f) (now.folder.next_faults f)
-HasCauseAmong outputs before now (ending.WriteFault f) = (is_among f outputs ≡ true) × Rose (before.folder.put_faults f) (now.folder.put_faults f)
-HasCauseAmong outputs before now ending.ReportFault = Rose before.sink.faults now.sink.faults
-HasCauseAmong outputs before now other = Unit {0}
+-- only a fault of the outside ends a run so: its count of that very call and file rose, and the file is one of those that are
+-- read or written
+abbrev pub HasCause : List File → List File → World → World → Ending → Type 0
+HasCause inputs outputs before now ending.PlaceFault = Rose before.folder.place_faults now.folder.place_faults
+HasCause inputs outputs before now (ending.ReadFault f) = (is_among f inputs ≡ true) × Rose (before.folder.next_faults f) (now.folder.next_faults f)
+HasCause inputs outputs before now (ending.WriteFault f) = (is_among f outputs ≡ true) × Rose (before.folder.put_faults f) (now.folder.put_faults f)
+HasCause inputs outputs before now ending.ReportFault = Rose before.sink.faults now.sink.faults
+HasCause inputs outputs before now other = Unit {0}
 
-abbrev pub HasCause : World → World → Ending → Type 0
-HasCause before now how = HasCauseAmong output_files before now how
+-- no directories are named, and no naming failed
+pub record IsUnplaced (before now : World) (how : Ending) : Type 0 where
+  pub no_fault : how ≢ ending.PlaceFault
+  pub directories : now.folder.directories ≡ before.folder.directories
+  pub faults : now.folder.place_faults ≡ before.folder.place_faults
 
--- the directories are named, unless a fault or running out of memory came before
+-- these directories are named, unless a fault or running out of memory came before
 abbrev pub AreNamed : Directories → World → World → Ending → Type 0
 AreNamed dirs before now ending.PlaceFault = Unit {0}
 AreNamed dirs before now ending.Memory = Unit {0}
 AreNamed dirs before now other = IfSome before.folder.directories (λ was. now.folder.directories ≡ Some dirs)
 
+abbrev pub IsPlaced : Option Directories → World → World → Ending → Type 0
+IsPlaced None before now how = IsUnplaced before now how
+IsPlaced (Some dirs) before now how = AreNamed dirs before now how
+
 -- all files of the command were read to their end
-abbrev pub AreRead : Outside → Outside → Type 0
-AreRead before now = (f : File) → is_among f replay_files ≡ true → IsRead before now f
+abbrev pub AreRead : List File → Outside → Outside → Type 0
+AreRead files before now = (f : File) → is_among f files ≡ true → IsRead before now f
 
-abbrev pub IsReadWhole : World → World → Ending → Type 0
-IsReadWhole before now ending.Done = AreRead before.folder now.folder
-IsReadWhole before now ending.NoPlan = AreRead before.folder now.folder
-IsReadWhole before now other = Unit {0}
+abbrev pub IsReadWhole : List File → World → World → Ending → Type 0
+IsReadWhole files before now ending.Done = AreRead files before.folder now.folder
+IsReadWhole files before now ending.NoPlan = AreRead files before.folder now.folder
+IsReadWhole files before now ending.BrokenRule = AreRead files before.folder now.folder
+IsReadWhole files before now other = Unit {0}
 
--- where a run ends before the events are taken, nothing is written or reported; where the directories could not be named,
+-- where a run ends before its task is done, nothing is written or reported; where the directories could not be named,
 -- nothing was read, and where a file could not be read, none behind it was
 abbrev pub IsSilent : World → World → Ending → Type 0
 IsSilent before now (ending.Refused r) = IsUntold before now
@@ -132,32 +120,29 @@ IsSilent before now ending.PlaceFault = IsUntold before now × ((f : File) → I
 IsSilent before now (ending.ReadFault f) = IsUntold before now × StopsAt f before.folder now.folder
 IsSilent before now other = Unit {0}
 
--- a replay from and to these directories
-pub record Replays {Rows : Type 0} (M : Meaning Rows) (dirs : Directories) (before now : World) (how : Ending) : Type 0 where
+-- a run that does what is asked, before its fault's line
+pub record Obeys {Rows Task : Type 0} (M : Meaning Rows Task) (a : Ask) (before now : World) (how : Ending) : Type 0 where
   pub no_usage : how ≢ ending.Usage
-  pub cause : HasCause before now how
-  pub does : (x : Inputs) → Tells replay_files before.folder x → Does M before now x how
-  pub named : AreNamed dirs before now how
-  pub read : IsReadWhole before now how
+  pub cause : HasCause (files_read a.command) (files_written a.command) before now how
+  pub does : (x : Inputs) → Tells (files_read a.command) before.folder x → Does M a.command before now x how
+  pub placed : IsPlaced a.place before now how
+  pub read : IsReadWhole (files_read a.command) before now how
   pub silent : IsSilent before now how
   pub kept : before.sink.faults ≤ now.sink.faults
   -- no file is read behind one that its grammar refuses
-  pub in_order : (x : Inputs) → Tells replay_files before.folder x → (r : Refusal) → M.rows x ≡ Err r → StopsAt r.file before.folder now.folder
-  -- no other file is read, and none but the outputs is written
-  pub unread : (f : File) → is_among f replay_files ≡ false → IsUnread before.folder now.folder f
-  pub unput : (f : File) → is_among f output_files ≡ false → IsUnput before.folder now.folder f
+  pub in_order : (x : Inputs) → Tells (files_read a.command) before.folder x → (r : Refusal) → M.rows a.command x ≡ Err r → StopsAt r.file before.folder now.folder
+  -- no other file is read, and none but those of the command is written
+  pub unread : (f : File) → is_among f (files_read a.command) ≡ false → IsUnread before.folder now.folder f
+  pub unput : (f : File) → is_among f (files_written a.command) ≡ false → IsUnput before.folder now.folder f
 
 -- nothing was called
 pub record IsUntouched (before now : World) : Type 0 where
   pub folder : now.folder ≡ before.folder
   pub sink : now.sink ≡ before.sink
 
--- a run of the program with these words, before its fault's line
-abbrev pub EndsBy : {Rows : Type 0} → Meaning Rows → Option Directories → World → World → Ending → Type 0
-EndsBy M dirs before now how = MatchOption dirs ((how ≡ ending.Usage) × IsUntouched before now) (λ dirs. Replays M dirs before now how)
-
-abbrev pub Ends : {Rows : Type 0} → Meaning Rows → List (List ℕ) → World → World → Ending → Type 0
-Ends M words before now how = EndsBy M (command words) before now how
+-- a run by what is asked of the desk, before its fault's line; where nothing is asked it is a usage refusal
+abbrev pub EndsBy : {Rows Task : Type 0} → Meaning Rows Task → Option Ask → World → World → Ending → Type 0
+EndsBy M ask before now how = MatchOption ask ((how ≡ ending.Usage) × IsUntouched before now) (λ a. Obeys M a before now how)
 
 -- out of memory while the fault's line is put gives status 6, and a fault of the sink leaves the status
 abbrev pub status_after : Ending → Result (Unit {0}) FolderFault → ℕ
@@ -165,18 +150,17 @@ status_after how (Ok done) = status_of how
 status_after how (Err fault.Failed) = status_of how
 status_after how (Err fault.Memory) = 6
 
--- a run of the program with these words: how it ended, what the sink had before the fault's line, and that line
-pub record Runs {Rows : Type 0} (M : Meaning Rows) (words : List (List ℕ)) (before now : World) (code : ℕ) : Type 0 where
+-- the line that tells an ending is put into the sink
+pub record TellsEnd (how : Ending) (before now : SinkSide) (code : ℕ) : Type 0 where
+  pub answer : Result (Unit {0}) FolderFault
+  pub line : PutsReport before now (fault_text how) answer
+  pub status : code ≡ status_after how answer
+
+-- a run by what is asked of the desk: how it ended, what the sink had before the fault's line, and that line
+pub record Runs {Rows Task : Type 0} (M : Meaning Rows Task) (ask : Option Ask) (before now : World) (code : ℕ) : Type 0 where
   pub how : Ending
   pub sink : SinkSide
-  pub ends : Ends M words before (record { folder = now.folder; sink = sink }) how
+  pub ends : EndsBy M ask before (record { folder = now.folder; sink = sink }) how
   pub answer : Result (Unit {0}) FolderFault
   pub line : PutsReport sink now.sink (fault_text how) answer
   pub status : code ≡ status_after how answer
-
--- a run that was done on these inputs: the story that they tell, and a history with the headline
-pub record IsDone {Rows : Type 0} (M : Meaning Rows) (before now : World) (x : Inputs) : Type 0 where
-  pub story : Story
-  pub told : IsTold M x story
-  pub history : List Entry
-  pub headline : Headline before now story history

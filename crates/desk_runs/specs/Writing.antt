@@ -1,5 +1,5 @@
 -- What writing the texts of a run does to the outside.
-use Rattle.std.specs.Prelude.{◌≤◌, Result, Ok, Err, IfErr}
+use Rattle.std.specs.Prelude.{◌≤◌, [], Result, Ok, Err, IfErr}
 use Rattle.folder_io.specs.declared.outputs.WriteFault.{WriteFault}
 use Rattle.folder_io.specs.declared.outputs.WriteFault.TheVariants as fault
 use Rattle.desk_folder.specs.Entries.{named_texts}
@@ -8,7 +8,7 @@ use Rattle.desk_runs.specs.declared.ending.Ending.{Ending}
 use Rattle.desk_runs.specs.declared.ending.Ending.TheVariants as ending
 use Rattle.desk_runs.specs.declared.write.OutputTexts.{OutputTexts}
 use Rattle.desk_runs.specs.Outcome.{Texts}
-use Rattle.desk_runs.specs.Runs.{World, HasCauseAmong, IsWritten, Stops, StopsIn, StopsInReport}
+use Rattle.desk_runs.specs.Runs.{World, HasCause, IsWritten, Stops, StopsIn, StopsInReport}
 
 -- the texts, wherever they lie in memory
 abbrev pub as_texts : OutputTexts → Texts
@@ -30,6 +30,6 @@ StandsBy before now t (Err other) = ⊥
 -- the texts are put one after another
 pub record PutsOutputs (before now : World) (t : Texts) (answer : Result (Unit {0}) Ending) : Type 0 where
   pub put : StandsBy before now t answer
-  pub cause : IfErr answer (HasCauseAmong (files_of t.files) before now)
+  pub cause : IfErr answer (HasCause [] (files_of t.files) before now)
   pub only : WritesAmong (files_of t.files) before.folder now.folder
   pub kept : before.sink.faults ≤ now.sink.faults

@@ -15,6 +15,8 @@ pub enum Ending {
     Done,
     /// All was done, and there is no plan.
     NoPlan,
+    /// All was done, and the plan breaks a rule.
+    BrokenRule,
     /// The words are no command.
     Usage,
     /// The input is refused.
@@ -44,6 +46,7 @@ impl Ending {
             Ending::PlaceFault | Ending::ReadFault(_) => 4,
             Ending::WriteFault(_) | Ending::ReportFault => 5,
             Ending::Memory => 6,
+            Ending::BrokenRule => 7,
         }
     }
 }

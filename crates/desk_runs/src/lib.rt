@@ -1,24 +1,25 @@
-//! What a run of the desk is: its words, its endings and the line that tells them, and the writing of
-//! what came of it.
+//! What a run of the desk is, for any command: the files that it reads and writes, its endings and the line
+//! that tells them, and the writing of what came of it.
 //!
-//! `command` takes the words of the program apart, `Ending` is how a run ends, with its status,
+//! `files_read` and `files_written` are the files of a command, `Ending` is how a run ends, with its status,
 //! `fault_text` the line that tells it, and `put_outputs` writes texts, each into its file, and the report
 //! behind them. `Refusal` is the first refusal of the input: file, line and cause.
 //!
-//! The definitions say what a run has read and written by its ending (`Runs`), and `outcome` what the input
-//! asks for: status, texts of files and report. The laws in `proofs/` make of that what `desk_main` promises.
-//! They hold for any meaning of the input (`Meaning`), so this crate stands beside the readers and the
-//! judging, on the texts, `desk_model` and `folder_io`. An output file more is a line in `outcome`.
+//! The definitions say what a run has read and written by its ending (`Runs`), over what its inputs mean
+//! (`Meaning`): the task that they set a command, and the `Outcome` of that task, with a status, texts of
+//! files and a report. The laws in `proofs/` make of that what `desk_main` promises, once for all commands. They
+//! hold of any meaning, so this crate stands beside the readers and the judging, on `desk_words` and
+//! `folder_io`. A command more is a line in each list of files.
 #![tactic(auto)]
 
 mod ending;
+mod files;
 mod line;
 mod refusal;
-mod words;
 mod write;
 
 pub use ending::Ending;
+pub use files::{files_read, files_written};
 pub use line::fault_text;
 pub use refusal::{Cause, Refusal};
-pub use words::command;
 pub use write::{OutputTexts, put_outputs};

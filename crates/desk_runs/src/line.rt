@@ -7,7 +7,7 @@ ghost use Rattle.desk_folder.specs.Files.{file_name};
 
 use crate::ending::Ending;
 use crate::refusal::Refusal;
-use desk_data::NoMem;
+use desk_units::NoMem;
 use desk_folder::File;
 use std::alloc::Global;
 
@@ -35,7 +35,7 @@ pub fn fault_text(alloc: Global, ending: &Ending) -> Result<String, NoMem>
     ensures { IfOk result (λ text. string_bytes text ≡ fault_text ending.now) }
 {
     match ending {
-        Ending::Done | Ending::NoPlan => Ok(String::new(alloc)),
+        Ending::Done | Ending::NoPlan | Ending::BrokenRule => Ok(String::new(alloc)),
         Ending::Usage => Ok(format!(in alloc; "usage\n")?),
         Ending::Refused(refusal) => refusal_text(alloc, refusal),
         Ending::PlaceFault => Ok(format!(in alloc; "place fault\n")?),

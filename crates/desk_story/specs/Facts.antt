@@ -4,13 +4,20 @@ use Rattle.build_tables.specs.Facts.{AreFileRows}
 use Rattle.journal_rows.specs.Facts.{AreRows}
 use Rattle.desk_model.specs.Histories.{AreAskable}
 use Rattle.desk_story.specs.declared.rows.InputRows.{InputRows}
+use Rattle.desk_data.specs.Valid.{IsPlanFor}
+use Rattle.desk_gen.specs.Generated.{IsSize}
 use Rattle.desk_story.specs.declared.story.InputStory.{InputStory}
-use Rattle.desk_runs.specs.Outcome.{Story}
+use Rattle.desk_story.specs.declared.plan.InputPlan.{InputPlan}
+use Rattle.desk_story.specs.declared.task.InputTask.{InputTask}
+use Rattle.desk_story.specs.declared.task.InputTask.TheVariants as input
+use Rattle.desk_tasks.specs.Play.{Story}
+use Rattle.desk_tasks.specs.Judge.{Judged}
+use Rattle.desk_tasks.specs.Tasks.{Task, play, judge, generate}
 use Rattle.desk_story.specs.Story.{Rows}
 
 -- the rows, wherever they lie in memory
 abbrev pub as_rows : InputRows → Rows
-as_rows rows = record { files = rows.files; journal = rows.journal.items }
+as_rows rows = record { files = rows.files; journal = rows.journal.items; plan_rotations = rows.plan_rotations.items; plan_itineraries = rows.plan_itineraries.items }
 
 -- what the readers say of them
 pub record AreInputRows (rows : InputRows) : Type 0 where
@@ -25,3 +32,19 @@ as_story s = record { day = s.inst; events = s.events.items }
 pub record CanBeRun (s : InputStory) : Type 0 where
   pub fresh : s.inst.orders ≡ []
   pub asked : AreAskable s.inst s.events.items
+
+-- the plan that is judged, wherever it lies in memory
+abbrev pub as_judged : InputPlan → Judged
+as_judged p = record { day = p.inst; plan = p.plan }
+
+-- the task, wherever it lies in memory
+abbrev pub as_task : InputTask → Task
+as_task (input.Play s) = play (as_story s)
+as_task (input.Judge p) = judge (as_judged p)
+as_task (input.Generate seed size) = generate seed size
+
+-- what reading it makes sure of
+abbrev pub CanBeDone : InputTask → Type 0
+CanBeDone (input.Play s) = CanBeRun s
+CanBeDone (input.Judge p) = IsPlanFor p.inst p.plan
+CanBeDone (input.Generate seed size) = IsSize size

@@ -7,11 +7,9 @@ use Rattle.desk_folder.specs.Outside.{Outside}
 use Rattle.desk_folder.specs.Calls.{Rose}
 use Rattle.folder_io.specs.Outputs.{is_among}
 use Rattle.desk_runs.specs.declared.refusal.Refusal.{Refusal}
-use Rattle.desk_runs.specs.Inputs.{Inputs}
 use Rattle.desk_runs.specs.Reading.{StopsAt, StandsFirst}
 use Rattle.desk_story.specs.declared.fault.StoryFault.{StoryFault}
 use Rattle.desk_story.specs.declared.fault.StoryFault.TheVariants as fault
-use Rattle.desk_story.specs.Story.{rows_of}
 
 -- each file stands before those behind it in file order, so none stands twice
 abbrev pub are_in_order : List File → Bool
@@ -37,12 +35,12 @@ HasReadCause files before now (fault.ReadFault f) = (is_among f files ≡ true) 
 HasReadCause files before now (fault.Refused r) = Unit {0}
 HasReadCause files before now fault.Memory = Unit {0}
 
--- the story of these files, or its refusal; where a reading failed, no grammar refuses a file before it
-abbrev pub GivesStory : {V X : Type 0} → (V → X) → Result V StoryFault → Inputs → Result X Refusal → Type 0
-GivesStory view (Ok v) x story = story ≡ Ok (view v)
-GivesStory view (Err (fault.Refused r)) x story = story ≡ Err r
-GivesStory view (Err (fault.ReadFault f)) x story = StandsFirst f (rows_of x)
-GivesStory view (Err fault.Memory) x story = Unit {0}
+-- the task of these files, or its refusal; where a reading failed, no grammar refuses a file before it
+abbrev pub GivesTask : {V X Rows : Type 0} → (V → X) → Result V StoryFault → Result Rows Refusal → Result X Refusal → Type 0
+GivesTask view (Ok v) rows task = task ≡ Ok (view v)
+GivesTask view (Err (fault.Refused r)) rows task = task ≡ Err r
+GivesTask view (Err (fault.ReadFault f)) rows task = StandsFirst f rows
+GivesTask view (Err fault.Memory) rows task = Unit {0}
 
 -- a fault of a line or of rows, and none of the folder
 abbrev pub NeedsNoFault : StoryFault → Type 0

@@ -1,5 +1,5 @@
--- What the input files say: the day that is read, and the events that are taken on it, batches and moves, or the first refusal.
-use Rattle.std.specs.Prelude.{ℕ, List, [], ◌∷◌, length, Result, Ok, Err, nat_lt, if◌then◌else◌}
+-- What the input files of a command say: the task that they set, or the first refusal.
+use Rattle.std.specs.Prelude.{ℕ, List, [], ◌∷◌, length, Option, Some, None, Result, Ok, Err, nat_lt, if◌then◌else◌}
 use Rattle.desk_folder.specs.declared.files.File.{File}
 use Rattle.desk_folder.specs.declared.files.File.TheVariants as file
 use Rattle.file_rows.specs.declared.cause.Cause.{Cause as RowCause}
@@ -22,11 +22,18 @@ use Rattle.desk_build.specs.Join.{built_of}
 use Rattle.journal_rows.specs.declared.rows.JournalRow.{JournalRow}
 use Rattle.early_form.specs.Journal.{rows_of_journal}
 use Rattle.journal_join.specs.Join.{events_of}
+use Rattle.sol_rows.specs.Grammar.{refusal_in}
+use Rattle.sol_join.specs.Solution.{solution_of}
 use Rattle.desk_runs.specs.declared.refusal.Cause.{Cause}
 use Rattle.desk_runs.specs.declared.refusal.Cause.TheVariants.{Form, Row}
 use Rattle.desk_runs.specs.declared.refusal.Refusal.{Refusal}
-use Rattle.desk_runs.specs.Inputs.{Inputs, replay_files}
-use Rattle.desk_runs.specs.Outcome.{Story}
+use Rattle.desk_words.specs.declared.asked.Command.{Command}
+use Rattle.desk_words.specs.declared.asked.Command.TheVariants as command_is
+use Rattle.desk_runs.specs.Inputs.{Inputs}
+use Rattle.desk_runs.specs.Commands.{files_read}
+use Rattle.desk_tasks.specs.Play.{Story}
+use Rattle.desk_tasks.specs.Judge.{Judged, with_batches}
+use Rattle.desk_tasks.specs.Tasks.{Task, play, judge, generate}
 
 -- ---- refusals
 
@@ -64,6 +71,9 @@ not_asked at = refusal file.Journal (Row at.1) at.0
 pub record Rows : Type 0 where
   pub files : Files
   pub journal : List JournalRow
+  -- the bytes of the two files that tell a plan, once their lines are in their form
+  pub plan_rotations : List ℕ
+  pub plan_itineraries : List ℕ
 
 -- before any file is read
 abbrev pub no_rows : Rows
@@ -84,6 +94,8 @@ no_rows = record {
     feed = [];
   };
   journal = [];
+  plan_rotations = [];
+  plan_itineraries = [];
 }
 
 -- the most bytes of a file
@@ -96,7 +108,12 @@ abbrev pub too_long : File → Cause
 too_long file.Journal = Form
 too_long other = Row Size
 
--- the rows with those of one file more, by its grammar; a file that has none here changes nothing
+-- a file whose lines are only tried
+abbrev pub unless_refused : Option (ℕ × RowCause) → Result (Unit {0}) (ℕ × RowCause)
+unless_refused None = Ok tt
+unless_refused (Some refusal) = Err refusal
+
+-- the rows with those of one file more, by its grammar
 unfoldable pub with_rows : File → List ℕ → Rows → Result Rows (ℕ × Cause)
 with_rows file.Config bytes rows = do
   config ← or_refused in_text (config_of bytes)
@@ -140,7 +157,12 @@ with_rows file.Feed bytes rows = do
 with_rows file.Journal bytes rows = do
   journal ← or_refused not_in_form (rows_of_journal bytes)
   Ok (record rows { journal = journal })
-with_rows other bytes rows = Ok rows
+with_rows file.SolRotations bytes rows = do
+  tried ← or_refused in_text (unless_refused (refusal_in file.SolRotations bytes))
+  Ok (record rows { plan_rotations = bytes })
+with_rows file.SolItineraries bytes rows = do
+  tried ← or_refused in_text (unless_refused (refusal_in file.SolItineraries bytes))
+  Ok (record rows { plan_itineraries = bytes })
 
 -- the same for a file of any length: one of too many bytes is refused at line 0, whatever they are
 abbrev pub within_limit : File → List ℕ → Result Rows (ℕ × Cause) → Result Rows (ℕ × Cause)
@@ -154,19 +176,36 @@ unfoldable pub read_all : List File → Inputs → Rows → Result Rows Refusal
 read_all [] x rows = Ok rows
 read_all (f ∷ files) x rows = read_as f (x f) rows >>= read_all files x
 
--- the rows of all files, or the first refusal by a grammar
-abbrev pub rows_of : Inputs → Result Rows Refusal
-rows_of x = read_all replay_files x no_rows
+-- the rows of the files of a command, or the first refusal by a grammar
+abbrev pub rows_of : Command → Inputs → Result Rows Refusal
+rows_of c x = read_all (files_read c) x no_rows
 
--- ---- the story
+-- ---- the task
 
--- the files are joined to a day and its batches, and then the journal says which of them are taken, and when
+-- to play: the files are joined to a day and its batches, and then the journal says which of them are taken, and when
 unfoldable pub story_of_rows : Rows → Result Story Refusal
 story_of_rows rows = do
   built ← or_refused not_joined (built_of rows.files)
   events ← or_refused not_asked (events_of built rows.journal)
   Ok (record { day = built.inst; events = events })
 
+-- to judge: the files are joined, and then those of the plan; it is judged under the orders of all batches
+unfoldable pub judged_of_rows : Rows → Result Judged Refusal
+judged_of_rows rows = do
+  built ← or_refused not_joined (built_of rows.files)
+  plan ← or_refused not_joined (solution_of built.inst rows.plan_rotations rows.plan_itineraries)
+  Ok (record { day = with_batches built.inst built.batches; plan = plan })
+
+-- by the command; what is generated is asked by the words alone
+unfoldable pub task_of_rows : Command → Rows → Result Task Refusal
+task_of_rows command_is.Replay rows = do
+  story ← story_of_rows rows
+  Ok (play story)
+task_of_rows command_is.Check rows = do
+  judged ← judged_of_rows rows
+  Ok (judge judged)
+task_of_rows (command_is.Gen seed size) rows = Ok (generate seed size)
+
 -- the grammar of each file comes before the join of any
-unfoldable pub story_of : Inputs → Result Story Refusal
-story_of x = rows_of x >>= story_of_rows
+unfoldable pub task_of : Command → Inputs → Result Task Refusal
+task_of c x = rows_of c x >>= task_of_rows c

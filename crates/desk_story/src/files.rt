@@ -19,24 +19,6 @@ use file_rows::{Cause as RowCause, MOST_BYTES, MOST_JOURNAL_BYTES};
 use folder_io::{ReadEnd, read_file};
 use std::alloc::Global;
 
-/// The files that `replay` reads, in file order.
-pub const REPLAY_FILES: [File; 14] = [
-    File::Config,
-    File::Flights,
-    File::Rotations,
-    File::Aircraft,
-    File::Airports,
-    File::Dist,
-    File::Itineraries,
-    File::Position,
-    File::AltFlights,
-    File::AltAircraft,
-    File::AltAirports,
-    File::Tariff,
-    File::Feed,
-    File::Journal,
-];
-
 // The most bytes of a file.
 fn byte_limit(file: File) -> u32
     ensures { result ≡ byte_limit file }
@@ -87,7 +69,7 @@ fn read_one<F: Folder>(
             }));
         }
     };
-    match rows.take(alloc, file, bytes.as_slice()) {
+    match rows.take(alloc, file, bytes) {
         Ok(()) => Ok(rows),
         Err(fault) => Err(fault.of(file)),
     }

@@ -17,6 +17,7 @@ use read_legs::{read_flights, read_rotations};
 use read_net::{Window, read_airports, read_config, read_dist};
 use read_pax::read_itineraries;
 use read_tariff::read_tariff;
+use sol_rows::solution_grammar;
 use std::alloc::Global;
 
 /// The rows of the input files that were read so far.
@@ -25,6 +26,9 @@ pub(crate) struct InputRows {
     pub files: Files,
     /// The rows of journal.csv.
     pub journal: Vec<JournalRow>,
+    /// The bytes of sol_rotations.csv and sol_itineraries.csv, whose lines are in their form.
+    pub plan_rotations: Vec<u8>,
+    pub plan_itineraries: Vec<u8>,
 }
 
 impl InputRows {
@@ -57,20 +61,23 @@ impl InputRows {
                 feed: List(Vec::new(alloc)),
             },
             journal: Vec::new(alloc),
+            plan_rotations: Vec::new(alloc),
+            plan_itineraries: Vec::new(alloc),
         }
     }
 
     /// Takes the rows of a file from its bytes, by its grammar, or tells the first line that it
-    /// refuses. A file that has no grammar here changes nothing. After an error the
-    /// rows are given up.
+    /// refuses. Of the two files that tell a plan the bytes are kept, since their rows mean something on
+    /// a day alone. After an error the rows are given up.
     #[tactic(auto, unfolding(crate::specs::Story::with_rows))]
-    pub(crate) fn take(&mut self, alloc: Global, file: File, bytes: &[u8]) -> Result<(), FileFault>
+    pub(crate) fn take(&mut self, alloc: Global, file: File, kept: Vec<u8>) -> Result<(), FileFault>
         requires facts { AreInputRows self.old }
-        requires small { length bytes.now < 2 ^ 32 }
-        ensures exact { GivesRows result (with_rows file bytes.now (as_rows self.old)) (as_rows self.new) }
+        requires small { length kept.items < 2 ^ 32 }
+        ensures exact { GivesRows result (with_rows file kept.items (as_rows self.old)) (as_rows self.new) }
         ensures facts { OnOk result (AreInputRows self.new) }
     {
         let files = &mut self.files;
+        let bytes = kept.as_slice();
         match file {
             File::Config => files.config = read_config(bytes)?,
             File::Flights => files.flights = List(read_flights(alloc, bytes)?),
@@ -86,7 +93,14 @@ impl InputRows {
             File::Tariff => files.tariff = read_tariff(alloc, bytes)?,
             File::Feed => files.feed = List(read_feed(alloc, bytes)?),
             File::Journal => self.journal = read_journal(alloc, bytes)?,
-            _ => {}
+            File::SolRotations => {
+                solution_grammar(alloc, file, bytes)?;
+                self.plan_rotations = kept;
+            }
+            File::SolItineraries => {
+                solution_grammar(alloc, file, bytes)?;
+                self.plan_itineraries = kept;
+            }
         }
         Ok(())
     }

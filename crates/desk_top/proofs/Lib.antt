@@ -1,2 +1,6 @@
 pub mod Unput
-pub mod ReadFaults
+pub mod Obeyed
+pub mod Written
+pub mod Commands
+pub mod Placed
+pub mod Ranges

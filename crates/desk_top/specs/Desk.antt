@@ -1,40 +1,76 @@
 -- What is said of a run of the desk, where its inputs mean what the files' grammars and their join say.
-use Rattle.std.specs.Prelude.{ℕ, List}
-use Rattle.desk_folder.specs.Outside.{Directories}
+use Rattle.std.specs.Prelude.{◌≡◌, ℕ, List, Option, Ok}
+use Rattle.std.specs.Io.KnownBytes.{Appends}
+use Rattle.desk_folder.specs.Outside.{Outside}
+use Rattle.desk_model.specs.declared.answer.Entry.{Entry}
+use Rattle.desk_rules.specs.Least.{least}
+use Rattle.desk_rules.specs.Cost.{cost}
+use Rattle.desk_words.specs.declared.asked.Command.{Command}
+use Rattle.desk_words.specs.declared.asked.Command.TheVariants as command_is
 use Rattle.desk_runs.specs.declared.ending.Ending.{Ending}
+use Rattle.desk_runs.specs.declared.refusal.Refusal.{Refusal}
+use Rattle.desk_runs.specs.Commands.{Ask}
 use Rattle.desk_runs.specs.Inputs.{Inputs}
-use Rattle.desk_runs.specs.Runs.{World, Meaning}
+use Rattle.desk_runs.specs.Outcome.{Texts}
+use Rattle.desk_runs.specs.Runs.{World, Meaning, IsWritten}
 use Rattle.desk_runs.specs.Runs as runs
 use Rattle.desk_runs.specs.Causes as causes
 use Rattle.desk_runs.specs.Standing as standing
-use Rattle.desk_story.specs.Story.{Rows, rows_of, story_of}
+use Rattle.desk_tasks.specs.Play.{Story}
+use Rattle.desk_tasks.specs.Judge.{Judged, verdict_report, rule_status}
+use Rattle.desk_tasks.specs.Generate.{generation}
+use Rattle.desk_tasks.specs.Tasks.{Task, play, judge, outcome, IsSound}
+use Rattle.desk_tasks.specs.Headline.{Headline}
+use Rattle.desk_story.specs.Story.{Rows, rows_of, task_of}
 
--- what inputs say: the rows of all files, or the first refusal by a grammar; and the story, or the first refusal
-abbrev pub meaning : Meaning Rows
-meaning = record { rows = rows_of; story = story_of }
+-- what inputs say to a command: the rows of all its files, or the first refusal by a grammar; and the task, or the first refusal
+abbrev pub meaning : Meaning Rows Task
+meaning = record { rows = rows_of; task = task_of; outcome = outcome; IsSound = IsSound }
 
 -- ---- each of these with that meaning
 
-abbrev pub Replays : Directories → World → World → Ending → Type 0
-Replays dirs before now how = runs.Replays meaning dirs before now how
+abbrev pub Obeys : Ask → World → World → Ending → Type 0
+Obeys a before now how = runs.Obeys meaning a before now how
 
-abbrev pub Ends : List (List ℕ) → World → World → Ending → Type 0
-Ends words before now how = runs.Ends meaning words before now how
+abbrev pub Runs : Option Ask → World → World → ℕ → Type 0
+Runs ask before now code = runs.Runs meaning ask before now code
 
-abbrev pub Runs : List (List ℕ) → World → World → ℕ → Type 0
-Runs words before now code = runs.Runs meaning words before now code
+abbrev pub IsDone : Command → World → World → Inputs → ℕ → Type 0
+IsDone c before now x code = causes.IsDone meaning c before now x code
 
-abbrev pub IsDone : World → World → Inputs → Type 0
-IsDone before now x = runs.IsDone meaning before now x
+abbrev pub IsRefused : Command → World → World → Inputs → Type 0
+IsRefused c before now x = causes.IsRefused meaning c before now x
 
-abbrev pub IsDoneWith : Inputs → ℕ → Type 0
-IsDoneWith x code = causes.IsDoneWith meaning x code
+abbrev pub IsReadable : Command → World → World → Inputs → Type 0
+IsReadable c before now x = causes.IsReadable meaning c before now x
 
-abbrev pub IsRefused : World → World → Inputs → Type 0
-IsRefused before now x = causes.IsRefused meaning before now x
+abbrev pub Answers : Command → Inputs → ℕ → Type 0
+Answers c x code = causes.Answers meaning c x code
 
-abbrev pub IsReadable : World → World → Inputs → Type 0
-IsReadable before now x = causes.IsReadable meaning before now x
+abbrev pub finished_texts : Option Ask → Inputs → Texts
+finished_texts ask x = standing.finished_texts meaning ask x
 
-abbrev pub IsToldLast : World → World → Inputs → ℕ → Type 0
-IsToldLast before now x code = standing.IsToldLast meaning before now x code
+abbrev pub IsToldLast : Option Ask → World → World → Inputs → ℕ → Type 0
+IsToldLast ask before now x code = standing.IsToldLast meaning ask before now x code
+
+-- ---- what each command did, once it was done
+
+-- `replay`: the inputs tell a story, and there is a history with the headline
+pub record IsReplayed (before now : World) (x : Inputs) : Type 0 where
+  pub story : Story
+  pub told : task_of command_is.Replay x ≡ Ok (play story)
+  pub history : List Entry
+  pub headline : Headline before now story history
+
+-- `check`: the inputs tell a day and a plan; the status is 7 where the plan breaks a rule and else 0, and the report tells the
+-- first item that is broken, or that none is, and the cost of the plan under the orders of all batches
+pub record IsChecked (before now : World) (x : Inputs) (code : ℕ) : Type 0 where
+  pub judged : Judged
+  pub told : task_of command_is.Check x ≡ Ok (judge judged)
+  pub status : code ≡ rule_status (least judged.day judged.plan)
+  pub reported : Appends before.sink.written now.sink.written (verdict_report judged.day (least judged.day judged.plan) (cost judged.day judged.plan))
+
+-- `gen`: the files of the seed and the size are written
+pub record IsGenerated (before now : World) (seed size : ℕ) (code : ℕ) : Type 0 where
+  pub status : code ≡ 0
+  pub written : IsWritten before now (generation seed size).texts

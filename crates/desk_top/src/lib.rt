@@ -2,19 +2,21 @@
 //!
 //!     let status = desk_main(alloc, words, &mut folder, &mut out, &FreeGate);
 //!
-//! answers the status of the program, from 0 to 6. Its contract is what the desk promises of each run:
-//! the headline, the cause of each status, and what stands outside after it, clause by clause;
-//! docs/PROMISES.md tells them in plain words. The body takes the words apart, has the command run, and
-//! puts the line that tells why a run was not done.
+//! answers the status of the program, from 0 to 7. Its contract is what the desk promises of each run of each
+//! command: the headline, the cause of each status, and what stands outside after it, clause by clause;
+//! docs/PROMISES.md tells them in plain words. The body takes the words apart, names the directories, and has
+//! `run_plain` do the command, which puts the line that tells why a run was not done.
 //!
 //! Its runs stand in `desk_rows`, as files. The test here is for running out of memory: each allocation
-//! of some runs can be refused in turn. It stands on the command's crate; the program `desk` and
+//! of some runs can be refused in turn. It stands on the crates of the commands; the program `desk` and
 //! `desk_rows` stand on it.
 #![tactic(auto)]
 
+mod day;
 mod desk;
+mod plain;
 #[cfg(test)]
 mod tests;
-mod whole;
 
 pub use desk::desk_main;
+pub use plain::run_plain;

@@ -1,0 +1,52 @@
+-- A verdict is written.
+use Rattle.std.proofs.Common.{◌≡◌, ℕ, List, [], refl, sym, ap, ◌∙◌}
+use Rattle.std.specs.Prelude.{Option, Some, None, IfSome}
+use Rattle.folder_io.specs.Outputs.{FileText, files_of}
+use Rattle.desk_data.specs.declared.broken.Broken.{Broken}
+use Rattle.desk_data.specs.Situation.{Situation}
+use Rattle.desk_data.specs.PlanRows.{PlanRows}
+use Rattle.desk_rules.specs.Least.{least}
+use Rattle.desk_rules.specs.Cost.{cost}
+use Rattle.journal_text.specs.Told.{Names}
+use Rattle.journal_text.proofs.Told.{least-names}
+use Rattle.desk_runs.specs.declared.ending.Ending.{Ending}
+use Rattle.desk_runs.specs.Outcome.{Texts}
+use Rattle.desk_runs.specs.Runs.{World}
+use Rattle.desk_runs.specs.Writing.{PutsOutputs}
+use Rattle.desk_runs.specs.Finishing.{IsEndOf, Completes}
+use Rattle.desk_runs.proofs.PutLaws.{all_done, ended_by}
+use Rattle.desk_runs.proofs.CompleteLaws.{completes-all, completes-short}
+use Rattle.desk_tasks.specs.Judge.{verdict_report, verdict_end, rule_status, verdict}
+
+-- what the least broken item names is in range
+pub item-names : (I : Situation) (P : PlanRows) (o : Option Broken) → o ≡ least I P → IfSome o (Names I)
+item-names I P None e = tt
+item-names I P (Some item) e = least-names I P item (sym e)
+
+-- these texts of files, and a report
+abbrev pub told : List FileText → List ℕ → Texts
+told files report = record { files = files; report = report }
+
+texts_are : (I : Situation) (P : PlanRows) (o : Option Broken) (files : List FileText) (report : List ℕ) → o ≡ least I P → files ≡ [] → report ≡ verdict_report I o (cost I P) → told files report ≡ (verdict I P).texts
+unfolding verdict
+texts_are I P o files report e none is = ap (λ (fs : List FileText). told fs report) none ∙ ap (λ (r : List ℕ). told [] r) (is ∙ ap (λ (o : Option Broken). verdict_report I o (cost I P)) e)
+
+no_files : (I : Situation) (P : PlanRows) → files_of (verdict I P).texts.files ≡ []
+unfolding verdict
+no_files I P = refl
+
+status_is : (I : Situation) (P : PlanRows) (o : Option Broken) → o ≡ least I P → (verdict I P).status ≡ rule_status o
+unfolding verdict
+status_is I P o e = ap rule_status (sym e)
+
+end_is : (I : Situation) (P : PlanRows) (o : Option Broken) → (verdict I P).status ≡ rule_status o → IsEndOf (verdict I P) (verdict_end o)
+end_is I P None e = e
+end_is I P (Some item) e = e
+
+pub judged-all : (before now : World) (I : Situation) (P : PlanRows) (o : Option Broken) (files : List FileText) (report : List ℕ) (ok : Unit {0}) → o ≡ least I P → files ≡ [] → report ≡ verdict_report I o (cost I P) → PutsOutputs before now (told files report) (all_done ok) → Completes [] before now (verdict I P) (verdict_end o)
+judged-all before now I P o files report ok e none is put =
+    completes-all [] before now (verdict I P) (told files report) (verdict_end o) ok (no_files I P) (texts_are I P o files report e none is) (end_is I P o (status_is I P o e)) put
+
+pub judged-short : (before now : World) (I : Situation) (P : PlanRows) (o : Option Broken) (files : List FileText) (report : List ℕ) (how : Ending) → o ≡ least I P → files ≡ [] → report ≡ verdict_report I o (cost I P) → PutsOutputs before now (told files report) (ended_by how) → Completes [] before now (verdict I P) how
+judged-short before now I P o files report how e none is put =
+    completes-short [] before now (verdict I P) (told files report) how (no_files I P) (texts_are I P o files report e none is) put

@@ -1,0 +1,98 @@
+//! Judging a plan, and writing what was found.
+
+ghost use Rattle.std.specs.Prelude.{◌≡◌, ◌++◌, [], IfOk, IfSome, OnOk};
+ghost use Rattle.desk_data.specs.Valid.{IsPlanFor};
+ghost use Rattle.desk_rules.specs.Least.{least};
+ghost use Rattle.journal_text.specs.Told.{Names};
+ghost use Rattle.desk_tasks.specs.Judge.{verdict_text, verdict_report, verdict_end, verdict};
+ghost use Rattle.desk_runs.specs.Runs.{world};
+ghost use Rattle.desk_runs.specs.Writing.{as_texts};
+ghost use Rattle.desk_runs.specs.Finishing.{Completes};
+
+use desk_data::{Broken, Grains, Instance, NoMem, Plan};
+use desk_folder::{Folder, Sink};
+use desk_runs::{Ending, OutputTexts, put_outputs};
+use full_check::full_check;
+use full_cost::full_cost;
+use journal_text::push_broken;
+use std::alloc::Global;
+
+// How a run ends that told its verdict.
+fn end_with(broken: Option<Broken>) -> Ending
+    ensures { result ≡ verdict_end broken }
+{
+    match broken {
+        None => Ending::Done,
+        Some(_) => Ending::BrokenRule,
+    }
+}
+
+// Adds what a plan breaks first, or that it breaks nothing.
+fn push_verdict(text: &mut Vec<u8>, inst: &Instance, broken: Option<Broken>) -> Result<(), NoMem>
+    requires { IfSome broken (Names inst.now) }
+    ensures { OnOk result (text.new.items ≡ text.old.items ++ verdict_text inst.now broken) }
+{
+    match broken {
+        None => {
+            text.extend_from_slice(b"feasible")?;
+            Ok(())
+        }
+        Some(item) => {
+            text.extend_from_slice(b"broken ")?;
+            push_broken(text, inst, &item)
+        }
+    }
+}
+
+// What a plan breaks first, and what it costs.
+#[tactic(auto, unfolding(desk_tasks::specs::Judge::verdict_report))]
+fn verdict_report(
+    alloc: Global,
+    inst: &Instance,
+    broken: Option<Broken>,
+    cost: Grains,
+) -> Result<Vec<u8>, NoMem>
+    requires { IfSome broken (Names inst.now) }
+    ensures { IfOk result (λ text. text.items ≡ verdict_report inst.now broken cost.0) }
+{
+    let mut text = Vec::new(alloc);
+    push_verdict(&mut text, inst, broken)?;
+    let cost = cost.0;
+    let end = format!(in alloc; "\ncost {cost}\n")?;
+    text.extend_from_slice(end.as_bytes())?;
+    Ok(text)
+}
+
+/// Tells the first item that a plan breaks, and its cost.
+///
+/// It ends with `Done` where the plan breaks nothing and with `BrokenRule` where it breaks a rule, when all
+/// is told. `ReportFault` tells that the report could not be written, and `Memory` may come at any time: what
+/// is written by then is a beginning of the report.
+pub fn judge_plan<F: Folder, O: Sink>(
+    alloc: Global,
+    inst: &Instance,
+    plan: &Plan,
+    folder: &mut F,
+    out: &mut O,
+) -> Ending
+    requires { IsPlanFor inst.now plan.now }
+    ensures { Completes [] (world (F.outside folder.old) (O.report out.old))
+        (world (F.outside folder.new) (O.report out.new)) (verdict inst.now plan.now) result }
+{
+    let broken = match full_check(alloc, inst, plan) {
+        Ok(broken) => broken,
+        Err(_) => return Ending::Memory,
+    };
+    let report = match verdict_report(alloc, inst, broken, full_cost(inst, plan)) {
+        Ok(report) => report,
+        Err(_) => return Ending::Memory,
+    };
+    let texts = OutputTexts {
+        files: Vec::new(alloc),
+        report,
+    };
+    match put_outputs(alloc, folder, out, &texts) {
+        Ok(()) => end_with(broken),
+        Err(end) => end,
+    }
+}

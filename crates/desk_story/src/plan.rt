@@ -1,0 +1,51 @@
+//! The day and the plan that the input files tell.
+
+ghost use Rattle.std.specs.Prelude.{◌≡◌, All, IfOk, IfErr};
+ghost use Rattle.desk_data.specs.Valid.{IsOrder, IsPlanFor};
+ghost use Rattle.desk_tasks.specs.Judge.{with_batches};
+ghost use Rattle.desk_story.specs.Story.{judged_of_rows};
+ghost use Rattle.desk_story.specs.Reading.{GivesRead, NeedsNoFault};
+ghost use Rattle.desk_story.specs.Facts.{as_rows, AreInputRows, as_judged};
+
+use crate::fault::StoryFault;
+use crate::rows::InputRows;
+use desk_build::{Built, build};
+use desk_data::{Batch, Instance, NoMem, Plan};
+use sol_join::read_solution;
+use std::alloc::Global;
+
+/// A day, and a plan on it that is to be judged.
+#[derive(Drop)]
+pub struct InputPlan {
+    /// The joined day, with the orders of all batches.
+    pub inst: Instance,
+    pub plan: Plan,
+}
+
+// The day with the orders of these batches, one after another.
+fn with_batches(alloc: Global, mut inst: Instance, batches: &[Batch]) -> Result<Instance, NoMem>
+    requires { All (λ batch. All (IsOrder inst.parts) batch.orders) batches.now }
+    ensures { IfOk result (λ day. day ≡ with_batches inst batches.now) }
+{
+    for batch in batches {
+        inst.add(alloc, batch)?;
+    }
+    Ok(inst)
+}
+
+/// Joins the rows, and then those of the plan.
+#[tactic(auto, unfolding(crate::specs::Story::judged_of_rows))]
+pub(crate) fn joined_plan(alloc: Global, rows: &InputRows) -> Result<InputPlan, StoryFault>
+    requires { AreInputRows rows.now }
+    ensures exact { GivesRead as_judged result (judged_of_rows (as_rows rows.now)) }
+    ensures plan { IfOk result (λ p. IsPlanFor p.inst p.plan) }
+    ensures cause { IfErr result NeedsNoFault }
+{
+    let built = build(alloc, &rows.files)?;
+    let rotations = rows.plan_rotations.as_slice();
+    let itineraries = rows.plan_itineraries.as_slice();
+    let plan = read_solution(alloc, &built.inst, rotations, itineraries)?;
+    let Built { inst, batches } = built;
+    let inst = with_batches(alloc, inst, batches.0.as_slice())?;
+    Ok(InputPlan { inst, plan })
+}

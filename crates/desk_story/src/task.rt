@@ -1,0 +1,94 @@
+//! What the input of a command asks for.
+
+ghost use Rattle.std.specs.Prelude.{◌≡◌, true, Err, IfOk, OnOk, IfErr};
+ghost use Rattle.desk_folder.specs.declared.files.File.{File as AnyFile};
+ghost use Rattle.folder_io.specs.Outputs.{is_among};
+ghost use Rattle.desk_runs.specs.Commands.{IsCommand, files_read, files_written};
+ghost use Rattle.desk_runs.specs.Inputs.{Inputs, Tells};
+ghost use Rattle.desk_runs.specs.declared.refusal.Refusal.{Refusal as Refused};
+ghost use Rattle.desk_runs.specs.Reading.{ReadsAmong, StopsAt};
+ghost use Rattle.desk_runs.specs.Runs.{AreRead};
+ghost use Rattle.desk_tasks.specs.Tasks.{files_for};
+ghost use Rattle.desk_story.specs.Story.{rows_of, task_of_rows, task_of};
+ghost use Rattle.desk_story.specs.Reading.{StopsAtFault, GivesRead, GivesTask, HasReadCause, NeedsNoFault};
+ghost use Rattle.desk_story.specs.Facts.{as_rows, AreInputRows, as_task, CanBeDone};
+
+use crate::fault::StoryFault;
+use crate::files::read_files;
+use crate::plan::{InputPlan, joined_plan};
+use crate::rows::InputRows;
+use crate::story::{InputStory, joined_story};
+use desk_folder::Folder;
+use desk_runs::files_read;
+use desk_words::Command;
+use std::alloc::Global;
+
+/// What the input of a command asks for.
+#[derive(Drop)]
+pub enum InputTask {
+    /// Events are to be taken on a day.
+    Play(InputStory),
+    /// A plan is to be judged.
+    Judge(InputPlan),
+    /// The input files of a day are to be made, of this seed and this size from 1 to 40.
+    Generate { seed: u32, size: u32 },
+}
+
+// Joins the rows as the command asks for.
+#[tactic(auto, unfolding(crate::specs::Story::task_of_rows))]
+fn joined_task(
+    alloc: Global,
+    command: &Command,
+    rows: &InputRows,
+) -> Result<InputTask, StoryFault>
+    requires words { IsCommand command.now }
+    requires facts { AreInputRows rows.now }
+    ensures exact { GivesRead as_task result (task_of_rows command.now (as_rows rows.now)) }
+    ensures sound { IfOk result CanBeDone }
+    ensures files { IfOk result (λ task. files_for (as_task task) ≡ files_written command.now) }
+    ensures cause { IfErr result NeedsNoFault }
+{
+    match command {
+        Command::Replay => {
+            let story = joined_story(alloc, rows)?;
+            Ok(InputTask::Play(story))
+        }
+        Command::Check => {
+            let plan = joined_plan(alloc, rows)?;
+            Ok(InputTask::Judge(plan))
+        }
+        Command::Gen { seed, size } => Ok(InputTask::Generate {
+            seed: *seed,
+            size: *size,
+        }),
+    }
+}
+
+/// Reads the files of a command in file order and joins their rows: each file's grammar is decided
+/// before the next file is read, and all of them before any name is looked up.
+///
+/// # Errors
+/// `Refused` with the first refusal of the input; `ReadFault` only where the count of failed reads of
+/// that file rose, and no file before it is refused by its grammar; `Memory` at any time. No file is
+/// read behind one that its grammar refuses, or that could not be read.
+#[tactic(auto, unfolding(crate::specs::Story::task_of))]
+pub fn read_task<F: Folder>(
+    alloc: Global,
+    command: &Command,
+    folder: &mut F,
+) -> Result<InputTask, StoryFault>
+    requires { IsCommand command.now }
+    ensures exact { (x : Inputs) → Tells (files_read command.now) (F.outside folder.old) x →
+        GivesTask as_task result (rows_of command.now x) (task_of command.now x) }
+    ensures read { OnOk result (AreRead (files_read command.now) (F.outside folder.old) (F.outside folder.new)) }
+    ensures cause { IfErr result (HasReadCause (files_read command.now) (F.outside folder.old) (F.outside folder.new)) }
+    ensures only { ReadsAmong (files_read command.now) (F.outside folder.old) (F.outside folder.new) }
+    ensures in_order { (x : Inputs) → Tells (files_read command.now) (F.outside folder.old) x → (r : Refused) →
+        rows_of command.now x ≡ Err r → StopsAt r.file (F.outside folder.old) (F.outside folder.new) }
+    ensures stops { IfErr result (StopsAtFault (F.outside folder.old) (F.outside folder.new)) }
+    ensures sound { IfOk result CanBeDone }
+    ensures files { IfOk result (λ task. files_for (as_task task) ≡ files_written command.now) }
+{
+    let rows = read_files(alloc, folder, files_read(command), InputRows::new(alloc))?;
+    joined_task(alloc, command, &rows)
+}

@@ -1,0 +1,2 @@
+pub mod HeadlineLaw
+pub mod FilesLaw

@@ -1,0 +1,121 @@
+-- What each command did, once it was done.
+use Rattle.std.proofs.Common.{◌≡◌, ◌≢◌, ℕ, List, refl, sym, ap, subst, ◌∙◌}
+use Rattle.std.specs.Prelude.{Option, Some, None, Result, Ok, Err}
+use Rattle.std.specs.Io.KnownBytes.{Appends}
+use Rattle.std.specs.Option.{option_map}
+use Rattle.desk_folder.specs.Outside.{Directories}
+use Rattle.desk_rules.specs.Least.{least}
+use Rattle.desk_rules.specs.Cost.{cost}
+use Rattle.desk_words.specs.declared.asked.Command.{Command}
+use Rattle.desk_words.specs.declared.asked.Command.TheVariants as command_is
+use Rattle.desk_words.specs.Commands.{Asking}
+use Rattle.desk_runs.specs.declared.refusal.Refusal.{Refusal}
+use Rattle.desk_runs.specs.Commands.{Ask, asks, asked_here}
+use Rattle.desk_runs.specs.Inputs.{Inputs}
+use Rattle.desk_runs.specs.Outcome.{Outcome}
+use Rattle.desk_runs.specs.Runs.{World, IsWritten}
+use Rattle.desk_runs.proofs.CausesLaw.{usage-only, run-asked}
+use Rattle.desk_text.specs.Rows.{◌>>=◌}
+use Rattle.desk_tasks.specs.Play.{Story}
+use Rattle.desk_tasks.specs.Judge.{Judged, verdict, verdict_report, rule_status, judged}
+use Rattle.desk_tasks.specs.Generate.{generation}
+use Rattle.desk_tasks.specs.Tasks.{Task, play, judge, generate, outcome}
+use Rattle.desk_tasks.proofs.HeadlineLaw.{has-headline}
+use Rattle.desk_story.specs.Story.{Rows, rows_of, story_of_rows, judged_of_rows, task_of_rows, task_of}
+use Rattle.desk_top.specs.Desk.{meaning, Runs, IsDone, IsReplayed, IsChecked, IsGenerated}
+
+-- ---- what is asked
+
+pub nothing-asked : (o : Option Asking) → option_map asks o ≡ None → o ≡ None
+nothing-asked None e = refl
+nothing-asked (Some a) e = absurd cc
+
+pub asked-run : (o : Option Asking) (asked : Asking) (before now : World) (code : ℕ) → o ≡ Some asked → Runs (option_map asks o) before now code → Runs (Some (asks asked)) before now code
+asked-run o asked before now code is run = subst (λ (o : Option Asking). Runs (option_map asks o) before now code) is run
+
+pub here-no-usage : (c : Command) (before now : World) (code : ℕ) → Runs (asked_here c) before now code → code ≢ 2
+here-no-usage c before now code run two = let none : asked_here c ≡ None = usage-only meaning (asked_here c) before now code run two in absurd cc
+
+-- ---- which task a command is set
+
+abbrev pub Read : Type 0
+Read = Result Rows Refusal
+
+played_task : (read : Result Story Refusal) (t : Task) → (read >>= (λ story. let r : Result Task Refusal = Ok (play story) in r)) ≡ Ok t → (s : Story) × (t ≡ play s)
+played_task (Ok s) t e = (s, let is : play s ≡ t = cc in sym is)
+played_task (Err r) t e = absurd cc
+
+judged_task : (read : Result Judged Refusal) (t : Task) → (read >>= (λ judged. let r : Result Task Refusal = Ok (judge judged) in r)) ≡ Ok t → (j : Judged) × (t ≡ judge j)
+judged_task (Ok j) t e = (j, let is : judge j ≡ t = cc in sym is)
+judged_task (Err r) t e = absurd cc
+
+replay_rows : (read : Read) (t : Task) → (read >>= task_of_rows command_is.Replay) ≡ Ok t → (s : Story) × (t ≡ play s)
+unfolding task_of_rows
+replay_rows (Ok rows) t e = played_task (story_of_rows rows) t e
+replay_rows (Err r) t e = absurd cc
+
+check_rows : (read : Read) (t : Task) → (read >>= task_of_rows command_is.Check) ≡ Ok t → (j : Judged) × (t ≡ judge j)
+unfolding task_of_rows
+check_rows (Ok rows) t e = judged_task (judged_of_rows rows) t e
+check_rows (Err r) t e = absurd cc
+
+gen_rows : (seed size : ℕ) (read : Read) (t : Task) → (read >>= task_of_rows (command_is.Gen seed size)) ≡ Ok t → t ≡ generate seed size
+unfolding task_of_rows
+gen_rows seed size (Ok rows) t e = let is : generate seed size ≡ t = cc in sym is
+gen_rows seed size (Err r) t e = absurd cc
+
+replay_task : (x : Inputs) (t : Task) → task_of command_is.Replay x ≡ Ok t → (s : Story) × (t ≡ play s)
+unfolding task_of
+replay_task x t e = replay_rows (rows_of command_is.Replay x) t e
+
+check_task : (x : Inputs) (t : Task) → task_of command_is.Check x ≡ Ok t → (j : Judged) × (t ≡ judge j)
+unfolding task_of
+check_task x t e = check_rows (rows_of command_is.Check x) t e
+
+gen_task : (seed size : ℕ) (x : Inputs) (t : Task) → task_of (command_is.Gen seed size) x ≡ Ok t → t ≡ generate seed size
+unfolding task_of
+gen_task seed size x t e = gen_rows seed size (rows_of (command_is.Gen seed size) x) t e
+
+-- a task that is another one
+done_as : (c : Command) (before now : World) (x : Inputs) (code : ℕ) (t : Task) (done : IsDone c before now x code) → done.task ≡ t → (task_of c x ≡ Ok t) × (code ≡ (outcome t).status) × IsWritten before now (outcome t).texts
+done_as c before now x code t done is = (
+  subst (λ (t : Task). task_of c x ≡ Ok t) is done.told,
+  subst (λ (t : Task). code ≡ (outcome t).status) is done.status,
+  subst (λ (t : Task). IsWritten before now (outcome t).texts) is done.written,
+)
+
+-- ---- replay
+
+pub replayed : (before now : World) (x : Inputs) (code : ℕ) → IsDone command_is.Replay before now x code → IsReplayed before now x
+replayed before now x code done =
+    let story = replay_task x done.task done.told in
+    let parts = done_as command_is.Replay before now x code (play story.0) done story.1 in
+    let held = has-headline before now story.0 (subst meaning.IsSound story.1 done.sound) parts.2 in
+    record { story = story.0; told = parts.0; history = held.history; headline = held.headline }
+
+-- ---- check
+
+verdict_status : (j : Judged) → (judged j).status ≡ rule_status (least j.day j.plan)
+unfolding verdict
+verdict_status j = refl
+
+verdict_reported : (before now : World) (j : Judged) → IsWritten before now (judged j).texts → Appends before.sink.written now.sink.written (verdict_report j.day (least j.day j.plan) (cost j.day j.plan))
+unfolding verdict
+verdict_reported before now j h = h
+
+pub checked : (before now : World) (x : Inputs) (code : ℕ) → IsDone command_is.Check before now x code → IsChecked before now x code
+checked before now x code done =
+    let j = check_task x done.task done.told in
+    let parts = done_as command_is.Check before now x code (judge j.0) done j.1 in
+    record { judged = j.0; told = parts.0; status = parts.1 ∙ verdict_status j.0; reported = verdict_reported before now j.0 parts.2 }
+
+-- ---- gen
+
+generated_status : (seed size : ℕ) → (generation seed size).status ≡ 0
+unfolding generation
+generated_status seed size = refl
+
+pub generated : (before now : World) (seed size : ℕ) (x : Inputs) (code : ℕ) → IsDone (command_is.Gen seed size) before now x code → IsGenerated before now seed size code
+generated before now seed size x code done =
+    let parts = done_as (command_is.Gen seed size) before now x code (generate seed size) done (gen_task seed size x done.task done.told) in
+    record { status = parts.1 ∙ generated_status seed size; written = parts.2 }

@@ -1,0 +1,37 @@
+-- The files of a generated day are written.
+use Rattle.std.proofs.Common.{◌≡◌, ℕ, true, List, refl, ap, ◌∙◌}
+use Rattle.std.specs.Prelude.{codes}
+use Rattle.folder_io.specs.Outputs.{FileText, files_of, are_different}
+use Rattle.desk_gen.specs.Generated.{generated, generated_files}
+use Rattle.desk_runs.specs.declared.ending.Ending.{Ending}
+use Rattle.desk_runs.specs.declared.ending.Ending.TheVariants as ending
+use Rattle.desk_runs.specs.Outcome.{Texts}
+use Rattle.desk_runs.specs.Runs.{World}
+use Rattle.desk_runs.specs.Writing.{PutsOutputs}
+use Rattle.desk_runs.specs.Finishing.{Completes}
+use Rattle.desk_runs.proofs.PutLaws.{all_done, ended_by}
+use Rattle.desk_runs.proofs.CompleteLaws.{completes-all, completes-short}
+use Rattle.desk_tasks.specs.Generate.{generation}
+use Rattle.desk_tasks.proofs.FilesLaw.{generated-files}
+
+-- these texts of files, and this report
+abbrev pub made : List FileText → List ℕ → Texts
+made files report = record { files = files; report = report }
+
+pub made-is : (seed size : ℕ) (files : List FileText) (report : List ℕ) → files ≡ generated seed size → report ≡ codes "written 13\n" → made files report ≡ (generation seed size).texts
+unfolding generation
+made-is seed size files report is told = ap (λ (fs : List FileText). made fs report) is ∙ ap (λ (r : List ℕ). made (generated seed size) r) told
+
+pub made-differ : (seed size : ℕ) (files : List FileText) → files ≡ generated seed size → are_different (files_of files) ≡ true
+unfolding generated
+made-differ seed size files is = ap (λ (fs : List FileText). are_different (files_of fs)) is
+
+status_is : (seed size : ℕ) → (generation seed size).status ≡ 0
+unfolding generation
+status_is seed size = refl
+
+pub made-all : (before now : World) (seed size : ℕ) (t : Texts) (ok : Unit {0}) → t ≡ (generation seed size).texts → PutsOutputs before now t (all_done ok) → Completes generated_files before now (generation seed size) ending.Done
+made-all before now seed size t ok is put = completes-all generated_files before now (generation seed size) t ending.Done ok (generated-files seed size) is (status_is seed size) put
+
+pub made-short : (before now : World) (seed size : ℕ) (t : Texts) (how : Ending) → t ≡ (generation seed size).texts → PutsOutputs before now t (ended_by how) → Completes generated_files before now (generation seed size) how
+made-short before now seed size t how is put = completes-short generated_files before now (generation seed size) t how (generated-files seed size) is put

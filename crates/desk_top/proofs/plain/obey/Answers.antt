@@ -1,0 +1,21 @@
+use Rattle.std.proofs.Common.{sym, subst}
+use Rattle.desk_runs.specs.declared.ending.Ending.{Ending}
+use Rattle.desk_runs.specs.Runs.{world}
+use Rattle.desk_runs.proofs.Composed.{here}
+use Rattle.desk_top.specs.Desk.{Obeys}
+use Rattle.desk_top.proofs.Obeyed.{obeyed-fault, obeyed-task}
+use Rattle.desk_top.proofs.plain.obey.Goals as goal
+
+pub returns-in-Err : goal.returns-in-Err
+returns-in-Err g c =
+    let outside = g.F.Folder.outside in
+    let sink = g.O.Sink.report c.args.out.now in
+    subst (λ (how : Ending). Obeys (here c.args.command.now) (world (outside c.args.folder.now) sink) (world (outside c.read_task.new.folder) sink) how) (sym c.from.ensures)
+    (obeyed-fault c.args.command.now (outside c.args.folder.now) (outside c.read_task.new.folder) sink c.in-Err.fault
+    c.read_task.ensures.only c.read_task.ensures.in_order c.in-Err.ensures.stops c.in-Err.ensures.cause c.in-Err.ensures.exact)
+
+pub returns : goal.returns
+returns g c =
+    let outside = g.F.Folder.outside in
+    obeyed-task c.args.command.now (outside c.args.folder.now) (outside c.read_task.new.folder) (outside c.do_task.new.folder) (g.O.Sink.report c.args.out.now) (g.O.Sink.report c.do_task.new.out)
+    c.in-Ok.task c.do_task.result c.read_task.ensures.only c.read_task.ensures.in_order c.in-Ok.ensures.read c.in-Ok.ensures.exact c.in-Ok.ensures.sound c.in-Ok.ensures.files c.do_task.ensures

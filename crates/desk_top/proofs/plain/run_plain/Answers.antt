@@ -1,0 +1,27 @@
+use Rattle.desk_runs.specs.Commands.{asked_here}
+use Rattle.desk_runs.specs.Runs.{world}
+use Rattle.desk_runs.proofs.Composed.{here}
+use Rattle.desk_runs.proofs.CausesLaw.{refused-of, fault-of, complete-of}
+use Rattle.desk_runs.proofs.DoneLaw.{done-of}
+use Rattle.desk_runs.proofs.StandingLaw.{read-of, told-last}
+use Rattle.desk_top.specs.Desk.{meaning}
+use Rattle.desk_top.proofs.Commands.{here-no-usage}
+use Rattle.desk_top.proofs.plain.run_plain.Goals as goal
+
+pub returns : goal.returns
+returns g c =
+    let command = c.args.command.now in
+    let before = world (g.F.Folder.outside c.args.folder.now) (g.O.Sink.report c.args.out.now) in
+    let now = world (g.F.Folder.outside c.told.new.folder) (g.O.Sink.report c.told.new.out) in
+    let code = c.told.result in
+    let run = c.told.ensures in
+    record {
+      runs = run;
+      no_usage = here-no-usage command before now code run;
+      done = done-of meaning (here command) before now code run;
+      read = read-of meaning (here command) before now code run;
+      refused = refused-of meaning (here command) before now code run;
+      fault = fault-of meaning (asked_here command) before now code run;
+      complete = complete-of meaning (here command) before now code run;
+      told_last = told-last meaning (asked_here command) before now code run;
+    }

@@ -1,0 +1,144 @@
+//! The commands, one after another on one thread, in directories that are named already.
+
+ghost use Rattle.std.specs.Prelude.{◌≡◌, ◌≢◌, ◌≤◌};
+ghost use Rattle.desk_runs.specs.declared.refusal.Refusal.{Refusal as Refused};
+ghost use Rattle.desk_runs.specs.Commands.{IsCommand, asked_here, files_read};
+ghost use Rattle.desk_runs.specs.Inputs.{Inputs, Tells};
+ghost use Rattle.desk_runs.specs.Runs.{world, AreRead, TellsEnd};
+ghost use Rattle.desk_runs.specs.Causes.{IsUnlessMemory, IsDoneAt, HasFault, IsFaultless};
+ghost use Rattle.desk_runs.specs.Finishing.{Completes};
+ghost use Rattle.desk_runs.proofs.Composed.{here};
+ghost use Rattle.desk_tasks.specs.Tasks.{outcome, files_for};
+ghost use Rattle.desk_story.specs.Facts.{as_task, CanBeDone};
+ghost use Rattle.desk_story.specs.Story.{task_of};
+ghost use Rattle.desk_top.specs.Desk.{Obeys, Runs, IsDone, IsRefused, IsReadable, Answers, IsToldLast};
+
+use crate::day::write_day;
+use desk_folder::{Folder, FolderFault, Sink};
+use desk_judge::judge_plan;
+use desk_replay::play_events;
+use desk_runs::{Ending, fault_text};
+use desk_story::{InputPlan, InputStory, InputTask, read_task};
+use desk_words::Command;
+use folder_io::put_report;
+use std::alloc::Global;
+
+// Does what the input asks for, and writes what it comes to.
+fn do_task<F: Folder, O: Sink>(
+    alloc: Global,
+    task: InputTask,
+    folder: &mut F,
+    out: &mut O,
+) -> Ending
+    requires { CanBeDone task }
+    ensures { Completes (files_for (as_task task)) (world (F.outside folder.old) (O.report out.old))
+        (world (F.outside folder.new) (O.report out.new)) (outcome (as_task task)) result }
+{
+    match task {
+        InputTask::Play(story) => {
+            let InputStory { inst, events } = story;
+            play_events(alloc, inst, events.as_slice(), folder, out)
+        }
+        InputTask::Judge(judged) => {
+            let InputPlan { inst, plan } = judged;
+            judge_plan(alloc, &inst, &plan, folder, out)
+        }
+        InputTask::Generate { seed, size } => write_day(alloc, seed, size, folder, out),
+    }
+}
+
+// Reads what a command asks for, and does it.
+fn obey<F: Folder, O: Sink>(
+    alloc: Global,
+    command: &Command,
+    folder: &mut F,
+    out: &mut O,
+) -> Ending
+    requires { IsCommand command.now }
+    ensures { Obeys (here command.now) (world (F.outside folder.old) (O.report out.old))
+        (world (F.outside folder.new) (O.report out.new)) result }
+{
+    match read_task(alloc, command, folder) {
+        Ok(task) => do_task(alloc, task, folder, out),
+        Err(fault) => Ending::from(fault),
+    }
+}
+
+/// Puts the line that tells why a run was not done, and answers the status.
+pub(crate) fn tell<O: Sink>(alloc: Global, ending: Ending, out: &mut O) -> u8
+    ensures { TellsEnd ending (O.report out.old) (O.report out.new) result }
+{
+    let Ok(line) = fault_text(alloc, &ending) else {
+        return 6;
+    };
+    match put_report(alloc, out, line.as_bytes()) {
+        Ok(()) | Err(FolderFault::Failed) => ending.status(),
+        Err(FolderFault::Memory) => 6,
+    }
+}
+
+// Reads what a command asks for, does it, and puts the line that tells why it was not done.
+fn told<F: Folder, O: Sink>(
+    alloc: Global,
+    command: &Command,
+    folder: &mut F,
+    out: &mut O,
+) -> u8
+    requires { IsCommand command.now }
+    ensures { Runs (asked_here command.now) (world (F.outside folder.old) (O.report out.old))
+        (world (F.outside folder.new) (O.report out.new)) result }
+{
+    let ending = obey(alloc, command, folder, out);
+    tell(alloc, ending, out)
+}
+
+/// Does what a command says, in the directories that the folder has, and answers the status.
+///
+/// 0: done, with a plan at the end where the command has one. 1: done, with no plan at the end. 3: the
+/// input is refused. 4: the folder failed to read a file. 5: the folder failed to write a file, or the sink
+/// to write the report. 6: memory ran out. 7: done, and the plan breaks a rule. From 3 to 6 a line in the
+/// report says why.
+pub fn run_plain<F: Folder, O: Sink>(
+    alloc: Global,
+    command: &Command,
+    folder: &mut F,
+    out: &mut O,
+) -> u8
+    requires { IsCommand command.now }
+    // How the run ended, the cause of each ending, and what was written by then. No directories are named.
+    ensures runs { Runs (asked_here command.now) (world (F.outside folder.old) (O.report out.old))
+        (world (F.outside folder.new) (O.report out.new)) result }
+    ensures no_usage { result ≢ 2 }
+
+    // 0, 1 and 7: the status, the files and the report of what the input asks for.
+    ensures done { (x : Inputs) → Tells (files_read command.now) (F.outside folder.old) x → IsDoneAt result →
+        IsDone command.now (world (F.outside folder.old) (O.report out.old))
+        (world (F.outside folder.new) (O.report out.new)) x result }
+
+    // At these each file that the command reads was read to its end.
+    ensures read { IsDoneAt result → AreRead (files_read command.now) (F.outside folder.old) (F.outside folder.new) }
+
+    // 3: the first refusal of the input is told, and no file is written.
+    ensures refused { (x : Inputs) → Tells (files_read command.now) (F.outside folder.old) x → result ≡ 3 →
+        IsRefused command.now (world (F.outside folder.old) (O.report out.old))
+        (world (F.outside folder.new) (O.report out.new)) x }
+
+    // 4 and 5: a call of the outside failed, on a file of the command.
+    ensures fault { 4 ≤ result → result ≤ 5 →
+        HasFault (asked_here command.now) (world (F.outside folder.old) (O.report out.old))
+        (world (F.outside folder.new) (O.report out.new)) result }
+
+    // Where no call failed, the input alone decides, unless memory runs out.
+    ensures complete { (x : Inputs) → Tells (files_read command.now) (F.outside folder.old) x →
+        IsFaultless (asked_here command.now) (world (F.outside folder.old) (O.report out.old))
+        (world (F.outside folder.new) (O.report out.new)) →
+        Answers command.now x result }
+
+    // From 3 to 6 the sink has got a beginning of the report, and the line of the fault, of which a rest is
+    // missing only at 6 and where the sink failed.
+    ensures told_last { (x : Inputs) → Tells (files_read command.now) (F.outside folder.old) x → 2 ≤ result →
+        IsToldLast (asked_here command.now) (world (F.outside folder.old) (O.report out.old))
+        (world (F.outside folder.new) (O.report out.new)) x result }
+{
+    told(alloc, command, folder, out)
+}

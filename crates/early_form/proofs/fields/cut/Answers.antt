@@ -1,5 +1,0 @@
-use Rattle.early_form.proofs.CutLemmas.{cut_at_place}
-use Rattle.early_form.proofs.fields.cut.Goals as goal
-
-pub returns-clause-exact : goal.returns-clause-exact
-returns-clause-exact c = cut_at_place c.args.at c.in_ok-place.place c.args.bytes.now c.split_at.result.0.now c.split_at.result.1.now c.in_ok-place.ensures c.split_at.ensures.front c.split_at.ensures.back

@@ -1,0 +1,52 @@
+-- What the lines of sol_itineraries.csv tell of each reservation.
+use Rattle.std.specs.Prelude.{ℕ, Bool, ◌==◌, List, [], map, sum_by, is_some, Result, Ok, Err, if◌then◌else◌}
+use Rattle.std.specs.List.{list_all, zip}
+use Rattle.std.specs.Map.{lookup}
+use Rattle.std.specs.BTreeMap.{insert_entry, is_at}
+use Rattle.desk_units.specs.declared.numbers.Cabin.{Cabin}
+use Rattle.desk_units.specs.declared.numbers.Leg.{Leg}
+use Rattle.desk_units.specs.declared.numbers.Res.{Res}
+use Rattle.file_rows.specs.declared.cause.Cause.{Cause}
+use Rattle.file_rows.specs.declared.cause.Cause.TheVariants.{Count}
+use Rattle.desk_data.specs.declared.row.Group.{Group}
+use Rattle.desk_data.specs.declared.info.ResInfo.{ResInfo}
+use Rattle.desk_data.specs.PlanRows.{path_cmp}
+use Rattle.desk_data.specs.Situation.{Situation, reservations_of}
+use Rattle.sol_rows.specs.declared.rows.PlannedGroup.{PlannedGroup}
+use Rattle.sol_join.specs.Told.{told_group}
+use Rattle.sol_join.specs.Telling.{Telling, entries_told}
+
+-- passengers by their paths, in the order of paths
+abbrev pub Passengers : Type 0
+Passengers = List (List (Leg × Cabin) × ℕ)
+
+-- whether there are passengers on a path
+abbrev pub has_path : List (Leg × Cabin) → Passengers → Bool
+has_path path passengers = is_some (lookup (is_at (path_cmp path)) passengers)
+
+-- a line puts passengers of its reservation on a path, at its place in their order, where no line before it has
+abbrev pub groups_telling : Situation → Telling PlannedGroup (Res × Group) Passengers
+groups_telling I = record {
+  number = λ line. line.line;
+  told = told_group I;
+  about = λ told. told.0.0;
+  none = [];
+  again = λ told passengers. has_path told.1.path passengers;
+  add = λ passengers told. insert_entry path_cmp passengers told.1.path told.1.count;
+}
+
+-- the passengers of each reservation, or the first line that is refused
+abbrev pub passengers_told : Situation → List PlannedGroup → Result (List Passengers) (ℕ × Cause)
+passengers_told I lines = entries_told (groups_telling I) (reservations_of I) lines
+
+-- the groups of passengers, in the order of their paths
+abbrev pub groups_in : Passengers → List Group
+groups_in passengers = map (λ on. record { count = on.1; path = on.0 }) passengers
+
+-- whether the groups of a reservation have all its passengers
+abbrev pub is_whole : ResInfo × List Group → Bool
+is_whole pair = sum_by (λ group. group.count) pair.1 == pair.0.count
+
+-- the groups, where those of each reservation have all its passengers
+unfoldable pub all_groups : Situation → List (List Group) → Result (List (List Group)) (ℕ × Cause)
+all_groups I groups = if list_all is_whole (zip I.parts.res groups) then Ok groups else Err (0, Count)

@@ -1,0 +1,50 @@
+-- The plan that two files tell.
+use Rattle.std.specs.Prelude.{◌≡◌, ℕ, List, map, Result, Ok, Err}
+use Rattle.file_rows.specs.declared.cause.Cause.{Cause}
+use Rattle.desk_text.specs.declared.fault.ReadFault.{ReadFault}
+use Rattle.desk_text.specs.declared.fault.ReadFault.TheVariants as read_fault
+use Rattle.desk_text.specs.Rows.{◌>>=◌}
+use Rattle.desk_folder.specs.declared.files.File.{File}
+use Rattle.desk_folder.specs.declared.files.File.TheVariants.{SolRotations, SolItineraries}
+use Rattle.desk_data.specs.PlanRows.{PlanRows}
+use Rattle.desk_data.specs.Situation.{Situation}
+use Rattle.desk_build.specs.declared.fault.BuildFault.{BuildFault}
+use Rattle.desk_build.specs.declared.fault.BuildFault.TheVariants.{Refused, Memory}
+use Rattle.sol_rows.specs.declared.rows.PlannedLeg.{PlannedLeg}
+use Rattle.sol_rows.specs.declared.rows.PlannedGroup.{PlannedGroup}
+use Rattle.sol_rows.specs.Legs.{rotation_rows}
+use Rattle.sol_rows.specs.Groups.{itinerary_rows}
+use Rattle.sol_join.specs.Legs.{rows_told, all_rows}
+use Rattle.sol_join.specs.Groups.{passengers_told, groups_in, all_groups}
+
+-- a refusal in this file
+abbrev pub in_file : {Given : Type 0} → File → Result Given (ℕ × Cause) → Result Given (File × ℕ × Cause)
+in_file file (Ok given) = Ok given
+in_file file (Err refusal) = Err (file, refusal)
+
+-- the plan of the rows: the lines of both files are tried, and then whether there are lines for all legs and all passengers
+unfoldable pub plan_told : Situation → List PlannedLeg → List PlannedGroup → Result PlanRows (File × ℕ × Cause)
+plan_told I legs groups = do
+  told ← in_file SolRotations (rows_told I legs)
+  parties ← in_file SolItineraries (passengers_told I groups)
+  each_leg ← in_file SolRotations (all_rows told)
+  each_party ← in_file SolItineraries (all_groups I (map groups_in parties))
+  Ok (record { rows = each_leg; groups = each_party })
+
+-- the plan of the two texts, or the first refusal: first of the grammars, and then of what the rows say
+unfoldable pub solution_of : Situation → List ℕ → List ℕ → Result PlanRows (File × ℕ × Cause)
+solution_of I rotations itineraries = do
+  legs ← in_file SolRotations (rotation_rows rotations)
+  groups ← in_file SolItineraries (itinerary_rows itineraries)
+  plan_told I legs groups
+
+-- a reader gives this value, or refuses that line of that file; out of memory may come at any time
+abbrev pub SolutionGives : {Answer Value : Type 0} → (Answer → Value) → Result Answer BuildFault → Result Value (File × ℕ × Cause) → Type 0
+SolutionGives value (Ok answer) told = told ≡ Ok (value answer)
+SolutionGives value (Err (Refused file line cause)) told = told ≡ Err (file, line, cause)
+SolutionGives value (Err Memory) told = Unit {0}
+
+-- the fault of a file
+abbrev pub fault_in : File → ReadFault → BuildFault
+fault_in file (read_fault.Refused line cause) = Refused file line cause
+fault_in file read_fault.Memory = Memory
