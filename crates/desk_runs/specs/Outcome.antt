@@ -2,9 +2,7 @@
 use Rattle.std.specs.Prelude.{ℕ, List, [], ◌∷◌, ◌++◌, codes, decimal}
 use Rattle.desk_folder.specs.Files.{file_name}
 use Rattle.folder_io.specs.Outputs.{FileText}
-use Rattle.file_rows.specs.Causes.{cause_name as row_cause_name}
-use Rattle.desk_runs.specs.declared.refusal.Cause.{Cause}
-use Rattle.desk_runs.specs.declared.refusal.Cause.TheVariants.{Form, Row}
+use Rattle.file_rows.specs.Causes.{cause_name}
 use Rattle.desk_runs.specs.declared.refusal.Refusal.{Refusal}
 use Rattle.desk_runs.specs.declared.ending.Ending.{Ending}
 use Rattle.desk_runs.specs.declared.ending.Ending.TheVariants as ending
@@ -22,11 +20,6 @@ pub record Texts : Type 0 where
 pub record Outcome : Type 0 where
   pub status : ℕ
   pub texts : Texts
-
--- a cause by its name
-abbrev pub cause_name : Cause → List ℕ
-cause_name Form = codes "Form"
-cause_name (Row cause) = row_cause_name cause
 
 -- the line of a refusal
 abbrev pub refusal_text : Refusal → List ℕ

@@ -2,7 +2,7 @@
 use Rattle.std.specs.Prelude.{ℕ, List, [], ◌∷◌, length, Option, Some, None, Result, Ok, Err, nat_lt, if◌then◌else◌}
 use Rattle.desk_folder.specs.declared.files.File.{File}
 use Rattle.desk_folder.specs.declared.files.File.TheVariants as file
-use Rattle.file_rows.specs.declared.cause.Cause.{Cause as RowCause}
+use Rattle.file_rows.specs.declared.cause.Cause.{Cause}
 use Rattle.file_rows.specs.declared.cause.Cause.TheVariants.{Size}
 use Rattle.file_rows.specs.Limits.{most_bytes, most_journal_bytes}
 use Rattle.desk_text.specs.Rows.{◌>>=◌, text_rows}
@@ -20,12 +20,10 @@ use Rattle.read_fleet.specs.Position.{position_row}
 use Rattle.build_tables.specs.declared.files.Files.{Files}
 use Rattle.desk_build.specs.Join.{built_of}
 use Rattle.journal_rows.specs.declared.rows.JournalRow.{JournalRow}
-use Rattle.early_form.specs.Journal.{rows_of_journal}
+use Rattle.journal_file.specs.Journal.{journal_rows_of}
 use Rattle.journal_join.specs.Join.{events_of}
 use Rattle.sol_rows.specs.Grammar.{refusal_in}
 use Rattle.sol_join.specs.Solution.{solution_of}
-use Rattle.desk_runs.specs.declared.refusal.Cause.{Cause}
-use Rattle.desk_runs.specs.declared.refusal.Cause.TheVariants.{Form, Row}
 use Rattle.desk_runs.specs.declared.refusal.Refusal.{Refusal}
 use Rattle.desk_words.specs.declared.asked.Command.{Command}
 use Rattle.desk_words.specs.declared.asked.Command.TheVariants as command_is
@@ -46,24 +44,13 @@ abbrev pub or_refused : {A Why Told : Type 0} → (Why → Told) → Result A Wh
 or_refused told (Ok x) = Ok x
 or_refused told (Err why) = Err (told why)
 
--- a line of a text file with its cause, and a line of the journal that is not in its form
-abbrev pub in_text : ℕ × RowCause → ℕ × Cause
-in_text at = (at.0, Row at.1)
-
-abbrev pub not_in_form : ℕ → ℕ × Cause
-not_in_form line = (line, Form)
-
 -- a line with its cause, told of a file
 abbrev pub in_file : File → ℕ × Cause → Refusal
 in_file file at = refusal file at.1 at.0
 
 -- a line of a file that does not fit the others
-abbrev pub not_joined : File × ℕ × RowCause → Refusal
-not_joined at = refusal at.0 (Row at.2) at.1
-
--- a line of the journal that gives no event on this day
-abbrev pub not_asked : ℕ × RowCause → Refusal
-not_asked at = refusal file.Journal (Row at.1) at.0
+abbrev pub not_joined : File × ℕ × Cause → Refusal
+not_joined at = refusal at.0 at.2 at.1
 
 -- ---- the rows of the files
 
@@ -103,70 +90,65 @@ abbrev pub byte_limit : File → ℕ
 byte_limit file.Journal = most_journal_bytes
 byte_limit other = most_bytes
 
--- why a file with more bytes is refused
-abbrev pub too_long : File → Cause
-too_long file.Journal = Form
-too_long other = Row Size
-
 -- a file whose lines are only tried
-abbrev pub unless_refused : Option (ℕ × RowCause) → Result (Unit {0}) (ℕ × RowCause)
+abbrev pub unless_refused : Option (ℕ × Cause) → Result (Unit {0}) (ℕ × Cause)
 unless_refused None = Ok tt
 unless_refused (Some refusal) = Err refusal
 
 -- the rows with those of one file more, by its grammar
 unfoldable pub with_rows : File → List ℕ → Rows → Result Rows (ℕ × Cause)
 with_rows file.Config bytes rows = do
-  config ← or_refused in_text (config_of bytes)
+  config ← config_of bytes
   Ok (record rows { files = record rows.files { config = config } })
 with_rows file.Flights bytes rows = do
-  flights ← or_refused in_text (text_rows most_bytes flight_row bytes)
+  flights ← text_rows most_bytes flight_row bytes
   Ok (record rows { files = record rows.files { flights = flights } })
 with_rows file.Rotations bytes rows = do
-  rotations ← or_refused in_text (text_rows most_bytes rotation_row bytes)
+  rotations ← text_rows most_bytes rotation_row bytes
   Ok (record rows { files = record rows.files { rotations = rotations } })
 with_rows file.Aircraft bytes rows = do
-  aircraft ← or_refused in_text (text_rows most_bytes aircraft_row bytes)
+  aircraft ← text_rows most_bytes aircraft_row bytes
   Ok (record rows { files = record rows.files { aircraft = aircraft } })
 with_rows file.Airports bytes rows = do
-  airports ← or_refused in_text (text_rows most_bytes airport_row bytes)
+  airports ← text_rows most_bytes airport_row bytes
   Ok (record rows { files = record rows.files { airports = airports } })
 with_rows file.Dist bytes rows = do
-  dist ← or_refused in_text (text_rows most_bytes dist_row bytes)
+  dist ← text_rows most_bytes dist_row bytes
   Ok (record rows { files = record rows.files { dist = dist } })
 with_rows file.Itineraries bytes rows = do
-  itineraries ← or_refused in_text (text_rows most_bytes itinerary_row bytes)
+  itineraries ← text_rows most_bytes itinerary_row bytes
   Ok (record rows { files = record rows.files { itineraries = itineraries } })
 with_rows file.Position bytes rows = do
-  position ← or_refused in_text (text_rows most_bytes position_row bytes)
+  position ← text_rows most_bytes position_row bytes
   Ok (record rows { files = record rows.files { position = position } })
 with_rows file.AltFlights bytes rows = do
-  alt_flights ← or_refused in_text (text_rows most_bytes orders.flight_row bytes)
+  alt_flights ← text_rows most_bytes orders.flight_row bytes
   Ok (record rows { files = record rows.files { alt_flights = alt_flights } })
 with_rows file.AltAircraft bytes rows = do
-  alt_aircraft ← or_refused in_text (text_rows most_bytes orders.aircraft_row bytes)
+  alt_aircraft ← text_rows most_bytes orders.aircraft_row bytes
   Ok (record rows { files = record rows.files { alt_aircraft = alt_aircraft } })
 with_rows file.AltAirports bytes rows = do
-  alt_airports ← or_refused in_text (text_rows most_bytes orders.airport_row bytes)
+  alt_airports ← text_rows most_bytes orders.airport_row bytes
   Ok (record rows { files = record rows.files { alt_airports = alt_airports } })
 with_rows file.Tariff bytes rows = do
-  tariff ← or_refused in_text (tariff_rows bytes)
+  tariff ← tariff_rows bytes
   Ok (record rows { files = record rows.files { tariff = record { rows = tariff } } })
 with_rows file.Feed bytes rows = do
-  feed ← or_refused in_text (feed_rows bytes)
+  feed ← feed_rows bytes
   Ok (record rows { files = record rows.files { feed = feed } })
 with_rows file.Journal bytes rows = do
-  journal ← or_refused not_in_form (rows_of_journal bytes)
+  journal ← journal_rows_of bytes
   Ok (record rows { journal = journal })
 with_rows file.SolRotations bytes rows = do
-  tried ← or_refused in_text (unless_refused (refusal_in file.SolRotations bytes))
+  tried ← unless_refused (refusal_in file.SolRotations bytes)
   Ok (record rows { plan_rotations = bytes })
 with_rows file.SolItineraries bytes rows = do
-  tried ← or_refused in_text (unless_refused (refusal_in file.SolItineraries bytes))
+  tried ← unless_refused (refusal_in file.SolItineraries bytes)
   Ok (record rows { plan_itineraries = bytes })
 
 -- the same for a file of any length: one of too many bytes is refused at line 0, whatever they are
 abbrev pub within_limit : File → List ℕ → Result Rows (ℕ × Cause) → Result Rows (ℕ × Cause)
-within_limit f bytes read = if nat_lt (byte_limit f) (length bytes) then Err (0, too_long f) else read
+within_limit f bytes read = if nat_lt (byte_limit f) (length bytes) then Err (0, Size) else read
 
 unfoldable pub read_as : File → List ℕ → Rows → Result Rows Refusal
 read_as f bytes rows = or_refused (in_file f) (within_limit f bytes (with_rows f bytes rows))
@@ -186,7 +168,7 @@ rows_of c x = read_all (files_read c) x no_rows
 unfoldable pub story_of_rows : Rows → Result Story Refusal
 story_of_rows rows = do
   built ← or_refused not_joined (built_of rows.files)
-  events ← or_refused not_asked (events_of built rows.journal)
+  events ← or_refused (in_file file.Journal) (events_of built rows.journal)
   Ok (record { day = built.inst; events = events })
 
 -- to judge: the files are joined, and then those of the plan; it is judged under the orders of all batches

@@ -1,16 +1,13 @@
-//! Why there is no story, and why a file gave no rows: the one way from a reader's fault to the ending of a
-//! run.
+//! Why the input sets no task: the one way from a reader's fault to the ending of a run.
 
 ghost use Rattle.std.specs.Prelude.{◌≡◌};
 ghost use Rattle.desk_story.specs.declared.fault.StoryFault.TheVariants as fault;
-ghost use Rattle.desk_story.specs.declared.fault.FileFault.TheVariants as of_file;
-ghost use Rattle.desk_story.specs.Faults.{row_fault, form_fault, build_fault, file_fault, story_end};
+ghost use Rattle.desk_story.specs.Faults.{read_fault, build_fault, story_end};
 
 use desk_build::BuildFault;
 use desk_folder::File;
-use desk_runs::{Cause, Ending, Refusal};
+use desk_runs::{Ending, Refusal};
 use desk_text::ReadFault;
-use early_form::FormFault;
 
 /// Why the input gave no story.
 #[derive(Clone, Copy, Debug, PartialEq, Eq)]
@@ -23,53 +20,16 @@ pub enum StoryFault {
     Memory,
 }
 
-/// Why the bytes of a file gave no rows.
-#[derive(Clone, Copy, Debug, PartialEq, Eq)]
-pub(crate) enum FileFault {
-    /// This line is refused.
-    Refused { line: u32, cause: Cause },
-    /// No memory could be had.
-    Memory,
-}
-
-impl FileFault {
-    /// The same, told of this file.
-    pub(crate) fn of(self, file: File) -> StoryFault
-        ensures { result ≡ file_fault file self }
+impl StoryFault {
+    /// The fault of the reader of this file.
+    pub(crate) fn of(file: File, fault: ReadFault) -> StoryFault
+        ensures { result ≡ read_fault file fault }
     {
-        match self {
-            FileFault::Refused { line, cause } => {
+        match fault {
+            ReadFault::Refused { line, cause } => {
                 StoryFault::Refused(Refusal { file, line, cause })
             }
-            FileFault::Memory => StoryFault::Memory,
-        }
-    }
-}
-
-impl From<ReadFault> for FileFault {
-    ghost from_gives = { λ fault e. e ≡ row_fault fault };
-
-    fn from(fault: ReadFault) -> FileFault {
-        match fault {
-            ReadFault::Refused { line, cause } => FileFault::Refused {
-                line,
-                cause: Cause::Row(cause),
-            },
-            ReadFault::Memory => FileFault::Memory,
-        }
-    }
-}
-
-impl From<FormFault> for FileFault {
-    ghost from_gives = { λ fault e. e ≡ form_fault fault };
-
-    fn from(fault: FormFault) -> FileFault {
-        match fault {
-            FormFault::Form { line } => FileFault::Refused {
-                line,
-                cause: Cause::Form,
-            },
-            FormFault::Memory => FileFault::Memory,
+            ReadFault::Memory => StoryFault::Memory,
         }
     }
 }
@@ -79,11 +39,9 @@ impl From<BuildFault> for StoryFault {
 
     fn from(fault: BuildFault) -> StoryFault {
         match fault {
-            BuildFault::Refused { file, line, cause } => StoryFault::Refused(Refusal {
-                file,
-                line,
-                cause: Cause::Row(cause),
-            }),
+            BuildFault::Refused { file, line, cause } => {
+                StoryFault::Refused(Refusal { file, line, cause })
+            }
             BuildFault::Memory => StoryFault::Memory,
         }
     }

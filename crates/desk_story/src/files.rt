@@ -5,7 +5,7 @@ ghost use Rattle.desk_folder.specs.declared.files.File.{File as AnyFile};
 ghost use Rattle.desk_folder.specs.Outside.{ReadsOnly};
 ghost use Rattle.folder_io.specs.Outputs.{is_among};
 ghost use Rattle.desk_runs.specs.Inputs.{Inputs, Tells};
-ghost use Rattle.desk_story.specs.Story.{byte_limit, too_long, read_as, read_all};
+ghost use Rattle.desk_story.specs.Story.{byte_limit, read_as, read_all};
 ghost use Rattle.desk_runs.specs.declared.refusal.Refusal.{Refusal as Refused};
 ghost use Rattle.desk_runs.specs.Reading.{IsRead, ReadsAmong, StopsAt};
 ghost use Rattle.desk_story.specs.Reading.{are_in_order, StopsAtFault, GivesRead, HasReadCause};
@@ -15,7 +15,7 @@ use crate::fault::StoryFault;
 use crate::rows::InputRows;
 use desk_folder::{File, Folder};
 use desk_runs::{Cause, Refusal};
-use file_rows::{Cause as RowCause, MOST_BYTES, MOST_JOURNAL_BYTES};
+use file_rows::{MOST_BYTES, MOST_JOURNAL_BYTES};
 use folder_io::{ReadEnd, read_file};
 use std::alloc::Global;
 
@@ -26,16 +26,6 @@ fn byte_limit(file: File) -> u32
     match file {
         File::Journal => MOST_JOURNAL_BYTES as u32,
         _ => MOST_BYTES as u32,
-    }
-}
-
-// Why a file with more bytes is refused.
-fn too_long(file: File) -> Cause
-    ensures { result ≡ too_long file }
-{
-    match file {
-        File::Journal => Cause::Form,
-        _ => Cause::Row(RowCause::Size),
     }
 }
 
@@ -61,17 +51,16 @@ fn read_one<F: Folder>(
         Err(ReadEnd::Failed) => return Err(StoryFault::ReadFault(file)),
         Err(ReadEnd::Memory) => return Err(StoryFault::Memory),
         Err(ReadEnd::Size) => {
-            let cause = too_long(file);
             return Err(StoryFault::Refused(Refusal {
                 file,
                 line: 0,
-                cause,
+                cause: Cause::Size,
             }));
         }
     };
     match rows.take(alloc, file, bytes) {
         Ok(()) => Ok(rows),
-        Err(fault) => Err(fault.of(file)),
+        Err(fault) => Err(StoryFault::of(file, fault)),
     }
 }
 

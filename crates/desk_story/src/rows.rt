@@ -5,11 +5,11 @@ ghost use Rattle.desk_story.specs.Story.{no_rows, with_rows};
 ghost use Rattle.desk_story.specs.Facts.{as_rows, AreInputRows};
 ghost use Rattle.desk_story.specs.Faults.{GivesRows};
 
-use crate::fault::FileFault;
 use desk_build::Files;
 use desk_folder::File;
+use desk_text::ReadFault;
+use journal_file::read_journal;
 use desk_units::{List, Minute, Tariff};
-use early_form::read_journal;
 use journal_rows::JournalRow;
 use read_alt::{read_alt_aircraft, read_alt_airports, read_alt_flights, read_feed};
 use read_fleet::{read_aircraft, read_position};
@@ -70,7 +70,7 @@ impl InputRows {
     /// refuses. Of the two files that tell a plan the bytes are kept, since their rows mean something on
     /// a day alone. After an error the rows are given up.
     #[tactic(auto, unfolding(crate::specs::Story::with_rows))]
-    pub(crate) fn take(&mut self, alloc: Global, file: File, kept: Vec<u8>) -> Result<(), FileFault>
+    pub(crate) fn take(&mut self, alloc: Global, file: File, kept: Vec<u8>) -> Result<(), ReadFault>
         requires facts { AreInputRows self.old }
         requires small { length kept.items < 2 ^ 32 }
         ensures exact { GivesRows result (with_rows file kept.items (as_rows self.old)) (as_rows self.new) }

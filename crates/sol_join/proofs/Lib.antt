@@ -1,0 +1,4 @@
+pub mod Chains
+pub mod TellingLemmas
+pub mod PathLemmas
+pub mod PlanLemmas

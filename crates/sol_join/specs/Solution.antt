@@ -20,7 +20,7 @@ use Rattle.sol_join.specs.Groups.{passengers_told, groups_in, all_groups}
 -- a refusal in this file
 abbrev pub in_file : {Given : Type 0} → File → Result Given (ℕ × Cause) → Result Given (File × ℕ × Cause)
 in_file file (Ok given) = Ok given
-in_file file (Err refusal) = Err (file, refusal)
+in_file file (Err refusal) = Err (file, refusal.0, refusal.1)
 
 -- the plan of the rows: the lines of both files are tried, and then whether there are lines for all legs and all passengers
 unfoldable pub plan_told : Situation → List PlannedLeg → List PlannedGroup → Result PlanRows (File × ℕ × Cause)

@@ -1,16 +1,88 @@
-//! Stub.
+//! The plan of the two files.
 
-ghost use Rattle.std.specs.Prelude.{◌≡◌, IfOk};
+ghost use Rattle.std.specs.Prelude.{◌≡◌, All, IfOk, map};
 ghost use Rattle.desk_data.specs.Valid.{IsPlanFor};
-ghost use Rattle.sol_join.specs.Solution.{SolutionGives, solution_of};
+ghost use Rattle.sol_rows.specs.Facts.{IsPlannedGroup};
+ghost use Rattle.sol_join.specs.Solution.{SolutionGives, fault_in, plan_told, solution_of};
 
+use crate::groups::{all_groups, groups_of, passengers_told};
+use crate::legs::{all_rows, rows_told};
+use day_names::DayNames;
 use desk_build::BuildFault;
-use desk_data::{Instance, Plan};
+use desk_data::{Group, Instance, Plan, Row};
+use desk_folder::File;
+use desk_text::ReadFault;
+use sol_rows::{PlannedGroup, PlannedLeg, read_planned_groups, read_planned_legs};
 use std::alloc::Global;
 
-/// Stub.
+/// A fault in this file.
+fn in_file(file: File, fault: ReadFault) -> BuildFault
+    ensures { result ≡ fault_in file fault }
+{
+    match fault {
+        ReadFault::Refused { line, cause } => BuildFault::Refused { file, line, cause },
+        ReadFault::Memory => BuildFault::Memory,
+    }
+}
+
+/// The rows and the groups that the lines tell, or the first refusal.
+#[tactic(auto, unfolding(crate::specs::Solution::plan_told))]
+fn plan_told(
+    alloc: Global,
+    inst: &Instance,
+    legs: &[PlannedLeg],
+    groups: &[PlannedGroup],
+) -> Result<(Vec<Row>, Vec<Vec<Group>>), BuildFault>
+    ensures { SolutionGives (λ told. record { rows = told.0.items; groups = map (λ of. of.items) told.1.items }) result (plan_told inst.now legs.now groups.now) }
+{
+    let names = DayNames::of(alloc, inst)?;
+    let rows = match rows_told(alloc, &names, inst.legs(), legs) {
+        Ok(rows) => rows,
+        Err(fault) => return Err(in_file(File::SolRotations, fault)),
+    };
+    let parties = match passengers_told(alloc, &names, inst.reservations(), groups) {
+        Ok(parties) => parties,
+        Err(fault) => return Err(in_file(File::SolItineraries, fault)),
+    };
+    let each_leg = match all_rows(alloc, rows.as_slice()) {
+        Ok(rows) => rows,
+        Err(fault) => return Err(in_file(File::SolRotations, fault)),
+    };
+    match all_groups(inst, groups_of(alloc, parties.as_slice())?) {
+        Ok(groups) => Ok((each_leg, groups)),
+        Err(fault) => Err(in_file(File::SolItineraries, fault)),
+    }
+}
+
+/// The plan that the lines tell, or the first refusal.
+fn plan_of(
+    alloc: Global,
+    inst: &Instance,
+    legs: &[PlannedLeg],
+    groups: &[PlannedGroup],
+) -> Result<Plan, BuildFault>
+    requires { All IsPlannedGroup groups.now }
+    ensures exact { SolutionGives (λ plan. plan) result (plan_told inst.now legs.now groups.now) }
+    ensures plan { IfOk result (λ plan. IsPlanFor inst.now plan) }
+{
+    let (rows, groups) = plan_told(alloc, inst, legs, groups)?;
+    Ok(Plan::of(rows, groups))
+}
+
+/// The plan that the bytes of sol_rotations.csv and of sol_itineraries.csv tell for a day. Lines may
+/// come in any order.
+///
+/// # Errors
+///
+/// `Refused` for the first refusal: in sol_rotations.csv by its grammar, then in sol_itineraries.csv
+/// by its own; then, line by line, the first file before the second, `Unknown` for a leg, an aircraft
+/// or a reservation that the day does not have, `Limit` for a departure at minute 52,500,000 or later
+/// or more than 8 legs, `Twice` for a leg, or a reservation and a path, that a line before it has;
+/// then `Missing` at line 0 of the first where no line is about a leg, and `Count` at line 0 of the
+/// second where the lines of a reservation have not all its passengers. `Memory` at any time.
+#[tactic(auto, unfolding(crate::specs::Solution::solution_of))]
 pub fn read_solution(
-    _alloc: Global,
+    alloc: Global,
     inst: &Instance,
     rotations: &[u8],
     itineraries: &[u8],
@@ -18,5 +90,13 @@ pub fn read_solution(
     ensures exact { SolutionGives (λ plan. plan) result (solution_of inst.now rotations.now itineraries.now) }
     ensures plan { IfOk result (λ plan. IsPlanFor inst.now plan) }
 {
-    Err(BuildFault::Memory)
+    let legs = match read_planned_legs(alloc, rotations) {
+        Ok(legs) => legs,
+        Err(fault) => return Err(in_file(File::SolRotations, fault)),
+    };
+    let groups = match read_planned_groups(alloc, itineraries) {
+        Ok(groups) => groups,
+        Err(fault) => return Err(in_file(File::SolItineraries, fault)),
+    };
+    plan_of(alloc, inst, legs.as_slice(), groups.as_slice())
 }

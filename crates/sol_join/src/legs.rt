@@ -1,0 +1,78 @@
+//! The rows of legs.
+
+ghost use Rattle.std.specs.Prelude.{◌≡◌, ◌<◌, length, is_some, slice_index_or, IfNone, IfOk, None};
+ghost use Rattle.std.specs.List.{list_all};
+ghost use Rattle.desk_text.specs.Rows.{Gives};
+ghost use Rattle.desk_data.specs.Situation.{legs_of};
+ghost use Rattle.sol_join.specs.Told.{told_leg};
+ghost use Rattle.sol_join.specs.Telling.{Adds, cause_of};
+ghost use Rattle.sol_join.specs.Legs.{all_rows, legs_telling, rows_told};
+
+use crate::told::told_leg;
+use day_names::DayNames;
+use desk_data::Row;
+use desk_text::ReadFault;
+use file_rows::Cause;
+use sol_rows::PlannedLeg;
+use std::alloc::Global;
+
+/// The rows that the lines give, by leg, or the first line that is refused.
+pub(crate) fn rows_told(
+    alloc: Global,
+    names: &DayNames<'_>,
+    legs: u32,
+    lines: &[PlannedLeg],
+) -> Result<Vec<Option<Row>>, ReadFault>
+    requires { legs ≡ legs_of names.now }
+    ensures { Gives (λ rows. rows.items) result (rows_told names.now lines.now) }
+{
+    let mut rows = vec![in alloc; None; legs as usize]?;
+    for line in lines {
+        if let Some(cause) = put_line(names, line, rows.as_mut_slice()) {
+            return Err(ReadFault::at(line.line, cause));
+        }
+    }
+    Ok(rows)
+}
+
+/// Gives the leg of a line its row, or tells why the line is refused.
+fn put_line(names: &DayNames<'_>, line: &PlannedLeg, rows: &mut [Option<Row>]) -> Option<Cause>
+    requires { length rows.old ≡ legs_of names.now }
+    ensures cause { result ≡ cause_of (λ told. is_some (slice_index_or rows.old told.0.0 None)) (told_leg names.now line.now) }
+    ensures within { IfOk (told_leg names.now line.now) (λ told. told.0.0 < legs_of names.now) }
+    ensures put { IfNone result (Adds (legs_telling names.now) (told_leg names.now line.now) rows.old rows.new) }
+{
+    match told_leg(names, line) {
+        Ok(told) => {
+            let place = told.0.0 as usize;
+            if rows[place].is_some() {
+                return Some(Cause::Twice);
+            }
+            rows[place] = Some(told.1);
+            None
+        }
+        Err(cause) => Some(cause),
+    }
+}
+
+/// The rows, where each leg has one.
+#[tactic(auto, unfolding(crate::specs::Legs::all_rows))]
+pub(crate) fn all_rows(alloc: Global, told: &[Option<Row>]) -> Result<Vec<Row>, ReadFault>
+    ensures { Gives (λ rows. rows.items) result (all_rows told.now) }
+{
+    if !have_rows(told) {
+        return Err(ReadFault::at(0, Cause::Missing));
+    }
+    let mut rows = Vec::with_capacity(alloc, told.len())?;
+    for row in told {
+        rows.push(row.unwrap_or(Row::Cancelled))?;
+    }
+    Ok(rows)
+}
+
+/// Whether each leg has a row.
+fn have_rows(told: &[Option<Row>]) -> bool
+    ensures { result ≡ list_all is_some told.now }
+{
+    told.iter().all(|row| row.is_some())
+}

@@ -1,0 +1,9 @@
+pub mod TextLemmas
+pub mod ValueLemmas
+pub mod LegRows
+pub mod GroupRows
+pub mod NameBack
+pub mod TellingBack
+pub mod LegsBack
+pub mod GroupsBack
+pub mod ReadBack

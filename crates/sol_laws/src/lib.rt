@@ -1,0 +1,10 @@
+//! A plan that is written is read as it was: the law of sol_text's files and sol_join's reader.
+//!
+//! `written_plans_read_back` has no code: its clause is the law. Names have to be plain, since a line that
+//! begins with `#` ends a file, and neither file may be longer than a file may be. It stands on `sol_text`
+//! and `sol_join`.
+#![tactic(auto)]
+
+mod back;
+
+pub use back::written_plans_read_back;
