@@ -30,7 +30,7 @@ RUNS = (
     (ROTATIONS.split("\n", 1)[1], ""),
     (ROTATIONS, "0,batch,0\n0,batch,1\n"),
 )
-OUTPUTS = ("sol_rotations.csv", "journal.csv")
+OUTPUTS = ("sol_rotations.csv", "sol_itineraries.csv", "journal.csv")
 
 
 def text_of(path):

@@ -15,7 +15,12 @@ import tempfile
 
 TOP = os.path.dirname(os.path.dirname(os.path.abspath(__file__)))
 DATA = os.path.join(TOP, "crates", "desk_rows", "data")
-WRITTEN = ("journal.csv", "sol_rotations.csv")
+SOLUTION = ("sol_rotations.csv", "sol_itineraries.csv")
+# all files, in file order
+FILES = (
+    "config.csv", "flights.csv", "rotations.csv", "aircraft.csv", "airports.csv", "dist.csv", "itineraries.csv",
+    "position.csv", "alt_flights.csv", "alt_aircraft.csv", "alt_airports.csv", "tariff.csv", "feed.csv", "journal.csv",
+) + SOLUTION
 ESCAPES = {b"n": b"\n", b"r": b"\r", b"t": b"\t"}
 
 
@@ -72,18 +77,31 @@ def change(day, before, words):
         sys.exit("no command: " + words)
 
 
+def directories_of(words):
+    """The words that name the input and the output, where there are as many as the command has."""
+    if words[:1] == ["gen"] and len(words) == 2:
+        return "", words[1]
+    return (words[1], words[2]) if len(words) == 3 else ("", "")
+
+
 def desk(day, words):
-    """What a run gives, and what it wrote."""
+    """What a run gives, and what it wrote. A check finds the files of the solution in its output directory."""
     words = ["" if word == "''" else word for word in words.split()]
-    if len(words) == 3 and words[1]:
-        os.rename(os.path.join(day, "in"), os.path.join(day, words[1]))
+    given, out = directories_of(words)
+    if words[:1] == ["check"] and out:
+        os.makedirs(os.path.join(day, out), exist_ok=True)
+        for name in SOLUTION:
+            if os.path.exists(os.path.join(day, "in", name)):
+                os.rename(os.path.join(day, "in", name), os.path.join(day, out, name))
+    if given:
+        os.rename(os.path.join(day, "in"), os.path.join(day, given))
+    stood = {name: read(os.path.join(day, out, name)) for name in FILES}
     done = subprocess.run([os.path.join(TOP, "desk")] + words, cwd=day, stdout=subprocess.PIPE)
-    out = os.path.join(day, words[2]) if len(words) == 3 else day
-    written = {name: read(os.path.join(out, name)) for name in WRITTEN}
+    texts = {name: read(os.path.join(day, out, name)) for name in FILES}
+    written = {name: texts[name] for name in FILES if texts[name] and texts[name] != stood[name]}
     told = b"status %d\n" % done.returncode + shown(done.stdout)
-    for name in WRITTEN:
-        if written[name]:
-            told += name.encode() + b":\n" + shown(written[name])
+    for name, text in written.items():
+        told += name.encode() + b":\n" + shown(text)
     return told, written
 
 
