@@ -73,18 +73,25 @@ def change(day, before, words):
         write(path, read(path) + b"".join(rows))
     elif verb == "take":
         write(path, before.get(name, b""))
-    else:
+    elif verb != "sizes":
         sys.exit("no command: " + words)
 
 
 def directories_of(words):
-    """The words that name the input and the output, where there are as many as the command has."""
-    if words[:1] == ["gen"] and len(words) == 2:
-        return "", words[1]
+    """The words that name the input and the output, where there are as many as the command has: of gen before its options."""
+    if words[:1] == ["gen"] and len(words) > 1:
+        return "", "" if words[1].startswith("-") else words[1]
     return (words[1], words[2]) if len(words) == 3 else ("", "")
 
 
-def desk(day, words):
+def file_told(name, text, sizes):
+    """A file that a run wrote: its text, or how many bytes it has."""
+    if sizes:
+        return b"%s: %d bytes\n" % (name.encode(), len(text))
+    return name.encode() + b":\n" + shown(text)
+
+
+def desk(day, words, sizes):
     """What a run gives, and what it wrote. A check finds the files of the solution in its output directory."""
     words = ["" if word == "''" else word for word in words.split()]
     given, out = directories_of(words)
@@ -101,7 +108,7 @@ def desk(day, words):
     written = {name: texts[name] for name in FILES if texts[name] and texts[name] != stood[name]}
     told = b"status %d\n" % done.returncode + shown(done.stdout)
     for name, text in written.items():
-        told += name.encode() + b":\n" + shown(text)
+        told += file_told(name, text, sizes)
     return told, written
 
 
@@ -126,7 +133,7 @@ def play(case, folder):
                 day = new_day(case, folder)
                 for words in changes:
                     change(day, before, words)
-                told, before = desk(day, line[len("$ ./desk"):])
+                told, before = desk(day, line[len("$ ./desk"):], "sizes" in changes)
             played += told if by_hand else given_below(lines, at + 1)
             changes = []
         elif line.startswith("$ "):

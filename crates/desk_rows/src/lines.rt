@@ -29,6 +29,8 @@ pub(crate) enum Command<'a> {
     Fail(Call, u64),
     /// `room NUMBER`: the sink takes so many bytes, and then fails
     Room(u64),
+    /// `sizes`: of each file that the run writes its number of bytes is told, and not its text
+    Sizes,
 }
 
 /// A line of a transcript.
@@ -118,6 +120,7 @@ fn command_of(words: &str) -> Option<Command<'_>> {
         "take" => Some(Command::Take(file_of(rest)?)),
         "fail" => fail_of(rest),
         "room" => Some(Command::Room(rest.parse().ok()?)),
+        "sizes" => Some(Command::Sizes),
         _ => None,
     }
 }

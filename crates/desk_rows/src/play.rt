@@ -36,6 +36,8 @@ struct Player {
     /// the texts of the next run that are changed
     changed: Texts,
     faults: Faults,
+    /// whether of each file that the next run writes its number of bytes is told, and not its text
+    sizes: bool,
     /// what the run before wrote
     written: Texts,
     runs: u64,
@@ -49,6 +51,7 @@ pub(crate) fn play(alloc: Global, day: Texts, transcript: &str) -> Result<Vec<u8
         day,
         changed: Vec::new(alloc),
         faults: no_faults(alloc),
+        sizes: false,
         written: Vec::new(alloc),
         runs: 0,
         played: Vec::new(alloc),
@@ -126,6 +129,10 @@ impl Player {
                 self.faults.room = room as usize;
                 Ok(())
             }
+            Command::Sizes => {
+                self.sizes = true;
+                Ok(())
+            }
         }
     }
 
@@ -183,12 +190,23 @@ impl Player {
         for file in ALL {
             let text = folder.written(file);
             if !text.is_empty() {
-                self.push(file.name())?;
-                self.push(":\n")?;
-                self.push_text(text)?;
+                self.push_file(file, text)?;
             }
         }
+        self.sizes = false;
         self.written = written_texts(self.alloc, folder, &ALL)?;
         Ok(())
+    }
+
+    // Adds a file that was written: its name, and its text or how many bytes that has.
+    fn push_file(&mut self, file: File, text: &[u8]) -> Result<(), AllocError> {
+        self.push(file.name())?;
+        if self.sizes {
+            let bytes = text.len();
+            let told = format!(in self.alloc; ": {bytes} bytes\n")?;
+            return self.push(told.as_str());
+        }
+        self.push(":\n")?;
+        self.push_text(text)
     }
 }
