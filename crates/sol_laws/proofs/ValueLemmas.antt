@@ -115,10 +115,10 @@ unfolding year_from
 year_back y lt = rw (digits_back 4 y (omega arith) lt) refl
 
 no_slash : (n : ℕ) → AllByRecursion (λ b. eqb b 47 ≡ false) (two_digits n)
-no_slash n = (ne_eqb (48 + n / 10) 47 (λ e. omega (arith, e)), ne_eqb (48 + n % 10) 47 (λ e. omega (arith, e)), tt)
+no_slash n = (ne_eqb (48 + n / 10) 47 (λ e. omega (arith, e)), (ne_eqb (48 + n % 10) 47 (λ e. omega (arith, e)), tt))
 
 no_colon : (n : ℕ) → n < 100 → AllByRecursion (λ b. eqb b 58 ≡ false) (two_digits n)
-no_colon n lt = (ne_eqb (48 + n / 10) 58 (λ e. omega (arith, e, lt)), ne_eqb (48 + n % 10) 58 (λ e. omega (arith, e)), tt)
+no_colon n lt = (ne_eqb (48 + n / 10) 58 (λ e. omega (arith, e, lt)), (ne_eqb (48 + n % 10) 58 (λ e. omega (arith, e)), tt))
 
 pub date_back : (day : ℕ) → day < 36525 → date_of (date_text day) ≡ Ok day
 unfolding date_text
@@ -134,7 +134,7 @@ date_back day lt =
     (digits_back 2 d (omega arith) fit.0) (digits_back 2 m (omega arith) fit.1) (year_back y (two_digit_year day lt)) (reads_back day lt))
 
 two_seen : (n : ℕ) → n < 100 → AllByRecursion IsSeenByte (two_digits n)
-two_seen n lt = ((omega arith, omega (arith, lt)), (omega arith, omega arith), tt)
+two_seen n lt = ((omega arith, omega (arith, lt)), ((omega arith, omega arith), tt))
 
 pub date_field : (day : ℕ) → day < 36525 → IsField (date_text day)
 unfolding date_text
@@ -143,7 +143,7 @@ date_field day lt =
     let d = two_seen (day_in_month day) fit.0 in
     let m = two_seen (month_of day) fit.1 in
     let y = two_seen (year_of day) (two_digit_year day lt) in
-    record { some = omega arith; seen = (d.0, d.1, (omega arith, omega arith), m.0, m.1, (omega arith, omega arith), y) }
+    record { some = omega arith; seen = (d.0, (d.1.0, ((omega arith, omega arith), (m.0, (m.1.0, ((omega arith, omega arith), y)))))) }
 
 -- ---- times
 
@@ -181,7 +181,7 @@ unfolding time_text
 time_field minute lt =
     let h = two_seen (minute / 60) (omega (arith, lt)) in
     let m = two_seen (minute % 60) (omega arith) in
-    record { some = omega arith; seen = (h.0, h.1, (omega arith, omega arith), m) }
+    record { some = omega arith; seen = (h.0, (h.1.0, ((omega arith, omega arith), m))) }
 
 pub moment_back : (at : ℕ) → at < 52596000 → moment_of (date_text (at / 1440)) (time_text (at % 1440)) ≡ Ok (record { 0 = at })
 unfolding moment_of
