@@ -1,33 +1,29 @@
 -- The text of a plan's itineraries is read as its groups, by their names.
-use Rattle.std.proofs.Common.{◌≡◌, ℕ, zero, suc, ◌+◌, ◌*◌, ◌%◌, ◌<◌, ◌≤◌, Bool, true, false, cond, ◌&&◌, eqb, List, [], ◌∷◌, ◌++◌, length, map, get_or, Option, Some, None, Result, Ok, Err, refl, sym, ap, subst, ◌∙◌, arith, append_assoc, codes}
+use Rattle.std.proofs.Common.{◌≡◌, ℕ, suc, ◌*◌, ◌%◌, ◌<◌, ◌≤◌, Bool, true, false, cond, List, [], ◌∷◌, ◌++◌, length, map, get_or, Ok, Err, refl, sym, ap, subst, ◌∙◌, arith, append_assoc, codes}
 use Rattle.std.specs.Prelude.{decimal}
-use Rattle.std.specs.List.{AllByRecursion, All, flat_map, zip}
+use Rattle.std.specs.List.{AllByRecursion, flat_map, zip}
 use Rattle.std.proofs.lemmas.Bool.{eq-eqb}
 use Rattle.std.proofs.lemmas.List.Concat.{flat_map-cons}
-use Rattle.std.proofs.lemmas.List.Elements.{recursion_from_All}
 use Rattle.std.proofs.lemmas.Grind.{flat_map-append}
 use Rattle.desk_units.specs.Padded.{IsNameLength}
 use Rattle.desk_units.specs.declared.numbers.Cabin.{Cabin}
 use Rattle.desk_units.specs.declared.numbers.Cabin.TheVariants as cabin
 use Rattle.desk_units.specs.declared.numbers.Leg.{Leg}
-use Rattle.file_rows.specs.declared.cause.Cause.{Cause}
 use Rattle.file_rows.specs.declared.cause.Cause.TheVariants as causes
 use Rattle.file_rows.specs.declared.passengers.LegRow.{LegRow}
-use Rattle.desk_text.specs.Fields.{name_of, date_of, number_of, inbound_of, cabin_of}
-use Rattle.desk_text.specs.Lines.{is_last, fields}
+use Rattle.desk_text.specs.Fields.{inbound_of, cabin_of}
+use Rattle.desk_text.specs.Lines.{is_last}
 use Rattle.desk_text.specs.Texts.{date_text}
-use Rattle.desk_data.specs.declared.info.LegInfo.{LegInfo}
 use Rattle.desk_data.specs.declared.info.ResInfo.{ResInfo}
 use Rattle.desk_data.specs.declared.row.Group.{Group}
 use Rattle.desk_data.specs.PlanRows.{PlanRows}
-use Rattle.desk_data.specs.Situation.{Situation, legs_of, leg_at, no_leg}
-use Rattle.desk_data.specs.Valid.{IsSeen, IsValid, IsPathOf, IsPlanFor}
+use Rattle.desk_data.specs.Situation.{Situation, legs_of, leg_at}
+use Rattle.desk_data.specs.Valid.{IsSeen}
 use Rattle.read_pax.specs.Itineraries.{leg_of, legs_of as seats_of, before_all}
 use Rattle.sol_rows.specs.declared.rows.PlannedGroup.{PlannedGroup}
 use Rattle.sol_rows.specs.Groups.{whole_groups, planned_group, itinerary_rows}
 use Rattle.sol_text.specs.Itineraries.{cabin_text, direction_text, seat_text, group_line, group_lines, itineraries_text}
-use Rattle.sol_laws.specs.Plain.{AreNames, ArePlain}
-use Rattle.sol_laws.proofs.TextLemmas.{IsSeenByte, IsField, IsLine, seen_from, spaced, after_space, fields_of_spaced, spaced_line, Reads, numbered, text_of, text_reads}
+use Rattle.sol_laws.proofs.TextLemmas.{IsField, seen_from, spaced, after_space, fields_of_spaced, spaced_line, Reads, numbered, text_reads}
 use Rattle.sol_laws.proofs.ValueLemmas.{date_back, date_field, number_back, number_field}
 use Rattle.sol_laws.proofs.LegRows.{name_field, name_back, spaced_then}
 

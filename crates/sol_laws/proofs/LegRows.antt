@@ -1,30 +1,26 @@
 -- The text of a plan's rotations is read as its rows, by their names.
-use Rattle.std.proofs.Common.{◌≡◌, ℕ, zero, suc, ◌+◌, ◌/◌, ◌%◌, ◌<◌, ◌≤◌, Bool, true, false, cond, ◌&&◌, leb, List, [], ◌∷◌, ◌++◌, length, get_or, Option, Some, None, Result, Ok, Err, refl, sym, ap, subst, ◌∙◌, arith, append_assoc, codes}
-use Rattle.std.specs.List.{AllByRecursion, All, flat_map, zip}
+use Rattle.std.proofs.Common.{◌≡◌, ℕ, ◌/◌, ◌%◌, ◌<◌, ◌≤◌, false, cond, leb, List, [], ◌∷◌, ◌++◌, length, Option, Some, None, Ok, Err, refl, sym, ap, subst, ◌∙◌, arith, append_assoc, codes}
+use Rattle.std.specs.List.{AllByRecursion, flat_map, zip}
 use Rattle.std.proofs.lemmas.Bool.{le-leb, and_from}
 use Rattle.std.proofs.lemmas.List.Concat.{flat_map-cons}
 use Rattle.std.proofs.lemmas.List.Elements.{recursion_from_All}
 use Rattle.desk_units.specs.Padded.{IsNameLength}
-use Rattle.desk_units.specs.declared.numbers.Minute.{Minute}
-use Rattle.file_rows.specs.declared.cause.Cause.{Cause}
 use Rattle.file_rows.specs.declared.cause.Cause.TheVariants as causes
-use Rattle.desk_text.specs.Fields.{name_of, date_of}
+use Rattle.desk_text.specs.Fields.{name_of}
 use Rattle.desk_text.specs.Lines.{is_last, fields}
-use Rattle.desk_text.specs.Moments.{moment_of}
 use Rattle.desk_text.specs.Texts.{date_text, time_text}
 use Rattle.desk_data.specs.declared.info.LegInfo.{LegInfo}
-use Rattle.desk_data.specs.declared.info.PlaneInfo.{PlaneInfo}
 use Rattle.desk_data.specs.declared.row.Row.{Row}
 use Rattle.desk_data.specs.declared.row.Row.TheVariants.{Flown, Cancelled}
 use Rattle.desk_data.specs.PlanRows.{PlanRows}
 use Rattle.desk_data.specs.Situation.{Situation, planes_of, plane_at, no_plane}
-use Rattle.desk_data.specs.Valid.{IsSeen, IsValid, IsLeg, IsPlane, IsRowOf, IsPlanFor}
+use Rattle.desk_data.specs.Valid.{IsSeen, IsValid, IsLeg, IsRowOf, IsPlanFor}
 use Rattle.sol_rows.specs.declared.rows.PlannedFlight.{PlannedFlight}
 use Rattle.sol_rows.specs.declared.rows.PlannedLeg.{PlannedLeg}
 use Rattle.sol_rows.specs.Legs.{departure_of, flown_of, planned_leg, rotation_rows}
 use Rattle.sol_text.specs.Rotations.{row_text, rotation_line, rotations_text}
 use Rattle.sol_laws.specs.Plain.{AreNames, ArePlain}
-use Rattle.sol_laws.proofs.TextLemmas.{IsSeenByte, IsField, IsLine, seen_from, spaced, after_space, fields_of_spaced, spaced_line, Reads, numbered, text_of, text_reads}
+use Rattle.sol_laws.proofs.TextLemmas.{IsSeenByte, IsField, seen_from, spaced, after_space, fields_of_spaced, spaced_line, Reads, numbered, text_reads}
 use Rattle.sol_laws.proofs.ValueLemmas.{date_back, date_field, moment_back, time_field}
 
 -- ---- names

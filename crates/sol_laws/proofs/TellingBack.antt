@@ -1,7 +1,6 @@
 -- Lines that tell one new thing after another are all read.
-use Rattle.std.proofs.Common.{◌≡◌, ℕ, zero, suc, ◌+◌, ◌<◌, ◌≤◌, Bool, true, false, cond, List, [], ◌∷◌, ◌++◌, length, drop, get_or, set, replicate, Option, Some, None, Result, Ok, Err, refl, sym, ap, subst, ◌∙◌, arith}
+use Rattle.std.proofs.Common.{◌≡◌, ℕ, zero, suc, ◌+◌, ◌<◌, ◌≤◌, false, cond, List, [], ◌∷◌, ◌++◌, length, drop, get_or, set, replicate, Some, None, Ok, refl, sym, ap, subst, ◌∙◌, arith}
 use Rattle.std.specs.Prelude.{IfOk}
-use Rattle.file_rows.specs.declared.cause.Cause.{Cause}
 use Rattle.file_rows.specs.declared.cause.Cause.TheVariants.{Twice}
 use Rattle.sol_join.specs.Telling.{Telling, Adds, cause_of, entries_told}
 use Rattle.sol_join.proofs.TellingLemmas.{AreAfter, begins, goes_on, ends}

@@ -1,7 +1,7 @@
 -- A written text has the lines that were written, and these have their fields.
-use Rattle.std.proofs.Common.{◌≡◌, ℕ, zero, suc, ◌+◌, ◌-◌, ◌<◌, ◌≤◌, inl, inr, Bool, true, false, cond, not, ◌&&◌, ◌||◌, eqb, leb, ltb, List, [], ◌∷◌, ◌++◌, length, take, drop, get_or, Option, Some, None, Result, Ok, Err, refl, sym, ap, subst, ◌∙◌, arith, append_assoc, option_map, position}
+use Rattle.std.proofs.Common.{◌≡◌, ℕ, zero, suc, ◌+◌, ◌-◌, ◌<◌, ◌≤◌, inl, inr, Bool, true, false, cond, not, ◌&&◌, ◌||◌, eqb, leb, ltb, List, [], ◌∷◌, ◌++◌, length, take, drop, get_or, Option, Some, None, Result, Ok, Err, refl, sym, ap, ◌∙◌, arith, append_assoc, option_map, position}
 use Rattle.std.specs.Prelude.{filter}
-use Rattle.std.specs.List.{AllByRecursion, All, prefix_len, list_all, slice_split, flat_map}
+use Rattle.std.specs.List.{AllByRecursion, prefix_len, list_all, flat_map}
 use Rattle.std.specs.Str.Lines.{strip_carriage_return}
 use Rattle.std.proofs.Math.Seq.{take-append_seam, drop-append-add}
 use Rattle.std.proofs.lemmas.Bool.{lt-ltb, le-leb, ne_eqb, eq-eqb, and_from, and_parts, leb-true, cases_eq}
@@ -11,8 +11,8 @@ use Rattle.std.proofs.lemmas.List.Elements.{All-from_recursion}
 use Rattle.std.proofs.lemmas.List.Splits.{slice_split_none}
 use Rattle.file_rows.specs.declared.cause.Cause.{Cause}
 use Rattle.file_rows.specs.declared.cause.Cause.TheVariants as causes
-use Rattle.desk_text.specs.Cuts.{cut_where, cut, line_then}
-use Rattle.desk_text.specs.Lines.{is_blank, is_text, is_full, is_last, fields, lines_from, text_lines}
+use Rattle.desk_text.specs.Cuts.{cut_where}
+use Rattle.desk_text.specs.Lines.{is_blank, is_text, is_full, is_last, fields, lines_from}
 use Rattle.desk_text.specs.Rows.{◌>>=◌, RowOf, line_row, at_line, rows_of_lines, text_rows}
 use Rattle.desk_text.proofs.FieldLemmas.{field_cut}
 use Rattle.desk_text.proofs.LineLemmas.{lines_cut, no_lines}

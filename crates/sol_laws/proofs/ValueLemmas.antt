@@ -1,20 +1,19 @@
 -- Written numbers, days and moments read back.
-use Rattle.std.proofs.Common.{◌≡◌, ℕ, zero, suc, ◌+◌, ◌-◌, ◌*◌, ◌/◌, ◌%◌, ◌<◌, ◌≤◌, ◌^◌, Bool, true, false, cond, ◌&&◌, eqb, leb, ltb, List, [], ◌∷◌, ◌++◌, length, get_or, Option, Some, None, Result, Ok, Err, refl, sym, ap, subst, ◌∙◌, arith}
+use Rattle.std.proofs.Common.{◌≡◌, ℕ, zero, suc, ◌+◌, ◌-◌, ◌*◌, ◌/◌, ◌%◌, ◌<◌, ◌≤◌, Bool, true, false, cond, ◌&&◌, eqb, leb, ltb, List, [], ◌∷◌, ◌++◌, length, get_or, Option, Some, None, Ok, refl, ap, ◌∙◌, arith}
 use Rattle.std.specs.Prelude.{fold, decimal, ok_or}
 use Rattle.std.specs.List.{AllByRecursion, list_all}
 use Rattle.std.specs.Char.{is_ascii_digit, digit_value}
-use Rattle.std.specs.Str.Parse.{AllDigits, digits_value_after, digits_value}
+use Rattle.std.specs.Str.Parse.{AllDigits, digits_value_after}
 use Rattle.std.proofs.lemmas.Bool.{le-leb, lt-ltb, leb-true, and_parts, and_from, ne_eqb}
 use Rattle.std.proofs.lemmas.Fmt.{decimal_is_IsNumeral, decimal_nonempty, length-decimal-le}
 use Rattle.std.proofs.lemmas.Str.{digit_value_digit}
 use Rattle.std.proofs.lemmas.Str.Parse.{digit_from_value}
 use Rattle.desk_units.specs.declared.numbers.Minute.{Minute}
-use Rattle.file_rows.specs.declared.cause.Cause.{Cause}
 use Rattle.file_rows.specs.declared.cause.Cause.TheVariants as causes
 use Rattle.desk_text.specs.Cuts.{cut}
-use Rattle.desk_text.specs.Days.{is_leap, month_lengths, days_before, day_of}
+use Rattle.desk_text.specs.Days.{is_leap, month_lengths, day_of}
 use Rattle.desk_text.specs.Texts.{year_of, month_of, day_in_month, two_digits, date_text, time_text}
-use Rattle.desk_text.specs.Fields.{decimal_value, digits_of, number_from, number_of, year_from, day_from, date_of, minutes_from, minutes_and_days, minute_from, time_of}
+use Rattle.desk_text.specs.Fields.{decimal_value, digits_of, number_from, number_of, year_from, day_from, date_of, minutes_from, minutes_and_days, minute_from}
 use Rattle.desk_text.specs.Moments.{minute_of, moment_of}
 use Rattle.desk_text.proofs.DateLemmas.{reads_back, two_digit_year}
 use Rattle.sol_laws.proofs.TextLemmas.{IsSeenByte, IsField, cut_behind}
