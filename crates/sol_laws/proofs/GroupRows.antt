@@ -1,33 +1,29 @@
 -- The text of a plan's itineraries is read as its groups, by their names.
-use Rattle.std.proofs.Common.{◌≡◌, ℕ, zero, suc, ◌+◌, ◌*◌, ◌%◌, ◌<◌, ◌≤◌, Bool, true, false, cond, ◌&&◌, eqb, List, [], ◌∷◌, ◌++◌, length, map, get_or, Option, Some, None, Result, Ok, Err, refl, sym, ap, subst, ◌∙◌, arith, append_assoc, codes}
+use Rattle.std.proofs.Common.{◌≡◌, ℕ, suc, ◌*◌, ◌%◌, ◌<◌, ◌≤◌, Bool, true, false, cond, List, [], ◌∷◌, ◌++◌, length, map, get_or, Ok, Err, refl, sym, ap, subst, ◌∙◌, arith, append_assoc, codes}
 use Rattle.std.specs.Prelude.{decimal}
-use Rattle.std.specs.List.{AllByRecursion, All, flat_map, zip}
+use Rattle.std.specs.List.{AllByRecursion, flat_map, zip}
 use Rattle.std.proofs.lemmas.Bool.{eq-eqb}
 use Rattle.std.proofs.lemmas.List.Concat.{flat_map-cons}
-use Rattle.std.proofs.lemmas.List.Elements.{recursion_from_All}
 use Rattle.std.proofs.lemmas.Grind.{flat_map-append}
 use Rattle.desk_units.specs.Padded.{IsNameLength}
 use Rattle.desk_units.specs.declared.numbers.Cabin.{Cabin}
 use Rattle.desk_units.specs.declared.numbers.Cabin.TheVariants as cabin
 use Rattle.desk_units.specs.declared.numbers.Leg.{Leg}
-use Rattle.file_rows.specs.declared.cause.Cause.{Cause}
 use Rattle.file_rows.specs.declared.cause.Cause.TheVariants as causes
 use Rattle.file_rows.specs.declared.passengers.LegRow.{LegRow}
-use Rattle.desk_text.specs.Fields.{name_of, date_of, number_of, inbound_of, cabin_of}
-use Rattle.desk_text.specs.Lines.{is_last, fields}
+use Rattle.desk_text.specs.Fields.{inbound_of, cabin_of}
+use Rattle.desk_text.specs.Lines.{is_last}
 use Rattle.desk_text.specs.Texts.{date_text}
-use Rattle.desk_data.specs.declared.info.LegInfo.{LegInfo}
 use Rattle.desk_data.specs.declared.info.ResInfo.{ResInfo}
 use Rattle.desk_data.specs.declared.row.Group.{Group}
 use Rattle.desk_data.specs.PlanRows.{PlanRows}
-use Rattle.desk_data.specs.Situation.{Situation, legs_of, leg_at, no_leg}
-use Rattle.desk_data.specs.Valid.{IsSeen, IsValid, IsPathOf, IsPlanFor}
+use Rattle.desk_data.specs.Situation.{Situation, legs_of, leg_at}
+use Rattle.desk_data.specs.Valid.{IsSeen}
 use Rattle.read_pax.specs.Itineraries.{leg_of, legs_of as seats_of, before_all}
 use Rattle.sol_rows.specs.declared.rows.PlannedGroup.{PlannedGroup}
 use Rattle.sol_rows.specs.Groups.{whole_groups, planned_group, itinerary_rows}
 use Rattle.sol_text.specs.Itineraries.{cabin_text, direction_text, seat_text, group_line, group_lines, itineraries_text}
-use Rattle.sol_laws.specs.Plain.{AreNames, ArePlain}
-use Rattle.sol_laws.proofs.TextLemmas.{IsSeenByte, IsField, IsLine, spaced, fields_of_spaced, spaced_line, Reads, numbered, text_of, text_reads}
+use Rattle.sol_laws.proofs.TextLemmas.{IsField, seen_from, spaced, after_space, fields_of_spaced, spaced_line, Reads, numbered, text_reads}
 use Rattle.sol_laws.proofs.ValueLemmas.{date_back, date_field, number_back, number_field}
 use Rattle.sol_laws.proofs.LegRows.{name_field, name_back, spaced_then}
 
@@ -53,7 +49,7 @@ path_is I field (pair ∷ path) =
     let rest = flat_map (seat_text I) path in
     ap (λ (text : List ℕ). field ++ text)
     (flat_map-cons (seat_text I) pair path
-    ∙ ap (λ (text : List ℕ). 32 ∷ text) (append_assoc flight (32 ∷ (date ++ 32 ∷ cabin)) rest ∙ ap (λ (text : List ℕ). flight ++ 32 ∷ text) (append_assoc date (32 ∷ cabin) rest))
+    ∙ ap (λ (text : List ℕ). 32 ∷ text) (after_space (flight ++ (32 ∷ []) ++ date) cabin rest ∙ after_space flight date (32 ∷ (cabin ++ rest)))
     ∙ ap (λ (text : List ℕ). 32 ∷ (flight ++ 32 ∷ (date ++ 32 ∷ text))) (path_is I cabin path))
 
 abbrev pub party_line : Situation → ResInfo × Group → List ℕ
@@ -65,7 +61,11 @@ line_is I res group =
     let way = direction_text res.inbound in
     let count = decimal group.count in
     let seats = path_fields I group.path in
-    ap (λ (text : List ℕ). res.name ++ 32 ∷ (way ++ 32 ∷ text)) (sym (append_assoc count (flat_map (seat_text I) group.path) (10 ∷ [])) ∙ ap (λ (text : List ℕ). text ++ 10 ∷ []) (path_is I count group.path))
+    let path = flat_map (seat_text I) group.path in
+    append_assoc (res.name ++ (32 ∷ []) ++ way ++ (32 ∷ []) ++ count) path (10 ∷ [])
+    ∙ after_space (res.name ++ (32 ∷ []) ++ way) count (path ++ 10 ∷ [])
+    ∙ after_space res.name way (32 ∷ (count ++ (path ++ 10 ∷ [])))
+    ∙ ap (λ (text : List ℕ). res.name ++ 32 ∷ (way ++ 32 ∷ text)) (sym (append_assoc count (flat_map (seat_text I) group.path) (10 ∷ [])) ∙ ap (λ (text : List ℕ). text ++ 10 ∷ []) (path_is I count group.path))
     ∙ sym (spaced_then res.name way (count ∷ seats) (10 ∷ []) ∙ ap (λ (text : List ℕ). res.name ++ 32 ∷ text) (spaced_then way count seats (10 ∷ [])))
 
 -- the groups of all reservations, one behind the other, each with its reservation
@@ -124,23 +124,23 @@ cabin_back cabin.B = refl
 cabin_back cabin.E = refl
 
 cabin_field : (c : Cabin) → IsField (cabin_text c)
-cabin_field cabin.F = record { some = omega arith; seen = search rules }
-cabin_field cabin.B = record { some = omega arith; seen = search rules }
-cabin_field cabin.E = record { some = omega arith; seen = search rules }
+cabin_field cabin.F = record { some = omega arith; seen = seen_from (codes "F") refl }
+cabin_field cabin.B = record { some = omega arith; seen = seen_from (codes "B") refl }
+cabin_field cabin.E = record { some = omega arith; seen = seen_from (codes "E") refl }
 
 way_back : (inbound : Bool) → inbound_of (direction_text inbound) ≡ Ok inbound
 way_back false = refl
 way_back true = refl
 
 way_field : (inbound : Bool) → IsField (direction_text inbound)
-way_field false = record { some = omega arith; seen = search rules }
-way_field true = record { some = omega arith; seen = search rules }
+way_field false = record { some = omega arith; seen = seen_from (codes "A") refl }
+way_field true = record { some = omega arith; seen = seen_from (codes "R") refl }
 
 path_fits : (I : Situation) (path : List (Leg × Cabin)) → KnownLegs I → AllByRecursion (λ (seat : Leg × Cabin). seat.0.0 < legs_of I) path → AllByRecursion IsField (path_fields I path)
 path_fits I [] legs all = tt
 path_fits I (pair ∷ path) legs all =
     let known = legs pair.0.0 all.0 in
-    (name_field (leg_at I pair.0.0).flight known.0 known.1, date_field (leg_at I pair.0.0).day known.2, cabin_field pair.1, path_fits I path legs all.1)
+    (name_field (leg_at I pair.0.0).flight known.0 known.1, (date_field (leg_at I pair.0.0).day known.2, (cabin_field pair.1, path_fits I path legs all.1)))
 
 path_back : (I : Situation) (path : List (Leg × Cabin)) → KnownLegs I → AllByRecursion (λ (seat : Leg × Cabin). seat.0.0 < legs_of I) path → seats_of (path_fields I path) ≡ Ok (map (seat_row I) path)
 unfolding seats_of leg_of
@@ -163,7 +163,7 @@ unfolding planned_group
 line_reads I pair told =
     let others = direction_text pair.0.inbound ∷ decimal pair.1.count ∷ path_fields I pair.1.path in
     let name = name_field pair.0.name told.size told.seen in
-    let fit : AllByRecursion IsField others = (way_field pair.0.inbound, number_field pair.1.count told.most, path_fits I pair.1.path told.legs told.path) in
+    let fit : AllByRecursion IsField others = (way_field pair.0.inbound, (number_field pair.1.count told.most, path_fits I pair.1.path told.legs told.path)) in
     record {
       is_line = spaced_line pair.0.name others name told.plain fit;
       reads = λ n.

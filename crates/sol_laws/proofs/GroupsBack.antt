@@ -1,30 +1,28 @@
 -- The groups of a plan's itineraries, by their names, are joined to the plan's groups.
-use Rattle.std.proofs.Common.{◌≡◌, ℕ, zero, suc, ◌+◌, ◌<◌, ◌≤◌, Bool, true, false, cond, ◌&&◌, eqb, leb, List, [], ◌∷◌, ◌++◌, length, map, drop, get_or, set, replicate, Option, Some, None, Result, Ok, Err, refl, sym, ap, subst, ◌∙◌, arith, append_assoc}
-use Rattle.std.specs.Prelude.{is_some, ok_or, sum_by}
-use Rattle.std.specs.List.{AllByRecursion, All, AllPairs, list_all, zip}
+use Rattle.std.proofs.Common.{◌≡◌, ℕ, suc, ◌+◌, ◌<◌, ◌≤◌, true, false, cond, List, [], ◌∷◌, ◌++◌, length, map, drop, get_or, set, replicate, Some, Ok, Err, refl, sym, ap, subst, ◌∙◌, arith, append_assoc}
+use Rattle.std.specs.Prelude.{is_some, sum_by}
+use Rattle.std.specs.List.{AllByRecursion, AllPairs, list_all, zip}
 use Rattle.std.specs.Map.{lookup}
 use Rattle.std.specs.BTreeMap.{insert_entry, is_at}
+use Rattle.std.specs.Cmp.{IsTotalOrder}
 use Rattle.std.specs.Ordering.{is_eq, match_ordering, ordering_reverse}
-use Rattle.std.specs.declared.cmp.Ordering.{Ordering}
-use Rattle.std.specs.declared.cmp.Ordering.TheVariants.{Less, Equal, Greater}
+use Rattle.std.specs.declared.cmp.Ordering.TheVariants.{Less, Greater}
 use Rattle.std.proofs.lemmas.Bool.{le-leb, eq-eqb, and_from}
-use Rattle.std.proofs.lemmas.List.{length-append, length-map, map-append}
+use Rattle.std.proofs.lemmas.Cmp.{nat_cmp_total, on_total, then_total, lists_total}
+use Rattle.std.proofs.lemmas.List.{length-append, map-append}
 use Rattle.desk_units.specs.declared.numbers.Cabin.{Cabin}
 use Rattle.desk_units.specs.declared.numbers.Leg.{Leg}
 use Rattle.desk_units.specs.declared.numbers.Res.{Res}
-use Rattle.file_rows.specs.declared.cause.Cause.{Cause}
 use Rattle.file_rows.specs.declared.cause.Cause.TheVariants as cause
-use Rattle.desk_text.specs.Rows.{◌>>=◌}
 use Rattle.desk_data.specs.declared.info.ResInfo.{ResInfo}
 use Rattle.desk_data.specs.declared.row.Group.{Group}
+use Rattle.desk_units.specs.Ranks.{cabin_rank}
 use Rattle.desk_data.specs.PlanRows.{path_cmp}
 use Rattle.desk_data.specs.Situation.{Situation, legs_of, reservations_of, res_at, no_res}
 use Rattle.desk_data.specs.Valid.{AreDistinct}
-use Rattle.sol_rows.specs.declared.rows.PlannedGroup.{PlannedGroup}
 use Rattle.sol_rows.specs.Groups.{planned_group}
 use Rattle.sol_join.specs.Told.{seat_of, path_of, group_of, told_group}
 use Rattle.sol_join.specs.Groups.{Passengers, has_path, groups_telling, passengers_told, groups_in, is_whole, all_groups}
-use Rattle.sol_join.proofs.PlanLemmas.{path_total}
 use Rattle.sol_laws.proofs.TextLemmas.{numbered}
 use Rattle.sol_laws.proofs.GroupRows.{seat_row, party_line, group_told, with_res, parties}
 use Rattle.sol_laws.proofs.NameBack.{leg_back, res_back}
@@ -39,6 +37,9 @@ passengers_of groups = map (λ group. (group.path, group.count)) groups
 -- a path that comes before another
 abbrev ComesBefore : List (Leg × Cabin) → List (Leg × Cabin) × ℕ → Type 0
 ComesBefore path on = path_cmp on.0 path ≡ Less
+
+path_total : IsTotalOrder path_cmp
+path_total = lists_total (then_total (on_total (λ (pair : Leg × Cabin). pair.0.0) nat_cmp_total) (on_total (λ (pair : Leg × Cabin). cabin_rank pair.1) nat_cmp_total))
 
 after : (a b : List (Leg × Cabin)) → path_cmp a b ≡ Less → path_cmp b a ≡ Greater
 after a b less = path_total.antisymm b a ∙ ap ordering_reverse less

@@ -1,30 +1,26 @@
 -- The text of a plan's rotations is read as its rows, by their names.
-use Rattle.std.proofs.Common.{◌≡◌, ℕ, zero, suc, ◌+◌, ◌/◌, ◌%◌, ◌<◌, ◌≤◌, Bool, true, false, cond, ◌&&◌, leb, List, [], ◌∷◌, ◌++◌, length, get_or, Option, Some, None, Result, Ok, Err, refl, sym, ap, subst, ◌∙◌, arith, append_assoc, codes}
-use Rattle.std.specs.List.{AllByRecursion, All, flat_map, zip}
+use Rattle.std.proofs.Common.{◌≡◌, ℕ, ◌/◌, ◌%◌, ◌<◌, ◌≤◌, false, cond, leb, List, [], ◌∷◌, ◌++◌, length, Option, Some, None, Ok, Err, refl, sym, ap, subst, ◌∙◌, arith, append_assoc, codes}
+use Rattle.std.specs.List.{AllByRecursion, flat_map, zip}
 use Rattle.std.proofs.lemmas.Bool.{le-leb, and_from}
 use Rattle.std.proofs.lemmas.List.Concat.{flat_map-cons}
 use Rattle.std.proofs.lemmas.List.Elements.{recursion_from_All}
 use Rattle.desk_units.specs.Padded.{IsNameLength}
-use Rattle.desk_units.specs.declared.numbers.Minute.{Minute}
-use Rattle.file_rows.specs.declared.cause.Cause.{Cause}
 use Rattle.file_rows.specs.declared.cause.Cause.TheVariants as causes
-use Rattle.desk_text.specs.Fields.{name_of, date_of}
+use Rattle.desk_text.specs.Fields.{name_of}
 use Rattle.desk_text.specs.Lines.{is_last, fields}
-use Rattle.desk_text.specs.Moments.{moment_of}
 use Rattle.desk_text.specs.Texts.{date_text, time_text}
 use Rattle.desk_data.specs.declared.info.LegInfo.{LegInfo}
-use Rattle.desk_data.specs.declared.info.PlaneInfo.{PlaneInfo}
 use Rattle.desk_data.specs.declared.row.Row.{Row}
 use Rattle.desk_data.specs.declared.row.Row.TheVariants.{Flown, Cancelled}
 use Rattle.desk_data.specs.PlanRows.{PlanRows}
 use Rattle.desk_data.specs.Situation.{Situation, planes_of, plane_at, no_plane}
-use Rattle.desk_data.specs.Valid.{IsSeen, IsValid, IsLeg, IsPlane, IsRowOf, IsPlanFor}
+use Rattle.desk_data.specs.Valid.{IsSeen, IsValid, IsLeg, IsRowOf, IsPlanFor}
 use Rattle.sol_rows.specs.declared.rows.PlannedFlight.{PlannedFlight}
 use Rattle.sol_rows.specs.declared.rows.PlannedLeg.{PlannedLeg}
 use Rattle.sol_rows.specs.Legs.{departure_of, flown_of, planned_leg, rotation_rows}
 use Rattle.sol_text.specs.Rotations.{row_text, rotation_line, rotations_text}
 use Rattle.sol_laws.specs.Plain.{AreNames, ArePlain}
-use Rattle.sol_laws.proofs.TextLemmas.{IsSeenByte, IsField, IsLine, spaced, fields_of_spaced, spaced_line, Reads, numbered, text_of, text_reads}
+use Rattle.sol_laws.proofs.TextLemmas.{IsSeenByte, IsField, seen_from, spaced, after_space, fields_of_spaced, spaced_line, Reads, numbered, text_reads}
 use Rattle.sol_laws.proofs.ValueLemmas.{date_back, date_field, moment_back, time_field}
 
 -- ---- names
@@ -54,7 +50,11 @@ abbrev pub leg_line : Situation → LegInfo × Row → List ℕ
 leg_line I pair = spaced pair.0.flight (date_text pair.0.day ∷ row_field I pair.1 ∷ departure_fields pair.1)
 
 row_is : (I : Situation) (row : Row) → row_text I row ≡ spaced (row_field I row) (departure_fields row)
-row_is I (Flown plane dep) = refl
+row_is I (Flown plane dep) =
+    let name = (plane_at I plane.0).name in
+    let date = date_text (dep.0 / 1440) in
+    let time = time_text (dep.0 % 1440) in
+    append_assoc name (32 ∷ []) (date ++ (32 ∷ []) ++ time) ∙ ap (λ (text : List ℕ). name ++ 32 ∷ text) (append_assoc date (32 ∷ []) time)
 row_is I Cancelled = refl
 
 line_is : (I : Situation) (leg : LegInfo) (row : Row) → rotation_line I leg row ≡ leg_line I (leg, row) ++ 10 ∷ []
@@ -63,7 +63,9 @@ line_is I leg row =
     let date = date_text leg.day in
     let first = row_field I row in
     let others = departure_fields row in
-    ap (λ (text : List ℕ). leg.flight ++ 32 ∷ (date ++ 32 ∷ (text ++ 10 ∷ []))) (row_is I row)
+    after_space (leg.flight ++ (32 ∷ []) ++ date) (row_text I row) (10 ∷ [])
+    ∙ after_space leg.flight date (32 ∷ (row_text I row ++ 10 ∷ []))
+    ∙ ap (λ (text : List ℕ). leg.flight ++ 32 ∷ (date ++ 32 ∷ (text ++ 10 ∷ []))) (row_is I row)
     ∙ sym (spaced_then leg.flight date (first ∷ others) (10 ∷ []) ∙ ap (λ (text : List ℕ). leg.flight ++ 32 ∷ text) (spaced_then date first others (10 ∷ [])))
 
 lines_are : (I : Situation) (pairs : List (LegInfo × Row)) → flat_map (λ pair. rotation_line I pair.0 pair.1) pairs ≡ flat_map (λ pair. leg_line I pair ++ 10 ∷ []) pairs
@@ -93,13 +95,13 @@ pub record IsTold (I : Situation) (pair : LegInfo × Row) : Type 0 where
   pub planes : (p : ℕ) → p < planes_of I → IsNameLength (length (plane_at I p).name) × IsSeen (plane_at I p).name
 
 cancelled_field : IsField (codes "cancelled")
-cancelled_field = record { some = omega arith; seen = search rules }
+cancelled_field = record { some = omega arith; seen = seen_from (codes "cancelled") refl }
 
 row_fields_fit : (I : Situation) (row : Row) → IsRowOf (planes_of I) row → ((p : ℕ) → p < planes_of I → IsNameLength (length (plane_at I p).name) × IsSeen (plane_at I p).name) → IsField (row_field I row) × AllByRecursion IsField (departure_fields row)
 row_fields_fit I (Flown plane dep) is planes =
     let known = planes plane.0 is.0 in
     let early = is.1 in
-    (name_field (plane_at I plane.0).name known.0 known.1, date_field (dep.0 / 1440) (omega (arith, early)), time_field (dep.0 % 1440) (omega arith), tt)
+    (name_field (plane_at I plane.0).name known.0 known.1, (date_field (dep.0 / 1440) (omega (arith, early)), (time_field (dep.0 % 1440) (omega arith), tt)))
 row_fields_fit I Cancelled is planes = (cancelled_field, tt)
 
 flown_back : (I : Situation) (row : Row) → IsRowOf (planes_of I) row → ((p : ℕ) → p < planes_of I → IsNameLength (length (plane_at I p).name) × IsSeen (plane_at I p).name)
@@ -127,9 +129,9 @@ line_reads I pair told =
     let row = row_fields_fit I pair.1 told.row told.planes in
     let departure = departure_there pair.1 in
     let cut : fields (leg_line I pair) ≡ pair.0.flight ∷ date_text pair.0.day ∷ row_field I pair.1 ∷ departure_fields pair.1 =
-    fields_of_spaced pair.0.flight (date_text pair.0.day ∷ row_field I pair.1 ∷ departure_fields pair.1) flight (date, row.0, row.1) in
+    fields_of_spaced pair.0.flight (date_text pair.0.day ∷ row_field I pair.1 ∷ departure_fields pair.1) flight (date, (row.0, row.1)) in
     record {
-      is_line = spaced_line pair.0.flight (date_text pair.0.day ∷ row_field I pair.1 ∷ departure_fields pair.1) flight told.plain (date, row.0, row.1);
+      is_line = spaced_line pair.0.flight (date_text pair.0.day ∷ row_field I pair.1 ∷ departure_fields pair.1) flight told.plain (date, (row.0, row.1));
       reads = λ n.
           ap (planned_leg n) cut
           ∙ rw departure.1 (rw (name_back pair.0.flight told.size) (rw (date_back pair.0.day told.day) (rw (flown_back I pair.1 told.row told.planes departure.0 departure.1) refl)));

@@ -1,5 +1,5 @@
 -- A written plan reads back.
-use Rattle.std.proofs.Common.{◌≡◌, ℕ, zero, suc, ◌<◌, ◌≤◌, List, [], ◌∷◌, length, map, get_or, Some, Result, Ok, Err, refl, sym, ap, subst, ◌∙◌, arith}
+use Rattle.std.proofs.Common.{◌≡◌, ℕ, zero, suc, ◌<◌, ◌≤◌, List, [], ◌∷◌, length, map, get_or, Some, Ok, refl, sym, ap, subst, ◌∙◌, arith}
 use Rattle.std.specs.Prelude.{sum_by}
 use Rattle.std.specs.List.{AllByRecursion, All, AllPairs}
 use Rattle.std.proofs.lemmas.List.Elements.{recursion_from_All}
@@ -7,29 +7,22 @@ use Rattle.std.proofs.lemmas.List.Sums.{sum_by-cons}
 use Rattle.std.specs.declared.cmp.Ordering.TheVariants.{Less}
 use Rattle.desk_units.specs.declared.numbers.Cabin.{Cabin}
 use Rattle.desk_units.specs.declared.numbers.Leg.{Leg}
-use Rattle.file_rows.specs.declared.cause.Cause.{Cause}
-use Rattle.desk_text.specs.Rows.{◌>>=◌}
-use Rattle.desk_folder.specs.declared.files.File.{File}
-use Rattle.desk_folder.specs.declared.files.File.TheVariants.{SolRotations, SolItineraries}
 use Rattle.desk_data.specs.declared.row.Group.{Group}
 use Rattle.desk_data.specs.declared.info.ResInfo.{ResInfo}
 use Rattle.desk_data.specs.PlanRows.{PlanRows, IsGroup, AreGroups, groups_at, path_cmp}
-use Rattle.desk_data.specs.Situation.{Situation, legs_of, planes_of, reservations_of, leg_at, res_at, no_leg, no_res}
-use Rattle.desk_data.specs.Valid.{IsValid, IsPathOf, IsRowOf, AreGroupsOf, IsPlanFor}
+use Rattle.desk_data.specs.Situation.{Situation, legs_of, planes_of, reservations_of, no_leg, no_res}
+use Rattle.desk_data.specs.Valid.{IsValid, IsPathOf, IsRowOf, IsPlanFor}
 use Rattle.sol_rows.specs.declared.rows.PlannedLeg.{PlannedLeg}
 use Rattle.sol_rows.specs.declared.rows.PlannedGroup.{PlannedGroup}
-use Rattle.sol_rows.specs.Legs.{planned_leg, rotation_rows}
-use Rattle.sol_rows.specs.Groups.{planned_group, itinerary_rows}
 use Rattle.sol_text.specs.Rotations.{rotations_text}
 use Rattle.sol_text.specs.Itineraries.{itineraries_text}
-use Rattle.sol_join.specs.Legs.{rows_told, all_rows}
-use Rattle.sol_join.specs.Groups.{Passengers, passengers_told, groups_in, all_groups}
-use Rattle.sol_join.specs.Solution.{in_file, plan_told, solution_of}
+use Rattle.sol_join.specs.Legs.{rows_told}
+use Rattle.sol_join.specs.Groups.{passengers_told, groups_in, all_groups}
+use Rattle.sol_join.specs.Solution.{plan_told, solution_of}
 use Rattle.sol_laws.specs.Plain.{AreNames, ArePlain}
-use Rattle.sol_laws.proofs.TextLemmas.{numbered}
-use Rattle.sol_laws.proofs.LegRows.{leg_line, leg_told, rotations_read}
+use Rattle.sol_laws.proofs.LegRows.{rotations_read}
 use Rattle.sol_laws.proofs.LegsBack.{rows_back, all_rows_back}
-use Rattle.sol_laws.proofs.GroupRows.{party_line, group_told, parties, KnownLegs, AreKnown, itineraries_read}
+use Rattle.sol_laws.proofs.GroupRows.{KnownLegs, AreKnown, itineraries_read}
 use Rattle.sol_laws.proofs.GroupsBack.{passengers_of, IsKnown, parties_back, all_again, all_groups_back}
 
 -- an element that is there is so whatever stands for one that is not

@@ -1,18 +1,18 @@
 -- Lines that tell one new thing after another are all read.
-use Rattle.std.proofs.Common.{◌≡◌, ℕ, zero, suc, ◌+◌, ◌<◌, ◌≤◌, Bool, true, false, cond, List, [], ◌∷◌, ◌++◌, length, drop, get_or, set, replicate, Option, Some, None, Result, Ok, Err, refl, sym, ap, subst, ◌∙◌, arith}
+use Rattle.std.proofs.Common.{◌≡◌, ℕ, zero, suc, ◌+◌, ◌<◌, ◌≤◌, false, cond, List, [], ◌∷◌, ◌++◌, length, drop, get_or, set, replicate, Some, None, Ok, refl, sym, ap, subst, ◌∙◌, arith}
 use Rattle.std.specs.Prelude.{IfOk}
-use Rattle.file_rows.specs.declared.cause.Cause.{Cause}
+use Rattle.file_rows.specs.declared.cause.Cause.TheVariants.{Twice}
 use Rattle.sol_join.specs.Telling.{Telling, Adds, cause_of, entries_told}
 use Rattle.sol_join.proofs.TellingLemmas.{AreAfter, begins, goes_on, ends}
 
 -- an element behind others
-pub get_behind : {X : Type 0} (as : List X) (b : X) (bs : List X) (d : X) → get_or (as ++ b ∷ bs) (length as) d ≡ b
+pub get_behind : {X : Type 0} (front : List X) (b : X) (bs : List X) (d : X) → get_or (front ++ b ∷ bs) (length front) d ≡ b
 get_behind [] b bs d = refl
-get_behind (a ∷ as) b bs d = get_behind as b bs d
+get_behind (a ∷ front) b bs d = get_behind front b bs d
 
-pub set_behind : {X : Type 0} (as : List X) (b c : X) (bs : List X) → set (as ++ b ∷ bs) (length as) c ≡ as ++ c ∷ bs
+pub set_behind : {X : Type 0} (front : List X) (b c : X) (bs : List X) → set (front ++ b ∷ bs) (length front) c ≡ front ++ c ∷ bs
 set_behind [] b c bs = refl
-set_behind (a ∷ as) b c bs = ap (λ xs. a ∷ xs) (set_behind as b c bs)
+set_behind (a ∷ front) b c bs = ap (λ xs. a ∷ xs) (set_behind front b c bs)
 
 -- what is left begins with the element at that place
 pub first_left : {X : Type 0} (xs : List X) (n : ℕ) (x : X) (rest : List X) (d : X) → drop n xs ≡ x ∷ rest → x ≡ get_or xs n d
@@ -36,7 +36,9 @@ pub left_then : {X : Type 0} (xs : List X) (n : ℕ) (x : X) (rest : List X) →
 left_then [] zero x rest e = absurd cc
 left_then [] (suc n) x rest e = absurd cc
 left_then (y ∷ xs) zero x rest e = cc
-left_then (y ∷ xs) (suc n) x rest e = left_then xs n x rest e
+left_then (y ∷ xs) (suc n) x rest e =
+    let same : suc n + 1 ≡ suc (n + 1) = omega arith in
+    ap (λ (k : ℕ). drop k (y ∷ xs)) same ∙ left_then xs n x rest e
 
 module _ {Line Told Entry : Type 0} (T : Telling Line Told Entry) (size : ℕ) where
   -- each line tells something new, and these are the entries behind them
@@ -57,7 +59,7 @@ module _ {Line Told Entry : Type 0} (T : Telling Line Told Entry) (size : ℕ) w
       let says = runs.1 in
       let next : List Entry = set entries (T.about told) (T.add (get_or entries (T.about told) T.none) told) in
       let no_cause : None ≡ cause_of (λ told. T.again told (get_or entries (T.about told) T.none)) (T.told line) =
-      sym (ap (cause_of (λ told. T.again told (get_or entries (T.about told) T.none))) says ∙ ap (λ t. cond t (Some _) None) runs.3) in
+      sym (ap (cause_of (λ told. T.again told (get_or entries (T.about told) T.none))) says ∙ ap (λ t. cond t (Some Twice) None) runs.3) in
       runs_after whole (n + 1) rest next end (left_then whole n line rest left)
       (goes_on T size whole n entries next line None (within_left whole n line rest left) (first_left whole n line rest line left)
       (subst (λ r. IfOk r (λ told. T.about told < size)) (sym says) runs.2)

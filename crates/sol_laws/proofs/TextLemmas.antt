@@ -1,18 +1,18 @@
 -- A written text has the lines that were written, and these have their fields.
-use Rattle.std.proofs.Common.{◌≡◌, ℕ, zero, suc, ◌+◌, ◌-◌, ◌<◌, ◌≤◌, inl, inr, Bool, true, false, cond, not, ◌&&◌, ◌||◌, eqb, leb, ltb, List, [], ◌∷◌, ◌++◌, length, take, drop, get_or, Option, Some, None, Result, Ok, Err, refl, sym, ap, subst, ◌∙◌, arith, append_assoc, option_map, position}
+use Rattle.std.proofs.Common.{◌≡◌, ℕ, zero, suc, ◌+◌, ◌-◌, ◌<◌, ◌≤◌, inl, inr, Bool, true, false, cond, not, ◌&&◌, ◌||◌, eqb, leb, ltb, List, [], ◌∷◌, ◌++◌, length, take, drop, get_or, Option, Some, None, Result, Ok, Err, refl, sym, ap, ◌∙◌, arith, append_assoc, option_map, position}
 use Rattle.std.specs.Prelude.{filter}
-use Rattle.std.specs.List.{AllByRecursion, All, prefix_len, list_all, slice_split, flat_map}
+use Rattle.std.specs.List.{AllByRecursion, prefix_len, list_all, flat_map}
 use Rattle.std.specs.Str.Lines.{strip_carriage_return}
 use Rattle.std.proofs.Math.Seq.{take-append_seam, drop-append-add}
-use Rattle.std.proofs.lemmas.Bool.{lt-ltb, le-leb, ne_eqb, eq-eqb, and_from, cases_eq}
+use Rattle.std.proofs.lemmas.Bool.{lt-ltb, le-leb, ne_eqb, eq-eqb, and_from, and_parts, leb-true, cases_eq}
 use Rattle.std.proofs.lemmas.List.{length-append}
 use Rattle.std.proofs.lemmas.List.Concat.{flat_map-cons}
 use Rattle.std.proofs.lemmas.List.Elements.{All-from_recursion}
 use Rattle.std.proofs.lemmas.List.Splits.{slice_split_none}
 use Rattle.file_rows.specs.declared.cause.Cause.{Cause}
 use Rattle.file_rows.specs.declared.cause.Cause.TheVariants as causes
-use Rattle.desk_text.specs.Cuts.{cut_where, cut, line_then}
-use Rattle.desk_text.specs.Lines.{is_blank, is_text, is_full, is_last, fields, lines_from, text_lines}
+use Rattle.desk_text.specs.Cuts.{cut_where}
+use Rattle.desk_text.specs.Lines.{is_blank, is_text, is_full, is_last, fields, lines_from}
 use Rattle.desk_text.specs.Rows.{◌>>=◌, RowOf, line_row, at_line, rows_of_lines, text_rows}
 use Rattle.desk_text.proofs.FieldLemmas.{field_cut}
 use Rattle.desk_text.proofs.LineLemmas.{lines_cut, no_lines}
@@ -50,15 +50,23 @@ weaker : (P Q : ℕ → Type 0) → ((b : ℕ) → P b → Q b) → (bs : List �
 weaker P Q h [] all = tt
 weaker P Q h (b ∷ bs) all = (h b all.0, weaker P Q h bs all.1)
 
-pub all_append : (P : ℕ → Type 0) (as bs : List ℕ) → AllByRecursion P as → AllByRecursion P bs → AllByRecursion P (as ++ bs)
+pub all_append : (P : ℕ → Type 0) (front bs : List ℕ) → AllByRecursion P front → AllByRecursion P bs → AllByRecursion P (front ++ bs)
 all_append P [] bs first second = second
-all_append P (a ∷ as) bs first second = (first.0, all_append P as bs first.1 second)
+all_append P (b ∷ front) bs first second = (first.0, all_append P front bs first.1 second)
 
 not_blank : (b : ℕ) → IsSeenByte b → is_blank b ≡ false
 not_blank b seen =
     let space = ne_eqb b 32 (λ e. omega (arith, e, seen.0)) in
     let tab = ne_eqb b 9 (λ e. omega (arith, e, seen.0)) in
     (λ i. space i || tab i)
+
+-- bytes that pass the test can be seen
+pub seen_from : (bytes : List ℕ) → list_all (λ b. leb 33 b && leb b 126) bytes ≡ true → AllByRecursion IsSeenByte bytes
+seen_from [] h = tt
+seen_from (b ∷ bytes) h =
+    let both = and_parts _ _ h in
+    let range = and_parts _ _ both.0 in
+    ((leb-true 33 b range.0, leb-true b 126 range.1), seen_from bytes both.1)
 
 -- ---- fields
 
@@ -85,6 +93,10 @@ field_alone field is =
 abbrev pub spaced : List ℕ → List (List ℕ) → List ℕ
 spaced field [] = field
 spaced field (next ∷ others) = field ++ 32 ∷ spaced next others
+
+-- a space between two texts, where texts are joined from the left
+pub after_space : (front next rest : List ℕ) → front ++ (32 ∷ []) ++ next ++ rest ≡ front ++ 32 ∷ (next ++ rest)
+after_space front next rest = append_assoc (front ++ 32 ∷ []) next rest ∙ append_assoc front (32 ∷ []) (next ++ rest)
 
 pub fields_of_spaced : (field : List ℕ) (others : List (List ℕ)) → IsField field → AllByRecursion IsField others → fields (spaced field others) ≡ field ∷ others
 fields_of_spaced field [] is all = field_alone field is

@@ -1,20 +1,19 @@
 -- Written numbers, days and moments read back.
-use Rattle.std.proofs.Common.{◌≡◌, ℕ, zero, suc, ◌+◌, ◌-◌, ◌*◌, ◌/◌, ◌%◌, ◌<◌, ◌≤◌, ◌^◌, Bool, true, false, cond, ◌&&◌, eqb, leb, ltb, List, [], ◌∷◌, ◌++◌, length, get_or, Option, Some, None, Result, Ok, Err, refl, sym, ap, subst, ◌∙◌, arith}
+use Rattle.std.proofs.Common.{◌≡◌, ℕ, zero, suc, ◌+◌, ◌-◌, ◌*◌, ◌/◌, ◌%◌, ◌<◌, ◌≤◌, Bool, true, false, cond, ◌&&◌, eqb, leb, ltb, List, [], ◌∷◌, ◌++◌, length, get_or, Option, Some, None, Ok, refl, ap, ◌∙◌, arith}
 use Rattle.std.specs.Prelude.{fold, decimal, ok_or}
 use Rattle.std.specs.List.{AllByRecursion, list_all}
 use Rattle.std.specs.Char.{is_ascii_digit, digit_value}
-use Rattle.std.specs.Str.Parse.{AllDigits, digits_value_after, digits_value}
+use Rattle.std.specs.Str.Parse.{AllDigits, digits_value_after}
 use Rattle.std.proofs.lemmas.Bool.{le-leb, lt-ltb, leb-true, and_parts, and_from, ne_eqb}
 use Rattle.std.proofs.lemmas.Fmt.{decimal_is_IsNumeral, decimal_nonempty, length-decimal-le}
 use Rattle.std.proofs.lemmas.Str.{digit_value_digit}
 use Rattle.std.proofs.lemmas.Str.Parse.{digit_from_value}
 use Rattle.desk_units.specs.declared.numbers.Minute.{Minute}
-use Rattle.file_rows.specs.declared.cause.Cause.{Cause}
 use Rattle.file_rows.specs.declared.cause.Cause.TheVariants as causes
 use Rattle.desk_text.specs.Cuts.{cut}
-use Rattle.desk_text.specs.Days.{is_leap, month_lengths, days_before, day_of}
+use Rattle.desk_text.specs.Days.{is_leap, month_lengths, day_of}
 use Rattle.desk_text.specs.Texts.{year_of, month_of, day_in_month, two_digits, date_text, time_text}
-use Rattle.desk_text.specs.Fields.{decimal_value, digits_of, number_from, number_of, year_from, day_from, date_of, minutes_from, minutes_and_days, minute_from, time_of}
+use Rattle.desk_text.specs.Fields.{decimal_value, digits_of, number_from, number_of, year_from, day_from, date_of, minutes_from, minutes_and_days, minute_from}
 use Rattle.desk_text.specs.Moments.{minute_of, moment_of}
 use Rattle.desk_text.proofs.DateLemmas.{reads_back, two_digit_year}
 use Rattle.sol_laws.proofs.TextLemmas.{IsSeenByte, IsField, cut_behind}
@@ -115,10 +114,10 @@ unfolding year_from
 year_back y lt = rw (digits_back 4 y (omega arith) lt) refl
 
 no_slash : (n : ℕ) → AllByRecursion (λ b. eqb b 47 ≡ false) (two_digits n)
-no_slash n = (ne_eqb (48 + n / 10) 47 (λ e. omega (arith, e)), ne_eqb (48 + n % 10) 47 (λ e. omega (arith, e)), tt)
+no_slash n = (ne_eqb (48 + n / 10) 47 (λ e. omega (arith, e)), (ne_eqb (48 + n % 10) 47 (λ e. omega (arith, e)), tt))
 
 no_colon : (n : ℕ) → n < 100 → AllByRecursion (λ b. eqb b 58 ≡ false) (two_digits n)
-no_colon n lt = (ne_eqb (48 + n / 10) 58 (λ e. omega (arith, e, lt)), ne_eqb (48 + n % 10) 58 (λ e. omega (arith, e)), tt)
+no_colon n lt = (ne_eqb (48 + n / 10) 58 (λ e. omega (arith, e, lt)), (ne_eqb (48 + n % 10) 58 (λ e. omega (arith, e)), tt))
 
 pub date_back : (day : ℕ) → day < 36525 → date_of (date_text day) ≡ Ok day
 unfolding date_text
@@ -134,7 +133,7 @@ date_back day lt =
     (digits_back 2 d (omega arith) fit.0) (digits_back 2 m (omega arith) fit.1) (year_back y (two_digit_year day lt)) (reads_back day lt))
 
 two_seen : (n : ℕ) → n < 100 → AllByRecursion IsSeenByte (two_digits n)
-two_seen n lt = ((omega arith, omega (arith, lt)), (omega arith, omega arith), tt)
+two_seen n lt = ((omega arith, omega (arith, lt)), ((omega arith, omega arith), tt))
 
 pub date_field : (day : ℕ) → day < 36525 → IsField (date_text day)
 unfolding date_text
@@ -143,7 +142,7 @@ date_field day lt =
     let d = two_seen (day_in_month day) fit.0 in
     let m = two_seen (month_of day) fit.1 in
     let y = two_seen (year_of day) (two_digit_year day lt) in
-    record { some = omega arith; seen = (d.0, d.1, (omega arith, omega arith), m.0, m.1, (omega arith, omega arith), y) }
+    record { some = omega arith; seen = (d.0, (d.1.0, ((omega arith, omega arith), (m.0, (m.1.0, ((omega arith, omega arith), y)))))) }
 
 -- ---- times
 
@@ -181,7 +180,7 @@ unfolding time_text
 time_field minute lt =
     let h = two_seen (minute / 60) (omega (arith, lt)) in
     let m = two_seen (minute % 60) (omega arith) in
-    record { some = omega arith; seen = (h.0, h.1, (omega arith, omega arith), m) }
+    record { some = omega arith; seen = (h.0, (h.1.0, ((omega arith, omega arith), m))) }
 
 pub moment_back : (at : ℕ) → at < 52596000 → moment_of (date_text (at / 1440)) (time_text (at % 1440)) ≡ Ok (record { 0 = at })
 unfolding moment_of
