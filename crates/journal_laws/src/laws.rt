@@ -7,6 +7,7 @@ ghost use Rattle.desk_data.specs.Situation.{Situation};
 ghost use Rattle.desk_model.specs.declared.answer.Entry.{Entry as Recorded};
 ghost use Rattle.desk_model.specs.States.{opening};
 ghost use Rattle.desk_model.specs.Histories.{IsLegal, run};
+ghost use Rattle.desk_tasks.specs.Play.{story_on, played, history_outcome};
 ghost use Rattle.desk_text.specs.Fields.{number_of, date_of};
 ghost use Rattle.desk_text.specs.Moments.{minute_of};
 ghost use Rattle.desk_text.specs.Texts.{date_text, time_text};
@@ -30,9 +31,11 @@ pub fn lines_are_records()
 /// A written journal reads back. Of a history that is legal from the opening of a day, whose callers
 /// are at most 64, whose batches are the first ones of the day in their order, and whose text is not too
 /// long: the text is read as the rows of its entries, and these are joined to its events, each with its
-/// caller. And the run of a legal history's events is the history.
+/// caller. The run of a legal history's events is the history; so whoever replays a written journal gets
+/// what came of its history: the same status, files and report.
 pub fn written_journals_read_back()
     ensures rows { (built : Joined) (h : Items Recorded) → CanBeReadBack built.inst built.batches h → journal_rows_of (journal_text built.inst h) ≡ Ok (rows_of_history built.inst h) }
     ensures events { (built : Joined) (h : Items Recorded) → CanBeReadBack built.inst built.batches h → events_of built (rows_of_history built.inst h) ≡ Ok (map asked h) }
     ensures run { (I : Situation) (h : Items Recorded) → IsLegal (opening I) h → run (opening I) (map asked h) ≡ h }
+    ensures replayed { (I : Situation) (h : Items Recorded) → IsLegal (opening I) h → played (story_on I (map asked h)) ≡ history_outcome I h }
 {}

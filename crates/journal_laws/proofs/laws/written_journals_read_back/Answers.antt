@@ -1,4 +1,6 @@
+use Rattle.std.proofs.Common.{ap}
 use Rattle.desk_model.specs.States.{opening}
+use Rattle.desk_tasks.specs.Play.{history, history_outcome}
 use Rattle.journal_laws.proofs.Whole.{rows_are_read, rows_are_joined}
 use Rattle.journal_laws.proofs.EventsBack.{run_back}
 use Rattle.journal_laws.proofs.laws.written_journals_read_back.Goals as goal
@@ -11,3 +13,7 @@ returns-clause-events c = rows_are_joined
 
 pub returns-clause-run : goal.returns-clause-run
 returns-clause-run c = λ I h legal. run_back (opening I) h legal
+
+pub returns-clause-replayed : goal.returns-clause-replayed
+unfolding history
+returns-clause-replayed c = λ I h legal. ap (history_outcome I) (run_back (opening I) h legal)
