@@ -1,22 +1,16 @@
 -- The rows of a history's entries are joined to its events.
-use Rattle.std.proofs.Common.{◌≡◌, ℕ, ◌<◌, Bool, true, false, ◌&&◌, eqb, List, [], ◌∷◌, length, map, get_or, Some, None, Option, Ok, refl, sym, arith}
-use Rattle.std.specs.Prelude.{bytes_eq, position}
+use Rattle.std.proofs.Common.{◌≡◌, ◌<◌, true, List, [], ◌∷◌, length, map, Some, None, Option, Ok, refl}
 use Rattle.std.specs.List.{AllByRecursion, list_all}
 use Rattle.std.specs.Option.{ForSome}
-use Rattle.std.proofs.lemmas.Bool.{le-leb, lt-ltb, and_from, and_parts, eq-eqb, eqb-true, false_from_ne_true, false≢true}
-use Rattle.std.proofs.lemmas.Slice.Eq.{bytes_eq-Decides}
-use Rattle.std.proofs.lemmas.List.Sums.{position_or_len_is}
+use Rattle.std.proofs.lemmas.Bool.{le-leb, lt-ltb, and_from}
 use Rattle.desk_units.specs.declared.numbers.Leg.{Leg}
 use Rattle.desk_units.specs.declared.numbers.Plane.{Plane}
 use Rattle.desk_units.specs.declared.numbers.Res.{Res}
 use Rattle.desk_units.specs.declared.numbers.Cabin.{Cabin}
 use Rattle.file_rows.specs.Limits.{end_of_time}
-use Rattle.desk_data.specs.declared.info.LegInfo.{LegInfo}
-use Rattle.desk_data.specs.declared.info.PlaneInfo.{PlaneInfo}
-use Rattle.desk_data.specs.declared.info.ResInfo.{ResInfo}
 use Rattle.desk_data.specs.declared.row.Row.{Row}
 use Rattle.desk_data.specs.declared.row.Row.TheVariants as row
-use Rattle.desk_data.specs.Situation.{Situation, leg_at, plane_at, res_at, legs_of, planes_of, reservations_of, no_leg, no_plane, no_res}
+use Rattle.desk_data.specs.Situation.{Situation, plane_at, legs_of, planes_of, reservations_of}
 use Rattle.desk_data.specs.Valid.{AreDistinct, IsRowOf}
 use Rattle.plan_moves.specs.declared.moves.Step.{Step}
 use Rattle.plan_moves.specs.declared.moves.Step.TheVariants as step
@@ -24,66 +18,21 @@ use Rattle.plan_moves.specs.declared.moves.Move.{Move}
 use Rattle.plan_moves.specs.Fits.{StepFits, IsPathIn, Fits}
 use Rattle.std.proofs.lemmas.List.Elements.{recursion_from_All}
 use Rattle.desk_model.specs.declared.answer.Event.TheVariants as event
-use Rattle.day_names.specs.Keys.{same_way}
-use Rattle.day_names.specs.Names.{leg_named, plane_named, res_named}
+use Rattle.token_laws.proofs.NameBack as names
 use Rattle.journal_join.specs.Join.{all_of, leg_of, plane_of, res_of, after_of, seat_of, path_of, row_of, set_of, push_of, swap_of, rebook_of, refill_of, step_of, row_is_in_time, step_is_in_time, is_move, move_of, joined_move}
 use Rattle.journal_laws.specs.Named.{named_leg, named_row, named_after, named_seat, named_path, named_res, named_step}
 
 -- ---- names
 
--- the first that passes
-position_is : {X : Type 0} (test : X → Bool) (xs : List X) (i : ℕ) (d : X) → i < length xs → test (get_or xs i d) ≡ true → ((k : ℕ) → k < i → test (get_or xs k d) ≡ false) → position test xs ≡ Some i
-position_is test xs i d lt passes before =
-    let first = position_or_len_is test xs i d (omega arith) before (λ there. passes) in
-    rw (first, lt-ltb i (length xs) lt) refl
-
-same_bytes : (a b : List ℕ) → a ≡ b → bytes_eq a b ≡ true
-same_bytes a b is = (bytes_eq-Decides a b).1 is
-
-way_is : (a b : Bool) → same_way a b ≡ true → a ≡ b
-way_is true true h = refl
-way_is false false h = refl
-way_is true false h = absurd (false≢true h)
-way_is false true h = absurd (false≢true h)
-
-same_way_is : (a : Bool) → same_way a a ≡ true
-same_way_is true = refl
-same_way_is false = refl
-
 module _ (I : Situation) (distinct : AreDistinct I.parts) where
   leg_back : (leg : Leg) → leg.0 < legs_of I → leg_of I (named_leg I leg.0) ≡ Ok leg
-  unfolding leg_named
-  leg_back leg lt =
-      let x = leg_at I leg.0 in
-      let test : LegInfo → Bool = λ y. bytes_eq x.flight y.flight && eqb x.day y.day in
-      let passes : test x ≡ true = and_from _ _ (same_bytes x.flight x.flight refl) (eq-eqb x.day x.day refl) in
-      let place = position_is test I.parts.legs leg.0 no_leg lt passes
-      (λ k before. false_from_ne_true (test (leg_at I k)) (λ same.
-      let parts = and_parts _ _ same in
-      distinct.legs k leg.0 no_leg before lt (sym ((bytes_eq-Decides x.flight (leg_at I k).flight).0 parts.0)) (sym (eqb-true x.day (leg_at I k).day parts.1)))) in
-      rw place refl
+  leg_back leg lt = rw (names.leg_back I leg distinct lt) refl
 
   plane_back : (plane : Plane) → plane.0 < planes_of I → plane_of I (plane_at I plane.0).name ≡ Ok plane
-  unfolding plane_named
-  plane_back plane lt =
-      let x = plane_at I plane.0 in
-      let test : PlaneInfo → Bool = λ y. bytes_eq x.name y.name in
-      let place = position_is test I.parts.planes plane.0 no_plane lt (same_bytes x.name x.name refl)
-      (λ k before. false_from_ne_true (test (plane_at I k)) (λ same.
-      distinct.planes k plane.0 no_plane before lt (sym ((bytes_eq-Decides x.name (plane_at I k).name).0 same)))) in
-      rw place refl
+  plane_back plane lt = rw (names.plane_back I plane distinct lt) refl
 
   res_back : (res : Res) → res.0 < reservations_of I → res_of I (named_res I res.0) ≡ Ok res
-  unfolding res_named
-  res_back res lt =
-      let x = res_at I res.0 in
-      let test : ResInfo → Bool = λ y. bytes_eq x.name y.name && same_way x.inbound y.inbound in
-      let passes : test x ≡ true = and_from _ _ (same_bytes x.name x.name refl) (same_way_is x.inbound) in
-      let place = position_is test I.parts.res res.0 no_res lt passes
-      (λ k before. false_from_ne_true (test (res_at I k)) (λ same.
-      let parts = and_parts _ _ same in
-      distinct.res k res.0 no_res before lt (sym ((bytes_eq-Decides x.name (res_at I k).name).0 parts.0)) (sym (way_is x.inbound (res_at I k).inbound parts.1)))) in
-      rw place refl
+  res_back res lt = rw (names.res_back I res distinct lt) refl
 
   -- ---- steps
 

@@ -1,4 +1,3 @@
-pub mod Spelled
 pub mod Spells
 pub mod QuotedBack
 pub mod StepsBack

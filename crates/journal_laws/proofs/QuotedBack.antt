@@ -18,7 +18,7 @@ use Rattle.comma_rows.specs.Records.{text_records}
 use Rattle.journal_text.specs.Quoting.{quoted, doubled, doubled_byte, is_mark}
 use Rattle.journal_text.specs.Lines.{kind_text, detail_text, answer_text, line_text, batches, line_at}
 use Rattle.journal_laws.specs.Named.{fields_at}
-use Rattle.journal_laws.proofs.Spelled.{decimal_digits}
+use Rattle.token_laws.proofs.Spelled.{decimal_digits}
 
 -- ---- fields
 

@@ -19,7 +19,7 @@ use Rattle.comma_rows.specs.Records.{is_printed, are_printed, comma_rows, rows_f
 use Rattle.journal_file.specs.Journal.{batch_of, move_of, event_of, asked_row, record_row, looked_at, journal_row, journal_rows_of}
 use Rattle.journal_text.specs.Lines.{kind_text, detail_text, move_text, batches, line_at, journal_text}
 use Rattle.journal_laws.specs.Named.{fields_at, named_event, row_at, rows_of_history, TakesInOrder}
-use Rattle.journal_laws.proofs.Spelled.{number_back, decimal_seen}
+use Rattle.token_laws.proofs.Spelled.{number_back, decimal_seen}
 use Rattle.journal_laws.proofs.Spells.{seen_printed}
 use Rattle.journal_laws.proofs.StepsBack.{IsReadable, move_reads}
 use Rattle.journal_laws.proofs.QuotedBack.{placed_fields, HaveCallers, records_of_lines}

@@ -36,7 +36,7 @@ use Rattle.journal_file.specs.Journal.{full_tokens}
 use Rattle.journal_text.specs.Items.{leg_text, row_text, cabin_text, seat_text, path_text, direction_text, reservation_text}
 use Rattle.journal_text.specs.Lines.{after_text, step_text}
 use Rattle.journal_laws.specs.Named.{named_leg, named_row, named_after, named_seat, named_path, named_res, named_step}
-use Rattle.journal_laws.proofs.Spelled.{number_back, date_back, time_back, decimal_some, decimal_seen, date_some, date_seen, time_some, time_seen}
+use Rattle.token_laws.proofs.Spelled.{number_back, date_back, time_back, decimal_some, decimal_seen, date_some, date_seen, time_some, time_seen}
 use Rattle.journal_laws.proofs.Spells.{Spells, spells_token, spells_both}
 
 -- ---- a text is read as a value, whatever follows

@@ -11,7 +11,8 @@ use Rattle.desk_text.specs.Seen.{is_seen}
 use Rattle.journal_file.specs.Journal.{journal_rows_of}
 use Rattle.journal_join.specs.Join.{events_of}
 use Rattle.journal_text.specs.Lines.{journal_text}
-use Rattle.journal_laws.specs.Named.{asked, rows_of_history, HasNames, CanBeReadBack}
+use Rattle.token_laws.specs.Lengths.{HasNames}
+use Rattle.journal_laws.specs.Named.{asked, rows_of_history, CanBeReadBack}
 use Rattle.journal_laws.proofs.StepsBack.{IsReadable}
 use Rattle.journal_laws.proofs.RowsBack.{journal_back, legal_reads}
 use Rattle.journal_laws.proofs.EventsBack.{events_back}

@@ -1,7 +1,6 @@
 -- The rows that the entries of a journal are read as: everything has its name.
 use Rattle.std.specs.Prelude.{◌≡◌, ℕ, ◌+◌, ◌≤◌, List, [], ◌∷◌, map, take, Option, Some, None, length, All, decimal, slice_get}
 use Rattle.std.specs.List.{enumerate_from}
-use Rattle.desk_units.specs.Padded.{IsNameLength}
 use Rattle.desk_units.specs.declared.numbers.Leg.{Leg}
 use Rattle.desk_units.specs.declared.numbers.Cabin.{Cabin}
 use Rattle.day_orders.specs.declared.orders.Batch.{Batch}
@@ -18,6 +17,7 @@ use Rattle.desk_model.specs.States.{opening}
 use Rattle.desk_model.specs.Histories.{IsLegal}
 use Rattle.file_rows.specs.Limits.{most_journal_bytes}
 use Rattle.journal_text.specs.Lines.{answer_text, batches, detail_text, journal_text, kind_text}
+use Rattle.token_laws.specs.Lengths.{HasNames}
 use Rattle.journal_rows.specs.declared.rows.NamedLeg.{NamedLeg}
 use Rattle.journal_rows.specs.declared.rows.NamedRes.{NamedRes}
 use Rattle.journal_rows.specs.declared.rows.NamedPath.{NamedPath}
@@ -85,12 +85,6 @@ abbrev pub fields_at : Situation → ℕ → Entry → List (List ℕ)
 fields_at I number entry = decimal entry.caller ∷ kind_text entry.event ∷ detail_text I number entry.event ∷ answer_text I entry.answer ∷ []
 
 -- ---- what is asked of a history
-
--- each name has 1 to 32 bytes
-pub record HasNames (I : Situation) : Type 0 where
-  pub legs : All (λ leg. IsNameLength (length leg.flight)) I.parts.legs
-  pub planes : All (λ plane. IsNameLength (length plane.name)) I.parts.planes
-  pub res : All (λ r. IsNameLength (length r.name)) I.parts.res
 
 -- the history's batches are the first ones of these, in their order
 abbrev pub TakesInOrder : List Batch → List Entry → Type 0

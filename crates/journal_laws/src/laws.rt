@@ -1,6 +1,6 @@
 //! What a journal is written as is read again.
 
-ghost use Rattle.std.specs.Prelude.{◌≡◌, ℕ, ◌<◌, ◌≤◌, ◌^◌, Ok, List as Items, decimal, map};
+ghost use Rattle.std.specs.Prelude.{◌≡◌, ℕ, ◌<◌, ◌^◌, Ok, List as Items, map};
 ghost use Rattle.csv.specs.Writing.{default_writer, row_text};
 ghost use Rattle.desk_build.specs.declared.joining.Built.{Built as Joined};
 ghost use Rattle.desk_data.specs.Situation.{Situation};
@@ -8,20 +8,10 @@ ghost use Rattle.desk_model.specs.declared.answer.Entry.{Entry as Recorded};
 ghost use Rattle.desk_model.specs.States.{opening};
 ghost use Rattle.desk_model.specs.Histories.{IsLegal, run};
 ghost use Rattle.desk_tasks.specs.Play.{story_on, played, history_outcome};
-ghost use Rattle.desk_text.specs.Fields.{number_of, date_of};
-ghost use Rattle.desk_text.specs.Moments.{minute_of};
-ghost use Rattle.desk_text.specs.Texts.{date_text, time_text};
 ghost use Rattle.journal_file.specs.Journal.{journal_rows_of};
 ghost use Rattle.journal_join.specs.Join.{events_of};
 ghost use Rattle.journal_text.specs.Lines.{journal_text, line_text};
 ghost use Rattle.journal_laws.specs.Named.{CanBeReadBack, asked, fields_at, rows_of_history};
-
-/// A number, a date and a time that are written are those that are read.
-pub fn tokens_read_back()
-    ensures number { (low high n : ℕ) → low ≤ n → n ≤ high → high < 1000000000 → number_of low high (decimal n) ≡ Ok n }
-    ensures date { (day : ℕ) → day < 36525 → date_of (date_text day) ≡ Ok day }
-    ensures time { (minute : ℕ) → minute < 1440 → minute_of (time_text minute) ≡ Ok minute }
-{}
 
 /// The line of an entry is what the crate `csv` writes of its four fields by its default settings.
 pub fn lines_are_records()

@@ -23,9 +23,10 @@ use Rattle.read_pax.specs.Itineraries.{leg_of, legs_of as seats_of, before_all}
 use Rattle.sol_rows.specs.declared.rows.PlannedGroup.{PlannedGroup}
 use Rattle.sol_rows.specs.Groups.{whole_groups, planned_group, itinerary_rows}
 use Rattle.sol_text.specs.Itineraries.{cabin_text, direction_text, seat_text, group_line, group_lines, itineraries_text}
+use Rattle.token_laws.proofs.Spelled.{name_back, date_back, number_back}
 use Rattle.sol_laws.proofs.TextLemmas.{IsField, seen_from, spaced, after_space, fields_of_spaced, spaced_line, Reads, numbered, text_reads}
-use Rattle.sol_laws.proofs.ValueLemmas.{date_back, date_field, number_back, number_field}
-use Rattle.sol_laws.proofs.LegRows.{name_field, name_back, spaced_then}
+use Rattle.sol_laws.proofs.ValueLemmas.{date_field, number_field}
+use Rattle.sol_laws.proofs.LegRows.{name_field, spaced_then}
 
 -- ---- lines
 
@@ -168,7 +169,7 @@ line_reads I pair told =
       is_line = spaced_line pair.0.name others name told.plain fit;
       reads = λ n.
           ap (planned_group n) (fields_of_spaced pair.0.name others name fit)
-          ∙ rw (whole_path I pair.1.path) (rw (name_back pair.0.name told.size) (rw (way_back pair.0.inbound) (rw (number_back pair.1.count told.some told.most) (rw (path_back I pair.1.path told.legs told.path) refl))));
+          ∙ rw (whole_path I pair.1.path) (rw (name_back pair.0.name told.size) (rw (way_back pair.0.inbound) (rw (number_back 1 1000 pair.1.count told.some told.most (omega arith)) (rw (path_back I pair.1.path told.legs told.path) refl))));
     }
 
 -- ---- the file

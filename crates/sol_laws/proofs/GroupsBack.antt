@@ -25,7 +25,7 @@ use Rattle.sol_join.specs.Told.{seat_of, path_of, group_of, told_group}
 use Rattle.sol_join.specs.Groups.{Passengers, has_path, groups_telling, passengers_told, groups_in, is_whole, all_groups}
 use Rattle.sol_laws.proofs.TextLemmas.{numbered}
 use Rattle.sol_laws.proofs.GroupRows.{seat_row, party_line, group_told, with_res, parties}
-use Rattle.sol_laws.proofs.NameBack.{leg_back, res_back}
+use Rattle.token_laws.proofs.NameBack.{leg_back, res_back}
 use Rattle.sol_laws.proofs.TellingBack.{get_behind, set_behind, first_left, within_left, left_then, Runs, runs_append, runs_back}
 
 -- ---- one more path, behind all others
@@ -78,7 +78,7 @@ module _ (I : Situation) (distinct : AreDistinct I.parts) where
   path_back : (path : List (Leg × Cabin)) → AllByRecursion (λ (seat : Leg × Cabin). seat.0.0 < legs_of I) path → path_of I (map (seat_row I) path) ≡ Ok path
   unfolding path_of seat_of
   path_back [] all = refl
-  path_back (pair ∷ path) all = rw (leg_back I distinct pair.0.0 all.0) (rw (path_back path all.1) refl)
+  path_back (pair ∷ path) all = rw (leg_back I pair.0 distinct all.0) (rw (path_back path all.1) refl)
 
   -- what is known of a group
   pub record IsKnown (group : Group) : Type 0 where
@@ -88,7 +88,7 @@ module _ (I : Situation) (distinct : AreDistinct I.parts) where
   group_is_told : (n r : ℕ) (group : Group) → r < reservations_of I → IsKnown group → told_group I (group_told I n (res_at I r, group)) ≡ Ok (record { 0 = r }, group)
   unfolding told_group group_of
   group_is_told n r group below known =
-      rw (res_back I distinct r below) (rw (path_back group.path known.path) (rw (le-leb (length group.path) 8 known.short) refl))
+      rw (res_back I (record { 0 = r }) distinct below) (rw (path_back group.path known.path) (rw (le-leb (length group.path) 8 known.short) refl))
 
   -- the lines of a reservation's groups
   groups_run : (n r : ℕ) (res : ResInfo) (groups kept : List Group) (done rest : List Passengers) → length done ≡ r → r < reservations_of I → res ≡ res_at I r → AllByRecursion IsKnown groups → AllPairs Ascends (kept ++ groups)

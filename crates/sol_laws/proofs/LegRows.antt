@@ -1,12 +1,9 @@
 -- The text of a plan's rotations is read as its rows, by their names.
-use Rattle.std.proofs.Common.{◌≡◌, ℕ, ◌/◌, ◌%◌, ◌<◌, ◌≤◌, false, cond, leb, List, [], ◌∷◌, ◌++◌, length, Option, Some, None, Ok, Err, refl, sym, ap, subst, ◌∙◌, arith, append_assoc, codes}
+use Rattle.std.proofs.Common.{◌≡◌, ℕ, ◌/◌, ◌%◌, ◌<◌, ◌≤◌, false, List, [], ◌∷◌, ◌++◌, length, Option, Some, None, Ok, refl, sym, ap, subst, ◌∙◌, arith, append_assoc, codes}
 use Rattle.std.specs.List.{AllByRecursion, flat_map, zip}
-use Rattle.std.proofs.lemmas.Bool.{le-leb, and_from}
 use Rattle.std.proofs.lemmas.List.Concat.{flat_map-cons}
 use Rattle.std.proofs.lemmas.List.Elements.{recursion_from_All}
 use Rattle.desk_units.specs.Padded.{IsNameLength}
-use Rattle.file_rows.specs.declared.cause.Cause.TheVariants as causes
-use Rattle.desk_text.specs.Fields.{name_of}
 use Rattle.desk_text.specs.Lines.{is_last, fields}
 use Rattle.desk_text.specs.Texts.{date_text, time_text}
 use Rattle.desk_data.specs.declared.info.LegInfo.{LegInfo}
@@ -19,17 +16,15 @@ use Rattle.sol_rows.specs.declared.rows.PlannedFlight.{PlannedFlight}
 use Rattle.sol_rows.specs.declared.rows.PlannedLeg.{PlannedLeg}
 use Rattle.sol_rows.specs.Legs.{departure_of, flown_of, planned_leg, rotation_rows}
 use Rattle.sol_text.specs.Rotations.{row_text, rotation_line, rotations_text}
-use Rattle.sol_laws.specs.Plain.{AreNames, ArePlain}
+use Rattle.token_laws.specs.Lengths.{HasNames}
+use Rattle.token_laws.proofs.Spelled.{name_back, date_back}
+use Rattle.sol_laws.specs.Plain.{ArePlain}
 use Rattle.sol_laws.proofs.TextLemmas.{IsSeenByte, IsField, seen_from, spaced, after_space, fields_of_spaced, spaced_line, Reads, numbered, text_reads}
-use Rattle.sol_laws.proofs.ValueLemmas.{date_back, date_field, moment_back, time_field}
+use Rattle.sol_laws.proofs.ValueLemmas.{date_field, moment_back, time_field}
 
--- ---- names
-
+-- a name is a field
 pub name_field : (name : List ℕ) → IsNameLength (length name) → IsSeen name → IsField name
 name_field name size seen = record { some = size.least; seen = recursion_from_All IsSeenByte name seen }
-
-pub name_back : (name : List ℕ) → IsNameLength (length name) → name_of name ≡ Ok name
-name_back name size = ap (λ t. cond t (Ok name) (Err causes.Size)) (and_from (leb 1 (length name)) (leb (length name) 32) (le-leb 1 (length name) size.least) (le-leb (length name) 32 size.most))
 
 -- ---- lines
 
@@ -154,7 +149,7 @@ legs_seen airports planes n [] all = tt
 legs_seen airports planes n (leg ∷ legs) all = ((all.0.flight, all.0.day), legs_seen airports planes n legs all.1)
 
 -- the rows of the written file
-pub rotations_read : (I : Situation) (P : PlanRows) → IsValid I → AreNames I → ArePlain I → IsPlanFor I P → length (rotations_text I P) ≤ 67108864 → rotation_rows (rotations_text I P) ≡ Ok (numbered planned_leg (leg_line I) (leg_told I) 1 (zip I.parts.legs P.rows))
+pub rotations_read : (I : Situation) (P : PlanRows) → IsValid I → HasNames I → ArePlain I → IsPlanFor I P → length (rotations_text I P) ≤ 67108864 → rotation_rows (rotations_text I P) ≡ Ok (numbered planned_leg (leg_line I) (leg_told I) 1 (zip I.parts.legs P.rows))
 unfolding rotations_text
 rotations_read I P valid names plain plan few =
     let same = lines_are I (zip I.parts.legs P.rows) in
@@ -162,6 +157,6 @@ rotations_read I P valid names plain plan few =
     let planes : (p : ℕ) → p < planes_of I → IsNameLength (length (plane_at I p).name) × IsSeen (plane_at I p).name = λ p below. (names.planes p no_plane below, (parts.planes p no_plane below).name) in
     ap rotation_rows same
     ∙ text_reads planned_leg (leg_line I) (leg_told I) 67108864 (zip I.parts.legs P.rows)
-    (zip_told I I.parts.legs P.rows planes (recursion_from_All (λ (leg : LegInfo). IsNameLength (length leg.flight)) I.parts.legs names.flights) (recursion_from_All (λ (leg : LegInfo). is_last leg.flight ≡ false) I.parts.legs plain.flights)
+    (zip_told I I.parts.legs P.rows planes (recursion_from_All (λ (leg : LegInfo). IsNameLength (length leg.flight)) I.parts.legs names.legs) (recursion_from_All (λ (leg : LegInfo). is_last leg.flight ≡ false) I.parts.legs plain.flights)
     (legs_seen _ _ _ I.parts.legs (recursion_from_All (IsLeg _ _ _) I.parts.legs parts.legs)) (recursion_from_All (IsRowOf (planes_of I)) P.rows plan.rows))
     (subst (λ (text : List ℕ). length text ≤ 67108864) same few)

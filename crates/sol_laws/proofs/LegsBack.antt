@@ -17,7 +17,7 @@ use Rattle.sol_join.specs.Told.{row_of, is_in_time, told_leg}
 use Rattle.sol_join.specs.Legs.{legs_telling, rows_told, all_rows}
 use Rattle.sol_laws.proofs.TextLemmas.{numbered}
 use Rattle.sol_laws.proofs.LegRows.{leg_line, leg_told, flown_told}
-use Rattle.sol_laws.proofs.NameBack.{leg_back, plane_back}
+use Rattle.token_laws.proofs.NameBack.{leg_back, plane_back}
 use Rattle.sol_laws.proofs.TellingBack.{get_behind, set_behind, first_left, within_left, left_then, Runs, runs_back}
 
 append_none : {X : Type 0} (xs : List X) → xs ++ [] ≡ xs
@@ -31,7 +31,7 @@ all_some (x ∷ xs) = all_some xs
 module _ (I : Situation) (distinct : AreDistinct I.parts) where
   row_back : (row : Row) → IsRowOf (planes_of I) row → row_of I (flown_told I row) ≡ Ok row
   unfolding row_of
-  row_back (Flown plane dep) is = rw (plane_back I distinct plane.0 is.0) refl
+  row_back (Flown plane dep) is = rw (plane_back I plane distinct is.0) refl
   row_back Cancelled is = refl
 
   early : (row : Row) → IsRowOf (planes_of I) row → is_in_time row ≡ true
@@ -40,7 +40,7 @@ module _ (I : Situation) (distinct : AreDistinct I.parts) where
 
   leg_is_told : (n x : ℕ) (row : Row) → x < legs_of I → IsRowOf (planes_of I) row → told_leg I (leg_told I n (leg_at I x, row)) ≡ Ok (record { 0 = x }, row)
   unfolding told_leg
-  leg_is_told n x row below is = rw (leg_back I distinct x below) (rw (row_back row is) (rw (early row is) refl))
+  leg_is_told n x row below is = rw (leg_back I (record { 0 = x }) distinct below) (rw (row_back row is) (rw (early row is) refl))
 
   -- the rows so far, and none for the legs behind them
   legs_run : (n x : ℕ) (legs : List LegInfo) (rows done : List Row) → drop x I.parts.legs ≡ legs → length done ≡ x → length rows ≡ length legs → AllByRecursion (IsRowOf (planes_of I)) rows

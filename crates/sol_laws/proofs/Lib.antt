@@ -2,7 +2,6 @@ pub mod TextLemmas
 pub mod ValueLemmas
 pub mod LegRows
 pub mod GroupRows
-pub mod NameBack
 pub mod TellingBack
 pub mod LegsBack
 pub mod GroupsBack

@@ -19,7 +19,8 @@ use Rattle.sol_text.specs.Itineraries.{itineraries_text}
 use Rattle.sol_join.specs.Legs.{rows_told}
 use Rattle.sol_join.specs.Groups.{passengers_told, groups_in, all_groups}
 use Rattle.sol_join.specs.Solution.{plan_told, solution_of}
-use Rattle.sol_laws.specs.Plain.{AreNames, ArePlain}
+use Rattle.token_laws.specs.Lengths.{HasNames}
+use Rattle.sol_laws.specs.Plain.{ArePlain}
 use Rattle.sol_laws.proofs.LegRows.{rotations_read}
 use Rattle.sol_laws.proofs.LegsBack.{rows_back, all_rows_back}
 use Rattle.sol_laws.proofs.GroupRows.{KnownLegs, AreKnown, itineraries_read}
@@ -43,9 +44,9 @@ known_groups : (n : ℕ) (groups : List Group) → AllByRecursion IsGroup groups
 known_groups n [] are few paths = tt
 known_groups n (group ∷ groups) are few paths = ((are.0.some, few.0, recursion_from_All (λ (seat : Leg × Cabin). seat.0.0 < n) group.path paths.0), known_groups n groups are.1 few.1 paths.1)
 
-module _ (I : Situation) (P : PlanRows) (valid : IsValid I) (names : AreNames I) (plain : ArePlain I) (plan : IsPlanFor I P) where
+module _ (I : Situation) (P : PlanRows) (valid : IsValid I) (names : HasNames I) (plain : ArePlain I) (plan : IsPlanFor I P) where
   known_legs : KnownLegs I
-  known_legs x below = let leg = valid.parts.legs x no_leg below in (names.flights x no_leg below, leg.flight, leg.day)
+  known_legs x below = let leg = valid.parts.legs x no_leg below in (names.legs x no_leg below, leg.flight, leg.day)
 
   known_res : (r : ℕ) → r < reservations_of I → (d : ResInfo) → AreKnown I (get_or I.parts.res r d) (get_or P.groups r [])
   known_res r below d =
@@ -54,7 +55,7 @@ module _ (I : Situation) (P : PlanRows) (valid : IsValid I) (names : AreNames I)
       let of = plan.groups r below in
       let most : sum_by (λ group. group.count) (groups_at P r) ≤ 1000 = (let all = of.all in let count = (valid.parts.res r no_res below).count in omega (arith, all, count)) in
       record {
-        size = names.reservations r d below;
+        size = names.res r d below;
         seen = res.name;
         plain = plain.reservations r d below;
         groups_are = known_groups (legs_of I) (groups_at P r) (recursion_from_All IsGroup (groups_at P r) sound.each) (one_of_all (groups_at P r) 1000 most)

@@ -8,13 +8,14 @@ ghost use Rattle.desk_data.specs.Valid.{IsPlanFor, IsValid};
 ghost use Rattle.sol_text.specs.Rotations.{rotations_text};
 ghost use Rattle.sol_text.specs.Itineraries.{itineraries_text};
 ghost use Rattle.sol_join.specs.Solution.{solution_of};
-ghost use Rattle.sol_laws.specs.Plain.{AreNames, ArePlain};
+ghost use Rattle.sol_laws.specs.Plain.{ArePlain};
+ghost use Rattle.token_laws.specs.Lengths.{HasNames};
 
 /// A written plan reads back: where names are plain, and each of the two files of a plan for a day is
 /// within the limit of a file, reading them gives that plan. Without plain names nothing is promised,
 /// since a line that begins with `#` ends the file.
 pub fn written_plans_read_back()
-    ensures { (I : Situation) (P : PlanRows) → IsValid I → AreNames I → ArePlain I → IsPlanFor I P
+    ensures { (I : Situation) (P : PlanRows) → IsValid I → HasNames I → ArePlain I → IsPlanFor I P
         → length (rotations_text I P) ≤ most_bytes → length (itineraries_text I P) ≤ most_bytes
         → solution_of I (rotations_text I P) (itineraries_text I P) ≡ Ok P }
 {}

@@ -1,5 +1,5 @@
-use Rattle.journal_laws.proofs.Spelled.{number_back, date_back, time_back}
-use Rattle.journal_laws.proofs.laws.tokens_read_back.Goals as goal
+use Rattle.token_laws.proofs.Spelled.{number_back, date_back, time_back, name_back}
+use Rattle.token_laws.proofs.laws.tokens_read_back.Goals as goal
 
 pub returns-clause-number : goal.returns-clause-number
 returns-clause-number c = number_back
@@ -9,3 +9,6 @@ returns-clause-date c = date_back
 
 pub returns-clause-time : goal.returns-clause-time
 returns-clause-time c = time_back
+
+pub returns-clause-name : goal.returns-clause-name
+returns-clause-name c = name_back

@@ -1,16 +1,17 @@
--- Numbers, dates and times, as they are written, are read.
-use Rattle.std.proofs.Common.{◌≡◌, ℕ, zero, suc, ◌+◌, ◌-◌, ◌*◌, ◌/◌, ◌%◌, ◌^◌, ◌<◌, ◌≤◌, Bool, true, false, cond, ◌&&◌, eqb, leb, ltb, List, [], ◌∷◌, ◌++◌, length, get_or, Option, Some, None, Ok, refl, ap, ◌∙◌, arith, length-append}
+-- Numbers, dates, times and names, as they are written, are read.
+use Rattle.std.proofs.Common.{◌≡◌, ℕ, zero, suc, ◌+◌, ◌-◌, ◌*◌, ◌/◌, ◌%◌, ◌^◌, ◌<◌, ◌≤◌, Bool, true, false, cond, ◌&&◌, eqb, leb, ltb, List, [], ◌∷◌, ◌++◌, length, get_or, Option, Some, None, Ok, Err, refl, ap, ◌∙◌, arith, length-append}
 use Rattle.std.specs.Prelude.{codes, decimal, fold, ok_or}
 use Rattle.std.specs.List.{list_all}
 use Rattle.std.specs.Char.{is_ascii_digit}
 use Rattle.std.proofs.lemmas.Bool.{le-leb, leb-true, lt-ltb, and_from, and_parts, ne_eqb}
 use Rattle.std.proofs.lemmas.Fmt.{decimal_by_steps, length-decimal-le}
 use Rattle.std.proofs.lemmas.List.Folds.{list_all-append}
-use Rattle.file_rows.specs.declared.cause.Cause.TheVariants.{Date, Time}
+use Rattle.desk_units.specs.Padded.{IsNameLength}
+use Rattle.file_rows.specs.declared.cause.Cause.TheVariants.{Date, Size, Time}
 use Rattle.desk_text.specs.Days.{day_of, is_leap, month_lengths}
 use Rattle.desk_text.specs.Texts.{two_digits, date_text, time_text, year_of, month_of, day_in_month}
 use Rattle.desk_text.specs.Seen.{is_seen}
-use Rattle.desk_text.specs.Fields.{◌>>=◌, only_if, decimal_value, digits_of, number_from, number_of, year_from, day_from, date_of, minutes_and_days, minute_from, time_of}
+use Rattle.desk_text.specs.Fields.{◌>>=◌, only_if, name_of, decimal_value, digits_of, number_from, number_of, year_from, day_from, date_of, minutes_and_days, minute_from, time_of}
 use Rattle.desk_text.specs.Moments.{minute_of}
 use Rattle.desk_text.proofs.DateLemmas.{reads_back, two_digit_year}
 
@@ -191,3 +192,8 @@ unfolding time_text
 time_seen minute lt =
     seen_both (two_digits (minute / 60)) (codes ":" ++ two_digits (minute % 60)) (two_seen (minute / 60) (omega arith))
     (seen_both (codes ":") (two_digits (minute % 60)) refl (two_seen (minute % 60) (omega arith)))
+
+-- ---- names
+
+pub name_back : (name : List ℕ) → IsNameLength (length name) → name_of name ≡ Ok name
+name_back name size = ap (λ t. cond t (Ok name) (Err Size)) (and_from (leb 1 (length name)) (leb (length name) 32) (le-leb 1 (length name) size.least) (le-leb (length name) 32 size.most))

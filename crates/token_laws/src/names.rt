@@ -2,12 +2,12 @@
 
 ghost use Rattle.std.specs.Prelude.{length, All};
 ghost use Rattle.desk_units.specs.Padded.{IsNameLength};
-ghost use Rattle.journal_laws.specs.Named.{HasNames};
+ghost use Rattle.token_laws.specs.Lengths.{HasNames};
 
 use desk_data::{Instance, LegInfo, PlaneInfo, ResInfo};
 
-/// Walks over all names of a day. That each has 1 to 32 bytes is what it ends with: it is what
-/// `written_journals_read_back` asks of a day.
+/// Walks over all names of a day. That each has 1 to 32 bytes is what it ends with: it is what the
+/// laws of written files ask of a day.
 pub fn walk_names(inst: &Instance)
     ensures { HasNames inst.now }
 {
