@@ -7,8 +7,8 @@ ghost use Rattle.desk_folder.specs.Files.{file_name};
 
 use crate::ending::Ending;
 use crate::refusal::Refusal;
-use desk_units::NoMem;
 use desk_folder::File;
+use desk_units::NoMem;
 use std::alloc::Global;
 
 // The line of a refusal.

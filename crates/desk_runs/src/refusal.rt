@@ -1,7 +1,6 @@
 //! Why an input is refused.
 
 use desk_folder::File;
-
 pub use file_rows::Cause;
 
 /// The first line that is refused.

@@ -1,5 +1,5 @@
 pub mod Orders
 pub mod Chain
-mod StoryLaws
+mod TaskLaws
 pub mod Commands
 pub mod Batches

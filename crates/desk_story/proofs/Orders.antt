@@ -5,7 +5,7 @@ use Rattle.std.specs.List.{list_all}
 use Rattle.std.proofs.lemmas.Bool.{cases_Bool}
 use Rattle.desk_folder.specs.declared.files.File.{File}
 use Rattle.desk_folder.specs.Files.{file_number}
-use Rattle.desk_runs.specs.declared.refusal.Cause.{Cause}
+use Rattle.file_rows.specs.declared.cause.Cause.{Cause}
 use Rattle.desk_runs.specs.declared.refusal.Refusal.{Refusal}
 use Rattle.folder_io.specs.Outputs.{is_among}
 use Rattle.folder_io.proofs.Among.{among_rest, among_first}

@@ -64,6 +64,25 @@ fn joined_task(
     }
 }
 
+// Reads the files of a command, one after another, for their rows.
+fn read_rows<F: Folder>(
+    alloc: Global,
+    command: &Command,
+    folder: &mut F,
+) -> Result<InputRows, StoryFault>
+    ensures exact { (x : Inputs) → Tells (files_read command.now) (F.outside folder.old) x →
+        GivesRead as_rows result (rows_of command.now x) }
+    ensures read { OnOk result (AreRead (files_read command.now) (F.outside folder.old) (F.outside folder.new)) }
+    ensures cause { IfErr result (HasReadCause (files_read command.now) (F.outside folder.old) (F.outside folder.new)) }
+    ensures only { ReadsAmong (files_read command.now) (F.outside folder.old) (F.outside folder.new) }
+    ensures in_order { (x : Inputs) → Tells (files_read command.now) (F.outside folder.old) x → (r : Refused) →
+        rows_of command.now x ≡ Err r → StopsAt r.file (F.outside folder.old) (F.outside folder.new) }
+    ensures stops { IfErr result (StopsAtFault (F.outside folder.old) (F.outside folder.new)) }
+    ensures facts { IfOk result AreInputRows }
+{
+    read_files(alloc, folder, files_read(command), InputRows::new(alloc))
+}
+
 /// Reads the files of a command in file order and joins their rows: each file's grammar is decided
 /// before the next file is read, and all of them before any name is looked up.
 ///
@@ -71,7 +90,6 @@ fn joined_task(
 /// `Refused` with the first refusal of the input; `ReadFault` only where the count of failed reads of
 /// that file rose, and no file before it is refused by its grammar; `Memory` at any time. No file is
 /// read behind one that its grammar refuses, or that could not be read.
-#[tactic(auto, unfolding(crate::specs::Story::task_of))]
 pub fn read_task<F: Folder>(
     alloc: Global,
     command: &Command,
@@ -89,6 +107,9 @@ pub fn read_task<F: Folder>(
     ensures sound { IfOk result CanBeDone }
     ensures files { IfOk result (λ task. files_for (as_task task) ≡ files_written command.now) }
 {
-    let rows = read_files(alloc, folder, files_read(command), InputRows::new(alloc))?;
+    let rows = match read_rows(alloc, command, folder) {
+        Ok(rows) => rows,
+        Err(fault) => return Err(fault),
+    };
     joined_task(alloc, command, &rows)
 }

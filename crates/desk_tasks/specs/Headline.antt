@@ -1,5 +1,5 @@
 -- The promise of the desk.
-use Rattle.std.specs.Prelude.{◌≡◌, List, Option, Some, None, IsSome}
+use Rattle.std.specs.Prelude.{◌≡◌, List, None, IsSome}
 use Rattle.std.specs.Io.KnownBytes.{Appends, Keeps}
 use Rattle.desk_folder.specs.declared.files.File.TheVariants as file
 use Rattle.desk_model.specs.declared.answer.Entry.{Entry}

@@ -10,5 +10,4 @@ ghost use Rattle.desk_tasks.specs.Headline.{HasHeadline};
 pub fn played_stories_carry_the_headline()
     ensures { (before : World) → (now : World) → (story : Story) → IsRunnable story →
         IsWritten before now (played story).texts → HasHeadline before now story }
-{
-}
+{}
