@@ -1,4 +1,4 @@
-use Rattle.std.proofs.Common.{◌≡◌, ℕ, List, ◌++◌, sym, ap, ◌∙◌}
+use Rattle.std.proofs.Common.{ℕ, List, ◌++◌, sym, ap, ◌∙◌}
 use Rattle.desk_model.specs.declared.answer.Entry.{Entry}
 use Rattle.desk_tasks.specs.Play.{batch_lines, end_lines, report_text}
 use Rattle.journal_text.proofs.Told.{legal-told-of}
