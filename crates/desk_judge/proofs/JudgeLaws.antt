@@ -2,11 +2,12 @@
 use Rattle.std.proofs.Common.{◌≡◌, ℕ, List, [], refl, sym, ap, ◌∙◌}
 use Rattle.std.specs.Prelude.{Option, Some, None, IfSome}
 use Rattle.folder_io.specs.Outputs.{FileText, files_of}
+use Rattle.desk_units.specs.declared.money.Grains.{Grains}
 use Rattle.desk_data.specs.declared.broken.Broken.{Broken}
 use Rattle.desk_data.specs.Situation.{Situation}
 use Rattle.desk_data.specs.PlanRows.{PlanRows}
 use Rattle.desk_rules.specs.Least.{least}
-use Rattle.desk_rules.specs.Cost.{cost}
+use Rattle.desk_rules.specs.Cost.{cost, grains}
 use Rattle.journal_text.specs.Told.{Names}
 use Rattle.journal_text.proofs.Told.{least-names}
 use Rattle.desk_runs.specs.declared.ending.Ending.{Ending}
@@ -22,6 +23,10 @@ use Rattle.desk_tasks.specs.Judge.{verdict_report, verdict_end, rule_status, ver
 pub item-names : (I : Situation) (P : PlanRows) (o : Option Broken) → o ≡ least I P → IfSome o (Names I)
 item-names I P None e = tt
 item-names I P (Some item) e = least-names I P item (sym e)
+
+-- the report of a cost that is that of the plan
+pub report-is : (I : Situation) (P : PlanRows) (o : Option Broken) (report : List ℕ) (found : Grains) → report ≡ verdict_report I o found.0 → found ≡ grains (cost I P) → report ≡ verdict_report I o (cost I P)
+report-is I P o report found is same = is ∙ ap (λ (g : Grains). verdict_report I o g.0) same
 
 -- these texts of files, and a report
 abbrev pub told : List FileText → List ℕ → Texts

@@ -2,11 +2,9 @@
 
 ghost use Rattle.std.specs.Prelude.{◌≡◌, ◌++◌, [], IfOk, IfSome, OnOk};
 ghost use Rattle.desk_data.specs.Valid.{IsPlanFor};
-ghost use Rattle.desk_rules.specs.Least.{least};
 ghost use Rattle.journal_text.specs.Told.{Names};
 ghost use Rattle.desk_tasks.specs.Judge.{verdict_text, verdict_report, verdict_end, verdict};
 ghost use Rattle.desk_runs.specs.Runs.{world};
-ghost use Rattle.desk_runs.specs.Writing.{as_texts};
 ghost use Rattle.desk_runs.specs.Finishing.{Completes};
 
 use desk_data::{Broken, Grains, Instance, NoMem, Plan};

@@ -1,7 +1,6 @@
 -- What came of the events of a story is written.
 use Rattle.std.proofs.Common.{◌≡◌, ℕ, true, List, refl, sym, ap, ◌∙◌}
 use Rattle.std.specs.Prelude.{Option, Some, None}
-use Rattle.desk_folder.specs.declared.files.File.{File}
 use Rattle.folder_io.specs.Outputs.{files_of, are_different}
 use Rattle.desk_data.specs.declared.broken.Broken.{Broken}
 use Rattle.desk_data.specs.Situation.{Situation}

@@ -3,9 +3,10 @@
 //! `play_events` opens the book of a day, has it answer each event, makes the texts of the output files and
 //! of the report, and writes them in their order. All texts are made before the first is written.
 //!
-//! Proved: what is written is the `outcome` of desk_runs of that day and these events: the journal of their
-//! history and, where there is one, its last plan; or a beginning of it, with the call that failed. It stands
-//! on `desk_core`, the crates of texts and `desk_runs`, and on no reader.
+//! Proved: what is written is what that day and these events come to, `played` of desk_tasks: the journal of
+//! their history and, where there is one, the rotations and itineraries of its last plan; or a beginning of
+//! it, with the call that failed. It stands on `desk_core`, the crates of texts, `desk_runs` and `desk_tasks`,
+//! and on no reader.
 #![tactic(auto)]
 
 mod play;

@@ -25,8 +25,8 @@ fn end_with(broken: Option<Broken>) -> Ending
     }
 }
 
-/// Takes these events on a day, each with its caller, and writes the journal with its answers, the
-/// rotations of the last plan where there is one, and the report.
+/// Takes these events on a day, each with its caller, and writes the rotations and the itineraries of the
+/// last plan where there is one, the journal with its answers, and the report.
 ///
 /// It ends with `Done` or `NoPlan` when all is written. A write that fails ends it with that fault, and
 /// `Memory` may come at any time: what is written by then is a beginning of the texts, in their order.

@@ -80,7 +80,7 @@ fn push_batches(text: &mut Vec<u8>, inst: &Instance, entries: &[Entry]) -> Resul
 }
 
 // Adds how many changes there were, and the cost of the plan or what is broken.
-#[tactic(auto, unfolding(desk_runs::specs::Outcome::end_lines))]
+#[tactic(auto, unfolding(desk_tasks::specs::Play::end_lines))]
 fn push_end(text: &mut Vec<u8>, book: &Book) -> Result<(), NoMem>
     ensures { OnOk result (text.new.items ≡ text.old.items ++ end_lines book.now.opening book.now.journal) }
 {

@@ -1,14 +1,13 @@
-use Rattle.std.proofs.Common.{ℕ, List, [], sym, ap, subst, ◌∙◌}
+use Rattle.std.proofs.Common.{ℕ, List, [], sym, ap, subst}
 use Rattle.std.specs.declared.alloc.Global.{Global}
 use Rattle.std.specs.declared.vec.Vec.{Vec}
 use Rattle.desk_folder.specs.declared.files.File.{File}
 use Rattle.desk_folder.specs.Entries.{named_texts}
-use Rattle.desk_units.specs.declared.money.Grains.{Grains}
 use Rattle.desk_runs.specs.declared.ending.Ending.{Ending}
 use Rattle.desk_runs.specs.Runs.{world}
 use Rattle.desk_runs.specs.Finishing.{Completes}
-use Rattle.desk_tasks.specs.Judge.{verdict_report, verdict}
-use Rattle.desk_judge.proofs.JudgeLaws.{item-names, judged-all, judged-short}
+use Rattle.desk_tasks.specs.Judge.{verdict}
+use Rattle.desk_judge.proofs.JudgeLaws.{item-names, report-is, judged-all, judged-short}
 use Rattle.desk_judge.proofs.judge.judge_plan.Goals as goal
 
 pub verdict_report-requires : goal.verdict_report-requires
@@ -23,7 +22,7 @@ returns-in-Ok-put_outputs g c =
     subst (λ (how : Ending). Completes [] before now (verdict I P) how) (sym c.end_with.ensures)
     (judged-all before now I P c.in-Ok.broken (named_texts c.new.result.items) c.in-Ok-verdict_report.report.items c.in-Ok-put_outputs.field-0 c.in-Ok.ensures
     (ap (λ (files : List (File × Vec ℕ Global)). named_texts files) c.new.ensures.items)
-    (c.in-Ok-verdict_report.ensures ∙ ap (λ (cost : Grains). verdict_report I c.in-Ok.broken cost.0) c.full_cost.ensures.cost)
+    (report-is I P c.in-Ok.broken c.in-Ok-verdict_report.report.items c.full_cost.result c.in-Ok-verdict_report.ensures c.full_cost.ensures.cost)
     c.in-Ok-put_outputs.ensures)
 
 pub returns : goal.returns
@@ -34,5 +33,5 @@ returns g c =
     let P = c.args.plan.now in
     judged-short before now I P c.in-Ok.broken (named_texts c.new.result.items) c.in-Ok-verdict_report.report.items c.in-Err-put_outputs.end c.in-Ok.ensures
     (ap (λ (files : List (File × Vec ℕ Global)). named_texts files) c.new.ensures.items)
-    (c.in-Ok-verdict_report.ensures ∙ ap (λ (cost : Grains). verdict_report I c.in-Ok.broken cost.0) c.full_cost.ensures.cost)
+    (report-is I P c.in-Ok.broken c.in-Ok-verdict_report.report.items c.full_cost.result c.in-Ok-verdict_report.ensures c.full_cost.ensures.cost)
     c.in-Err-put_outputs.ensures

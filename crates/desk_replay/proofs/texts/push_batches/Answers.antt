@@ -1,4 +1,4 @@
-use Rattle.std.proofs.Common.{sym, subst, ◌∙◌}
+use Rattle.std.proofs.Common.{sym, ◌∙◌}
 use Rattle.desk_replay.proofs.BatchLaws.{told-start, told-batch, told-move}
 use Rattle.desk_replay.proofs.texts.push_batches.Goals.{then-is_batch+in_ok-push_batch, else-is_batch}
 use Rattle.desk_replay.proofs.texts.push_batches.Goals as goal

@@ -1,6 +1,6 @@
-use Rattle.std.proofs.Common.{◌≡◌, ℕ, List, ◌++◌, sym, ap, ◌∙◌}
+use Rattle.std.proofs.Common.{ℕ, List, ◌++◌, sym, ap, ◌∙◌}
 use Rattle.desk_model.specs.declared.answer.Entry.{Entry}
-use Rattle.desk_runs.specs.Outcome.{batch_lines, end_lines, report_text}
+use Rattle.desk_tasks.specs.Play.{batch_lines, end_lines, report_text}
 use Rattle.journal_text.proofs.Told.{legal-told-of}
 use Rattle.desk_replay.proofs.BatchLaws.{lines-same}
 use Rattle.desk_replay.proofs.texts.report_text.Goals as goal
