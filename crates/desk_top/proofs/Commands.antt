@@ -1,20 +1,18 @@
 -- What each command did, once it was done.
-use Rattle.std.proofs.Common.{◌≡◌, ◌≢◌, ℕ, List, refl, sym, ap, subst, ◌∙◌}
+use Rattle.std.proofs.Common.{◌≡◌, ◌≢◌, ℕ, refl, sym, subst, ◌∙◌}
 use Rattle.std.specs.Prelude.{Option, Some, None, Result, Ok, Err}
 use Rattle.std.specs.Io.KnownBytes.{Appends}
 use Rattle.std.specs.Option.{option_map}
-use Rattle.desk_folder.specs.Outside.{Directories}
 use Rattle.desk_rules.specs.Least.{least}
 use Rattle.desk_rules.specs.Cost.{cost}
 use Rattle.desk_words.specs.declared.asked.Command.{Command}
 use Rattle.desk_words.specs.declared.asked.Command.TheVariants as command_is
 use Rattle.desk_words.specs.Commands.{Asking}
 use Rattle.desk_runs.specs.declared.refusal.Refusal.{Refusal}
-use Rattle.desk_runs.specs.Commands.{Ask, asks, asked_here}
+use Rattle.desk_runs.specs.Commands.{asks, asked_here}
 use Rattle.desk_runs.specs.Inputs.{Inputs}
-use Rattle.desk_runs.specs.Outcome.{Outcome}
 use Rattle.desk_runs.specs.Runs.{World, IsWritten}
-use Rattle.desk_runs.proofs.CausesLaw.{usage-only, run-asked}
+use Rattle.desk_runs.proofs.CausesLaw.{usage-only}
 use Rattle.desk_text.specs.Rows.{◌>>=◌}
 use Rattle.desk_tasks.specs.Play.{Story}
 use Rattle.desk_tasks.specs.Judge.{Judged, verdict, verdict_report, rule_status, judged}

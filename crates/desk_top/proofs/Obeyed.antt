@@ -1,18 +1,17 @@
 -- A command from how its reading ended.
-use Rattle.std.proofs.Common.{◌≡◌, ℕ, List, sym, subst}
-use Rattle.std.specs.Prelude.{Result, Ok, Err}
+use Rattle.std.proofs.Common.{◌≡◌, List, subst}
+use Rattle.std.specs.Prelude.{Ok, Err}
 use Rattle.desk_folder.specs.declared.files.File.{File}
 use Rattle.desk_folder.specs.Outside.{Outside, SinkSide}
 use Rattle.desk_words.specs.declared.asked.Command.{Command}
 use Rattle.desk_runs.specs.declared.ending.Ending.{Ending}
-use Rattle.desk_runs.specs.declared.refusal.Refusal.{Refusal}
 use Rattle.desk_runs.specs.Commands.{files_read, files_written}
 use Rattle.desk_runs.specs.Inputs.{Inputs, Tells}
-use Rattle.desk_runs.specs.Reading.{ReadsAmong, StopsAt}
+use Rattle.desk_runs.specs.Reading.{ReadsAmong}
 use Rattle.desk_runs.specs.Runs.{world, AreRead}
 use Rattle.desk_runs.specs.Finishing.{Completes}
-use Rattle.desk_runs.proofs.Composed.{here, InOrder, Tries, Prepares, obeys-done, obeys-refused, obeys-unread, obeys-memory}
-use Rattle.desk_tasks.specs.Tasks.{Task, outcome, IsSound, files_for}
+use Rattle.desk_runs.proofs.Composed.{here, InOrder, Tries, obeys-done, obeys-refused, obeys-unread, obeys-memory}
+use Rattle.desk_tasks.specs.Tasks.{outcome, IsSound, files_for}
 use Rattle.desk_story.specs.declared.fault.StoryFault.{StoryFault}
 use Rattle.desk_story.specs.declared.fault.StoryFault.TheVariants as fault
 use Rattle.desk_story.specs.declared.task.InputTask.{InputTask}

@@ -1,14 +1,12 @@
 -- What is said of a run of the desk, where its inputs mean what the files' grammars and their join say.
 use Rattle.std.specs.Prelude.{◌≡◌, ℕ, List, Option, Ok}
 use Rattle.std.specs.Io.KnownBytes.{Appends}
-use Rattle.desk_folder.specs.Outside.{Outside}
 use Rattle.desk_model.specs.declared.answer.Entry.{Entry}
 use Rattle.desk_rules.specs.Least.{least}
 use Rattle.desk_rules.specs.Cost.{cost}
 use Rattle.desk_words.specs.declared.asked.Command.{Command}
 use Rattle.desk_words.specs.declared.asked.Command.TheVariants as command_is
 use Rattle.desk_runs.specs.declared.ending.Ending.{Ending}
-use Rattle.desk_runs.specs.declared.refusal.Refusal.{Refusal}
 use Rattle.desk_runs.specs.Commands.{Ask}
 use Rattle.desk_runs.specs.Inputs.{Inputs}
 use Rattle.desk_runs.specs.Outcome.{Texts}

@@ -19,4 +19,5 @@ mod plain;
 mod tests;
 
 pub use desk::desk_main;
+pub use desk_words::Command;
 pub use plain::run_plain;

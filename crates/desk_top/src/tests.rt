@@ -5,9 +5,9 @@ use desk_data::NoMem;
 use desk_folder::{File, FreeGate, MemFolder, MemSink};
 use std::alloc::Global;
 
-/// A day with a reservation on each leg, with prices, with orders of each kind, and with a proposal for
-/// each kind of answer, before two batches and between them.
-const DAY: [(File, &str); 14] = [
+/// A day with a reservation on each leg, with prices, with orders of each kind, with a proposal for each
+/// kind of answer, before two batches and between them, and with a plan that meets the rules behind both.
+const DAY: [(File, &str); 16] = [
     (File::Config, "01/03/08 06:00 02/03/08 06:00\n"),
     (
         File::Flights,
@@ -43,16 +43,44 @@ const DAY: [(File, &str); 14] = [
         File::Journal,
         "1,move,set F3 01/03/08 + P2 01/03/08 12:00 + P2 02/03/08 06:00\n1,move,set F3 01/03/08 + P2 01/03/08 12:00 + P1 01/03/08 12:00\n1,move,set F3 01/03/08 + P1 01/03/08 12:00 -\n0,batch,0\n1,move,tidy\n0,batch,1\n",
     ),
+    (
+        File::SolRotations,
+        "F1 01/03/08 P1 01/03/08 09:00\nF2 01/03/08 cancelled\nF3 01/03/08 P2 01/03/08 12:45\n",
+    ),
+    (
+        File::SolItineraries,
+        "R1 A 10 F1 01/03/08 E\nR2 A 4\nR3 A 9 F3 01/03/08 E\n",
+    ),
 ];
 
-/// A file that is changed, its text, and the status of that run.
-const RUNS: [(File, &str, u8); 6] = [
-    (File::Config, "01/03/08 06:00 02/03/08 06:00\n", 0),
-    (File::Itineraries, "", 0),
-    (File::Config, "01/03/08 09:00 02/03/08 06:00\n", 1),
-    (File::Dist, "AAA BBB 60 X\n", 3),
-    (File::Tariff, "position,1\nposition,2\n", 3),
-    (File::Feed, "2,none\n", 3),
+/// The words of a run, a file that is changed, its text, and the status of that run.
+const RUNS: [(&str, File, &str, u8); 11] = [
+    (
+        "replay in out",
+        File::Config,
+        "01/03/08 06:00 02/03/08 06:00\n",
+        0,
+    ),
+    ("replay in out", File::Itineraries, "", 0),
+    (
+        "replay in out",
+        File::Config,
+        "01/03/08 09:00 02/03/08 06:00\n",
+        1,
+    ),
+    ("replay in out", File::Dist, "AAA BBB 60 X\n", 3),
+    ("replay in out", File::Tariff, "position,1\nposition,2\n", 3),
+    ("replay in out", File::Feed, "2,none\n", 3),
+    ("check in out", File::Journal, "", 0),
+    (
+        "check in out",
+        File::AltAircraft,
+        "P1 01/03/08 09:00 01/03/08 09:45\n",
+        7,
+    ),
+    ("check in out", File::SolItineraries, "R1 A 10\n", 3),
+    ("gen out --seed 7 --size=1", File::Config, "", 0),
+    ("gen out --size 41", File::Config, "", 2),
 ];
 
 /// A folder with the files of the day, but for one that has this text.
@@ -65,18 +93,18 @@ fn folder_of(alloc: Global, changed: File, text: &str) -> Result<MemFolder, NoMe
     Ok(MemFolder::new(inputs, Vec::new(alloc), Vec::new(alloc)))
 }
 
-/// The words of a replay.
-fn replay_words(alloc: Global) -> Result<Vec<String>, NoMem> {
+/// The words of this text.
+fn words_of(alloc: Global, text: &str) -> Result<Vec<String>, NoMem> {
     let mut words = Vec::new(alloc);
-    for word in ["replay", "in", "out"] {
+    for word in text.split_whitespace() {
         words.push(String::from_str(alloc, word)?)?;
     }
     Ok(words)
 }
 
 /// The status of a run, or an error where memory ran out before it began.
-fn status_of_run(alloc: Global, changed: File, text: &str) -> Result<u8, NoMem> {
-    let words = replay_words(alloc)?;
+fn status_of_run(alloc: Global, words: &str, changed: File, text: &str) -> Result<u8, NoMem> {
+    let words = words_of(alloc, words)?;
     let mut folder = folder_of(alloc, changed, text)?;
     let mut out = MemSink::new(Vec::new(alloc));
     Ok(desk_main(alloc, words.as_slice(), &mut folder, &mut out, &FreeGate))
@@ -84,11 +112,11 @@ fn status_of_run(alloc: Global, changed: File, text: &str) -> Result<u8, NoMem> 
 
 #[test]
 fn running_out_of_memory_gives_status_6_or_the_runs_own(rt: HostRuntime) {
-    for (file, text, own) in &RUNS {
-        if let Ok(status) = status_of_run(rt.alloc(), *file, text) {
+    for (words, file, text, own) in &RUNS {
+        if let Ok(status) = status_of_run(rt.alloc(), words, *file, text) {
             assert!(rt;
                 status == *own || status == 6,
-                "status {status} with {file}"
+                "status {status} of {words} with {file}"
             );
         }
     }

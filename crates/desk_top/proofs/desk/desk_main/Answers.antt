@@ -1,8 +1,7 @@
-use Rattle.std.proofs.Common.{ℕ, List, [], map, ap}
+use Rattle.std.proofs.Common.{[], map, ap}
 use Rattle.std.specs.String.{string_bytes}
 use Rattle.std.specs.Option.{option_map}
 use Rattle.std.specs.Prelude.{Option}
-use Rattle.desk_folder.specs.declared.files.File.{File}
 use Rattle.desk_words.specs.declared.asked.Command.TheVariants as command_is
 use Rattle.desk_words.specs.Commands.{Asking, command}
 use Rattle.desk_runs.specs.Commands.{asks, asked_by}

@@ -14,8 +14,8 @@ returns-in-Err g c =
     (obeyed-fault c.args.command.now (outside c.args.folder.now) (outside c.read_task.new.folder) sink c.in-Err.fault
     c.read_task.ensures.only c.read_task.ensures.in_order c.in-Err.ensures.stops c.in-Err.ensures.cause c.in-Err.ensures.exact)
 
-pub returns : goal.returns
-returns g c =
+pub returns-in-Ok : goal.returns-in-Ok
+returns-in-Ok g c =
     let outside = g.F.Folder.outside in
     obeyed-task c.args.command.now (outside c.args.folder.now) (outside c.read_task.new.folder) (outside c.do_task.new.folder) (g.O.Sink.report c.args.out.now) (g.O.Sink.report c.do_task.new.out)
     c.in-Ok.task c.do_task.result c.read_task.ensures.only c.read_task.ensures.in_order c.in-Ok.ensures.read c.in-Ok.ensures.exact c.in-Ok.ensures.sound c.in-Ok.ensures.files c.do_task.ensures

@@ -7,4 +7,4 @@ use Rattle.desk_top.proofs.plain.told.Goals as goal
 pub returns : goal.returns
 returns g c =
     runs-told meaning (asked_here c.args.command.now) (world (g.F.Folder.outside c.args.folder.now) (g.O.Sink.report c.args.out.now))
-    (world (g.F.Folder.outside c.obey.new.folder) (g.O.Sink.report c.obey.new.out)) (g.O.Sink.report c.tell.new.out) c.obey.result c.tell.result c.obey.ensures c.tell.ensures
+    (world (g.F.Folder.outside c.obey-ending.new.folder) (g.O.Sink.report c.obey-ending.new.out)) (g.O.Sink.report c.tell.new.out) c.obey-ending.result c.tell.result c.obey-ending.ensures c.tell.ensures
