@@ -3,6 +3,7 @@ use Rattle.std.specs.Prelude.{◌≡◌, ℕ, ◌+◌, ◌-◌, ◌<◌, ◌≤�
 use Rattle.std.specs.Map.{lookup}
 use Rattle.std.specs.Ordering.{nat_cmp, ordering_then, is_eq}
 use Rattle.desk_data.specs.declared.row.Row.{Row}
+use Rattle.desk_data.specs.declared.row.Row.TheVariants.{Flown, Cancelled}
 use Rattle.desk_data.specs.Situation.{Situation, legs_of, leg_at, plane_at}
 use Rattle.desk_data.specs.PlanRows.{PlanRows, row_at}
 use Rattle.desk_rules.specs.Numbers.{numbers}
@@ -51,6 +52,15 @@ departs_at I a h y row = is_flown row && not (plane_at I (leg_at I y).plane.0).s
 
 abbrev pub arrives_at : Situation → ℕ → ℕ → ℕ → Row → Bool
 arrives_at I a h y row = is_flown row && not (plane_at I (leg_at I y).plane.0).surface && ((leg_at I y).dest.0 == a) && (hour_of (departure row + (leg_at I y).block) == h)
+
+-- the airport and the hour of that, if there is one
+abbrev pub departure_of : Situation → ℕ → Row → Option (ℕ × ℕ)
+departure_of I y (Flown plane dep) = if (plane_at I (leg_at I y).plane.0).surface then None else Some ((leg_at I y).origin.0, hour_of dep.0)
+departure_of I y Cancelled = None
+
+abbrev pub arrival_of : Situation → ℕ → Row → Option (ℕ × ℕ)
+arrival_of I y (Flown plane dep) = if (plane_at I (leg_at I y).plane.0).surface then None else Some ((leg_at I y).dest.0, hour_of (dep.0 + (leg_at I y).block))
+arrival_of I y Cancelled = None
 
 -- what is counted of departures and of arrivals
 pub record Counted : Type 0 where

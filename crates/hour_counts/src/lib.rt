@@ -2,7 +2,7 @@
 //!
 //!     let mut counts = HourCounts::of(alloc, &inst, &plan)?;            // one walk over the legs
 //!     counts.departures_beside(&inst, leg, row, airport, hour)          // with no walk
-//!     counts.place(&inst, leg, was, new)?;                              // a leg has another row
+//!     counts.place(&inst, leg, was, new)?;                             // a leg has another row
 //!
 //! Counted are the legs that are flown and whose scheduled aircraft is no surface transport; a look-up
 //! leaves the leg out that it is asked for.
@@ -11,4 +11,7 @@
 //! `arrivals_beside` of desk_model. It stands on `desk_data`, `desk_rules`, `desk_model` and `plan_reads`.
 #![tactic(auto)]
 
+mod counts;
 mod table;
+
+pub use counts::HourCounts;
