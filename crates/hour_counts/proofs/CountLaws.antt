@@ -1,5 +1,5 @@
 -- What is counted of a plan, and what another row of one leg changes.
-use Rattle.std.proofs.Common.{◌≡◌, ◌≢◌, ℕ, zero, suc, ◌+◌, ◌-◌, ◌<◌, ◌≤◌, ◌⊎◌, inl, inr, Bool, true, false, cond, List, [], ◌∷◌, ◌++◌, refl, sym, ap, subst, ◌∙◌, arith, get_or}
+use Rattle.std.proofs.Common.{◌≡◌, ◌≢◌, ℕ, zero, suc, ◌+◌, ◌-◌, ◌<◌, ◌≤◌, ◌⊎◌, inl, inr, Bool, true, false, cond, List, [], ◌∷◌, ◌++◌, length, refl, sym, ap, subst, ◌∙◌, arith, get_or}
 use Rattle.std.specs.Prelude.{Option, Some, None, ◌&&◌, not, ◌==◌}
 use Rattle.std.specs.List.{sum_by, count_by}
 use Rattle.std.proofs.lemmas.List.{get_or-set_same, get_or-set_other}
@@ -13,6 +13,7 @@ use Rattle.desk_data.specs.PlanRows.{PlanRows, row_at, with_row}
 use Rattle.desk_rules.specs.Numbers.{numbers}
 use Rattle.desk_rules.specs.Rotations.{departure}
 use Rattle.desk_rules.specs.Slots.{hour_of}
+use Rattle.desk_model.specs.Push.{departs_beside, arrives_beside, departures_beside, arrivals_beside}
 use Rattle.hour_counts.specs.Counts.{one_if, among, departs_at, arrives_at, departure_of, arrival_of}
 
 -- terms that agree below n have one sum
@@ -54,3 +55,35 @@ arrives_among I a h y (Flown plane dep) =
       | inl up ↦ rw up refl
       | inr down ↦ rw down refl
     ]
+
+other_number : (y x : ℕ) → y ≢ x → (y == x) ≡ false
+other_number y x apart = grind (arith, nat_tests)
+
+itself : (x : ℕ) → (x == x) ≡ true
+itself x = grind (arith, nat_tests)
+
+-- the legs beside a leg are all that are counted, without its own row
+pub departures_are : (I : Situation) (Q : PlanRows) (x a h n : ℕ) (row : Row) → x < legs_of I → row_at Q x ≡ row → n ≡ count_by (λ y. departs_at I a h y (row_at Q y)) (numbers (legs_of I)) → n - among (departure_of I x row) a h ≡ departures_beside I Q x a h
+departures_are I Q x a h n row lt here is =
+    let own : one_if (departs_at I a h x (row_at Q x)) ≡ among (departure_of I x row) a h = departs_among I a h x (row_at Q x) ∙ ap (λ r. among (departure_of I x r) a h) here in
+    let none : one_if (departs_beside I Q x a h x) ≡ 0 = rw (itself x) refl in
+    omega (arith, is, own, none, count_change (departs_beside I Q x a h) (λ y. departs_at I a h y (row_at Q y)) (legs_of I) x lt (λ y apart. rw (other_number y x apart) refl))
+
+pub arrivals_are : (I : Situation) (Q : PlanRows) (x a h n : ℕ) (row : Row) → x < legs_of I → row_at Q x ≡ row → n ≡ count_by (λ y. arrives_at I a h y (row_at Q y)) (numbers (legs_of I)) → n - among (arrival_of I x row) a h ≡ arrivals_beside I Q x a h
+arrivals_are I Q x a h n row lt here is =
+    let own : one_if (arrives_at I a h x (row_at Q x)) ≡ among (arrival_of I x row) a h = arrives_among I a h x (row_at Q x) ∙ ap (λ r. among (arrival_of I x r) a h) here in
+    let none : one_if (arrives_beside I Q x a h x) ≡ 0 = rw (itself x) refl in
+    omega (arith, is, own, none, count_change (arrives_beside I Q x a h) (λ y. arrives_at I a h y (row_at Q y)) (legs_of I) x lt (λ y apart. rw (other_number y x apart) refl))
+
+-- another row of leg x changes what is counted by its own two rows
+pub departures_change : (I : Situation) (Q : PlanRows) (x a h : ℕ) (row : Row) → x < legs_of I → x < length Q.rows → count_by (λ y. departs_at I a h y (row_at (with_row Q x row) y)) (numbers (legs_of I)) + among (departure_of I x (row_at Q x)) a h ≡ count_by (λ y. departs_at I a h y (row_at Q y)) (numbers (legs_of I)) + among (departure_of I x row) a h
+departures_change I Q x a h row lt within =
+    let R = with_row Q x row in
+    omega (arith, departs_among I a h x (row_at Q x), departs_among I a h x (row_at R x) ∙ ap (λ r. among (departure_of I x r) a h) (get_or-set_same Q.rows x row Cancelled within),
+    count_change (λ y. departs_at I a h y (row_at R y)) (λ y. departs_at I a h y (row_at Q y)) (legs_of I) x lt (λ y apart. ap (departs_at I a h y) (get_or-set_other Q.rows x y row Cancelled apart)))
+
+pub arrivals_change : (I : Situation) (Q : PlanRows) (x a h : ℕ) (row : Row) → x < legs_of I → x < length Q.rows → count_by (λ y. arrives_at I a h y (row_at (with_row Q x row) y)) (numbers (legs_of I)) + among (arrival_of I x (row_at Q x)) a h ≡ count_by (λ y. arrives_at I a h y (row_at Q y)) (numbers (legs_of I)) + among (arrival_of I x row) a h
+arrivals_change I Q x a h row lt within =
+    let R = with_row Q x row in
+    omega (arith, arrives_among I a h x (row_at Q x), arrives_among I a h x (row_at R x) ∙ ap (λ r. among (arrival_of I x r) a h) (get_or-set_same Q.rows x row Cancelled within),
+    count_change (λ y. arrives_at I a h y (row_at R y)) (λ y. arrives_at I a h y (row_at Q y)) (legs_of I) x lt (λ y apart. ap (arrives_at I a h y) (get_or-set_other Q.rows x y row Cancelled apart)))

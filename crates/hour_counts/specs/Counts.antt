@@ -46,12 +46,16 @@ Leaves old new gone = (b k : ℕ) → count_at new b k ≡ count_at old b k - am
 
 -- ---- what a plan has
 
--- whether leg y departs from airport a in hour h by a row, or arrives there then: it is flown, and by its scheduled aircraft no surface transport
+-- whether leg y is counted by a row: it is flown, and by its scheduled aircraft no surface transport
+abbrev pub is_counted : Situation → ℕ → Row → Bool
+is_counted I y row = is_flown row && not (plane_at I (leg_at I y).plane.0).surface
+
+-- whether such a leg departs from airport a in hour h, or arrives there then
 abbrev pub departs_at : Situation → ℕ → ℕ → ℕ → Row → Bool
-departs_at I a h y row = is_flown row && not (plane_at I (leg_at I y).plane.0).surface && ((leg_at I y).origin.0 == a) && (hour_of (departure row) == h)
+departs_at I a h y row = is_counted I y row && ((leg_at I y).origin.0 == a) && (hour_of (departure row) == h)
 
 abbrev pub arrives_at : Situation → ℕ → ℕ → ℕ → Row → Bool
-arrives_at I a h y row = is_flown row && not (plane_at I (leg_at I y).plane.0).surface && ((leg_at I y).dest.0 == a) && (hour_of (departure row + (leg_at I y).block) == h)
+arrives_at I a h y row = is_counted I y row && ((leg_at I y).dest.0 == a) && (hour_of (departure row + (leg_at I y).block) == h)
 
 -- the airport and the hour of that, if there is one
 abbrev pub departure_of : Situation → ℕ → Row → Option (ℕ × ℕ)
