@@ -1,12 +1,12 @@
 -- Numbers by airport and hour.
-use Rattle.std.proofs.Common.{◌≡◌, ◌≢◌, ℕ, zero, suc, ◌+◌, ◌-◌, ◌<◌, ◌≤◌, ◌⊎◌, inl, inr, Bool, true, false, cond, List, [], ◌∷◌, refl, sym, ap, ◌∙◌, arith}
-use Rattle.std.specs.Prelude.{◌&&◌, ◌==◌, Option, Some, None, cond}
+use Rattle.std.proofs.Common.{◌≡◌, ℕ, Bool, true, false, cond, List, refl, ap, ◌∙◌, arith}
+use Rattle.std.specs.Prelude.{◌&&◌, ◌==◌, Option, Some, cond}
 use Rattle.std.specs.Map.{lookup}
 use Rattle.std.specs.Ordering.{nat_cmp, ordering_then, is_eq}
 use Rattle.std.specs.declared.cmp.Ordering.{Ordering}
 use Rattle.std.specs.declared.cmp.Ordering.TheVariants.{Less, Equal, Greater}
 use Rattle.std.proofs.lemmas.Bool.Decides.{nat_tests}
-use Rattle.hour_counts.specs.Counts.{is_slot, or_none, count_at, one_if, among, IsWritten, Enters, Leaves}
+use Rattle.hour_counts.specs.Counts.{is_slot, or_none, count_at, IsWritten}
 
 eq_then : (a b : Ordering) → is_eq (ordering_then a b) ≡ (is_eq a && is_eq b)
 eq_then Less b = refl
@@ -29,6 +29,3 @@ written_from old new a h count updates b k =
     ap or_none (updates (b, k))
     ∙ or_cond (is_eq (ordering_then (nat_cmp a b) (nat_cmp h k))) count (lookup (is_slot b k) old)
     ∙ ap (λ (t : Bool). cond t count (count_at old b k)) (same_place a b h k)
-
-same_first : (a b h k : ℕ) → ((a == b) && (h == k)) ≡ true → (a ≡ b) × (h ≡ k)
-same_first a b h k e = (grind (arith, nat_tests), grind (arith, nat_tests))

@@ -1,7 +1,9 @@
 -- How many legs depart from an airport in an hour, and arrive there.
-use Rattle.std.specs.Prelude.{◌≡◌, ℕ, ◌+◌, ◌-◌, ◌<◌, ◌≤◌, Bool, true, false, ◌&&◌, not, ◌==◌, if◌then◌else◌, List, Option, Some, None, count_by, cond}
+use Rattle.std.specs.Prelude.{◌≡◌, ℕ, ◌+◌, ◌-◌, ◌≤◌, Bool, ◌&&◌, not, ◌==◌, if◌then◌else◌, List, Option, Some, None, count_by, cond}
+use Rattle.std.specs.Option.{option_map}
 use Rattle.std.specs.Map.{lookup}
 use Rattle.std.specs.Ordering.{nat_cmp, ordering_then, is_eq}
+use Rattle.desk_units.specs.declared.numbers.Minute.{Minute}
 use Rattle.desk_data.specs.declared.row.Row.{Row}
 use Rattle.desk_data.specs.declared.row.Row.TheVariants.{Flown, Cancelled}
 use Rattle.desk_data.specs.Situation.{Situation, legs_of, leg_at, plane_at}
@@ -57,14 +59,17 @@ departs_at I a h y row = is_counted I y row && ((leg_at I y).origin.0 == a) && (
 abbrev pub arrives_at : Situation → ℕ → ℕ → ℕ → Row → Bool
 arrives_at I a h y row = is_counted I y row && ((leg_at I y).dest.0 == a) && (hour_of (departure row + (leg_at I y).block) == h)
 
--- the airport and the hour of that, if there is one
+-- when a leg departs that is counted
+abbrev pub counted_departure : Situation → ℕ → Row → Option Minute
+counted_departure I y (Flown plane dep) = if (plane_at I (leg_at I y).plane.0).surface then None else Some dep
+counted_departure I y Cancelled = None
+
+-- the airport and the hour of its departure, and of its arrival
 abbrev pub departure_of : Situation → ℕ → Row → Option (ℕ × ℕ)
-departure_of I y (Flown plane dep) = if (plane_at I (leg_at I y).plane.0).surface then None else Some ((leg_at I y).origin.0, hour_of dep.0)
-departure_of I y Cancelled = None
+departure_of I y row = option_map (λ (dep : Minute). ((leg_at I y).origin.0, hour_of dep.0)) (counted_departure I y row)
 
 abbrev pub arrival_of : Situation → ℕ → Row → Option (ℕ × ℕ)
-arrival_of I y (Flown plane dep) = if (plane_at I (leg_at I y).plane.0).surface then None else Some ((leg_at I y).dest.0, hour_of (dep.0 + (leg_at I y).block))
-arrival_of I y Cancelled = None
+arrival_of I y row = option_map (λ (dep : Minute). ((leg_at I y).dest.0, hour_of (dep.0 + (leg_at I y).block))) (counted_departure I y row)
 
 -- what is counted of departures and of arrivals
 pub record Counted : Type 0 where
