@@ -8,25 +8,30 @@ ghost use Rattle.desk_data.specs.Valid.{IsPlanFor};
 ghost use Rattle.desk_rules.specs.Rotations.{ground};
 ghost use Rattle.desk_model.specs.Choices.{first_within};
 ghost use Rattle.desk_model.specs.Push.{can_depart, first_departure, ready_moment};
+ghost use Rattle.hour_counts.specs.Counts.{AreCountsOf};
 ghost use Rattle.plan_push.specs.Placings.{AreLegs, IsPlacing};
 
 use crate::pushed::Placing;
 use crate::ruled_out::ruled_out_until;
 use desk_data::{Instance, Leg, Minute, Plane};
+use hour_counts::HourCounts;
 use plan_reads::{ReadPlan, arrival};
 
 /// The first moment at which a leg can depart when it is placed in the plan as it stands, in minutes
 /// since 2000-01-01, below 52,500,000: not before its earliest departure, nor before the leg that was before it at the step's
 /// start has arrived, as it stands now, and the ground time is over; not after its latest departure;
 /// where the aircraft is in service and not at its maintenance; and where the airports have room in the
-/// hours of departure and arrival, the leg itself not counted. `None` where it can at no moment.
+/// hours of departure and arrival, the leg itself not counted. `None` where it can at no moment. The counts
+/// are those of the plan as it stands.
 pub fn first_departure<P: ReadPlan>(
     inst: &Instance,
     plan: &P,
+    counts: &HourCounts,
     plane: Plane,
     placing: &Placing,
 ) -> Option<Minute>
     requires plan { IsPlanFor inst.now (P.plan_of plan.now) }
+    requires counts { AreCountsOf inst.now (P.plan_of plan.now) counts.now }
     requires plane { plane.0 < planes_of inst.now }
     requires legs { AreLegs inst.now placing.now }
     ensures at { option_map (λ t. t.0) result ≡ first_within (max (ready_moment inst.now (P.plan_of plan.now) plane.0 placing.now.leg.0 (option_map (λ l. l.0) placing.now.before)) (earliest inst.now placing.now.leg.0)) (latest inst.now placing.now.leg.0) (can_depart inst.now (P.plan_of plan.now) plane.0 placing.now.leg.0) }
@@ -36,18 +41,20 @@ pub fn first_departure<P: ReadPlan>(
     let leg = placing.leg;
     let ready = ready_moment(inst, plan, plane, leg, placing.before);
     let low = ready.max(inst.earliest(leg).0);
-    first_from(inst, plan, plane, leg, low)
+    first_from(inst, plan, counts, plane, leg, low)
 }
 
 /// The first moment from `low` on at which a leg can depart, up to its latest departure.
 fn first_from<P: ReadPlan>(
     inst: &Instance,
     plan: &P,
+    counts: &HourCounts,
     plane: Plane,
     leg: Leg,
     low: u32,
 ) -> Option<Minute>
     requires plan { IsPlanFor inst.now (P.plan_of plan.now) }
+    requires counts { AreCountsOf inst.now (P.plan_of plan.now) counts.now }
     requires plane { plane.0 < planes_of inst.now }
     requires leg { leg.0 < legs_of inst.now }
     ensures first { option_map (λ t. t.0) result ≡ first_within low (latest inst.now leg.0) (can_depart inst.now (P.plan_of plan.now) plane.0 leg.0) }
@@ -56,7 +63,7 @@ fn first_from<P: ReadPlan>(
     let latest = inst.latest(leg).0;
     let mut at = low;
     while at <= latest {
-        match ruled_out_until(inst, plan, plane, leg, at) {
+        match ruled_out_until(inst, plan, counts, plane, leg, at) {
             Some(next) => at = next,
             None => return Some(Minute(at)),
         }

@@ -2,19 +2,20 @@
 //! depart.
 //!
 //!     let placed = placings(alloc, &inst, &plan, plane, after)?;     // once, at the step's start
+//!     let counts = HourCounts::of(alloc, &inst, &plan)?;             // of the plan as it stands
 //!     for placing in &placed {
-//!         first_departure(&inst, &plan, plane, placing)              // in the plan as it stands then
+//!         first_departure(&inst, &plan, &counts, plane, placing)     // in the plan as it stands then
 //!     }
 //!
-//! Whoever takes the step writes each departure into the plan before it asks for the next. The plan is read
-//! through `ReadPlan`, so that whatever has rows and groups can be pushed.
+//! Whoever takes the step writes each departure into the plan, and into the counts of its hours, before it
+//! asks for the next. The plan is read through `ReadPlan`, so that whatever has rows and groups can be pushed.
 //!
 //! Proved: the legs are `pushed_legs` of desk_model, each with the leg before it at the step's start, and
 //! the moment is `first_departure` of desk_model.
 //!
-//! The search jumps over spans, the maintenance and full hours, and counts an hour only where it has a
-//! cap, in one walk over the legs; no clause says so. It stands on `desk_data`, `desk_rules`, `desk_model`
-//! and `plan_reads`.
+//! The search jumps over spans, the maintenance and full hours, and asks the counts of an hour only where
+//! it has a cap: it walks over no legs. No clause says so. It stands on `desk_data`, `desk_rules`,
+//! `desk_model`, `plan_reads` and `hour_counts`.
 #![tactic(auto)]
 
 mod departs;

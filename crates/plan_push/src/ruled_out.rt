@@ -5,10 +5,12 @@ ghost use Rattle.desk_data.specs.Situation.{legs_of, planes_of};
 ghost use Rattle.desk_data.specs.Valid.{IsPlanFor};
 ghost use Rattle.desk_rules.specs.Rules.{meets_span};
 ghost use Rattle.desk_model.specs.Push.{can_depart, has_slots, is_free};
+ghost use Rattle.hour_counts.specs.Counts.{AreCountsOf};
 ghost use Rattle.plan_push.specs.RuledOut.{HoldsOrIsRuledOut, end_of_maintenance, end_of_first_met};
 
 use crate::room::{Movement, has_room};
 use desk_data::{Instance, Leg, Maint, Minute, Plane};
+use hour_counts::HourCounts;
 use plan_reads::ReadPlan;
 
 /// `None` where a leg can depart at a moment, which is no later than the latest departure of any leg.
@@ -16,11 +18,13 @@ use plan_reads::ReadPlan;
 pub(crate) fn ruled_out_until<P: ReadPlan>(
     inst: &Instance,
     plan: &P,
+    counts: &HourCounts,
     plane: Plane,
     leg: Leg,
     at: u32,
 ) -> Option<u32>
     requires plan { IsPlanFor inst.now (P.plan_of plan.now) }
+    requires counts { AreCountsOf inst.now (P.plan_of plan.now) counts.now }
     requires plane { plane.0 < planes_of inst.now }
     requires leg { leg.0 < legs_of inst.now }
     requires at { at ≤ 52485760 }
@@ -28,7 +32,7 @@ pub(crate) fn ruled_out_until<P: ReadPlan>(
 {
     match kept_until(inst, plane, leg, at) {
         Some(end) => Some(end),
-        None => full_until(inst, plan, leg, at),
+        None => full_until(inst, plan, counts, leg, at),
     }
 }
 
@@ -96,19 +100,26 @@ fn meets(departs: u32, arrives: u32, from: Minute, to: Minute) -> bool
 
 /// The same as `ruled_out_until` of the airports alone: the next hour of departure, or the moment from
 /// which the leg arrives in the next hour.
-fn full_until<P: ReadPlan>(inst: &Instance, plan: &P, leg: Leg, at: u32) -> Option<u32>
+fn full_until<P: ReadPlan>(
+    inst: &Instance,
+    plan: &P,
+    counts: &HourCounts,
+    leg: Leg,
+    at: u32,
+) -> Option<u32>
     requires plan { IsPlanFor inst.now (P.plan_of plan.now) }
+    requires counts { AreCountsOf inst.now (P.plan_of plan.now) counts.now }
     requires leg { leg.0 < legs_of inst.now }
     requires at { at ≤ 52485760 }
     ensures { HoldsOrIsRuledOut (has_slots inst.now (P.plan_of plan.now) leg.0) at result }
 {
     let leaves = at / 60;
-    if !has_room(inst, plan, Movement::Departure, leg, leaves) {
+    if !has_room(inst, plan, counts, Movement::Departure, leg, leaves) {
         return Some(60 * (leaves + 1));
     }
     let block = inst.leg(leg).block;
     let lands = (at + block) / 60;
-    if !has_room(inst, plan, Movement::Arrival, leg, lands) {
+    if !has_room(inst, plan, counts, Movement::Arrival, leg, lands) {
         return Some(60 * (lands + 1) - block);
     }
     None

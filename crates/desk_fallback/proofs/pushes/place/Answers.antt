@@ -4,7 +4,7 @@ use Rattle.desk_data.specs.Valid.{IsPlanFor}
 use Rattle.desk_model.proofs.ValidLaws.{with_row-valid}
 use Rattle.desk_fallback.proofs.pushes.place.Goals as goal
 
-pub returns-in-Some-clause-valid : goal.returns-in-Some-clause-valid
-returns-in-Some-clause-valid c =
+pub returns-clause-valid : goal.returns-clause-valid
+returns-clause-valid c =
     subst (IsPlanFor c.args.inst.now) (sym c.put_row.ensures)
     (with_row-valid c.args.inst.now c.args.plan.now c.args.placing.now.leg.0 (Flown c.args.plane c.in-Some.dep) (c.requires.plane, c.in-Some.ensures.limit) c.requires.plan)

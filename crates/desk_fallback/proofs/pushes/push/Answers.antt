@@ -20,10 +20,10 @@ place-requires c =
     let items = c.deref-placing-items.result.now in
     let are = rw (← c.deref-placing-items.ensures.value) at c.in_ok-all.ensures.before in
     let is : IsPlacing I P (get_or items c.loop-placing.placing-index no_placing) = are c.loop-placing.placing-index no_placing c.loop-placing-test.true in
-    record { plan = c.loop-placing.invariant.valid; plane = c.requires.plane; legs = is.legs }
+    record { plan = c.loop-placing.invariant.valid; counts = c.loop-placing.invariant.counts; plane = c.requires.plane; legs = is.legs }
 
 pub loop-placing-init : goal.loop-placing-init
-loop-placing-init c = record { made = refl; valid = c.requires.plan }
+loop-placing-init c = record { made = refl; valid = c.requires.plan; counts = c.requires.counts }
 
 pub loop-placing-preserved : goal.loop-placing-preserved
 unfolding no_placing
@@ -38,10 +38,11 @@ loop-placing-preserved c =
     let are = rw (← c.deref-placing-items.ensures.value) at c.in_ok-all.ensures.before in
     let is : IsPlacing I P placing = are i no_placing within in
     record {
-      made = c.place.ensures.made P is
+      made = c.in_ok-place.ensures.made P is
           ∙ ap (λ (Q : PlanRows). after_placing I P p Q placing.leg.0) c.loop-placing.invariant.made
           ∙ placed_all-more I P p items i no_placing within;
-      valid = c.place.ensures.valid;
+      valid = c.in_ok-place.ensures.valid;
+      counts = c.in_ok-place.ensures.counts;
     }
 
 pub returns-clause-made : goal.returns-clause-made

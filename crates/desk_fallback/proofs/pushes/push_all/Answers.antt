@@ -6,7 +6,7 @@ use Rattle.desk_fallback.proofs.PushParts.{pushed_to-none, pushed_to-more, pushe
 use Rattle.desk_fallback.proofs.pushes.push_all.Goals as goal
 
 pub loop-p-init : goal.loop-p-init
-loop-p-init c = record { made = sym (pushed_to-none c.args.inst.now c.args.plan.now); valid = c.requires }
+loop-p-init c = record { made = sym (pushed_to-none c.args.inst.now c.args.plan.now); valid = c.requires; counts = c.in_ok-counts.ensures }
 
 pub loop-p-preserved : goal.loop-p-preserved
 loop-p-preserved c =
@@ -17,6 +17,7 @@ loop-p-preserved c =
           ∙ ap (λ (Q : PlanRows). after_push I Q p None) c.loop-p.invariant.made
           ∙ pushed_to-more I p c.args.plan.now;
       valid = c.in_ok-push.ensures.valid;
+      counts = c.in_ok-push.ensures.counts;
     }
 
 pub returns-clause-made : goal.returns-clause-made

@@ -1,0 +1,17 @@
+//! How many legs depart from each airport in each hour, and arrive there, kept while legs change.
+//!
+//!     let mut counts = HourCounts::of(alloc, &inst, &plan)?;            // one walk over the legs
+//!     counts.departures_beside(&inst, leg, row, airport, hour)          // with no walk
+//!     counts.place(&inst, leg, was, new)?;                             // a leg has another row
+//!
+//! Counted are the legs that are flown and whose scheduled aircraft is no surface transport; a look-up
+//! leaves the leg out that it is asked for.
+//!
+//! Proved: what is counted is `AreCountsOf` a plan, and the look-ups are `departures_beside` and
+//! `arrivals_beside` of desk_model. It stands on `desk_data`, `desk_rules`, `desk_model` and `plan_reads`.
+#![tactic(auto)]
+
+mod counts;
+mod table;
+
+pub use counts::HourCounts;
