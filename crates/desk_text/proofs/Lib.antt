@@ -3,6 +3,8 @@ pub mod DateLemmas
 pub mod CalendarLemmas
 pub mod CutLemmas
 pub mod LineLemmas
+pub mod FitLemmas
+pub mod CountLemmas
 pub mod FieldLemmas
 pub mod SeenLemmas
 pub mod RowLemmas

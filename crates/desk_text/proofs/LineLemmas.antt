@@ -36,14 +36,14 @@ take_while-cons {X} p x xs = elim (p x) as (λ b. take (cond b (1 + prefix_len p
 ]
 
 -- the lines that are kept of these
-abbrev kept : ℕ → List (List ℕ) → List (ℕ × List ℕ)
+abbrev pub kept : ℕ → List (List ℕ) → List (ℕ × List ℕ)
 kept n ls = filter (λ line. ltb 0 (length (fields line.1))) (enumerate_from n (take_while (λ line. not (is_last line)) ls))
 
 swapped : {X : Type 0} (b : Bool) (x y : X) → cond (not b) x y ≡ cond b y x
 swapped true x y = refl
 swapped false x y = refl
 
-kept-cons : (n : ℕ) (line : List ℕ) (ls : List (List ℕ)) → kept n (line ∷ ls) ≡ cond (is_last line) [] (cond (list_all is_blank line) (kept (n + 1) ls) ((n, line) ∷ kept (n + 1) ls))
+pub kept-cons : (n : ℕ) (line : List ℕ) (ls : List (List ℕ)) → kept n (line ∷ ls) ≡ cond (is_last line) [] (cond (list_all is_blank line) (kept (n + 1) ls) ((n, line) ∷ kept (n + 1) ls))
 kept-cons n line ls =
     ap (λ (taken : List (List ℕ)). filter (λ (line : ℕ × List ℕ). ltb 0 (length (fields line.1))) (enumerate_from n taken)) (take_while-cons (λ (line : List ℕ). not (is_last line)) line ls)
     ∙ elim (is_last line) as (λ b. filter (λ (line : ℕ × List ℕ). ltb 0 (length (fields line.1))) (enumerate_from n (cond (not b) (line ∷ take_while (λ line. not (is_last line)) ls) [])) ≡ cond b [] (cond (list_all is_blank line) (kept (n + 1) ls) ((n, line) ∷ kept (n + 1) ls))) [

@@ -1,8 +1,10 @@
 -- The fields of a line that may be read are of bytes that can be seen.
-use Rattle.std.proofs.Common.{◌≡◌, ℕ, Bool, true, false, cond, ◌&&◌, ◌||◌, List, [], ◌∷◌, refl, ap, ◌∙◌}
+use Rattle.std.proofs.Common.{◌≡◌, ℕ, Bool, true, false, cond, ◌&&◌, ◌||◌, leb, List, [], ◌∷◌, get_or, refl, sym, ap, ◌∙◌}
 use Rattle.std.specs.Prelude.{filter, nat_le}
 use Rattle.std.specs.List.{slice_split, onto_first, list_all}
-use Rattle.std.proofs.lemmas.Bool.{and_parts}
+use Rattle.std.proofs.lemmas.Bool.{and_parts, leb-true}
+use Rattle.std.proofs.lemmas.List.Sums.{AllPass-from_list_all}
+use Rattle.file_rows.specs.Seen.{IsSeen}
 use Rattle.desk_text.specs.Lines.{is_blank, is_text, is_full, fields}
 use Rattle.desk_text.specs.Seen.{is_seen, are_seen}
 
@@ -43,3 +45,11 @@ full_seen (part ∷ parts) hs =
 pub fields_seen : (line : List ℕ) → list_all is_text line ≡ true → are_seen (fields line) ≡ true
 unfolding fields
 fields_seen line h = full_seen (slice_split is_blank line) (parts_seen line h)
+
+-- and so are those of its first field
+pub first_is_seen : (line field : List ℕ) (others : List (List ℕ)) → list_all is_text line ≡ true → fields line ≡ field ∷ others → IsSeen field
+first_is_seen line field others h e =
+    let seen : is_seen field ≡ true = (and_parts (is_seen field) (are_seen others) (ap are_seen (sym e) ∙ fields_seen line h)).0 in
+    λ k d lt.
+    let both = and_parts (leb 33 (get_or field k d)) (leb (get_or field k d) 126) (AllPass-from_list_all is_seen_byte field seen k d lt) in
+    (leb-true 33 (get_or field k d) both.0, leb-true (get_or field k d) 126 both.1)

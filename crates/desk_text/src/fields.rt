@@ -1,38 +1,53 @@
 //! The fields of a line.
 
-ghost use Rattle.std.specs.Prelude.{◌≡◌, ◌+◌, ◌<◌, ◌≤◌, [], ◌∷◌, length, true, MatchOption, MatchResult, position, option_map, IfOk, IfSome};
+ghost use Rattle.std.specs.Prelude.{◌≡◌, ◌+◌, ◌<◌, ◌≤◌, [], ◌∷◌, length, true, not, ◌&&◌, if◌then◌else◌, nat_lt, MatchOption, MatchResult, position, option_map, IfOk, IfSome};
 ghost use Rattle.std.specs.List.{list_all};
 ghost use Rattle.desk_text.specs.Lines.{is_blank, is_text, fields};
+ghost use Rattle.file_rows.specs.Bytes.{first_visible};
 ghost use Rattle.file_rows.specs.Seen.{IsSeen};
 ghost use Rattle.desk_text.specs.Cuts.{cut_where};
 ghost use Rattle.desk_text.specs.Rows.{next_field};
 
-use crate::reading::is_blank;
-use file_rows::Cause;
+use crate::reading::parts_at;
+use file_rows::{Cause, FIRST_VISIBLE};
 use std::marker::Model;
 
+/// The place of the first byte that is below those that can be seen.
+#[inline]
+fn place_of_unseen(line: &[u8]) -> Option<usize>
+    ensures { result ≡ position (λ byte. nat_lt byte first_visible) line.now }
+{
+    line.iter().position(|byte| *byte < FIRST_VISIBLE)
+}
+
 /// The place of the first blank.
+#[inline]
 fn place_of_blank(line: &[u8]) -> Option<usize>
+    requires { list_all is_text line.now ≡ true }
     ensures { result ≡ position is_blank line.now }
 {
-    line.iter().position(|byte| is_blank(*byte))
+    place_of_unseen(line)
 }
 
 /// The bytes before the first blank, and those behind it, or `None` where there is none.
 #[inline]
 fn cut_at_blank(line: &[u8]) -> Option<(&[u8], &[u8])>
+    requires { list_all is_text line.now ≡ true }
     ensures exact { option_map (λ parts. (parts.0.now, parts.1.now)) result ≡ cut_where is_blank line.now }
     ensures shorter { IfSome result (λ parts. length parts.1.now < length line.now) }
+    ensures fit { IfSome result (λ parts. list_all is_text parts.1.now ≡ true) }
 {
     let place = place_of_blank(line)?;
-    let (front, back) = line.split_at(place);
-    Some((front, &back[1..]))
+    Some(parts_at(line, place))
 }
 
 /// The first field, and the bytes behind it.
+#[inline]
 fn first_field(line: &[u8]) -> Option<(&[u8], &[u8])>
+    requires { list_all is_text line.now ≡ true }
     ensures exact { MatchOption result (fields line.now ≡ []) (λ parts. fields line.now ≡ parts.0.now ∷ fields parts.1.now) }
     ensures shorter { IfSome result (λ parts. length parts.1.now + 1 ≤ length line.now) }
+    ensures fit { IfSome result (λ parts. list_all is_text parts.1.now ≡ true) }
 {
     let mut rest = line;
     while let Some((field, behind)) = cut_at_blank(rest) {
@@ -48,15 +63,25 @@ fn first_field(line: &[u8]) -> Option<(&[u8], &[u8])>
     }
 }
 
+/// 1 where a field begins at a byte, which can be seen or not, behind one inside a field or not; else 0.
+#[inline]
+fn begins(inside: bool, is_seen: bool) -> usize
+    ensures { result ≡ (if is_seen && not inside then 1 else 0) }
+{
+    if is_seen && !inside { 1 } else { 0 }
+}
+
 /// How many fields a line has.
 fn count_fields(line: &[u8]) -> usize
+    requires { list_all is_text line.now ≡ true }
     ensures { result ≡ length (fields line.now) }
 {
-    let mut rest = line;
     let mut count = 0;
-    while let Some((_, behind)) = first_field(rest) {
-        count += 1;
-        rest = behind;
+    let mut inside = false;
+    for byte in line {
+        let is_seen = FIRST_VISIBLE <= *byte;
+        count += begins(inside, is_seen);
+        inside = is_seen;
     }
     count
 }
@@ -70,14 +95,14 @@ pub struct Fields<'a> {
 
 impl<'a> Model for Fields<'a> {
     ghost use Rattle.std.specs.Prelude.{◌≡◌, ℕ, List, true};
-    ghost use Rattle.desk_text.specs.Lines.{fields};
-    ghost use Rattle.desk_text.specs.Seen.{are_seen};
+    ghost use Rattle.std.specs.List.{list_all};
+    ghost use Rattle.desk_text.specs.Lines.{fields, is_text};
 
     ghost Value = { List (List ℕ) };
 
     ghost view = { λ f. fields f.rest.now };
 
-    ghost invariant = { λ f. are_seen (fields f.rest.now) ≡ true };
+    ghost invariant = { λ f. list_all is_text f.rest.now ≡ true };
 }
 
 impl<'a> Fields<'a> {

@@ -1,13 +1,26 @@
 //! The lines of a text that have fields.
 
-ghost use Rattle.std.specs.Prelude.{◌≡◌, ℕ, ◌+◌, ◌<◌, ◌≤◌, ◌^◌, [], ◌∷◌, length, cond, MatchOption, option_map, position, ◌==◌, IfSome};
+ghost use Rattle.std.specs.Prelude.{◌≡◌, ℕ, ◌+◌, ◌<◌, ◌≤◌, ◌^◌, [], ◌∷◌, true, ◌||◌, length, take, drop, cond, MatchOption, option_map, position, ◌==◌, IfSome};
 ghost use Rattle.std.specs.Str.Lines.{strip_carriage_return};
 ghost use Rattle.std.specs.List.{list_all};
+ghost use Rattle.file_rows.specs.Bytes.{line_feed};
 ghost use Rattle.desk_text.specs.Lines.{is_blank, is_text, is_last, fields, lines_from, text_lines};
 ghost use Rattle.desk_text.specs.Cuts.{cut, line_then};
 
 use file_rows::{CARRIAGE_RETURN, FIRST_VISIBLE, HASH, LAST_VISIBLE, LINE_FEED, SPACE, TAB};
+use memchr::memchr;
 use std::marker::Model;
+
+/// The bytes before this place, and those behind it.
+#[inline]
+pub(crate) fn parts_at(bytes: &[u8], place: usize) -> (&[u8], &[u8])
+    requires { place < length bytes.now }
+    ensures front { result.0.now ≡ take place bytes.now }
+    ensures back { result.1.now ≡ drop (place + 1) bytes.now }
+{
+    let (front, back) = bytes.split_at(place);
+    (front, &back[1..])
+}
 
 /// The place of the first `at`.
 fn place_of(bytes: &[u8], at: u8) -> Option<usize>
@@ -23,8 +36,25 @@ pub(crate) fn cut(bytes: &[u8], at: u8) -> Option<(&[u8], &[u8])>
     ensures size { IfSome result (λ parts. length parts.0.now + length parts.1.now + 1 ≡ length bytes.now) }
 {
     let place = place_of(bytes, at)?;
-    let (front, back) = bytes.split_at(place);
-    Some((front, &back[1..]))
+    Some(parts_at(bytes, place))
+}
+
+/// The place of the first LF, which in a text is many bytes on.
+#[inline]
+fn place_of_line_feed(bytes: &[u8]) -> Option<usize>
+    ensures { result ≡ position (λ byte. byte == line_feed) bytes.now }
+{
+    memchr(LINE_FEED, bytes)
+}
+
+/// The bytes before the first LF, and those behind it, or `None` where there is none.
+#[inline]
+fn cut_line(bytes: &[u8]) -> Option<(&[u8], &[u8])>
+    ensures exact { option_map (λ parts. (parts.0.now, parts.1.now)) result ≡ cut line_feed bytes.now }
+    ensures size { IfSome result (λ parts. length parts.0.now + length parts.1.now + 1 ≡ length bytes.now) }
+{
+    let place = place_of_line_feed(bytes)?;
+    Some(parts_at(bytes, place))
 }
 
 /// A line without the CR at its end.
@@ -44,7 +74,7 @@ fn first_line(bytes: &[u8]) -> (&[u8], &[u8])
     ensures exact { (n : ℕ) → lines_from n bytes.now ≡ line_then n result.0.now result.1.now }
     ensures shorter { length result.1.now + 1 ≤ length bytes.now }
 {
-    match cut(bytes, LINE_FEED) {
+    match cut_line(bytes) {
         Some((line, rest)) => (without_cr(line), rest),
         None => (without_cr(bytes), &bytes[bytes.len()..]),
     }
@@ -52,7 +82,7 @@ fn first_line(bytes: &[u8]) -> (&[u8], &[u8])
 
 /// Whether a byte is a space or a tab.
 #[inline]
-pub(crate) fn is_blank(byte: u8) -> bool
+fn is_blank(byte: u8) -> bool
     ensures { result ≡ is_blank byte }
 {
     byte == SPACE || byte == TAB
@@ -77,7 +107,31 @@ fn is_text(byte: u8) -> bool
 pub fn are_text(line: &[u8]) -> bool
     ensures { result ≡ list_all is_text line.now }
 {
-    line.iter().all(|byte| is_text(*byte))
+    // no branch a byte, so that many are looked at in one step
+    let mut fit = true;
+    for byte in line {
+        fit &= is_text(*byte);
+    }
+    fit
+}
+
+/// Whether a byte may stand in a line, or ends one.
+#[inline]
+fn is_of_lines(byte: u8) -> bool
+    ensures { result ≡ (is_text byte || (byte == line_feed)) }
+{
+    is_text(byte) || byte == LINE_FEED
+}
+
+/// Whether each byte of a text may stand in a line, or ends one.
+pub(crate) fn are_lines_of_text(bytes: &[u8]) -> bool
+    ensures { result ≡ list_all (λ byte. is_text byte || (byte == line_feed)) bytes.now }
+{
+    let mut fit = true;
+    for byte in bytes {
+        fit &= is_of_lines(*byte);
+    }
+    fit
 }
 
 /// Whether the first byte is `#`.

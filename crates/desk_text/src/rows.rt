@@ -1,12 +1,13 @@
 //! The rows of a text, one a line.
 
-ghost use Rattle.std.specs.Prelude.{◌≡◌, ◌<◌, ◌≤◌, ◌^◌, ℕ, List, Result, All, IfOk, length};
-ghost use Rattle.desk_text.specs.Lines.{fields};
+ghost use Rattle.std.specs.Prelude.{◌≡◌, ◌<◌, ◌≤◌, ◌^◌, ℕ, true, List, Result, All, IfOk, length};
+ghost use Rattle.std.specs.List.{list_all};
+ghost use Rattle.desk_text.specs.Lines.{fields, is_text};
 ghost use Rattle.desk_text.specs.Rows.{RowOf, line_row, text_rows, GivesRow, Gives};
 
 use crate::fault::{ReadFault, RowFault};
 use crate::fields::Fields;
-use crate::reading::{Lines, are_text};
+use crate::reading::{Lines, are_lines_of_text, are_text};
 use file_rows::Cause;
 use std::alloc::Global;
 
@@ -23,17 +24,29 @@ pub trait Grammar<Row> {
         ensures facts { IfOk result (λ row. holds self.now row) };
 }
 
-/// The row of a line whose bytes are tried first.
+/// Whether each byte may stand in a line; of a fit text it is known that each does.
+#[inline]
+fn is_fit(text: &[u8], fit: bool) -> bool
+    requires { fit ≡ true → list_all is_text text.now ≡ true }
+    ensures { result ≡ list_all is_text text.now }
+{
+    fit || are_text(text)
+}
+
+/// The row of a line whose bytes are tried first, unless the whole text is fit.
+#[inline]
 fn line_row<Row: Drop, G: Grammar<Row>>(
     alloc: Global,
     grammar: &G,
     line: u32,
     text: &[u8],
+    fit: bool,
 ) -> Result<Row, RowFault>
+    requires { fit ≡ true → list_all is_text text.now ≡ true }
     ensures exact { GivesRow result (line_row (G.row_of grammar.now) line text.now) }
     ensures facts { IfOk result (λ row. G.holds grammar.now row) }
 {
-    if !are_text(text) {
+    if !is_fit(text, fit) {
         return Err(RowFault::Refused(Cause::Byte));
     }
     grammar.row(alloc, line, Fields::of(text))
@@ -57,9 +70,10 @@ pub fn read_rows<Row: Drop, G: Grammar<Row>>(
     if bytes.len() > limit {
         return Err(ReadFault::at(0, Cause::Size));
     }
+    let fit = are_lines_of_text(bytes);
     let mut lines = Lines::of(bytes);
     while let Some((line, text)) = lines.next() {
-        match line_row(alloc, grammar, line, text) {
+        match line_row(alloc, grammar, line, text, fit) {
             Ok(row) => rows.push(row)?,
             Err(fault) => return Err(fault.at(line)),
         }

@@ -9,6 +9,7 @@ pub loop-field-preserved : goal.loop-field-preserved
 loop-field-preserved c = record {
   same = sym (blank_cut c.loop-field.rest.now c.in-Some.field.now c.in-Some.behind.now c.in-Some.ensures.exact (sym c.is_empty.ensures ∙ c.if-not-is_empty.false)) ∙ c.loop-field.invariant.same;
   shorter = omega (arith, c.in-Some.ensures.shorter);
+  fit = c.in-Some.ensures.fit;
 }
 
 pub returns-then-is_empty-clause-exact : goal.returns-then-is_empty-clause-exact

@@ -3,4 +3,4 @@ use Rattle.desk_text.proofs.CutLemmas.{cut_at_place}
 use Rattle.desk_text.proofs.reading.cut.Goals as goal
 
 pub returns-clause-exact : goal.returns-clause-exact
-returns-clause-exact c = cut_at_place (λ byte. eqb byte c.args.at) c.in_ok-place.place c.args.bytes.now c.split_at.result.0.now c.split_at.result.1.now c.in_ok-place.ensures c.split_at.ensures.front c.split_at.ensures.back
+returns-clause-exact c = cut_at_place (λ byte. eqb byte c.args.at) c.in_ok-place.place c.args.bytes.now c.parts_at.result.0.now c.parts_at.result.1.now c.in_ok-place.ensures c.parts_at.ensures.front c.parts_at.ensures.back

@@ -1,0 +1,8 @@
+use Rattle.std.proofs.Common.{◌≡◌, take}
+use Rattle.std.specs.List.{list_all}
+use Rattle.desk_text.specs.Lines.{is_text}
+use Rattle.desk_text.proofs.reading.are_text.Given as goal
+
+-- the bytes so far
+abbrev pub invariant-loop-byte : goal.invariant-loop-byte
+invariant-loop-byte l = l.fit ≡ list_all is_text (take l.byte-index l.line)
