@@ -46,6 +46,8 @@ pub(crate) fn joined_plan(alloc: Global, rows: &InputRows) -> Result<InputPlan, 
     let itineraries = rows.plan_itineraries.as_slice();
     let plan = read_solution(alloc, &built.inst, rotations, itineraries)?;
     let Built { inst, batches } = built;
-    let inst = with_batches(alloc, inst, batches.0.as_slice())?;
-    Ok(InputPlan { inst, plan })
+    match with_batches(alloc, inst, batches.0.as_slice()) {
+        Ok(inst) => Ok(InputPlan { inst, plan }),
+        Err(_) => Err(StoryFault::Memory),
+    }
 }
