@@ -6,6 +6,7 @@ use Rattle.desk_data.specs.PlanRows.{PlanRows}
 use Rattle.desk_model.specs.Push.{after_placing}
 use Rattle.plan_push.specs.declared.pushed.Placing.{Placing}
 use Rattle.plan_push.specs.Placings.{AreLegs, IsPlacing}
+use Rattle.hour_counts.specs.Counts.{AreCountsOf}
 use Rattle.desk_moves.proofs.BackLaws.{after-itself, after-more, after-then}
 use Rattle.desk_moves.proofs.PushLaws.{placed_all, placed_all-more, placed_all-is, length-placings}
 use Rattle.desk_moves.proofs.push_step.push_step.Goals as goal
@@ -16,6 +17,9 @@ no_placing = record { leg = record { 0 = 0 }; before = None }
 
 pub returns-in_err-all-clause-after : goal.returns-in_err-all-clause-after
 returns-in_err-all-clause-after c = after-itself 100000 c.args.eval.now
+
+pub returns-in_err-counts-clause-after : goal.returns-in_err-counts-clause-after
+returns-in_err-counts-clause-after c = after-itself 100000 c.args.eval.now
 
 pub place-requires : goal.place-requires
 unfolding no_placing
@@ -32,11 +36,14 @@ place-requires c =
     record {
       plane = subst (λ (I : Situation). c.args.plane.0 < planes_of I) (sym kept.inst) c.requires.plane;
       legs = subst (λ (I : Situation). AreLegs I (get_or items i no_placing)) (sym kept.inst) is.legs;
+      counts = subst (λ (I : Situation). AreCountsOf I c.loop-placing.eval.rows c.loop-placing.counts) (sym kept.inst) c.loop-placing.invariant.counts;
       depth = omega (arith, few, most);
     }
 
 pub loop-placing-init : goal.loop-placing-init
-loop-placing-init c = record { rows = refl; after = after-itself 0 c.args.eval.now }
+loop-placing-init c =
+    let counts = rw (c.instance-2.ensures, c.plan-2.ensures.rows) at c.in_ok-counts.ensures in
+    record { rows = refl; counts = counts; after = after-itself 0 c.args.eval.now }
 
 pub returns-in_err-place-clause-after : goal.returns-in_err-place-clause-after
 returns-in_err-place-clause-after c =
@@ -62,6 +69,7 @@ loop-placing-preserved c =
           ∙ ap (λ (I : Situation). after_placing I E.rows c.args.plane.0 F.rows placing.leg.0) kept.inst
           ∙ ap (λ (Q : PlanRows). after_placing E.inst E.rows c.args.plane.0 Q placing.leg.0) c.loop-placing.invariant.rows
           ∙ placed_all-more E.inst E.rows c.args.plane.0 items i no_placing c.loop-placing-test.true;
+      counts = subst (λ (I : Situation). AreCountsOf I c.place.new.eval.rows c.place.new.counts) kept.inst c.in_ok-place.ensures.counts;
       after = after-then i 1 (i + 1) E F c.place.new.eval (omega arith) kept c.place.ensures.after;
     }
 
