@@ -25,7 +25,7 @@ pub struct Request {
     pub trip: Trip,
     /// how many want to travel, 1 to 8
     pub passengers: u32,
-    /// what each pays, 50 to 249
+    /// what each pays, 50 to 249 units of money
     pub price: u32,
     pub cabin: Cabin,
 }
@@ -44,7 +44,7 @@ fn trip_of(plane: u32, kind: u32) -> Trip
     }
 }
 
-// The cabin of a reservation with this aircraft, by its luck, a number.
+// The cabin of a reservation with this aircraft, by its luck, 0 to 4.
 fn cabin_of(plane: u32, luck: u32) -> Cabin
     ensures { result ≡ cabin_of plane luck }
 {
@@ -55,8 +55,8 @@ fn cabin_of(plane: u32, luck: u32) -> Cabin
     }
 }
 
-#[tactic(auto, unfolding(crate::specs::Draws::state_after))]
 /// The generator behind the draws of all tours of a day of this seed and size, 1 to 40.
+#[tactic(auto, unfolding(crate::specs::Draws::state_after))]
 pub(crate) fn behind_tours(seed: u32, size: u32) -> Xoshiro256PlusPlus
     requires { size ≤ 40 }
     ensures { result ≡ behind_tours seed size }

@@ -61,7 +61,7 @@ fn verdict_report(
     Ok(text)
 }
 
-/// Tells the first item that a plan breaks, and its cost.
+/// Tells the first item that a plan breaks, and its cost in grains. It writes no file.
 ///
 /// It ends with `Done` where the plan breaks nothing and with `BrokenRule` where it breaks a rule, when all
 /// is told. `ReportFault` tells that the report could not be written, and `Memory` may come at any time: what

@@ -11,11 +11,11 @@ use folder_io::WriteFault;
 /// How a run ends.
 #[derive(Clone, Copy, Debug, PartialEq, Eq)]
 pub enum Ending {
-    /// All was done, and there is a plan.
+    /// All was done: of a replay with a plan at its end, of a check with a plan that breaks no rule.
     Done,
-    /// All was done, and there is no plan.
+    /// A replay was done, and there is no plan at its end.
     NoPlan,
-    /// All was done, and the plan breaks a rule.
+    /// A check was done, and the plan breaks a rule.
     BrokenRule,
     /// The words are no command.
     Usage,

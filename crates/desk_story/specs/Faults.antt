@@ -17,12 +17,12 @@ abbrev pub read_fault : File → ReadFault → StoryFault
 read_fault file (read.Refused line cause) = fault.Refused (refusal file cause line)
 read_fault file read.Memory = fault.Memory
 
--- a line that does not fit those of the other files; of the journal, one that gives no event
+-- a line that does not fit those of the other files; of the journal, one that gives no event; of the files of a plan, one that gives no plan
 abbrev pub build_fault : BuildFault → StoryFault
 build_fault (build.Refused file line cause) = fault.Refused (not_joined (file, line, cause))
 build_fault build.Memory = fault.Memory
 
--- how a run ends where its input gave no story
+-- how a run ends where its input sets no task
 abbrev pub story_end : StoryFault → Ending
 story_end (fault.Refused r) = ending.Refused r
 story_end (fault.ReadFault f) = ending.ReadFault f

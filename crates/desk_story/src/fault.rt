@@ -9,7 +9,7 @@ use desk_folder::File;
 use desk_runs::{Ending, Refusal};
 use desk_text::ReadFault;
 
-/// Why the input gave no story.
+/// Why the input sets no task.
 #[derive(Clone, Copy, Debug, PartialEq, Eq)]
 pub enum StoryFault {
     /// The input is refused.

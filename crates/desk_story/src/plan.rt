@@ -19,6 +19,7 @@ use std::alloc::Global;
 pub struct InputPlan {
     /// The joined day, with the orders of all batches.
     pub inst: Instance,
+    /// It has a row for each leg, and all passengers.
     pub plan: Plan,
 }
 

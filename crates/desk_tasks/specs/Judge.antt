@@ -46,6 +46,7 @@ verdict I P = record {
   };
 }
 
+-- what a day and a plan come to that are judged
 abbrev pub judged : Judged → Outcome
 judged j = verdict j.day j.plan
 

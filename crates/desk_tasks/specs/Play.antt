@@ -87,6 +87,7 @@ history_outcome I h =
       };
     }
 
+-- what a story comes to that is played
 abbrev pub played : Story → Outcome
 played s = history_outcome s.day (history s)
 

@@ -17,5 +17,6 @@ pub struct Asked<'a> {
     pub command: Command,
     /// the directory of the input; empty where the command reads none
     pub input: &'a str,
+    /// the directory of the output, which is also that of a plan to check
     pub output: &'a str,
 }

@@ -19,10 +19,11 @@ pub fn lines_are_records()
 {}
 
 /// A written journal reads back. Of a history that is legal from the opening of a day, whose callers
-/// are at most 64, whose batches are the first ones of the day in their order, and whose text is not too
-/// long: the text is read as the rows of its entries, and these are joined to its events, each with its
-/// caller. The run of a legal history's events is the history; so whoever replays a written journal gets
-/// what came of its history: the same status, files and report.
+/// are at most 64, whose batches are the first ones of the day in their order, and whose text has at most
+/// 268,435,456 bytes: the text is read as the rows of its entries, and these are joined to its events, each
+/// with its caller. The day is valid, has names of 1 to 32 bytes, and at most 1,001 batches. The run of a
+/// legal history's events is the history; so whoever replays a written journal gets what came of its
+/// history: the same status, files and report.
 pub fn written_journals_read_back()
     ensures rows { (built : Joined) (h : Items Recorded) → CanBeReadBack built.inst built.batches h → journal_rows_of (journal_text built.inst h) ≡ Ok (rows_of_history built.inst h) }
     ensures events { (built : Joined) (h : Items Recorded) → CanBeReadBack built.inst built.batches h → events_of built (rows_of_history built.inst h) ≡ Ok (map asked h) }

@@ -11,9 +11,9 @@ ghost use Rattle.sol_join.specs.Solution.{solution_of};
 ghost use Rattle.sol_laws.specs.Plain.{ArePlain};
 ghost use Rattle.token_laws.specs.Lengths.{HasNames};
 
-/// A written plan reads back: where names are plain, and each of the two files of a plan for a day is
-/// within the limit of a file, reading them gives that plan. Without plain names nothing is promised,
-/// since a line that begins with `#` ends the file.
+/// A written plan of a valid day whose names have 1 to 32 bytes reads back: where names are plain, and
+/// each of the two files of a plan for the day has at most 67,108,864 bytes, reading them gives that plan.
+/// Without plain names nothing is promised, since a line that begins with `#` ends the file.
 pub fn written_plans_read_back()
     ensures { (I : Situation) (P : PlanRows) → IsValid I → HasNames I → ArePlain I → IsPlanFor I P
         → length (rotations_text I P) ≤ most_bytes → length (itineraries_text I P) ≤ most_bytes
