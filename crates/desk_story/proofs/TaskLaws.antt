@@ -1,12 +1,11 @@
 -- From the rows of a command's files to the task that they set.
-use Rattle.std.proofs.Common.{◌≡◌, List, ap, subst, sym, ◌∙◌}
+use Rattle.std.proofs.Common.{◌≡◌, List, ap, ◌∙◌}
 use Rattle.std.specs.Prelude.{Result, Ok, Err, IfErr}
 use Rattle.desk_folder.specs.declared.files.File.{File}
 use Rattle.desk_runs.specs.declared.refusal.Refusal.{Refusal}
 use Rattle.desk_words.specs.declared.asked.Command.{Command}
 use Rattle.desk_runs.specs.Commands.{files_read}
 use Rattle.desk_runs.specs.Inputs.{Inputs}
-use Rattle.desk_runs.specs.Reading.{StandsFirst}
 use Rattle.desk_text.specs.Rows.{◌>>=◌}
 use Rattle.desk_story.specs.declared.fault.StoryFault.{StoryFault}
 use Rattle.desk_story.specs.declared.fault.StoryFault.TheVariants as fault

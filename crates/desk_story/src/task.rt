@@ -36,11 +36,7 @@ pub enum InputTask {
 
 // Joins the rows as the command asks for.
 #[tactic(auto, unfolding(crate::specs::Story::task_of_rows))]
-fn joined_task(
-    alloc: Global,
-    command: &Command,
-    rows: &InputRows,
-) -> Result<InputTask, StoryFault>
+fn joined_task(alloc: Global, command: &Command, rows: &InputRows) -> Result<InputTask, StoryFault>
     requires words { IsCommand command.now }
     requires facts { AreInputRows rows.now }
     ensures exact { GivesRead as_task result (task_of_rows command.now (as_rows rows.now)) }
