@@ -1,8 +1,6 @@
 //! What the input of a command asks for.
 
-ghost use Rattle.std.specs.Prelude.{◌≡◌, true, Err, IfOk, OnOk, IfErr};
-ghost use Rattle.desk_folder.specs.declared.files.File.{File as AnyFile};
-ghost use Rattle.folder_io.specs.Outputs.{is_among};
+ghost use Rattle.std.specs.Prelude.{◌≡◌, Err, IfOk, OnOk, IfErr};
 ghost use Rattle.desk_runs.specs.Commands.{IsCommand, files_read, files_written};
 ghost use Rattle.desk_runs.specs.Inputs.{Inputs, Tells};
 ghost use Rattle.desk_runs.specs.declared.refusal.Refusal.{Refusal as Refused};
