@@ -1,23 +1,16 @@
 -- From the rows of a command's files to the task that they set.
-use Rattle.std.proofs.Common.{◌≡◌, List, ap, subst, sym, ◌∙◌}
+use Rattle.std.proofs.Common.{◌≡◌, ap, ◌∙◌}
 use Rattle.std.specs.Prelude.{Result, Ok, Err, IfErr}
-use Rattle.desk_folder.specs.declared.files.File.{File}
 use Rattle.desk_runs.specs.declared.refusal.Refusal.{Refusal}
 use Rattle.desk_words.specs.declared.asked.Command.{Command}
-use Rattle.desk_runs.specs.Commands.{files_read}
 use Rattle.desk_runs.specs.Inputs.{Inputs}
-use Rattle.desk_runs.specs.Reading.{StandsFirst}
 use Rattle.desk_text.specs.Rows.{◌>>=◌}
 use Rattle.desk_story.specs.declared.fault.StoryFault.{StoryFault}
 use Rattle.desk_story.specs.declared.fault.StoryFault.TheVariants as fault
 use Rattle.desk_story.specs.declared.task.InputTask.{InputTask}
-use Rattle.desk_story.specs.Story.{Rows, no_rows, read_all, rows_of, task_of_rows, task_of}
+use Rattle.desk_story.specs.Story.{Rows, rows_of, task_of_rows, task_of}
 use Rattle.desk_story.specs.Facts.{as_rows, as_task}
 use Rattle.desk_story.specs.Reading.{GivesRead, GivesTask, NeedsNoFault}
-
--- what is read behind no rows is what is read of all files
-pub read-all : (c : Command) (files : List File) (before : Rows) (x : Inputs) → files ≡ files_read c → before ≡ no_rows → read_all files x before ≡ rows_of c x
-read-all c files before x listed none = ap (λ (fs : List File). read_all fs x before) listed ∙ ap (read_all (files_read c) x) none
 
 -- where the reading ends by a fault, there is no task, by the same fault
 pub unread-task : (c : Command) (x : Inputs) (why : StoryFault) → GivesRead as_rows (Err why) (rows_of c x) → GivesTask as_task (Err why) (rows_of c x) (task_of c x)

@@ -1,4 +1,4 @@
--- What holds of the rows and of the story that were read.
+-- What holds of the rows that were read, and of the task.
 use Rattle.std.specs.Prelude.{◌≡◌, []}
 use Rattle.build_tables.specs.Facts.{AreFileRows}
 use Rattle.journal_rows.specs.Facts.{AreRows}

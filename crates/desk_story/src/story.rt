@@ -1,6 +1,6 @@
 //! The day and the events that the input files tell.
 
-ghost use Rattle.std.specs.Prelude.{◌≡◌, IfOk, IfErr};
+ghost use Rattle.std.specs.Prelude.{IfOk, IfErr};
 ghost use Rattle.desk_story.specs.Story.{story_of_rows};
 ghost use Rattle.desk_story.specs.Reading.{GivesRead, NeedsNoFault};
 ghost use Rattle.desk_story.specs.Facts.{as_rows, AreInputRows, as_story, CanBeRun};

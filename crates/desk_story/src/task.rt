@@ -1,8 +1,6 @@
 //! What the input of a command asks for.
 
-ghost use Rattle.std.specs.Prelude.{◌≡◌, true, Err, IfOk, OnOk, IfErr};
-ghost use Rattle.desk_folder.specs.declared.files.File.{File as AnyFile};
-ghost use Rattle.folder_io.specs.Outputs.{is_among};
+ghost use Rattle.std.specs.Prelude.{◌≡◌, Err, IfOk, OnOk, IfErr};
 ghost use Rattle.desk_runs.specs.Commands.{IsCommand, files_read, files_written};
 ghost use Rattle.desk_runs.specs.Inputs.{Inputs, Tells};
 ghost use Rattle.desk_runs.specs.declared.refusal.Refusal.{Refusal as Refused};
@@ -36,11 +34,7 @@ pub enum InputTask {
 
 // Joins the rows as the command asks for.
 #[tactic(auto, unfolding(crate::specs::Story::task_of_rows))]
-fn joined_task(
-    alloc: Global,
-    command: &Command,
-    rows: &InputRows,
-) -> Result<InputTask, StoryFault>
+fn joined_task(alloc: Global, command: &Command, rows: &InputRows) -> Result<InputTask, StoryFault>
     requires words { IsCommand command.now }
     requires facts { AreInputRows rows.now }
     ensures exact { GivesRead as_task result (task_of_rows command.now (as_rows rows.now)) }

@@ -1,4 +1,4 @@
-use Rattle.std.proofs.Common.{◌≡◌, ap, ◌∙◌}
+use Rattle.std.proofs.Common.{ap, ◌∙◌}
 use Rattle.desk_data.specs.Situation.{Situation}
 use Rattle.desk_story.proofs.Batches.{plan-parts, batches-parts}
 use Rattle.desk_story.proofs.plan.joined_plan.Goals as goal
