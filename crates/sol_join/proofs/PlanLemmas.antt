@@ -149,21 +149,21 @@ module _ {K X : Type 0} (cmp : K → K → Ordering) (k : K) (v : X) where
   -- what holds of each entry, and of the new one at each key, holds of each then
   all_inserted : (P : K × X → Type 0) → P (k, v) → ((e : K × X) → P e → P (e.0, v)) → (es : List (K × X)) → AllByRecursion P es → AllByRecursion P (insert_entry cmp es k v)
   all_inserted P new again [] all = (new, tt)
-  all_inserted P new again (e ∷ es) all = by (cmp k e.0)
+  all_inserted P new again (e ∷ es) all = by (cmp k e.0) (all_inserted P new again es all.1)
     where
-      by : (o : Ordering) → AllByRecursion P (match_ordering o ((k, v) ∷ e ∷ es) ((e.0, v) ∷ es) (e ∷ insert_entry cmp es k v))
-      by Less = (new, all)
-      by Equal = (again e all.0, all.1)
-      by Greater = (all.0, all_inserted P new again es all.1)
+      by : (o : Ordering) → AllByRecursion P (insert_entry cmp es k v) → AllByRecursion P (match_ordering o ((k, v) ∷ e ∷ es) ((e.0, v) ∷ es) (e ∷ insert_entry cmp es k v))
+      by Less rest = (new, all)
+      by Equal rest = (again e all.0, all.1)
+      by Greater rest = (all.0, rest)
 
   keys_inserted : (P : K → Type 0) → P k → (es : List (K × X)) → AllByRecursion P (keys_of es) → AllByRecursion P (keys_of (insert_entry cmp es k v))
   keys_inserted P new [] all = (new, tt)
-  keys_inserted P new (e ∷ es) all = by (cmp k e.0)
+  keys_inserted P new (e ∷ es) all = by (cmp k e.0) (keys_inserted P new es all.1)
     where
-      by : (o : Ordering) → AllByRecursion P (keys_of (match_ordering o ((k, v) ∷ e ∷ es) ((e.0, v) ∷ es) (e ∷ insert_entry cmp es k v)))
-      by Less = (new, all)
-      by Equal = all
-      by Greater = (all.0, keys_inserted P new es all.1)
+      by : (o : Ordering) → AllByRecursion P (keys_of (insert_entry cmp es k v)) → AllByRecursion P (keys_of (match_ordering o ((k, v) ∷ e ∷ es) ((e.0, v) ∷ es) (e ∷ insert_entry cmp es k v)))
+      by Less rest = (new, all)
+      by Equal rest = all
+      by Greater rest = (all.0, rest)
 
   below_all : IsTotalOrder cmp → (a b : K) → cmp a b ≡ Less → (ks : List K) → AllByRecursion (λ y. cmp b y ≡ Less) ks → AllByRecursion (λ y. cmp a y ≡ Less) ks
   below_all total a b less [] all = tt
@@ -173,12 +173,12 @@ module _ {K X : Type 0} (cmp : K → K → Ordering) (k : K) (v : X) where
   sorted_inserted : IsTotalOrder cmp → (es : List (K × X)) → IsStrictlySortedBy cmp (keys_of es) → IsStrictlySortedBy cmp (keys_of (insert_entry cmp es k v))
   unfolding IsStrictlySortedBy
   sorted_inserted total [] sorted = (tt, tt)
-  sorted_inserted total (e ∷ es) sorted = by (cmp k e.0) refl
+  sorted_inserted total (e ∷ es) sorted = by (cmp k e.0) refl (sorted_inserted total es sorted.1)
     where
-      by : (o : Ordering) → cmp k e.0 ≡ o → IsStrictlySortedBy cmp (keys_of (match_ordering o ((k, v) ∷ e ∷ es) ((e.0, v) ∷ es) (e ∷ insert_entry cmp es k v)))
-      by Less is = ((is, below_all total k e.0 is (keys_of es) sorted.0), sorted)
-      by Equal is = sorted
-      by Greater is = (keys_inserted (λ y. cmp e.0 y ≡ Less) (total.antisymm e.0 k ∙ ap ordering_reverse is) es sorted.0, sorted_inserted total es sorted.1)
+      by : (o : Ordering) → cmp k e.0 ≡ o → IsStrictlySortedBy cmp (keys_of (insert_entry cmp es k v)) → IsStrictlySortedBy cmp (keys_of (match_ordering o ((k, v) ∷ e ∷ es) ((e.0, v) ∷ es) (e ∷ insert_entry cmp es k v)))
+      by Less is rest = ((is, below_all total k e.0 is (keys_of es) sorted.0), sorted)
+      by Equal is rest = sorted
+      by Greater is rest = (keys_inserted (λ y. cmp e.0 y ≡ Less) (total.antisymm e.0 k ∙ ap ordering_reverse is) es sorted.0, rest)
 
 -- passengers that are kept
 pub record AreKept (I : Situation) (passengers : Passengers) : Type 0 where

@@ -25,22 +25,22 @@ fn in_file(file: File, fault: ReadFault) -> BuildFault
     }
 }
 
-/// The rows and the groups that the lines tell, or the first refusal.
-#[tactic(auto, unfolding(crate::specs::Solution::plan_told))]
-fn plan_told(
+/// The rows and the groups that the lines tell, by the names of the day, or the first refusal.
+fn told_by(
     alloc: Global,
     inst: &Instance,
+    names: &DayNames<'_>,
     legs: &[PlannedLeg],
     groups: &[PlannedGroup],
 ) -> Result<(Vec<Row>, Vec<Vec<Group>>), BuildFault>
+    requires { names.now ≡ inst.now }
     ensures { SolutionGives (λ told. record { rows = told.0.items; groups = map (λ of. of.items) told.1.items }) result (plan_told inst.now legs.now groups.now) }
 {
-    let names = DayNames::of(alloc, inst)?;
-    let rows = match rows_told(alloc, &names, inst.legs(), legs) {
+    let rows = match rows_told(alloc, names, inst.legs(), legs) {
         Ok(rows) => rows,
         Err(fault) => return Err(in_file(File::SolRotations, fault)),
     };
-    let parties = match passengers_told(alloc, &names, inst.reservations(), groups) {
+    let parties = match passengers_told(alloc, names, inst.reservations(), groups) {
         Ok(parties) => parties,
         Err(fault) => return Err(in_file(File::SolItineraries, fault)),
     };
@@ -52,6 +52,19 @@ fn plan_told(
         Ok(groups) => Ok((each_leg, groups)),
         Err(fault) => Err(in_file(File::SolItineraries, fault)),
     }
+}
+
+/// The rows and the groups that the lines tell, or the first refusal.
+fn plan_told(
+    alloc: Global,
+    inst: &Instance,
+    legs: &[PlannedLeg],
+    groups: &[PlannedGroup],
+) -> Result<(Vec<Row>, Vec<Vec<Group>>), BuildFault>
+    ensures { SolutionGives (λ told. record { rows = told.0.items; groups = map (λ of. of.items) told.1.items }) result (plan_told inst.now legs.now groups.now) }
+{
+    let names = DayNames::of(alloc, inst)?;
+    told_by(alloc, inst, &names, legs, groups)
 }
 
 /// The plan that the lines tell, or the first refusal.
