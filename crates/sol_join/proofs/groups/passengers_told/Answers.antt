@@ -1,6 +1,9 @@
-use Rattle.std.proofs.Common.{◌≡◌, ◌+◌, length, drop, arith, sym, refl, ap, ◌∙◌}
+use Rattle.std.proofs.Common.{◌≡◌, ℕ, ◌+◌, Vec, Global, length, drop, arith, sym, refl, ap, ◌∙◌}
 use Rattle.std.specs.Prelude.{replicate, []}
+use Rattle.std.specs.BTreeMap.{BTreeMap}
 use Rattle.std.proofs.lemmas.List.{take_at}
+use Rattle.desk_units.specs.declared.numbers.Cabin.{Cabin}
+use Rattle.desk_units.specs.declared.numbers.Leg.{Leg}
 use Rattle.desk_data.specs.Situation.{reservations_of}
 use Rattle.sol_join.specs.Groups.{groups_telling}
 use Rattle.sol_join.specs.Parties.{parties_in}
@@ -18,7 +21,7 @@ returns-in-Err c =
     let I = c.args.names.now in
     let lines = c.args.lines.now in
     let here = c.loop-line in
-    line_refused I lines here.line-index (parties_in c.as_mut_slice.result.now) c.line-item.result _ c.in-Err.fault c.at.result c.loop-line-test.true c.line-item.is c.in-Err.ensures.exact c.at.ensures
+    line_refused I lines here.line-index (parties_in c.as_mut_slice.result.now) c.line-item.result {A = Vec (BTreeMap (Vec (Leg × Cabin) Global) ℕ) Global} (λ v. parties_in v.items) c.in-Err.fault c.at.result c.loop-line-test.true c.line-item.is c.in-Err.ensures.exact c.at.ensures
     (same_after (groups_telling I) (reservations_of I) lines here.line-index (parties_in here.parties.items) (parties_in c.as_mut_slice.result.now) (ap parties_in (sym c.as_mut_slice.ensures.value)) here.invariant)
 
 pub loop-line-preserved : goal.loop-line-preserved
