@@ -16,6 +16,8 @@ use Rattle.sol_rows.specs.Legs.{rotation_rows}
 use Rattle.sol_rows.specs.Groups.{itinerary_rows}
 use Rattle.sol_join.specs.Legs.{rows_told, all_rows}
 use Rattle.sol_join.specs.Groups.{Passengers, passengers_told, groups_in, all_groups}
+use Rattle.desk_build.specs.declared.fault.BuildFault.{BuildFault}
+use Rattle.sol_join.specs.Both.{both}
 use Rattle.sol_join.specs.Solution.{in_file, plan_told, solution_of, SolutionGives, fault_in}
 
 -- what is told of a file, or why it is refused
@@ -64,7 +66,7 @@ module _ (I : Situation) where
     after_rows told parties rows is are all = after_parties told parties is are ∙ step_ok SolRotations (with_rows parties) (all_rows told) rows all
 
     -- all steps give something
-    pub plan_is : (told : List (Option Row)) (parties : List Passengers) (rows : List Row) (of : List (List Group)) → rows_told I legs ≡ Ok told → passengers_told I groups ≡ Ok parties → all_rows told ≡ Ok rows → all_groups I (map groups_in parties) ≡ Ok of
+    plan_is : (told : List (Option Row)) (parties : List Passengers) (rows : List Row) (of : List (List Group)) → rows_told I legs ≡ Ok told → passengers_told I groups ≡ Ok parties → all_rows told ≡ Ok rows → all_groups I (map groups_in parties) ≡ Ok of
         → plan_told I legs groups ≡ Ok (record { rows = rows; groups = of })
     plan_is told parties rows of is are all whole = after_rows told parties rows is are all ∙ step_ok SolItineraries (with_groups rows) (all_groups I (map groups_in parties)) of whole
 
@@ -79,17 +81,23 @@ module _ (I : Situation) where
       groups_refused shown told is refused =
           subst (SolutionGives value (Err (fault_in SolItineraries fault))) (sym (after_legs told is)) (step_err SolItineraries (with_parties told) value shown fault (passengers_told I groups) refused)
 
-      -- a leg has no line
-      pub rows_refused : (shown : B → List Row) (told : List (Option Row)) (parties : List Passengers) → rows_told I legs ≡ Ok told → passengers_told I groups ≡ Ok parties → Gives shown (Err fault) (all_rows told)
-          → SolutionGives value (Err (fault_in SolRotations fault)) (plan_told I legs groups)
-      rows_refused shown told parties is are refused =
-          subst (SolutionGives value (Err (fault_in SolRotations fault))) (sym (after_parties told parties is are)) (step_err SolRotations (with_rows parties) value shown fault (all_rows told) refused)
+    module _ {A B : Type 0} (shown : A → List Row) (seen : B → List (List Group)) (told : List (Option Row)) (parties : List Passengers) (is : rows_told I legs ≡ Ok told) (are : passengers_told I groups ≡ Ok parties) where
+      -- the plan of what both files give
+      abbrev pub plan_seen : A × B → PlanRows
+      plan_seen pair = record { rows = shown pair.0; groups = seen pair.1 }
 
-      -- a reservation has more or fewer passengers
-      pub counts_refused : (shown : B → List (List Group)) (told : List (Option Row)) (parties : List Passengers) (rows : List Row) → rows_told I legs ≡ Ok told → passengers_told I groups ≡ Ok parties → all_rows told ≡ Ok rows
-          → Gives shown (Err fault) (all_groups I (map groups_in parties)) → SolutionGives value (Err (fault_in SolItineraries fault)) (plan_told I legs groups)
-      counts_refused shown told parties rows is are all refused =
-          subst (SolutionGives value (Err (fault_in SolItineraries fault))) (sym (after_rows told parties rows is are all)) (step_err SolItineraries (with_groups rows) value shown fault (all_groups I (map groups_in parties)) refused)
+      -- each leg has a line or not, and each reservation all its passengers or not
+      pub both_told : (rows : Result A ReadFault) (of : Result B ReadFault) (result : Result (A × B) BuildFault) → Gives shown rows (all_rows told) → Gives seen of (all_groups I (map groups_in parties)) → result ≡ both rows of
+          → SolutionGives plan_seen result (plan_told I legs groups)
+      both_told rows of result each whole same = subst (λ (r : Result (A × B) BuildFault). SolutionGives plan_seen r (plan_told I legs groups)) (sym same) (by rows of each whole)
+        where
+          by : (rows : Result A ReadFault) (of : Result B ReadFault) → Gives shown rows (all_rows told) → Gives seen of (all_groups I (map groups_in parties)) → SolutionGives plan_seen (both rows of) (plan_told I legs groups)
+          by (Err fault) of each whole =
+              subst (SolutionGives plan_seen (Err (fault_in SolRotations fault))) (sym (after_parties told parties is are)) (step_err SolRotations (with_rows parties) plan_seen shown fault (all_rows told) each)
+          by (Ok rows) (Err fault) each whole =
+              subst (SolutionGives plan_seen (Err (fault_in SolItineraries fault))) (sym (after_rows told parties (shown rows) is are each))
+              (step_err SolItineraries (with_groups (shown rows)) plan_seen seen fault (all_groups I (map groups_in parties)) whole)
+          by (Ok rows) (Ok of) each whole = plan_is told parties (shown rows) (seen of) is are each whole
 
 module _ (I : Situation) (rotations itineraries : List ℕ) where
   -- the plan behind the rows of the first file

@@ -3,6 +3,7 @@
 ghost use Rattle.std.specs.Prelude.{◌≡◌, All, IfOk, map};
 ghost use Rattle.desk_data.specs.Valid.{IsPlanFor};
 ghost use Rattle.sol_rows.specs.Facts.{IsPlannedGroup};
+ghost use Rattle.sol_join.specs.Both.{both};
 ghost use Rattle.sol_join.specs.Solution.{SolutionGives, fault_in, plan_told, solution_of};
 
 use crate::groups::{all_groups, groups_of, passengers_told};
@@ -25,6 +26,22 @@ fn in_file(file: File, fault: ReadFault) -> BuildFault
     }
 }
 
+/// What both files give once all their lines are told, or a fault: the first file's comes first.
+fn both(
+    rows: Result<Vec<Row>, ReadFault>,
+    groups: Result<Vec<Vec<Group>>, ReadFault>,
+) -> Result<(Vec<Row>, Vec<Vec<Group>>), BuildFault>
+    ensures { result ≡ both rows groups }
+{
+    match rows {
+        Ok(rows) => match groups {
+            Ok(groups) => Ok((rows, groups)),
+            Err(fault) => Err(in_file(File::SolItineraries, fault)),
+        },
+        Err(fault) => Err(in_file(File::SolRotations, fault)),
+    }
+}
+
 /// The rows and the groups that the lines tell, by the names of the day, or the first refusal.
 fn told_by(
     alloc: Global,
@@ -44,14 +61,9 @@ fn told_by(
         Ok(parties) => parties,
         Err(fault) => return Err(in_file(File::SolItineraries, fault)),
     };
-    let each_leg = match all_rows(alloc, rows.as_slice()) {
-        Ok(rows) => rows,
-        Err(fault) => return Err(in_file(File::SolRotations, fault)),
-    };
-    match all_groups(inst, groups_of(alloc, parties.as_slice())?) {
-        Ok(groups) => Ok((each_leg, groups)),
-        Err(fault) => Err(in_file(File::SolItineraries, fault)),
-    }
+    let each_leg = all_rows(alloc, rows.as_slice());
+    let each_party = all_groups(inst, groups_of(alloc, parties.as_slice())?);
+    both(each_leg, each_party)
 }
 
 /// The rows and the groups that the lines tell, or the first refusal.
