@@ -297,7 +297,7 @@ module _ (I : Situation) (legs : List PlannedLeg) (groups : List PlannedGroup) w
   }
 
   -- the plan that lines tell
-  pub told_is_plan : (P : PlanRows) → AllByRecursion IsPlannedGroup groups → plan_told I legs groups ≡ Ok P → IsPlanFor I P
+  pub told_is_plan : (P : PlanRows) → All IsPlannedGroup groups → plan_told I legs groups ≡ Ok P → IsPlanFor I P
   unfolding plan_told
   told_is_plan P lines e =
       let told = bind_ok (in_file SolRotations (rows_told I legs)) _ P e in
@@ -307,4 +307,4 @@ module _ (I : Situation) (legs : List PlannedLeg) (groups : List PlannedGroup) w
       let is : record { rows = rows.0; groups = of.0 } ≡ P = cc in
       let good = good_rows told.0 rows.0 (in_file_ok SolRotations (rows_told I legs) told.0 told.1) (in_file_ok SolRotations (all_rows told.0) rows.0 rows.1) in
       subst (IsPlanFor I) is (is_plan rows.0 of.0 good.0 good.1
-      (good_groups parties.0 of.0 lines (in_file_ok SolItineraries (passengers_told I groups) parties.0 parties.1) (in_file_ok SolItineraries (all_groups I (map groups_in parties.0)) of.0 of.1)))
+      (good_groups parties.0 of.0 (recursion_from_All IsPlannedGroup groups lines) (in_file_ok SolItineraries (passengers_told I groups) parties.0 parties.1) (in_file_ok SolItineraries (all_groups I (map groups_in parties.0)) of.0 of.1)))

@@ -1,12 +1,10 @@
-use Rattle.std.proofs.Common.{◌≡◌}
+use Rattle.std.proofs.Common.{sym}
+use Rattle.desk_data.specs.Valid.{IsPlanFor}
 use Rattle.sol_join.proofs.PlanLemmas.{told_is_plan}
 use Rattle.sol_join.proofs.solution.plan_of.Goals as goal
 
 pub of-requires : goal.of-requires
-of-requires c =
-    let h1 = c.requires in
-    let h2 = c.in_ok-plan_told.ensures in
-    ?
+of-requires c = (told_is_plan c.args.inst.now c.args.legs.now c.args.groups.now _ c.requires c.in_ok-rows.ensures).sound
 
 pub returns-clause-plan : goal.returns-clause-plan
-returns-clause-plan c = ?
+returns-clause-plan c = rw c.of.ensures (told_is_plan c.args.inst.now c.args.legs.now c.args.groups.now _ c.requires c.in_ok-rows.ensures)
