@@ -1,5 +1,5 @@
 -- Lines of a plan's files: the numbers that they name are those of the day, and what stands where one is refused.
-use Rattle.std.proofs.Common.{◌≡◌, ℕ, ◌+◌, ◌<◌, List, [], length, get_or, Bool, true, false, cond, not, Option, Some, None, Result, Ok, Err, refl, sym, ap, subst, ◌∙◌}
+use Rattle.std.proofs.Common.{◌≡◌, ℕ, ◌+◌, ◌<◌, List, [], length, get_or, Option, None, Err, refl, sym, subst}
 use Rattle.std.specs.Prelude.{IfOk, ok_or}
 use Rattle.desk_units.specs.declared.numbers.Leg.{Leg}
 use Rattle.desk_units.specs.declared.numbers.Res.{Res}
@@ -8,7 +8,7 @@ use Rattle.file_rows.specs.declared.cause.Cause.TheVariants as cause
 use Rattle.desk_text.specs.declared.fault.ReadFault.{ReadFault}
 use Rattle.desk_text.specs.declared.fault.RowFault.{RowFault}
 use Rattle.desk_text.specs.declared.fault.RowFault.TheVariants as row_fault
-use Rattle.desk_text.specs.Rows.{◌>>=◌, Gives, fault_at}
+use Rattle.desk_text.specs.Rows.{Gives, fault_at}
 use Rattle.desk_data.specs.declared.row.Row.{Row}
 use Rattle.desk_data.specs.declared.row.Group.{Group}
 use Rattle.desk_data.specs.Situation.{Situation, legs_of, reservations_of}

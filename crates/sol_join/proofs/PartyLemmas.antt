@@ -1,9 +1,8 @@
 -- Passengers by their paths, in a map whose keys are compared as paths are.
-use Rattle.std.proofs.Common.{◌≡◌, ℕ, ◌+◌, ◌<◌, ◌≤◌, Bool, true, false, cond, not, List, [], ◌∷◌, ◌++◌, length, map, get_or, set, replicate, Option, Some, None, Result, Ok, Err, refl, sym, ap, subst, ◌∙◌}
-use Rattle.std.specs.Prelude.{is_some, sum_by}
+use Rattle.std.proofs.Common.{◌≡◌, ℕ, ◌+◌, ◌<◌, Bool, true, false, cond, not, List, [], ◌∷◌, ◌++◌, length, map, get_or, set, replicate, Option, Some, refl, sym, ap, ◌∙◌}
+use Rattle.std.specs.Prelude.{is_some}
 use Rattle.std.specs.declared.alloc.Global.{Global}
 use Rattle.std.specs.declared.vec.Vec.{Vec}
-use Rattle.std.specs.List.{list_all, zip}
 use Rattle.std.proofs.lemmas.List.{get_or-map, map-append, map-set, replicate-append-replicate}
 use Rattle.desk_units.specs.declared.numbers.Cabin.{Cabin}
 use Rattle.desk_units.specs.declared.numbers.Cabin.TheVariants.{F, B, E}
@@ -12,7 +11,7 @@ use Rattle.desk_units.specs.contracts.numbers.LegOrd.TheImpl as leg_order
 use Rattle.desk_units.specs.contracts.numbers.CabinOrd.TheImpl as cabin_order
 use Rattle.desk_units.specs.Ranks.{cabin_rank}
 use Rattle.desk_data.specs.PlanRows.{pair_cmp, path_cmp}
-use Rattle.sol_join.specs.Groups.{Passengers, has_path, is_whole}
+use Rattle.sol_join.specs.Groups.{Passengers, has_path}
 use Rattle.sol_join.specs.Parties.{passengers_in, parties_in}
 use Rattle.std.specs.Map.{lookup}
 use Rattle.std.specs.Ordering.{match_ordering, ordering_then}
@@ -117,8 +116,8 @@ module _ (C : Seats → Seats → Ordering) (same : (a b : Seats) → C a b ≡ 
   put_in after count below seats put =
       map-set passengers_in kept r after
       ∙ ap (set (parties_in kept) r) (
-        ap (λ (es : List (Seats × ℕ)). map (λ (entry : Seats × ℕ). (entry.0.items, entry.1)) es) put
-        ∙ inserted (λ (s : Seats). s.items) C path_cmp same (get_or kept r d).entries key count
-        ∙ ap (λ (p : List (Leg × Cabin)). insert_entry path_cmp (passengers_in (get_or kept r d)) p count) seats
-        ∙ ap (λ (ps : Passengers). insert_entry path_cmp ps path count) (sym (party_here below))
+      ap (λ (es : List (Seats × ℕ)). map (λ (entry : Seats × ℕ). (entry.0.items, entry.1)) es) put
+      ∙ inserted (λ (s : Seats). s.items) C path_cmp same (get_or kept r d).entries key count
+      ∙ ap (λ (p : List (Leg × Cabin)). insert_entry path_cmp (passengers_in (get_or kept r d)) p count) seats
+      ∙ ap (λ (ps : Passengers). insert_entry path_cmp ps path count) (sym (party_here below))
       )

@@ -1,22 +1,21 @@
 -- What the lines tell is a plan for the day.
-use Rattle.std.proofs.Common.{◌≡◌, ℕ, zero, suc, ◌+◌, ◌<◌, ◌≤◌, Bool, true, false, cond, eqb, List, [], ◌∷◌, ◌++◌, length, map, get_or, Option, Some, None, Result, Ok, Err, refl, sym, ap, subst, ◌∙◌, arith, leb}
+use Rattle.std.proofs.Common.{◌≡◌, ℕ, zero, suc, ◌<◌, ◌≤◌, true, List, [], ◌∷◌, length, map, get_or, Option, Some, None, Result, Ok, Err, refl, sym, ap, subst, ◌∙◌, arith, leb}
 use Rattle.std.specs.Prelude.{sum_by, is_some, unwrap_or, ok_or}
 use Rattle.std.specs.List.{All, AllPairs, AllByRecursion, list_all, zip, range_with_len}
 use Rattle.std.specs.List.Sorted.{IsStrictlySortedBy}
 use Rattle.std.specs.Map.{keys_of}
 use Rattle.std.specs.Option.{option_or}
 use Rattle.std.specs.Cmp.{IsTotalOrder}
-use Rattle.std.specs.Ordering.{nat_cmp, ordering_reverse, match_ordering}
+use Rattle.std.specs.Ordering.{ordering_reverse, match_ordering}
 use Rattle.std.specs.declared.cmp.Ordering.{Ordering}
 use Rattle.std.specs.declared.cmp.Ordering.TheVariants.{Less, Equal, Greater}
 use Rattle.std.specs.BTreeMap.{insert_entry}
 use Rattle.std.proofs.lemmas.Bool.{and_parts, ltb-true, leb-true, eqb-true}
 use Rattle.std.proofs.lemmas.Cmp.{nat_cmp_total, on_total, then_total, lists_total}
-use Rattle.std.proofs.lemmas.List.{get_or-map, length-map}
+use Rattle.std.proofs.lemmas.List.{length-map}
 use Rattle.std.proofs.lemmas.List.Elements.{All-from_recursion, recursion_from_All, All-weaker}
-use Rattle.std.proofs.lemmas.List.FromFn.{length-map-range_with_len, get_or-map-range_with_len}
+use Rattle.std.proofs.lemmas.List.FromFn.{length-map-range_with_len}
 use Rattle.std.proofs.lemmas.List.Kept.{AllPairs-cons}
-use Rattle.std.proofs.lemmas.List.Sums.{sum_by-cons}
 use Rattle.desk_units.specs.declared.numbers.Cabin.{Cabin}
 use Rattle.desk_units.specs.declared.numbers.Leg.{Leg}
 use Rattle.desk_units.specs.declared.numbers.Plane.{Plane}
@@ -25,16 +24,15 @@ use Rattle.desk_units.specs.Ranks.{cabin_rank}
 use Rattle.file_rows.specs.declared.cause.Cause.{Cause}
 use Rattle.file_rows.specs.declared.cause.Cause.TheVariants as cause
 use Rattle.file_rows.specs.declared.passengers.LegRow.{LegRow}
-use Rattle.desk_text.specs.Rows.{◌>>=◌}
 use Rattle.desk_folder.specs.declared.files.File.{File}
 use Rattle.desk_folder.specs.declared.files.File.TheVariants.{SolRotations, SolItineraries}
 use Rattle.desk_data.specs.declared.info.ResInfo.{ResInfo}
 use Rattle.desk_data.specs.declared.row.Group.{Group}
 use Rattle.desk_data.specs.declared.row.Row.{Row}
 use Rattle.desk_data.specs.declared.row.Row.TheVariants.{Flown, Cancelled}
-use Rattle.desk_data.specs.PlanRows.{PlanRows, IsRow, IsGroup, AreGroups, IsSound, groups_at, pair_cmp, path_cmp}
-use Rattle.desk_data.specs.Situation.{Situation, legs_of, planes_of, reservations_of, res_at, no_res}
-use Rattle.desk_data.specs.Valid.{IsPathOf, IsRowOf, AreGroupsOf, IsPlanFor}
+use Rattle.desk_data.specs.PlanRows.{PlanRows, IsRow, IsGroup, AreGroups, pair_cmp, path_cmp}
+use Rattle.desk_data.specs.Situation.{Situation, legs_of, planes_of, reservations_of, no_res}
+use Rattle.desk_data.specs.Valid.{IsPathOf, IsRowOf, IsPlanFor}
 use Rattle.day_names.specs.Names.{leg_named, plane_named, res_named}
 use Rattle.day_names.proofs.NameLaws.{leg_named-lt, plane_named-lt}
 use Rattle.sol_rows.specs.declared.rows.PlannedFlight.{PlannedFlight}

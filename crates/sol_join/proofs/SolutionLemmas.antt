@@ -1,5 +1,5 @@
 -- The plan of two files, step by step.
-use Rattle.std.proofs.Common.{◌≡◌, ℕ, List, map, Option, Some, None, Result, Ok, Err, refl, sym, ap, subst, ◌∙◌}
+use Rattle.std.proofs.Common.{◌≡◌, ℕ, List, map, Option, Result, Ok, Err, refl, sym, ap, subst, ◌∙◌}
 use Rattle.file_rows.specs.declared.cause.Cause.{Cause}
 use Rattle.desk_text.specs.declared.fault.ReadFault.{ReadFault}
 use Rattle.desk_text.specs.declared.fault.ReadFault.TheVariants as read_fault

@@ -1,4 +1,3 @@
-use Rattle.std.proofs.Common.{arith}
 use Rattle.desk_data.specs.PlanRows.{pair_cmp}
 use Rattle.sol_join.proofs.PartyLemmas.{pair_same, same_slices, put_new, put_in}
 use Rattle.sol_join.proofs.groups.put_group.Goals as goal

@@ -18,8 +18,8 @@ returns-in-Some c =
     let lines = c.args.lines.now in
     let here = c.loop-line in
     rw c.at.ensures (
-      stops (legs_telling I) (legs_of I) lines here.line-index c.as_mut_slice.result.now c.line-item.result c.in-Some.cause c.loop-line-test.true c.line-item.is (told_leg-within I c.line-item.result) c.in-Some.ensures.cause
-      (same_after (legs_telling I) (legs_of I) lines here.line-index here.rows.items c.as_mut_slice.result.now (sym c.as_mut_slice.ensures.value) here.invariant)
+    stops (legs_telling I) (legs_of I) lines here.line-index c.as_mut_slice.result.now c.line-item.result c.in-Some.cause c.loop-line-test.true c.line-item.is (told_leg-within I c.line-item.result) c.in-Some.ensures.cause
+    (same_after (legs_telling I) (legs_of I) lines here.line-index here.rows.items c.as_mut_slice.result.now (sym c.as_mut_slice.ensures.value) here.invariant)
     )
 
 pub loop-line-preserved : goal.loop-line-preserved

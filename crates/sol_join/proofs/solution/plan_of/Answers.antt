@@ -1,5 +1,3 @@
-use Rattle.std.proofs.Common.{sym}
-use Rattle.desk_data.specs.Valid.{IsPlanFor}
 use Rattle.sol_join.proofs.PlanLemmas.{told_is_plan}
 use Rattle.sol_join.proofs.solution.plan_of.Goals as goal
 

@@ -1,10 +1,9 @@
-use Rattle.std.proofs.Common.{◌≡◌, ℕ, List, Result, Ok, Err, Vec, Global, map, sym, refl, ap, subst, ◌∙◌}
+use Rattle.std.proofs.Common.{◌≡◌, ℕ, List, Ok, Err, Vec, Global, map, sym, ap, subst, ◌∙◌}
 use Rattle.std.specs.Prelude.{Option}
 use Rattle.std.specs.BTreeMap.{BTreeMap}
 use Rattle.desk_units.specs.declared.numbers.Cabin.{Cabin}
 use Rattle.desk_units.specs.declared.numbers.Leg.{Leg}
 use Rattle.desk_text.specs.Rows.{Gives}
-use Rattle.desk_folder.specs.declared.files.File.TheVariants.{SolRotations, SolItineraries}
 use Rattle.desk_data.specs.declared.row.Group.{Group}
 use Rattle.desk_data.specs.declared.row.Row.{Row}
 use Rattle.desk_data.specs.PlanRows.{PlanRows}
@@ -12,7 +11,6 @@ use Rattle.desk_data.specs.Situation.{Situation}
 use Rattle.sol_join.specs.Legs.{rows_told, all_rows}
 use Rattle.sol_join.specs.Groups.{passengers_told, groups_in, all_groups}
 use Rattle.sol_join.specs.Parties.{parties_in}
-use Rattle.sol_join.specs.Solution.{SolutionGives, fault_in, plan_told}
 use Rattle.sol_join.proofs.SolutionLemmas.{legs_refused, groups_refused, both_told}
 use Rattle.sol_join.proofs.solution.told_by.Goals as goal
 
@@ -55,6 +53,6 @@ returns c =
     let each : Gives {Answer = Rows} (λ rows. rows.items) c.all_rows-each_leg.result (all_rows c.in-Ok.rows.items) = subst (λ (told : List (Option Row)). Gives (λ rows. rows.items) c.all_rows-each_leg.result (all_rows told)) c.as_slice.ensures.value c.all_rows-each_leg.ensures in
     let groups : lists c.in_ok-groups_of.field-0 ≡ map groups_in (parties_in parties.items) = c.in_ok-groups_of.ensures ∙ ap (λ ps. map groups_in (parties_in ps)) c.as_slice-2.ensures.value in
     let whole : Gives {Answer = Groups} lists c.all_groups-each_party.result (all_groups I (map groups_in (parties_in parties.items))) =
-        subst (λ (of : List (List Group)). Gives lists c.all_groups-each_party.result (all_groups I of)) groups c.all_groups-each_party.ensures
+    subst (λ (of : List (List Group)). Gives lists c.all_groups-each_party.result (all_groups I of)) groups c.all_groups-each_party.ensures
     in
     both_told I c.args.legs.now c.args.groups.now (λ (rows : Rows). rows.items) lists c.in-Ok.rows.items (parties_in parties.items) told passengers c.all_rows-each_leg.result c.all_groups-each_party.result c.both.result each whole c.both.ensures
