@@ -1,6 +1,6 @@
 -- Chains of readings, taken apart.
 use Rattle.std.proofs.Common.{◌≡◌, Bool, true, false, cond, Option, Some, None, Result, Ok, Err, refl}
-use Rattle.std.specs.Prelude.{ok_or}
+use Rattle.std.specs.Prelude.{ok_or, IfOk}
 use Rattle.desk_text.specs.Rows.{◌>>=◌}
 
 -- a chain that gives something: what its first step gives, and the rest
@@ -17,3 +17,8 @@ if_ok false x y why e = absurd cc
 pub ok_or_some : {A E : Type 0} (o : Option A) (why : E) (x : A) → ok_or o why ≡ Ok x → o ≡ Some x
 ok_or_some (Some y) why x e = cc
 ok_or_some None why x e = absurd cc
+
+-- what follows from what is given holds where something is given
+pub if_is_ok : {A E : Type 0} (r : Result A E) (P : A → Type 0) → ((x : A) → r ≡ Ok x → P x) → IfOk r P
+if_is_ok (Ok x) P holds = holds x refl
+if_is_ok (Err why) P holds = tt

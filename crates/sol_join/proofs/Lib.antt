@@ -1,4 +1,8 @@
 pub mod Chains
 pub mod TellingLemmas
+pub mod LineLemmas
 pub mod PathLemmas
+pub mod PartyLemmas
 pub mod PlanLemmas
+pub mod SolutionLemmas
+pub mod WholeLemmas

@@ -1,22 +1,21 @@
 -- What the lines tell is a plan for the day.
-use Rattle.std.proofs.Common.{◌≡◌, ℕ, zero, suc, ◌+◌, ◌<◌, ◌≤◌, Bool, true, false, cond, eqb, List, [], ◌∷◌, ◌++◌, length, map, get_or, Option, Some, None, Result, Ok, Err, refl, sym, ap, subst, ◌∙◌, arith, leb}
+use Rattle.std.proofs.Common.{◌≡◌, ℕ, zero, suc, ◌<◌, ◌≤◌, true, List, [], ◌∷◌, length, map, get_or, Option, Some, None, Result, Ok, Err, refl, sym, ap, subst, ◌∙◌, arith, leb}
 use Rattle.std.specs.Prelude.{sum_by, is_some, unwrap_or, ok_or}
 use Rattle.std.specs.List.{All, AllPairs, AllByRecursion, list_all, zip, range_with_len}
 use Rattle.std.specs.List.Sorted.{IsStrictlySortedBy}
 use Rattle.std.specs.Map.{keys_of}
 use Rattle.std.specs.Option.{option_or}
 use Rattle.std.specs.Cmp.{IsTotalOrder}
-use Rattle.std.specs.Ordering.{nat_cmp, ordering_reverse, match_ordering}
+use Rattle.std.specs.Ordering.{ordering_reverse, match_ordering}
 use Rattle.std.specs.declared.cmp.Ordering.{Ordering}
 use Rattle.std.specs.declared.cmp.Ordering.TheVariants.{Less, Equal, Greater}
 use Rattle.std.specs.BTreeMap.{insert_entry}
 use Rattle.std.proofs.lemmas.Bool.{and_parts, ltb-true, leb-true, eqb-true}
 use Rattle.std.proofs.lemmas.Cmp.{nat_cmp_total, on_total, then_total, lists_total}
-use Rattle.std.proofs.lemmas.List.{get_or-map, length-map}
+use Rattle.std.proofs.lemmas.List.{length-map}
 use Rattle.std.proofs.lemmas.List.Elements.{All-from_recursion, recursion_from_All, All-weaker}
-use Rattle.std.proofs.lemmas.List.FromFn.{length-map-range_with_len, get_or-map-range_with_len}
+use Rattle.std.proofs.lemmas.List.FromFn.{length-map-range_with_len}
 use Rattle.std.proofs.lemmas.List.Kept.{AllPairs-cons}
-use Rattle.std.proofs.lemmas.List.Sums.{sum_by-cons}
 use Rattle.desk_units.specs.declared.numbers.Cabin.{Cabin}
 use Rattle.desk_units.specs.declared.numbers.Leg.{Leg}
 use Rattle.desk_units.specs.declared.numbers.Plane.{Plane}
@@ -25,16 +24,15 @@ use Rattle.desk_units.specs.Ranks.{cabin_rank}
 use Rattle.file_rows.specs.declared.cause.Cause.{Cause}
 use Rattle.file_rows.specs.declared.cause.Cause.TheVariants as cause
 use Rattle.file_rows.specs.declared.passengers.LegRow.{LegRow}
-use Rattle.desk_text.specs.Rows.{◌>>=◌}
 use Rattle.desk_folder.specs.declared.files.File.{File}
 use Rattle.desk_folder.specs.declared.files.File.TheVariants.{SolRotations, SolItineraries}
 use Rattle.desk_data.specs.declared.info.ResInfo.{ResInfo}
 use Rattle.desk_data.specs.declared.row.Group.{Group}
 use Rattle.desk_data.specs.declared.row.Row.{Row}
 use Rattle.desk_data.specs.declared.row.Row.TheVariants.{Flown, Cancelled}
-use Rattle.desk_data.specs.PlanRows.{PlanRows, IsRow, IsGroup, AreGroups, IsSound, groups_at, pair_cmp, path_cmp}
-use Rattle.desk_data.specs.Situation.{Situation, legs_of, planes_of, reservations_of, res_at, no_res}
-use Rattle.desk_data.specs.Valid.{IsPathOf, IsRowOf, AreGroupsOf, IsPlanFor}
+use Rattle.desk_data.specs.PlanRows.{PlanRows, IsRow, IsGroup, AreGroups, pair_cmp, path_cmp}
+use Rattle.desk_data.specs.Situation.{Situation, legs_of, planes_of, reservations_of, no_res}
+use Rattle.desk_data.specs.Valid.{IsPathOf, IsRowOf, IsPlanFor}
 use Rattle.day_names.specs.Names.{leg_named, plane_named, res_named}
 use Rattle.day_names.proofs.NameLaws.{leg_named-lt, plane_named-lt}
 use Rattle.sol_rows.specs.declared.rows.PlannedFlight.{PlannedFlight}
@@ -149,21 +147,21 @@ module _ {K X : Type 0} (cmp : K → K → Ordering) (k : K) (v : X) where
   -- what holds of each entry, and of the new one at each key, holds of each then
   all_inserted : (P : K × X → Type 0) → P (k, v) → ((e : K × X) → P e → P (e.0, v)) → (es : List (K × X)) → AllByRecursion P es → AllByRecursion P (insert_entry cmp es k v)
   all_inserted P new again [] all = (new, tt)
-  all_inserted P new again (e ∷ es) all = by (cmp k e.0)
+  all_inserted P new again (e ∷ es) all = by (cmp k e.0) (all_inserted P new again es all.1)
     where
-      by : (o : Ordering) → AllByRecursion P (match_ordering o ((k, v) ∷ e ∷ es) ((e.0, v) ∷ es) (e ∷ insert_entry cmp es k v))
-      by Less = (new, all)
-      by Equal = (again e all.0, all.1)
-      by Greater = (all.0, all_inserted P new again es all.1)
+      by : (o : Ordering) → AllByRecursion P (insert_entry cmp es k v) → AllByRecursion P (match_ordering o ((k, v) ∷ e ∷ es) ((e.0, v) ∷ es) (e ∷ insert_entry cmp es k v))
+      by Less rest = (new, all)
+      by Equal rest = (again e all.0, all.1)
+      by Greater rest = (all.0, rest)
 
   keys_inserted : (P : K → Type 0) → P k → (es : List (K × X)) → AllByRecursion P (keys_of es) → AllByRecursion P (keys_of (insert_entry cmp es k v))
   keys_inserted P new [] all = (new, tt)
-  keys_inserted P new (e ∷ es) all = by (cmp k e.0)
+  keys_inserted P new (e ∷ es) all = by (cmp k e.0) (keys_inserted P new es all.1)
     where
-      by : (o : Ordering) → AllByRecursion P (keys_of (match_ordering o ((k, v) ∷ e ∷ es) ((e.0, v) ∷ es) (e ∷ insert_entry cmp es k v)))
-      by Less = (new, all)
-      by Equal = all
-      by Greater = (all.0, keys_inserted P new es all.1)
+      by : (o : Ordering) → AllByRecursion P (keys_of (insert_entry cmp es k v)) → AllByRecursion P (keys_of (match_ordering o ((k, v) ∷ e ∷ es) ((e.0, v) ∷ es) (e ∷ insert_entry cmp es k v)))
+      by Less rest = (new, all)
+      by Equal rest = all
+      by Greater rest = (all.0, rest)
 
   below_all : IsTotalOrder cmp → (a b : K) → cmp a b ≡ Less → (ks : List K) → AllByRecursion (λ y. cmp b y ≡ Less) ks → AllByRecursion (λ y. cmp a y ≡ Less) ks
   below_all total a b less [] all = tt
@@ -173,12 +171,12 @@ module _ {K X : Type 0} (cmp : K → K → Ordering) (k : K) (v : X) where
   sorted_inserted : IsTotalOrder cmp → (es : List (K × X)) → IsStrictlySortedBy cmp (keys_of es) → IsStrictlySortedBy cmp (keys_of (insert_entry cmp es k v))
   unfolding IsStrictlySortedBy
   sorted_inserted total [] sorted = (tt, tt)
-  sorted_inserted total (e ∷ es) sorted = by (cmp k e.0) refl
+  sorted_inserted total (e ∷ es) sorted = by (cmp k e.0) refl (sorted_inserted total es sorted.1)
     where
-      by : (o : Ordering) → cmp k e.0 ≡ o → IsStrictlySortedBy cmp (keys_of (match_ordering o ((k, v) ∷ e ∷ es) ((e.0, v) ∷ es) (e ∷ insert_entry cmp es k v)))
-      by Less is = ((is, below_all total k e.0 is (keys_of es) sorted.0), sorted)
-      by Equal is = sorted
-      by Greater is = (keys_inserted (λ y. cmp e.0 y ≡ Less) (total.antisymm e.0 k ∙ ap ordering_reverse is) es sorted.0, sorted_inserted total es sorted.1)
+      by : (o : Ordering) → cmp k e.0 ≡ o → IsStrictlySortedBy cmp (keys_of (insert_entry cmp es k v)) → IsStrictlySortedBy cmp (keys_of (match_ordering o ((k, v) ∷ e ∷ es) ((e.0, v) ∷ es) (e ∷ insert_entry cmp es k v)))
+      by Less is rest = ((is, below_all total k e.0 is (keys_of es) sorted.0), sorted)
+      by Equal is rest = sorted
+      by Greater is rest = (keys_inserted (λ y. cmp e.0 y ≡ Less) (total.antisymm e.0 k ∙ ap ordering_reverse is) es sorted.0, rest)
 
 -- passengers that are kept
 pub record AreKept (I : Situation) (passengers : Passengers) : Type 0 where
@@ -297,7 +295,7 @@ module _ (I : Situation) (legs : List PlannedLeg) (groups : List PlannedGroup) w
   }
 
   -- the plan that lines tell
-  pub told_is_plan : (P : PlanRows) → AllByRecursion IsPlannedGroup groups → plan_told I legs groups ≡ Ok P → IsPlanFor I P
+  pub told_is_plan : (P : PlanRows) → All IsPlannedGroup groups → plan_told I legs groups ≡ Ok P → IsPlanFor I P
   unfolding plan_told
   told_is_plan P lines e =
       let told = bind_ok (in_file SolRotations (rows_told I legs)) _ P e in
@@ -307,4 +305,4 @@ module _ (I : Situation) (legs : List PlannedLeg) (groups : List PlannedGroup) w
       let is : record { rows = rows.0; groups = of.0 } ≡ P = cc in
       let good = good_rows told.0 rows.0 (in_file_ok SolRotations (rows_told I legs) told.0 told.1) (in_file_ok SolRotations (all_rows told.0) rows.0 rows.1) in
       subst (IsPlanFor I) is (is_plan rows.0 of.0 good.0 good.1
-      (good_groups parties.0 of.0 lines (in_file_ok SolItineraries (passengers_told I groups) parties.0 parties.1) (in_file_ok SolItineraries (all_groups I (map groups_in parties.0)) of.0 of.1)))
+      (good_groups parties.0 of.0 (recursion_from_All IsPlannedGroup groups lines) (in_file_ok SolItineraries (passengers_told I groups) parties.0 parties.1) (in_file_ok SolItineraries (all_groups I (map groups_in parties.0)) of.0 of.1)))

@@ -1,5 +1,5 @@
 -- What lines tell, from one line to the next.
-use Rattle.std.proofs.Common.{◌≡◌, ℕ, zero, suc, ◌+◌, ◌<◌, ◌≤◌, inl, inr, Bool, true, false, cond, eqb, List, [], ◌∷◌, ◌++◌, length, map, take, drop, get_or, set, replicate, Option, Some, None, Result, Ok, Err, refl, sym, ap, subst, ◌∙◌, arith, get_or-set_other, get_or-set_same}
+use Rattle.std.proofs.Common.{◌≡◌, ℕ, suc, ◌+◌, ◌<◌, ◌≤◌, inl, inr, Bool, true, false, cond, eqb, List, [], ◌∷◌, ◌++◌, length, map, take, drop, get_or, set, replicate, Option, Some, None, Result, Ok, Err, refl, sym, ap, subst, ◌∙◌, arith, get_or-set_other, get_or-set_same}
 use Rattle.std.specs.Prelude.{fold, IfOk}
 use Rattle.std.specs.List.{range_with_len, AllByRecursion}
 use Rattle.std.proofs.Math.Seq.{take-suc}
@@ -53,6 +53,9 @@ module _ {Line Told Entry : Type 0} (T : Telling Line Told Entry) where
       pub size_is : length entries ≡ size
       pub each : (x : ℕ) → x < size → get_or entries x T.none ≡ entry_among T (take n lines) x
       pub passed : refusal_from (λ n line. line_cause T (take n lines) line) (of_row T.number) n (drop n lines) ≡ first_refused T lines
+
+    pub same_after : (n : ℕ) (entries entries' : List Entry) → entries ≡ entries' → AreAfter n entries → AreAfter n entries'
+    same_after n entries entries' same after = subst (AreAfter n) same after
 
     pub begins : (entries : List Entry) → entries ≡ replicate size T.none → AreAfter 0 entries
     begins entries is = record {
@@ -117,6 +120,6 @@ module _ {Line Told Entry : Type 0} (T : Telling Line Told Entry) where
         ap (λ refusal. unless refusal (map (entry_among T lines) (range_with_len 0 size))) (sym (refused_end (λ n line. line_cause T (take n lines) line) (of_row T.number) lines n (first_refused T lines) over after.passed))
         ∙ ap Ok (ext_get_or T.none (map (entry_among T lines) (range_with_len 0 size)) entries (length-map-range_with_len (entry_among T lines) 0 size ∙ sym after.size_is) (λ x lt.
         let below : x < size = subst (λ k. x < k) (length-map-range_with_len (entry_among T lines) 0 size) lt in
-        get_or-map-range_with_len (entry_among T lines) 0 size x x T.none below refl
+        get_or-map-range_with_len (entry_among T lines) 0 size x x T.none below (let e : 0 + x ≡ x = omega arith in e)
         ∙ ap (λ (ls : List Line). entry_among T ls x) (sym (take_all n lines over))
         ∙ sym (after.each x below)))

@@ -4,3 +4,4 @@ pub mod Legs
 pub mod Groups
 pub mod Solution
 pub mod Parties
+pub mod Both

@@ -65,7 +65,6 @@ fn put_line(
 ) -> Result<(), RowFault>
     requires { length parties.old ≡ reservations_of names.now }
     ensures exact { Tried result (cause_of (λ told. has_path told.1.path (slice_index_or (parties_in parties.old) told.0.0 [])) (told_group names.now line.now)) }
-    ensures within { IfOk (told_group names.now line.now) (λ told. told.0.0 < reservations_of names.now) }
     ensures put { OnOk result (Adds (groups_telling names.now) (told_group names.now line.now) (parties_in parties.old) (parties_in parties.new)) }
 {
     let told = told_group(alloc, names, line)?;

@@ -1,6 +1,6 @@
 //! The rows of legs.
 
-ghost use Rattle.std.specs.Prelude.{◌≡◌, ◌<◌, length, is_some, slice_index_or, IfNone, IfOk, None};
+ghost use Rattle.std.specs.Prelude.{◌≡◌, length, replicate, is_some, slice_index_or, IfNone, IfOk, None};
 ghost use Rattle.std.specs.List.{list_all};
 ghost use Rattle.desk_text.specs.Rows.{Gives};
 ghost use Rattle.desk_data.specs.Situation.{legs_of};
@@ -12,6 +12,7 @@ use crate::told::told_leg;
 use day_names::DayNames;
 use desk_data::Row;
 use desk_text::ReadFault;
+use desk_units::NoMem;
 use file_rows::Cause;
 use sol_rows::PlannedLeg;
 use std::alloc::Global;
@@ -26,7 +27,7 @@ pub(crate) fn rows_told(
     requires { legs ≡ legs_of names.now }
     ensures { Gives (λ rows. rows.items) result (rows_told names.now lines.now) }
 {
-    let mut rows = vec![in alloc; None; legs as usize]?;
+    let mut rows = no_rows(alloc, legs)?;
     for line in lines {
         if let Some(cause) = put_line(names, line, rows.as_mut_slice()) {
             return Err(ReadFault::at(line.line, cause));
@@ -35,11 +36,17 @@ pub(crate) fn rows_told(
     Ok(rows)
 }
 
+/// No rows of so many legs.
+fn no_rows(alloc: Global, legs: u32) -> Result<Vec<Option<Row>>, NoMem>
+    ensures { IfOk result (λ rows. rows.items ≡ replicate legs None) }
+{
+    Ok(vec![in alloc; None; legs as usize]?)
+}
+
 /// Gives the leg of a line its row, or tells why the line is refused.
 fn put_line(names: &DayNames<'_>, line: &PlannedLeg, rows: &mut [Option<Row>]) -> Option<Cause>
     requires { length rows.old ≡ legs_of names.now }
     ensures cause { result ≡ cause_of (λ told. is_some (slice_index_or rows.old told.0.0 None)) (told_leg names.now line.now) }
-    ensures within { IfOk (told_leg names.now line.now) (λ told. told.0.0 < legs_of names.now) }
     ensures put { IfNone result (Adds (legs_telling names.now) (told_leg names.now line.now) rows.old rows.new) }
 {
     match told_leg(names, line) {

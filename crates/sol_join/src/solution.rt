@@ -3,6 +3,7 @@
 ghost use Rattle.std.specs.Prelude.{◌≡◌, All, IfOk, map};
 ghost use Rattle.desk_data.specs.Valid.{IsPlanFor};
 ghost use Rattle.sol_rows.specs.Facts.{IsPlannedGroup};
+ghost use Rattle.sol_join.specs.Both.{both};
 ghost use Rattle.sol_join.specs.Solution.{SolutionGives, fault_in, plan_told, solution_of};
 
 use crate::groups::{all_groups, groups_of, passengers_told};
@@ -25,8 +26,47 @@ fn in_file(file: File, fault: ReadFault) -> BuildFault
     }
 }
 
+/// What both files give once all their lines are told, or a fault: the first file's comes first.
+fn both(
+    rows: Result<Vec<Row>, ReadFault>,
+    groups: Result<Vec<Vec<Group>>, ReadFault>,
+) -> Result<(Vec<Row>, Vec<Vec<Group>>), BuildFault>
+    ensures { result ≡ both rows groups }
+{
+    match rows {
+        Ok(rows) => match groups {
+            Ok(groups) => Ok((rows, groups)),
+            Err(fault) => Err(in_file(File::SolItineraries, fault)),
+        },
+        Err(fault) => Err(in_file(File::SolRotations, fault)),
+    }
+}
+
+/// The rows and the groups that the lines tell, by the names of the day, or the first refusal.
+fn told_by(
+    alloc: Global,
+    inst: &Instance,
+    names: &DayNames<'_>,
+    legs: &[PlannedLeg],
+    groups: &[PlannedGroup],
+) -> Result<(Vec<Row>, Vec<Vec<Group>>), BuildFault>
+    requires { names.now ≡ inst.now }
+    ensures { SolutionGives (λ told. record { rows = told.0.items; groups = map (λ of. of.items) told.1.items }) result (plan_told inst.now legs.now groups.now) }
+{
+    let rows = match rows_told(alloc, names, inst.legs(), legs) {
+        Ok(rows) => rows,
+        Err(fault) => return Err(in_file(File::SolRotations, fault)),
+    };
+    let parties = match passengers_told(alloc, names, inst.reservations(), groups) {
+        Ok(parties) => parties,
+        Err(fault) => return Err(in_file(File::SolItineraries, fault)),
+    };
+    let each_leg = all_rows(alloc, rows.as_slice());
+    let each_party = all_groups(inst, groups_of(alloc, parties.as_slice())?);
+    both(each_leg, each_party)
+}
+
 /// The rows and the groups that the lines tell, or the first refusal.
-#[tactic(auto, unfolding(crate::specs::Solution::plan_told))]
 fn plan_told(
     alloc: Global,
     inst: &Instance,
@@ -36,22 +76,7 @@ fn plan_told(
     ensures { SolutionGives (λ told. record { rows = told.0.items; groups = map (λ of. of.items) told.1.items }) result (plan_told inst.now legs.now groups.now) }
 {
     let names = DayNames::of(alloc, inst)?;
-    let rows = match rows_told(alloc, &names, inst.legs(), legs) {
-        Ok(rows) => rows,
-        Err(fault) => return Err(in_file(File::SolRotations, fault)),
-    };
-    let parties = match passengers_told(alloc, &names, inst.reservations(), groups) {
-        Ok(parties) => parties,
-        Err(fault) => return Err(in_file(File::SolItineraries, fault)),
-    };
-    let each_leg = match all_rows(alloc, rows.as_slice()) {
-        Ok(rows) => rows,
-        Err(fault) => return Err(in_file(File::SolRotations, fault)),
-    };
-    match all_groups(inst, groups_of(alloc, parties.as_slice())?) {
-        Ok(groups) => Ok((each_leg, groups)),
-        Err(fault) => Err(in_file(File::SolItineraries, fault)),
-    }
+    told_by(alloc, inst, &names, legs, groups)
 }
 
 /// The plan that the lines tell, or the first refusal.

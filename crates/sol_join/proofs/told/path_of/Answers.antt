@@ -1,5 +1,5 @@
 use Rattle.std.proofs.Common.{sym, arith}
-use Rattle.sol_join.specs.Told.{path_of, seat_of}
+use Rattle.sol_join.specs.Told.{path_of}
 use Rattle.sol_join.proofs.PathLemmas.{begins, goes_on, stops, ends}
 use Rattle.sol_join.proofs.told.path_of.Goals as goal
 
