@@ -7,23 +7,26 @@ ghost use Rattle.desk_data.specs.Valid.{IsPlanFor};
 ghost use Rattle.desk_model.specs.Fallback.{all_pushed};
 ghost use Rattle.desk_model.specs.Push.{after_placing, after_push};
 ghost use Rattle.hour_counts.specs.Counts.{AreCountsOf};
+ghost use Rattle.plan_push.specs.Flown.{AreFlown};
 ghost use Rattle.plan_push.specs.Placings.{AreLegs, IsPlacing};
 
 use desk_data::{Instance, NoMem, Plan, Plane, Row};
 use hour_counts::HourCounts;
-use plan_push::{Placing, first_departure, placings};
+use plan_push::{FlownLegs, Placing, first_departure, placings};
 use std::alloc::Global;
 
-/// Pushes all aircraft in ascending order, each in the plan as those before it left it. After an error,
-/// which is out of memory, some may have been pushed.
+/// Pushes all aircraft in ascending order, each in the plan as those before it left it. All legs are walked
+/// over twice at the start, and then those of each aircraft. After an error, which is out of memory, some
+/// may have been pushed.
 pub(crate) fn push_all(alloc: Global, inst: &Instance, plan: &mut Plan) -> Result<(), NoMem>
     requires { IsPlanFor inst.now plan.old }
     ensures made { OnOk result (plan.new ≡ all_pushed inst.now plan.old) }
     ensures valid { OnOk result (IsPlanFor inst.now plan.new) }
 {
+    let flown = FlownLegs::of(alloc, inst, &*plan)?;
     let mut counts = HourCounts::of(alloc, inst, &*plan)?;
     for p in 0..inst.planes() {
-        push(alloc, inst, plan, &mut counts, Plane(p))?;
+        push(alloc, inst, plan, &mut counts, &flown, Plane(p))?;
     }
     Ok(())
 }
@@ -35,16 +38,18 @@ fn push(
     inst: &Instance,
     plan: &mut Plan,
     counts: &mut HourCounts,
+    flown: &FlownLegs,
     plane: Plane,
 ) -> Result<(), NoMem>
     requires plan { IsPlanFor inst.now plan.old }
     requires counts { AreCountsOf inst.now plan.old counts.old }
+    requires flown { AreFlown inst.now plan.old flown.now }
     requires plane { plane.0 < planes_of inst.now }
     ensures made { OnOk result (plan.new ≡ after_push inst.now plan.old plane.0 None) }
     ensures valid { OnOk result (IsPlanFor inst.now plan.new) }
     ensures counts { OnOk result (AreCountsOf inst.now plan.new counts.new) }
 {
-    let all = placings(alloc, inst, &*plan, plane, None)?;
+    let all = placings(alloc, inst, &*plan, flown, plane, None)?;
     for placing in &all {
         place(inst, plan, counts, plane, placing)?;
     }

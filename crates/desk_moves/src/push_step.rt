@@ -15,11 +15,11 @@ use crate::sizes::leg_count;
 use desk_data::{Leg, NoMem, Plane, Row};
 use desk_eval::Evaluator;
 use hour_counts::HourCounts;
-use plan_push::{Placing, first_departure, placings};
+use plan_push::{FlownLegs, Placing, first_departure, placings};
 use std::alloc::Global;
 
 /// Takes a Push. Which legs are placed, and which leg is before each, is that of the plan at the step's
-/// start. After an error, which is out of memory, legs may have been placed.
+/// start. All legs are walked over twice, and then those of the aircraft. After an error, which is out of memory, legs may have been placed.
 pub(crate) fn push_step(
     alloc: Global,
     eval: &mut Evaluator,
@@ -34,7 +34,8 @@ pub(crate) fn push_step(
 {
     // no leg is placed twice, and there are at most 20,000
     let _ = leg_count(eval);
-    let all = placings(alloc, eval.instance(), eval.plan(), plane, after)?;
+    let flown = FlownLegs::of(alloc, eval.instance(), eval.plan())?;
+    let all = placings(alloc, eval.instance(), eval.plan(), &flown, plane, after)?;
     let mut counts = HourCounts::of(alloc, eval.instance(), eval.plan())?;
     for placing in &all {
         place(alloc, eval, &mut counts, plane, placing)?;

@@ -3,4 +3,5 @@ mod RuledOutLaws
 mod DepartLaws
 mod LeftLaws
 mod SortedLaws
+pub mod FlownLaws
 pub mod PlacedLaws

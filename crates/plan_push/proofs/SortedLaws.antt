@@ -1,5 +1,5 @@
 -- The sorted turns of an aircraft are its legs in their order.
-use Rattle.std.proofs.Common.{◌≡◌, ℕ, zero, suc, ◌<◌, ◌⊎◌, inl, inr, true, false, eqb, List, [], ◌∷◌, ◌++◌, length, get_or, map, refl, sym, subst, ◌∙◌, arith, is_lt, nat_cmp}
+use Rattle.std.proofs.Common.{◌≡◌, ℕ, zero, suc, ◌<◌, ◌⊎◌, inl, inr, true, false, eqb, List, [], ◌∷◌, ◌++◌, length, get_or, map, refl, sym, ap, subst, ◌∙◌, arith, is_lt, nat_cmp}
 use Rattle.std.specs.Prelude.{filter}
 use Rattle.std.specs.List.{All, AllPairs, Contains, IsDistinct}
 use Rattle.std.specs.List.Sorted.{IsSorted, IsPermutation}
@@ -15,6 +15,7 @@ use Rattle.std.proofs.lemmas.List.Elements.{All-nil, All-cons, All-append, All-w
 use Rattle.std.proofs.lemmas.List.Folds.{list_any_none}
 use Rattle.std.proofs.lemmas.List.Sorted.{ranks_by, sorted_far, All-permutation, Contains-permutation, IsPermutation-map}
 use Rattle.std.proofs.lemmas.Map.Keys.{IsDistinct-push, IsDistinct-IsPermutation, apart_from_distinct}
+use Rattle.desk_units.specs.declared.numbers.Leg.{Leg}
 use Rattle.desk_data.specs.Situation.{Situation, legs_of}
 use Rattle.desk_data.specs.PlanRows.{PlanRows}
 use Rattle.desk_rules.specs.Numbers.{numbers}
@@ -27,7 +28,8 @@ use Rattle.plan_reads.proofs.OrderLaws.{in_order}
 use Rattle.desk_model.specs.Push.{rotation}
 use Rattle.desk_model.proofs.RotationOrder.{Contains-filter, rotation-ordered, rotation-flown, rotation-each}
 use Rattle.plan_push.specs.declared.turns.Turn.{Turn}
-use Rattle.plan_push.specs.Turns.{turn, turns}
+use Rattle.plan_push.specs.Flown.{flown_legs}
+use Rattle.plan_push.specs.Turns.{turn}
 use Rattle.plan_push.proofs.AgreeLaws.{same_ordered}
 
 -- ---- the legs of an aircraft, by leg
@@ -67,6 +69,9 @@ flown-apart P p (suc n) =
     ]
 
 -- ---- their turns
+
+abbrev turns : PlanRows → ℕ → ℕ → List Turn
+turns P p n = map (turn P) (flown P p n)
 
 abbrev pub leg_of : Turn → ℕ
 leg_of t = t.leg.0
@@ -145,8 +150,8 @@ sorted P p n made ts is shuffled up =
       each = λ x lt here. Contains-permutation (flown P p n) (map leg_of ts) x legs (Contains-filter (flies P p) (numbers n) x (numbers-each n x lt) here);
     }
 
-pub sorted-rotation : (I : Situation) (P : PlanRows) (p : ℕ) (made ts : List Turn) → made ≡ turns P p (legs_of I) → IsPermutation made ts → IsSorted turn_cmp ts → map leg_of ts ≡ rotation I P p
-sorted-rotation I P p made ts is shuffled up =
+rotation-sorted : (I : Situation) (P : PlanRows) (p : ℕ) (made ts : List Turn) → made ≡ turns P p (legs_of I) → IsPermutation made ts → IsSorted turn_cmp ts → map leg_of ts ≡ rotation I P p
+rotation-sorted I P p made ts is shuffled up =
     let own = sorted P p (legs_of I) made ts is shuffled up in
     same_ordered P (map leg_of ts) (rotation I P p) own.ordered (rotation-ordered I P p)
     (λ z has.
@@ -156,6 +161,18 @@ sorted-rotation I P p made ts is shuffled up =
     let here = All-contains (λ x. (x < legs_of I) × (flies P p x ≡ true)) (rotation I P p) z (rotation-flown I P p) has in
     own.each z here.0 here.1)
 
-pub sorted-within : (P : PlanRows) (p n : ℕ) (made ts : List Turn) → made ≡ turns P p n → IsPermutation made ts → All (λ (t : Turn). t.leg.0 < n) ts
-sorted-within P p n made ts is shuffled =
-    All-permutation (λ (t : Turn). t.leg.0 < n) made ts shuffled (subst (All (λ (t : Turn). t.leg.0 < n)) (sym is) (All-weaker (IsTurn P p n) (λ (t : Turn). t.leg.0 < n) (λ t h. h.within) (turns P p n) (turns-sound P p n)))
+pub sorted-rotation : (I : Situation) (P : PlanRows) (p : ℕ) (legs : List Leg) (made ts : List Turn) → map (λ (leg : Leg). leg.0) legs ≡ flown_legs I P p → made ≡ map (λ (leg : Leg). turn P leg.0) legs → IsPermutation made ts → IsSorted turn_cmp ts → map leg_of ts ≡ rotation I P p
+sorted-rotation I P p legs made ts are is =
+    rotation-sorted I P p made ts (is ∙ sym (map-map (turn P) (λ (leg : Leg). leg.0) legs) ∙ ap (map (turn P)) are)
+
+pub sorted-within : (P : PlanRows) (n : ℕ) (legs : List Leg) (made ts : List Turn) → All (λ (leg : Leg). leg.0 < n) legs → made ≡ map (λ (leg : Leg). turn P leg.0) legs → IsPermutation made ts → All (λ (t : Turn). t.leg.0 < n) ts
+sorted-within P n legs made ts within is shuffled =
+    All-permutation (λ (t : Turn). t.leg.0 < n) made ts shuffled (subst (All (λ (t : Turn). t.leg.0 < n)) (sym is) (All-map (λ (t : Turn). t.leg.0 < n) (λ (leg : Leg). turn P leg.0) legs within))
+
+-- the legs of an aircraft are legs of the day
+pub flown-within : (I : Situation) (P : PlanRows) (p : ℕ) (legs : List Leg) → map (λ (leg : Leg). leg.0) legs ≡ flown_legs I P p → All (λ (leg : Leg). leg.0 < legs_of I) legs
+flown-within I P p legs are = λ k d lt.
+    let below = All-filter (flies P p) (λ x. x < legs_of I) (numbers (legs_of I)) (numbers-below (legs_of I)) in
+    let each : All (λ x. x < legs_of I) (map (λ (leg : Leg). leg.0) legs) = subst (All (λ x. x < legs_of I)) (sym are) below in
+    let long : k < length (map (λ (leg : Leg). leg.0) legs) = rw (length-map legs (λ (leg : Leg). leg.0)) lt in
+    subst (λ (x : ℕ). x < legs_of I) (get_or-map (λ (leg : Leg). leg.0) legs k d 0 lt) (each k 0 long)

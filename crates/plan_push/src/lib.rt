@@ -1,14 +1,16 @@
 //! Push: which legs of an aircraft it places, in their order, and the first moment at which each can
 //! depart.
 //!
-//!     let placed = placings(alloc, &inst, &plan, plane, after)?;     // once, at the step's start
-//!     let counts = HourCounts::of(alloc, &inst, &plan)?;             // of the plan as it stands
+//!     let flown = FlownLegs::of(alloc, &inst, &plan)?;                   // one walk over the legs
+//!     let mut counts = HourCounts::of(alloc, &inst, &plan)?;             // another
+//!     let placed = placings(alloc, &inst, &plan, &flown, plane, after)?; // once, at the step's start
 //!     for placing in &placed {
-//!         first_departure(&inst, &plan, &counts, plane, placing)     // in the plan as it stands then
+//!         first_departure(&inst, &plan, &counts, plane, placing)         // in the plan as it stands then
 //!     }
 //!
 //! Whoever takes the step writes each departure into the plan, and into the counts of its hours, before it
-//! asks for the next. The plan is read through `ReadPlan`, so that whatever has rows and groups can be pushed.
+//! asks for the next. A Push leaves each leg to its aircraft, so that `flown` serves the Pushes of all aircraft.
+//! The plan is read through `ReadPlan`, so that whatever has rows and groups can be pushed.
 //!
 //! Proved: the legs are `pushed_legs` of desk_model, each with the leg before it at the step's start, and
 //! the moment is `first_departure` of desk_model.
@@ -19,10 +21,12 @@
 #![tactic(auto)]
 
 mod departs;
+mod flown;
 mod pushed;
 mod room;
 mod ruled_out;
 mod turns;
 
 pub use departs::first_departure;
+pub use flown::FlownLegs;
 pub use pushed::{Placing, placings};

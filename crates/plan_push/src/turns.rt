@@ -1,14 +1,13 @@
 //! The legs of an aircraft, sorted.
 
-ghost use Rattle.std.specs.Prelude.{◌≡◌, ◌<◌, IfOk, All, Some, None, if◌then◌else◌, map, length};
-ghost use Rattle.desk_data.specs.Situation.{legs_of};
-ghost use Rattle.desk_data.specs.Valid.{IsPlanFor};
-ghost use Rattle.desk_rules.specs.Maintenance.{flies};
+ghost use Rattle.std.specs.Prelude.{◌≡◌, ℕ, ◌<◌, IfOk, All, map, length};
+ghost use Rattle.desk_data.specs.Situation.{Situation};
 ghost use Rattle.desk_model.specs.Push.{rotation};
-ghost use Rattle.plan_push.specs.Turns.{turn, turns};
+ghost use Rattle.plan_push.specs.Flown.{flown_legs};
+ghost use Rattle.plan_push.specs.Turns.{turn};
 
-use desk_data::{Instance, Leg, Minute, NoMem, Plane, Row};
-use plan_reads::ReadPlan;
+use desk_data::{Leg, Minute, NoMem};
+use plan_reads::{ReadPlan, departure};
 use std::alloc::Global;
 
 /// A leg of an aircraft, as it is sorted: by departure, then by leg.
@@ -18,48 +17,30 @@ pub(crate) struct Turn {
     pub(crate) leg: Leg,
 }
 
-/// The legs that an aircraft flies, in their order.
+/// The legs of an aircraft, given by leg, in their order.
 pub(crate) fn sorted_turns<P: ReadPlan>(
     alloc: Global,
-    inst: &Instance,
     plan: &P,
-    plane: Plane,
+    legs: &[Leg],
 ) -> Result<Vec<Turn>, NoMem>
-    requires plan { IsPlanFor inst.now (P.plan_of plan.now) }
-    ensures order { IfOk result (λ all. map (λ turn. turn.leg.0) all.items ≡ rotation inst.now (P.plan_of plan.now) plane.0) }
-    ensures legs { IfOk result (λ all. All (λ turn. turn.leg.0 < legs_of inst.now) all.items) }
+    requires { All (λ leg. leg.0 < length (P.plan_of plan.now).rows) legs.now }
+    ensures order { (I : Situation) (p : ℕ) → map (λ leg. leg.0) legs.now ≡ flown_legs I (P.plan_of plan.now) p → IfOk result (λ all. map (λ turn. turn.leg.0) all.items ≡ rotation I (P.plan_of plan.now) p) }
+    ensures legs { IfOk result (λ all. All (λ turn. turn.leg.0 < length (P.plan_of plan.now).rows) all.items) }
 {
-    let mut all = turns_of(alloc, inst, plan, plane)?;
+    let mut all = turns_of(alloc, plan, legs)?;
     all.sort()?;
     Ok(all)
 }
 
-/// The legs that an aircraft flies, by leg.
-fn turns_of<P: ReadPlan>(
-    alloc: Global,
-    inst: &Instance,
-    plan: &P,
-    plane: Plane,
-) -> Result<Vec<Turn>, NoMem>
-    requires { IsPlanFor inst.now (P.plan_of plan.now) }
-    ensures { IfOk result (λ all. all.items ≡ turns (P.plan_of plan.now) plane.0 (legs_of inst.now)) }
+/// The turns of some legs.
+fn turns_of<P: ReadPlan>(alloc: Global, plan: &P, legs: &[Leg]) -> Result<Vec<Turn>, NoMem>
+    requires { All (λ leg. leg.0 < length (P.plan_of plan.now).rows) legs.now }
+    ensures { IfOk result (λ all. all.items ≡ map (λ leg. turn (P.plan_of plan.now) leg.0) legs.now) }
 {
-    let mut all = Vec::new(alloc);
-    for x in 0..inst.legs() {
-        if let Some(turn) = turn_of(plan, plane, Leg(x)) {
-            all.push(turn)?;
-        }
+    let mut all = Vec::with_capacity(alloc, legs.len())?;
+    for leg in legs {
+        let dep = Minute(departure(plan, *leg));
+        all.push(Turn { dep, leg: *leg })?;
     }
     Ok(all)
-}
-
-/// The turn of a leg, if the aircraft flies it.
-fn turn_of<P: ReadPlan>(plan: &P, plane: Plane, leg: Leg) -> Option<Turn>
-    requires { leg.0 < length (P.plan_of plan.now).rows }
-    ensures { result ≡ (if flies (P.plan_of plan.now) plane.0 leg.0 then Some (turn (P.plan_of plan.now) leg.0) else None) }
-{
-    match plan.read_row(leg) {
-        Row::Flown { plane: flying, dep } if flying.0 == plane.0 => Some(Turn { dep, leg }),
-        _ => None,
-    }
 }

@@ -1,12 +1,18 @@
-use Rattle.std.proofs.Common.{sym, ap, ◌∙◌, arith}
+use Rattle.std.proofs.Common.{sym, ap, subst, ◌∙◌, arith}
 use Rattle.std.specs.Prelude.{None}
 use Rattle.desk_data.specs.PlanRows.{PlanRows}
 use Rattle.desk_model.specs.Push.{after_push}
-use Rattle.desk_fallback.proofs.PushParts.{pushed_to-none, pushed_to-more, pushed_to-all}
+use Rattle.plan_push.specs.Flown.{AreFlown}
+use Rattle.desk_fallback.proofs.PushParts.{pushed_to-none, pushed_to-more, pushed_to-all, pushed_to-flown}
 use Rattle.desk_fallback.proofs.pushes.push_all.Goals as goal
 
 pub loop-p-init : goal.loop-p-init
 loop-p-init c = record { made = sym (pushed_to-none c.args.inst.now c.args.plan.now); valid = c.requires; counts = c.in_ok-counts.ensures }
+
+pub push-requires-clause-flown : goal.push-requires-clause-flown
+push-requires-clause-flown c =
+    let I = c.args.inst.now in
+    subst (λ (Q : PlanRows). AreFlown I Q c.in_ok-flown.flown) (sym c.loop-p.invariant.made) (pushed_to-flown I c.loop-p.p c.args.plan.now c.in_ok-flown.flown c.in_ok-flown.ensures)
 
 pub loop-p-preserved : goal.loop-p-preserved
 loop-p-preserved c =

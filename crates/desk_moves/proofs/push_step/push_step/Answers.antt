@@ -15,6 +15,9 @@ use Rattle.desk_moves.proofs.push_step.push_step.Goals as goal
 no_placing : Placing
 no_placing = record { leg = record { 0 = 0 }; before = None }
 
+pub returns-in_err-flown-clause-after : goal.returns-in_err-flown-clause-after
+returns-in_err-flown-clause-after c = after-itself 100000 c.args.eval.now
+
 pub returns-in_err-all-clause-after : goal.returns-in_err-all-clause-after
 returns-in_err-all-clause-after c = after-itself 100000 c.args.eval.now
 
@@ -29,9 +32,9 @@ place-requires c =
     let i = c.loop-placing.placing-index in
     let kept = c.loop-placing.invariant.after in
     let few = kept.few in
-    let legs = rw (c.instance.ensures, c.plan.ensures.rows, ← c.deref-placing-items.ensures.value) at c.in_ok-all.ensures.legs in
+    let legs = rw (c.instance-2.ensures, c.plan-2.ensures.rows, ← c.deref-placing-items.ensures.value) at c.in_ok-all.ensures.legs in
     let most = length-placings E.inst E.rows c.args.plane.0 c.args.after items legs in
-    let are = rw (c.instance.ensures, c.plan.ensures.rows, ← c.deref-placing-items.ensures.value) at c.in_ok-all.ensures.before in
+    let are = rw (c.instance-2.ensures, c.plan-2.ensures.rows, ← c.deref-placing-items.ensures.value) at c.in_ok-all.ensures.before in
     let is : IsPlacing E.inst E.rows (get_or items i no_placing) = are i no_placing c.loop-placing-test.true in
     record {
       plane = subst (λ (I : Situation). c.args.plane.0 < planes_of I) (sym kept.inst) c.requires.plane;
@@ -42,14 +45,14 @@ place-requires c =
 
 pub loop-placing-init : goal.loop-placing-init
 loop-placing-init c =
-    let counts = rw (c.instance-2.ensures, c.plan-2.ensures.rows) at c.in_ok-counts.ensures in
+    let counts = rw (c.instance-3.ensures, c.plan-3.ensures.rows) at c.in_ok-counts.ensures in
     record { rows = refl; counts = counts; after = after-itself 0 c.args.eval.now }
 
 pub returns-in_err-place-clause-after : goal.returns-in_err-place-clause-after
 returns-in_err-place-clause-after c =
     let E = c.args.eval.now in
     let items = c.deref-placing-items.result.now in
-    let legs = rw (c.instance.ensures, c.plan.ensures.rows, ← c.deref-placing-items.ensures.value) at c.in_ok-all.ensures.legs in
+    let legs = rw (c.instance-2.ensures, c.plan-2.ensures.rows, ← c.deref-placing-items.ensures.value) at c.in_ok-all.ensures.legs in
     let most = length-placings E.inst E.rows c.args.plane.0 c.args.after items legs in
     after-then c.loop-placing.placing-index 1 100000 E c.loop-placing.eval c.place.new.eval (omega (arith, most)) c.loop-placing.invariant.after c.place.ensures.after
 
@@ -62,7 +65,7 @@ loop-placing-preserved c =
     let F = c.loop-placing.eval in
     let placing = get_or items i no_placing in
     let kept = c.loop-placing.invariant.after in
-    let are = rw (c.instance.ensures, c.plan.ensures.rows, ← c.deref-placing-items.ensures.value) at c.in_ok-all.ensures.before in
+    let are = rw (c.instance-2.ensures, c.plan-2.ensures.rows, ← c.deref-placing-items.ensures.value) at c.in_ok-all.ensures.before in
     let is : IsPlacing E.inst E.rows placing = are i no_placing c.loop-placing-test.true in
     record {
       rows = c.in_ok-place.ensures.rows E.rows (subst (λ (I : Situation). IsPlacing I E.rows placing) (sym kept.inst) is)
@@ -77,7 +80,7 @@ pub returns-clause-rows : goal.returns-clause-rows
 returns-clause-rows c =
     let E = c.args.eval.now in
     let items = c.deref-placing-items.result.now in
-    let legs = rw (c.instance.ensures, c.plan.ensures.rows, ← c.deref-placing-items.ensures.value) at c.in_ok-all.ensures.legs in
+    let legs = rw (c.instance-2.ensures, c.plan-2.ensures.rows, ← c.deref-placing-items.ensures.value) at c.in_ok-all.ensures.legs in
     c.loop-placing.invariant.rows
     ∙ ap (placed_all E.inst E.rows c.args.plane.0) (take_all c.loop-placing.placing-index items c.loop-placing-test.false)
     ∙ placed_all-is E.inst E.rows c.args.plane.0 c.args.after items legs
@@ -86,6 +89,6 @@ pub returns-clause-after : goal.returns-clause-after
 returns-clause-after c =
     let E = c.args.eval.now in
     let items = c.deref-placing-items.result.now in
-    let legs = rw (c.instance.ensures, c.plan.ensures.rows, ← c.deref-placing-items.ensures.value) at c.in_ok-all.ensures.legs in
+    let legs = rw (c.instance-2.ensures, c.plan-2.ensures.rows, ← c.deref-placing-items.ensures.value) at c.in_ok-all.ensures.legs in
     let most = length-placings E.inst E.rows c.args.plane.0 c.args.after items legs in
     after-more c.loop-placing.placing-index 100000 E c.loop-placing.eval (omega (arith, most)) c.loop-placing.invariant.after
