@@ -67,8 +67,7 @@ fn put_line(
     ensures exact { Tried result (cause_of (λ told. has_path told.1.path (slice_index_or (parties_in parties.old) told.0.0 [])) (told_group names.now line.now)) }
     ensures put { OnOk result (Adds (groups_telling names.now) (told_group names.now line.now) (parties_in parties.old) (parties_in parties.new)) }
 {
-    let told = told_group(alloc, names, line)?;
-    let (res, group) = told;
+    let (res, group) = told_group(alloc, names, line)?;
     if put_group(res, group, parties)? {
         Ok(())
     } else {
