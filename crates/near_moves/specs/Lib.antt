@@ -1,0 +1,6 @@
+pub mod Places
+pub mod Units
+pub mod LegMoves
+pub mod Routes
+pub mod PassengerMoves
+pub mod Near
