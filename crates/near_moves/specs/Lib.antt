@@ -4,3 +4,4 @@ pub mod LegMoves
 pub mod Routes
 pub mod PassengerMoves
 pub mod Near
+pub mod Descent
