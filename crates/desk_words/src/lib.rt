@@ -22,4 +22,4 @@ mod read;
 mod words;
 
 pub use asked::{Asked, Command, Directories};
-pub use words::command;
+pub use words::{USUAL_MOVES, command, usual_moves_are_told};

@@ -3,12 +3,21 @@
 ghost use Rattle.std.specs.Prelude.{◌≡◌, map};
 ghost use Rattle.std.specs.String.{string_bytes};
 ghost use Rattle.std.specs.Option.{option_map};
-ghost use Rattle.desk_words.specs.Commands.{Asking, command};
+ghost use Rattle.desk_words.specs.declared.choice.Choice.TheVariants as choice;
+ghost use Rattle.desk_words.specs.Commands.{Asking, command, default_of};
 ghost use Rattle.desk_words.specs.Asked.{asking};
 ghost use Rattle.desk_words.specs.Read.{kept_of, no_day_set, no_search_set, plain_kept, recovering_kept, generating_kept, trying_kept, asked_kept};
 
 use crate::asked::{Asked, Command, Directories};
 use crate::read::{Expected, Places, Read, Values, first_word, nothing, read_words};
+
+/// How many moves a recovery accepts at most behind each batch, where the words don't say it.
+pub const USUAL_MOVES: u32 = 1_000;
+
+/// It is that of the definitions.
+pub fn usual_moves_are_told()
+    ensures { USUAL_MOVES ≡ default_of choice.Moves }
+{}
 
 /// The command of these words, the program's name left out, with its directories; or `None` where they
 /// are no command.
@@ -80,7 +89,7 @@ fn recovering<'a>(read: Read<'a>) -> Option<Asked<'a>>
     match read.places {
         Places::Two(input, output) => Some(Asked {
             command: Command::Recover {
-                moves: read.values.moves.unwrap_or(1_000),
+                moves: read.values.moves.unwrap_or(USUAL_MOVES),
             },
             directories: Some(Directories { input, output }),
         }),
