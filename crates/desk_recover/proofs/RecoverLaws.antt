@@ -14,7 +14,7 @@ use Rattle.desk_model.specs.Histories.{state, proposal_limit, batch_limit, entry
 use Rattle.desk_core.specs.Recorded.{Recorded, state_of, with_entry}
 use Rattle.near_moves.specs.Descent.{is_spent, descent, recovery_behind, recovery}
 use Rattle.near_moves.proofs.DescentLaws.{descent-length}
-use Rattle.desk_descent.specs.declared.descend.Ended.{Ended}
+use Rattle.desk_descent.specs.declared.descent.Ended.{Ended}
 use Rattle.desk_descent.specs.Ending.{ending, after_descent}
 use Rattle.desk_tasks.specs.declared.ended.SearchEnd.{SearchEnd}
 use Rattle.desk_runs.specs.declared.ending.Ending.{Ending}

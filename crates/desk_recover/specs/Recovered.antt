@@ -5,8 +5,8 @@ use Rattle.desk_data.specs.Situation.{Situation}
 use Rattle.desk_model.specs.States.{opening}
 use Rattle.desk_core.specs.Recorded.{Recorded}
 use Rattle.near_moves.specs.Descent.{recovery}
-use Rattle.desk_descent.specs.declared.descend.Ended.{Ended}
-use Rattle.desk_descent.specs.declared.descend.Ended.TheVariants as descent_is
+use Rattle.desk_descent.specs.declared.descent.Ended.{Ended}
+use Rattle.desk_descent.specs.declared.descent.Ended.TheVariants as descent_is
 use Rattle.desk_tasks.specs.declared.ended.SearchEnd.{SearchEnd}
 use Rattle.desk_tasks.specs.declared.ended.SearchEnd.TheVariants as ended
 use Rattle.desk_tasks.specs.Recover.{search_end}

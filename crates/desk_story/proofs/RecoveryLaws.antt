@@ -1,9 +1,12 @@
 -- The rows of texts, and the batches of a day.
 use Rattle.std.proofs.Common.{◌≡◌, ℕ, ◌+◌, ◌<◌, ◌≤◌, List, [], ◌∷◌, map, length, get_or, drop, refl, sym, ap, subst, ◌∙◌, add-one, suc, arith}
 use Rattle.std.specs.Prelude.{Option, Some, None, Result, Ok, Err}
+use Rattle.std.specs.declared.alloc.Global.{Global}
+use Rattle.std.specs.declared.vec.Vec.{Vec}
 use Rattle.std.proofs.Math.Seq.{drop-cons}
 use Rattle.std.proofs.Math.ListN.{drop_of_length-le}
 use Rattle.desk_folder.specs.declared.files.File.{File}
+use Rattle.desk_folder.specs.Entries.{named_texts}
 use Rattle.folder_io.specs.Outputs.{FileText}
 use Rattle.build_tables.specs.declared.files.Files.{Files}
 use Rattle.build_refusals.specs.Refusals.{Refusal as Refused, refusal_of}
@@ -20,7 +23,7 @@ use Rattle.desk_story.specs.declared.fault.StoryFault.TheVariants as fault
 use Rattle.desk_story.specs.declared.rows.InputRows.{InputRows}
 use Rattle.desk_story.specs.declared.recovery.InputRecovery.{InputRecovery}
 use Rattle.desk_story.specs.Story.{Rows, no_rows, read_as, read_texts, read_all, usual_moves, recovery_of_rows, trial_of}
-use Rattle.desk_story.specs.Facts.{as_rows, as_recovery}
+use Rattle.desk_story.specs.Facts.{as_rows, AreInputRows, as_recovery}
 use Rattle.desk_story.specs.Reading.{GivesRead, NeedsNoFault}
 
 -- ---- a fault ends the reading, whatever would come behind it
@@ -33,27 +36,28 @@ fault-behind view other fault.Memory read rest none gives = tt
 -- ---- texts, one after another
 
 -- the texts that are left make of these rows what all make of the first
-abbrev pub Continues : Rows → List FileText → Rows → List FileText → Type 0
-Continues rows left first texts = read_texts left rows ≡ read_texts texts first
+pub record Continues (rows : InputRows) (left : List FileText) (first : Rows) (texts : List FileText) : Type 0 where
+  pub exact : read_texts left (as_rows rows) ≡ read_texts texts first
+  pub facts : AreInputRows rows
 
-left_is : (texts : List FileText) (i : ℕ) (t : FileText) → i < length texts → t ≡ get_or texts i t → drop i texts ≡ t ∷ drop (i + 1) texts
-left_is texts i t lt at = rw add-one (drop-cons texts i t lt ∙ ap (λ (x : FileText). x ∷ drop (suc i) texts) (sym at))
+pub texts-left : (items : List (File × Vec ℕ Global)) (i : ℕ) (item : File × Vec ℕ Global) → i < length items → item ≡ get_or items i item → named_texts (drop i items) ≡ (item.0, item.1.items) ∷ named_texts (drop (i + 1) items)
+texts-left items i item lt at = ap named_texts (let left : drop i items ≡ item ∷ drop (i + 1) items = rw add-one (drop-cons items i item lt ∙ ap (λ (x : File × Vec ℕ Global). x ∷ drop (suc i) items) (sym at)) in left)
 
-pub texts-next : (rows more first : Rows) (texts : List FileText) (i : ℕ) (t : FileText) → i < length texts → t ≡ get_or texts i t → read_as t.0 t.1 rows ≡ Ok more → Continues rows (drop i texts) first texts → Continues more (drop (i + 1) texts) first texts
+pub texts-next : (rows more : InputRows) (first : Rows) (left rest texts : List FileText) (t : FileText) → left ≡ t ∷ rest → read_as t.0 t.1 (as_rows rows) ≡ Ok (as_rows more) → AreInputRows more → Continues rows left first texts → Continues more rest first texts
 unfolding read_texts
-texts-next rows more first texts i t lt at is h =
-    let step : read_texts (t ∷ drop (i + 1) texts) rows ≡ read_texts (drop (i + 1) texts) more = rw is refl in
-    sym step ∙ ap (λ (ts : List FileText). read_texts ts rows) (sym (left_is texts i t lt at)) ∙ h
+texts-next rows more first left rest texts t is step facts h =
+    let read : read_texts (t ∷ rest) (as_rows rows) ≡ read_texts rest (as_rows more) = rw step refl in
+    record { exact = sym read ∙ ap (λ (ts : List FileText). read_texts ts (as_rows rows)) (sym is) ∙ h.exact; facts = facts }
 
-pub texts-fault : (rows first : Rows) (texts : List FileText) (i : ℕ) (t : FileText) (e : StoryFault) → i < length texts → t ≡ get_or texts i t → NeedsNoFault e → GivesRead as_rows (Err e) (read_as t.0 t.1 rows) → Continues rows (drop i texts) first texts → GivesRead as_rows (Err e) (read_texts texts first)
+pub texts-fault : (rows : InputRows) (first : Rows) (left rest texts : List FileText) (t : FileText) (e : StoryFault) → left ≡ t ∷ rest → NeedsNoFault e → GivesRead as_rows (Err e) (read_as t.0 t.1 (as_rows rows)) → Continues rows left first texts → GivesRead as_rows (Err e) (read_texts texts first)
 unfolding read_texts
-texts-fault rows first texts i t e lt at none gives h =
-    subst (λ (read : Result Rows Refusal). GivesRead as_rows (Err e) read) (ap (λ (ts : List FileText). read_texts ts rows) (sym (left_is texts i t lt at)) ∙ h)
-    (fault-behind as_rows as_rows e (read_as t.0 t.1 rows) (read_texts (drop (i + 1) texts)) none gives)
+texts-fault rows first left rest texts t e is none gives h =
+    subst (λ (read : Result Rows Refusal). GivesRead as_rows (Err e) read) (ap (λ (ts : List FileText). read_texts ts (as_rows rows)) (sym is) ∙ h.exact)
+    (fault-behind as_rows as_rows e (read_as t.0 t.1 (as_rows rows)) (read_texts rest) none gives)
 
-pub texts-end : (rows first : Rows) (texts : List FileText) (i : ℕ) → length texts ≤ i → Continues rows (drop i texts) first texts → read_texts texts first ≡ Ok rows
+pub texts-end : (rows : InputRows) (first : Rows) (items : List (File × Vec ℕ Global)) (i : ℕ) (texts : List FileText) → length items ≤ i → Continues rows (named_texts (drop i items)) first texts → read_texts texts first ≡ Ok (as_rows rows)
 unfolding read_texts
-texts-end rows first texts i le h = sym h ∙ ap (λ (ts : List FileText). read_texts ts rows) (drop_of_length-le texts le)
+texts-end rows first items i texts le h = sym h.exact ∙ ap (λ (left : List (File × Vec ℕ Global)). read_texts (named_texts left) (as_rows rows)) (drop_of_length-le items le)
 
 -- ---- a day that is made up
 

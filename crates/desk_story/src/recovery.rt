@@ -70,7 +70,8 @@ fn read_texts(
     ensures cause { IfErr result NeedsNoFault }
     ensures facts { IfOk result AreInputRows }
 {
-    for (file, text) in texts {
+    for named in texts {
+        let (file, text) = named;
         rows = match take_text(alloc, rows, file, text) {
             Ok(more) => more,
             Err(fault) => return Err(fault),

@@ -1,5 +1,5 @@
 -- A story that was played, and a day that was recovered, all of whose texts are written, carry the headline.
-use Rattle.std.proofs.Common.{◌≡◌, ℕ, List, [], ◌∷◌, refl, sym, subst, ◌∙◌}
+use Rattle.std.proofs.Common.{◌≡◌, ℕ, List, [], ◌∷◌, refl, sym, subst, ◌∙◌, arith}
 use Rattle.std.specs.Prelude.{Option, Some, None, IsSome}
 use Rattle.std.specs.Io.KnownBytes.{Appends, Keeps}
 use Rattle.std.proofs.lemmas.Bool.{false≢true}
@@ -18,13 +18,15 @@ use Rattle.journal_text.specs.Lines.{journal_text}
 use Rattle.desk_runs.specs.Outcome.{Texts}
 use Rattle.desk_runs.specs.Runs.{World, IsWritten}
 use Rattle.near_moves.specs.Descent.{recovery}
+use Rattle.near_moves.proofs.FitLaws.{near-fits}
+use Rattle.near_moves.proofs.LegalLaws.{recovery-legal}
 use Rattle.near_moves.proofs.RecoveryLaws.{recovery-along, recovery-batches}
 use Rattle.desk_tasks.specs.declared.ended.SearchEnd.{SearchEnd}
 use Rattle.desk_tasks.specs.Play.{Story, history, planned_rotations, planned_itineraries, report_text, history_outcome, played}
 use Rattle.desk_tasks.specs.Recover.{Recovery, recovered_history, search_end, told_alone, recovered, tried}
 use Rattle.desk_tasks.specs.Tasks.{IsRunnable, IsRecoverable}
 use Rattle.desk_tasks.specs.Headline.{TellsHistory, Headline, HasHeadline, Recovers, HasRecovered, HasTried}
-use Rattle.desk_tasks.proofs.RecoveryLaw.{recovery-legal, recovery-rests, search-ended}
+use Rattle.desk_tasks.proofs.RecoveryLaw.{recovery-rests, search-ended}
 
 keeps_of : (before now : Option (List ℕ)) → Appends before now [] → Keeps before now
 keeps_of None now h = tt
@@ -120,7 +122,7 @@ unfolding recovered_history
 recovers r can =
     let S = opening r.day in
     let h = recovery r.moves S r.batches in
-    let legal : IsLegal S h = recovery-legal r.day r.moves r.batches can.valid can.asked can.few in
+    let legal : IsLegal S h = recovery-legal near-fits r.moves r.day r.batches can.valid can.asked (omega (arith, can.few)) in
     record {
       exact = refl;
       batches = recovery-batches r.moves S [] r.batches;

@@ -6,7 +6,7 @@ use Rattle.desk_recover.proofs.RecoverLaws.{continues-start, continues-next, con
 use Rattle.desk_recover.proofs.run.run_batches.Goals as goal
 
 pub loop-batch-init : goal.loop-batch-init
-loop-batch-init c = continues-start c.args.inst c.args.moves c.in_ok-open.book _ c.args.batches.now c.in_ok-open.ensures
+loop-batch-init c = continues-start c.args.inst c.args.moves c.in_ok-book.book _ c.args.batches.now c.in_ok-book.ensures
 
 pub intake-requires : goal.intake-requires
 intake-requires c =
@@ -16,8 +16,8 @@ intake-requires c =
 
 pub loop-batch-preserved : goal.loop-batch-preserved
 loop-batch-preserved c =
-    continues-next c.args.inst c.args.moves c.loop-batch.book c.intake.new.self c.descend.new.book c.loop-batch.ended c.in_ok-descend.ended c.batch-item.result c.loop-batch.batch-index c.args.batches.now
-    c.loop-batch-test.true c.requires.few c.batch-item.is c.in_ok-intake.ensures.after c.in_ok-descend.ensures.ok c.in_ok-descend.ensures.ended c.loop-batch.invariant
+    continues-next c.args.inst c.args.moves c.loop-batch.book c.intake.new.self c.descend.new.book c.loop-batch.ended c.in_ok-ended.ended c.batch-item.result c.loop-batch.batch-index c.args.batches.now
+    c.loop-batch-test.true c.requires.few c.batch-item.is c.in_ok-intake.ensures.after c.in_ok-ended.ensures.ok c.in_ok-ended.ensures.ended c.loop-batch.invariant
 
 pub returns : goal.returns
 returns c = continues-end c.args.inst c.args.moves c.loop-batch.book c.loop-batch.ended c.search_of.result c.loop-batch.batch-index c.args.batches.now
