@@ -18,7 +18,7 @@ use Rattle.journal_text.specs.Lines.{journal_text}
 use Rattle.desk_runs.specs.Outcome.{Texts}
 use Rattle.desk_runs.specs.Runs.{World, IsWritten}
 use Rattle.near_moves.specs.Descent.{recovery}
-use Rattle.near_moves.proofs.FitLaws.{near-fits}
+use Rattle.near_moves.proofs.NearFits.{near-fits}
 use Rattle.near_moves.proofs.LegalLaws.{recovery-legal}
 use Rattle.near_moves.proofs.RecoveryLaws.{recovery-along, recovery-batches}
 use Rattle.desk_tasks.specs.declared.ended.SearchEnd.{SearchEnd}
