@@ -47,16 +47,16 @@ impl<'a> Places<'a> {
     }
 }
 
-/// The places of these rows.
+/// The places of these rows. They are kept from the last row on, so that of those with one key the
+/// first stays.
 fn places_of<'a, T: Keyed>(alloc: Global, rows: &'a [T]) -> Result<Places<'a>, NoMem>
     ensures { IfOk result (ArePlacesOf T.key_of rows.now) }
 {
-    let mut places = IndexMap::new(alloc);
-    for (place, row) in rows.iter().enumerate() {
-        let key = row.key();
-        if places.get(&key).is_none() {
-            places.insert(key, place)?;
-        }
+    let mut places = IndexMap::with_capacity(alloc, rows.len())?;
+    let mut place = rows.len();
+    while place > 0 {
+        place -= 1;
+        places.insert(rows[place].key(), place)?;
     }
     Ok(Places { places })
 }
