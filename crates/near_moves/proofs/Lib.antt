@@ -1,2 +1,3 @@
 pub mod DescentLaws
 pub mod RecoveryLaws
+pub mod LegalLaws
