@@ -1,6 +1,6 @@
 -- What a book's steps come to.
-use Rattle.std.proofs.Common.{◌≡◌, ℕ, zero, suc, ◌+◌, ◌-◌, ◌%◌, ◌<◌, ◌≤◌, ◌⊎◌, inl, inr, Bool, true, false, cond, eqb, List, [], ◌∷◌, ◌++◌, length, refl, sym, ap, subst, ◌∙◌, arith}
-use Rattle.std.specs.Prelude.{Option, None, Some, is_none, find}
+use Rattle.std.proofs.Common.{◌≡◌, ℕ, zero, suc, ◌+◌, ◌-◌, ◌%◌, ◌≤◌, Bool, true, false, cond, eqb, List, [], ◌∷◌, length, refl, sym, ap, ◌∙◌, arith}
+use Rattle.std.specs.Prelude.{Option, None, Some, is_none, is_some, find, Result, Ok, Err, IfOk, OnErr}
 use Rattle.std.specs.Option.{ForSome}
 use Rattle.std.proofs.lemmas.Bool.{lt-ltb, eq-eqb}
 use Rattle.plan_moves.specs.declared.moves.Move.{Move}
@@ -12,18 +12,17 @@ use Rattle.desk_model.specs.declared.answer.Entry.{Entry}
 use Rattle.desk_model.specs.declared.answer.Event.TheVariants as event
 use Rattle.desk_model.specs.Steps.{after_move}
 use Rattle.desk_model.specs.States.{State, opening}
-use Rattle.desk_model.specs.Histories.{state, proposal_limit, has_room}
+use Rattle.desk_model.specs.Histories.{proposal_limit, has_room}
 use Rattle.desk_model.proofs.HistoryLaws.{state-parts, askable-parts}
 use Rattle.desk_model.proofs.StateLaws.{opening-inst}
 use Rattle.desk_eval.specs.Evaluated.{Evaluated}
 use Rattle.desk_core.specs.Recorded.{Recorded, state_of, with_entry}
 use Rattle.near_moves.specs.Units.{Unit_, owner}
 use Rattle.near_moves.specs.Near.{near, shard, units, of_shard, moves_of}
-use Rattle.near_moves.specs.Descent.{is_better, first_better, IsQuiet, is_spent, next_proposal, with_proposal, descent_of, descent}
-use Rattle.near_moves.proofs.DescentLaws.{IsNext, next-some, next-is, next-quiet, next-unplanned, next-spent, unspent-room, step-state, descent-rests, descent-ends}
-use Rattle.desk_descent.specs.declared.descend.Ended.{Ended}
-use Rattle.desk_descent.specs.declared.descend.Ended.TheVariants.{NoPlan, Quiet, Spent}
-use Rattle.desk_descent.specs.Ending.{ending, after_descent, after_steps, IsUnderWay}
+use Rattle.near_moves.specs.Descent.{is_better, first_better, IsQuiet, is_spent, next_proposal, with_proposal, descent_of}
+use Rattle.near_moves.proofs.DescentLaws.{next-some, next-is, next-quiet, next-unplanned, unspent-room, step-state, descent-rests, descent-ends}
+use Rattle.desk_descent.specs.declared.descent.Ended.TheVariants.{NoPlan, Quiet, Spent}
+use Rattle.desk_descent.specs.Ending.{ending, after_descent, after_steps}
 use Rattle.desk_descent.specs.Follows.{copy_of, next_of, stepped}
 
 -- ---- the one shard of one is all
@@ -41,10 +40,10 @@ one_shard I P = ap (moves_of I P) (all_in_it (units I P))
 
 -- ---- what is proposed
 
-pub next-found : (most : ℕ) (B : Recorded) (found : Option Move) → (state_of B).broken ≡ None → is_spent most B.journal ≡ false → found ≡ first_better (state_of B).inst (state_of B).plan 0 1 → found ≡ next_of most B
-next-found most B found planned unspent is =
+pub first-next : (most : ℕ) (B : Recorded) → (state_of B).broken ≡ None → is_spent most B.journal ≡ false → first_better (state_of B).inst (state_of B).plan 0 1 ≡ next_of most B
+first-next most B planned unspent =
     let S = state_of B in
-    is ∙ ap (find (is_better S.inst S.plan)) (one_shard S.inst S.plan) ∙ sym (next-is most (opening B.opening) B.journal planned unspent)
+    ap (find (is_better S.inst S.plan)) (one_shard S.inst S.plan) ∙ sym (next-is most (opening B.opening) B.journal planned unspent)
 
 -- what can be asked at a state can be asked of the book
 pub fits-book : (B : Recorded) (m : Move) → Fits (state_of B).inst m → Fits B.opening m
@@ -56,8 +55,31 @@ fits-state B m fits =
     askable-parts B.opening (state_of B).inst (event.Move m) (sym (state-parts (opening B.opening) B.journal ∙ ap (λ (J : Situation). J.parts) (opening-inst B.opening))) fits
 
 pub found-fits : (B : Recorded) (found : Option Move) → ForSome found (Fits (state_of B).inst) → ForSome found (Fits B.opening)
-found-fits B None fits = tt
-found-fits B (Some m) fits = fits-book B m fits
+found-fits B found fits = λ m is. fits-book B m (fits m is)
+
+pub unplanned : (most : ℕ) (B : Recorded) (b : Option Broken) → b ≡ (state_of B).broken → is_some b ≡ true → None ≡ next_of most B
+unplanned most B None is some = absurd cc
+unplanned most B (Some item) is some = sym (next-unplanned most (opening B.opening) B.journal item (sym is))
+
+pub planned : (B : Recorded) (b : Option Broken) → b ≡ (state_of B).broken → is_some b ≡ false → (state_of B).broken ≡ None
+planned B None is none = sym is
+planned B (Some item) is none = absurd cc
+
+pub if-ok : {X E : Type 0} (r : Result X E) (P Q : X → Type 0) → ((x : X) → P x → Q x) → IfOk r P → IfOk r Q
+if-ok (Ok x) P Q less p = less x p
+if-ok (Err e) P Q less p = tt
+
+pub none-since : {X : Type 0} (o : Option X) → is_some o ≡ false → o ≡ None
+none-since None none = refl
+none-since (Some x) none = absurd cc
+
+-- the copy of a book's evaluator
+pub copied : (E C : Evaluated) (S : State) → C ≡ record E { past = [] } → E.inst ≡ S.inst → E.rows ≡ S.plan → C ≡ copy_of S
+copied E C S is inst rows = is ∙ rw (inst, rows) refl
+
+pub on-err : {X E : Type 0} (r : Result X E) (P : Type 0) → P → OnErr r P
+on-err (Ok x) P p = tt
+on-err (Err e) P p = p
 
 -- ---- a step
 
@@ -113,6 +135,10 @@ over i most B N le is none =
     is
     ∙ ap (λ (h : List Entry). let at : Recorded = record B { journal = h } in at)
     (sym (ap (λ (n : ℕ). descent_of n most S B.journal) (let e : most ≡ i + (most - i) = omega arith in e) ∙ descent-add i (most - i) most S B.journal ∙ descent-rests (most - i) most S g here))
+
+-- where nothing is proposed, a step leaves the book
+pub stopped : (i most : ℕ) (B N M : Recorded) → i ≤ most → N ≡ after_steps i most B → next_of most N ≡ None → M ≡ stepped most N → M ≡ after_descent most B
+stopped i most B N M le is none step = step ∙ sym (step-none most N none) ∙ over i most B N le is none
 
 -- ---- the end
 

@@ -4,8 +4,8 @@ use Rattle.desk_model.specs.declared.answer.Entry.{Entry}
 use Rattle.desk_model.specs.States.{State, opening}
 use Rattle.desk_core.specs.Recorded.{Recorded}
 use Rattle.near_moves.specs.Descent.{is_spent, descent_of, descent}
-use Rattle.desk_descent.specs.declared.descend.Ended.{Ended}
-use Rattle.desk_descent.specs.declared.descend.Ended.TheVariants.{NoPlan, Quiet, Spent}
+use Rattle.desk_descent.specs.declared.descent.Ended.{Ended}
+use Rattle.desk_descent.specs.declared.descent.Ended.TheVariants.{NoPlan, Quiet, Spent}
 
 -- how it ended, by the state and the history behind it
 unfoldable pub ending : ℕ → State → List Entry → Ended

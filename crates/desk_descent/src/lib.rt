@@ -12,7 +12,7 @@
 //! where memory runs out, the journal is that of some first steps of it.
 #![tactic(auto)]
 
-mod descend;
+mod descent;
 mod step;
 
-pub use descend::{Ended, descend};
+pub use descent::{Ended, descend};

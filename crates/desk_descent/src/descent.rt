@@ -38,15 +38,15 @@ pub fn descend(alloc: Global, book: &mut Book, most: u32) -> Result<Ended, NoMem
     let mut finder = Finder::new();
     for _ in 0..most {
         if !step(alloc, book, &mut eval, &mut finder, most)? {
-            return Ok(ended(book, most));
+            return Ok(ending(book, most));
         }
     }
-    Ok(ended(book, most))
+    Ok(ending(book, most))
 }
 
 /// How a descent ended that has nothing more to propose.
 #[tactic(auto, unfolding(crate::specs::Ending::ending))]
-fn ended(book: &Book, most: u32) -> Ended
+fn ending(book: &Book, most: u32) -> Ended
     ensures { result ≡ ending most (state_of book.now) book.now.journal }
 {
     if book.broken().is_some() {
