@@ -4,4 +4,5 @@ pub mod LegMoves
 pub mod Routes
 pub mod PassengerMoves
 pub mod Near
+pub mod Words
 pub mod Descent
