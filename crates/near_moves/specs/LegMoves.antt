@@ -39,9 +39,13 @@ retimed_units I P = map retimed (filter (is_movable_flown I P) (numbers (legs_of
 abbrev pub departs_at : Situation → PlanRows → ℕ → ℕ → ℕ → Bool
 departs_at I P p q t = list_any (λ x. not (fixed I x) && ((flies P p x || flies P q x) && (dep P x == t))) (numbers (legs_of I))
 
--- the moments at which one does, in ascending order, each once. No departure of a plan is at minute 52,500,000 or later
+-- all departures of a plan are below this minute
+unfoldable pub departures_end : ℕ
+departures_end = 52500000
+
+-- the moments at which one does, in ascending order, each once
 unfoldable pub exchange_moments : Situation → PlanRows → ℕ → ℕ → List ℕ
-exchange_moments I P p q = filter (departs_at I P p q) (numbers 52500000)
+exchange_moments I P p q = filter (departs_at I P p q) (numbers departures_end)
 
 -- the legs are exchanged, all movable legs of both are pushed, the lower aircraft's first, and then a Tidy
 abbrev pub exchange : ℕ → ℕ → ℕ → List Step

@@ -4,7 +4,7 @@ use Rattle.desk_data.specs.Situation.{Situation, legs_of, planes_of, plane_at, f
 use Rattle.desk_data.specs.PlanRows.{PlanRows}
 use Rattle.desk_rules.specs.Words.{Flies, Precedes}
 use Rattle.near_moves.specs.Places.{legs_from, run}
-use Rattle.near_moves.specs.Units.{Unit_, swapped, handed, owner}
+use Rattle.near_moves.specs.Units.{Unit_, swapped, handed}
 use Rattle.near_moves.specs.Near.{of_shard}
 
 -- two aircraft are of one family, the first is no surface transport, and the second has the greater number
