@@ -4,5 +4,6 @@ pub mod LegMoves
 pub mod Routes
 pub mod PassengerMoves
 pub mod Near
+pub mod Words
 pub mod Descent
 pub mod Descents

@@ -1,4 +1,4 @@
--- Moves of passengers: the family N6.
+-- Moves of passengers, the sixth family: they are rebooked.
 use Rattle.std.specs.Prelude.{ℕ, ◌^◌, not, nat_lt, List, [], ◌∷◌, ◌++◌, map, filter, reverse}
 use Rattle.std.specs.List.{flat_map}
 use Rattle.desk_units.specs.declared.numbers.Leg.{Leg}
