@@ -5,3 +5,4 @@ pub mod Routes
 pub mod PassengerMoves
 pub mod Near
 pub mod Descent
+pub mod RouteWords
