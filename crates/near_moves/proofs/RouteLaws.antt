@@ -23,6 +23,7 @@ use Rattle.desk_model.proofs.PathOrder.{path_same, path_itself, is_eq-holds}
 use Rattle.desk_model.proofs.TidyLaws.{is_fit-holds, is_fit-from}
 use Rattle.near_moves.specs.Places.{leg}
 use Rattle.near_moves.specs.Routes.{all_pairs, all_doubles, stem, tried_paths, is_route, without_repeats, routes}
+use Rattle.near_moves.specs.RouteParts.{tried_rest, is_other_route}
 use Rattle.near_moves.specs.RouteWords.{IsTried, scheduled, flown, one_more, two_more, IsRoute}
 use Rattle.near_moves.proofs.ListLaws.{has_none, has-cases, has-head, has-tail, has-filter, filter-has, has-map, map-has, has-flat_map, flat_map-has, has-numbers, numbers-has, all-from_has, Apart, apart-cons, apart-head, apart-tail, apart-nil, apart-append, apart-map, apart-flat_map, apart-numbers, apart-filter, filter-all}
 
@@ -218,13 +219,6 @@ doubles-apart I =
 abbrev with_pair : List (Leg × Cabin) → Leg × Cabin → List (Leg × Cabin)
 with_pair start pair = start ++ pair ∷ []
 
--- those behind the scheduled path
-abbrev pub tried_rest : Situation → ℕ → List (List (Leg × Cabin))
-tried_rest I r =
-    stem I r
-    ∷ map (λ pair. stem I r ++ pair ∷ []) (all_pairs I)
-    ++ map (λ double. stem I r ++ double) (all_doubles I)
-
 pub tried-rest : (I : Situation) (r : ℕ) → tried_paths I r ≡ booked_path I r ∷ tried_rest I r
 unfolding tried_paths
 tried-rest I r = refl
@@ -369,10 +363,6 @@ rest-apart I r =
     let at = map-has (λ (d : List (Leg × Cabin)). start ++ d) (all_doubles I) z two in
     let d = has-doubles I at.0 at.1 in
     one_two start one.0 d.first d.second (one.2 ∙ sym at.2 ∙ ap (λ (k : List (Leg × Cabin)). start ++ k) d.is)))
-
--- whether a path is a route that isn't the scheduled path
-abbrev pub is_other_route : Situation → PlanRows → ℕ → List (Leg × Cabin) → Bool
-is_other_route I P r path = is_route I P r path && not (same_path (booked_path I r) path)
 
 filter-both : {X : Type 0} (p q : X → Bool) (xs : List X) → filter q (filter p xs) ≡ filter (λ x. p x && q x) xs
 filter-both p q [] = refl

@@ -6,3 +6,4 @@ pub mod PassengerMoves
 pub mod Near
 pub mod Descent
 pub mod RouteWords
+pub mod RouteParts

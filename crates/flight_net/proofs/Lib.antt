@@ -1,0 +1,3 @@
+mod SortedLaws
+mod FlightLaws
+mod SoughtLaws
