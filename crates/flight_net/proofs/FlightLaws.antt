@@ -1,15 +1,14 @@
 -- The flights of a plan, and those that leave an airport in time.
-use Rattle.std.proofs.Common.{◌≡◌, ℕ, zero, suc, ◌+◌, ◌<◌, ◌≤◌, ◌⊎◌, inl, inr, Bool, true, false, ◌&&◌, ◌||◌, cond, eqb, ltb, leb, List, [], ◌∷◌, ◌++◌, length, get_or, map, take, drop, refl, sym, ap, subst, ◌∙◌, arith, is_lt, nat_cmp, add-one}
-use Rattle.std.specs.Prelude.{filter, Option, None, Some}
-use Rattle.std.specs.List.{All, Contains, filter_map}
+use Rattle.std.proofs.Common.{◌≡◌, ℕ, zero, suc, ◌+◌, ◌<◌, ◌≤◌, Bool, true, false, ◌&&◌, ◌||◌, eqb, ltb, leb, List, [], ◌∷◌, ◌++◌, length, get_or, map, take, drop, refl, sym, ap, subst, ◌∙◌, arith, is_lt, nat_cmp, add-one}
+use Rattle.std.specs.Prelude.{filter}
+use Rattle.std.specs.List.{All, filter_map}
 use Rattle.std.specs.List.Sorted.{IsPermutation, IsSorted, IsPartitionedBy, IsPartitionPoint}
 use Rattle.std.specs.Ordering.{ordering_then}
 use Rattle.std.specs.Cmp.{IsTotalOrder, nat_cmp_total}
-use Rattle.std.proofs.lemmas.Bool.{cases_Bool, true≢false, and_parts, and_from, eqb-true, leb-true, ltb-true, lt-ltb, le-leb, eq-eqb}
 use Rattle.std.proofs.lemmas.Bool.Decides.{nat_tests}
 use Rattle.std.proofs.lemmas.Cmp.{then_total, on_total}
 use Rattle.std.proofs.lemmas.List.{append-nil, get_or-drop, get_or-take, take-append-drop, length-drop, length-take, map-append}
-use Rattle.std.proofs.lemmas.List.Elements.{All-nil, All-cons, All-append, All-weaker, All-take, All-drop, filter_map-append, filter-append}
+use Rattle.std.proofs.lemmas.List.Elements.{All-nil, All-cons, All-append, All-weaker, filter_map-append, filter-append}
 use Rattle.std.proofs.lemmas.List.Sorted.{ranks_by, sorted_far, All-permutation, IsPermutation-map}
 use Rattle.desk_units.specs.declared.numbers.Plane.{Plane}
 use Rattle.desk_units.specs.declared.numbers.Minute.{Minute}
@@ -23,7 +22,7 @@ use Rattle.desk_rules.specs.Rotations.{dep}
 use Rattle.flight_net.specs.declared.flights.Flight.{Flight}
 use Rattle.flight_net.specs.declared.sought.Sought.{Sought}
 use Rattle.flight_net.specs.Flights.{flight_of, flights_of, flight_cmp, IsNetOf}
-use Rattle.flight_net.specs.Sought.{leaves_before, is_within, IsWindow}
+use Rattle.flight_net.specs.Sought.{leaves_before, IsWindow}
 
 -- ---- the flights of the first legs
 

@@ -1,17 +1,16 @@
 -- Sorted numbers: two lists of them with the same sums are one list.
-use Rattle.std.proofs.Common.{◌≡◌, ℕ, zero, suc, ◌+◌, ◌<◌, ◌≤◌, ◌⊎◌, inl, inr, Bool, true, false, ◌&&◌, cond, eqb, List, [], ◌∷◌, ◌++◌, length, get_or, refl, sym, ap, subst, ◌∙◌, arith, is_lt, nat_cmp, zero-add}
+use Rattle.std.proofs.Common.{◌≡◌, ℕ, zero, suc, ◌+◌, ◌≤◌, inl, inr, Bool, true, false, cond, eqb, List, [], ◌∷◌, refl, sym, ap, subst, ◌∙◌, arith, zero-add}
 use Rattle.std.specs.Prelude.{filter, sum_by}
 use Rattle.std.specs.List.{All, AllPairs, Contains}
-use Rattle.std.specs.List.Sorted.{IsSortedByKey, IsPermutation, IsNonDecreasingBy}
+use Rattle.std.specs.List.Sorted.{IsPermutation}
 use Rattle.std.proofs.lemmas.Bool.{cases_Bool, eqb-true, eq-eqb}
-use Rattle.std.proofs.lemmas.Bool.Decides.{nat_tests}
 use Rattle.std.proofs.lemmas.List.Elements.{All-contains, All-nil, All-cons, All-head, All-tail}
 use Rattle.std.proofs.lemmas.List.Kept.{AllPairs-cons, AllPairs-filter}
 use Rattle.desk_model.proofs.PathOrder.{pairs_head, pairs_tail, pairs_nil, pairs_append}
 use Rattle.std.proofs.lemmas.List.Sums.{sum_by-cons}
 use Rattle.std.proofs.lemmas.List.Sorted.{sum_by-IsPermutation}
 use Rattle.desk_rules.specs.Numbers.{numbers}
-use Rattle.near_moves.proofs.ListLaws.{has-cases, has-head, has-tail, has-filter, filter-has, numbers-has, all-from_has}
+use Rattle.near_moves.proofs.ListLaws.{has-cases, has-head, has-tail, numbers-has, all-from_has}
 
 -- no number is below an earlier one
 abbrev pub Rises : List ℕ → Type 0

@@ -1,13 +1,13 @@
 -- The legs that are sought are found in the window of flights.
-use Rattle.std.proofs.Common.{◌≡◌, ℕ, ◌+◌, ◌<◌, ◌≤◌, inl, inr, Bool, true, false, ◌&&◌, eqb, ltb, leb, List, [], ◌∷◌, ◌++◌, length, get_or, map, refl, sym, ap, subst, ◌∙◌, arith, nat_cmp, is_lt}
+use Rattle.std.proofs.Common.{◌≡◌, ℕ, ◌<◌, ◌≤◌, inl, inr, Bool, true, false, ◌&&◌, eqb, ltb, leb, List, ◌++◌, length, get_or, map, sym, ap, subst, ◌∙◌, arith, nat_cmp}
 use Rattle.std.specs.Prelude.{filter}
-use Rattle.std.specs.List.{All, AllPairs, Contains}
-use Rattle.std.specs.List.Sorted.{IsPermutation, IsSorted, IsSortedByKey}
+use Rattle.std.specs.List.{All}
+use Rattle.std.specs.List.Sorted.{IsPermutation, IsSortedByKey}
 use Rattle.std.proofs.lemmas.Bool.{cases_Bool, true≢false, and_parts, and_from, eqb-true, leb-true, ltb-true, lt-ltb, le-leb, eq-eqb}
 use Rattle.std.proofs.lemmas.List.{append-nil, length-map, get_or-map}
 use Rattle.std.proofs.lemmas.Simd.{map-map}
-use Rattle.std.proofs.lemmas.List.Elements.{All-weaker, All-contains, All-map, All-filter, All-append, Contains-append_left, Contains-append_right, filter-append}
-use Rattle.std.proofs.lemmas.List.Sorted.{All-permutation, IsPermutation-map, IsNonDecreasingBy-from_sort}
+use Rattle.std.proofs.lemmas.List.Elements.{All-weaker, All-contains, All-filter, Contains-append_left, Contains-append_right, filter-append}
+use Rattle.std.proofs.lemmas.List.Sorted.{IsPermutation-map, IsNonDecreasingBy-from_sort}
 use Rattle.desk_units.specs.declared.numbers.Leg.{Leg}
 use Rattle.desk_data.specs.Situation.{Situation, legs_of, leg_at}
 use Rattle.desk_data.specs.PlanRows.{PlanRows, row_at}
@@ -20,7 +20,7 @@ use Rattle.flight_net.specs.declared.sought.Sought.{Sought}
 use Rattle.flight_net.specs.Flights.{IsNetOf}
 use Rattle.flight_net.specs.Sought.{is_sought, goes_to, is_within, IsWindow}
 use Rattle.flight_net.proofs.FlightLaws.{IsFlight, net-sound, net-legs, number_of, flown_leg}
-use Rattle.flight_net.proofs.SortedLaws.{Rises, filter-filter, sorted-picked}
+use Rattle.flight_net.proofs.SortedLaws.{sorted-picked}
 
 -- what is asked of a leg that is sought
 pub record IsSought (I : Situation) (P : PlanRows) (sought : Sought) (x : ℕ) : Type 0 where
@@ -90,10 +90,11 @@ all-out I P sought n flights sound out = λ k d lt. not_wanted I P sought n (get
 
 pub part-all : {X : Type 0} (P : X → Type 0) (xs ys zs whole : List X) → whole ≡ xs ++ (ys ++ zs) → All P whole → All P xs × All P ys × All P zs
 part-all {X} P xs ys zs whole is all =
-    let here : All P (xs ++ (ys ++ zs)) = subst (All P) is all in
-    (all-from_has P xs (λ x has. All-contains P (xs ++ (ys ++ zs)) x here (Contains-append_left xs (ys ++ zs) x has)),
-    all-from_has P ys (λ x has. All-contains P (xs ++ (ys ++ zs)) x here (Contains-append_right xs (ys ++ zs) x (Contains-append_left ys zs x has))),
-    all-from_has P zs (λ x has. All-contains P (xs ++ (ys ++ zs)) x here (Contains-append_right xs (ys ++ zs) x (Contains-append_right ys zs x has))))
+    let here : All P (xs ++ (ys ++ zs)) = subst (All P) is all in (
+      all-from_has P xs (λ x has. All-contains P (xs ++ (ys ++ zs)) x here (Contains-append_left xs (ys ++ zs) x has)),
+      all-from_has P ys (λ x has. All-contains P (xs ++ (ys ++ zs)) x here (Contains-append_right xs (ys ++ zs) x (Contains-append_left ys zs x has))),
+      all-from_has P zs (λ x has. All-contains P (xs ++ (ys ++ zs)) x here (Contains-append_right xs (ys ++ zs) x (Contains-append_right ys zs x has))),
+    )
 
 -- what is sought of all flights stands in the window
 pub window-wanted : (I : Situation) (P : PlanRows) (sought : Sought) (n : ℕ) (flights part : List Flight) → All (IsFlight I P n) flights → IsWindow sought flights part → filter (wanted I P sought) flights ≡ filter (wanted I P sought) part

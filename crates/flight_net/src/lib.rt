@@ -14,6 +14,7 @@
 
 mod doubles;
 mod flights;
+mod paths;
 mod routes_of;
 mod singles;
 mod sought;
@@ -21,4 +22,5 @@ mod start;
 mod tried;
 
 pub use flights::{Flight, FlightNet};
+pub use paths::same_path;
 pub use routes_of::routes;

@@ -39,12 +39,7 @@ impl FlightNet {
 
 /// The routes of a reservation in a plan, each once: sorts its legs first. The only error is out of
 /// memory.
-pub fn routes(
-    alloc: Global,
-    inst: &Instance,
-    plan: &Pages,
-    res: Res,
-) -> Result<Vec<Path>, NoMem>
+pub fn routes(alloc: Global, inst: &Instance, plan: &Pages, res: Res) -> Result<Vec<Path>, NoMem>
     requires plan { IsPlanFor inst.now plan.now }
     requires res { res.0 < reservations_of inst.now }
     ensures { IfOk result (λ all. all.items ≡ routes inst.now plan.now res.0) }

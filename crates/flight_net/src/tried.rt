@@ -4,11 +4,11 @@ ghost use Rattle.std.specs.Prelude.{◌≡◌, ◌<◌, ◌≤◌, ◌++◌, ◌
 ghost use Rattle.desk_data.specs.Booked.{booked_path};
 ghost use Rattle.desk_data.specs.Situation.{legs_of, reservations_of};
 ghost use Rattle.desk_data.specs.Valid.{IsPathOf, IsPlanFor};
-ghost use Rattle.desk_model.specs.Rebook.{same_path};
 ghost use Rattle.desk_model.specs.Tidy.{is_fit_path};
 ghost use Rattle.near_moves.specs.Routes.{is_route, stem};
 ghost use Rattle.flight_net.specs.Tried.{others};
 
+use crate::paths::same_path;
 use crate::start::stem;
 use desk_data::{Cabin, Instance, Leg, List, NoMem, Path, Res};
 use plan_pages::Pages;
@@ -51,7 +51,8 @@ pub(crate) fn take_behind(
     ensures { OnOk result (routes.new.items ≡ routes.old.items ++ others inst.now plan.now res.0 ((stem inst.now res.0 ++ more.now) ∷ [])) }
 {
     let path = joined(alloc, stem(inst, res), more)?;
-    if is_route(inst, plan, res, &path) && !is_scheduled(inst, res, &path) {
+    let scheduled = inst.res(res).path.as_slice();
+    if is_route(inst, plan, res, &path) && !same_path(scheduled, path.as_slice()) {
         routes.push(path)?;
     }
     Ok(())
@@ -67,14 +68,6 @@ fn joined(alloc: Global, first: &[(Leg, Cabin)], second: &[(Leg, Cabin)]) -> Res
     legs.extend_from_slice(first)?;
     legs.extend_from_slice(second)?;
     Ok(Path { legs: List(legs) })
-}
-
-/// Whether a path is a reservation's scheduled path.
-fn is_scheduled(inst: &Instance, res: Res, path: &Path) -> bool
-    requires { res.0 < reservations_of inst.now }
-    ensures { result ≡ same_path (booked_path inst.now res.0) path.now }
-{
-    inst.res(res).path.as_slice() == path.as_slice()
 }
 
 /// Whether a path is a route: it has 1 to 8 legs, and meets C13, C14 and C15.

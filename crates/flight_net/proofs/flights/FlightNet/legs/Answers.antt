@@ -1,6 +1,4 @@
-use Rattle.std.proofs.Common.{◌≡◌, List, sym, subst}
 use Rattle.desk_data.specs.Situation.{legs_of}
-use Rattle.flight_net.specs.declared.flights.Flight.{Flight}
 use Rattle.flight_net.specs.Sought.{is_sought}
 use Rattle.flight_net.proofs.SoughtLaws.{window-sound, legs-sorted, legs-within}
 use Rattle.flight_net.proofs.flights.FlightNet.legs.Goals as goal

@@ -19,8 +19,8 @@ returns c =
     let rest = take (length flights - start) (drop start flights) in
     let all : rest ≡ drop start flights = take_rest flights start in
     let first = IsPartitionPoint-from_clause (leaves sought.from.0 sought.earliest) flights start c.partition_point-start.ensures.partitioned
-        (parted sought.from.0 sought.earliest flights up) (λ a r q k. search rules) in
+    (parted sought.from.0 sought.earliest flights up) (λ a r q k. search rules) in
     let second = IsPartitionPoint-from_clause (leaves sought.from.0 sought.until) rest end c.partition_point-end.ensures.partitioned
-        (rw all (parted-drop (leaves sought.from.0 sought.until) start flights (parted sought.from.0 sought.until flights up))) (λ a r q k. search rules) in
+    (rw all (parted-drop (leaves sought.from.0 sought.until) start flights (parted sought.from.0 sought.until flights up))) (λ a r q k. search rules) in
     subst (λ (fs : List Flight). IsWindow sought fs (take end rest)) same
     (rw all (window sought flights start end c.partition_point-start.ensures.bound first (rw all at second)))
