@@ -7,3 +7,5 @@ pub mod Near
 pub mod Words
 pub mod Descent
 pub mod Descents
+pub mod RouteWords
+pub mod RouteParts

@@ -9,9 +9,9 @@ use Rattle.desk_data.specs.PlanRows.{PlanRows, groups_at}
 use Rattle.plan_moves.specs.declared.moves.Step.{Step}
 use Rattle.plan_moves.specs.declared.moves.Step.TheVariants.{Rebook}
 use Rattle.desk_rules.specs.Numbers.{numbers}
-use Rattle.desk_model.specs.Rebook.{count_on}
+use Rattle.desk_model.specs.Rebook.{count_on, same_path}
 use Rattle.near_moves.specs.Units.{Unit_, rebooked}
-use Rattle.near_moves.specs.Routes.{same_path, routes}
+use Rattle.near_moves.specs.Routes.{routes}
 
 -- where passengers may go: to each route, and then off all paths
 unfoldable pub aims : Situation → PlanRows → ℕ → List (List (Leg × Cabin))

@@ -15,16 +15,20 @@
 
 mod descents;
 mod legs;
+mod passenger_laws;
 mod shards;
 
 pub use descents::{
     a_descent_adds_the_first_better_moves, a_descent_ends_quiet_or_spent,
     a_proposal_is_accepted_exactly_where_it_is_better,
-    a_recovery_takes_the_batches_and_descends_behind_each,
+    a_recovery_takes_the_batches_and_descends_behind_each, descents_and_recoveries_are_legal,
 };
 pub use legs::{
     legs_from_a_leg_are_in_their_order, moments_of_an_exchange_are_departures_in_order,
     moves_of_legs_fit, runs_are_handed_within_the_family, runs_are_of_movable_legs,
     swaps_are_of_two_aircraft_of_a_family,
+};
+pub use passenger_laws::{
+    rebookings_near_a_plan_fit, routes_are_the_paths_that_passengers_may_take,
 };
 pub use shards::shards_part_the_units;
