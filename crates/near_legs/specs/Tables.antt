@@ -26,11 +26,11 @@ pub record AreBehind (I : Situation) (P : PlanRows) (behind : List (Option Leg))
   pub flown : (x : ℕ) → ForSome (slice_index_or behind x None) (λ next. is_flown (row_at P next.0) ≡ true)
   pub each : (x : ℕ) → x < legs_of I → is_flown (row_at P x) ≡ true → legs_from I P x ≡ x ∷ from_next I P (slice_index_or behind x None)
 
--- for each leg the one that has it before it, if any has
-pub record IsInverse (before behind : List (Option Leg)) : Type 0 where
+-- for each leg the one of the first n that has it before it, if any has
+pub record IsInverse (n : ℕ) (before behind : List (Option Leg)) : Type 0 where
   pub legs : length behind ≡ length before
   pub found : (x : ℕ) → ForSome (slice_index_or behind x None) (λ next. (next.0 < length before) × (slice_index_or before next.0 None ≡ Some (record { 0 = x })))
-  pub all : (x y : ℕ) → y < length before → slice_index_or before y None ≡ Some (record { 0 = x }) → slice_index_or behind x None ≡ None → ⊥
+  pub all : (x y : ℕ) → y < n → slice_index_or before y None ≡ Some (record { 0 = x }) → slice_index_or behind x None ≡ None → ⊥
 
 -- ---- families
 

@@ -1,11 +1,11 @@
 //! What is chosen for the moves of a unit.
 
-ghost use Rattle.std.specs.Prelude.{◌≡◌, ◌<◌, ◌∷◌, [], All, IfOk, map};
+ghost use Rattle.std.specs.Prelude.{◌≡◌, ◌<◌, ◌∷◌, ◌++◌, [], All, IfOk, OnOk, map};
 ghost use Rattle.desk_data.specs.Situation.{legs_of, planes_of};
 ghost use Rattle.desk_data.specs.Valid.{IsPlanFor};
 ghost use Rattle.near_moves.specs.LegMoves.{droppings, exchanges, restorings, retimings};
 ghost use Rattle.near_moves.specs.Near.{unit_steps};
-ghost use Rattle.near_legs.specs.Choices.{IsChoice, IsFlownLeg, IsLegUnit, leads_back, steps_of, unit_of};
+ghost use Rattle.near_legs.specs.Choices.{IsChoice, IsFlownLeg, IsLegUnit, later_choice, leads_back, steps_of, unit_of};
 ghost use Rattle.near_legs.specs.Tables.{AreLists};
 
 use crate::choice::Choice;
@@ -59,10 +59,19 @@ fn departures(
     if earliest < departs {
         all.push(Choice::Depart { leg, at: Minute(earliest) })?;
     }
+    add_later(leg, departs, &mut all)?;
+    Ok(all)
+}
+
+/// Puts the later departures of a leg behind others.
+fn add_later(leg: Leg, departs: u32, all: &mut Vec<Choice>) -> Result<(), NoMem>
+    requires { departs < 52500000 }
+    ensures { OnOk result (all.new.items ≡ all.old.items ++ map (later_choice leg departs) (15 ∷ 30 ∷ 60 ∷ 120 ∷ 240 ∷ [])) }
+{
     for later in [15, 30, 60, 120, 240] {
         all.push(Choice::Depart { leg, at: Minute(departs + later) })?;
     }
-    Ok(all)
+    Ok(())
 }
 
 /// The moments from which on two aircraft exchange their legs.
@@ -81,8 +90,9 @@ fn exchanges(
     ensures steps { IfOk result (λ all. map (steps_of inst.now plan.now) all.items ≡ exchanges inst.now plan.now first.0 second.0) }
     ensures sound { IfOk result (λ all. All (IsChoice inst.now plan.now) all.items) }
 {
+    let moments = moments(alloc, inst, plan, tables, first, second)?;
     let mut all = Vec::new(alloc);
-    for at in &moments(alloc, inst, plan, tables, first, second)? {
+    for at in &moments {
         all.push(Choice::Exchange { first, second, at: Minute(*at) })?;
     }
     Ok(all)
@@ -128,7 +138,8 @@ fn restorings(
 {
     let mut all = Vec::new(alloc);
     all.push(Choice::Alone { leg, plane })?;
-    for back in tables.cancelled(inst.leg(leg).dest) {
+    let cancelled = tables.cancelled(inst.leg(leg).dest);
+    for back in cancelled {
         if leads_back(inst, leg, *back) {
             all.push(Choice::Both { leg, plane, back: *back })?;
         }
