@@ -5,7 +5,8 @@ ghost use Rattle.desk_core.specs.Recorded.{state_of};
 ghost use Rattle.desk_model.specs.Histories.{is_batch};
 ghost use Rattle.journal_text.specs.Lines.{journal_text};
 ghost use Rattle.journal_text.specs.Told.{AnswerNames, CanBeTold};
-ghost use Rattle.desk_tasks.specs.Play.{planned_rotations, planned_itineraries, batch_line, batch_lines, end_lines, report_text, history_outcome};
+ghost use Rattle.desk_tasks.specs.Play.{planned_rotations, planned_itineraries, batch_line, batch_lines, search_line, end_lines, report_text, history_outcome};
+ghost use Rattle.desk_tasks.specs.Recover.{told_alone};
 ghost use Rattle.desk_runs.specs.Writing.{as_texts};
 
 use desk_core::Book;
@@ -13,6 +14,7 @@ use desk_data::{Instance, NoMem};
 use desk_folder::File;
 use desk_model::{Answer, Entry, Event};
 use desk_runs::OutputTexts;
+use desk_tasks::SearchEnd;
 use journal_text::{journal_text, legal_entries_can_be_told, push_answer, push_broken};
 use sol_text::{itineraries_text, rotations_text};
 use std::alloc::Global;
@@ -103,14 +105,27 @@ fn push_end(text: &mut Vec<u8>, book: &Book) -> Result<(), NoMem>
     }
 }
 
-// What was answered to each batch, how many changes there were, and the cost of the plan or what is
-// broken.
+// Adds how the last search ended, where it is told.
+fn push_search(text: &mut Vec<u8>, search: Option<SearchEnd>) -> Result<(), NoMem>
+    ensures { OnOk result (text.new.items ≡ text.old.items ++ search_line search) }
+{
+    match search {
+        None => {}
+        Some(SearchEnd::Budget) => text.extend_from_slice(b"ended budget\n")?,
+        Some(SearchEnd::Quiet) => text.extend_from_slice(b"ended quiet\n")?,
+    }
+    Ok(())
+}
+
+// What was answered to each batch, how the last search ended, how many changes there were, and the cost of
+// the plan or what is broken.
 #[tactic(auto, unfolding(desk_tasks::specs::Play::report_text))]
-fn report_text(alloc: Global, book: &Book) -> Result<Vec<u8>, NoMem>
-    ensures { IfOk result (λ text. text.items ≡ report_text book.now.opening book.now.journal) }
+fn report_text(alloc: Global, book: &Book, search: Option<SearchEnd>) -> Result<Vec<u8>, NoMem>
+    ensures { IfOk result (λ text. text.items ≡ report_text book.now.opening search book.now.journal) }
 {
     let mut text = Vec::new(alloc);
     push_batches(&mut text, book.instance(), book.journal())?;
+    push_search(&mut text, search)?;
     push_end(&mut text, book)?;
     Ok(text)
 }
@@ -125,13 +140,31 @@ fn book_journal(alloc: Global, book: &Book) -> Result<Vec<u8>, NoMem>
 
 /// The texts of a book's journal and state.
 #[tactic(auto, unfolding(desk_tasks::specs::Play::history_outcome))]
-pub(crate) fn output_texts(alloc: Global, book: &Book) -> Result<OutputTexts, NoMem>
-    ensures { IfOk result (λ t. as_texts t ≡ (history_outcome book.now.opening book.now.journal).texts) }
+pub(crate) fn output_texts(
+    alloc: Global,
+    book: &Book,
+    search: Option<SearchEnd>,
+) -> Result<OutputTexts, NoMem>
+    ensures { IfOk result (λ t. as_texts t ≡ (history_outcome book.now.opening search book.now.journal).texts) }
 {
     let mut files = Vec::new(alloc);
     files.push((File::SolRotations, planned_rotations(alloc, book)?))?;
     files.push((File::SolItineraries, planned_itineraries(alloc, book)?))?;
     files.push((File::Journal, book_journal(alloc, book)?))?;
-    let report = report_text(alloc, book)?;
+    let report = report_text(alloc, book, search)?;
+    Ok(OutputTexts { files, report })
+}
+
+/// The report alone.
+#[tactic(auto, unfolding(desk_tasks::specs::Play::history_outcome, desk_tasks::specs::Recover::told_alone))]
+pub(crate) fn report_alone(
+    alloc: Global,
+    book: &Book,
+    search: Option<SearchEnd>,
+) -> Result<OutputTexts, NoMem>
+    ensures { IfOk result (λ t. as_texts t ≡ (told_alone (history_outcome book.now.opening search book.now.journal)).texts) }
+{
+    let files = Vec::new(alloc);
+    let report = report_text(alloc, book, search)?;
     Ok(OutputTexts { files, report })
 }

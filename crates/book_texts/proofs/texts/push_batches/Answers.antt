@@ -1,7 +1,7 @@
 use Rattle.std.proofs.Common.{sym, ◌∙◌}
-use Rattle.desk_replay.proofs.BatchLaws.{told-start, told-batch, told-move}
-use Rattle.desk_replay.proofs.texts.push_batches.Goals.{then-is_batch+in_ok-push_batch, else-is_batch}
-use Rattle.desk_replay.proofs.texts.push_batches.Goals as goal
+use Rattle.book_texts.proofs.BatchLaws.{told-start, told-batch, told-move}
+use Rattle.book_texts.proofs.texts.push_batches.Goals.{then-is_batch+in_ok-push_batch, else-is_batch}
+use Rattle.book_texts.proofs.texts.push_batches.Goals as goal
 
 pub loop-entry-init : goal.loop-entry-init
 loop-entry-init c = told-start c.args.inst.now c.args.text.now.items c.args.entries.now

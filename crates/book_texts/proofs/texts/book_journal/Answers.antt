@@ -4,7 +4,7 @@ use Rattle.desk_model.specs.declared.answer.Entry.{Entry}
 use Rattle.journal_text.specs.Lines.{journal_text}
 use Rattle.journal_text.proofs.Told.{legal-told-of}
 use Rattle.journal_text.proofs.PartsLaws.{journal-same}
-use Rattle.desk_replay.proofs.texts.book_journal.Goals as goal
+use Rattle.book_texts.proofs.texts.book_journal.Goals as goal
 
 pub journal_text-requires : goal.journal_text-requires
 journal_text-requires c =

@@ -4,7 +4,7 @@ use Rattle.desk_model.specs.Histories.{state}
 use Rattle.desk_model.proofs.StateLaws.{opening-told}
 use Rattle.desk_model.proofs.HistoryLaws.{state-told}
 use Rattle.journal_text.proofs.Told.{least-names}
-use Rattle.desk_replay.proofs.texts.push_end.Goals as goal
+use Rattle.book_texts.proofs.texts.push_end.Goals as goal
 
 pub push_broken-requires : goal.push_broken-requires
 push_broken-requires c =
