@@ -9,13 +9,15 @@ that is made up, whose files are too long for the page. It names each file that 
 that README.md does not show as a line of its own, and ends with 1; where there is none it ends with 0.
 """
 
+import re
 import sys
 from pathlib import Path
 
 TOP = Path(__file__).resolve().parent.parent
 CASES = TOP / "crates" / "desk_rows" / "data"
 EXAMPLES = {"day": "the_example_of_the_readme", "disrupted": "the_disrupted_example_of_the_readme"}
-REPORTS = ("a_generated_day", "the_news_of_a_generated_day_breaks_its_schedule")
+REPORTS = ("a_generated_day", "a_generated_day_is_recovered", "the_news_of_a_generated_day_breaks_its_schedule")
+FILE = re.compile(r"\w+\.csv:( \d+ bytes)?")
 TRANSCRIPT = "transcript"
 
 
@@ -31,7 +33,7 @@ def lines_of(case):
 
 def is_answer(line):
     """Whether a line of the transcript is one that the desk prints or writes."""
-    return bool(line) and not line.startswith(("#", "$ ", "status ")) and not line.endswith(".csv:")
+    return bool(line) and not line.startswith(("#", "$ ", "status ")) and not FILE.fullmatch(line)
 
 
 def reports_in(lines):

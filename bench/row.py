@@ -78,10 +78,18 @@ def change(day, before, words):
 
 
 def directories_of(words):
-    """The words that name the input and the output, where there are as many as the command has: of gen before its options."""
-    if words[:1] == ["gen"] and len(words) > 1:
-        return "", "" if words[1].startswith("-") else words[1]
-    return (words[1], words[2]) if len(words) == 3 else ("", "")
+    """The words that name the input and the output, where there are as many as the command has."""
+    dirs, rest = [], iter(words[1:])
+    for word in rest:
+        if word == "--":
+            dirs += rest
+        elif not word.startswith("-"):
+            dirs.append(word)
+        elif "=" not in word:
+            next(rest, None)
+    if words[:1] == ["gen"]:
+        return "", dirs[0] if len(dirs) == 1 else ""
+    return tuple(dirs) if len(dirs) == 2 else ("", "")
 
 
 def file_told(name, text, sizes):

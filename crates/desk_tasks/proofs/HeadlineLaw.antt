@@ -18,7 +18,6 @@ use Rattle.journal_text.specs.Lines.{journal_text}
 use Rattle.desk_runs.specs.Outcome.{Texts}
 use Rattle.desk_runs.specs.Runs.{World, IsWritten}
 use Rattle.near_moves.specs.Descent.{recovery}
-use Rattle.near_moves.proofs.NearFits.{near-fits}
 use Rattle.near_moves.proofs.LegalLaws.{recovery-legal}
 use Rattle.near_moves.proofs.RecoveryLaws.{recovery-along, recovery-batches}
 use Rattle.desk_tasks.specs.declared.ended.SearchEnd.{SearchEnd}
@@ -122,7 +121,7 @@ unfolding recovered_history
 recovers r can =
     let S = opening r.day in
     let h = recovery r.moves S r.batches in
-    let legal : IsLegal S h = recovery-legal near-fits r.moves r.day r.batches can.valid can.asked (omega (arith, can.few)) in
+    let legal : IsLegal S h = recovery-legal r.moves r.day r.batches can.valid can.asked (omega (arith, can.few)) in
     record {
       exact = refl;
       batches = recovery-batches r.moves S [] r.batches;

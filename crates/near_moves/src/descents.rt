@@ -4,10 +4,11 @@ ghost use Rattle.std.specs.Prelude.{◌≡◌, ◌↔◌, ℕ, ◌+◌, ◌≤�
 ghost use Rattle.std.specs.List.{find};
 ghost use Rattle.day_orders.specs.declared.orders.Batch.{Batch};
 ghost use Rattle.plan_moves.specs.declared.moves.Move.{Move};
+ghost use Rattle.plan_moves.specs.Fits.{Fits};
 ghost use Rattle.desk_data.specs.Situation.{Situation};
 ghost use Rattle.desk_data.specs.PlanRows.{PlanRows};
 ghost use Rattle.desk_data.specs.declared.broken.Broken.{Broken};
-ghost use Rattle.desk_data.specs.Valid.{IsOrder, IsValid};
+ghost use Rattle.desk_data.specs.Valid.{IsOrder, IsPlanFor, IsValid};
 ghost use Rattle.desk_model.specs.declared.answer.Entry.{Entry as Recorded};
 ghost use Rattle.desk_model.specs.declared.answer.Event.TheVariants as event;
 ghost use Rattle.desk_model.specs.States.{State, opening, answer};
@@ -47,4 +48,12 @@ pub fn a_recovery_takes_the_batches_and_descends_behind_each()
     ensures batches { (most : ℕ) (S : State) (batches : Items Batch) → batches_of (recovery most S batches) ≡ batches }
     ensures entries { (most : ℕ) (S : State) (batches : Items Batch) → AllAlong IsRecoveryEntry S (recovery most S batches) }
     ensures length { (most : ℕ) (S : State) (batches : Items Batch) → length (recovery most S batches) ≤ proposal_limit + length batches }
+{}
+
+/// Each move near a plan can be asked of the day. So what a descent adds to a legal history leaves it legal, and
+/// so is a recovery of at most 100,000 batches that can be taken: each finds room in the journal.
+pub fn descents_and_recoveries_are_legal()
+    ensures fit { (I : Situation) (P : PlanRows) → IsValid I → IsPlanFor I P → All (Fits I) (near I P) }
+    ensures descent { (most : ℕ) (I : Situation) (h : Items Recorded) → IsValid I → IsLegal (opening I) h → IsLegal (opening I) (descent most (opening I) h) }
+    ensures recovery { (most : ℕ) (I : Situation) (batches : Items Batch) → IsValid I → All (λ B. All (IsOrder I.parts) B.orders) batches → length batches ≤ 100000 → IsLegal (opening I) (recovery most (opening I) batches) }
 {}
