@@ -20,9 +20,6 @@ pub run-placed : (these : Option Asking) (c : Command) (dirs : Directories) (bef
 run-placed these c dirs before placed now sink sink' code ok is names only run =
     asked_as these (c, Some dirs) (world before sink) (world now sink') code is (runs-placed meaning c dirs before placed now sink sink' code ok names only run)
 
-pub run-here : (these : Option Asking) (c : Command) (before now : World) (code : ℕ) → Some (c, None) ≡ these → Runs (Some (here c)) before now code → Runs (option_map asks these) before now code
-run-here these c before now code is run = asked_as these (c, None) before now code is run
-
 -- what is asked, by the directories that it has
 pub asked-with : (these : Option Asking) (c : Command) (dirs o : Option Directories) → o ≡ dirs → Some (c, o) ≡ these → Some (c, dirs) ≡ these
 asked-with these c dirs o same is = ap (λ (d : Option Directories). Some (c, d)) (sym same) ∙ is

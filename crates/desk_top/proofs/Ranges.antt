@@ -53,7 +53,7 @@ with_dirs c (Some d) h = h
 
 without_dirs : (c : Command) (none : Option (Unit {0})) → IsCommand c → InRange (none >>= (λ none. Some (c, None)))
 without_dirs c None h = tt
-without_dirs c (Some none) h = h
+without_dirs c (Some found) h = h
 
 if_range : (test : Bool) (o : Option Asking) → InRange o → InRange (if test then o else None)
 if_range true o h = h
@@ -78,9 +78,9 @@ unfolding making
 generating_range list = if_range (no_search_options list) _ (making_in (value_of choice_is.Seed list) (value_of choice_is.Size list) (output_alone (places list)) (value_within choice_is.Seed _) (value_within choice_is.Size _))
 
 sampling_in : (seed size : Option ℕ) (none : Option (Unit {0})) → IfSome seed (Within 0 999999999) → IfSome size (Within 1 40) → InRange (seed >>= (λ seed. size >>= (λ size. none >>= (λ none. Some (command_is.Trial seed size, None)))))
-sampling_in None size none a b = tt
-sampling_in (Some seed) None none a b = tt
-sampling_in (Some seed) (Some size) none a b = without_dirs (command_is.Trial seed size) none (a.1, b.0, b.1)
+sampling_in None size _ a b = tt
+sampling_in (Some seed) None _ a b = tt
+sampling_in (Some seed) (Some size) found a b = without_dirs (command_is.Trial seed size) found (a.1, b.0, b.1)
 
 trying_range : (list : List Argument) → InRange (trying list)
 unfolding sampling
