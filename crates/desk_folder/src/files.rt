@@ -77,8 +77,11 @@ pub const DAY_AND_JOURNAL: [File; 14] = day_files_and!(File::Journal);
 pub const DAY_AND_PLAN: [File; 15] = day_files_and!(File::SolRotations, File::SolItineraries);
 
 /// All files, in file order.
-pub const ALL_FILES: [File; FILES] =
-    day_files_and!(File::Journal, File::SolRotations, File::SolItineraries);
+pub const ALL_FILES: [File; FILES] = day_files_and!(
+    File::Journal,
+    File::SolRotations,
+    File::SolItineraries
+);
 
 /// The lists of the code are those of the definitions.
 pub fn day_files_are_told()

@@ -29,7 +29,7 @@ returns g c =
     let code = c.told_run.result in
     let run = c.told_run.ensures in
     let done-by : (asked : Asking) → these ≡ Some asked → (x : Inputs) → Tells (files_read asked.0) before.folder x → IsDoneAt code → IsDone asked.0 before now x code =
-        λ asked is x tells done. done-of meaning (asks asked) before now code (asked-run these asked before now code is run) x tells done in
+    λ asked is x tells done. done-of meaning (asks asked) before now code (asked-run these asked before now code is run) x tells done in
     record {
       runs = run;
       headline = λ dirs is x tells done. replayed before now x code (done-by (command_is.Replay, Some dirs) is x tells done);
