@@ -52,7 +52,7 @@ pub way-ends : (I : Situation) (P : PlanRows) (x : ℕ) (legs : List Leg) (next 
 way-ends I P x legs next n way =
     sym (take_at (map (λ (l : Leg). l.0) legs) (from_next I P next) n (length-map legs (λ (l : Leg). l.0) ∙ way.count)) ∙ ap (take n) way.legs_are
 
-all_taken : (xs : List ℕ) (n : ℕ) → length xs ≤ n → take n xs ≡ xs
+pub all_taken : (xs : List ℕ) (n : ℕ) → length xs ≤ n → take n xs ≡ xs
 all_taken [] zero h = refl
 all_taken [] (suc n) h = refl
 all_taken (x ∷ xs) zero h = absurd (omega (arith, h))

@@ -1,6 +1,6 @@
 //! What is chosen for the moves of a unit.
 
-ghost use Rattle.std.specs.Prelude.{◌≡◌, ◌<◌, ◌∷◌, ◌++◌, [], All, IfOk, OnOk, map};
+ghost use Rattle.std.specs.Prelude.{◌≡◌, ◌<◌, ◌∷◌, ◌++◌, [], All, IfOk, OnOk, if◌then◌else◌, map, nat_lt};
 ghost use Rattle.desk_data.specs.Situation.{legs_of, planes_of};
 ghost use Rattle.desk_data.specs.Valid.{IsPlanFor};
 ghost use Rattle.near_moves.specs.LegMoves.{droppings, exchanges, restorings, retimings};
@@ -54,12 +54,24 @@ fn departures(
     ensures sound { IfOk result (λ all. All (IsChoice inst.now plan.now) all.items) }
 {
     let departs = departure(plan, leg);
-    let earliest = inst.earliest(leg).0;
-    let mut all = Vec::new(alloc);
-    if earliest < departs {
-        all.push(Choice::Depart { leg, at: Minute(earliest) })?;
-    }
+    let mut all = earlier(alloc, leg, inst.earliest(leg), departs)?;
     add_later(leg, departs, &mut all)?;
+    Ok(all)
+}
+
+/// The earliest departure of a leg, where it departs later than that.
+fn earlier(
+    alloc: Global,
+    leg: Leg,
+    earliest: Minute,
+    departs: u32,
+) -> Result<Vec<Choice>, NoMem>
+    ensures { IfOk result (λ all. all.items ≡ (if nat_lt earliest.0 departs then Choice.Depart leg earliest ∷ [] else [])) }
+{
+    let mut all = Vec::new(alloc);
+    if earliest.0 < departs {
+        all.push(Choice::Depart { leg, at: earliest })?;
+    }
     Ok(all)
 }
 
