@@ -1,7 +1,8 @@
 -- The orders of the day are about its legs, aircraft and airports.
-use Rattle.std.proofs.Common.{◌≡◌, ℕ, ◌+◌, ◌<◌, List, [], ◌∷◌, ◌++◌, length, take, get_or, Option, Some, None, refl, sym, ap, subst, ◌∙◌, All}
+use Rattle.std.proofs.Common.{◌≡◌, ℕ, ◌+◌, ◌<◌, ◌≤◌, List, [], ◌∷◌, ◌++◌, length, take, get_or, Option, Some, None, refl, sym, ap, subst, arith, ◌∙◌, All}
 use Rattle.std.specs.List.{filter, filter_map, range_with_len, cons_option}
 use Rattle.std.proofs.lemmas.List.{length-map}
+use Rattle.std.proofs.lemmas.List.FromFn.{length-map-range_with_len}
 use Rattle.std.proofs.lemmas.List.Elements.{All-nil, All-cons, All-head, All-tail, All-map, All-append, All-filter, filter_map-append}
 use Rattle.day_orders.specs.declared.orders.Order.{Order}
 use Rattle.day_orders.specs.declared.orders.Order.TheVariants as order
@@ -10,9 +11,10 @@ use Rattle.desk_data.specs.Valid.{IsOrder}
 use Rattle.file_rows.specs.declared.disruptions.AltRow.{AltRow}
 use Rattle.file_rows.specs.declared.disruptions.AltRow.TheVariants as alt
 use Rattle.file_rows.specs.Facts.{IsAlt}
+use Rattle.file_rows.specs.Limits.{most_batches}
 use Rattle.build_tables.specs.declared.files.Files.{Files}
 use Rattle.build_tables.specs.Facts.{AreFileRows}
-use Rattle.build_tables.specs.Fitting.{IsAboutKnown, FitTogether}
+use Rattle.build_tables.specs.Fitting.{AreFew, IsAboutKnown, FitTogether}
 use Rattle.build_tables.specs.Batches.{last_batch}
 use Rattle.build_tables.proofs.BatchLemmas.{rows_more}
 use Rattle.build_day.specs.Legs.{airport_of, leg_at, leg_of}
@@ -32,6 +34,11 @@ given_by Q (Some y) rest one more = All-cons Q y rest (one y refl) more
 all_given : {Row : Type 0} (P : Row → Type 0) (Q : Order → Type 0) (f : Row → Option Order) → ((row : Row) (y : Order) → P row → f row ≡ Some y → Q y) → (rows : List Row) → All P rows → All Q (filter_map f rows)
 all_given P Q f each [] h = All-nil Q
 all_given P Q f each (row ∷ rows) h = given_by Q (f row) (filter_map f rows) (λ y e. each row y (All-head P row rows h) e) (all_given P Q f each rows (All-tail P row rows h))
+
+-- batch 0, and the batches of the feed
+pub few_batches : (x : Files) → AreFew x → length (batches_of x) ≤ most_batches + 1
+unfolding batches_of
+few_batches x few = omega (arith, few.batches, length-map-range_with_len (λ k. batch_with (orders_in_batch x x.feed k)) 1 (last_batch x.feed))
 
 -- a row whose names are known and whose numbers are in their ranges
 abbrev IsGood : Files → AltRow → Type 0

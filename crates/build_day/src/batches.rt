@@ -1,6 +1,7 @@
 //! The batches of the alt files and of the feed.
 
-ghost use Rattle.std.specs.Prelude.{◌≡◌, ◌++◌, [], ◌∷◌, ◌==◌, if◌then◌else◌, All, IfOk, OnOk};
+ghost use Rattle.std.specs.Prelude.{◌≡◌, ◌+◌, ◌≤◌, ◌++◌, [], ◌∷◌, ◌==◌, if◌then◌else◌, length, All, IfOk, OnOk};
+ghost use Rattle.file_rows.specs.Limits.{most_batches};
 ghost use Rattle.desk_data.specs.Valid.{IsOrder};
 ghost use Rattle.build_tables.specs.Facts.{AreFileRows};
 ghost use Rattle.build_tables.specs.Fitting.{AreFew, FitTogether};
@@ -146,6 +147,7 @@ pub fn batches_of(alloc: Global, tables: &Tables<'_>) -> Result<Vec<Batch>, NoMe
     requires rows { AreFileRows tables.now.files.now }
     requires fit { FitTogether tables.now.files.now }
     ensures exact { IfOk result (λ batches. batches.items ≡ batches_of tables.now.files.now) }
+    ensures few { IfOk result (λ batches. length batches.items ≤ most_batches + 1) }
     ensures orders { IfOk result (λ batches. All (λ batch. All (IsOrder (parts_of tables.now.files.now)) batch.orders) batches.items) }
 {
     let batches = filled(alloc, tables)?;

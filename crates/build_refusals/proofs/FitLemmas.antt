@@ -27,7 +27,7 @@ use Rattle.build_refusals.specs.Itineraries.{is_same_reservation}
 use Rattle.build_refusals.specs.Refusals.{Refusal, refusal_of}
 use Rattle.build_refusals.proofs.NoneLemmas.{none_alike}
 use Rattle.build_refusals.proofs.OrderPasses.{in_turn}
-use Rattle.build_refusals.proofs.PassLemmas.{ItineraryPasses, each_rotation, each_aircraft, each_airport, each_itinerary, each_position, each_tariff, each_alt_flight, each_alt_aircraft, each_alt_airport, each_fed, few_rotations, few_aircraft, few_airports, few_itineraries, few_wanted, few_tariff}
+use Rattle.build_refusals.proofs.PassLemmas.{ItineraryPasses, each_rotation, each_aircraft, each_airport, each_itinerary, each_position, each_tariff, each_alt_flight, each_alt_aircraft, each_alt_airport, each_fed, few_rotations, few_aircraft, few_airports, few_itineraries, few_wanted, few_tariff, few_batches}
 
 -- names that are not tested alike differ
 names_differ : (a b : List ℕ) → bytes_eq b a ≡ false → a ≢ b
@@ -87,6 +87,7 @@ module _ (x : Files) (e : refusal_of x ≡ None) where
     itineraries = few_itineraries x e;
     groups = few_wanted x e;
     tariff = few_tariff x e;
+    batches = few_batches x e;
   }
 
   apart : AreApart x

@@ -1,7 +1,7 @@
 -- What holds of the orders where none is refused.
 use Rattle.std.proofs.Common.{◌≡◌, ℕ, ◌+◌, ◌≤◌, Bool, true, ◌&&◌, eqb, leb, Option, Some, None, arith, inl, inr}
 use Rattle.std.specs.Prelude.{unwrap_or}
-use Rattle.std.proofs.lemmas.Bool.{and_parts, or_cases, not-false, eqb-true}
+use Rattle.std.proofs.lemmas.Bool.{and_parts, or_cases, not-false, eqb-true, leb-true}
 use Rattle.file_rows.specs.declared.disruptions.AltRow.{AltRow}
 use Rattle.file_rows.specs.declared.disruptions.AltRow.TheVariants as alt
 use Rattle.file_rows.specs.Limits.{most_batches}
@@ -26,12 +26,12 @@ order_passes x full row e =
     about_known x row (not-false (is_about_known x row) known.0)
 
 -- a row of the feed that passes
-pub fed_passes : (x : Files) (before : Option ℕ) (full : Bool) (fed : ℕ × AltRow) → fed_cause x before full fed ≡ None → (is_in_turn before fed.0 ≡ true) × IsAboutKnown x fed.1
+pub fed_passes : (x : Files) (before : Option ℕ) (full : Bool) (fed : ℕ × AltRow) → fed_cause x before full fed ≡ None → (is_in_turn before fed.0 ≡ true) × IsAboutKnown x fed.1 × fed.0 ≤ most_batches
 unfolding fed_cause
 fed_passes x before full fed e =
     let batch = passed _ _ _ e in
     let good = and_parts (is_in_turn before fed.0) (leb fed.0 most_batches) (not-false (is_in_turn before fed.0 && leb fed.0 most_batches) batch.0) in
-    (good.0, order_passes x full fed.1 batch.1)
+    (good.0, order_passes x full fed.1 batch.1, leb-true fed.0 most_batches good.1)
 
 -- a batch that comes in turn is the last one or the next one
 pub in_turn : (before : Option ℕ) (number : ℕ) → is_in_turn before number ≡ true → (unwrap_or before 0 ≤ number) × (number ≤ unwrap_or before 0 + 1)

@@ -1,9 +1,10 @@
 -- What holds of each row where nothing is refused.
-use Rattle.std.proofs.Common.{◌≡◌, ℕ, ◌+◌, ◌<◌, ◌≤◌, true, false, ◌&&◌, ◌||◌, leb, ltb, List, [], ◌∷◌, length, take, get_or, bytes_eq, None, arith, subst, All}
-use Rattle.std.specs.Prelude.{is_some}
-use Rattle.std.specs.List.{list_any, sum_by}
+use Rattle.std.proofs.Common.{◌≡◌, ℕ, ◌+◌, ◌<◌, ◌≤◌, true, false, ◌&&◌, ◌||◌, leb, ltb, List, [], ◌∷◌, length, take, get_or, bytes_eq, Option, Some, None, arith, subst, All}
+use Rattle.std.specs.Prelude.{is_some, option_map, unwrap_or}
+use Rattle.std.specs.List.{list_any, sum_by, last_or}
 use Rattle.std.proofs.lemmas.Bool.{and_parts, or_parts, not-false, ltb-false}
 use Rattle.std.proofs.lemmas.List.{take_all}
+use Rattle.std.proofs.lemmas.List.Elements.{All-head, All-tail}
 use Rattle.desk_folder.specs.declared.files.File.TheVariants as file
 use Rattle.file_rows.specs.declared.network.AirportRow.{AirportRow}
 use Rattle.file_rows.specs.declared.legs.FlightRow.{FlightRow}
@@ -15,9 +16,9 @@ use Rattle.file_rows.specs.declared.disruptions.AltRow.{AltRow}
 use Rattle.desk_units.specs.declared.tariff.TariffRow.{TariffRow}
 use Rattle.tariff_prices.specs.Rows.{same_key}
 use Rattle.build_tables.specs.declared.files.Files.{Files}
-use Rattle.file_rows.specs.Limits.{most_flights, most_aircraft, most_airports, most_itineraries, most_passengers, most_legs, most_groups, most_tariff_rows, most_orders}
+use Rattle.file_rows.specs.Limits.{most_flights, most_aircraft, most_airports, most_itineraries, most_passengers, most_legs, most_groups, most_tariff_rows, most_orders, most_batches}
 use Rattle.build_tables.specs.Names.{airport_place}
-use Rattle.build_tables.specs.Batches.{number_of_last}
+use Rattle.build_tables.specs.Batches.{number_of_last, last_batch}
 use Rattle.build_tables.specs.Fitting.{IsAboutKnown}
 use Rattle.build_refusals.specs.First.{first_refusal_in}
 use Rattle.build_refusals.specs.Flights.{flight_cause, has_good_previous}
@@ -114,6 +115,11 @@ pub record PositionPasses (x : Files) (n : ℕ) (row : PositionRow) : Type 0 whe
 pub record TariffPasses (rows : List TariffRow) (n : ℕ) (row : TariffRow) : Type 0 where
   pub limit : leb most_tariff_rows n ≡ false
   pub new : list_any (λ before. same_key before row) (take n rows) ≡ false
+
+-- the batch of the last row is within a limit that that of each row is within
+last_within : (n : ℕ) (o : Option (ℕ × AltRow)) (feed : List (ℕ × AltRow)) → unwrap_or (option_map (λ (fed : ℕ × AltRow). fed.0) o) 0 ≤ n → All (λ (fed : ℕ × AltRow). fed.0 ≤ n) feed → unwrap_or (option_map (λ (fed : ℕ × AltRow). fed.0) (last_or o feed)) 0 ≤ n
+last_within n o [] first each = first
+last_within n o (fed ∷ feed) first each = last_within n (Some fed) feed (All-head (λ (f : ℕ × AltRow). f.0 ≤ n) fed feed each) (All-tail (λ (f : ℕ × AltRow). f.0 ≤ n) fed feed each)
 
 flight_passes : (flights : List FlightRow) (n : ℕ) (row : FlightRow) → flight_cause flights n row ≡ None → FlightPasses flights n row
 unfolding flight_cause
@@ -212,8 +218,12 @@ module _ (x : Files) (e : refusal_of x ≡ None) where
   pub each_alt_airport : All (IsAboutKnown x) x.alt_airports
   each_alt_airport = each_order (room_for_airports x) x.alt_airports (none_refused_in x e).alt_airports
 
-  pub each_fed : (k : ℕ) (d : ℕ × AltRow) → k < length x.feed → (is_in_turn (number_of_last (take k x.feed)) (get_or x.feed k d).0 ≡ true) × IsAboutKnown x (get_or x.feed k d).1
+  pub each_fed : (k : ℕ) (d : ℕ × AltRow) → k < length x.feed → (is_in_turn (number_of_last (take k x.feed)) (get_or x.feed k d).0 ≡ true) × IsAboutKnown x (get_or x.feed k d).1 × (get_or x.feed k d).0 ≤ most_batches
   each_fed k d below = fed_passes x (number_of_last (take k x.feed)) _ (get_or x.feed k d) (none_refused (feed_cause x (room_for_feed x) x.feed) (λ fed. line_of fed.1) x.feed (none_refused_in x e).feed k d below)
+
+  -- the last batch is within the limit
+  pub few_batches : last_batch x.feed ≤ most_batches
+  few_batches = last_within most_batches None x.feed (omega arith) (λ k d below. (each_fed k d below).2)
 
   -- no file has more rows than its limit
   pub few_flights : length x.flights ≤ most_flights

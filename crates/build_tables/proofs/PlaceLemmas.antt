@@ -1,14 +1,13 @@
 -- What stands at the first place that passes a test, and what a table of places keeps.
-use Rattle.std.proofs.Common.{◌≡◌, ℕ, zero, suc, ◌+◌, ◌<◌, ◌≤◌, Bool, true, false, cond, inl, inr, not, eqb, ltb, List, [], ◌∷◌, ◌++◌, length, take, get_or, bytes_eq, Option, Some, None, refl, sym, ap, ◌∙◌, arith, Bor}
-use Rattle.std.specs.Prelude.{find, option_map, option_copied, is_some}
-use Rattle.std.specs.Option.{option_or}
+use Rattle.std.proofs.Common.{◌≡◌, ℕ, zero, suc, ◌+◌, ◌<◌, ◌≤◌, Bool, true, false, cond, inl, inr, not, eqb, ltb, List, [], ◌∷◌, length, drop, get_or, bytes_eq, Option, Some, None, refl, sym, ap, ◌∙◌, arith, drop-cons}
+use Rattle.std.specs.Prelude.{find, option_map}
 use Rattle.std.specs.List.{position, position_or_len}
 use Rattle.std.specs.Map.{lookup}
 use Rattle.std.proofs.lemmas.Bool.{ltb-false, lt-ltb, le-ltb, cond-true, cond-false, cases_lt, cases_Bool, and_parts, eqb-true, false≢true}
-use Rattle.std.proofs.lemmas.List.{take_more, length-take}
 use Rattle.std.proofs.lemmas.List.Quantifiers.{position-Some}
 use Rattle.std.proofs.lemmas.List.Sums.{fails_before_first}
 use Rattle.std.proofs.lemmas.Slice.Eq.{bytes_eq-Decides}
+use Rattle.indexmap.specs.IndexMap.{insert_entry}
 use Rattle.build_tables.specs.contracts.places.KeyPartialEq.TheImpl.{eq-value}
 use Rattle.build_tables.specs.declared.places.Key.{Key as Borrowed}
 use Rattle.build_tables.specs.declared.places.Key.TheVariants as borrowed
@@ -52,28 +51,14 @@ place_by false m n = elim (cases_lt m n) [
 pub position-cons : {A : Type 0} (p : A → Bool) (x : A) (xs : List A) → position p (x ∷ xs) ≡ cond (p x) (Some 0) (option_map suc (position p xs))
 position-cons p x xs = place_by (p x) (position_or_len p xs) (length xs)
 
--- with one more row at the end
-next_place : (b c : Bool) (n : ℕ) (o : Option ℕ) → cond b (Some 0) (option_map suc (option_or o (cond c (Some n) None))) ≡ option_or (cond b (Some 0) (option_map suc o)) (cond c (Some (suc n)) None)
-next_place true c n o = refl
-next_place false c n (Some k) = refl
-next_place false true n None = refl
-next_place false false n None = refl
+counted_on : (b : Bool) (i : ℕ) (o : Option ℕ) → option_map (λ n. i + n) (cond b (Some 0) (option_map suc o)) ≡ cond b (Some i) (option_map (λ n. i + 1 + n) o)
+counted_on true i o = ap (λ n. Some n) (omega arith)
+counted_on false i None = refl
+counted_on false i (Some n) = ap (λ n. Some n) (omega arith)
 
-position_push : {A : Type 0} (p : A → Bool) (xs : List A) (x : A) → position p (xs ++ x ∷ []) ≡ option_or (position p xs) (cond (p x) (Some (length xs)) None)
-position_push p [] x = position-cons p x []
-position_push p (y ∷ ys) x =
-    position-cons p y (ys ++ x ∷ [])
-    ∙ ap (λ o. cond (p y) (Some 0) (option_map suc o)) (position_push p ys x)
-    ∙ next_place (p y) (p x) (length ys) (position p ys)
-    ∙ ap (λ o. option_or o (cond (p x) (Some (suc (length ys))) None)) (sym (position-cons p y ys))
-
-lookup_by : {X : Type 0} (b : Bool) (x : X) (o r : Option X) → cond b (Some x) (option_or o r) ≡ option_or (cond b (Some x) o) r
-lookup_by true x o r = refl
-lookup_by false x o r = refl
-
-lookup_push : {K X : Type 0} (t : K → Bool) (es : List (K × X)) (k : K) (v : X) → lookup t (es ++ (k, v) ∷ []) ≡ option_or (lookup t es) (cond (t k) (Some v) None)
-lookup_push t [] k v = refl
-lookup_push t (e ∷ es) k v = ap (cond (t e.0) (Some e.1)) (lookup_push t es k v) ∙ lookup_by (t e.0) e.1 (lookup t es) (cond (t k) (Some v) None)
+pub counted_from_first : (o : Option ℕ) → option_map (λ n. 0 + n) o ≡ o
+counted_from_first None = refl
+counted_from_first (Some n) = ap (λ n. Some n) (omega arith)
 
 -- reservations of one type are on one way
 same_type : (a b : Bool) → eqb (type_number a) (type_number b) ≡ true → a ≡ b
@@ -113,45 +98,16 @@ same_key (by_reservation a n) (by_name b) h = absurd (false≢true h)
 same_key (by_reservation a n) (on_day b m) h = absurd (false≢true h)
 same_key (by_reservation a n) (between b d) h = absurd (false≢true h)
 
-or_none : {X : Type 0} (o : Option X) → option_or o None ≡ o
-or_none None = refl
-or_none (Some x) = refl
-
-or_some : {X : Type 0} (o r : Option X) → is_some o ≡ true → option_or o r ≡ o
-or_some None r h = absurd (false≢true h)
-or_some (Some x) r h = refl
-
--- a table of places, with one more row
+-- one more row before the others
 module _ {Row : Type 0} (key_of : Row → Key) (rows : List Row) (i : ℕ) (row : Row) (below : i < length rows) (is : row ≡ get_or rows i row) where
-  places_push : (key : Key) → key_place key_of (take (i + 1) rows) key ≡ option_or (key_place key_of (take i rows) key) (cond (is_key key (key_of row)) (Some i) None)
-  places_push key =
-      ap (λ rs. key_place key_of rs key) (take_more rows i row below ∙ ap (λ r. take i rows ++ r ∷ []) (sym is))
-      ∙ position_push (λ r. is_key key (key_of r)) (take i rows) row
-      ∙ ap (λ n. option_or (key_place key_of (take i rows) key) (cond (is_key key (key_of row)) (Some n) None)) (omega (arith, length-take i rows))
-
-  -- whose key is new
-  pub place_new : {K : Type 0} (key_behind : K → Key) (es : List (K × ℕ)) (k : K) → key_behind k ≡ key_of row → (key : Key) → lookup (λ x. is_key key (key_behind x)) es ≡ key_place key_of (take i rows) key
-      → lookup (λ x. is_key key (key_behind x)) (es ++ (k, i) ∷ []) ≡ key_place key_of (take (i + 1) rows) key
-  place_new key_behind es k same key so_far =
-      lookup_push (λ x. is_key key (key_behind x)) es k i
-      ∙ (λ j. option_or (so_far j) (cond (is_key key (same j)) (Some i) None))
-      ∙ sym (places_push key)
-
-  -- whose key stood before
-  pub place_kept : is_some (key_place key_of (take i rows) (key_of row)) ≡ true → (key : Key) → key_place key_of (take i rows) key ≡ key_place key_of (take (i + 1) rows) key
-  place_kept stood key = elim (cases_Bool (is_key key (key_of row))) [
-    | inl same ↦ sym (places_push key ∙ or_some (key_place key_of (take i rows) key) (cond (is_key key (key_of row)) (Some i) None) (ap (λ k. is_some (key_place key_of (take i rows) k)) (same_key key (key_of row) same) ∙ stood))
-    | inr differs ↦ sym (places_push key ∙ ap (λ b. option_or (key_place key_of (take i rows) key) (cond b (Some i) None)) differs ∙ or_none (key_place key_of (take i rows) key))
-  ]
-
--- what is copied is there where it was
-pub copied_stands : {X : Type 0} (o : Option (Bor X)) → is_some (option_copied o) ≡ is_some o
-copied_stands None = refl
-copied_stands (Some x) = refl
-
-pub not_there : {X : Type 0} (o : Option X) → is_some o ≡ false → o ≡ None
-not_there None h = refl
-not_there (Some x) h = absurd (false≢true (sym h))
+  -- the places of the rows from here on, counted from the first row
+  pub places_before : (key : Key) → option_map (λ n. i + n) (key_place key_of (drop i rows) key) ≡ cond (is_key key (key_of row)) (Some i) (option_map (λ n. i + 1 + n) (key_place key_of (drop (i + 1) rows) key))
+  places_before key =
+      let next : suc i ≡ i + 1 = omega arith in
+      ap (λ rs. option_map (λ n. i + n) (key_place key_of rs key)) (drop-cons rows i row below ∙ ap (λ r. r ∷ drop (suc i) rows) (sym is))
+      ∙ ap (option_map (λ n. i + n)) (position-cons (λ r. is_key key (key_of r)) row (drop (suc i) rows))
+      ∙ counted_on (is_key key (key_of row)) i (position (λ r. is_key key (key_of r)) (drop (suc i) rows))
+      ∙ ap (λ (m : ℕ). cond (is_key key (key_of row)) (Some i) (option_map (λ n. i + 1 + n) (key_place key_of (drop m rows) key))) next
 
 -- two keys are the same as borrowed where they are
 same_key_behind : (a b : Borrowed) → eq-value.it a b ≡ is_key (key_behind a) (key_behind b)
@@ -177,3 +133,32 @@ same_key_behind (borrowed.Booked a false) (borrowed.Booked b false) = refl
 
 pub lookup_key_behind : {X : Type 0} (k : Borrowed) (es : List (Borrowed × X)) → lookup (eq-value.it k) es ≡ lookup (λ x. is_key (key_behind k) (key_behind x)) es
 lookup_key_behind k es = ap (λ (t : Borrowed → Bool). lookup t es) (λ i x. same_key_behind k x i)
+
+-- a look-up behind an insertion
+over : {X : Type 0} (a b : Bool) (x y : X) (o : Option X) → a ≡ b → cond a (Some x) o ≡ cond b (Some x) (cond a (Some y) o)
+over true true x y o same = refl
+over true false x y o same = absurd (false≢true (sym same))
+over false true x y o same = absurd (false≢true same)
+over false false x y o same = refl
+
+past : {X : Type 0} (a b : Bool) (x y : X) (o : Option X) → (a ≡ true → b ≡ true → ⊥) → cond a (Some y) (cond b (Some x) o) ≡ cond b (Some x) (cond a (Some y) o)
+past true true x y o apart = absurd (apart refl refl)
+past true false x y o apart = refl
+past false b x y o apart = refl
+
+pub lookup_inserted : {X : Type 0} (key : Key) (es : List (Borrowed × X)) (k : Borrowed) (v : X) → lookup (λ x. is_key key (key_behind x)) (insert_entry eq-value.it es k v) ≡ cond (is_key key (key_behind k)) (Some v) (lookup (λ x. is_key key (key_behind x)) es)
+lookup_inserted key [] k v = refl
+lookup_inserted {X} key (e ∷ es) k v =
+    let t = λ (x : Borrowed). is_key key (key_behind x) in
+    let eq_is : eq-value.it k e.0 ≡ is_key (key_behind k) (key_behind e.0) = same_key_behind k e.0 in
+    elim (cases_Bool (eq-value.it k e.0)) [
+      | inl same ↦ (
+          let keys : key_behind k ≡ key_behind e.0 = same_key (key_behind k) (key_behind e.0) (sym eq_is ∙ same) in
+          ap (λ b. lookup t (cond b ((e.0, v) ∷ es) (e ∷ insert_entry eq-value.it es k v))) same
+          ∙ over (t e.0) (t k) v e.1 (lookup t es) (ap (is_key key) (sym keys)))
+      | inr differs ↦ (
+          let apart : t e.0 ≡ true → t k ≡ true → ⊥ = λ first second. false≢true (sym differs ∙ eq_is ∙ ap (λ q. is_key q (key_behind e.0)) (sym (same_key key (key_behind k) second)) ∙ first) in
+          ap (λ b. lookup t (cond b ((e.0, v) ∷ es) (e ∷ insert_entry eq-value.it es k v))) differs
+          ∙ ap (cond (t e.0) (Some e.1)) (lookup_inserted key es k v)
+          ∙ past (t e.0) (t k) v e.1 (lookup t es) apart)
+    ]

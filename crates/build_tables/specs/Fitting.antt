@@ -12,11 +12,11 @@ use Rattle.file_rows.specs.declared.disruptions.AltRow.TheVariants as alt
 use Rattle.tariff_prices.specs.Rows.{same_key}
 use Rattle.build_tables.specs.declared.files.Files.{Files}
 use Rattle.build_tables.specs.Departures.{departure_on}
-use Rattle.file_rows.specs.Limits.{most_flights, most_aircraft, most_airports, most_itineraries, most_passengers, most_legs, most_groups, most_tariff_rows, latest_departure}
+use Rattle.file_rows.specs.Limits.{most_flights, most_aircraft, most_airports, most_itineraries, most_passengers, most_legs, most_groups, most_tariff_rows, most_batches, latest_departure}
 use Rattle.build_tables.specs.Names.{flight_named, rotation_place, airport_place, aircraft_place}
 use Rattle.build_tables.specs.Batches.{last_batch}
 
--- no file has more rows than its limit
+-- no file has more rows than its limit, and the feed has no more batches
 pub record AreFew (x : Files) : Type 0 where
   pub rotations : length x.rotations ≤ most_flights
   pub aircraft : length x.aircraft ≤ most_aircraft
@@ -24,6 +24,7 @@ pub record AreFew (x : Files) : Type 0 where
   pub itineraries : length x.itineraries ≤ most_itineraries
   pub groups : sum_by (λ row. length row.groups) x.position ≤ most_groups
   pub tariff : length x.tariff.rows ≤ most_tariff_rows
+  pub batches : last_batch x.feed ≤ most_batches
 
 -- no two rows of a file are of one name; rotations are named by flight and day, reservations by name and type
 pub record AreApart (x : Files) : Type 0 where

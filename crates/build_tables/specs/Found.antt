@@ -8,10 +8,10 @@ use Rattle.build_tables.specs.Keys.{Key, by_name, on_day, between, by_reservatio
 
 -- the key behind a borrowed one
 abbrev pub key_behind : Borrowed → Key
-key_behind (borrowed.Named name) = by_name name.now
-key_behind (borrowed.OnDay flight day) = on_day flight.now day
-key_behind (borrowed.Between origin dest) = between origin.now dest.now
-key_behind (borrowed.Booked name inbound) = by_reservation name.now inbound
+key_behind (borrowed.Named name) = by_name name.0.now
+key_behind (borrowed.OnDay flight day) = on_day flight.0.now day
+key_behind (borrowed.Between origin dest) = between origin.0.now dest.0.now
+key_behind (borrowed.Booked name inbound) = by_reservation name.0.now inbound
 
 -- the place that is kept for this key
 abbrev pub place_in : Places → Key → Option ℕ

@@ -1,23 +1,49 @@
 //! The places of rows, found by the names that they have.
 
-ghost use Rattle.std.specs.Prelude.{◌≡◌, IfOk};
+ghost use Rattle.std.specs.Prelude.{◌≡◌, [], ◌∷◌, IfOk};
+ghost use Rattle.std.specs.Cmp.Rules.{hashing};
+ghost use Rattle.std.proofs.Common.{rules};
 ghost use Rattle.build_tables.specs.Found.{ArePlacesOf, place_in, key_behind};
 
-use desk_units::{List, NoMem};
+use desk_units::{List, Name, NoMem};
 use indexmap::IndexMap;
 use std::alloc::Global;
+use std::hash::{Hash, Hasher};
+
+/// The bytes of a name, which a hasher takes in one write.
+#[derive(Clone, Copy, PartialEq, Eq)]
+pub(crate) struct Spelled<'a>(&'a [u8]);
+
+impl<'a> Spelled<'a> {
+    /// The bytes of this name.
+    pub(crate) fn of(name: &'a Name) -> Spelled<'a>
+        ensures { result.0.now ≡ name.now }
+    {
+        Spelled(name.as_slice())
+    }
+}
+
+impl<'a> Hash for Spelled<'a> {
+    ghost hash_input = { λ name. name.0.now ∷ [] };
+
+    ghost respects_eq = { Prim.search (hashing, rules) };
+
+    fn hash<H: Hasher>(&self, state: &mut H) {
+        state.write(self.0);
+    }
+}
 
 /// What a row is found by.
 #[derive(Clone, Copy, PartialEq, Eq, Hash)]
 pub(crate) enum Key<'a> {
     /// A flight, an aircraft or an airport, by its name.
-    Named(&'a [u8]),
+    Named(Spelled<'a>),
     /// A rotation, by its flight and its day.
-    OnDay(&'a [u8], u32),
+    OnDay(Spelled<'a>, u32),
     /// A distance, by the two airports.
-    Between(&'a [u8], &'a [u8]),
+    Between(Spelled<'a>, Spelled<'a>),
     /// A reservation, by its name and whether it is the way back.
-    Booked(&'a [u8], bool),
+    Booked(Spelled<'a>, bool),
 }
 
 /// A row that is found by a key.
@@ -47,16 +73,16 @@ impl<'a> Places<'a> {
     }
 }
 
-/// The places of these rows.
+/// The places of these rows. They are kept from the last row on, so that of those with one key the
+/// first stays.
 fn places_of<'a, T: Keyed>(alloc: Global, rows: &'a [T]) -> Result<Places<'a>, NoMem>
     ensures { IfOk result (ArePlacesOf T.key_of rows.now) }
 {
-    let mut places = IndexMap::new(alloc);
-    for (place, row) in rows.iter().enumerate() {
-        let key = row.key();
-        if places.get(&key).is_none() {
-            places.insert(key, place)?;
-        }
+    let mut places = IndexMap::with_capacity(alloc, rows.len())?;
+    let mut place = rows.len();
+    while place > 0 {
+        place -= 1;
+        places.insert(rows[place].key(), place)?;
     }
     Ok(Places { places })
 }

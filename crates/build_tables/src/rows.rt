@@ -2,14 +2,14 @@
 
 ghost use Rattle.build_tables.specs.Keys.{by_name, on_day, between, by_reservation};
 
-use crate::places::{Key, Keyed};
+use crate::places::{Key, Keyed, Spelled};
 use file_rows::{AircraftRow, AirportRow, DistRow, FlightRow, ItineraryRow, RotationRow};
 
 impl Keyed for FlightRow {
     ghost key_of = { λ row. by_name row.flight };
 
     fn key(&self) -> Key<'_> {
-        Key::Named(self.flight.as_slice())
+        Key::Named(Spelled::of(&self.flight))
     }
 }
 
@@ -17,7 +17,7 @@ impl Keyed for RotationRow {
     ghost key_of = { λ row. on_day row.flight row.day };
 
     fn key(&self) -> Key<'_> {
-        Key::OnDay(self.flight.as_slice(), self.day)
+        Key::OnDay(Spelled::of(&self.flight), self.day)
     }
 }
 
@@ -25,7 +25,7 @@ impl Keyed for AircraftRow {
     ghost key_of = { λ row. by_name row.name };
 
     fn key(&self) -> Key<'_> {
-        Key::Named(self.name.as_slice())
+        Key::Named(Spelled::of(&self.name))
     }
 }
 
@@ -33,7 +33,7 @@ impl Keyed for AirportRow {
     ghost key_of = { λ row. by_name row.airport };
 
     fn key(&self) -> Key<'_> {
-        Key::Named(self.airport.as_slice())
+        Key::Named(Spelled::of(&self.airport))
     }
 }
 
@@ -41,7 +41,7 @@ impl Keyed for DistRow {
     ghost key_of = { λ row. between row.origin row.dest };
 
     fn key(&self) -> Key<'_> {
-        Key::Between(self.origin.as_slice(), self.dest.as_slice())
+        Key::Between(Spelled::of(&self.origin), Spelled::of(&self.dest))
     }
 }
 
@@ -49,6 +49,6 @@ impl Keyed for ItineraryRow {
     ghost key_of = { λ row. by_reservation row.name row.inbound };
 
     fn key(&self) -> Key<'_> {
-        Key::Booked(self.name.as_slice(), self.inbound)
+        Key::Booked(Spelled::of(&self.name), self.inbound)
     }
 }

@@ -6,7 +6,7 @@ ghost use Rattle.build_tables.specs.Found.{ArePlacesOf};
 ghost use Rattle.build_tables.specs.Names.{flight_named, rotation_place, airport_place, aircraft_place, is_between, distance_between};
 
 use crate::files::Files;
-use crate::places::{Key, Places, places_in};
+use crate::places::{Key, Places, Spelled, places_in};
 use desk_units::{Name, NoMem};
 use file_rows::{DistRow, FlightRow};
 use std::alloc::Global;
@@ -82,7 +82,7 @@ impl<'a> Tables<'a> {
     pub fn flight_place(&self, name: &Name) -> Option<usize>
         ensures { result ≡ position (λ f. bytes_eq name.now f.flight) self.now.files.now.flights }
     {
-        self.flights.place_of(Key::Named(name.as_slice()))
+        self.flights.place_of(Key::Named(Spelled::of(name)))
     }
 
     /// The flight of this name.
@@ -97,21 +97,22 @@ impl<'a> Tables<'a> {
     pub fn rotation_place(&self, flight: &Name, day: u32) -> Option<usize>
         ensures { result ≡ rotation_place self.now.files.now.rotations flight.now day }
     {
-        self.rotations.place_of(Key::OnDay(flight.as_slice(), day))
+        self.rotations
+            .place_of(Key::OnDay(Spelled::of(flight), day))
     }
 
     /// The place of an aircraft.
     pub fn aircraft_place(&self, name: &Name) -> Option<usize>
         ensures { result ≡ aircraft_place self.now.files.now.aircraft name.now }
     {
-        self.aircraft.place_of(Key::Named(name.as_slice()))
+        self.aircraft.place_of(Key::Named(Spelled::of(name)))
     }
 
     /// The place of an airport.
     pub fn airport_place(&self, name: &Name) -> Option<usize>
         ensures { result ≡ airport_place self.now.files.now.airports name.now }
     {
-        self.airports.place_of(Key::Named(name.as_slice()))
+        self.airports.place_of(Key::Named(Spelled::of(name)))
     }
 
     /// The place of the first row of a reservation, by its name and its type.
@@ -119,7 +120,7 @@ impl<'a> Tables<'a> {
         ensures { result ≡ position (λ row. bytes_eq name.now row.name && (type_number inbound == type_number row.inbound)) self.now.files.now.itineraries }
     {
         self.itineraries
-            .place_of(Key::Booked(name.as_slice(), inbound))
+            .place_of(Key::Booked(Spelled::of(name), inbound))
     }
 
     /// The place of the first row from the one airport to the other.
@@ -127,7 +128,7 @@ impl<'a> Tables<'a> {
         ensures { result ≡ position (is_between origin.now dest.now) self.now.files.now.dist }
     {
         self.dist
-            .place_of(Key::Between(origin.as_slice(), dest.as_slice()))
+            .place_of(Key::Between(Spelled::of(origin), Spelled::of(dest)))
     }
 
     /// The first row from the one airport to the other.

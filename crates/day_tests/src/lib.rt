@@ -1,4 +1,4 @@
-//! Tests of a day's data, of the prices of its tariff, of its texts and of its events.
+//! Tests of a day's data, of the prices of its tariff, and of its moves.
 //!
 //! There is no code here but tests: a crate with tests is proved twice, so they stand in a crate of their
 //! own. A table of like cases is one test, and a row that fails names itself. What a run of the program

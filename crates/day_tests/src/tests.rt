@@ -2,8 +2,6 @@
 
 mod data;
 mod days;
-mod names;
 mod orders;
 mod steps;
 mod tariffs;
-mod texts;

@@ -2,9 +2,11 @@
 //!
 //! `replay IN OUT` reads the day, its batches of news and the journal of the directory IN, takes each
 //! recorded batch and answers each recorded move in order, and writes the journal with its answers and the
-//! two files of the last plan to OUT. `check IN OUT` judges the plan that two files of OUT tell, under all
-//! the news of the day in IN: the first rule that it breaks, and its cost. `gen OUT` makes up a day, by
-//! `--seed` and `--size`, and writes its files to OUT.
+//! two files of the last plan to OUT. `recover IN OUT` takes the batches of the day and searches for a
+//! cheaper plan behind each, with at most `--moves` accepted moves, and writes the same files. `check IN OUT`
+//! judges the plan that two files of OUT tell, under all the news of the day in IN: the first rule that it
+//! breaks, and its cost. `gen OUT` makes up a day, by `--seed` and `--size`, and writes its files to OUT;
+//! `trial` makes up such a day in memory, recovers it and reports that alone.
 //!
 //! `main` gives `desk_main` of desk_top the words, the host's folder and its standard output, ends with
 //! the status that it answers, and empties output files that an earlier run left. All that is promised

@@ -1,7 +1,8 @@
 //! The join.
 
-ghost use Rattle.std.specs.Prelude.{◌≡◌, [], All, IfOk};
+ghost use Rattle.std.specs.Prelude.{◌≡◌, ◌+◌, ◌≤◌, [], length, All, IfOk};
 ghost use Rattle.desk_data.specs.Valid.{IsOrder};
+ghost use Rattle.file_rows.specs.Limits.{most_batches};
 ghost use Rattle.build_tables.specs.Facts.{AreFileRows};
 ghost use Rattle.desk_build.specs.Join.{built_of, JoinGives};
 
@@ -18,7 +19,7 @@ use std::alloc::Global;
 pub struct Built {
     /// The joined day, with no orders yet.
     pub inst: Instance,
-    /// Batch 0, which has the orders of the alt files, and those of the feed, each at its number. Their
+    /// Batch 0, which has the orders of the alt files, and those of the feed, each at its number: at most 1,001. Their
     /// orders are about legs, aircraft and airports of the day.
     pub batches: List<Batch>,
 }
@@ -28,6 +29,7 @@ fn join(alloc: Global, tables: &Tables<'_>) -> Result<Built, BuildFault>
     requires { AreFileRows tables.now.files.now }
     ensures exact { JoinGives result (built_of tables.now.files.now) }
     ensures fresh { IfOk result (λ built. built.inst.orders ≡ []) }
+    ensures few { IfOk result (λ built. length built.batches ≤ most_batches + 1) }
     ensures batches { IfOk result (λ built. All (λ batch. All (IsOrder built.inst.parts) batch.orders) built.batches) }
 {
     if let Some((file, line, cause)) = first_refusal(tables) {
@@ -48,6 +50,7 @@ pub fn build(alloc: Global, files: &Files) -> Result<Built, BuildFault>
     requires { AreFileRows files.now }
     ensures exact { JoinGives result (built_of files.now) }
     ensures fresh { IfOk result (λ built. built.inst.orders ≡ []) }
+    ensures few { IfOk result (λ built. length built.batches ≤ most_batches + 1) }
     ensures batches { IfOk result (λ built. All (λ batch. All (IsOrder built.inst.parts) batch.orders) built.batches) }
 {
     let tables = Tables::of(alloc, files)?;

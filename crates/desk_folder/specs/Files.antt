@@ -1,5 +1,5 @@
 -- The files of the desk's folder: their names, and their places in file order.
-use Rattle.std.specs.Prelude.{ℕ, List, codes, Bool, true, false}
+use Rattle.std.specs.Prelude.{ℕ, List, [], ◌∷◌, codes, Bool, true, false}
 use Rattle.desk_folder.specs.declared.files.File.{File}
 use Rattle.desk_folder.specs.declared.files.File.TheVariants.{Config, Flights, Rotations, Aircraft, Airports, Dist, Itineraries, Position, AltFlights, AltAircraft, AltAirports, Tariff, Feed, Journal, SolRotations, SolItineraries}
 
@@ -41,7 +41,7 @@ file_number Journal = 13
 file_number SolRotations = 14
 file_number SolItineraries = 15
 
--- the two files that hold the plan found are read from the output directory
+-- the two files that hold a plan are read from the output directory
 abbrev pub is_solution : File → Bool
 is_solution SolRotations = true
 is_solution SolItineraries = true
@@ -52,3 +52,13 @@ abbrev pub may_be_missing : File → Bool
 may_be_missing Feed = true
 may_be_missing Journal = true
 may_be_missing _ = false
+
+-- the files that tell a day and its disruptions, in file order
+abbrev pub day_files : List File
+day_files =
+    Config ∷ Flights ∷ Rotations ∷ Aircraft ∷ Airports ∷ Dist ∷ Itineraries ∷ Position
+    ∷ AltFlights ∷ AltAircraft ∷ AltAirports ∷ Tariff ∷ Feed ∷ []
+
+-- and those that tell a plan
+abbrev pub plan_files : List File
+plan_files = SolRotations ∷ SolItineraries ∷ []

@@ -1,6 +1,7 @@
 //! The files of the desk's folder.
-ghost use Rattle.std.specs.Prelude.{◌≡◌, ◌<◌};
-ghost use Rattle.desk_folder.specs.Files.{file_name, file_number, is_solution, may_be_missing};
+ghost use Rattle.std.specs.Prelude.{◌≡◌, ◌<◌, [], ◌∷◌, ◌++◌};
+ghost use Rattle.desk_folder.specs.declared.files.File.TheVariants as file;
+ghost use Rattle.desk_folder.specs.Files.{file_name, file_number, is_solution, may_be_missing, day_files, plan_files};
 
 use std::fmt;
 
@@ -35,34 +36,57 @@ pub enum File {
     Feed,
     /// the events of the desk, read and written
     Journal,
-    /// the aircraft's rotations in the plan found
+    /// the aircraft's rotations in a plan
     SolRotations,
-    /// the passengers' paths in the plan found
+    /// the passengers' paths in a plan
     SolItineraries,
 }
 
 /// How many files there are.
 pub const FILES: usize = 16;
 
+// The files that tell a day and its disruptions, in file order, and these behind them.
+macro_rules! day_files_and {
+    ($($more:expr),*) => {
+        [
+            File::Config,
+            File::Flights,
+            File::Rotations,
+            File::Aircraft,
+            File::Airports,
+            File::Dist,
+            File::Itineraries,
+            File::Position,
+            File::AltFlights,
+            File::AltAircraft,
+            File::AltAirports,
+            File::Tariff,
+            File::Feed,
+            $($more),*
+        ]
+    };
+}
+
+/// The files that tell a day and its disruptions, in file order.
+pub const DAY_FILES: [File; 13] = day_files_and!();
+
+/// These and the journal.
+pub const DAY_AND_JOURNAL: [File; 14] = day_files_and!(File::Journal);
+
+/// The files of the day and those of a plan.
+pub const DAY_AND_PLAN: [File; 15] = day_files_and!(File::SolRotations, File::SolItineraries);
+
 /// All files, in file order.
-pub(crate) const IN_ORDER: [File; FILES] = [
-    File::Config,
-    File::Flights,
-    File::Rotations,
-    File::Aircraft,
-    File::Airports,
-    File::Dist,
-    File::Itineraries,
-    File::Position,
-    File::AltFlights,
-    File::AltAircraft,
-    File::AltAirports,
-    File::Tariff,
-    File::Feed,
-    File::Journal,
-    File::SolRotations,
-    File::SolItineraries,
-];
+pub const ALL_FILES: [File; FILES] =
+    day_files_and!(File::Journal, File::SolRotations, File::SolItineraries);
+
+/// The lists of the code are those of the definitions.
+pub fn day_files_are_told()
+    ensures day { DAY_FILES ≡ day_files }
+    ensures with_journal { DAY_AND_JOURNAL ≡ day_files ++ file.Journal ∷ [] }
+    ensures with_plan { DAY_AND_PLAN ≡ day_files ++ plan_files }
+    ensures all { ALL_FILES ≡ day_files ++ file.Journal ∷ plan_files }
+{}
 
 impl File {
     /// The file's name in its directory.
@@ -114,8 +138,7 @@ impl File {
         }
     }
 
-    /// Whether the file is one of the two that hold the plan found, which are read from the output
-    /// directory.
+    /// Whether the file is one of the two that hold a plan, which are read from the output directory.
     pub fn is_solution(self) -> bool
         ensures { result ≡ is_solution self }
     {

@@ -6,9 +6,8 @@ ghost use Rattle.desk_folder.specs.Files.{file_number, is_solution};
 ghost use Rattle.desk_folder.specs.declared.files.File.{File};
 
 use crate::entries::raise;
-use crate::files::IN_ORDER;
 use crate::host_files::{empty, read_some, write_some};
-use crate::{FILES, File, Folder, FolderFault, Sink};
+use crate::{ALL_FILES, FILES, File, Folder, FolderFault, Sink};
 use std::alloc::Global;
 use std::io::Print;
 use std::marker::Model;
@@ -101,7 +100,7 @@ impl<R: Files + Drop> HostFolder<R> {
 
     // Empties all outputs that an earlier run left but one. Where one can't be emptied, `settle` tells it.
     fn empty_others(&self, alloc: Global, file: File) {
-        for other in IN_ORDER {
+        for other in ALL_FILES {
             if other != file {
                 self.empty_output(alloc, other);
             }

@@ -24,7 +24,9 @@ mod memory_sink;
 mod traits;
 
 pub use faults::FolderFault;
-pub use files::{FILES, File};
+pub use files::{
+    ALL_FILES, DAY_AND_JOURNAL, DAY_AND_PLAN, DAY_FILES, FILES, File, day_files_are_told,
+};
 pub use host::{HostFolder, HostSink};
 pub use memory::MemFolder;
 pub use memory_sink::MemSink;

@@ -2,6 +2,7 @@
 use Rattle.std.specs.Prelude.{ℕ, ◌≤◌, ◌*◌, List, [], ◌∷◌, ◌++◌, map, codes, decimal}
 use Rattle.desk_folder.specs.declared.files.File.{File}
 use Rattle.desk_folder.specs.declared.files.File.TheVariants as file
+use Rattle.desk_folder.specs.Files.{day_files}
 use Rattle.desk_gen.specs.Fleet.{planes_of, aircraft_text}
 use Rattle.desk_gen.specs.Schedule.{flights_text, rotations_text}
 use Rattle.desk_gen.specs.Demand.{itineraries_text}
@@ -75,12 +76,6 @@ text_of seed size file.Tariff = tariff_text
 text_of seed size file.Feed = feed_text
 text_of seed size file = []
 
--- the files of a day, in file order
-abbrev pub generated_files : List File
-generated_files =
-    file.Config ∷ file.Flights ∷ file.Rotations ∷ file.Aircraft ∷ file.Airports ∷ file.Dist ∷ file.Itineraries ∷ file.Position
-    ∷ file.AltFlights ∷ file.AltAircraft ∷ file.AltAirports ∷ file.Tariff ∷ file.Feed ∷ []
-
 -- each file with its text
 unfoldable pub generated : ℕ → ℕ → List (File × List ℕ)
-generated seed size = map (λ name. (name, text_of seed size name)) generated_files
+generated seed size = map (λ name. (name, text_of seed size name)) day_files

@@ -2,29 +2,12 @@
 
 ghost use Rattle.std.specs.Prelude.{◌≡◌, IfOk};
 ghost use Rattle.desk_folder.specs.Entries.{named_texts};
-ghost use Rattle.desk_gen.specs.Generated.{IsSize, generated, generated_files};
+ghost use Rattle.desk_gen.specs.Generated.{IsSize, generated};
 
 use crate::texts::text_of;
-use desk_folder::File;
+use desk_folder::{DAY_FILES, File};
 use desk_units::NoMem;
 use std::alloc::Global;
-
-// The files of a day, in file order.
-const GENERATED_FILES: [File; 13] = [
-    File::Config,
-    File::Flights,
-    File::Rotations,
-    File::Aircraft,
-    File::Airports,
-    File::Dist,
-    File::Itineraries,
-    File::Position,
-    File::AltFlights,
-    File::AltAircraft,
-    File::AltAirports,
-    File::Tariff,
-    File::Feed,
-];
 
 /// The files of a day of this seed and size, 1 to 40, in file order from config.csv to feed.csv, each
 /// with its text. The only error is out of memory.
@@ -34,7 +17,7 @@ pub fn generate(alloc: Global, seed: u32, size: u32) -> Result<Vec<(File, Vec<u8
     ensures exact { IfOk result (λ texts. named_texts texts.items ≡ generated seed size) }
 {
     let mut texts = Vec::new(alloc);
-    for file in &GENERATED_FILES {
+    for file in &DAY_FILES {
         let text = text_of(alloc, seed, size, *file)?;
         texts.push((*file, text))?;
     }

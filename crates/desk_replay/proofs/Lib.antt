@@ -1,3 +1,2 @@
 pub mod RunLaws
 pub mod PlayLaws
-pub mod BatchLaws

@@ -1,17 +1,14 @@
 //! Playing a story: its events are taken one after another, and what came of them is written.
 //!
-//! `play_events` opens the book of a day, has it answer each event, makes the texts of the output files and
-//! of the report, and writes them in their order. All texts are made before the first is written.
+//! `play_events` opens the book of a day, has it answer each event, and writes what came of its history.
 //!
 //! Proved: what is written is what that day and these events come to, `played` of desk_tasks: the journal of
 //! their history and, where there is one, the rotations and itineraries of its last plan; or a beginning of
-//! it, with the call that failed. It stands on `desk_core`, the crates of texts, `desk_runs` and `desk_tasks`,
-//! and on no reader.
+//! it, with the call that failed. It stands on `desk_core`, `book_texts` and `desk_tasks`, and on no reader.
 #![tactic(auto)]
 
 mod play;
 mod run;
-mod texts;
 
 pub use desk_runs::Ending;
 pub use play::play_events;

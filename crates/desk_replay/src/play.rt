@@ -4,26 +4,16 @@ ghost use Rattle.std.specs.Prelude.{◌≡◌, []};
 ghost use Rattle.desk_model.specs.Histories.{AreAskable};
 ghost use Rattle.desk_runs.specs.Runs.{world};
 ghost use Rattle.desk_runs.specs.Finishing.{Completes};
-ghost use Rattle.desk_tasks.specs.Play.{story_on, played, played_end};
+ghost use Rattle.desk_tasks.specs.Play.{story_on, played};
 ghost use Rattle.desk_tasks.specs.Tasks.{play, files_for};
 
 use crate::run::run_events;
-use crate::texts::output_texts;
-use desk_data::{Broken, Instance};
+use book_texts::write_history;
+use desk_data::Instance;
 use desk_folder::{Folder, Sink};
 use desk_model::Event;
-use desk_runs::{Ending, put_outputs};
+use desk_runs::Ending;
 use std::alloc::Global;
-
-// How a run ends that wrote all of its texts, by what its last plan breaks.
-fn end_with(broken: Option<Broken>) -> Ending
-    ensures { result ≡ played_end broken }
-{
-    match broken {
-        None => Ending::Done,
-        Some(_) => Ending::NoPlan,
-    }
-}
 
 /// Takes these events on a day, each with its caller, and writes the rotations and the itineraries of the
 /// last plan where there is one, the journal with its answers, and the report.
@@ -42,16 +32,8 @@ pub fn play_events<F: Folder, O: Sink>(
     ensures { Completes (files_for (play (story_on inst events.now))) (world (F.outside folder.old) (O.report out.old))
         (world (F.outside folder.new) (O.report out.new)) (played (story_on inst events.now)) result }
 {
-    let book = match run_events(alloc, inst, events) {
-        Ok(book) => book,
-        Err(_) => return Ending::Memory,
-    };
-    let texts = match output_texts(alloc, &book) {
-        Ok(texts) => texts,
-        Err(_) => return Ending::Memory,
-    };
-    match put_outputs(alloc, folder, out, &texts) {
-        Ok(()) => end_with(book.broken()),
-        Err(end) => end,
+    match run_events(alloc, inst, events) {
+        Ok(book) => write_history(alloc, &book, None, folder, out),
+        Err(_) => Ending::Memory,
     }
 }

@@ -1,6 +1,6 @@
 //! The lines of a transcript.
 
-use desk_folder::{FILES, File};
+use desk_folder::{ALL_FILES, File};
 use std::alloc::{AllocError, Global};
 
 /// A kind of call of which some can be told to fail.
@@ -46,29 +46,9 @@ pub(crate) enum Line<'a> {
     Given,
 }
 
-/// All files, in file order.
-pub(crate) const ALL: [File; FILES] = [
-    File::Config,
-    File::Flights,
-    File::Rotations,
-    File::Aircraft,
-    File::Airports,
-    File::Dist,
-    File::Itineraries,
-    File::Position,
-    File::AltFlights,
-    File::AltAircraft,
-    File::AltAirports,
-    File::Tariff,
-    File::Feed,
-    File::Journal,
-    File::SolRotations,
-    File::SolItineraries,
-];
-
 /// The file of a name.
 pub(crate) fn file_of(name: &str) -> Option<File> {
-    for file in ALL {
+    for file in ALL_FILES {
         if file.name() == name {
             return Some(file);
         }

@@ -1,6 +1,6 @@
 //! Plays a transcript: runs the desk as its commands say, and puts what each run gave behind them.
 
-use crate::lines::{ALL, Call, Command, Line, line_of, unescaped};
+use crate::lines::{Call, Command, Line, line_of, unescaped};
 use crate::sink::ReportSink;
 use crate::texts::{Texts, add_all, push_rows, text_of, written_texts};
 use desk_folder::{File, FreeGate, MemFolder};
@@ -187,14 +187,14 @@ impl Player {
         let told = format!(in self.alloc; "status {status}\n")?;
         self.push(told.as_str())?;
         self.push_text(report)?;
-        for file in ALL {
+        for file in ALL_FILES {
             let text = folder.written(file);
             if !text.is_empty() {
                 self.push_file(file, text)?;
             }
         }
         self.sizes = false;
-        self.written = written_texts(self.alloc, folder, &ALL)?;
+        self.written = written_texts(self.alloc, folder, &ALL_FILES)?;
         Ok(())
     }
 

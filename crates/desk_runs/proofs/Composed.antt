@@ -305,42 +305,6 @@ obeys-placed M c dirs before placed now sink sink' how ok names only run = recor
   unput = λ f other. unput_on before placed now f (only.written f) (only.put_faults f) (run.unput f other);
 }
 
--- ---- where the directories could not be named
-
-unplaced_untold : (before now : Outside) (sink : SinkSide) → PlacesOnly before now → IsUntold (world before sink) (world now sink)
-unplaced_untold before now sink only = record { written = only.written; sink = refl }
-
-unplaced_unread : (before now : Outside) (f : File) → PlacesOnly before now → IsUnread before now f
-unplaced_unread before now f only = record { left = only.left f; faults = only.next_faults f }
-
-pub obeys-unplaced : {Rows Task : Type 0} (M : Meaning Rows Task) (c : Command) (dirs : Directories) (before now : Outside) (sink : SinkSide) → PlacesOnly before now → Rose before.place_faults now.place_faults → Obeys M (at c dirs) (world before sink) (world now sink) ending.PlaceFault
-obeys-unplaced M c dirs before now sink only rose = record {
-  no_usage = λ e. absurd cc;
-  cause = rose;
-  does = λ x tells. tt;
-  placed = tt;
-  read = tt;
-  silent = (unplaced_untold before now sink only, λ f. unplaced_unread before now f only);
-  kept = omega arith;
-  in_order = λ x tells r refused g lt. unplaced_unread before now g only;
-  unread = λ f other. unplaced_unread before now f only;
-  unput = λ f other. record { written = only.written f; faults = only.put_faults f };
-}
-
-pub obeys-unplaced-memory : {Rows Task : Type 0} (M : Meaning Rows Task) (c : Command) (dirs : Directories) (before now : Outside) (sink : SinkSide) → PlacesOnly before now → Obeys M (at c dirs) (world before sink) (world now sink) ending.Memory
-obeys-unplaced-memory M c dirs before now sink only = record {
-  no_usage = λ e. absurd cc;
-  cause = tt;
-  does = λ x tells. inl (unplaced_untold before now sink only);
-  placed = tt;
-  read = tt;
-  silent = tt;
-  kept = omega arith;
-  in_order = λ x tells r refused g lt. unplaced_unread before now g only;
-  unread = λ f other. unplaced_unread before now f only;
-  unput = λ f other. record { written = only.written f; faults = only.put_faults f };
-}
-
 -- ---- the line that tells the ending
 
 pub runs-told : {Rows Task : Type 0} (M : Meaning Rows Task) (ask : Option Ask) (before mid : World) (now : SinkSide) (how : Ending) (code : ℕ) → EndsBy M ask before mid how → TellsEnd how mid.sink now code → Runs M ask before (world mid.folder now) code

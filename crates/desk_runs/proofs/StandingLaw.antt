@@ -23,7 +23,7 @@ use Rattle.desk_runs.specs.Reading.{IsUnread, StopsAt}
 use Rattle.desk_runs.specs.Outcome.{Texts, fault_text, status_of}
 use Rattle.desk_runs.specs.Runs.{World, Meaning, AreNamed, IsUntold, IsWritten, Stops, StopsIn, StopsInReport, IsTold, Does, AreRead, IsUntouched, Obeys, EndsBy, Runs, status_after}
 use Rattle.desk_runs.specs.Causes.{IsDoneAt}
-use Rattle.desk_runs.specs.Standing.{texts_by, finished_texts, AreBegun, AreWhole, IsRefusedSo, IsToldLast, IsNamedAt}
+use Rattle.desk_runs.specs.Standing.{texts_by, finished_texts, AreBegun, AreWhole, IsRefusedSo, IsToldLast, IsNamedAt, IsUnnamed}
 use Rattle.desk_runs.proofs.CausesLaw.{status_cases, cause_after, caused-by}
 
 -- ---- before the fault's line: writing stopped somewhere, perhaps before its first byte or behind its last one
@@ -260,3 +260,7 @@ named-of M c dirs before now code run at =
       | inl e ↦ named_by dirs before (record { folder = now.folder; sink = run.sink }) run.how code e at run.ends.placed
       | inr e ↦ absurd (not_named code 6 e (inr refl) at)
     ]
+
+-- where no directories are to be named, none are, and no naming failed
+pub unnamed-of : {Rows Task : Type 0} (M : Meaning Rows Task) (c : Command) (before now : World) (code : ℕ) → Runs M (Some (record { command = c; place = None })) before now code → IsUnnamed before now
+unnamed-of M c before now code run = record { directories = run.ends.placed.directories; faults = run.ends.placed.faults }

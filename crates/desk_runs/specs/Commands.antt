@@ -3,26 +3,31 @@ use Rattle.std.specs.Prelude.{◌≤◌, ℕ, List, [], ◌∷◌, ◌++◌, Opt
 use Rattle.std.specs.Option.{option_map}
 use Rattle.desk_folder.specs.declared.files.File.{File}
 use Rattle.desk_folder.specs.declared.files.File.TheVariants as file
+use Rattle.desk_folder.specs.Files.{day_files, plan_files}
 use Rattle.desk_folder.specs.Outside.{Directories}
 use Rattle.desk_words.specs.declared.asked.Command.{Command}
 use Rattle.desk_words.specs.declared.asked.Command.TheVariants as command_is
 use Rattle.desk_words.specs.Commands.{Asking, command}
 
--- the files that tell a day and its disruptions, in file order
-abbrev pub day_files : List File
-day_files = file.Config ∷ file.Flights ∷ file.Rotations ∷ file.Aircraft ∷ file.Airports ∷ file.Dist ∷ file.Itineraries ∷ file.Position ∷ file.AltFlights ∷ file.AltAircraft ∷ file.AltAirports ∷ file.Tariff ∷ file.Feed ∷ []
-
 -- the files that a command reads, in file order
 abbrev pub files_read : Command → List File
 files_read command_is.Replay = day_files ++ file.Journal ∷ []
-files_read command_is.Check = day_files ++ file.SolRotations ∷ file.SolItineraries ∷ []
+files_read (command_is.Recover moves) = day_files
+files_read command_is.Check = day_files ++ plan_files
 files_read (command_is.Gen seed size) = []
+files_read (command_is.Trial seed size) = []
+
+-- the files that tell what a history came to, in the order in which they are written
+abbrev pub history_files : List File
+history_files = file.SolRotations ∷ file.SolItineraries ∷ file.Journal ∷ []
 
 -- the files that a command may write, in the order in which it writes them
 abbrev pub files_written : Command → List File
-files_written command_is.Replay = file.SolRotations ∷ file.SolItineraries ∷ file.Journal ∷ []
+files_written command_is.Replay = history_files
+files_written (command_is.Recover moves) = history_files
 files_written command_is.Check = []
 files_written (command_is.Gen seed size) = day_files
+files_written (command_is.Trial seed size) = []
 
 -- what is asked of the desk: a command, and the directories that are to be named for it, where there are any
 pub record Ask : Type 0 where
@@ -30,7 +35,7 @@ pub record Ask : Type 0 where
   pub place : Option Directories
 
 abbrev pub asks : Asking → Ask
-asks asking = record { command = asking.0; place = Some asking.1 }
+asks asking = record { command = asking.0; place = asking.1 }
 
 -- by the words of the program; words that spell no command ask for nothing
 abbrev pub asked_by : List (List ℕ) → Option Ask
@@ -49,8 +54,10 @@ abbrev pub writes : Option Ask → List File
 writes None = []
 writes (Some a) = files_written a.command
 
--- the numbers of a command that has any: a seed of at most nine digits, and a size from 1 to 40
+-- the numbers of a command that has any: a seed of at most nine digits and a size from 1 to 40, or 1 to 100,000 accepted moves
 abbrev pub IsCommand : Command → Type 0
 IsCommand command_is.Replay = Unit {0}
+IsCommand (command_is.Recover moves) = (1 ≤ moves) × (moves ≤ 100000)
 IsCommand command_is.Check = Unit {0}
 IsCommand (command_is.Gen seed size) = (seed ≤ 999999999) × (1 ≤ size) × (size ≤ 40)
+IsCommand (command_is.Trial seed size) = (seed ≤ 999999999) × (1 ≤ size) × (size ≤ 40)

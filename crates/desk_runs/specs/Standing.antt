@@ -64,3 +64,8 @@ pub record IsToldLast {Rows Task : Type 0} (M : Meaning Rows Task) (ask : Option
 -- at these statuses the directories are named, where that is asked for
 abbrev pub IsNamedAt : ℕ → Type 0
 IsNamedAt code = (code ≤ 3) ⊎ ((code ≡ 5) ⊎ (code ≡ 7))
+
+-- no directories are named, and no naming failed
+pub record IsUnnamed (before now : World) : Type 0 where
+  pub directories : now.folder.directories ≡ before.folder.directories
+  pub faults : now.folder.place_faults ≡ before.folder.place_faults

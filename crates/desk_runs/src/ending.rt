@@ -11,9 +11,10 @@ use folder_io::WriteFault;
 /// How a run ends.
 #[derive(Clone, Copy, Debug, PartialEq, Eq)]
 pub enum Ending {
-    /// All was done: of a replay with a plan at its end, of a check with a plan that breaks no rule.
+    /// All was done: of a replay or a recovery with a plan at its end, of a check with a plan that breaks no
+    /// rule.
     Done,
-    /// A replay was done, and there is no plan at its end.
+    /// A replay or a recovery was done, and there is no plan at its end.
     NoPlan,
     /// A check was done, and the plan breaks a rule.
     BrokenRule,

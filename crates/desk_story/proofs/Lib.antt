@@ -2,3 +2,4 @@ pub mod Orders
 pub mod Chain
 mod TaskLaws
 pub mod Batches
+pub mod RecoveryLaws

@@ -7,12 +7,14 @@ use Rattle.desk_story.specs.declared.rows.InputRows.{InputRows}
 use Rattle.desk_data.specs.Valid.{IsPlanFor}
 use Rattle.desk_gen.specs.Generated.{IsSize}
 use Rattle.desk_story.specs.declared.story.InputStory.{InputStory}
+use Rattle.desk_story.specs.declared.recovery.InputRecovery.{InputRecovery}
 use Rattle.desk_story.specs.declared.plan.InputPlan.{InputPlan}
 use Rattle.desk_story.specs.declared.task.InputTask.{InputTask}
 use Rattle.desk_story.specs.declared.task.InputTask.TheVariants as input
 use Rattle.desk_tasks.specs.Play.{Story}
+use Rattle.desk_tasks.specs.Recover.{Recovery}
 use Rattle.desk_tasks.specs.Judge.{Judged}
-use Rattle.desk_tasks.specs.Tasks.{Task, play, judge, generate}
+use Rattle.desk_tasks.specs.Tasks.{Task, play, recover, trial, judge, generate, IsRecoverable}
 use Rattle.desk_story.specs.Story.{Rows}
 
 -- the rows, wherever they lie in memory
@@ -33,6 +35,15 @@ pub record CanBeRun (s : InputStory) : Type 0 where
   pub fresh : s.inst.orders ≡ []
   pub asked : AreAskable s.inst s.events.items
 
+-- the recovery, wherever it lies in memory
+abbrev pub as_recovery : InputRecovery → Recovery
+as_recovery r = record { day = r.inst; batches = r.batches; moves = r.moves }
+
+-- the day has no orders yet, and its batches can arrive on it
+pub record CanRecover (r : InputRecovery) : Type 0 where
+  pub fresh : r.inst.orders ≡ []
+  pub sound : IsRecoverable (as_recovery r)
+
 -- the plan that is judged, wherever it lies in memory
 abbrev pub as_judged : InputPlan → Judged
 as_judged p = record { day = p.inst; plan = p.plan }
@@ -40,11 +51,15 @@ as_judged p = record { day = p.inst; plan = p.plan }
 -- the task, wherever it lies in memory
 abbrev pub as_task : InputTask → Task
 as_task (input.Play s) = play (as_story s)
+as_task (input.Recover r) = recover (as_recovery r)
+as_task (input.Try r) = trial (as_recovery r)
 as_task (input.Judge p) = judge (as_judged p)
 as_task (input.Generate seed size) = generate seed size
 
 -- what reading it makes sure of
 abbrev pub CanBeDone : InputTask → Type 0
 CanBeDone (input.Play s) = CanBeRun s
+CanBeDone (input.Recover r) = CanRecover r
+CanBeDone (input.Try r) = CanRecover r
 CanBeDone (input.Judge p) = IsPlanFor p.inst p.plan
 CanBeDone (input.Generate seed size) = IsSize size

@@ -2,6 +2,7 @@
 use Rattle.std.specs.Prelude.{ℕ, List, [], ◌∷◌, length, Option, Some, None, Result, Ok, Err, nat_lt, if◌then◌else◌}
 use Rattle.desk_folder.specs.declared.files.File.{File}
 use Rattle.desk_folder.specs.declared.files.File.TheVariants as file
+use Rattle.folder_io.specs.Outputs.{FileText}
 use Rattle.file_rows.specs.declared.cause.Cause.{Cause}
 use Rattle.file_rows.specs.declared.cause.Cause.TheVariants.{Size}
 use Rattle.file_rows.specs.Limits.{most_bytes, most_journal_bytes}
@@ -27,11 +28,15 @@ use Rattle.sol_join.specs.Solution.{solution_of}
 use Rattle.desk_runs.specs.declared.refusal.Refusal.{Refusal}
 use Rattle.desk_words.specs.declared.asked.Command.{Command}
 use Rattle.desk_words.specs.declared.asked.Command.TheVariants as command_is
+use Rattle.desk_words.specs.declared.choice.Choice.TheVariants.{Moves}
+use Rattle.desk_words.specs.Commands.{default_of}
+use Rattle.desk_gen.specs.Generated.{text_of}
 use Rattle.desk_runs.specs.Inputs.{Inputs}
 use Rattle.desk_runs.specs.Commands.{files_read}
 use Rattle.desk_tasks.specs.Play.{Story}
+use Rattle.desk_tasks.specs.Recover.{Recovery}
 use Rattle.desk_tasks.specs.Judge.{Judged, with_batches}
-use Rattle.desk_tasks.specs.Tasks.{Task, play, judge, generate}
+use Rattle.desk_tasks.specs.Tasks.{Task, play, recover, trial, judge, generate}
 
 -- ---- refusals
 
@@ -158,6 +163,11 @@ unfoldable pub read_all : List File → Inputs → Rows → Result Rows Refusal
 read_all [] x rows = Ok rows
 read_all (f ∷ files) x rows = read_as f (x f) rows >>= read_all files x
 
+-- the same from texts, each the whole of its file
+unfoldable pub read_texts : List FileText → Rows → Result Rows Refusal
+read_texts [] rows = Ok rows
+read_texts (t ∷ texts) rows = read_as t.0 t.1 rows >>= read_texts texts
+
 -- the rows of the files of a command, or the first refusal by a grammar
 abbrev pub rows_of : Command → Inputs → Result Rows Refusal
 rows_of c x = read_all (files_read c) x no_rows
@@ -171,6 +181,12 @@ story_of_rows rows = do
   events ← or_refused (in_file file.Journal) (events_of built rows.journal)
   Ok (record { day = built.inst; events = events })
 
+-- to recover: the files are joined, and all batches arrive, with so many accepted moves at most behind each
+unfoldable pub recovery_of_rows : ℕ → Rows → Result Recovery Refusal
+recovery_of_rows moves rows = do
+  built ← or_refused not_joined (built_of rows.files)
+  Ok (record { day = built.inst; batches = built.batches; moves = moves })
+
 -- to judge: the files are joined, and then those of the plan; it is judged under the orders of all batches
 unfoldable pub judged_of_rows : Rows → Result Judged Refusal
 judged_of_rows rows = do
@@ -178,15 +194,29 @@ judged_of_rows rows = do
   plan ← or_refused not_joined (solution_of built.inst rows.plan_rotations rows.plan_itineraries)
   Ok (record { day = with_batches built.inst built.batches; plan = plan })
 
+-- how many moves are accepted at most where the words don't say it
+abbrev pub usual_moves : ℕ
+usual_moves = default_of Moves
+
+-- to try: the files of a day that is made up are read and joined as those of a folder would be, to be recovered so
+unfoldable pub trial_of : ℕ → ℕ → Result Recovery Refusal
+trial_of seed size = rows_of (command_is.Recover usual_moves) (text_of seed size) >>= recovery_of_rows usual_moves
+
 -- by the command; what is generated is asked by the words alone
 unfoldable pub task_of_rows : Command → Rows → Result Task Refusal
 task_of_rows command_is.Replay rows = do
   story ← story_of_rows rows
   Ok (play story)
+task_of_rows (command_is.Recover moves) rows = do
+  recovery ← recovery_of_rows moves rows
+  Ok (recover recovery)
 task_of_rows command_is.Check rows = do
   judged ← judged_of_rows rows
   Ok (judge judged)
 task_of_rows (command_is.Gen seed size) rows = Ok (generate seed size)
+task_of_rows (command_is.Trial seed size) rows = do
+  recovery ← trial_of seed size
+  Ok (trial recovery)
 
 -- the grammar of each file comes before the join of any
 unfoldable pub task_of : Command → Inputs → Result Task Refusal

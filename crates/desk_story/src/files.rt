@@ -1,14 +1,16 @@
 //! Reading the input files, one after another.
 
-ghost use Rattle.std.specs.Prelude.{◌≡◌, ℕ, true, List, [], ◌∷◌, ◌≤◌, Some, MatchOption, Err, IfOk, OnOk, IfErr, IsTrue};
+ghost use Rattle.std.specs.Prelude.{◌≡◌, ℕ, true, List, [], ◌∷◌, ◌≤◌, length, Some, MatchOption, Err, IfOk, OnOk, IfErr, IsTrue};
 ghost use Rattle.desk_folder.specs.declared.files.File.{File as AnyFile};
 ghost use Rattle.desk_folder.specs.Outside.{ReadsOnly};
 ghost use Rattle.folder_io.specs.Outputs.{is_among};
 ghost use Rattle.desk_runs.specs.Inputs.{Inputs, Tells};
-ghost use Rattle.desk_story.specs.Story.{byte_limit, read_as, read_all};
+ghost use Rattle.file_rows.specs.declared.cause.Cause.TheVariants as cause;
+ghost use Rattle.desk_story.specs.declared.fault.StoryFault.TheVariants as fault;
+ghost use Rattle.desk_story.specs.Story.{refusal, byte_limit, read_as, read_all};
 ghost use Rattle.desk_runs.specs.declared.refusal.Refusal.{Refusal as Refused};
 ghost use Rattle.desk_runs.specs.Reading.{IsRead, ReadsAmong, StopsAt};
-ghost use Rattle.desk_story.specs.Reading.{are_in_order, StopsAtFault, GivesRead, HasReadCause};
+ghost use Rattle.desk_story.specs.Reading.{are_in_order, StopsAtFault, GivesRead, HasReadCause, NeedsNoFault};
 ghost use Rattle.desk_story.specs.Facts.{as_rows, AreInputRows};
 
 use crate::fault::StoryFault;
@@ -29,13 +31,63 @@ fn byte_limit(file: File) -> u32
     }
 }
 
+// The refusal of a file of too many bytes.
+fn too_large(file: File) -> StoryFault
+    ensures { result ≡ fault.Refused (refusal file cause.Size 0) }
+{
+    StoryFault::Refused(Refusal {
+        file,
+        line: 0,
+        cause: Cause::Size,
+    })
+}
+
+// The rows with those of the bytes of one file more, which are not too many.
+#[tactic(auto, unfolding(crate::specs::Story::read_as))]
+fn taken(
+    alloc: Global,
+    mut rows: InputRows,
+    file: File,
+    bytes: Vec<u8>,
+) -> Result<InputRows, StoryFault>
+    requires facts { AreInputRows rows }
+    requires small { length bytes.items ≤ byte_limit file }
+    ensures exact { GivesRead as_rows result (read_as file bytes.items (as_rows rows)) }
+    ensures cause { IfErr result NeedsNoFault }
+    ensures facts { IfOk result AreInputRows }
+{
+    match rows.take(alloc, file, bytes) {
+        Ok(()) => Ok(rows),
+        Err(fault) => Err(StoryFault::of(file, fault)),
+    }
+}
+
+/// The rows with those of a text, the whole of its file. One of too many bytes is refused.
+#[tactic(auto, unfolding(crate::specs::Story::read_as))]
+pub(crate) fn take_text(
+    alloc: Global,
+    rows: InputRows,
+    file: File,
+    text: Vec<u8>,
+) -> Result<InputRows, StoryFault>
+    requires facts { AreInputRows rows }
+    ensures exact { GivesRead as_rows result (read_as file text.items (as_rows rows)) }
+    ensures cause { IfErr result NeedsNoFault }
+    ensures facts { IfOk result AreInputRows }
+{
+    if text.len() > byte_limit(file) as usize {
+        return Err(too_large(file));
+    }
+    taken(alloc, rows, file, text)
+}
+
 // The rows with those of one file more, which is read to its end.
 #[tactic(auto, unfolding(crate::specs::Story::read_as))]
 fn read_one<F: Folder>(
     alloc: Global,
     folder: &mut F,
     file: File,
-    mut rows: InputRows,
+    rows: InputRows,
 ) -> Result<InputRows, StoryFault>
     requires facts { AreInputRows rows }
     ensures exact { (bytes : List ℕ) → (F.outside folder.old).left file ≡ Some bytes →
@@ -50,18 +102,9 @@ fn read_one<F: Folder>(
         Ok(bytes) => bytes,
         Err(ReadEnd::Failed) => return Err(StoryFault::ReadFault(file)),
         Err(ReadEnd::Memory) => return Err(StoryFault::Memory),
-        Err(ReadEnd::Size) => {
-            return Err(StoryFault::Refused(Refusal {
-                file,
-                line: 0,
-                cause: Cause::Size,
-            }));
-        }
+        Err(ReadEnd::Size) => return Err(too_large(file)),
     };
-    match rows.take(alloc, file, bytes) {
-        Ok(()) => Ok(rows),
-        Err(fault) => Err(StoryFault::of(file, fault)),
-    }
+    taken(alloc, rows, file, bytes)
 }
 
 // The first file and the others, where there is one.

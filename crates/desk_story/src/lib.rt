@@ -3,9 +3,10 @@
 //!
 //! `read_task(alloc, &command, &mut folder)` goes through the files of the command: each is read to its
 //! end, and its reader makes rows of its bytes or refuses it, before the next one is opened. Then `build` of
-//! desk_build makes numbers of names, and the journal becomes a story, by `join_journal` of journal_join, or
-//! the files of a plan become a plan, by `read_solution` of sol_join. A file more is a line in the command's
-//! list and a reader; the reading itself is proved once for any list.
+//! desk_build makes numbers of names and gives the batches of a recovery, and the journal becomes a story, by
+//! `join_journal` of journal_join, or the files of a plan become a plan, by `read_solution` of sol_join. The
+//! texts of a day that is made up to be tried are read in the same way, without a folder. A file more is a line
+//! in the command's list and a reader; the reading itself is proved once for any list.
 //!
 //! Proved: the task is that of the definition `task_of` over the bytes of the files, or its first refusal
 //! is told; no file is read behind one that is refused, and no file that is not on the list is touched. It
@@ -15,6 +16,7 @@
 mod fault;
 mod files;
 mod plan;
+mod recovery;
 mod rows;
 mod story;
 mod task;
@@ -22,5 +24,6 @@ mod task;
 pub use desk_runs::{Cause, Ending, Refusal};
 pub use fault::StoryFault;
 pub use plan::InputPlan;
+pub use recovery::InputRecovery;
 pub use story::InputStory;
 pub use task::{InputTask, read_task};

@@ -14,6 +14,7 @@ ghost use Rattle.desk_story.specs.Facts.{as_rows, AreInputRows, as_task, CanBeDo
 use crate::fault::StoryFault;
 use crate::files::read_files;
 use crate::plan::{InputPlan, joined_plan};
+use crate::recovery::{InputRecovery, joined_recovery, trial};
 use crate::rows::InputRows;
 use crate::story::{InputStory, joined_story};
 use desk_folder::Folder;
@@ -26,6 +27,10 @@ use std::alloc::Global;
 pub enum InputTask {
     /// Events are to be taken on a day.
     Play(InputStory),
+    /// A day is to be recovered.
+    Recover(InputRecovery),
+    /// A day is to be recovered, and that is reported alone.
+    Try(InputRecovery),
     /// A plan is to be judged.
     Judge(InputPlan),
     /// The input files of a day are to be made, of this seed and this size from 1 to 40.
@@ -47,6 +52,10 @@ fn joined_task(alloc: Global, command: &Command, rows: &InputRows) -> Result<Inp
             let story = joined_story(alloc, rows)?;
             Ok(InputTask::Play(story))
         }
+        Command::Recover { moves } => {
+            let recovery = joined_recovery(alloc, rows, *moves)?;
+            Ok(InputTask::Recover(recovery))
+        }
         Command::Check => {
             let plan = joined_plan(alloc, rows)?;
             Ok(InputTask::Judge(plan))
@@ -55,6 +64,10 @@ fn joined_task(alloc: Global, command: &Command, rows: &InputRows) -> Result<Inp
             seed: *seed,
             size: *size,
         }),
+        Command::Trial { seed, size } => {
+            let recovery = trial(alloc, *seed, *size)?;
+            Ok(InputTask::Try(recovery))
+        }
     }
 }
 

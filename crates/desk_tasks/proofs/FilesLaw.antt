@@ -1,15 +1,33 @@
 -- The files that the texts of a task are put into.
-use Rattle.std.proofs.Common.{◌≡◌, ℕ, refl}
+use Rattle.std.proofs.Common.{◌≡◌, ℕ, List, refl}
+use Rattle.std.specs.Prelude.{Option}
 use Rattle.folder_io.specs.Outputs.{files_of}
+use Rattle.desk_data.specs.Situation.{Situation}
+use Rattle.desk_model.specs.declared.answer.Entry.{Entry}
 use Rattle.desk_gen.specs.Generated.{generated}
+use Rattle.desk_runs.specs.Commands.{history_files}
+use Rattle.desk_tasks.specs.declared.ended.SearchEnd.{SearchEnd}
 use Rattle.desk_tasks.specs.Play.{Story, history_outcome, played}
+use Rattle.desk_tasks.specs.Recover.{Recovery, told_alone, recovered, tried}
 use Rattle.desk_tasks.specs.Judge.{Judged, verdict, judged}
 use Rattle.desk_tasks.specs.Generate.{generation}
-use Rattle.desk_tasks.specs.Tasks.{Task, play, judge, generate, outcome, files_for}
+use Rattle.desk_tasks.specs.Tasks.{Task, play, recover, trial, judge, generate, outcome, files_for}
+
+pub history-files : (I : Situation) (search : Option SearchEnd) (h : List Entry) → files_of (history_outcome I search h).texts.files ≡ history_files
+unfolding history_outcome
+history-files I search h = refl
 
 pub played-files : (s : Story) → files_of (played s).texts.files ≡ files_for (play s)
 unfolding history_outcome
 played-files s = refl
+
+pub recovered-files : (r : Recovery) → files_of (recovered r).texts.files ≡ files_for (recover r)
+unfolding history_outcome
+recovered-files r = refl
+
+pub tried-files : (r : Recovery) → files_of (tried r).texts.files ≡ files_for (trial r)
+unfolding told_alone
+tried-files r = refl
 
 pub judged-files : (j : Judged) → files_of (judged j).texts.files ≡ files_for (judge j)
 unfolding verdict
@@ -21,5 +39,7 @@ generated-files seed size = refl
 
 pub files-for : (t : Task) → files_of (outcome t).texts.files ≡ files_for t
 files-for (play s) = played-files s
+files-for (recover r) = recovered-files r
+files-for (trial r) = tried-files r
 files-for (judge j) = judged-files j
 files-for (generate seed size) = generated-files seed size

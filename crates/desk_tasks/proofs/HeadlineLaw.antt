@@ -1,5 +1,5 @@
--- A story that was played, and all of whose texts are written, carries the headline.
-use Rattle.std.proofs.Common.{◌≡◌, ℕ, List, [], ◌∷◌, refl, sym, subst, ◌∙◌}
+-- A story that was played, and a day that was recovered, all of whose texts are written, carry the headline.
+use Rattle.std.proofs.Common.{◌≡◌, ℕ, List, [], ◌∷◌, refl, sym, subst, ◌∙◌, arith}
 use Rattle.std.specs.Prelude.{Option, Some, None, IsSome}
 use Rattle.std.specs.Io.KnownBytes.{Appends, Keeps}
 use Rattle.std.proofs.lemmas.Bool.{false≢true}
@@ -10,15 +10,22 @@ use Rattle.folder_io.proofs.PutAll.{whole-first, whole-rest, whole-end}
 use Rattle.desk_data.specs.declared.broken.Broken.{Broken}
 use Rattle.desk_data.specs.Situation.{Situation}
 use Rattle.desk_model.specs.States.{State, opening}
+use Rattle.desk_model.specs.declared.answer.Entry.{Entry}
 use Rattle.desk_model.specs.Histories.{AreAskable, IsLegal, run, state}
 use Rattle.desk_model.proofs.StateLaws.{opening-inst}
 use Rattle.desk_model.proofs.HistoryLaws.{promises, run-legal}
 use Rattle.journal_text.specs.Lines.{journal_text}
 use Rattle.desk_runs.specs.Outcome.{Texts}
 use Rattle.desk_runs.specs.Runs.{World, IsWritten}
+use Rattle.near_moves.specs.Descent.{recovery}
+use Rattle.near_moves.proofs.LegalLaws.{recovery-legal}
+use Rattle.near_moves.proofs.RecoveryLaws.{recovery-along, recovery-batches}
+use Rattle.desk_tasks.specs.declared.ended.SearchEnd.{SearchEnd}
 use Rattle.desk_tasks.specs.Play.{Story, history, planned_rotations, planned_itineraries, report_text, history_outcome, played}
-use Rattle.desk_tasks.specs.Tasks.{IsRunnable}
-use Rattle.desk_tasks.specs.Headline.{Headline, HasHeadline}
+use Rattle.desk_tasks.specs.Recover.{Recovery, recovered_history, search_end, told_alone, recovered, tried}
+use Rattle.desk_tasks.specs.Tasks.{IsRunnable, IsRecoverable}
+use Rattle.desk_tasks.specs.Headline.{TellsHistory, Headline, HasHeadline, Recovers, HasRecovered, HasTried}
+use Rattle.desk_tasks.proofs.RecoveryLaw.{recovery-rests, search-ended}
 
 keeps_of : (before now : Option (List ℕ)) → Appends before now [] → Keeps before now
 keeps_of None now h = tt
@@ -33,56 +40,47 @@ planned_none : (S : State) (o : Option Broken) → IsSome o → planned_itinerar
 planned_none S None h = absurd (false≢true h)
 planned_none S (Some item) h = refl
 
-story_legal : (s : Story) → IsRunnable s → IsLegal (opening s.day) (history s)
-unfolding history
-story_legal s runs = run-legal (opening s.day) s.events (subst (λ (I : Situation). AreAskable I s.events) (sym (opening-inst s.day)) runs)
+-- ---- what is written of a history
 
-history_is : (s : Story) → history s ≡ run (opening s.day) s.events
-unfolding history
-history_is s = refl
+-- the state that a history ends in
+abbrev end_of : Situation → List Entry → State
+end_of I h = state (opening I) h
 
--- the state that a story ends in
-abbrev pub end_of : Story → State
-end_of s = state (opening s.day) (history s)
+-- its texts, file by file
+abbrev rotations_of : Situation → List Entry → FileText
+rotations_of I h = (file.SolRotations, planned_rotations (end_of I h) (end_of I h).broken)
 
--- the texts of a story, file by file
-abbrev pub rotations_of : Story → FileText
-rotations_of s = (file.SolRotations, planned_rotations (end_of s) (end_of s).broken)
+abbrev journal_of : Situation → List Entry → FileText
+journal_of I h = (file.Journal, journal_text I h)
 
-abbrev pub journal_of : Story → FileText
-journal_of s = (file.Journal, journal_text s.day (history s))
+abbrev itineraries_of : Situation → List Entry → FileText
+itineraries_of I h = (file.SolItineraries, planned_itineraries (end_of I h) (end_of I h).broken)
 
-abbrev pub itineraries_of : Story → FileText
-itineraries_of s = (file.SolItineraries, planned_itineraries (end_of s) (end_of s).broken)
+abbrev behind_itineraries : Situation → List Entry → List FileText
+behind_itineraries I h = journal_of I h ∷ []
 
-abbrev pub behind_itineraries : Story → List FileText
-behind_itineraries s = journal_of s ∷ []
+abbrev behind_rotations : Situation → List Entry → List FileText
+behind_rotations I h = itineraries_of I h ∷ behind_itineraries I h
 
-abbrev pub behind_rotations : Story → List FileText
-behind_rotations s = itineraries_of s ∷ behind_itineraries s
+abbrev files_are : Situation → List Entry → List FileText
+files_are I h = rotations_of I h ∷ behind_rotations I h
 
-abbrev pub files_are : Story → List FileText
-files_are s = rotations_of s ∷ behind_rotations s
-
-texts_are : (s : Story) → (played s).texts ≡ record { files = files_are s; report = report_text s.day (history s) }
+texts_are : (I : Situation) (search : Option SearchEnd) (h : List Entry) → (history_outcome I search h).texts ≡ record { files = files_are I h; report = report_text I search h }
 unfolding history_outcome
-texts_are s = refl
+texts_are I search h = refl
 
-headline : (before now : World) (s : Story) → IsRunnable s → IsWritten before now (played s).texts → Headline before now s (history s)
-headline before now s runs w =
-    let Reported : Type 0 = Appends before.sink.written now.sink.written (report_text s.day (history s)) in
-    let whole : ArePut (λ f. ⊥) Reported (files_are s) before.folder now.folder = subst (λ (t : Texts). IsWritten before now t) (texts_are s) w in
-    let rotations : HasAll (rotations_of s) before.folder now.folder = whole-first Reported (rotations_of s) (behind_rotations s) before.folder now.folder whole in
-    let behind : ArePut (λ f. ⊥) Reported (behind_rotations s) before.folder now.folder = whole-rest Reported (rotations_of s) (behind_rotations s) before.folder now.folder whole in
-    let itineraries : HasAll (itineraries_of s) before.folder now.folder = whole-first Reported (itineraries_of s) (behind_itineraries s) before.folder now.folder behind in
-    let last : ArePut (λ f. ⊥) Reported (behind_itineraries s) before.folder now.folder = whole-rest Reported (itineraries_of s) (behind_itineraries s) before.folder now.folder behind in
-    let S = end_of s in
+tells : (before now : World) (I : Situation) (search : Option SearchEnd) (h : List Entry) → IsWritten before now (history_outcome I search h).texts → TellsHistory before now I search h
+tells before now I search h w =
+    let Reported : Type 0 = Appends before.sink.written now.sink.written (report_text I search h) in
+    let whole : ArePut (λ f. ⊥) Reported (files_are I h) before.folder now.folder = subst (λ (t : Texts). IsWritten before now t) (texts_are I search h) w in
+    let rotations : HasAll (rotations_of I h) before.folder now.folder = whole-first Reported (rotations_of I h) (behind_rotations I h) before.folder now.folder whole in
+    let behind : ArePut (λ f. ⊥) Reported (behind_rotations I h) before.folder now.folder = whole-rest Reported (rotations_of I h) (behind_rotations I h) before.folder now.folder whole in
+    let itineraries : HasAll (itineraries_of I h) before.folder now.folder = whole-first Reported (itineraries_of I h) (behind_itineraries I h) before.folder now.folder behind in
+    let last : ArePut (λ f. ⊥) Reported (behind_itineraries I h) before.folder now.folder = whole-rest Reported (itineraries_of I h) (behind_itineraries I h) before.folder now.folder behind in
+    let S = end_of I h in
     record {
-      events = history_is s;
-      legal = story_legal s runs;
-      promises = promises s.day (history s) (story_legal s runs);
-      journal = whole-first Reported (journal_of s) [] before.folder now.folder last;
-      reported = whole-end Reported (files_are s) before.folder now.folder whole;
+      journal = whole-first Reported (journal_of I h) [] before.folder now.folder last;
+      reported = whole-end Reported (files_are I h) before.folder now.folder whole;
       rotations = λ none. subst (λ (o : Option Broken). Appends (before.folder.written file.SolRotations) (now.folder.written file.SolRotations) (planned_rotations S o)) none rotations;
       no_rotations = λ some. keeps_of (before.folder.written file.SolRotations) (now.folder.written file.SolRotations)
           (subst (λ (t : List ℕ). Appends (before.folder.written file.SolRotations) (now.folder.written file.SolRotations) t) (planned_some S S.broken some) rotations);
@@ -91,5 +89,62 @@ headline before now s runs w =
           (subst (λ (t : List ℕ). Appends (before.folder.written file.SolItineraries) (now.folder.written file.SolItineraries) t) (planned_none S S.broken some) itineraries);
     }
 
+-- ---- a story
+
+story_legal : (s : Story) → IsRunnable s → IsLegal (opening s.day) (history s)
+unfolding history
+story_legal s runs = run-legal (opening s.day) s.events (subst (λ (I : Situation). AreAskable I s.events) (sym (opening-inst s.day)) runs)
+
+history_is : (s : Story) → history s ≡ run (opening s.day) s.events
+unfolding history
+history_is s = refl
+
 pub has-headline : (before now : World) (s : Story) → IsRunnable s → IsWritten before now (played s).texts → HasHeadline before now s
-has-headline before now s runs w = record { history = history s; headline = headline before now s runs w }
+has-headline before now s runs w = record {
+  history = history s;
+  headline = record {
+    events = history_is s;
+    legal = story_legal s runs;
+    promises = promises s.day (history s) (story_legal s runs);
+    written = tells before now s.day None (history s) w;
+  };
+}
+
+-- ---- a recovery
+
+recovery_is : (r : Recovery) → recovered_history r ≡ recovery r.moves (opening r.day) r.batches
+unfolding recovered_history
+recovery_is r = refl
+
+pub recovers : (r : Recovery) → IsRecoverable r → Recovers r (recovered_history r)
+unfolding recovered_history
+recovers r can =
+    let S = opening r.day in
+    let h = recovery r.moves S r.batches in
+    let legal : IsLegal S h = recovery-legal r.moves r.day r.batches can.valid can.asked (omega (arith, can.few)) in
+    record {
+      exact = refl;
+      batches = recovery-batches r.moves S [] r.batches;
+      entries = recovery-along r.moves S [] r.batches tt;
+      legal = legal;
+      promises = promises r.day h legal;
+      ended = search-ended r.day r.moves h (recovery-rests r.moves S [] r.batches can.some);
+    }
+
+pub has-recovered : (before now : World) (r : Recovery) → IsRecoverable r → IsWritten before now (recovered r).texts → HasRecovered before now r
+has-recovered before now r can w = record {
+  history = recovered_history r;
+  recovers = recovers r can;
+  written = tells before now r.day (search_end r.day r.moves (recovered_history r)) (recovered_history r) w;
+}
+
+tried_report : (before now : World) (r : Recovery) → IsWritten before now (tried r).texts → Appends before.sink.written now.sink.written (report_text r.day (search_end r.day r.moves (recovered_history r)) (recovered_history r))
+unfolding told_alone history_outcome
+tried_report before now r w = w
+
+pub has-tried : (before now : World) (r : Recovery) → IsRecoverable r → IsWritten before now (tried r).texts → HasTried before now r
+has-tried before now r can w = record {
+  history = recovered_history r;
+  recovers = recovers r can;
+  reported = tried_report before now r w;
+}

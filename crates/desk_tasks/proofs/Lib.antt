@@ -1,2 +1,3 @@
+pub mod RecoveryLaw
 pub mod HeadlineLaw
 pub mod FilesLaw

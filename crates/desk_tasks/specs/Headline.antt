@@ -1,16 +1,38 @@
 -- The promise of the desk.
-use Rattle.std.specs.Prelude.{◌≡◌, List, None, IsSome}
+use Rattle.std.specs.Prelude.{◌≡◌, ℕ, List, Option, None, IsSome}
 use Rattle.std.specs.Io.KnownBytes.{Appends, Keeps}
 use Rattle.desk_folder.specs.declared.files.File.TheVariants as file
+use Rattle.desk_data.specs.Situation.{Situation}
 use Rattle.desk_model.specs.declared.answer.Entry.{Entry}
 use Rattle.desk_model.specs.States.{opening}
 use Rattle.desk_model.specs.Histories.{IsLegal, run, state}
 use Rattle.desk_model.specs.Promises.{KeepsPromises}
+use Rattle.near_moves.specs.Descent.{recovery}
+use Rattle.near_moves.specs.Descents.{AllAlong, IsRecoveryEntry, batches_of}
 use Rattle.journal_text.specs.Lines.{journal_text}
 use Rattle.sol_text.specs.Rotations.{rotations_text}
 use Rattle.sol_text.specs.Itineraries.{itineraries_text}
 use Rattle.desk_runs.specs.Runs.{World}
+use Rattle.desk_tasks.specs.declared.ended.SearchEnd.{SearchEnd}
 use Rattle.desk_tasks.specs.Play.{Story, report_text}
+use Rattle.desk_tasks.specs.Recover.{Recovery, search_end, IsSearchEnd}
+
+-- what is written of a history, with the end of its search where it has one
+pub record TellsHistory (before now : World) (I : Situation) (search : Option SearchEnd) (h : List Entry) : Type 0 where
+  -- journal.csv is the journal of the history, and the report tells its batches, its changes and the cost of the last plan
+  pub journal : Appends (before.folder.written file.Journal) (now.folder.written file.Journal) (journal_text I h)
+  pub reported : Appends before.sink.written now.sink.written (report_text I search h)
+  -- sol_rotations.csv and sol_itineraries.csv are those of the last plan, and are written only where there is one
+  pub rotations : (state (opening I) h).broken ≡ None →
+      Appends (before.folder.written file.SolRotations) (now.folder.written file.SolRotations)
+      (rotations_text (state (opening I) h).inst (state (opening I) h).plan)
+  pub no_rotations : IsSome (state (opening I) h).broken → Keeps (before.folder.written file.SolRotations) (now.folder.written file.SolRotations)
+  pub itineraries : (state (opening I) h).broken ≡ None →
+      Appends (before.folder.written file.SolItineraries) (now.folder.written file.SolItineraries)
+      (itineraries_text (state (opening I) h).inst (state (opening I) h).plan)
+  pub no_itineraries : IsSome (state (opening I) h).broken → Keeps (before.folder.written file.SolItineraries) (now.folder.written file.SolItineraries)
+
+-- ---- a story
 
 -- the promise of the desk, for a story that was played: the history behind what was written
 pub record Headline (before now : World) (s : Story) (h : List Entry) : Type 0 where
@@ -21,20 +43,38 @@ pub record Headline (before now : World) (s : Story) (h : List Entry) : Type 0 w
   -- each stored cost is the cost of the rows under these, between two batches costs only fall, and a proposal to a published
   -- plan is accepted exactly where the moved plan is feasible and cheaper
   pub promises : KeepsPromises s.day h
-  -- journal.csv is the journal of the history, and the report tells its batches, its changes and the cost of the last plan
-  pub journal : Appends (before.folder.written file.Journal) (now.folder.written file.Journal) (journal_text s.day h)
-  pub reported : Appends before.sink.written now.sink.written (report_text s.day h)
-  -- sol_rotations.csv and sol_itineraries.csv are those of the last plan, and are written only where there is one
-  pub rotations : (state (opening s.day) h).broken ≡ None →
-      Appends (before.folder.written file.SolRotations) (now.folder.written file.SolRotations)
-      (rotations_text (state (opening s.day) h).inst (state (opening s.day) h).plan)
-  pub no_rotations : IsSome (state (opening s.day) h).broken → Keeps (before.folder.written file.SolRotations) (now.folder.written file.SolRotations)
-  pub itineraries : (state (opening s.day) h).broken ≡ None →
-      Appends (before.folder.written file.SolItineraries) (now.folder.written file.SolItineraries)
-      (itineraries_text (state (opening s.day) h).inst (state (opening s.day) h).plan)
-  pub no_itineraries : IsSome (state (opening s.day) h).broken → Keeps (before.folder.written file.SolItineraries) (now.folder.written file.SolItineraries)
+  pub written : TellsHistory before now s.day None h
 
 -- there is such a history
 pub record HasHeadline (before now : World) (s : Story) : Type 0 where
   pub history : List Entry
   pub headline : Headline before now s history
+
+-- ---- a recovery
+
+-- a history is that of a recovery
+pub record Recovers (r : Recovery) (h : List Entry) : Type 0 where
+  -- behind each batch stands exactly the descent: as long as there is a plan and the budget is not spent, the first move near it
+  -- that makes it feasible and cheaper
+  pub exact : h ≡ recovery r.moves (opening r.day) r.batches
+  -- the batches are those that were read, in their order, each once
+  pub batches : batches_of h ≡ r.batches
+  -- the desk asks for all entries, and what is no batch is an accepted proposal of the first better move near the plan as it stands
+  pub entries : AllAlong IsRecoveryEntry (opening r.day) h
+  -- and it keeps what is promised of a story that is played
+  pub legal : IsLegal (opening r.day) h
+  pub promises : KeepsPromises r.day h
+  -- what the report tells of the last search
+  pub ended : IsSearchEnd r.day r.moves h (search_end r.day r.moves h)
+
+-- there is such a history behind what was written
+pub record HasRecovered (before now : World) (r : Recovery) : Type 0 where
+  pub history : List Entry
+  pub recovers : Recovers r history
+  pub written : TellsHistory before now r.day (search_end r.day r.moves history) history
+
+-- or behind what was reported, where nothing else was written
+pub record HasTried (before now : World) (r : Recovery) : Type 0 where
+  pub history : List Entry
+  pub recovers : Recovers r history
+  pub reported : Appends before.sink.written now.sink.written (report_text r.day (search_end r.day r.moves history) history)

@@ -1,4 +1,5 @@
 pub mod Play
+pub mod Recover
 pub mod Judge
 pub mod Generate
 pub mod Tasks

@@ -1,13 +1,24 @@
-//! The headline, as a law.
+//! The headline, as laws.
 
 ghost use Rattle.desk_runs.specs.Runs.{World, IsWritten};
 ghost use Rattle.desk_tasks.specs.Play.{Story, played};
-ghost use Rattle.desk_tasks.specs.Tasks.{IsRunnable};
-ghost use Rattle.desk_tasks.specs.Headline.{HasHeadline};
+ghost use Rattle.desk_tasks.specs.Recover.{Recovery, recovered, tried};
+ghost use Rattle.desk_tasks.specs.Tasks.{IsRunnable, IsRecoverable};
+ghost use Rattle.desk_tasks.specs.Headline.{HasHeadline, HasRecovered, HasTried};
 
 /// Whoever has written all that a story comes to, whose events can be asked on its day, keeps the
 /// promise of the desk.
 pub fn played_stories_carry_the_headline()
     ensures { (before : World) → (now : World) → (story : Story) → IsRunnable story →
         IsWritten before now (played story).texts → HasHeadline before now story }
+{}
+
+/// So does whoever has written all that a recovery comes to, whose batches can arrive on its day: behind
+/// each batch stands exactly the descent, and the report tells why the last one ended. Of a trial the
+/// report says the same, and nothing else is written.
+pub fn recoveries_carry_the_headline()
+    ensures recovered { (before : World) → (now : World) → (r : Recovery) → IsRecoverable r →
+        IsWritten before now (recovered r).texts → HasRecovered before now r }
+    ensures tried { (before : World) → (now : World) → (r : Recovery) → IsRecoverable r →
+        IsWritten before now (tried r).texts → HasTried before now r }
 {}

@@ -2,6 +2,7 @@ pub mod DayLemmas
 pub mod DateLemmas
 pub mod CalendarLemmas
 pub mod CutLemmas
+pub mod DateForms
 pub mod LineLemmas
 pub mod FitLemmas
 pub mod CountLemmas

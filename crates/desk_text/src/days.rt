@@ -5,8 +5,8 @@ ghost use Rattle.jiff.specs.Words.{epoch_day, IsDate, IsYmd};
 ghost use Rattle.desk_text.specs.Days.{day_of};
 ghost use Rattle.desk_text.specs.Texts.{day_in_month, month_of, year_of};
 
-use jiff::ToSpan;
-use jiff::civil::{Date, date};
+use jiff::civil::Date;
+use jiff_core::civil::Date as PlainDate;
 
 /// The date of this day of the year 2000 + `year`, or `None` where there is no such day.
 fn date_on(day: u32, month: u32, year: u32) -> Option<Date>
@@ -44,9 +44,8 @@ fn date_after(days: u32) -> Date
     requires { days < 36525 }
     ensures { epoch_day result ≡ pos (10957 + days) }
 {
-    date(2_000, 1, 1)
-        .checked_add(i64::from(days).days())
-        .unwrap()
+    let date = PlainDate::from_unix_epoch_day(i64::from(days) + 10_957).unwrap();
+    Date::from_plain(date)
 }
 
 /// The date of a day, counted from 2000-01-01.

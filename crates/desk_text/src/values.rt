@@ -1,12 +1,12 @@
 //! What a field spells.
 
-ghost use Rattle.std.specs.Prelude.{◌≡◌, ◌+◌, ◌<◌, ◌≤◌, ◌^◌, length, true, IfOk, IfSome};
+ghost use Rattle.std.specs.Prelude.{◌≡◌, ◌+◌, ◌<◌, ◌≤◌, ◌^◌, [], ◌∷◌, length, true, IfOk, IfSome};
 ghost use Rattle.std.specs.List.{list_all};
 ghost use Rattle.std.specs.Char.{is_ascii_digit};
 ghost use Rattle.desk_units.specs.Padded.{IsNameLength};
 ghost use Rattle.desk_text.specs.Days.{day_of};
 ghost use Rattle.file_rows.specs.Seen.{IsSeen};
-ghost use Rattle.desk_text.specs.Fields.{name_of, decimal_value, digits_of, number_from, number_of, fraction_of, decimal_of, price_of, weight_of, three_numbers, seats_of, year_from, day_from, date_of, minutes_from, minutes_and_days, minute_from, time_of, haul_of, cabin_of, inbound_of};
+ghost use Rattle.desk_text.specs.Fields.{only_if, name_of, decimal_value, digits_of, number_from, number_of, fraction_of, decimal_of, price_of, weight_of, three_numbers, seats_of, year_from, day_from, date_of, minutes_from, minutes_and_days, minute_from, time_of, haul_of, cabin_of, inbound_of};
 
 use crate::days::day_of;
 use crate::reading::cut;
@@ -22,25 +22,20 @@ pub fn name(field: &[u8]) -> Result<Name, Cause>
     Name::of(field).ok_or(Cause::Size)
 }
 
-/// Whether all bytes are digits.
-fn are_digits(bytes: &[u8]) -> bool
-    ensures { result ≡ list_all is_ascii_digit bytes.now }
-{
-    bytes.iter().all(|byte| byte.is_ascii_digit())
-}
-
-/// The number that up to 9 digits spell.
-fn decimal_value(digits: &[u8]) -> u32
-    requires digits { list_all is_ascii_digit digits.now ≡ true }
-    requires size { length digits.now ≤ 9 }
-    ensures exact { result ≡ decimal_value digits.now }
-    ensures below { result < 10 ^ length digits.now }
+/// The number that up to 9 bytes spell, where all of them are digits.
+fn decimal_value(bytes: &[u8]) -> Option<u32>
+    requires { length bytes.now ≤ 9 }
+    ensures exact { result ≡ only_if (list_all is_ascii_digit bytes.now) (decimal_value bytes.now) }
+    ensures below { IfSome result (λ n. n < 10 ^ length bytes.now) }
 {
     let mut value = 0;
-    for digit in digits {
-        value = 10 * value + u32::from(*digit - b'0');
+    for byte in bytes {
+        if !byte.is_ascii_digit() {
+            return None;
+        }
+        value = 10 * value + u32::from(*byte - b'0');
     }
-    value
+    Some(value)
 }
 
 /// The number that 1 to `longest` digits spell.
@@ -51,9 +46,8 @@ fn digits(bytes: &[u8], longest: usize) -> Option<u32>
     ensures below { IfSome result (λ n. n < 10 ^ length bytes.now) }
     ensures size { IfSome result (λ _. (1 ≤ length bytes.now) × (length bytes.now ≤ longest)) }
 {
-    let is_number = (1 <= bytes.len() && bytes.len() <= longest) && are_digits(bytes);
-    if is_number {
-        Some(decimal_value(bytes))
+    if 1 <= bytes.len() && bytes.len() <= longest {
+        decimal_value(bytes)
     } else {
         None
     }
@@ -200,9 +194,38 @@ fn year_from(bytes: &[u8]) -> Option<u32>
     }
 }
 
-/// The number of the day that a date names.
+/// The number that two digits spell.
+#[tactic(auto, unfolding(crate::specs::Fields::digits_of))]
+fn number_of_two(a: u8, b: u8) -> Option<u32>
+    ensures exact { result ≡ digits_of 2 (a ∷ b ∷ []) }
+    ensures small { IfSome result (λ n. n < 100) }
+{
+    if a.is_ascii_digit() && b.is_ascii_digit() {
+        Some(10 * u32::from(a - b'0') + u32::from(b - b'0'))
+    } else {
+        None
+    }
+}
+
+/// The day, the month and the year of a date that is written `dd/mm/yy`, as most are.
+fn usual_date(bytes: &[u8]) -> Option<(u32, u32, u32)>
+    ensures exact { IfSome result (λ date. day_from bytes.now ≡ day_of date.0 date.1 date.2) }
+    ensures small { IfSome result (λ date. date.2 < 100) }
+{
+    match bytes {
+        [a, b, first, c, d, second, e, f] if *first == SLASH && *second == SLASH => {
+            let day = number_of_two(*a, *b)?;
+            let month = number_of_two(*c, *d)?;
+            let year = number_of_two(*e, *f)?;
+            Some((day, month, year))
+        }
+        _ => None,
+    }
+}
+
+/// The number of the day that a date in any of its forms names.
 #[tactic(auto, unfolding(crate::specs::Fields::day_from))]
-fn day_from(bytes: &[u8]) -> Option<u32>
+fn day_of_parts(bytes: &[u8]) -> Option<u32>
     ensures exact { result ≡ day_from bytes.now }
     ensures small { IfSome result (λ n. n < 36525) }
 {
@@ -212,6 +235,17 @@ fn day_from(bytes: &[u8]) -> Option<u32>
     let month = digits(second, 2)?;
     let year = year_from(third)?;
     day_of(day, month, year)
+}
+
+/// The number of the day that a date names.
+fn day_from(bytes: &[u8]) -> Option<u32>
+    ensures exact { result ≡ day_from bytes.now }
+    ensures small { IfSome result (λ n. n < 36525) }
+{
+    match usual_date(bytes) {
+        Some((day, month, year)) => day_of(day, month, year),
+        None => day_of_parts(bytes),
+    }
 }
 
 /// A date `dd/mm/yy` or `dd/mm/yyyy` of the years 2000 to 2099, its day and month in 1 or 2 digits,
@@ -288,14 +322,11 @@ pub fn time(field: &[u8]) -> Result<(u32, Option<u32>), Cause>
 pub fn haul(field: &[u8]) -> Result<Haul, Cause>
     ensures { result ≡ haul_of field.now }
 {
-    if field == b"D".as_slice() {
-        Ok(Haul::D)
-    } else if field == b"C".as_slice() {
-        Ok(Haul::C)
-    } else if field == b"I".as_slice() {
-        Ok(Haul::I)
-    } else {
-        Err(Cause::Word)
+    match field {
+        [b'D'] => Ok(Haul::D),
+        [b'C'] => Ok(Haul::C),
+        [b'I'] => Ok(Haul::I),
+        _ => Err(Cause::Word),
     }
 }
 
@@ -303,14 +334,11 @@ pub fn haul(field: &[u8]) -> Result<Haul, Cause>
 pub fn cabin(field: &[u8]) -> Result<Cabin, Cause>
     ensures { result ≡ cabin_of field.now }
 {
-    if field == b"F".as_slice() {
-        Ok(Cabin::F)
-    } else if field == b"B".as_slice() {
-        Ok(Cabin::B)
-    } else if field == b"E".as_slice() {
-        Ok(Cabin::E)
-    } else {
-        Err(Cause::Word)
+    match field {
+        [b'F'] => Ok(Cabin::F),
+        [b'B'] => Ok(Cabin::B),
+        [b'E'] => Ok(Cabin::E),
+        _ => Err(Cause::Word),
     }
 }
 
@@ -318,11 +346,9 @@ pub fn cabin(field: &[u8]) -> Result<Cabin, Cause>
 pub fn inbound(field: &[u8]) -> Result<bool, Cause>
     ensures { result ≡ inbound_of field.now }
 {
-    if field == b"A".as_slice() {
-        Ok(false)
-    } else if field == b"R".as_slice() {
-        Ok(true)
-    } else {
-        Err(Cause::Word)
+    match field {
+        [b'A'] => Ok(false),
+        [b'R'] => Ok(true),
+        _ => Err(Cause::Word),
     }
 }

@@ -1,8 +1,12 @@
 -- What each command did, once it was done.
-use Rattle.std.proofs.Common.{◌≡◌, ◌≢◌, ℕ, refl, sym, subst, ◌∙◌}
+use Rattle.std.proofs.Common.{◌≡◌, ◌≢◌, ℕ, List, refl, sym, ap, subst, ◌∙◌}
 use Rattle.std.specs.Prelude.{Option, Some, None, Result, Ok, Err}
 use Rattle.std.specs.Io.KnownBytes.{Appends}
 use Rattle.std.specs.Option.{option_map}
+use Rattle.desk_data.specs.Situation.{Situation}
+use Rattle.desk_model.specs.declared.answer.Entry.{Entry}
+use Rattle.desk_model.specs.States.{opening}
+use Rattle.desk_model.specs.Histories.{state}
 use Rattle.desk_rules.specs.Least.{least}
 use Rattle.desk_rules.specs.Cost.{cost}
 use Rattle.desk_words.specs.declared.asked.Command.{Command}
@@ -14,13 +18,17 @@ use Rattle.desk_runs.specs.Inputs.{Inputs}
 use Rattle.desk_runs.specs.Runs.{World, IsWritten}
 use Rattle.desk_runs.proofs.CausesLaw.{usage-only}
 use Rattle.desk_text.specs.Rows.{◌>>=◌}
-use Rattle.desk_tasks.specs.Play.{Story}
+use Rattle.near_moves.specs.Descent.{recovery}
+use Rattle.desk_gen.specs.Generated.{text_of}
+use Rattle.desk_tasks.specs.declared.ended.SearchEnd.{SearchEnd}
+use Rattle.desk_tasks.specs.Play.{Story, history_outcome, plan_status}
+use Rattle.desk_tasks.specs.Recover.{Recovery, recovered_history, search_end, recovered, told_alone, tried}
 use Rattle.desk_tasks.specs.Judge.{Judged, verdict, verdict_report, rule_status, judged}
 use Rattle.desk_tasks.specs.Generate.{generation}
-use Rattle.desk_tasks.specs.Tasks.{Task, play, judge, generate, outcome}
-use Rattle.desk_tasks.proofs.HeadlineLaw.{has-headline}
-use Rattle.desk_story.specs.Story.{Rows, rows_of, story_of_rows, judged_of_rows, task_of_rows, task_of}
-use Rattle.desk_top.specs.Desk.{meaning, Runs, IsDone, IsReplayed, IsChecked, IsGenerated}
+use Rattle.desk_tasks.specs.Tasks.{Task, play, recover, trial, judge, generate, outcome}
+use Rattle.desk_tasks.proofs.HeadlineLaw.{has-headline, has-recovered, has-tried}
+use Rattle.desk_story.specs.Story.{Rows, rows_of, usual_moves, story_of_rows, recovery_of_rows, trial_of, judged_of_rows, task_of_rows, task_of}
+use Rattle.desk_top.specs.Desk.{meaning, Runs, IsDone, IsReplayed, IsRecovered, IsTried, IsChecked, IsGenerated}
 
 -- ---- what is asked
 
@@ -43,6 +51,14 @@ played_task : (read : Result Story Refusal) (t : Task) → (read >>= (λ story. 
 played_task (Ok s) t e = (s, let is : play s ≡ t = cc in sym is)
 played_task (Err r) t e = absurd cc
 
+recover_task : (read : Result Recovery Refusal) (t : Task) → (read >>= (λ recovery. let r : Result Task Refusal = Ok (recover recovery) in r)) ≡ Ok t → (r : Recovery) × (t ≡ recover r) × (read ≡ Ok r)
+recover_task (Ok r) t e = (r, (let is : recover r ≡ t = cc in sym is), refl)
+recover_task (Err r) t e = absurd cc
+
+trial_task : (read : Result Recovery Refusal) (t : Task) → (read >>= (λ recovery. let r : Result Task Refusal = Ok (trial recovery) in r)) ≡ Ok t → (r : Recovery) × (t ≡ trial r) × (read ≡ Ok r)
+trial_task (Ok r) t e = (r, (let is : trial r ≡ t = cc in sym is), refl)
+trial_task (Err r) t e = absurd cc
+
 judged_task : (read : Result Judged Refusal) (t : Task) → (read >>= (λ judged. let r : Result Task Refusal = Ok (judge judged) in r)) ≡ Ok t → (j : Judged) × (t ≡ judge j)
 judged_task (Ok j) t e = (j, let is : judge j ≡ t = cc in sym is)
 judged_task (Err r) t e = absurd cc
@@ -51,6 +67,16 @@ replay_rows : (read : Read) (t : Task) → (read >>= task_of_rows command_is.Rep
 unfolding task_of_rows
 replay_rows (Ok rows) t e = played_task (story_of_rows rows) t e
 replay_rows (Err r) t e = absurd cc
+
+recover_rows : (moves : ℕ) (read : Read) (t : Task) → (read >>= task_of_rows (command_is.Recover moves)) ≡ Ok t → (r : Recovery) × (t ≡ recover r)
+unfolding task_of_rows
+recover_rows moves (Ok rows) t e = let held = recover_task (recovery_of_rows moves rows) t e in (held.0, held.1)
+recover_rows moves (Err r) t e = absurd cc
+
+trial_rows : (seed size : ℕ) (read : Read) (t : Task) → (read >>= task_of_rows (command_is.Trial seed size)) ≡ Ok t → (r : Recovery) × (t ≡ trial r) × (trial_of seed size ≡ Ok r)
+unfolding task_of_rows
+trial_rows seed size (Ok rows) t e = trial_task (trial_of seed size) t e
+trial_rows seed size (Err r) t e = absurd cc
 
 check_rows : (read : Read) (t : Task) → (read >>= task_of_rows command_is.Check) ≡ Ok t → (j : Judged) × (t ≡ judge j)
 unfolding task_of_rows
@@ -65,6 +91,24 @@ gen_rows seed size (Err r) t e = absurd cc
 replay_task : (x : Inputs) (t : Task) → task_of command_is.Replay x ≡ Ok t → (s : Story) × (t ≡ play s)
 unfolding task_of
 replay_task x t e = replay_rows (rows_of command_is.Replay x) t e
+
+recovery_task : (moves : ℕ) (x : Inputs) (t : Task) → task_of (command_is.Recover moves) x ≡ Ok t → (r : Recovery) × (t ≡ recover r)
+unfolding task_of
+recovery_task moves x t e = recover_rows moves (rows_of (command_is.Recover moves) x) t e
+
+tried_task : (seed size : ℕ) (x : Inputs) (t : Task) → task_of (command_is.Trial seed size) x ≡ Ok t → (r : Recovery) × (t ≡ trial r) × (trial_of seed size ≡ Ok r)
+unfolding task_of
+tried_task seed size x t e = trial_rows seed size (rows_of (command_is.Trial seed size) x) t e
+
+-- a trial asks for what `recover` asks for of the texts
+asked_rows : (moves : ℕ) (read : Read) (r : Recovery) → (read >>= recovery_of_rows moves) ≡ Ok r → (read >>= task_of_rows (command_is.Recover moves)) ≡ Ok (recover r)
+unfolding task_of_rows
+asked_rows moves (Ok rows) r e = ap (λ (made : Result Recovery Refusal). made >>= (λ recovery. let r : Result Task Refusal = Ok (recover recovery) in r)) e
+asked_rows moves (Err why) r e = absurd cc
+
+asked_as_recover : (seed size : ℕ) (r : Recovery) → trial_of seed size ≡ Ok r → task_of (command_is.Recover usual_moves) (text_of seed size) ≡ Ok (recover r)
+unfolding task_of trial_of
+asked_as_recover seed size r e = asked_rows usual_moves (rows_of (command_is.Recover usual_moves) (text_of seed size)) r e
 
 check_task : (x : Inputs) (t : Task) → task_of command_is.Check x ≡ Ok t → (j : Judged) × (t ≡ judge j)
 unfolding task_of
@@ -90,6 +134,36 @@ replayed before now x code done =
     let parts = done_as command_is.Replay before now x code (play story.0) done story.1 in
     let held = has-headline before now story.0 (subst meaning.IsSound story.1 done.sound) parts.2 in
     record { story = story.0; told = parts.0; history = held.history; headline = held.headline }
+
+-- ---- recover and trial
+
+history_status : (I : Situation) (search : Option SearchEnd) (h : List Entry) → (history_outcome I search h).status ≡ plan_status (state (opening I) h).broken
+unfolding history_outcome
+history_status I search h = refl
+
+recovered_status : (r : Recovery) (h : List Entry) → h ≡ recovery r.moves (opening r.day) r.batches → (recovered r).status ≡ plan_status (state (opening r.day) h).broken
+unfolding recovered_history
+recovered_status r h is =
+    history_status r.day (search_end r.day r.moves (recovery r.moves (opening r.day) r.batches)) (recovery r.moves (opening r.day) r.batches)
+    ∙ ap (λ (g : List Entry). plan_status (state (opening r.day) g).broken) (sym is)
+
+tried_status : (r : Recovery) → (tried r).status ≡ (recovered r).status
+unfolding told_alone
+tried_status r = refl
+
+pub recovered-day : (before now : World) (moves : ℕ) (x : Inputs) (code : ℕ) → IsDone (command_is.Recover moves) before now x code → IsRecovered before now moves x code
+recovered-day before now moves x code done =
+    let r = recovery_task moves x done.task done.told in
+    let parts = done_as (command_is.Recover moves) before now x code (recover r.0) done r.1 in
+    let held = has-recovered before now r.0 (subst meaning.IsSound r.1 done.sound) parts.2 in
+    record { recovery = r.0; told = parts.0; history = held.history; status = parts.1 ∙ recovered_status r.0 held.history held.recovers.exact; recovers = held.recovers; written = held.written }
+
+pub tried-day : (before now : World) (seed size : ℕ) (x : Inputs) (code : ℕ) → IsDone (command_is.Trial seed size) before now x code → IsTried before now seed size code
+tried-day before now seed size x code done =
+    let r = tried_task seed size x done.task done.told in
+    let parts = done_as (command_is.Trial seed size) before now x code (trial r.0) done r.1 in
+    let held = has-tried before now r.0 (subst meaning.IsSound r.1 done.sound) parts.2 in
+    record { recovery = r.0; told = asked_as_recover seed size r.0 r.2; history = held.history; status = parts.1 ∙ tried_status r.0 ∙ recovered_status r.0 held.history held.recovers.exact; recovers = held.recovers; reported = held.reported }
 
 -- ---- check
 

@@ -41,6 +41,8 @@ obeyed-fault c before now sink e only order stops cause gives = by_fault c befor
 
 sound_of : (t : InputTask) → CanBeDone t → IsSound (as_task t)
 sound_of (input.Play s) h = h.asked
+sound_of (input.Recover r) h = h.sound
+sound_of (input.Try r) h = h.sound
 sound_of (input.Judge p) h = h
 sound_of (input.Generate seed size) h = tt
 

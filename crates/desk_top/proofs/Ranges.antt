@@ -1,5 +1,5 @@
 -- The numbers of the words are in their ranges.
-use Rattle.std.proofs.Common.{◌≡◌, ℕ, ◌≤◌, true, false, ◌&&◌, List, [], ◌∷◌, sym, subst, inl, inr, arith}
+use Rattle.std.proofs.Common.{◌≡◌, ℕ, ◌≤◌, Bool, true, false, ◌&&◌, if◌then◌else◌, List, [], ◌∷◌, sym, subst, inl, inr, arith}
 use Rattle.std.specs.Prelude.{Option, Some, None, IfSome, nat_le, bytes_eq, codes}
 use Rattle.std.proofs.lemmas.Bool.{cases_Bool, leb-true}
 use Rattle.desk_folder.specs.Outside.{Directories}
@@ -9,7 +9,7 @@ use Rattle.desk_words.specs.declared.asked.Command.TheVariants as command_is
 use Rattle.desk_words.specs.declared.choice.Choice.{Choice}
 use Rattle.desk_words.specs.declared.choice.Choice.TheVariants as choice_is
 use Rattle.desk_words.specs.Arguments.{Argument, arguments, places}
-use Rattle.desk_words.specs.Commands.{Asking, least_of, most_of, value_in, value_of, is_unset, input_and_output, output_alone, plain, generating, asked_by, command}
+use Rattle.desk_words.specs.Commands.{Asking, least_of, most_of, value_in, value_of, no_day_options, no_search_options, input_and_output, output_alone, no_directory, plain, searching, recovering, making, generating, sampling, trying, command_by, command}
 use Rattle.desk_runs.specs.Commands.{IsCommand}
 
 -- from a least to a greatest number
@@ -36,6 +36,8 @@ number_within low high bytes = only_within low high (digits_of 9 bytes)
 value_within : (choice : Choice) (texts : List (List ℕ)) → IfSome (value_in choice texts) (Within (least_of choice) (most_of choice))
 value_within choice_is.Seed [] = (omega arith, omega arith)
 value_within choice_is.Size [] = (omega arith, omega arith)
+value_within choice_is.Workers [] = (omega arith, omega arith)
+value_within choice_is.Moves [] = (omega arith, omega arith)
 value_within choice (text ∷ []) = number_within (least_of choice) (most_of choice) text
 value_within choice (text ∷ other ∷ texts) = tt
 
@@ -44,39 +46,63 @@ value_within choice (text ∷ other ∷ texts) = tt
 abbrev InRange : Option Asking → Type 0
 InRange o = IfSome o (λ asked. IsCommand asked.0)
 
-generating_in : (seed size : Option ℕ) (dirs : Option Directories) → IfSome seed (Within 0 999999999) → IfSome size (Within 1 40) → InRange (seed >>= (λ seed. size >>= (λ size. dirs >>= (λ dirs. Some (command_is.Gen seed size, dirs)))))
-generating_in None size dirs a b = tt
-generating_in (Some seed) None dirs a b = tt
-generating_in (Some seed) (Some size) None a b = tt
-generating_in (Some seed) (Some size) (Some d) a b = (a.1, b.0, b.1)
+-- directories change no number
+with_dirs : (c : Command) (dirs : Option Directories) → IsCommand c → InRange (dirs >>= (λ dirs. Some (c, Some dirs)))
+with_dirs c None h = tt
+with_dirs c (Some d) h = h
+
+without_dirs : (c : Command) (none : Option (Unit {0})) → IsCommand c → InRange (none >>= (λ none. Some (c, None)))
+without_dirs c None h = tt
+without_dirs c (Some none) h = h
+
+if_range : (test : Bool) (o : Option Asking) → InRange o → InRange (if test then o else None)
+if_range true o h = h
+if_range false o h = tt
+
+searching_in : (workers moves : Option ℕ) (dirs : Option Directories) → IfSome moves (Within 1 100000) → InRange (workers >>= (λ workers. moves >>= (λ moves. dirs >>= (λ dirs. Some (command_is.Recover moves, Some dirs)))))
+searching_in None moves dirs a = tt
+searching_in (Some workers) None dirs a = tt
+searching_in (Some workers) (Some moves) dirs a = with_dirs (command_is.Recover moves) dirs a
+
+recovering_range : (list : List Argument) → InRange (recovering list)
+unfolding searching
+recovering_range list = if_range (no_day_options list) _ (searching_in (value_of choice_is.Workers list) (value_of choice_is.Moves list) (input_and_output (places list)) (value_within choice_is.Moves _))
+
+making_in : (seed size : Option ℕ) (dirs : Option Directories) → IfSome seed (Within 0 999999999) → IfSome size (Within 1 40) → InRange (seed >>= (λ seed. size >>= (λ size. dirs >>= (λ dirs. Some (command_is.Gen seed size, Some dirs)))))
+making_in None size dirs a b = tt
+making_in (Some seed) None dirs a b = tt
+making_in (Some seed) (Some size) dirs a b = with_dirs (command_is.Gen seed size) dirs (a.1, b.0, b.1)
 
 generating_range : (list : List Argument) → InRange (generating list)
-unfolding generating
-generating_range list = generating_in (value_of choice_is.Seed list) (value_of choice_is.Size list) (output_alone (places list)) (value_within choice_is.Seed _) (value_within choice_is.Size _)
+unfolding making
+generating_range list = if_range (no_search_options list) _ (making_in (value_of choice_is.Seed list) (value_of choice_is.Size list) (output_alone (places list)) (value_within choice_is.Seed _) (value_within choice_is.Size _))
 
-plain_in : (c : Command) (seed size : Option (Unit {0})) (dirs : Option Directories) → IsCommand c → InRange (seed >>= (λ seed. size >>= (λ size. dirs >>= (λ dirs. Some (c, dirs)))))
-plain_in c None size dirs h = tt
-plain_in c (Some seed) None dirs h = tt
-plain_in c (Some seed) (Some size) None h = tt
-plain_in c (Some seed) (Some size) (Some d) h = h
+sampling_in : (seed size : Option ℕ) (none : Option (Unit {0})) → IfSome seed (Within 0 999999999) → IfSome size (Within 1 40) → InRange (seed >>= (λ seed. size >>= (λ size. none >>= (λ none. Some (command_is.Trial seed size, None)))))
+sampling_in None size none a b = tt
+sampling_in (Some seed) None none a b = tt
+sampling_in (Some seed) (Some size) none a b = without_dirs (command_is.Trial seed size) none (a.1, b.0, b.1)
+
+trying_range : (list : List Argument) → InRange (trying list)
+unfolding sampling
+trying_range list = if_range (no_search_options list) _ (sampling_in (value_of choice_is.Seed list) (value_of choice_is.Size list) (no_directory (places list)) (value_within choice_is.Seed _) (value_within choice_is.Size _))
 
 plain_range : (c : Command) (list : List Argument) → IsCommand c → InRange (plain c list)
 unfolding plain
-plain_range c list h = plain_in c (is_unset choice_is.Seed list) (is_unset choice_is.Size list) (input_and_output (places list)) h
+plain_range c list h = if_range (no_day_options list && no_search_options list) _ (with_dirs c (input_and_output (places list)) h)
 
-asked_range : (word : List ℕ) (list : List Argument) → InRange (asked_by word list)
-asked_range word list = elim (cases_Bool (bytes_eq word (codes "replay"))) [
-  | inl e ↦ rw e (plain_range command_is.Replay list tt)
-  | inr e ↦ elim (cases_Bool (bytes_eq word (codes "check"))) [
-    | inl f ↦ rw (e, f) (plain_range command_is.Check list tt)
-    | inr f ↦ elim (cases_Bool (bytes_eq word (codes "gen"))) [
-      | inl g ↦ rw (e, f, g) (generating_range list)
-      | inr g ↦ rw (e, f, g) tt
-    ]
-  ]
-]
+asked_range : (word : List ℕ) (list : List Argument) → InRange (command_by word list)
+asked_range word list =
+    choice_range (bytes_eq word (codes "replay")) (plain command_is.Replay list) _ (plain_range command_is.Replay list tt)
+    (choice_range (bytes_eq word (codes "recover")) (recovering list) _ (recovering_range list)
+    (choice_range (bytes_eq word (codes "check")) (plain command_is.Check list) _ (plain_range command_is.Check list tt)
+    (choice_range (bytes_eq word (codes "gen")) (generating list) _ (generating_range list)
+    (if_range (bytes_eq word (codes "trial")) (trying list) (trying_range list)))))
+  where
+    choice_range : (test : Bool) (a b : Option Asking) → InRange a → InRange b → InRange (if test then a else b)
+    choice_range true a b h k = h
+    choice_range false a b h k = k
 
-behind_range : (word : List ℕ) (read : Option (List Argument)) → InRange (read >>= asked_by word)
+behind_range : (word : List ℕ) (read : Option (List Argument)) → InRange (read >>= command_by word)
 behind_range word None = tt
 behind_range word (Some list) = asked_range word list
 

@@ -2,7 +2,8 @@
 use Rattle.std.proofs.Common.{◌≡◌, ℕ, true, List, refl, ap, ◌∙◌}
 use Rattle.std.specs.Prelude.{codes}
 use Rattle.folder_io.specs.Outputs.{FileText, files_of, are_different}
-use Rattle.desk_gen.specs.Generated.{generated, generated_files}
+use Rattle.desk_folder.specs.Files.{day_files}
+use Rattle.desk_gen.specs.Generated.{generated}
 use Rattle.desk_runs.specs.declared.ending.Ending.{Ending}
 use Rattle.desk_runs.specs.declared.ending.Ending.TheVariants as ending
 use Rattle.desk_runs.specs.Outcome.{Texts}
@@ -30,8 +31,8 @@ status_is : (seed size : ℕ) → (generation seed size).status ≡ 0
 unfolding generation
 status_is seed size = refl
 
-pub made-all : (before now : World) (seed size : ℕ) (t : Texts) (ok : Unit {0}) → t ≡ (generation seed size).texts → PutsOutputs before now t (all_done ok) → Completes generated_files before now (generation seed size) ending.Done
-made-all before now seed size t ok is put = completes-all generated_files before now (generation seed size) t ending.Done ok (generated-files seed size) is (status_is seed size) put
+pub made-all : (before now : World) (seed size : ℕ) (t : Texts) (ok : Unit {0}) → t ≡ (generation seed size).texts → PutsOutputs before now t (all_done ok) → Completes day_files before now (generation seed size) ending.Done
+made-all before now seed size t ok is put = completes-all day_files before now (generation seed size) t ending.Done ok (generated-files seed size) is (status_is seed size) put
 
-pub made-short : (before now : World) (seed size : ℕ) (t : Texts) (how : Ending) → t ≡ (generation seed size).texts → PutsOutputs before now t (ended_by how) → Completes generated_files before now (generation seed size) how
-made-short before now seed size t how is put = completes-short generated_files before now (generation seed size) t how (generated-files seed size) is put
+pub made-short : (before now : World) (seed size : ℕ) (t : Texts) (how : Ending) → t ≡ (generation seed size).texts → PutsOutputs before now t (ended_by how) → Completes day_files before now (generation seed size) how
+made-short before now seed size t how is put = completes-short day_files before now (generation seed size) t how (generated-files seed size) is put

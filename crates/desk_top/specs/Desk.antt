@@ -2,6 +2,8 @@
 use Rattle.std.specs.Prelude.{◌≡◌, ℕ, List, Option, Ok}
 use Rattle.std.specs.Io.KnownBytes.{Appends}
 use Rattle.desk_model.specs.declared.answer.Entry.{Entry}
+use Rattle.desk_model.specs.States.{opening}
+use Rattle.desk_model.specs.Histories.{state}
 use Rattle.desk_rules.specs.Least.{least}
 use Rattle.desk_rules.specs.Cost.{cost}
 use Rattle.desk_words.specs.declared.asked.Command.{Command}
@@ -14,12 +16,14 @@ use Rattle.desk_runs.specs.Runs.{World, Meaning, IsWritten}
 use Rattle.desk_runs.specs.Runs as runs
 use Rattle.desk_runs.specs.Causes as causes
 use Rattle.desk_runs.specs.Standing as standing
-use Rattle.desk_tasks.specs.Play.{Story}
+use Rattle.desk_tasks.specs.Play.{Story, report_text, plan_status}
+use Rattle.desk_tasks.specs.Recover.{Recovery, search_end}
 use Rattle.desk_tasks.specs.Judge.{Judged, verdict_report, rule_status}
 use Rattle.desk_tasks.specs.Generate.{generation}
-use Rattle.desk_tasks.specs.Tasks.{Task, play, judge, outcome, IsSound}
-use Rattle.desk_tasks.specs.Headline.{Headline}
-use Rattle.desk_story.specs.Story.{Rows, rows_of, task_of}
+use Rattle.desk_tasks.specs.Tasks.{Task, play, recover, judge, outcome, IsSound}
+use Rattle.desk_tasks.specs.Headline.{TellsHistory, Headline, Recovers}
+use Rattle.desk_gen.specs.Generated.{text_of}
+use Rattle.desk_story.specs.Story.{Rows, rows_of, usual_moves, task_of}
 
 -- what inputs say to a command: the rows of all its files, or the first refusal by a grammar; and the task, or the first refusal
 abbrev pub meaning : Meaning Rows Task
@@ -59,6 +63,25 @@ pub record IsReplayed (before now : World) (x : Inputs) : Type 0 where
   pub told : task_of command_is.Replay x ≡ Ok (play story)
   pub history : List Entry
   pub headline : Headline before now story history
+
+-- `recover`: the inputs tell a day and its batches, and there is a history with the headline; the status is 1 where it ends with no plan
+-- and else 0
+pub record IsRecovered (before now : World) (moves : ℕ) (x : Inputs) (code : ℕ) : Type 0 where
+  pub recovery : Recovery
+  pub told : task_of (command_is.Recover moves) x ≡ Ok (recover recovery)
+  pub history : List Entry
+  pub status : code ≡ plan_status (state (opening recovery.day) history).broken
+  pub recovers : Recovers recovery history
+  pub written : TellsHistory before now recovery.day (search_end recovery.day recovery.moves history) history
+
+-- `trial`: the same of the texts of a day that is made up, read as `recover` reads them with its usual options, and reported alone
+pub record IsTried (before now : World) (seed size : ℕ) (code : ℕ) : Type 0 where
+  pub recovery : Recovery
+  pub told : task_of (command_is.Recover usual_moves) (text_of seed size) ≡ Ok (recover recovery)
+  pub history : List Entry
+  pub status : code ≡ plan_status (state (opening recovery.day) history).broken
+  pub recovers : Recovers recovery history
+  pub reported : Appends before.sink.written now.sink.written (report_text recovery.day (search_end recovery.day recovery.moves history) history)
 
 -- `check`: the inputs tell a day and a plan; the status is 7 where the plan breaks a rule and else 0, and the report tells the
 -- first item that is broken, or that none is, and the cost of the plan under the orders of all batches

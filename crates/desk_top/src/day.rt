@@ -1,6 +1,7 @@
 //! Making the input files of a day.
 
-ghost use Rattle.desk_gen.specs.Generated.{IsSize, generated_files};
+ghost use Rattle.desk_folder.specs.Files.{day_files};
+ghost use Rattle.desk_gen.specs.Generated.{IsSize};
 ghost use Rattle.desk_tasks.specs.Generate.{generation};
 ghost use Rattle.desk_runs.specs.Runs.{world};
 ghost use Rattle.desk_runs.specs.Finishing.{Completes};
@@ -22,7 +23,7 @@ pub(crate) fn write_day<F: Folder, O: Sink>(
     out: &mut O,
 ) -> Ending
     requires { IsSize size }
-    ensures { Completes generated_files (world (F.outside folder.old) (O.report out.old))
+    ensures { Completes day_files (world (F.outside folder.old) (O.report out.old))
         (world (F.outside folder.new) (O.report out.new)) (generation seed size) result }
 {
     let files = match generate(alloc, seed, size) {

@@ -5,17 +5,18 @@ ghost use Rattle.std.specs.String.{string_bytes};
 ghost use Rattle.desk_folder.specs.declared.files.File.{File};
 ghost use Rattle.desk_folder.specs.Outside.{Directories};
 ghost use Rattle.folder_io.specs.Outputs.{is_among, IsUnput};
-ghost use Rattle.desk_words.specs.declared.asked.Command.TheVariants.{Replay, Check, Gen};
+ghost use Rattle.desk_words.specs.declared.asked.Command.{Command};
+ghost use Rattle.desk_words.specs.declared.asked.Command.TheVariants.{Replay, Recover, Check, Gen, Trial};
 ghost use Rattle.desk_words.specs.Commands.{Asking, command};
 ghost use Rattle.desk_runs.specs.Commands.{asks, asked_by, files_read, reads, writes};
 ghost use Rattle.desk_runs.specs.Inputs.{Inputs, Tells};
 ghost use Rattle.desk_runs.specs.Reading.{IsUnread, StopsAt};
 ghost use Rattle.desk_runs.specs.Runs.{world, AreRead};
 ghost use Rattle.desk_runs.specs.Causes.{IsUnlessMemory, IsDoneAt, HasFault, IsFaultless};
-ghost use Rattle.desk_runs.specs.Standing.{AreBegun, IsNamedAt};
+ghost use Rattle.desk_runs.specs.Standing.{AreBegun, IsNamedAt, IsUnnamed};
 ghost use Rattle.desk_runs.specs.declared.refusal.Refusal.{Refusal as Refused};
 ghost use Rattle.desk_story.specs.Story.{rows_of, task_of};
-ghost use Rattle.desk_top.specs.Desk.{Runs, IsDone, IsReplayed, IsChecked, IsGenerated, IsRefused, IsReadable, Answers, finished_texts, IsToldLast};
+ghost use Rattle.desk_top.specs.Desk.{Runs, IsDone, IsReplayed, IsRecovered, IsTried, IsChecked, IsGenerated, IsRefused, IsReadable, Answers, finished_texts, IsToldLast};
 
 use crate::plain::{run_plain, tell};
 use desk_folder::{Folder, FolderFault, Gate, Sink};
@@ -31,7 +32,10 @@ fn told_run<F: Folder, O: Sink>(alloc: Global, words: &[String], folder: &mut F,
     let Some(asked) = command(words) else {
         return tell(alloc, Ending::Usage, out);
     };
-    match folder.place(alloc, asked.input, asked.output) {
+    let Some(dirs) = asked.directories else {
+        return run_plain(alloc, &asked.command, folder, out);
+    };
+    match folder.place(alloc, dirs.input, dirs.output) {
         Ok(()) => run_plain(alloc, &asked.command, folder, out),
         Err(FolderFault::Failed) => tell(alloc, Ending::PlaceFault, out),
         Err(FolderFault::Memory) => tell(alloc, Ending::Memory, out),
@@ -40,8 +44,8 @@ fn told_run<F: Folder, O: Sink>(alloc: Global, words: &[String], folder: &mut F,
 
 /// The desk: does what the words say, the program's name left out, and answers the status.
 ///
-/// 0: done; of a replay with a plan at the end, of a check with a plan that breaks no rule. 1: a replay was
-/// done, with no plan at the end. 2: the words are no command. 3: the input is refused. 4: the folder failed
+/// 0: done; of a replay, a recovery or a trial with a plan at the end, of a check with a plan that breaks no
+/// rule. 1: a replay, a recovery or a trial was done, with no plan at the end. 2: the words are no command. 3: the input is refused. 4: the folder failed
 /// to name the directories or to read a file. 5: the folder failed to write a file, or the sink to write the
 /// report. 6: memory ran out. 7: a check was done, and the plan breaks a rule. From 2 to 6, a line in the
 /// report says why.
@@ -58,21 +62,34 @@ pub fn desk_main<F: Folder, O: Sink, G: Gate>(
 
     // The headline: where the folder tells the bytes of its input, each replay that was done has written
     // the journal of a legal history of the events that it read, and the last plan of that history.
-    ensures headline { (dirs : Directories) → command (map string_bytes words.now) ≡ Some (Replay, dirs) →
+    ensures headline { (dirs : Directories) → command (map string_bytes words.now) ≡ Some (Replay, Some dirs) →
         (x : Inputs) → Tells (files_read Replay) (F.outside folder.old) x → IsDoneAt result →
         IsReplayed (world (F.outside folder.old) (O.report out.old))
         (world (F.outside folder.new) (O.report out.new)) x }
 
+    // The headline of a recovery: each that was done has written the journal of a legal history in which the
+    // batches that it read stand in their order, each with exactly its descent behind it, and the last plan of
+    // that history; and it has told how the last search ended.
+    ensures recovered { (moves : ℕ) → (dirs : Directories) → command (map string_bytes words.now) ≡ Some (Recover moves, Some dirs) →
+        (x : Inputs) → Tells (files_read (Recover moves)) (F.outside folder.old) x → IsDoneAt result →
+        IsRecovered (world (F.outside folder.old) (O.report out.old))
+        (world (F.outside folder.new) (O.report out.new)) moves x result }
+
+    // Each trial that was done has reported the same of the day that is made up of its seed and size.
+    ensures tried { (seed : ℕ) → (size : ℕ) → command (map string_bytes words.now) ≡ Some (Trial seed size, None) → IsDoneAt result →
+        IsTried (world (F.outside folder.old) (O.report out.old))
+        (world (F.outside folder.new) (O.report out.new)) seed size result }
+
     // Each check that was done has told the first item that the plan breaks, or that it breaks none, and the
     // whole cost of the plan, under the orders of all batches.
-    ensures checked { (dirs : Directories) → command (map string_bytes words.now) ≡ Some (Check, dirs) →
+    ensures checked { (dirs : Directories) → command (map string_bytes words.now) ≡ Some (Check, Some dirs) →
         (x : Inputs) → Tells (files_read Check) (F.outside folder.old) x → IsDoneAt result →
         IsChecked (world (F.outside folder.old) (O.report out.old))
         (world (F.outside folder.new) (O.report out.new)) x result }
 
     // Each day that was generated is written whole.
     ensures generated { (seed : ℕ) → (size : ℕ) → (dirs : Directories) →
-        command (map string_bytes words.now) ≡ Some (Gen seed size, dirs) → IsDoneAt result →
+        command (map string_bytes words.now) ≡ Some (Gen seed size, Some dirs) → IsDoneAt result →
         IsGenerated (world (F.outside folder.old) (O.report out.old))
         (world (F.outside folder.new) (O.report out.new)) seed size result }
 
@@ -121,8 +138,12 @@ pub fn desk_main<F: Folder, O: Sink, G: Gate>(
         Answers asked.0 x result }
 
     // The directories last named are those of the words, at all but 4 and 6, where the folder tells them.
-    ensures named { (asked : Asking) → command (map string_bytes words.now) ≡ Some asked → IsNamedAt result →
-        IfSome (F.outside folder.old).directories (λ was. (F.outside folder.new).directories ≡ Some asked.1) }
+    ensures named { (asked : Command) → (dirs : Directories) → command (map string_bytes words.now) ≡ Some (asked, Some dirs) → IsNamedAt result →
+        IfSome (F.outside folder.old).directories (λ was. (F.outside folder.new).directories ≡ Some dirs) }
+
+    // For a command without directories none are named, and no naming failed.
+    ensures unnamed { (asked : Command) → command (map string_bytes words.now) ≡ Some (asked, None) →
+        IsUnnamed (world (F.outside folder.old) (O.report out.old)) (world (F.outside folder.new) (O.report out.new)) }
 
     // What stands at each status: at 2, 3 and 4 no file has got a byte.
     ensures unwritten { 2 ≤ result → result ≤ 4 → (f : File) →

@@ -20,9 +20,10 @@ ghost use Rattle.desk_top.specs.Desk.{Obeys, Runs, IsDone, IsRefused, IsReadable
 use crate::day::write_day;
 use desk_folder::{Folder, FolderFault, Sink};
 use desk_judge::judge_plan;
+use desk_recover::{recover_day, try_day};
 use desk_replay::play_events;
 use desk_runs::{Ending, fault_text};
-use desk_story::{InputPlan, InputStory, InputTask, read_task};
+use desk_story::{InputPlan, InputRecovery, InputStory, InputTask, read_task};
 use desk_words::Command;
 use folder_io::put_report;
 use std::alloc::Global;
@@ -42,6 +43,22 @@ fn do_task<F: Folder, O: Sink>(
         InputTask::Play(story) => {
             let InputStory { inst, events } = story;
             play_events(alloc, inst, events.as_slice(), folder, out)
+        }
+        InputTask::Recover(recovery) => {
+            let InputRecovery {
+                inst,
+                batches,
+                moves,
+            } = recovery;
+            recover_day(alloc, inst, batches.0.as_slice(), moves, folder, out)
+        }
+        InputTask::Try(recovery) => {
+            let InputRecovery {
+                inst,
+                batches,
+                moves,
+            } = recovery;
+            try_day(alloc, inst, batches.0.as_slice(), moves, folder, out)
         }
         InputTask::Judge(judged) => {
             let InputPlan { inst, plan } = judged;
@@ -88,10 +105,10 @@ fn told<F: Folder, O: Sink>(alloc: Global, command: &Command, folder: &mut F, ou
 
 /// Does what a command says, in the directories that the folder has, and answers the status.
 ///
-/// 0: done, with a plan at the end where the command has one. 1: done, with no plan at the end. 3: the
-/// input is refused. 4: the folder failed to read a file. 5: the folder failed to write a file, or the sink
-/// to write the report. 6: memory ran out. 7: done, and the plan breaks a rule. From 3 to 6 a line in the
-/// report says why.
+/// 0: done; of a replay, a recovery or a trial with a plan at the end, of a check with a plan that breaks no
+/// rule. 1: a replay, a recovery or a trial was done, with no plan at the end. 3: the input is refused. 4: the
+/// folder failed to read a file. 5: the folder failed to write a file, or the sink to write the report. 6:
+/// memory ran out. 7: a check was done, and the plan breaks a rule. From 3 to 6 a line in the report says why.
 pub fn run_plain<F: Folder, O: Sink>(
     alloc: Global,
     command: &Command,

@@ -1,16 +1,16 @@
 -- What is kept of words is what their arguments say.
-use Rattle.std.proofs.Common.{◌≡◌, ℕ, Bool, true, false, if◌then◌else◌, eqb, List, [], ◌∷◌, ◌++◌, Option, Some, None, unwrap_or, ap, sym, ◌∙◌, refl, codes, bytes_eq}
+use Rattle.std.proofs.Common.{◌≡◌, ℕ, Bool, true, false, ◌&&◌, if◌then◌else◌, eqb, List, [], ◌∷◌, ◌++◌, Option, Some, None, unwrap_or, ap, sym, ◌∙◌, refl, codes, bytes_eq}
 use Rattle.std.proofs.lemmas.List.{append_assoc, append-nil}
 use Rattle.desk_text.specs.Fields.{◌>>=◌, number_from}
 use Rattle.desk_words.specs.declared.asked.Command.{Command}
 use Rattle.desk_words.specs.declared.asked.Command.TheVariants.{Replay, Check}
 use Rattle.desk_words.specs.declared.choice.Choice.{Choice}
-use Rattle.desk_words.specs.declared.choice.Choice.TheVariants.{Seed, Size}
+use Rattle.desk_words.specs.declared.choice.Choice.TheVariants.{Seed, Size, Workers, Moves}
 use Rattle.desk_words.specs.declared.read.Expected.{Expected}
 use Rattle.desk_words.specs.declared.read.Expected.TheVariants as expected
 use Rattle.desk_words.specs.Arguments.{Argument, Place, Setting, is_directory, choice_of, setting_of, before, named_or, set_before, only_places, arguments_behind, arguments, places, values, choice_number}
-use Rattle.desk_words.specs.Commands.{Asking, default_of, least_of, most_of, value_in, value_of, none_in, is_unset, input_and_output, plain, generating, asked_by, command}
-use Rattle.desk_words.specs.Read.{Kept, nothing, one_more, with_place, with_setting, with_argument, with_all, kept_behind, by_choice, next_is, arguments_by, of_any, of_word, unset, plain_kept, generating_kept, asked_kept}
+use Rattle.desk_words.specs.Commands.{Asking, default_of, least_of, most_of, value_in, value_of, is_nothing, is_unset, no_day_options, no_search_options, input_and_output, plain, searching, recovering, making, generating, sampling, trying, command_by, command}
+use Rattle.desk_words.specs.Read.{Kept, nothing, one_more, with_place, with_setting, with_argument, with_all, kept_behind, by_choice, next_is, arguments_by, of_any, of_word, value, with_value, unset, no_day_set, no_search_set, number_kept, plain_kept, recovering_kept, generating_kept, trying_kept, asked_kept}
 
 nowhere : {X : Type 0} (more : Option X) (f : X → Option Kept) → ((x : X) → f x ≡ None) → (more >>= f) ≡ None
 nowhere None f none = refl
@@ -84,8 +84,7 @@ value_read choice (text ∷ other ∷ others) = None
 -- this is kept of the arguments so far
 record Says (done : List Argument) (kept : Kept) : Type 0 where
   told : places done ≡ kept.places
-  seed : value_read Seed (values Seed done) ≡ Some kept.seed
-  size : value_read Size (values Size done) ≡ Some kept.size
+  set : (choice : Choice) → value_read choice (values choice done) ≡ Some (value kept.values choice)
 
 some_of : {X : Type 0} (x y : X) → Some x ≡ Some y → x ≡ y
 some_of x y e = cc
@@ -94,11 +93,11 @@ none_some : {X Y : Type 0} (x : X) → None ≡ Some x → Y
 none_some x e = absurd (cc e)
 
 -- an option that was read is set where its value is kept
-unset_read : (choice : Choice) (texts : List (List ℕ)) (value : Option ℕ) → value_read choice texts ≡ Some value → none_in texts ≡ unset value
+unset_read : (choice : Choice) (texts : List (List ℕ)) (value : Option ℕ) → value_read choice texts ≡ Some value → is_nothing texts ≡ unset value
 unset_read choice [] value e = ap unset (some_of None value e)
 unset_read choice (text ∷ []) value e = of_number (number_from (least_of choice) (most_of choice) text) value e
   where
-    of_number : (n : Option ℕ) (value : Option ℕ) → (n >>= λ k. Some (Some k)) ≡ Some value → None ≡ unset value
+    of_number : (n : Option ℕ) (value : Option ℕ) → (n >>= λ k. Some (Some k)) ≡ Some value → false ≡ unset value
     of_number None value e = none_some value e
     of_number (Some k) value e = ap unset (some_of (Some k) value e)
 unset_read choice (text ∷ other ∷ others) value e = none_some value e
@@ -113,32 +112,49 @@ value_kept choice (text ∷ []) value e = of_number (number_from (least_of choic
     of_number (Some k) value e = ap (λ v. Some (unwrap_or v (default_of choice))) (some_of (Some k) value e)
 value_kept choice (text ∷ other ∷ others) value e = none_some value e
 
+day_says : (done : List Argument) (kept : Kept) → Says done kept → no_day_options done ≡ no_day_set kept.values
+day_says done kept h = rw (unset_read Seed (values Seed done) kept.values.seed (h.set Seed), unset_read Size (values Size done) kept.values.size (h.set Size)) refl
+
+search_says : (done : List Argument) (kept : Kept) → Says done kept → no_search_options done ≡ no_search_set kept.values
+search_says done kept h = rw (unset_read Workers (values Workers done) kept.values.workers (h.set Workers), unset_read Moves (values Moves done) kept.values.moves (h.set Moves)) refl
+
+number_says : (choice : Choice) (done : List Argument) (kept : Kept) → Says done kept → value_of choice done ≡ Some (number_kept choice kept)
+number_says choice done kept h = value_kept choice (values choice done) (value kept.values choice) (h.set choice)
+
 plain_says : (command : Command) (done : List Argument) (kept : Kept) → Says done kept → plain command done ≡ plain_kept command kept
 unfolding plain plain_kept
-plain_says command done kept h =
-    rw (unset_read Seed (values Seed done) kept.seed h.seed, unset_read Size (values Size done) kept.size h.size, h.told) refl
+plain_says command done kept h = rw (day_says done kept h, search_says done kept h, h.told) refl
+
+recovering_says : (done : List Argument) (kept : Kept) → Says done kept → recovering done ≡ recovering_kept kept
+unfolding searching recovering_kept
+recovering_says done kept h = rw (day_says done kept h, number_says Workers done kept h, number_says Moves done kept h, h.told) refl
 
 generating_says : (done : List Argument) (kept : Kept) → Says done kept → generating done ≡ generating_kept kept
-unfolding generating generating_kept
-generating_says done kept h =
-    rw (value_kept Seed (values Seed done) kept.seed h.seed, value_kept Size (values Size done) kept.size h.size, h.told) refl
+unfolding making generating_kept
+generating_says done kept h = rw (search_says done kept h, number_says Seed done kept h, number_says Size done kept h, h.told) refl
+
+trying_says : (done : List Argument) (kept : Kept) → Says done kept → trying done ≡ trying_kept kept
+unfolding sampling trying_kept
+trying_says done kept h = rw (search_says done kept h, number_says Seed done kept h, number_says Size done kept h, h.told) refl
 
 if_same : {X : Type 0} (test : Bool) (a b c d : X) → a ≡ b → c ≡ d → (if test then a else c) ≡ (if test then b else d)
 if_same true a b c d e f = e
 if_same false a b c d e f = f
 
-says_all : (word : List ℕ) (done : List Argument) (kept : Kept) → Says done kept → asked_by word done ≡ asked_kept word kept
+says_all : (word : List ℕ) (done : List Argument) (kept : Kept) → Says done kept → command_by word done ≡ asked_kept word kept
 says_all word done kept h =
     if_same (bytes_eq word (codes "replay")) (plain Replay done) (plain_kept Replay kept) _ _ (plain_says Replay done kept h)
+    (if_same (bytes_eq word (codes "recover")) (recovering done) (recovering_kept kept) _ _ (recovering_says done kept h)
     (if_same (bytes_eq word (codes "check")) (plain Check done) (plain_kept Check kept) _ _ (plain_says Check done kept h)
-    (if_same (bytes_eq word (codes "gen")) (generating done) (generating_kept kept) None None (generating_says done kept h) refl))
+    (if_same (bytes_eq word (codes "gen")) (generating done) (generating_kept kept) _ _ (generating_says done kept h)
+    (if_same (bytes_eq word (codes "trial")) (trying done) (trying_kept kept) None None (trying_says done kept h) refl))))
 
 -- arguments that no command takes: too many directories, or an option that is set wrongly
 data Fails (list : List Argument) : Type 0 where
   many : (a b c : List ℕ) (others : List (List ℕ)) → places list ≡ a ∷ b ∷ c ∷ others → Fails list
   wrong : (choice : Choice) → value_in choice (values choice list) ≡ None → Fails list
 
-unset_wrong : (choice : Choice) (texts : List (List ℕ)) → value_in choice texts ≡ None → none_in texts ≡ None
+unset_wrong : (choice : Choice) (texts : List (List ℕ)) → value_in choice texts ≡ None → is_nothing texts ≡ false
 unset_wrong choice [] e = none_some (default_of choice) (sym e)
 unset_wrong choice (text ∷ texts) e = refl
 
@@ -146,28 +162,77 @@ bind_none : {X Y : Type 0} (x : Option X) (f : X → Option Y) → ((y : X) → 
 bind_none None f none = refl
 bind_none (Some y) f none = none y
 
-plain_fails : (command : Command) (list : List Argument) → Fails list → plain command list ≡ None
-unfolding plain
-plain_fails command list (many a b c others e) =
-    bind_none (is_unset Seed list) _ (λ x. bind_none (is_unset Size list) _ (λ y. ap (λ p. input_and_output p >>= λ dirs. Some (command, dirs)) e))
-plain_fails command list (wrong Seed e) = rw (unset_wrong Seed (values Seed list) e) refl
-plain_fails command list (wrong Size e) = bind_none (is_unset Seed list) _ (λ x. rw (unset_wrong Size (values Size list) e) refl)
-
-generating_fails : (list : List Argument) → Fails list → generating list ≡ None
-unfolding generating
-generating_fails list (many a b c others e) = bind_none (value_of Seed list) _ (λ x. bind_none (value_of Size list) _ (λ y. rw e refl))
-generating_fails list (wrong Seed e) = rw e refl
-generating_fails list (wrong Size e) = bind_none (value_of Seed list) _ (λ x. rw e refl)
-
 if_none : {X : Type 0} (test : Bool) (a b : Option X) → a ≡ None → b ≡ None → (if test then a else b) ≡ None
 if_none true a b e f = e
 if_none false a b e f = f
 
-fails_all : (word : List ℕ) (list : List Argument) → Fails list → asked_by word list ≡ None
+and_false : (a b : Bool) → b ≡ false → (a && b) ≡ false
+and_false true b e = e
+and_false false b e = refl
+
+-- whether an option is one of a day that is made up
+abbrev IsOfDay : Choice → Type 0
+IsOfDay Seed = Unit {0}
+IsOfDay Size = Unit {0}
+IsOfDay other = ⊥
+
+day_wrong : (choice : Choice) (list : List Argument) → value_in choice (values choice list) ≡ None → IsOfDay choice → no_day_options list ≡ false
+day_wrong Seed list e of = rw (unset_wrong Seed (values Seed list) e) refl
+day_wrong Size list e of = and_false (is_unset Seed list) (is_unset Size list) (unset_wrong Size (values Size list) e)
+day_wrong Workers list e of = absurd of
+day_wrong Moves list e of = absurd of
+
+search_wrong : (choice : Choice) (list : List Argument) → value_in choice (values choice list) ≡ None → (IsOfDay choice → ⊥) → no_search_options list ≡ false
+search_wrong Seed list e of = absurd (of tt)
+search_wrong Size list e of = absurd (of tt)
+search_wrong Workers list e of = rw (unset_wrong Workers (values Workers list) e) refl
+search_wrong Moves list e of = and_false (is_unset Workers list) (is_unset Moves list) (unset_wrong Moves (values Moves list) e)
+
+unless : {X : Type 0} (test : Bool) (a : Option X) → test ≡ false → (if test then a else None) ≡ None
+unless test a e = rw e refl
+
+two_wrong : (list : List Argument) (a b c : List ℕ) (others : List (List ℕ)) → places list ≡ a ∷ b ∷ c ∷ others → input_and_output (places list) ≡ None
+two_wrong list a b c others e = ap input_and_output e
+
+plain_fails : (command : Command) (list : List Argument) → Fails list → plain command list ≡ None
+unfolding plain
+plain_fails command list (many a b c others e) = if_none (no_day_options list && no_search_options list) _ None (rw (two_wrong list a b c others e) refl) refl
+plain_fails command list (wrong Seed e) = unless (no_day_options list && no_search_options list) _ (rw (day_wrong Seed list e tt) refl)
+plain_fails command list (wrong Size e) = unless (no_day_options list && no_search_options list) _ (rw (day_wrong Size list e tt) refl)
+plain_fails command list (wrong Workers e) = unless (no_day_options list && no_search_options list) _ (and_false (no_day_options list) (no_search_options list) (search_wrong Workers list e (λ n. n)))
+plain_fails command list (wrong Moves e) = unless (no_day_options list && no_search_options list) _ (and_false (no_day_options list) (no_search_options list) (search_wrong Moves list e (λ n. n)))
+
+recovering_fails : (list : List Argument) → Fails list → recovering list ≡ None
+unfolding searching
+recovering_fails list (many a b c others e) = if_none (no_day_options list) _ None (bind_none (value_of Workers list) _ (λ x. bind_none (value_of Moves list) _ (λ y. rw e refl))) refl
+recovering_fails list (wrong Seed e) = unless (no_day_options list) _ (day_wrong Seed list e tt)
+recovering_fails list (wrong Size e) = unless (no_day_options list) _ (day_wrong Size list e tt)
+recovering_fails list (wrong Workers e) = if_none (no_day_options list) _ None (rw e refl) refl
+recovering_fails list (wrong Moves e) = if_none (no_day_options list) _ None (bind_none (value_of Workers list) _ (λ x. rw e refl)) refl
+
+generating_fails : (list : List Argument) → Fails list → generating list ≡ None
+unfolding making
+generating_fails list (many a b c others e) = if_none (no_search_options list) _ None (bind_none (value_of Seed list) _ (λ x. bind_none (value_of Size list) _ (λ y. rw e refl))) refl
+generating_fails list (wrong Seed e) = if_none (no_search_options list) _ None (rw e refl) refl
+generating_fails list (wrong Size e) = if_none (no_search_options list) _ None (bind_none (value_of Seed list) _ (λ x. rw e refl)) refl
+generating_fails list (wrong Workers e) = unless (no_search_options list) _ (search_wrong Workers list e (λ n. n))
+generating_fails list (wrong Moves e) = unless (no_search_options list) _ (search_wrong Moves list e (λ n. n))
+
+trying_fails : (list : List Argument) → Fails list → trying list ≡ None
+unfolding sampling
+trying_fails list (many a b c others e) = if_none (no_search_options list) _ None (bind_none (value_of Seed list) _ (λ x. bind_none (value_of Size list) _ (λ y. rw e refl))) refl
+trying_fails list (wrong Seed e) = if_none (no_search_options list) _ None (rw e refl) refl
+trying_fails list (wrong Size e) = if_none (no_search_options list) _ None (bind_none (value_of Seed list) _ (λ x. rw e refl)) refl
+trying_fails list (wrong Workers e) = unless (no_search_options list) _ (search_wrong Workers list e (λ n. n))
+trying_fails list (wrong Moves e) = unless (no_search_options list) _ (search_wrong Moves list e (λ n. n))
+
+fails_all : (word : List ℕ) (list : List Argument) → Fails list → command_by word list ≡ None
 fails_all word list h =
     if_none (bytes_eq word (codes "replay")) (plain Replay list) _ (plain_fails Replay list h)
+    (if_none (bytes_eq word (codes "recover")) (recovering list) _ (recovering_fails list h)
     (if_none (bytes_eq word (codes "check")) (plain Check list) _ (plain_fails Check list h)
-    (if_none (bytes_eq word (codes "gen")) (generating list) None (generating_fails list h) refl))
+    (if_none (bytes_eq word (codes "gen")) (generating list) _ (generating_fails list h)
+    (if_none (bytes_eq word (codes "trial")) (trying list) None (trying_fails list h) refl))))
 
 -- an argument more is kept, or it fails whatever stands behind it
 data Step (done : List Argument) (kept : Kept) (argument : Argument) : Type 0 where
@@ -182,12 +247,11 @@ no_value choice done word value e =
 
 place_goes : (done : List Argument) (kept : Kept) (word : List ℕ) (more : List (List ℕ)) → Says done kept → one_more kept.places word ≡ Some more → kept.places ++ word ∷ [] ≡ more → Step done kept (Place word)
 unfolding with_place places
-place_goes done kept word more h e is = goes (record { places = more; seed = kept.seed; size = kept.size })
+place_goes done kept word more h e is = goes (record { places = more; values = kept.values })
     (rw e refl)
     (record {
       told = places-append done (Place word ∷ []) ∙ ap (λ p. p ++ word ∷ []) h.told ∙ is;
-      seed = no_value Seed done word kept.seed h.seed;
-      size = no_value Size done word kept.size h.size;
+      set = λ choice. no_value choice done word (value kept.values choice) (h.set choice);
     })
 
 places_behind : (done : List Argument) (kept : Kept) (word : List ℕ) (told : List (List ℕ)) (list : List Argument) → Says done kept → kept.places ≡ told → places (done ++ Place word ∷ list) ≡ told ++ word ∷ places list
@@ -229,14 +293,11 @@ own_values : (choice : Choice) (done : List Argument) (text : List ℕ) (list : 
 unfolding values
 own_values Seed done text list = values-append Seed done (Setting Seed text ∷ list)
 own_values Size done text list = values-append Size done (Setting Size text ∷ list)
+own_values Workers done text list = values-append Workers done (Setting Workers text ∷ list)
+own_values Moves done text list = values-append Moves done (Setting Moves text ∷ list)
 
-seed_of_size : (done : List Argument) (text : List ℕ) → values Seed (done ++ Setting Size text ∷ []) ≡ values Seed done
-unfolding values
-seed_of_size done text = values-append Seed done (Setting Size text ∷ []) ∙ append-nil (values Seed done)
-
-size_of_seed : (done : List Argument) (text : List ℕ) → values Size (done ++ Setting Seed text ∷ []) ≡ values Size done
-unfolding values
-size_of_seed done text = values-append Size done (Setting Seed text ∷ []) ∙ append-nil (values Size done)
+other_values : (choice other : Choice) (done : List Argument) (text : List ℕ) → values choice (Setting other text ∷ []) ≡ [] → values choice (done ++ Setting other text ∷ []) ≡ values choice done
+other_values choice other done text none = values-append choice done (Setting other text ∷ []) ∙ ap (λ (t : List (List ℕ)). values choice done ++ t) none ∙ append-nil (values choice done)
 
 told_set : (choice : Choice) (done : List Argument) (text : List ℕ) → places (done ++ Setting choice text ∷ []) ≡ places done
 unfolding places
@@ -258,46 +319,60 @@ unfolding values
 read_first choice done text n e some =
     ap (value_read choice) (own_values choice done text [] ∙ ap (λ t. t ++ text ∷ []) (not_yet choice (values choice done) e)) ∙ ap (λ m. m >>= λ k. Some (Some k)) some
 
-seed_step : (done : List Argument) (kept : Kept) (text : List ℕ) (value number : Option ℕ) → kept.seed ≡ value → number_from (least_of Seed) (most_of Seed) text ≡ number → Says done kept → Step done kept (Setting Seed text)
-unfolding with_setting
-seed_step done kept text (Some value) number e is h = stops (rw e refl) (again Seed done text value (h.seed ∙ ap Some e))
-seed_step done kept text None None e is h = stops (rw (e, is) refl) (unread Seed done text (h.seed ∙ ap Some e) is)
-seed_step done kept text None (Some n) e is h = goes (record { places = kept.places; seed = Some n; size = kept.size }) (rw (e, is) refl) (record {
-  told = told_set Seed done text ∙ h.told;
-  seed = read_first Seed done text n (h.seed ∙ ap Some e) is;
-  size = ap (value_read Size) (size_of_seed done text) ∙ h.size;
-})
+-- what is kept behind a setting: of that option its number, of the others what was kept
+set_more : (choice other : Choice) (done : List Argument) (kept : Kept) (text : List ℕ) (n : ℕ) → Says done kept → value_read other (values other (done ++ Setting other text ∷ [])) ≡ Some (Some n) → value_read choice (values choice (done ++ Setting other text ∷ [])) ≡ Some (value (with_value kept.values other n) choice)
+unfolding values
+set_more Seed Seed done kept text n h is = is
+set_more Size Size done kept text n h is = is
+set_more Workers Workers done kept text n h is = is
+set_more Moves Moves done kept text n h is = is
+set_more Seed Size done kept text n h is = ap (value_read Seed) (other_values Seed Size done text refl) ∙ h.set Seed
+set_more Seed Workers done kept text n h is = ap (value_read Seed) (other_values Seed Workers done text refl) ∙ h.set Seed
+set_more Seed Moves done kept text n h is = ap (value_read Seed) (other_values Seed Moves done text refl) ∙ h.set Seed
+set_more Size Seed done kept text n h is = ap (value_read Size) (other_values Size Seed done text refl) ∙ h.set Size
+set_more Size Workers done kept text n h is = ap (value_read Size) (other_values Size Workers done text refl) ∙ h.set Size
+set_more Size Moves done kept text n h is = ap (value_read Size) (other_values Size Moves done text refl) ∙ h.set Size
+set_more Workers Seed done kept text n h is = ap (value_read Workers) (other_values Workers Seed done text refl) ∙ h.set Workers
+set_more Workers Size done kept text n h is = ap (value_read Workers) (other_values Workers Size done text refl) ∙ h.set Workers
+set_more Workers Moves done kept text n h is = ap (value_read Workers) (other_values Workers Moves done text refl) ∙ h.set Workers
+set_more Moves Seed done kept text n h is = ap (value_read Moves) (other_values Moves Seed done text refl) ∙ h.set Moves
+set_more Moves Size done kept text n h is = ap (value_read Moves) (other_values Moves Size done text refl) ∙ h.set Moves
+set_more Moves Workers done kept text n h is = ap (value_read Moves) (other_values Moves Workers done text refl) ∙ h.set Moves
 
-size_step : (done : List Argument) (kept : Kept) (text : List ℕ) (value number : Option ℕ) → kept.size ≡ value → number_from (least_of Size) (most_of Size) text ≡ number → Says done kept → Step done kept (Setting Size text)
+set_step : (choice : Choice) (done : List Argument) (kept : Kept) (text : List ℕ) (was number : Option ℕ) → value kept.values choice ≡ was → number_from (least_of choice) (most_of choice) text ≡ number → Says done kept → Step done kept (Setting choice text)
 unfolding with_setting
-size_step done kept text (Some value) number e is h = stops (rw e refl) (again Size done text value (h.size ∙ ap Some e))
-size_step done kept text None None e is h = stops (rw (e, is) refl) (unread Size done text (h.size ∙ ap Some e) is)
-size_step done kept text None (Some n) e is h = goes (record { places = kept.places; seed = kept.seed; size = Some n }) (rw (e, is) refl) (record {
-  told = told_set Size done text ∙ h.told;
-  seed = ap (value_read Seed) (seed_of_size done text) ∙ h.seed;
-  size = read_first Size done text n (h.size ∙ ap Some e) is;
+set_step choice done kept text (Some value) number e is h = stops (rw e refl) (again choice done text value (h.set choice ∙ ap Some e))
+set_step choice done kept text None None e is h = stops (rw (e, is) refl) (unread choice done text (h.set choice ∙ ap Some e) is)
+set_step choice done kept text None (Some n) e is h = goes (record { places = kept.places; values = with_value kept.values choice n }) (rw (e, is) refl) (record {
+  told = told_set choice done text ∙ h.told;
+  set = λ other. set_more other choice done kept text n h (read_first choice done text n (h.set choice ∙ ap Some e) is);
 })
 
 step_of : (done : List Argument) (kept : Kept) (argument : Argument) → Says done kept → Step done kept argument
 step_of done kept (Place word) h = place_step done kept word kept.places refl h
-step_of done kept (Setting Seed text) h = seed_step done kept text kept.seed (number_from (least_of Seed) (most_of Seed) text) refl refl h
-step_of done kept (Setting Size text) h = size_step done kept text kept.size (number_from (least_of Size) (most_of Size) text) refl refl h
+step_of done kept (Setting choice text) h = set_step choice done kept text (value kept.values choice) (number_from (least_of choice) (most_of choice) text) refl refl h
 
-kept_all : (word : List ℕ) (done list : List Argument) (kept : Kept) → Says done kept → asked_by word (done ++ list) ≡ (with_all kept list >>= asked_kept word)
+kept_all : (word : List ℕ) (done list : List Argument) (kept : Kept) → Says done kept → command_by word (done ++ list) ≡ (with_all kept list >>= asked_kept word)
 unfolding with_all
-kept_all word done [] kept h = ap (asked_by word) (append-nil done) ∙ says_all word done kept h
+kept_all word done [] kept h = ap (command_by word) (append-nil done) ∙ says_all word done kept h
 kept_all word done (argument ∷ list) kept h = elim (step_of done kept argument h) [
-  | goes more is says ↦ ap (asked_by word) (sym (append_assoc done (argument ∷ []) list)) ∙ kept_all word (done ++ argument ∷ []) list more says
+  | goes more is says ↦ ap (command_by word) (sym (append_assoc done (argument ∷ []) list)) ∙ kept_all word (done ++ argument ∷ []) list more says
       ∙ ap (λ next. (next >>= λ k. with_all k list) >>= asked_kept word) (sym is)
   | stops is fails ↦ fails_all word (done ++ argument ∷ list) (fails list) ∙ ap (λ next. (next >>= λ k. with_all k list) >>= asked_kept word) (sym is)
 ]
 
+none_set : (choice : Choice) → Some None ≡ Some (value nothing.values choice)
+none_set Seed = refl
+none_set Size = refl
+none_set Workers = refl
+none_set Moves = refl
+
 says_nothing : Says [] nothing
 unfolding places values
-says_nothing = record { told = refl; seed = refl; size = refl }
+says_nothing = record { told = refl; set = none_set }
 
 -- what a command's word makes of arguments is what it makes of what is kept of them
-pub asked_of_kept : (word : List ℕ) (list : Option (List Argument)) → (list >>= asked_by word) ≡ (kept_behind nothing list >>= asked_kept word)
+pub asked_of_kept : (word : List ℕ) (list : Option (List Argument)) → (list >>= command_by word) ≡ (kept_behind nothing list >>= asked_kept word)
 asked_of_kept word None = refl
 asked_of_kept word (Some list) = kept_all word [] list nothing says_nothing
 

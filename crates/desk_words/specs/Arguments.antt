@@ -1,7 +1,8 @@
 -- The words behind a command: directories and options in any order.
-use Rattle.std.specs.Prelude.{ℕ, Bool, false, not, ◌==◌, if◌then◌else◌, List, [], ◌∷◌, length, take, drop, Option, Some, None, option_map, codes, bytes_eq}
+use Rattle.std.specs.Prelude.{ℕ, ◌+◌, Bool, false, not, ◌==◌, if◌then◌else◌, List, [], ◌∷◌, take, drop, position, Option, Some, None, option_map, codes, bytes_eq}
+use Rattle.desk_text.specs.Fields.{◌>>=◌}
 use Rattle.desk_words.specs.declared.choice.Choice.{Choice}
-use Rattle.desk_words.specs.declared.choice.Choice.TheVariants.{Seed, Size}
+use Rattle.desk_words.specs.declared.choice.Choice.TheVariants.{Seed, Size, Workers, Moves}
 
 -- a directory isn't empty and doesn't begin with -
 abbrev pub is_directory : List ℕ → Bool
@@ -17,22 +18,17 @@ pub data Argument : Type 0 where
 abbrev pub choice_of : List ℕ → Option Choice
 choice_of word =
     if bytes_eq word (codes "--seed") then Some Seed else (
-    if bytes_eq word (codes "--size") then Some Size else None)
+    if bytes_eq word (codes "--size") then Some Size else (
+    if bytes_eq word (codes "--workers") then Some Workers else (
+    if bytes_eq word (codes "--moves") then Some Moves else None)))
 
--- what is behind these bytes, of a word that begins with them
-abbrev pub behind : List ℕ → List ℕ → Option (List ℕ)
-behind front word = if bytes_eq (take (length front) word) front then Some (drop (length front) word) else None
+-- the option that a word names in front of its place `at`, with the text behind that place
+abbrev pub setting_at : List ℕ → ℕ → Option (Choice × List ℕ)
+setting_at word at = option_map (λ choice. (choice, drop (at + 1) word)) (choice_of (take at word))
 
--- the first of two, or the second where there is no first
-abbrev pub or_else : {X : Type 0} → Option X → Option X → Option X
-or_else (Some x) other = Some x
-or_else None other = other
-
--- the option that a word sets, with the text of its value behind =
-abbrev pub setting_of : List ℕ → Option (Choice × List ℕ)
-setting_of word =
-    or_else (option_map (λ text. (Seed, text)) (behind (codes "--seed=") word))
-    (option_map (λ text. (Size, text)) (behind (codes "--size=") word))
+-- the option that a word sets, with the text of its value behind the first =
+unfoldable pub setting_of : List ℕ → Option (Choice × List ℕ)
+setting_of word = position (λ byte. byte == 61) word >>= setting_at word
 
 -- an argument before others
 abbrev pub before : Argument → Option (List Argument) → Option (List Argument)
@@ -77,6 +73,8 @@ places (Setting choice text ∷ others) = places others
 abbrev pub choice_number : Choice → ℕ
 choice_number Seed = 0
 choice_number Size = 1
+choice_number Workers = 2
+choice_number Moves = 3
 
 -- the texts of the values of one option
 unfoldable pub values : Choice → List Argument → List (List ℕ)

@@ -1,7 +1,14 @@
 -- What the code's answer says.
+use Rattle.std.specs.Prelude.{Option, option_map}
 use Rattle.desk_words.specs.declared.asked.Asked.{Asked}
+use Rattle.desk_words.specs.declared.asked.Directories as asked
+use Rattle.desk_folder.specs.Outside.{Directories}
 use Rattle.desk_words.specs.Commands.{Asking, directories}
 
--- the command and the bytes of its directories
+-- the bytes of the directories
+abbrev pub named : asked.Directories → Directories
+named dirs = directories dirs.input.now dirs.output.now
+
+-- the command and the directories that are to be named
 abbrev pub asking : Asked → Asking
-asking asked = (asked.command, directories asked.input.now asked.output.now)
+asking asked = (asked.command, option_map named asked.directories)

@@ -1,23 +1,23 @@
 -- What is kept of the words that were read: the directories, at most two, and the numbers of the options.
-use Rattle.std.specs.Prelude.{ℕ, if◌then◌else◌, List, [], ◌∷◌, Option, Some, None, unwrap_or, codes, bytes_eq}
+use Rattle.std.specs.Prelude.{ℕ, Bool, true, false, ◌&&◌, if◌then◌else◌, List, [], ◌∷◌, Option, Some, None, unwrap_or, codes, bytes_eq}
 use Rattle.desk_text.specs.Fields.{◌>>=◌, number_from}
 use Rattle.desk_words.specs.declared.asked.Command.{Command}
-use Rattle.desk_words.specs.declared.asked.Command.TheVariants.{Replay, Check, Gen}
+use Rattle.desk_words.specs.declared.asked.Command.TheVariants.{Replay, Recover, Check, Gen, Trial}
 use Rattle.desk_words.specs.declared.choice.Choice.{Choice}
-use Rattle.desk_words.specs.declared.choice.Choice.TheVariants.{Seed, Size}
+use Rattle.desk_words.specs.declared.choice.Choice.TheVariants.{Seed, Size, Workers, Moves}
 use Rattle.desk_words.specs.declared.read.Places.{Places}
 use Rattle.desk_words.specs.declared.read.Places.TheVariants.{Nothing, One, Two}
 use Rattle.desk_words.specs.declared.read.Read.{Read}
+use Rattle.desk_words.specs.declared.read.Values.{Values}
 use Rattle.desk_words.specs.declared.read.Expected.{Expected}
 use Rattle.desk_words.specs.declared.read.Expected.TheVariants as expected
 use Rattle.desk_words.specs.Arguments.{Argument, Place, Setting, is_directory, choice_of, setting_of, only_places, arguments_behind}
-use Rattle.desk_words.specs.Commands.{Asking, default_of, least_of, most_of, input_and_output, output_alone}
+use Rattle.desk_words.specs.Commands.{Asking, default_of, least_of, most_of, input_and_output, output_alone, no_directory}
 
 -- what is kept
 pub record Kept : Type 0 where
   pub places : List (List ℕ)
-  pub seed : Option ℕ
-  pub size : Option ℕ
+  pub values : Values
 
 abbrev pub place_list : Places → List (List ℕ)
 place_list Nothing = []
@@ -25,10 +25,24 @@ place_list (One first) = first.now ∷ []
 place_list (Two first second) = first.now ∷ second.now ∷ []
 
 abbrev pub kept_of : Read → Kept
-kept_of read = record { places = place_list read.places; seed = read.seed; size = read.size }
+kept_of read = record { places = place_list read.places; values = read.values }
 
 abbrev pub nothing : Kept
-nothing = record { places = []; seed = None; size = None }
+nothing = record { places = []; values = record { seed = None; size = None; workers = None; moves = None } }
+
+-- the number of an option, where it is set
+abbrev pub value : Values → Choice → Option ℕ
+value set Seed = set.seed
+value set Size = set.size
+value set Workers = set.workers
+value set Moves = set.moves
+
+-- the numbers with that of one option more
+abbrev pub with_value : Values → Choice → ℕ → Values
+with_value set Seed n = record set { seed = Some n }
+with_value set Size n = record set { size = Some n }
+with_value set Workers n = record set { workers = Some n }
+with_value set Moves n = record set { moves = Some n }
 
 -- one directory more, where there are not yet two
 abbrev pub one_more : List (List ℕ) → List ℕ → Option (List (List ℕ))
@@ -39,7 +53,7 @@ one_more words word = None
 unfoldable pub with_place : Kept → List ℕ → Option Kept
 with_place kept word = do
   places ← one_more kept.places word
-  Some (record { places = places; seed = kept.seed; size = kept.size })
+  Some (record { places = places; values = kept.values })
 
 -- the number of an option that has none yet
 abbrev pub first_value : Choice → Option ℕ → List ℕ → Option ℕ
@@ -47,12 +61,9 @@ first_value choice None text = number_from (least_of choice) (most_of choice) te
 first_value choice (Some value) text = None
 
 unfoldable pub with_setting : Kept → Choice → List ℕ → Option Kept
-with_setting kept Seed text = do
-  seed ← first_value Seed kept.seed text
-  Some (record { places = kept.places; seed = Some seed; size = kept.size })
-with_setting kept Size text = do
-  size ← first_value Size kept.size text
-  Some (record { places = kept.places; seed = kept.seed; size = Some size })
+with_setting kept choice text = do
+  number ← first_value choice (value kept.values choice) text
+  Some (record { places = kept.places; values = with_value kept.values choice number })
 
 -- what is kept behind one argument more, and behind some
 abbrev pub with_argument : Kept → Argument → Option Kept
@@ -103,25 +114,48 @@ of_word (expected.Value choice) kept word = with_setting kept choice word >>= ne
 of_word expected.Place kept word = if is_directory word then (with_place kept word >>= next_is expected.Place) else None
 
 -- an option that isn't set
-abbrev pub unset : Option ℕ → Option (Unit {0})
-unset None = Some tt
-unset (Some value) = None
+abbrev pub unset : Option ℕ → Bool
+unset None = true
+unset (Some value) = false
+
+abbrev pub no_day_set : Values → Bool
+no_day_set set = unset set.seed && unset set.size
+
+abbrev pub no_search_set : Values → Bool
+no_search_set set = unset set.workers && unset set.moves
 
 -- what a command's word makes of what was kept
 unfoldable pub plain_kept : Command → Kept → Option Asking
-plain_kept command kept = do
-  seed ← unset kept.seed
-  size ← unset kept.size
-  dirs ← input_and_output kept.places
-  Some (command, dirs)
+plain_kept command kept =
+    if no_day_set kept.values && no_search_set kept.values
+    then (input_and_output kept.places >>= λ dirs. Some (command, Some dirs))
+    else None
+
+abbrev pub number_kept : Choice → Kept → ℕ
+number_kept choice kept = unwrap_or (value kept.values choice) (default_of choice)
+
+unfoldable pub recovering_kept : Kept → Option Asking
+recovering_kept kept =
+    if no_day_set kept.values
+    then (input_and_output kept.places >>= λ dirs. Some (Recover (number_kept Moves kept), Some dirs))
+    else None
 
 unfoldable pub generating_kept : Kept → Option Asking
-generating_kept kept = do
-  dirs ← output_alone kept.places
-  Some (Gen (unwrap_or kept.seed (default_of Seed)) (unwrap_or kept.size (default_of Size)), dirs)
+generating_kept kept =
+    if no_search_set kept.values
+    then (output_alone kept.places >>= λ dirs. Some (Gen (number_kept Seed kept) (number_kept Size kept), Some dirs))
+    else None
+
+unfoldable pub trying_kept : Kept → Option Asking
+trying_kept kept =
+    if no_search_set kept.values
+    then (no_directory kept.places >>= λ none. Some (Trial (number_kept Seed kept) (number_kept Size kept), None))
+    else None
 
 abbrev pub asked_kept : List ℕ → Kept → Option Asking
 asked_kept word kept =
     if bytes_eq word (codes "replay") then plain_kept Replay kept else (
+    if bytes_eq word (codes "recover") then recovering_kept kept else (
     if bytes_eq word (codes "check") then plain_kept Check kept else (
-    if bytes_eq word (codes "gen") then generating_kept kept else None))
+    if bytes_eq word (codes "gen") then generating_kept kept else (
+    if bytes_eq word (codes "trial") then trying_kept kept else None))))

@@ -5,18 +5,30 @@
 pub enum Command {
     /// to take the events of a journal in order
     Replay,
+    /// to take the batches of a day, and to search for a cheaper plan behind each, with at most so many
+    /// accepted moves, 1 to 100,000
+    Recover { moves: u32 },
     /// to check the files of a plan
     Check,
     /// to make up a day by a seed, 0 to 999,999,999, and a size, 1 to 40
     Gen { seed: u32, size: u32 },
+    /// to make up such a day, and to recover it without a file
+    Trial { seed: u32, size: u32 },
+}
+
+/// The directories of a command.
+#[derive(Clone, Copy, Debug)]
+pub struct Directories<'a> {
+    /// that of the input; empty where the command reads none
+    pub input: &'a str,
+    /// that of the output, which is also that of a plan to check
+    pub output: &'a str,
 }
 
 /// A command with its directories.
 #[derive(Clone, Copy, Debug)]
 pub struct Asked<'a> {
     pub command: Command,
-    /// the directory of the input; empty where the command reads none
-    pub input: &'a str,
-    /// the directory of the output, which is also that of a plan to check
-    pub output: &'a str,
+    /// none where the command has no files
+    pub directories: Option<Directories<'a>>,
 }

@@ -1,45 +1,51 @@
 //! The options of the commands.
 
-ghost use Rattle.std.specs.Prelude.{◌≡◌};
+ghost use Rattle.std.specs.Prelude.{◌≡◌, ◌==◌, ◌<◌, IfSome, length, position};
 ghost use Rattle.std.specs.Option.{option_map};
-ghost use Rattle.desk_words.specs.Arguments.{choice_of, behind, setting_of};
+ghost use Rattle.desk_words.specs.Arguments.{choice_of, setting_of};
 
 /// An option.
 #[derive(Clone, Copy, Debug, PartialEq, Eq)]
 pub enum Choice {
     Seed,
     Size,
+    Workers,
+    Moves,
 }
 
 // The option that a word names, whose value is the next word.
-pub(crate) fn choice_of(word: &str) -> Option<Choice>
+pub(crate) fn choice_of(word: &[u8]) -> Option<Choice>
     ensures { result ≡ choice_of word.now }
 {
-    if word == "--seed" {
+    if word == b"--seed".as_slice() {
         Some(Choice::Seed)
-    } else if word == "--size" {
+    } else if word == b"--size".as_slice() {
         Some(Choice::Size)
+    } else if word == b"--workers".as_slice() {
+        Some(Choice::Workers)
+    } else if word == b"--moves".as_slice() {
+        Some(Choice::Moves)
     } else {
         None
     }
 }
 
-// What is behind these bytes, of a word that begins with them.
-fn behind<'a>(front: &[u8], word: &'a [u8]) -> Option<&'a [u8]>
-    ensures { option_map (λ text. text.now) result ≡ behind front.now word.now }
+// The place of the first `=`.
+fn first_equals(word: &[u8]) -> Option<usize>
+    ensures first { result ≡ position (λ byte. byte == 61) word.now }
+    ensures within { IfSome result (λ at. at < length word.now) }
 {
-    word.strip_prefix(front)
+    word.iter().position(|byte| *byte == b'=')
 }
 
 // The option that a word sets, with the text of its value behind `=`.
-pub(crate) fn setting_of(word: &str) -> Option<(Choice, &[u8])>
+#[tactic(auto, unfolding(crate::specs::Arguments::setting_of))]
+pub(crate) fn setting_of(word: &[u8]) -> Option<(Choice, &[u8])>
     ensures { option_map (λ set. (set.0, set.1.now)) result ≡ setting_of word.now }
 {
-    match behind(b"--seed=", word.as_bytes()) {
-        Some(text) => Some((Choice::Seed, text)),
-        None => match behind(b"--size=", word.as_bytes()) {
-            Some(text) => Some((Choice::Size, text)),
-            None => None,
-        },
-    }
+    let at = first_equals(word)?;
+    let (name, _) = word.split_at(at);
+    let (_, text) = word.split_at(at + 1);
+    let choice = choice_of(name)?;
+    Some((choice, text))
 }

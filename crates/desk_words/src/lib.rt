@@ -6,8 +6,10 @@
 //! help among it.
 //!
 //!     replay IN OUT
+//!     recover IN OUT [--workers 0] [--moves 1 to 100000]    // 0 and 1000 if it isn't there
 //!     check IN OUT
 //!     gen OUT [--seed 0 to 999999999] [--size 1 to 40]      // each 1 if it isn't there
+//!     trial [--seed 0 to 999999999] [--size 1 to 40]
 //!
 //! `command(words)` gives the command and its directories, or `None`. Proved: it is that of the
 //! definition in `specs/`, by the bytes of the words. It stands on `desk_text` for the numbers and takes
@@ -19,5 +21,5 @@ mod choice;
 mod read;
 mod words;
 
-pub use asked::{Asked, Command};
-pub use words::command;
+pub use asked::{Asked, Command, Directories};
+pub use words::{USUAL_MOVES, command, usual_moves_are_told};

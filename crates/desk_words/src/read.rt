@@ -4,7 +4,7 @@ ghost use Rattle.std.specs.Prelude.{◌≡◌, [], ◌∷◌, map, MatchOption};
 ghost use Rattle.std.specs.String.{string_bytes};
 ghost use Rattle.std.specs.Option.{option_map};
 ghost use Rattle.desk_words.specs.Arguments.{is_directory};
-ghost use Rattle.desk_words.specs.Read.{kept_of, nothing, with_place, first_value, with_setting, kept_behind, arguments_by, after, of_any, of_word};
+ghost use Rattle.desk_words.specs.Read.{kept_of, nothing, with_place, value, with_value, first_value, with_setting, kept_behind, arguments_by, after, of_any, of_word};
 
 use crate::choice::{Choice, choice_of, setting_of};
 use desk_text::number;
@@ -21,8 +21,53 @@ pub enum Places<'a> {
 #[derive(Clone, Copy, Debug)]
 pub struct Read<'a> {
     pub places: Places<'a>,
+    pub values: Values,
+}
+
+/// The numbers of the options that are set.
+#[derive(Clone, Copy, Debug)]
+pub struct Values {
     pub seed: Option<u32>,
     pub size: Option<u32>,
+    pub workers: Option<u32>,
+    pub moves: Option<u32>,
+}
+
+// The number of an option, where it is set.
+fn value(values: Values, choice: Choice) -> Option<u32>
+    ensures { result ≡ value values choice }
+{
+    match choice {
+        Choice::Seed => values.seed,
+        Choice::Size => values.size,
+        Choice::Workers => values.workers,
+        Choice::Moves => values.moves,
+    }
+}
+
+// The numbers with that of one option more.
+fn with_value(values: Values, choice: Choice, number: u32) -> Values
+    ensures { result ≡ with_value values choice number }
+{
+    let number = Some(number);
+    match choice {
+        Choice::Seed => Values {
+            seed: number,
+            ..values
+        },
+        Choice::Size => Values {
+            size: number,
+            ..values
+        },
+        Choice::Workers => Values {
+            workers: number,
+            ..values
+        },
+        Choice::Moves => Values {
+            moves: number,
+            ..values
+        },
+    }
 }
 
 // Whether a word names a directory: it isn't empty and doesn't begin with `-`.
@@ -41,8 +86,12 @@ pub(crate) fn nothing<'a>() -> Read<'a>
 {
     Read {
         places: Places::Nothing,
-        seed: None,
-        size: None,
+        values: Values {
+            seed: None,
+            size: None,
+            workers: None,
+            moves: None,
+        },
     }
 }
 
@@ -68,6 +117,8 @@ fn first_value(choice: Choice, value: Option<u32>, text: &[u8]) -> Option<u32>
         None => match choice {
             Choice::Seed => number(text, 0, 999_999_999).ok(),
             Choice::Size => number(text, 1, 40).ok(),
+            Choice::Workers => number(text, 0, 0).ok(),
+            Choice::Moves => number(text, 1, 100_000).ok(),
         },
     }
 }
@@ -77,22 +128,9 @@ fn first_value(choice: Choice, value: Option<u32>, text: &[u8]) -> Option<u32>
 fn with_setting<'a>(read: Read<'a>, choice: Choice, text: &[u8]) -> Option<Read<'a>>
     ensures { option_map kept_of result ≡ with_setting (kept_of read.entry) choice text.now }
 {
-    match choice {
-        Choice::Seed => {
-            let seed = first_value(choice, read.seed, text)?;
-            Some(Read {
-                seed: Some(seed),
-                ..read
-            })
-        }
-        Choice::Size => {
-            let size = first_value(choice, read.size, text)?;
-            Some(Read {
-                size: Some(size),
-                ..read
-            })
-        }
-    }
+    let number = first_value(choice, value(read.values, choice), text)?;
+    let values = with_value(read.values, choice, number);
+    Some(Read { values, ..read })
 }
 
 /// What the next word may be.
@@ -118,10 +156,10 @@ fn read_any<'a>(read: Read<'a>, word: &'a str) -> Option<(Expected, Read<'a>)>
     if word == "--" {
         return Some((Expected::Place, read));
     }
-    if let Some(choice) = choice_of(word) {
+    if let Some(choice) = choice_of(word.as_bytes()) {
         return Some((Expected::Value(choice), read));
     }
-    let (choice, text) = setting_of(word)?;
+    let (choice, text) = setting_of(word.as_bytes())?;
     let more = with_setting(read, choice, text)?;
     Some((Expected::Any, more))
 }

@@ -3,12 +3,21 @@
 ghost use Rattle.std.specs.Prelude.{◌≡◌, map};
 ghost use Rattle.std.specs.String.{string_bytes};
 ghost use Rattle.std.specs.Option.{option_map};
-ghost use Rattle.desk_words.specs.Commands.{Asking, command};
+ghost use Rattle.desk_words.specs.declared.choice.Choice.TheVariants as choice;
+ghost use Rattle.desk_words.specs.Commands.{Asking, command, default_of};
 ghost use Rattle.desk_words.specs.Asked.{asking};
-ghost use Rattle.desk_words.specs.Read.{kept_of, plain_kept, generating_kept, asked_kept};
+ghost use Rattle.desk_words.specs.Read.{kept_of, no_day_set, no_search_set, plain_kept, recovering_kept, generating_kept, trying_kept, asked_kept};
 
-use crate::asked::{Asked, Command};
-use crate::read::{Expected, Places, Read, first_word, nothing, read_words};
+use crate::asked::{Asked, Command, Directories};
+use crate::read::{Expected, Places, Read, Values, first_word, nothing, read_words};
+
+/// How many moves a recovery accepts at most behind each batch, where the words don't say it.
+pub const USUAL_MOVES: u32 = 1_000;
+
+/// It is that of the definitions.
+pub fn usual_moves_are_told()
+    ensures { USUAL_MOVES ≡ default_of choice.Moves }
+{}
 
 /// The command of these words, the program's name left out, with its directories; or `None` where they
 /// are no command.
@@ -30,10 +39,26 @@ fn asked<'a>(word: &str, read: Read<'a>) -> Option<Asked<'a>>
 {
     match word {
         "replay" => plain(Command::Replay, read),
+        "recover" => recovering(read),
         "check" => plain(Command::Check, read),
         "gen" => generating(read),
+        "trial" => trying(read),
         _ => None,
     }
+}
+
+// Whether the options of a day that is made up are not set.
+fn no_day_options(values: Values) -> bool
+    ensures { result ≡ no_day_set values }
+{
+    values.seed.is_none() && values.size.is_none()
+}
+
+// Whether those of a search are not set.
+fn no_search_options(values: Values) -> bool
+    ensures { result ≡ no_search_set values }
+{
+    values.workers.is_none() && values.moves.is_none()
 }
 
 // A command that takes an input and an output directory, and no options.
@@ -41,11 +66,32 @@ fn asked<'a>(word: &str, read: Read<'a>) -> Option<Asked<'a>>
 fn plain<'a>(command: Command, read: Read<'a>) -> Option<Asked<'a>>
     ensures { option_map asking result ≡ plain_kept command (kept_of read.entry) }
 {
-    match (read.seed, read.size, read.places) {
-        (None, None, Places::Two(input, output)) => Some(Asked {
+    if !no_day_options(read.values) || !no_search_options(read.values) {
+        return None;
+    }
+    match read.places {
+        Places::Two(input, output) => Some(Asked {
             command,
-            input,
-            output,
+            directories: Some(Directories { input, output }),
+        }),
+        _ => None,
+    }
+}
+
+// The command `recover`.
+#[tactic(auto, unfolding(crate::specs::Read::recovering_kept))]
+fn recovering<'a>(read: Read<'a>) -> Option<Asked<'a>>
+    ensures { option_map asking result ≡ recovering_kept (kept_of read.entry) }
+{
+    if !no_day_options(read.values) {
+        return None;
+    }
+    match read.places {
+        Places::Two(input, output) => Some(Asked {
+            command: Command::Recover {
+                moves: read.values.moves.unwrap_or(USUAL_MOVES),
+            },
+            directories: Some(Directories { input, output }),
         }),
         _ => None,
     }
@@ -56,14 +102,36 @@ fn plain<'a>(command: Command, read: Read<'a>) -> Option<Asked<'a>>
 fn generating<'a>(read: Read<'a>) -> Option<Asked<'a>>
     ensures { option_map asking result ≡ generating_kept (kept_of read.entry) }
 {
+    if !no_search_options(read.values) {
+        return None;
+    }
     match read.places {
         Places::One(output) => Some(Asked {
             command: Command::Gen {
-                seed: read.seed.unwrap_or(1),
-                size: read.size.unwrap_or(1),
+                seed: read.values.seed.unwrap_or(1),
+                size: read.values.size.unwrap_or(1),
             },
-            input: "",
-            output,
+            directories: Some(Directories { input: "", output }),
+        }),
+        _ => None,
+    }
+}
+
+// The command `trial`.
+#[tactic(auto, unfolding(crate::specs::Read::trying_kept))]
+fn trying<'a>(read: Read<'a>) -> Option<Asked<'a>>
+    ensures { option_map asking result ≡ trying_kept (kept_of read.entry) }
+{
+    if !no_search_options(read.values) {
+        return None;
+    }
+    match read.places {
+        Places::Nothing => Some(Asked {
+            command: Command::Trial {
+                seed: read.values.seed.unwrap_or(1),
+                size: read.values.size.unwrap_or(1),
+            },
+            directories: None,
         }),
         _ => None,
     }

@@ -1,11 +1,14 @@
 -- What groups of passengers cost.
-use Rattle.std.specs.Prelude.{ℕ, ◌+◌, ◌*◌, sum_by}
+use Rattle.std.specs.Prelude.{ℕ, ◌+◌, ◌*◌, List, sum_by}
+use Rattle.desk_units.specs.declared.numbers.Leg.{Leg}
+use Rattle.desk_units.specs.declared.numbers.Cabin.{Cabin}
 use Rattle.desk_units.specs.declared.tariff.Term.TheVariants as term
 use Rattle.tariff_prices.specs.Prices.{delay_price, cancel_price}
 use Rattle.desk_data.specs.declared.row.Group.{Group}
 use Rattle.desk_data.specs.Situation.{Situation}
 use Rattle.desk_data.specs.PlanRows.{PlanRows, groups_at}
 use Rattle.desk_data.specs.Booked.{haul_of, reference_of}
+use Rattle.full_cost.specs.Counted.{group_on}
 use Rattle.desk_rules.specs.Cost.{rows_of, weight, by_hour, by_item, delay, cancellation, downgrade, legal}
 
 -- the delay of so many passengers of reservation r who arrive so many minutes late
@@ -22,3 +25,7 @@ group_cost I P r group = delay I P r group + cancellation I r group + downgrade 
 
 unfoldable pub reservation_cost : Situation → PlanRows → ℕ → ℕ
 reservation_cost I P r = sum_by (group_cost I P r) (groups_at P r)
+
+-- one passenger of reservation r on a path
+abbrev pub passenger_cost : Situation → PlanRows → ℕ → List (Leg × Cabin) → ℕ
+passenger_cost I P r path = group_cost I P r (group_on path 1)

@@ -4,23 +4,29 @@ ghost use Rattle.std.specs.Prelude.{◌≡◌, ◌<◌, ◌≤◌};
 ghost use Rattle.desk_data.specs.Situation.{legs_of, reservations_of};
 ghost use Rattle.desk_rules.specs.Cost.{downgrade, downgrade_on, grains};
 ghost use Rattle.desk_units.specs.declared.tariff.Term.TheVariants as term;
-ghost use Rattle.full_cost.specs.Counted.{IsGroupOf};
+ghost use Rattle.full_cost.specs.Counted.{IsGroupOf, group_on};
 ghost use Rattle.full_cost.specs.Weighed.{IsWeight};
 
-use desk_data::{Cabin, Grains, Group, Instance, Leg, Res, Weight};
+use desk_data::{Cabin, Grains, Instance, Leg, Res, Weight};
 use desk_units::per_item;
 
-/// What the downgrades on the path of a group of a reservation cost.
-pub(crate) fn downgrade_cost(inst: &Instance, weight: Weight, res: Res, group: &Group) -> Grains
+/// What the downgrades on a path cost some passengers of a reservation.
+pub(crate) fn downgrade_cost(
+    inst: &Instance,
+    weight: Weight,
+    res: Res,
+    path: &[(Leg, Cabin)],
+    count: u32,
+) -> Grains
     requires weight { IsWeight inst.now term.Downgrade weight }
     requires res { res.0 < reservations_of inst.now }
-    requires group { IsGroupOf inst.now group.now }
-    ensures { result ≡ grains (downgrade inst.now res.0 group.now) }
+    requires group { IsGroupOf inst.now (group_on path.now count) }
+    ensures { result ≡ grains (downgrade inst.now res.0 (group_on path.now count)) }
 {
     let _rows = inst.parts();
     let mut total = Grains(0);
-    for (leg, cabin) in group.path.as_slice() {
-        total = total.plus(leg_cost(inst, weight, res, *leg, *cabin, group.count));
+    for (leg, cabin) in path {
+        total = total.plus(leg_cost(inst, weight, res, *leg, *cabin, count));
     }
     total
 }

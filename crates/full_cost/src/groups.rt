@@ -5,7 +5,7 @@ ghost use Rattle.desk_data.specs.Situation.{reservations_of};
 ghost use Rattle.desk_data.specs.Valid.{IsPlanFor};
 ghost use Rattle.desk_rules.specs.Cost.{delay_cost, cancellation_cost, downgrade_cost, legal_cost, grains};
 ghost use Rattle.full_cost.specs.Amounts.{group_cost, reservation_cost};
-ghost use Rattle.full_cost.specs.Counted.{IsGroupOf};
+ghost use Rattle.full_cost.specs.Counted.{IsGroupOf, group_on};
 ghost use Rattle.full_cost.specs.Weighed.{AreWeights};
 
 use crate::cancellation::cancellation_cost;
@@ -13,7 +13,7 @@ use crate::delay::{delay_cost, minutes_late};
 use crate::downgrade::downgrade_cost;
 use crate::legal::{late_cost, uncarried_cost};
 use crate::weights::{Weights, weights_of};
-use desk_data::{Grains, Group, Instance, Plan, Res};
+use desk_data::{Cabin, Grains, Instance, Leg, Plan, Res};
 use plan_reads::{all_flown, is_carried};
 
 /// What the passengers cost.
@@ -41,24 +41,30 @@ fn reservation_cost(inst: &Instance, plan: &Plan, weights: Weights, res: Res) ->
     let _rows = inst.parts();
     let mut total = Grains(0);
     for group in plan.groups(res) {
-        total = total.plus(group_cost(inst, plan, weights, res, group));
+        let path = group.path.as_slice();
+        total = total.plus(group_cost(inst, plan, weights, res, path, group.count));
     }
     total
 }
 
-/// What a group of a reservation costs. Those who are not carried cost their cancellation and what
-/// is owed to them. Those who are cost their downgrades and, where all their legs are flown, their
-/// delay and what is owed for it.
-fn group_cost(inst: &Instance, plan: &Plan, weights: Weights, res: Res, group: &Group) -> Grains
+/// What some passengers of a reservation cost on a path. Those who are not carried cost their
+/// cancellation and what is owed to them. Those who are cost their downgrades and, where all their
+/// legs are flown, their delay and what is owed for it.
+pub(crate) fn group_cost(
+    inst: &Instance,
+    plan: &Plan,
+    weights: Weights,
+    res: Res,
+    path: &[(Leg, Cabin)],
+    count: u32,
+) -> Grains
     requires plan { IsPlanFor inst.now plan.now }
     requires weights { AreWeights inst.now weights }
     requires res { res.0 < reservations_of inst.now }
-    requires group { IsGroupOf inst.now group.now }
-    ensures { result ≡ grains (group_cost inst.now plan.now res.0 group.now) }
+    requires group { IsGroupOf inst.now (group_on path.now count) }
+    ensures { result ≡ grains (group_cost inst.now plan.now res.0 (group_on path.now count)) }
 {
     let _rows = inst.parts();
-    let path = group.path.as_slice();
-    let count = group.count;
     if !is_carried(path) {
         return cancellation_cost(inst, weights.cancellation, res, count).plus(uncarried_cost(
             inst,
@@ -67,7 +73,7 @@ fn group_cost(inst: &Instance, plan: &Plan, weights: Weights, res: Res, group: &
             count,
         ));
     }
-    let downgrades = downgrade_cost(inst, weights.downgrade, res, group);
+    let downgrades = downgrade_cost(inst, weights.downgrade, res, path, count);
     if !all_flown(plan, path) {
         return downgrades;
     }

@@ -16,8 +16,10 @@ mod downgrade;
 mod groups;
 mod legal;
 mod operating;
+mod passenger;
 mod position;
 mod stands;
 mod weights;
 
 pub use cost::full_cost;
+pub use passenger::passenger_cost;

@@ -1,0 +1,11 @@
+pub mod DescentLaws
+pub mod RecoveryLaws
+pub mod LegalLaws
+pub mod ListLaws
+pub mod FromLaws
+pub mod FitLaws
+pub mod MomentLaws
+pub mod UnitLaws
+pub mod ShardLaws
+pub mod RouteLaws
+pub mod RebookingLaws

@@ -1,4 +1,4 @@
--- Moves of legs and aircraft: the families N1 to N5. A move's steps are listed as they are taken.
+-- Moves of legs and aircraft, in five families: legs are retimed, exchanged, dropped, restored and handed on. A move's steps are listed as they are taken.
 use Rattle.std.specs.Prelude.{ℕ, ◌+◌, ◌-◌, max, Bool, ◌&&◌, ◌||◌, not, nat_lt, nat_le, ◌==◌, if◌then◌else◌, Some, None, List, [], ◌∷◌, ◌++◌, length, map, filter, slice_index_or}
 use Rattle.std.specs.List.{flat_map, list_any}
 use Rattle.desk_data.specs.declared.row.Row.TheVariants.{Cancelled}
@@ -12,7 +12,7 @@ use Rattle.desk_rules.specs.Maintenance.{flies}
 use Rattle.near_moves.specs.Places.{leg, plane, minute, flier, flown_row, is_movable_flown, is_restorable, family_of, legs_from, run, is_run}
 use Rattle.near_moves.specs.Units.{Unit_, retimed, swapped, dropped, restored, handed}
 
--- ---- N1: a leg departs at another time
+-- ---- retimed: a leg departs at another time
 
 -- when leg x may go: at its earliest departure where it departs later than that; then 15, 30, 60, 120 and 240 minutes later than it departs
 abbrev pub other_departures : Situation → PlanRows → ℕ → List ℕ
@@ -33,15 +33,19 @@ retimings I P x = map (retiming P x) (other_departures I P x)
 unfoldable pub retimed_units : Situation → PlanRows → List Unit_
 retimed_units I P = map retimed (filter (is_movable_flown I P) (numbers (legs_of I)))
 
--- ---- N2: two aircraft exchange their legs from a moment on
+-- ---- swapped: two aircraft exchange their legs from a moment on
 
 -- whether a movable leg of one of the two aircraft departs at moment t
 abbrev pub departs_at : Situation → PlanRows → ℕ → ℕ → ℕ → Bool
 departs_at I P p q t = list_any (λ x. not (fixed I x) && ((flies P p x || flies P q x) && (dep P x == t))) (numbers (legs_of I))
 
--- the moments at which one does, in ascending order, each once. No departure of a plan is at minute 52,500,000 or later
+-- all departures of a plan are below this minute
+unfoldable pub departures_end : ℕ
+departures_end = 52500000
+
+-- the moments at which one does, in ascending order, each once
 unfoldable pub exchange_moments : Situation → PlanRows → ℕ → ℕ → List ℕ
-exchange_moments I P p q = filter (departs_at I P p q) (numbers 52500000)
+exchange_moments I P p q = filter (departs_at I P p q) (numbers departures_end)
 
 -- the legs are exchanged, all movable legs of both are pushed, the lower aircraft's first, and then a Tidy
 abbrev pub exchange : ℕ → ℕ → ℕ → List Step
@@ -57,7 +61,7 @@ later_of_family I p = filter (λ q. nat_lt p q) (family_of I p)
 unfoldable pub swapped_units : Situation → List Unit_
 swapped_units I = flat_map (λ p. map (swapped p) (later_of_family I p)) (filter (λ p. not (plane_at I p).surface) (numbers (planes_of I)))
 
--- ---- N3: legs are cancelled, so that the aircraft is again where it was
+-- ---- dropped: legs are cancelled, so that the aircraft is again where it was
 
 -- the last of the k legs from leg x on
 abbrev pub run_end : Situation → PlanRows → ℕ → ℕ → ℕ
@@ -86,7 +90,7 @@ droppings I P x = map (dropping I P x) (filter (comes_round I P x) run_lengths)
 unfoldable pub dropped_units : Situation → PlanRows → List Unit_
 dropped_units I P = map dropped (filter (is_movable_flown I P) (numbers (legs_of I)))
 
--- ---- N4: a cancelled leg is flown again, alone or with one that brings its aircraft back
+-- ---- restored: a cancelled leg is flown again, alone or with one that brings its aircraft back
 
 -- leg x is flown by aircraft p from its earliest departure on
 abbrev pub restoring_step : Situation → ℕ → ℕ → Step
@@ -119,7 +123,7 @@ restorings I P x p = restoring_alone I x p ∷ map (restoring_both I x p) (filte
 unfoldable pub restored_units : Situation → PlanRows → List Unit_
 restored_units I P = flat_map (λ x. map (restored x) (family_of I (leg_at I x).plane.0)) (filter (is_restorable I P) (numbers (legs_of I)))
 
--- ---- N5: a run goes to another aircraft of the family
+-- ---- handed: a run goes to another aircraft of the family
 
 -- leg y goes to aircraft q at its time
 abbrev pub handing_step : PlanRows → ℕ → ℕ → Step

@@ -4,4 +4,8 @@ pub mod LegMoves
 pub mod Routes
 pub mod PassengerMoves
 pub mod Near
+pub mod Words
 pub mod Descent
+pub mod Descents
+pub mod RouteWords
+pub mod RouteParts

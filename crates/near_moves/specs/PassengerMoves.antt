@@ -1,4 +1,4 @@
--- Moves of passengers: the family N6.
+-- Moves of passengers, the sixth family: they are rebooked.
 use Rattle.std.specs.Prelude.{ℕ, ◌^◌, not, nat_lt, List, [], ◌∷◌, ◌++◌, map, filter, reverse}
 use Rattle.std.specs.List.{flat_map}
 use Rattle.desk_units.specs.declared.numbers.Leg.{Leg}
@@ -9,9 +9,9 @@ use Rattle.desk_data.specs.PlanRows.{PlanRows, groups_at}
 use Rattle.plan_moves.specs.declared.moves.Step.{Step}
 use Rattle.plan_moves.specs.declared.moves.Step.TheVariants.{Rebook}
 use Rattle.desk_rules.specs.Numbers.{numbers}
-use Rattle.desk_model.specs.Rebook.{count_on}
+use Rattle.desk_model.specs.Rebook.{count_on, same_path}
 use Rattle.near_moves.specs.Units.{Unit_, rebooked}
-use Rattle.near_moves.specs.Routes.{same_path, routes}
+use Rattle.near_moves.specs.Routes.{routes}
 
 -- where passengers may go: to each route, and then off all paths
 unfoldable pub aims : Situation → PlanRows → ℕ → List (List (Leg × Cabin))

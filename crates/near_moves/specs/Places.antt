@@ -6,7 +6,7 @@ use Rattle.desk_units.specs.declared.numbers.Plane.{Plane}
 use Rattle.desk_units.specs.declared.numbers.Minute.{Minute}
 use Rattle.desk_data.specs.declared.row.Row.{Row}
 use Rattle.desk_data.specs.declared.row.Row.TheVariants.{Flown, Cancelled}
-use Rattle.desk_data.specs.Situation.{Situation, legs_of, planes_of, leg_at, plane_at, fixed, ordered_off}
+use Rattle.desk_data.specs.Situation.{Situation, planes_of, plane_at, fixed, ordered_off}
 use Rattle.desk_data.specs.PlanRows.{PlanRows, row_at}
 use Rattle.desk_rules.specs.Numbers.{numbers}
 use Rattle.desk_rules.specs.Rotations.{precedes}

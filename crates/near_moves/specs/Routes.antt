@@ -1,21 +1,18 @@
 -- Routes: the paths to which passengers of a reservation may be rebooked.
 use Rattle.std.specs.Prelude.{ℕ, Bool, ◌&&◌, not, nat_le, ◌==◌, List, [], ◌∷◌, ◌++◌, length, map, filter, take}
-use Rattle.std.specs.List.{flat_map, list_all, zip}
+use Rattle.std.specs.List.{flat_map}
 use Rattle.desk_units.specs.declared.numbers.Leg.{Leg}
 use Rattle.desk_units.specs.declared.numbers.Cabin.{Cabin}
 use Rattle.desk_units.specs.declared.numbers.Cabin.TheVariants.{F, B, E}
 use Rattle.desk_units.specs.Ranks.{cabin_rank}
-use Rattle.desk_data.specs.Situation.{Situation, legs_of, begun, same_pair}
+use Rattle.desk_data.specs.Situation.{Situation, legs_of, begun}
 use Rattle.desk_data.specs.Booked.{booked_path}
 use Rattle.desk_data.specs.PlanRows.{PlanRows}
 use Rattle.desk_rules.specs.Numbers.{numbers}
 use Rattle.desk_rules.specs.Passengers.{is_carried}
+use Rattle.desk_model.specs.Rebook.{same_path}
 use Rattle.desk_model.specs.Tidy.{is_fit_path}
 use Rattle.near_moves.specs.Places.{leg}
-
--- whether two paths are one
-abbrev pub same_path : List (Leg × Cabin) → List (Leg × Cabin) → Bool
-same_path a b = (length a == length b) && list_all (λ pairs. same_pair pairs.0 pairs.1) (zip a b)
 
 -- each leg with each cabin, in the order of paths
 unfoldable pub all_pairs : Situation → List (Leg × Cabin)

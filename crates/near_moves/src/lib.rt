@@ -1,2 +1,34 @@
-//! The moves near a plan, as definitions: six families of moves that a search tries, N1 to N6, in their order.
+//! The moves near a plan that a search tries, in their order, and what a descent makes of them.
+//!
+//! The definitions stand in `specs/`: `Units`, of what the moves of a unit are made; `LegMoves` and
+//! `PassengerMoves`, the moves of each family; `Near`, all of them in their order, and their shards;
+//! `Routes`, where passengers may go; `Descent`, what is proposed one after another. What a move makes of a
+//! plan stands in `desk_model`.
+//!
+//! The families, in their order: a leg departs at another time (retimed), two aircraft exchange their legs from
+//! a moment on (swapped), legs are cancelled so that the aircraft is again where it was (dropped), a cancelled
+//! leg is flown again (restored), a run of legs goes to another aircraft of the family (handed), and passengers
+//! leave a path (rebooked).
+//!
+//! The code here is laws: each is a public function with an empty body, whose contract is the law.
 #![tactic(auto)]
+
+mod descents;
+mod legs;
+mod passenger_laws;
+mod shards;
+
+pub use descents::{
+    a_descent_adds_the_first_better_moves, a_descent_ends_quiet_or_spent,
+    a_proposal_is_accepted_exactly_where_it_is_better,
+    a_recovery_takes_the_batches_and_descends_behind_each, descents_and_recoveries_are_legal,
+};
+pub use legs::{
+    legs_from_a_leg_are_in_their_order, moments_of_an_exchange_are_departures_in_order,
+    moves_of_legs_fit, runs_are_handed_within_the_family, runs_are_of_movable_legs,
+    swaps_are_of_two_aircraft_of_a_family,
+};
+pub use passenger_laws::{
+    rebookings_near_a_plan_fit, routes_are_the_paths_that_passengers_may_take,
+};
+pub use shards::shards_part_the_units;

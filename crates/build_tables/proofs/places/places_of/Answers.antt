@@ -1,34 +1,41 @@
-use Rattle.std.proofs.Common.{◌≡◌, true, not, ap, sym, ◌∙◌, take}
-use Rattle.std.specs.Prelude.{option_copied, is_some}
+use Rattle.std.proofs.Common.{◌≡◌, ◌<◌, ◌+◌, ◌-◌, ℕ, cond, drop, length, Some, ap, sym, ◌∙◌, arith}
+use Rattle.std.specs.Prelude.{option_map}
 use Rattle.std.specs.Map.{lookup}
-use Rattle.indexmap.proofs.CallerLemmas.{insert_entry-new}
-use Rattle.build_tables.specs.contracts.places.KeyPartialEq.TheImpl.{eq-value}
+use Rattle.std.proofs.lemmas.List.{drop_all}
 use Rattle.build_tables.specs.Keys.{is_key, key_place}
-use Rattle.build_tables.specs.Found.{place_in, key_behind}
-use Rattle.build_tables.proofs.PlaceLemmas.{place_new, place_kept, copied_stands, not_there, lookup_key_behind}
+use Rattle.build_tables.specs.Found.{key_behind}
+use Rattle.build_tables.proofs.PlaceLemmas.{places_before, counted_from_first, lookup_inserted}
 use Rattle.build_tables.proofs.places.places_of.Goals as goal
-use Rattle.build_tables.proofs.places.places_of.Goals.{then-is_none+in_ok-insert, else-is_none}
+
+pub loop-place-init : goal.loop-place-init
+loop-place-init g c = record {
+  kept = λ key.
+      ap (lookup (λ x. is_key key (key_behind x))) c.in_ok-places.ensures.empty
+      ∙ ap (λ rs. option_map (λ n. length c.args.rows.now + n) (key_place g.T.Keyed.key_of rs key)) (sym (drop_all (length c.args.rows.now) c.args.rows.now (omega arith)));
+  within = omega arith;
+}
 
 pub loop-place-preserved : goal.loop-place-preserved
-loop-place-preserved g c = λ key.
+loop-place-preserved g c =
     let key_of = g.T.Keyed.key_of in
-    let here = c.loop-place in
     let rows = c.args.rows.now in
+    let i : ℕ = c.loop-place.place - 1 in
     let row = c.index-rows-place.result in
-    let k = c.key-key.result in
-    let got : option_copied c.get.result ≡ place_in (record { places = here.places }) (key_behind k) = c.get.ensures.value ∙ lookup_key_behind k here.places.entries in
-    let stands : is_some (option_copied c.get.result) ≡ not c.is_none.result = copied_stands c.get.result ∙ c.is_none.ensures in
-    elim c.if-is_none.branch [
-      | then-is_none+in_ok-insert w ↦ (
-          let absent = not_there (option_copied c.get.result) (stands ∙ ap not w.if-is_none.true) in
-          let new = insert_entry-new eq-value.it here.places k here.place (sym c.get.ensures.value ∙ absent) in
-          ap (λ m. lookup (λ x. is_key key (key_behind x)) m.entries) w.places-is
-          ∙ ap (lookup (λ x. is_key key (key_behind x))) (w.in_ok-insert.ensures.entries ∙ new)
-          ∙ place_new key_of rows here.place row c.loop-place-test.true c.index-rows-place.is key_behind here.places.entries k c.key-key.ensures key (here.invariant key))
-      | else-is_none w ↦ (
-          let at : option_copied c.get.result ≡ key_place key_of (take here.place rows) (key_behind k) = got ∙ here.invariant (key_behind k) in
-          let stood : is_some (key_place key_of (take here.place rows) (key_of row)) ≡ true = ap (λ q. is_some (key_place key_of (take here.place rows) q)) (sym c.key-key.ensures) ∙ ap is_some (sym at) ∙ stands ∙ ap not w.if-is_none.false in
-          ap (λ m. lookup (λ x. is_key key (key_behind x)) m.entries) w.places-is
-          ∙ here.invariant key
-          ∙ place_kept key_of rows here.place row c.loop-place-test.true c.index-rows-place.is stood key)
-    ]
+    let next : i + 1 ≡ c.loop-place.place = omega (arith, c.loop-place-test.true) in
+    let below : i < length rows = omega (arith, c.loop-place-test.true, c.loop-place.invariant.within) in
+    record {
+      kept = λ key.
+          ap (lookup (λ x. is_key key (key_behind x))) c.in_ok-insert.ensures.entries
+          ∙ lookup_inserted key c.loop-place.places.entries c.key.result i
+          ∙ (λ j. cond (is_key key (c.key.ensures j)) (Some i) (c.loop-place.invariant.kept key j))
+          ∙ ap (λ m. cond (is_key key (key_of row)) (Some i) (option_map (λ n. m + n) (key_place key_of (drop m rows) key))) (sym next)
+          ∙ sym (places_before key_of rows i row below c.index-rows-place.is key);
+      within = omega (arith, c.loop-place.invariant.within);
+    }
+
+pub returns : goal.returns
+returns g c = λ key.
+    let at_first : c.loop-place.place ≡ 0 = omega (arith, c.loop-place-test.false) in
+    c.loop-place.invariant.kept key
+    ∙ ap (λ m. option_map (λ n. m + n) (key_place g.T.Keyed.key_of (drop m c.args.rows.now) key)) at_first
+    ∙ counted_from_first (key_place g.T.Keyed.key_of c.args.rows.now key)

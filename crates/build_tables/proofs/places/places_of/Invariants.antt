@@ -1,8 +1,15 @@
-use Rattle.std.proofs.Common.{◌≡◌, take}
+use Rattle.std.proofs.Common.{◌≡◌, ◌+◌, ◌≤◌, drop, length}
+use Rattle.std.specs.Prelude.{option_map}
 use Rattle.build_tables.specs.Keys.{Key, key_place}
 use Rattle.build_tables.specs.Found.{place_in}
 use Rattle.build_tables.proofs.places.places_of.Given as goal
 
--- the places of the rows so far
+-- the places of the rows from here on
 abbrev pub invariant-loop-place : goal.invariant-loop-place
-invariant-loop-place g l = (key : Key) → place_in (record { places = l.places }) key ≡ key_place g.T.Keyed.key_of (take l.place l.rows) key
+invariant-loop-place g l = record {
+  kept : (key : Key) → place_in (record { places = l.places }) key ≡ option_map (λ n. l.place + n) (key_place g.T.Keyed.key_of (drop l.place l.rows) key);
+  within : l.place ≤ length l.rows;
+}
+
+abbrev pub decreases-loop-place : goal.decreases-loop-place
+decreases-loop-place g l = l.place

@@ -1,7 +1,13 @@
-use Rattle.std.proofs.Common.{◌≡◌, ◌<◌, ◌^◌, take}
-use Rattle.desk_text.specs.Fields.{decimal_value}
+use Rattle.std.proofs.Common.{◌≡◌, ℕ, ◌+◌, ◌-◌, ◌*◌, ◌<◌, ◌^◌, List, Option, drop, fold}
+use Rattle.std.specs.List.{list_all}
+use Rattle.std.specs.Char.{is_ascii_digit}
+use Rattle.desk_text.specs.Fields.{only_if}
 use Rattle.desk_text.proofs.values.decimal_value.Given as goal
 
--- the value of the digits so far, which are as many as its power of ten
-abbrev pub invariant-loop-digit : goal.invariant-loop-digit
-invariant-loop-digit l = record { value_is : l.value ≡ decimal_value (take l.digit-index l.digits); below : l.value < 10 ^ l.digit-index }
+-- what these bytes spell behind digits of this value, where all are digits
+abbrev spelled_behind : ℕ → List ℕ → Option ℕ
+spelled_behind value bytes = only_if (list_all is_ascii_digit bytes) (fold (λ n digit. 10 * n + (digit - 48)) value bytes)
+
+-- what is left spells the number of all bytes, behind the value so far, which has as many digits as were read
+abbrev pub invariant-loop-byte : goal.invariant-loop-byte
+invariant-loop-byte l = record { spelled : spelled_behind l.value (drop l.byte-index l.bytes) ≡ spelled_behind 0 l.bytes; below : l.value < 10 ^ l.byte-index }

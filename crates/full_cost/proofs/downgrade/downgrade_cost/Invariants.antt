@@ -5,4 +5,4 @@ use Rattle.full_cost.proofs.downgrade.downgrade_cost.Given as goal
 
 -- what the legs so far cost
 abbrev pub invariant-loop-leg : goal.invariant-loop-leg
-invariant-loop-leg l = l.total.0 ≡ sum_by (downgrade_on l.inst l.res.0 l.group.count) (take l.leg-index l.group.path)
+invariant-loop-leg l = l.total.0 ≡ sum_by (downgrade_on l.inst l.res.0 l.count) (take l.leg-index l.path)

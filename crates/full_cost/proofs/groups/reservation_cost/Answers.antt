@@ -14,7 +14,7 @@ group_cost-requires-clause-group c =
     let i = c.loop-group.group-index in
     let lt : i < length (groups_at P r) = rw c.groups-group-items.ensures.groups at c.loop-group-test.true in
     let is : c.group-item.result ≡ get_or (groups_at P r) i c.group-item.result = rw c.groups-group-items.ensures.groups at c.group-item.is in
-    group-fits I P r i c.group-item.result c.parts-rows.ensures.valid c.requires.plan c.requires.res lt is
+    rw c.as_slice-path.ensures (group-fits I P r i c.group-item.result c.parts-rows.ensures.valid c.requires.plan c.requires.res lt is)
 
 pub plus-total-requires : goal.plus-total-requires
 plus-total-requires c =
@@ -24,7 +24,7 @@ plus-total-requires c =
     let i = c.loop-group.group-index in
     let lt : i < length (groups_at P r) = rw c.groups-group-items.ensures.groups at c.loop-group-test.true in
     let is : c.group-item.result ≡ get_or (groups_at P r) i c.group-item.result = rw c.groups-group-items.ensures.groups at c.group-item.is in
-    let one : c.group_cost.result.0 ≡ group_cost I P r (get_or (groups_at P r) i c.group-item.result) = ap (λ g. g.0) c.group_cost.ensures ∙ ap (group_cost I P r) is in
+    let one : c.group_cost.result.0 ≡ group_cost I P r (get_or (groups_at P r) i c.group-item.result) = ap (λ g. g.0) (rw c.as_slice-path.ensures at c.group_cost.ensures) ∙ ap (group_cost I P r) is in
     omega (arith, some-groups-lt I P r i c.group-item.result c.parts-rows.ensures.valid c.requires.plan lt, one, c.loop-group.invariant)
 
 pub loop-group-preserved : goal.loop-group-preserved
@@ -35,7 +35,7 @@ loop-group-preserved c =
     let i = c.loop-group.group-index in
     let lt : i < length (groups_at P r) = rw c.groups-group-items.ensures.groups at c.loop-group-test.true in
     let is : c.group-item.result ≡ get_or (groups_at P r) i c.group-item.result = rw c.groups-group-items.ensures.groups at c.group-item.is in
-    let one : c.group_cost.result.0 ≡ group_cost I P r (get_or (groups_at P r) i c.group-item.result) = ap (λ g. g.0) c.group_cost.ensures ∙ ap (group_cost I P r) is in
+    let one : c.group_cost.result.0 ≡ group_cost I P r (get_or (groups_at P r) i c.group-item.result) = ap (λ g. g.0) (rw c.as_slice-path.ensures at c.group_cost.ensures) ∙ ap (group_cost I P r) is in
     omega (arith, sum_by_more (group_cost I P r) (groups_at P r) i c.group-item.result lt, c.plus-total.ensures, one, c.loop-group.invariant)
 
 pub returns : goal.returns

@@ -1,0 +1,63 @@
+-- What came of a history is written, or reported alone.
+use Rattle.std.proofs.Common.{◌≡◌, true, List, [], refl, sym, ap, ◌∙◌}
+use Rattle.std.specs.Prelude.{Option, Some, None}
+use Rattle.folder_io.specs.Outputs.{files_of, are_different}
+use Rattle.desk_data.specs.declared.broken.Broken.{Broken}
+use Rattle.desk_core.specs.Recorded.{Recorded, state_of}
+use Rattle.desk_runs.specs.declared.ending.Ending.{Ending}
+use Rattle.desk_runs.specs.Commands.{history_files}
+use Rattle.desk_runs.specs.Outcome.{Texts, Outcome}
+use Rattle.desk_runs.specs.Runs.{World}
+use Rattle.desk_runs.specs.Writing.{PutsOutputs}
+use Rattle.desk_runs.specs.Finishing.{IsEndOf, Completes}
+use Rattle.desk_runs.proofs.PutLaws.{all_done, ended_by}
+use Rattle.desk_runs.proofs.CompleteLaws.{completes-all, completes-short}
+use Rattle.desk_tasks.specs.declared.ended.SearchEnd.{SearchEnd}
+use Rattle.desk_tasks.specs.Play.{history_outcome, played_end, plan_status}
+use Rattle.desk_tasks.specs.Recover.{told_alone}
+use Rattle.desk_tasks.proofs.FilesLaw.{history-files}
+
+-- what the book's history comes to, and what its report comes to alone
+abbrev pub outcome_of : Recorded → Option SearchEnd → Outcome
+outcome_of B search = history_outcome B.opening search B.journal
+
+abbrev pub alone : Recorded → Option SearchEnd → Outcome
+alone B search = told_alone (outcome_of B search)
+
+alone_files : (B : Recorded) (search : Option SearchEnd) → files_of (alone B search).texts.files ≡ []
+unfolding told_alone
+alone_files B search = refl
+
+status_is : (B : Recorded) (search : Option SearchEnd) → (outcome_of B search).status ≡ plan_status (state_of B).broken
+unfolding history_outcome
+status_is B search = refl
+
+alone_status : (B : Recorded) (search : Option SearchEnd) → (alone B search).status ≡ (outcome_of B search).status
+unfolding told_alone
+alone_status B search = refl
+
+pub files-differ : (B : Recorded) (search : Option SearchEnd) (t : Texts) → t ≡ (outcome_of B search).texts → are_different (files_of t.files) ≡ true
+files-differ B search t is = ap (λ (t : Texts). are_different (files_of t.files)) is ∙ ap are_different (history-files B.opening search B.journal)
+
+pub none-differ : (B : Recorded) (search : Option SearchEnd) (t : Texts) → t ≡ (alone B search).texts → are_different (files_of t.files) ≡ true
+none-differ B search t is = ap (λ (t : Texts). are_different (files_of t.files)) is ∙ ap are_different (alone_files B search)
+
+end_is : (o : Outcome) (b : Option Broken) → o.status ≡ plan_status b → IsEndOf o (played_end b)
+end_is o None e = e
+end_is o (Some item) e = e
+
+pub history-all : (before now : World) (B : Recorded) (search : Option SearchEnd) (t : Texts) (b : Option Broken) (ok : Unit {0}) → t ≡ (outcome_of B search).texts → b ≡ (state_of B).broken → PutsOutputs before now t (all_done ok) → Completes history_files before now (outcome_of B search) (played_end b)
+history-all before now B search t b ok is broken put =
+    completes-all history_files before now (outcome_of B search) t (played_end b) ok (history-files B.opening search B.journal) is
+    (end_is (outcome_of B search) b (status_is B search ∙ ap plan_status (sym broken))) put
+
+pub history-short : (before now : World) (B : Recorded) (search : Option SearchEnd) (t : Texts) (how : Ending) → t ≡ (outcome_of B search).texts → PutsOutputs before now t (ended_by how) → Completes history_files before now (outcome_of B search) how
+history-short before now B search t how is put = completes-short history_files before now (outcome_of B search) t how (history-files B.opening search B.journal) is put
+
+pub alone-all : (before now : World) (B : Recorded) (search : Option SearchEnd) (t : Texts) (b : Option Broken) (ok : Unit {0}) → t ≡ (alone B search).texts → b ≡ (state_of B).broken → PutsOutputs before now t (all_done ok) → Completes [] before now (alone B search) (played_end b)
+alone-all before now B search t b ok is broken put =
+    completes-all [] before now (alone B search) t (played_end b) ok (alone_files B search) is
+    (end_is (alone B search) b (alone_status B search ∙ status_is B search ∙ ap plan_status (sym broken))) put
+
+pub alone-short : (before now : World) (B : Recorded) (search : Option SearchEnd) (t : Texts) (how : Ending) → t ≡ (alone B search).texts → PutsOutputs before now t (ended_by how) → Completes [] before now (alone B search) how
+alone-short before now B search t how is put = completes-short [] before now (alone B search) t how (alone_files B search) is put

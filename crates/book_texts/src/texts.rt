@@ -1,0 +1,170 @@
+//! The texts that a run writes.
+
+ghost use Rattle.std.specs.Prelude.{◌≡◌, ◌++◌, All, IfOk, OnOk, Option};
+ghost use Rattle.desk_core.specs.Recorded.{state_of};
+ghost use Rattle.desk_model.specs.Histories.{is_batch};
+ghost use Rattle.journal_text.specs.Lines.{journal_text};
+ghost use Rattle.journal_text.specs.Told.{AnswerNames, CanBeTold};
+ghost use Rattle.desk_tasks.specs.Play.{planned_rotations, planned_itineraries, batch_line, batch_lines, search_line, end_lines, report_text, history_outcome};
+ghost use Rattle.desk_tasks.specs.Recover.{told_alone};
+ghost use Rattle.desk_runs.specs.Writing.{as_texts};
+
+use desk_core::Book;
+use desk_data::{Instance, NoMem};
+use desk_folder::File;
+use desk_model::{Answer, Entry, Event};
+use desk_runs::OutputTexts;
+use desk_tasks::SearchEnd;
+use journal_text::{journal_text, legal_entries_can_be_told, push_answer, push_broken};
+use sol_text::{itineraries_text, rotations_text};
+use std::alloc::Global;
+
+// The rotations of the book's plan, or nothing where it has none.
+fn planned_rotations(alloc: Global, book: &Book) -> Result<Vec<u8>, NoMem>
+    ensures { IfOk result (λ text. text.items ≡ planned_rotations (state_of book.now) (state_of book.now).broken) }
+{
+    match book.broken() {
+        Some(_) => Ok(Vec::new(alloc)),
+        None => rotations_text(alloc, book.instance(), book.eval().plan()),
+    }
+}
+
+// The itineraries of the book's plan, or nothing where it has none.
+fn planned_itineraries(alloc: Global, book: &Book) -> Result<Vec<u8>, NoMem>
+    ensures { IfOk result (λ text. text.items ≡ planned_itineraries (state_of book.now) (state_of book.now).broken) }
+{
+    match book.broken() {
+        Some(_) => Ok(Vec::new(alloc)),
+        None => itineraries_text(alloc, book.instance(), book.eval().plan()),
+    }
+}
+
+// Adds the line of a batch, by its number: what was answered to it.
+fn push_batch(
+    text: &mut Vec<u8>,
+    inst: &Instance,
+    number: usize,
+    answer: &Answer,
+) -> Result<(), NoMem>
+    requires { AnswerNames inst.now answer.now }
+    ensures { OnOk result (text.new.items ≡ text.old.items ++ batch_line inst.now number answer.now) }
+{
+    let head = format!(in *text.allocator(); "batch {number} ")?;
+    text.extend_from_slice(head.as_bytes())?;
+    push_answer(text, inst, answer)?;
+    text.push(b'\n')?;
+    Ok(())
+}
+
+// Whether an event is a batch.
+fn is_batch(event: &Event) -> bool
+    ensures { result ≡ is_batch event.now }
+{
+    match event {
+        Event::Batch(_) => true,
+        Event::Move(_) => false,
+    }
+}
+
+// Adds a line for each batch of these entries, numbered from 0.
+fn push_batches(text: &mut Vec<u8>, inst: &Instance, entries: &[Entry]) -> Result<(), NoMem>
+    requires { All (CanBeTold inst.now) entries.now }
+    ensures { OnOk result (text.new.items ≡ text.old.items ++ batch_lines inst.now entries.now) }
+{
+    let mut number = 0;
+    for entry in entries {
+        if is_batch(&entry.event) {
+            push_batch(text, inst, number, &entry.answer)?;
+            number += 1;
+        }
+    }
+    Ok(())
+}
+
+// Adds how many changes there were, and the cost of the plan or what is broken.
+#[tactic(auto, unfolding(desk_tasks::specs::Play::end_lines))]
+fn push_end(text: &mut Vec<u8>, book: &Book) -> Result<(), NoMem>
+    ensures { OnOk result (text.new.items ≡ text.old.items ++ end_lines book.now.opening book.now.journal) }
+{
+    let alloc = *text.allocator();
+    let changes = book.changes();
+    match book.broken() {
+        None => {
+            let cost = book.cost().0;
+            let end = format!(in alloc; "changes {changes}\ncost {cost}\n")?;
+            text.extend_from_slice(end.as_bytes())?;
+            Ok(())
+        }
+        Some(item) => {
+            let end = format!(in alloc; "changes {changes}\nno plan ")?;
+            text.extend_from_slice(end.as_bytes())?;
+            push_broken(text, book.instance(), &item)?;
+            text.push(b'\n')?;
+            Ok(())
+        }
+    }
+}
+
+// Adds how the last search ended, where it is told.
+fn push_search(text: &mut Vec<u8>, search: Option<SearchEnd>) -> Result<(), NoMem>
+    ensures { OnOk result (text.new.items ≡ text.old.items ++ search_line search) }
+{
+    match search {
+        None => {}
+        Some(SearchEnd::Budget) => text.extend_from_slice(b"ended budget\n")?,
+        Some(SearchEnd::Quiet) => text.extend_from_slice(b"ended quiet\n")?,
+    }
+    Ok(())
+}
+
+// What was answered to each batch, how the last search ended, how many changes there were, and the cost of
+// the plan or what is broken.
+#[tactic(auto, unfolding(desk_tasks::specs::Play::report_text))]
+fn report_text(alloc: Global, book: &Book, search: Option<SearchEnd>) -> Result<Vec<u8>, NoMem>
+    ensures { IfOk result (λ text. text.items ≡ report_text book.now.opening search book.now.journal) }
+{
+    let mut text = Vec::new(alloc);
+    push_batches(&mut text, book.instance(), book.journal())?;
+    push_search(&mut text, search)?;
+    push_end(&mut text, book)?;
+    Ok(text)
+}
+
+// The journal of the book.
+fn book_journal(alloc: Global, book: &Book) -> Result<Vec<u8>, NoMem>
+    ensures { IfOk result (λ text. text.items ≡ journal_text book.now.opening book.now.journal) }
+{
+    legal_entries_can_be_told();
+    journal_text(alloc, book.instance(), book.journal())
+}
+
+/// The texts of a book's journal and state.
+#[tactic(auto, unfolding(desk_tasks::specs::Play::history_outcome))]
+pub(crate) fn output_texts(
+    alloc: Global,
+    book: &Book,
+    search: Option<SearchEnd>,
+) -> Result<OutputTexts, NoMem>
+    ensures { IfOk result (λ t. as_texts t ≡ (history_outcome book.now.opening search book.now.journal).texts) }
+{
+    let mut files = Vec::new(alloc);
+    files.push((File::SolRotations, planned_rotations(alloc, book)?))?;
+    files.push((File::SolItineraries, planned_itineraries(alloc, book)?))?;
+    files.push((File::Journal, book_journal(alloc, book)?))?;
+    let report = report_text(alloc, book, search)?;
+    Ok(OutputTexts { files, report })
+}
+
+/// The report alone.
+#[tactic(auto, unfolding(desk_tasks::specs::Play::history_outcome, desk_tasks::specs::Recover::told_alone))]
+pub(crate) fn report_alone(
+    alloc: Global,
+    book: &Book,
+    search: Option<SearchEnd>,
+) -> Result<OutputTexts, NoMem>
+    ensures { IfOk result (λ t. as_texts t ≡ (told_alone (history_outcome book.now.opening search book.now.journal)).texts) }
+{
+    let files = Vec::new(alloc);
+    let report = report_text(alloc, book, search)?;
+    Ok(OutputTexts { files, report })
+}

@@ -1,0 +1,75 @@
+//! Writing what a history came to.
+
+ghost use Rattle.std.specs.Prelude.{◌≡◌, []};
+ghost use Rattle.desk_runs.specs.Commands.{history_files};
+ghost use Rattle.desk_runs.specs.Runs.{world};
+ghost use Rattle.desk_runs.specs.Finishing.{Completes};
+ghost use Rattle.desk_tasks.specs.Play.{history_outcome, played_end};
+ghost use Rattle.desk_tasks.specs.Recover.{told_alone};
+
+use crate::texts::{output_texts, report_alone};
+use desk_core::Book;
+use desk_data::Broken;
+use desk_folder::{Folder, Sink};
+use desk_runs::{Ending, put_outputs};
+use desk_tasks::SearchEnd;
+use std::alloc::Global;
+
+// How a run ends that wrote all of its texts, by what its last plan breaks.
+fn end_with(broken: Option<Broken>) -> Ending
+    ensures { result ≡ played_end broken }
+{
+    match broken {
+        None => Ending::Done,
+        Some(_) => Ending::NoPlan,
+    }
+}
+
+/// Writes the rotations and the itineraries of the book's plan where it has one, its journal, and the report,
+/// with the end of the last search where one is told.
+///
+/// It ends with `Done` or `NoPlan` when all is written. A write that fails ends it with that fault, and
+/// `Memory` may come at any time: what is written by then is a beginning of the texts, in their order.
+pub fn write_history<F: Folder, O: Sink>(
+    alloc: Global,
+    book: &Book,
+    search: Option<SearchEnd>,
+    folder: &mut F,
+    out: &mut O,
+) -> Ending
+    ensures { Completes history_files (world (F.outside folder.old) (O.report out.old))
+        (world (F.outside folder.new) (O.report out.new)) (history_outcome book.now.opening search book.now.journal) result }
+{
+    let texts = match output_texts(alloc, book, search) {
+        Ok(texts) => texts,
+        Err(_) => return Ending::Memory,
+    };
+    match put_outputs(alloc, folder, out, &texts) {
+        Ok(()) => end_with(book.broken()),
+        Err(end) => end,
+    }
+}
+
+/// Writes the report alone, and no file.
+///
+/// It ends with `Done` or `NoPlan` when it is written, with `ReportFault` where the sink fails, and with
+/// `Memory` at any time: what is written by then is a beginning of the report.
+pub fn report_history<F: Folder, O: Sink>(
+    alloc: Global,
+    book: &Book,
+    search: Option<SearchEnd>,
+    folder: &mut F,
+    out: &mut O,
+) -> Ending
+    ensures { Completes [] (world (F.outside folder.old) (O.report out.old))
+        (world (F.outside folder.new) (O.report out.new)) (told_alone (history_outcome book.now.opening search book.now.journal)) result }
+{
+    let texts = match report_alone(alloc, book, search) {
+        Ok(texts) => texts,
+        Err(_) => return Ending::Memory,
+    };
+    match put_outputs(alloc, folder, out, &texts) {
+        Ok(()) => end_with(book.broken()),
+        Err(end) => end,
+    }
+}

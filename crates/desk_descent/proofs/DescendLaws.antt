@@ -1,0 +1,155 @@
+-- What a book's steps come to.
+use Rattle.std.proofs.Common.{◌≡◌, ℕ, zero, suc, ◌+◌, ◌-◌, ◌%◌, ◌≤◌, Bool, true, false, cond, eqb, List, [], ◌∷◌, length, refl, sym, ap, ◌∙◌, arith}
+use Rattle.std.specs.Prelude.{Option, None, Some, is_none, is_some, find, Result, Ok, Err, IfOk, OnErr}
+use Rattle.std.specs.Option.{ForSome}
+use Rattle.std.proofs.lemmas.Bool.{lt-ltb, eq-eqb}
+use Rattle.plan_moves.specs.declared.moves.Move.{Move}
+use Rattle.plan_moves.specs.Fits.{Fits}
+use Rattle.desk_data.specs.declared.broken.Broken.{Broken}
+use Rattle.desk_data.specs.Situation.{Situation}
+use Rattle.desk_data.specs.PlanRows.{PlanRows}
+use Rattle.desk_model.specs.declared.answer.Entry.{Entry}
+use Rattle.desk_model.specs.declared.answer.Event.TheVariants as event
+use Rattle.desk_model.specs.Steps.{after_move}
+use Rattle.desk_model.specs.States.{State, opening}
+use Rattle.desk_model.specs.Histories.{proposal_limit, has_room}
+use Rattle.desk_model.proofs.HistoryLaws.{state-parts, askable-parts}
+use Rattle.desk_model.proofs.StateLaws.{opening-inst}
+use Rattle.desk_eval.specs.Evaluated.{Evaluated}
+use Rattle.desk_core.specs.Recorded.{Recorded, state_of, with_entry}
+use Rattle.near_moves.specs.Units.{Unit_, owner}
+use Rattle.near_moves.specs.Near.{near, shard, units, of_shard, moves_of}
+use Rattle.near_moves.specs.Descent.{is_better, first_better, IsQuiet, is_spent, next_proposal, with_proposal, descent_of}
+use Rattle.near_moves.proofs.DescentLaws.{next-some, next-is, next-quiet, next-unplanned, unspent-room, step-state, descent-rests, descent-ends}
+use Rattle.desk_descent.specs.declared.descent.Ended.TheVariants.{NoPlan, Quiet, Spent}
+use Rattle.desk_descent.specs.Ending.{ending, after_descent, after_steps}
+use Rattle.desk_descent.specs.Follows.{copy_of, next_of, stepped}
+
+-- ---- the one shard of one is all
+
+in_it : (u : Unit_) → eqb (owner u % 1) 0 ≡ true
+in_it u = eq-eqb (owner u % 1) 0 (omega arith)
+
+all_in_it : (us : List Unit_) → of_shard 0 1 us ≡ us
+all_in_it [] = refl
+all_in_it (u ∷ us) = rw (in_it u) (ap (λ (more : List Unit_). u ∷ more) (all_in_it us))
+
+one_shard : (I : Situation) (P : PlanRows) → shard I P 0 1 ≡ near I P
+unfolding shard near
+one_shard I P = ap (moves_of I P) (all_in_it (units I P))
+
+-- ---- what is proposed
+
+pub first-next : (most : ℕ) (B : Recorded) → (state_of B).broken ≡ None → is_spent most B.journal ≡ false → first_better (state_of B).inst (state_of B).plan 0 1 ≡ next_of most B
+first-next most B planned unspent =
+    let S = state_of B in
+    ap (find (is_better S.inst S.plan)) (one_shard S.inst S.plan) ∙ sym (next-is most (opening B.opening) B.journal planned unspent)
+
+-- what can be asked at a state can be asked of the book
+pub fits-book : (B : Recorded) (m : Move) → Fits (state_of B).inst m → Fits B.opening m
+fits-book B m fits =
+    askable-parts (state_of B).inst B.opening (event.Move m) (state-parts (opening B.opening) B.journal ∙ ap (λ (J : Situation). J.parts) (opening-inst B.opening)) fits
+
+pub fits-state : (B : Recorded) (m : Move) → Fits B.opening m → Fits (state_of B).inst m
+fits-state B m fits =
+    askable-parts B.opening (state_of B).inst (event.Move m) (sym (state-parts (opening B.opening) B.journal ∙ ap (λ (J : Situation). J.parts) (opening-inst B.opening))) fits
+
+pub found-fits : (B : Recorded) (found : Option Move) → ForSome found (Fits (state_of B).inst) → ForSome found (Fits B.opening)
+found-fits B found fits = λ m is. fits-book B m (fits m is)
+
+pub unplanned : (most : ℕ) (B : Recorded) (b : Option Broken) → b ≡ (state_of B).broken → is_some b ≡ true → None ≡ next_of most B
+unplanned most B None is some = absurd cc
+unplanned most B (Some item) is some = sym (next-unplanned most (opening B.opening) B.journal item (sym is))
+
+pub planned : (B : Recorded) (b : Option Broken) → b ≡ (state_of B).broken → is_some b ≡ false → (state_of B).broken ≡ None
+planned B None is none = sym is
+planned B (Some item) is none = absurd cc
+
+pub if-ok : {X E : Type 0} (r : Result X E) (P Q : X → Type 0) → ((x : X) → P x → Q x) → IfOk r P → IfOk r Q
+if-ok (Ok x) P Q less p = less x p
+if-ok (Err e) P Q less p = tt
+
+pub none-since : {X : Type 0} (o : Option X) → is_some o ≡ false → o ≡ None
+none-since None none = refl
+none-since (Some x) none = absurd cc
+
+-- the copy of a book's evaluator
+pub copied : (E C : Evaluated) (S : State) → C ≡ record E { past = [] } → E.inst ≡ S.inst → E.rows ≡ S.plan → C ≡ copy_of S
+copied E C S is inst rows = is ∙ rw (inst, rows) refl
+
+pub on-err : {X E : Type 0} (r : Result X E) (P : Type 0) → P → OnErr r P
+on-err (Ok x) P p = tt
+on-err (Err e) P p = p
+
+-- ---- a step
+
+-- there is room for what is proposed
+pub step-recorded : (most : ℕ) (B : Recorded) (m : Move) → next_of most B ≡ Some m → with_entry B 0 (event.Move m) ≡ stepped most B
+step-recorded most B m is =
+    let next = next-some most (opening B.opening) B.journal m is in
+    let room : has_room (length B.journal) (event.Move m) ≡ true = lt-ltb (length B.journal) proposal_limit (unspent-room most B.journal next.unspent) in
+    rw (room, is) refl
+
+pub step-none : (most : ℕ) (B : Recorded) → next_of most B ≡ None → B ≡ stepped most B
+step-none most B is = rw is refl
+
+-- the evaluator that follows, once its past is forgotten
+pub step-follows : (most : ℕ) (B : Recorded) (m : Move) (E : Evaluated) → next_of most B ≡ Some m → E.inst ≡ (state_of B).inst → E.rows ≡ after_move (state_of B).inst (state_of B).plan m → record E { past = [] } ≡ copy_of (state_of (stepped most B))
+step-follows most B m E is inst rows =
+    let next = next-some most (opening B.opening) B.journal m is in
+    let there : state_of (stepped most B) ≡ record { inst = (state_of B).inst; plan = after_move (state_of B).inst (state_of B).plan m; broken = None } = rw is (step-state most (opening B.opening) B.journal m next) in
+    rw (inst, rows) (ap copy_of (sym there))
+
+-- ---- several steps
+
+descent-add : (i k most : ℕ) (S : State) (h : List Entry) → descent_of (i + k) most S h ≡ descent_of k most S (descent_of i most S h)
+unfolding descent_of
+descent-add zero k most S h = ap (λ (n : ℕ). descent_of n most S h) (let e : 0 + k ≡ k = omega arith in e)
+descent-add (suc i) k most S h =
+    ap (λ (n : ℕ). descent_of n most S h) (let e : suc i + k ≡ suc (i + k) = omega arith in e)
+    ∙ descent-add i k most S (with_proposal S h (next_proposal most S h))
+
+descent-one : (most : ℕ) (S : State) (h : List Entry) → descent_of 1 most S h ≡ with_proposal S h (next_proposal most S h)
+unfolding descent_of
+descent-one most S h = refl
+
+descent-none : (most : ℕ) (S : State) (h : List Entry) → descent_of 0 most S h ≡ h
+unfolding descent_of
+descent-none most S h = refl
+
+pub begun : (most : ℕ) (B : Recorded) → B ≡ after_steps 0 most B
+begun most B = ap (λ (h : List Entry). let at : Recorded = record B { journal = h } in at) (sym (descent-none most (opening B.opening) B.journal))
+
+pub stepped-on : (i most : ℕ) (B N : Recorded) → N ≡ after_steps i most B → stepped most N ≡ after_steps (i + 1) most B
+stepped-on i most B N is =
+    ap (stepped most) is
+    ∙ ap (λ (h : List Entry). let at : Recorded = record B { journal = h } in at)
+    (sym (descent-add i 1 most (opening B.opening) B.journal ∙ descent-one most (opening B.opening) (descent_of i most (opening B.opening) B.journal)))
+
+-- where nothing is proposed the descent is over
+pub over : (i most : ℕ) (B N : Recorded) → i ≤ most → N ≡ after_steps i most B → next_of most N ≡ None → N ≡ after_descent most B
+over i most B N le is none =
+    let S = opening B.opening in
+    let g = descent_of i most S B.journal in
+    let here : next_proposal most S g ≡ None = sym (ap (next_of most) is) ∙ none in
+    is
+    ∙ ap (λ (h : List Entry). let at : Recorded = record B { journal = h } in at)
+    (sym (ap (λ (n : ℕ). descent_of n most S B.journal) (let e : most ≡ i + (most - i) = omega arith in e) ∙ descent-add i (most - i) most S B.journal ∙ descent-rests (most - i) most S g here))
+
+-- where nothing is proposed, a step leaves the book
+pub stopped : (i most : ℕ) (B N M : Recorded) → i ≤ most → N ≡ after_steps i most B → next_of most N ≡ None → M ≡ stepped most N → M ≡ after_descent most B
+stopped i most B N M le is none step = step ∙ sym (step-none most N none) ∙ over i most B N le is none
+
+-- ---- the end
+
+quiet_parts : (b : Option Broken) (spent : Bool) → cond (is_none b) (cond spent Spent Quiet) NoPlan ≡ Quiet → (b ≡ None) × (spent ≡ false)
+quiet_parts None true told = absurd cc
+quiet_parts None false told = (refl, refl)
+quiet_parts (Some item) spent told = absurd cc
+
+pub quiet-end : (most : ℕ) (B N : Recorded) → N ≡ after_descent most B → ending most (state_of N) N.journal ≡ Quiet → IsQuiet (state_of N)
+unfolding ending
+quiet-end most B N is told =
+    let none : next_of most N ≡ None = ap (next_of most) is ∙ descent-ends most (opening B.opening) B.journal in
+    let facts = quiet_parts (state_of N).broken (is_spent most N.journal) told in
+    next-quiet most (opening N.opening) N.journal none facts.0 facts.1

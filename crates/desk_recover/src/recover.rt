@@ -1,0 +1,67 @@
+//! Recovering a day, and writing what came of it.
+
+ghost use Rattle.std.specs.Prelude.{◌≡◌, ◌≤◌, [], length, All};
+ghost use Rattle.desk_data.specs.Valid.{IsOrder};
+ghost use Rattle.desk_runs.specs.Runs.{world};
+ghost use Rattle.desk_runs.specs.Finishing.{Completes};
+ghost use Rattle.desk_tasks.specs.Recover.{recovery_on, recovered, tried};
+ghost use Rattle.desk_tasks.specs.Tasks.{recover, trial, files_for};
+
+use crate::run::run_batches;
+use book_texts::{report_history, write_history};
+use desk_data::{Batch, Instance};
+use desk_folder::{Folder, Sink};
+use desk_runs::Ending;
+use std::alloc::Global;
+
+/// Takes these batches on a day, 1 to 1,001 of them, descends behind each with at most so many accepted moves,
+/// and writes the rotations and the itineraries of the last plan where there is one, the journal, and the
+/// report.
+///
+/// It ends with `Done` or `NoPlan` when all is written. A write that fails ends it with that fault, and
+/// `Memory` may come at any time: what is written by then is a beginning of the texts, in their order.
+pub fn recover_day<F: Folder, O: Sink>(
+    alloc: Global,
+    inst: Instance,
+    batches: &[Batch],
+    moves: u32,
+    folder: &mut F,
+    out: &mut O,
+) -> Ending
+    requires fresh { inst.orders ≡ [] }
+    requires asked { All (λ batch. All (IsOrder inst.parts) batch.orders) batches.now }
+    requires some { 1 ≤ length batches.now }
+    requires few { length batches.now ≤ 1001 }
+    ensures { Completes (files_for (recover (recovery_on inst batches.now moves))) (world (F.outside folder.old) (O.report out.old))
+        (world (F.outside folder.new) (O.report out.new)) (recovered (recovery_on inst batches.now moves)) result }
+{
+    match run_batches(alloc, inst, batches, moves) {
+        Ok(done) => write_history(alloc, &done.book, done.search, folder, out),
+        Err(_) => Ending::Memory,
+    }
+}
+
+/// Does the same, and reports alone what came of it: no file is written.
+///
+/// It ends with `Done` or `NoPlan` when the report is written, with `ReportFault` where the sink fails, and
+/// with `Memory` at any time: what is written by then is a beginning of the report.
+pub fn try_day<F: Folder, O: Sink>(
+    alloc: Global,
+    inst: Instance,
+    batches: &[Batch],
+    moves: u32,
+    folder: &mut F,
+    out: &mut O,
+) -> Ending
+    requires fresh { inst.orders ≡ [] }
+    requires asked { All (λ batch. All (IsOrder inst.parts) batch.orders) batches.now }
+    requires some { 1 ≤ length batches.now }
+    requires few { length batches.now ≤ 1001 }
+    ensures { Completes (files_for (trial (recovery_on inst batches.now moves))) (world (F.outside folder.old) (O.report out.old))
+        (world (F.outside folder.new) (O.report out.new)) (tried (recovery_on inst batches.now moves)) result }
+{
+    match run_batches(alloc, inst, batches, moves) {
+        Ok(done) => report_history(alloc, &done.book, done.search, folder, out),
+        Err(_) => Ending::Memory,
+    }
+}

@@ -1,5 +1,0 @@
-use Rattle.desk_replay.proofs.BatchLaws.{IsTold}
-use Rattle.desk_replay.proofs.texts.push_batches.Given as goal
-
-abbrev pub invariant-loop-entry : goal.invariant-loop-entry
-invariant-loop-entry l = IsTold l.fn.inst l.fn.text.items l.text.items l.number l.entry-index l.entries

@@ -1,0 +1,6 @@
+mod SortedLaws
+mod FlightLaws
+mod SoughtLaws
+mod TriedLaws
+mod StartLaws
+mod JoinLaws

@@ -1,0 +1,4 @@
+pub mod Flights
+pub mod Sought
+pub mod Start
+pub mod Tried

@@ -1,0 +1,99 @@
+//! Routes with two legs behind what was flown already, in one cabin.
+
+ghost use Rattle.std.specs.Prelude.{◌≡◌, ◌<◌, ◌++◌, OnOk, All, map};
+ghost use Rattle.desk_data.specs.Situation.{legs_of, reservations_of};
+ghost use Rattle.desk_data.specs.Valid.{IsPlanFor};
+ghost use Rattle.desk_rules.specs.Numbers.{numbers};
+ghost use Rattle.near_moves.specs.Routes.{all_doubles, stem};
+ghost use Rattle.flight_net.specs.Flights.{IsNetOf};
+ghost use Rattle.flight_net.specs.Tried.{others, doubles_in, doubles_of};
+
+use crate::flights::FlightNet;
+use crate::sought::Sought;
+use crate::start::{due_before, start_behind, stem};
+use crate::tried::take_behind;
+use desk_data::{Cabin, Instance, Leg, NoMem, Path, Res};
+use plan_pages::Pages;
+use plan_reads::arrival;
+use std::alloc::Global;
+
+impl FlightNet {
+    /// Takes those with two legs, by the first of them, by cabin, and by the second.
+    pub(crate) fn take_doubles(
+        &self,
+        alloc: Global,
+        inst: &Instance,
+        plan: &Pages,
+        res: Res,
+        routes: &mut Vec<Path>,
+    ) -> Result<(), NoMem>
+        requires plan { IsPlanFor inst.now plan.now }
+        requires net { IsNetOf inst.now plan.now self.now }
+        requires res { res.0 < reservations_of inst.now }
+        ensures { OnOk result (routes.new.items ≡ routes.old.items ++ others inst.now plan.now res.0 (map (λ double. stem inst.now res.0 ++ double) (all_doubles inst.now))) }
+    {
+        let (from, earliest) = start_behind(inst, plan, res, stem(inst, res));
+        let sought = Sought {
+            from,
+            to: None,
+            earliest,
+            until: due_before(inst, res),
+        };
+        let legs = self.legs(alloc, inst, plan, &sought)?;
+        for leg in &legs {
+            self.take_doubles_of(alloc, inst, plan, res, *leg, routes)?;
+        }
+        Ok(())
+    }
+
+    /// Takes those with a first leg, by cabin and second leg.
+    fn take_doubles_of(
+        &self,
+        alloc: Global,
+        inst: &Instance,
+        plan: &Pages,
+        res: Res,
+        first: Leg,
+        routes: &mut Vec<Path>,
+    ) -> Result<(), NoMem>
+        requires plan { IsPlanFor inst.now plan.now }
+        requires net { IsNetOf inst.now plan.now self.now }
+        requires res { res.0 < reservations_of inst.now }
+        requires first { first.0 < legs_of inst.now }
+        ensures { OnOk result (routes.new.items ≡ routes.old.items ++ others inst.now plan.now res.0 (doubles_of inst.now res.0 first.0 (numbers (legs_of inst.now)))) }
+    {
+        let sought = Sought {
+            from: inst.leg(first).dest,
+            to: Some(inst.booked(res).dest),
+            earliest: arrival(inst, plan, first),
+            until: due_before(inst, res),
+        };
+        let legs = self.legs(alloc, inst, plan, &sought)?;
+        let legs = legs.as_slice();
+        take_doubles_in(alloc, inst, plan, res, (first, Cabin::F), legs, routes)?;
+        take_doubles_in(alloc, inst, plan, res, (first, Cabin::B), legs, routes)?;
+        take_doubles_in(alloc, inst, plan, res, (first, Cabin::E), legs, routes)
+    }
+}
+
+/// Takes those with a first leg and one of some second legs, in a cabin.
+fn take_doubles_in(
+    alloc: Global,
+    inst: &Instance,
+    plan: &Pages,
+    res: Res,
+    first: (Leg, Cabin),
+    seconds: &[Leg],
+    routes: &mut Vec<Path>,
+) -> Result<(), NoMem>
+    requires plan { IsPlanFor inst.now plan.now }
+    requires res { res.0 < reservations_of inst.now }
+    requires first { first.0.0 < legs_of inst.now }
+    requires seconds { All (λ leg. leg.0 < legs_of inst.now) seconds.now }
+    ensures { OnOk result (routes.new.items ≡ routes.old.items ++ others inst.now plan.now res.0 (doubles_in inst.now res.0 first.0.0 (map (λ leg. leg.0) seconds.now) first.1)) }
+{
+    for second in seconds {
+        take_behind(alloc, inst, plan, res, &[first, (*second, first.1)], routes)?;
+    }
+    Ok(())
+}

@@ -1,0 +1,26 @@
+//! The routes of reservations in a plan: the paths to which passengers may be rebooked.
+//!
+//!     let net = FlightNet::of(alloc, &inst, &pages)?;         // the flown legs, sorted once
+//!     let paths = net.routes(alloc, &inst, &pages, res)?;     // the scheduled path first
+//!     let paths = routes(alloc, &inst, &pages, res)?;         // both at once
+//!
+//! Legs are found by the airport that they leave and by departure: the first where passengers stand, no
+//! earlier than they may go, the second where the first arrives, no earlier than it does, and none that
+//! arrives too late. What is found is judged as a whole path, by the tests of plan_reads.
+//!
+//! Proved: the paths are `routes` of near_moves, in its order. It stands on `near_moves`, `plan_reads`
+//! and `plan_pages`.
+#![tactic(auto)]
+
+mod doubles;
+mod flights;
+mod paths;
+mod routes_of;
+mod singles;
+mod sought;
+mod start;
+mod tried;
+
+pub use flights::{Flight, FlightNet};
+pub use paths::same_path;
+pub use routes_of::routes;

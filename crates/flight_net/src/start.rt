@@ -1,0 +1,65 @@
+//! Where and when passengers may go on behind what they have flown already.
+
+ghost use Rattle.std.specs.Prelude.{◌≡◌, ◌<◌, ◌≤◌, length};
+ghost use Rattle.desk_rules.specs.Passengers.{longest_delay};
+ghost use Rattle.desk_data.specs.Situation.{legs_of, reservations_of};
+ghost use Rattle.desk_data.specs.Valid.{IsPathOf, IsPlanFor};
+ghost use Rattle.near_moves.specs.Routes.{stem};
+ghost use Rattle.flight_net.specs.Start.{due_before, place_behind, ready_behind};
+
+use desk_data::{Airport, Cabin, Haul, Instance, Leg, Res};
+use plan_pages::Pages;
+use plan_reads::arrival;
+
+/// What passengers of a reservation have flown already: the legs of their scheduled path that have begun.
+#[tactic(auto, unfolding(near_moves::specs::Routes::stem))]
+pub(crate) fn stem(inst: &Instance, res: Res) -> &[(Leg, Cabin)]
+    requires { res.0 < reservations_of inst.now }
+    ensures stem { result.now ≡ stem inst.now res.0 }
+    ensures path { IsPathOf (legs_of inst.now) result.now }
+    ensures short { length result.now ≤ 8 }
+{
+    let begun = inst.begun(res) as usize;
+    &inst.res(res).path.as_slice()[..begun]
+}
+
+/// The airport where they stand behind the legs of a path, and when they do.
+pub(crate) fn start_behind(
+    inst: &Instance,
+    plan: &Pages,
+    res: Res,
+    path: &[(Leg, Cabin)],
+) -> (Airport, u32)
+    requires plan { IsPlanFor inst.now plan.now }
+    requires res { res.0 < reservations_of inst.now }
+    requires path { IsPathOf (legs_of inst.now) path.now }
+    ensures place { result.0.0 ≡ place_behind inst.now res.0 path.now }
+    ensures ready { result.1 ≡ ready_behind inst.now plan.now res.0 path.now }
+{
+    if path.is_empty() {
+        let booked = inst.booked(res);
+        return (booked.origin, booked.departure.0);
+    }
+    let last = path[path.len() - 1].0;
+    (inst.leg(last).dest, arrival(inst, plan, last))
+}
+
+/// The minute before which they have to arrive.
+pub(crate) fn due_before(inst: &Instance, res: Res) -> u32
+    requires { res.0 < reservations_of inst.now }
+    ensures { result ≡ due_before inst.now res.0 }
+{
+    let booked = inst.booked(res);
+    booked.arrival.0 + longest_delay(booked.haul) + 1
+}
+
+/// The minutes after its booked arrival by which a reservation may arrive, by its haul.
+fn longest_delay(haul: Haul) -> u32
+    ensures delay { result ≡ longest_delay haul }
+    ensures limit { result ≤ 2160 }
+{
+    match haul {
+        Haul::D | Haul::C => 1_080,
+        Haul::I => 2_160,
+    }
+}

@@ -1,0 +1,29 @@
+use Rattle.std.proofs.Common.{◌≡◌, ◌≤◌, ◌++◌, ℕ, List, map, get_or, length, sym, ap, ◌∙◌, arith}
+use Rattle.desk_units.specs.declared.numbers.Plane.{Plane}
+use Rattle.near_moves.specs.Places.{family_of, is_run}
+use Rattle.near_legs.specs.declared.unit.LegUnit.{LegUnit}
+use Rattle.near_legs.proofs.ListsLaws.{families-within}
+use Rattle.near_legs.proofs.OwnLaws.{others_with, runs_yes, runs_no, runs-are, runs-sound}
+use Rattle.near_legs.proofs.own.handed_runs.Goals as goal
+use Rattle.near_legs.proofs.own.handed_runs.Goals.{then-is_run+in_ok-add_others, else-is_run}
+
+pub loop-count-preserved : goal.loop-count-preserved
+loop-count-preserved c = record {
+  all = elim c.if-is_run.branch [
+    | then-is_run+in_ok-add_others w ↦ let a = w.units-is in let b = w.in_ok-add_others.ensures in let d = c.is_run.ensures in let e = c.loop-count-test in ?
+    | else-is_run w ↦ let a = w.units-is in ?
+  ];
+  items = c.loop-count.invariant.items;
+}
+
+pub returns-clause-units : goal.returns-clause-units
+returns-clause-units c =
+    let I = c.args.inst.now in
+    let family : map (λ (q : Plane). q.0) c.family-family.result.now ≡ family_of I c.flier-plane.result.0 = ap (map (λ (q : Plane). q.0)) c.family-family.ensures ∙ c.requires.lists.families.each c.flier-plane.result.0 c.flier-plane.ensures.limit in
+    runs-are I c.args.plan.now c.args.leg c.flier-plane.result.0 c.family-family.result.now c.loop-count.units.items _ c.loop-count.count-index c.flier-plane.ensures.plane family c.loop-count.invariant.all c.loop-count.invariant.items (omega arith)
+
+pub returns-clause-sound : goal.returns-clause-sound
+returns-clause-sound c =
+    let I = c.args.inst.now in
+    let family : map (λ (q : Plane). q.0) c.family-family.result.now ≡ family_of I c.flier-plane.result.0 = ap (map (λ (q : Plane). q.0)) c.family-family.ensures ∙ c.requires.lists.families.each c.flier-plane.result.0 c.flier-plane.ensures.limit in
+    runs-sound I c.args.leg c.flier-plane.result.0 c.family-family.result.now c.loop-count.units.items _ (families-within I c.flier-plane.result.0 c.family-family.result.now family) c.loop-count.invariant.all

@@ -1,0 +1,41 @@
+//! The leg behind each leg on its aircraft.
+
+ghost use Rattle.std.specs.Prelude.{◌≡◌, ℕ, ◌<◌, ◌≤◌, None, IfOk, length, slice_index_or};
+ghost use Rattle.std.specs.Option.{ForSome};
+ghost use Rattle.desk_data.specs.Valid.{IsPlanFor};
+ghost use Rattle.near_legs.specs.Tables.{AreBehind, IsInverse};
+
+use desk_data::{Instance, Leg, NoMem};
+use plan_pages::Pages;
+use plan_reads::legs_before;
+use std::alloc::Global;
+
+/// For each leg that is flown the next one on its aircraft, or `None` where it is the last. The legs are
+/// sorted once. The only error is out of memory.
+pub(crate) fn legs_behind(
+    alloc: Global,
+    inst: &Instance,
+    plan: &Pages,
+) -> Result<Vec<Option<Leg>>, NoMem>
+    requires { IsPlanFor inst.now plan.now }
+    ensures { IfOk result (λ behind. AreBehind inst.now plan.now behind.items) }
+{
+    let _few = inst.legs();
+    let before = legs_before(alloc, plan.plan().rows())?;
+    inverse(alloc, before.as_slice())
+}
+
+/// For each leg the one that has it before it.
+fn inverse(alloc: Global, before: &[Option<Leg>]) -> Result<Vec<Option<Leg>>, NoMem>
+    requires few { length before.now ≤ 20000 }
+    requires within { (y : ℕ) → ForSome (slice_index_or before.now y None) (λ leg. leg.0 < length before.now) }
+    ensures { IfOk result (λ behind. IsInverse (length before.now) before.now behind.items) }
+{
+    let mut behind = vec![in alloc; None; before.len()]?;
+    for y in 0..before.len() {
+        if let Some(leg) = before[y] {
+            behind[leg.0 as usize] = Some(Leg(y as u32));
+        }
+    }
+    Ok(behind)
+}

@@ -1,0 +1,40 @@
+//! The moves of legs and aircraft near a plan, one after another.
+//!
+//!     let mut moves = LegMoves::of(alloc, &inst, &plan, shard, shards)?;
+//!     while let Some(m) = moves.next(alloc, &inst, &plan)? { .. }
+//!
+//! Legs are retimed, exchanged, dropped, restored and handed on; what the moves are and in which order they
+//! stand is told in near_moves. Whoever wants whole units, to pass over some of them before their moves are
+//! made, walks over `LegUnits`, which makes the moves of a unit that it gave.
+//!
+//! What is looked up again and again is worked out once: the leg behind each leg, the aircraft of each
+//! family, each aircraft's movable legs, and the legs that may be restored by their origin. A walk holds
+//! the units of one owner, and the moves of one unit. To work out takes n log n of the legs, and reads each two
+//! aircraft once.
+//!
+//! Proved: the moves are those of near_moves, in their order, and after an error a walk is where it was. It
+//! stands on `desk_data`, `plan_moves`, `plan_reads`, `plan_pages` and `near_moves`.
+#![tactic(auto)]
+
+mod behind;
+mod choice;
+mod choose;
+mod families;
+mod family;
+mod lists;
+mod made;
+mod moments;
+mod moves;
+mod own;
+mod runs;
+mod steps;
+mod tables;
+mod unit;
+mod walk;
+
+pub use desk_data::{Instance, Leg, NoMem, Plane};
+pub use moves::LegMoves;
+pub use plan_moves::Move;
+pub use plan_pages::Pages;
+pub use unit::LegUnit;
+pub use walk::LegUnits;

@@ -1,0 +1,82 @@
+//! What is looked up again and again.
+
+ghost use Rattle.std.specs.Prelude.{◌≡◌, ◌<◌, None, [], IfOk, length, slice_index_or};
+ghost use Rattle.desk_data.specs.Valid.{IsPlanFor};
+ghost use Rattle.near_legs.specs.Tables.{AreLists};
+
+use crate::behind::legs_behind;
+use crate::families::families;
+use crate::lists::{By, lists};
+use desk_data::{Airport, Instance, Leg, NoMem, Plane};
+use plan_pages::Pages;
+use std::alloc::Global;
+use std::marker::Model;
+
+/// What is looked up again and again, of a plan.
+#[derive(Drop)]
+pub(crate) struct Tables {
+    behind: Vec<Option<Leg>>,
+    families: Vec<Vec<Plane>>,
+    flown: Vec<Vec<Leg>>,
+    cancelled: Vec<Vec<Leg>>,
+}
+
+impl Model for Tables {
+    ghost use Rattle.std.specs.Prelude.{map};
+    ghost use Rattle.near_legs.specs.Tables.{Lists};
+
+    ghost Value = { Lists };
+
+    ghost view = { λ t. record { behind = t.behind.items; families = map (λ l. l.items) t.families.items; flown = map (λ l. l.items) t.flown.items; cancelled = map (λ l. l.items) t.cancelled.items } };
+}
+
+impl Tables {
+    /// Those of a plan. The only error is out of memory.
+    pub(crate) fn of(alloc: Global, inst: &Instance, plan: &Pages) -> Result<Tables, NoMem>
+        requires { IsPlanFor inst.now plan.now }
+        ensures { IfOk result (AreLists inst.now plan.now) }
+    {
+        let behind = legs_behind(alloc, inst, plan)?;
+        let families = families(alloc, inst)?;
+        let flown = lists(alloc, inst, plan, By::Aircraft)?;
+        let cancelled = lists(alloc, inst, plan, By::Origin)?;
+        Ok(Tables {
+            behind,
+            families,
+            flown,
+            cancelled,
+        })
+    }
+
+    /// The leg behind a leg that is flown, on its aircraft.
+    pub(crate) fn behind(&self, leg: Leg) -> Option<Leg>
+        requires { leg.0 < length self.now.behind }
+        ensures { result ≡ slice_index_or self.now.behind leg.0 None }
+    {
+        self.behind[leg.0 as usize]
+    }
+
+    /// The aircraft of an aircraft's family.
+    pub(crate) fn family(&self, plane: Plane) -> &[Plane]
+        requires { plane.0 < length self.now.families }
+        ensures { result.now ≡ slice_index_or self.now.families plane.0 [] }
+    {
+        self.families[plane.0 as usize].as_slice()
+    }
+
+    /// The movable legs of an aircraft.
+    pub(crate) fn flown(&self, plane: Plane) -> &[Leg]
+        requires { plane.0 < length self.now.flown }
+        ensures { result.now ≡ slice_index_or self.now.flown plane.0 [] }
+    {
+        self.flown[plane.0 as usize].as_slice()
+    }
+
+    /// The legs from an airport that may be restored.
+    pub(crate) fn cancelled(&self, airport: Airport) -> &[Leg]
+        requires { airport.0 < length self.now.cancelled }
+        ensures { result.now ≡ slice_index_or self.now.cancelled airport.0 [] }
+    {
+        self.cancelled[airport.0 as usize].as_slice()
+    }
+}

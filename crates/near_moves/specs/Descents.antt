@@ -1,0 +1,44 @@
+-- What descents and recoveries add to a history.
+use Rattle.std.specs.Prelude.{◌≡◌, true, false, Some, None, List, [], ◌∷◌, ◌++◌}
+use Rattle.std.specs.List.{find, flat_map}
+use Rattle.plan_moves.specs.declared.moves.Move.{Move}
+use Rattle.day_orders.specs.declared.orders.Batch.{Batch}
+use Rattle.desk_model.specs.declared.answer.Event.{Event}
+use Rattle.desk_model.specs.declared.answer.Event.TheVariants as event
+use Rattle.desk_model.specs.declared.answer.Entry.{Entry}
+use Rattle.desk_model.specs.States.{State, after}
+use Rattle.desk_model.specs.Histories.{state, is_batch, is_accepted, entry_of}
+use Rattle.near_moves.specs.Near.{near}
+use Rattle.near_moves.specs.Descent.{is_better}
+
+-- the entry of a step at a state that has a plan: caller 0 proposes the first better move near the plan, and it is accepted
+pub record IsDescentStep (S : State) (entry : Entry) : Type 0 where
+  pub move : Move
+  pub planned : S.broken ≡ None
+  pub first : find (is_better S.inst S.plan) (near S.inst S.plan) ≡ Some move
+  pub told : entry ≡ entry_of S 0 (event.Move move)
+  pub accepted : is_accepted entry.answer ≡ true
+
+-- each of some entries stands so at the state that those before it made of state S
+abbrev pub AllAlong : (State → Entry → Type 0) → State → List Entry → Type 0
+AllAlong Stands S [] = Unit {0}
+AllAlong Stands S (entry ∷ entries) = Stands S entry × AllAlong Stands (after S entry.event) entries
+
+-- history g is history h with the steps of a descent behind it
+pub record Descends (S : State) (h g : List Entry) : Type 0 where
+  pub added : List Entry
+  pub behind : g ≡ h ++ added
+  pub steps : AllAlong IsDescentStep (state S h) added
+
+-- an entry of a recovery: caller 0 asks, and where it is no batch it is the step of a descent
+pub record IsRecoveryEntry (S : State) (entry : Entry) : Type 0 where
+  pub asked : entry.caller ≡ 0
+  pub step : is_batch entry.event ≡ false → IsDescentStep S entry
+
+-- the batches of a history, in their order
+abbrev pub batch_in : Event → List Batch
+batch_in (event.Batch B) = B ∷ []
+batch_in (event.Move m) = []
+
+abbrev pub batches_of : List Entry → List Batch
+batches_of h = flat_map (λ entry. batch_in entry.event) h

@@ -1,0 +1,59 @@
+//! What holds of descents and recoveries.
+
+ghost use Rattle.std.specs.Prelude.{◌≡◌, ◌↔◌, ℕ, ◌+◌, ◌≤◌, ◌&&◌, Bool, true, false, None, Some, is_none, List as Items, length, slice_get, All};
+ghost use Rattle.std.specs.List.{find};
+ghost use Rattle.day_orders.specs.declared.orders.Batch.{Batch};
+ghost use Rattle.plan_moves.specs.declared.moves.Move.{Move};
+ghost use Rattle.plan_moves.specs.Fits.{Fits};
+ghost use Rattle.desk_data.specs.Situation.{Situation};
+ghost use Rattle.desk_data.specs.PlanRows.{PlanRows};
+ghost use Rattle.desk_data.specs.declared.broken.Broken.{Broken};
+ghost use Rattle.desk_data.specs.Valid.{IsOrder, IsPlanFor, IsValid};
+ghost use Rattle.desk_model.specs.declared.answer.Entry.{Entry as Recorded};
+ghost use Rattle.desk_model.specs.declared.answer.Event.TheVariants as event;
+ghost use Rattle.desk_model.specs.States.{State, opening, answer};
+ghost use Rattle.desk_model.specs.Histories.{IsLegal, is_accepted, state, proposal_limit};
+ghost use Rattle.near_moves.specs.Near.{near};
+ghost use Rattle.near_moves.specs.Descent.{is_better, better, IsQuiet, is_spent, next_proposal, descent, recovery};
+ghost use Rattle.near_moves.specs.Descents.{Descends, AllAlong, IsRecoveryEntry, batches_of};
+
+/// A proposal is accepted exactly where there is a plan and the move is better. The first better move
+/// near a plan is the first of all that are.
+pub fn a_proposal_is_accepted_exactly_where_it_is_better()
+    ensures accepted { (S : State) (m : Move) → is_accepted (answer S (event.Move m)) ≡ is_none S.broken && is_better S.inst S.plan m }
+    ensures first { (I : Situation) (P : PlanRows) → find (is_better I P) (near I P) ≡ slice_get (better I P) 0 }
+{}
+
+/// A descent leaves the history that it begins with, and adds steps to it: in each caller 0 proposes
+/// the first better move near the plan as it stands, and it is accepted. Where there is no plan, it adds
+/// nothing. It never makes a history of 900,000 entries or more longer.
+pub fn a_descent_adds_the_first_better_moves()
+    ensures adds { (most : ℕ) (S : State) (h : Items Recorded) → Descends S h (descent most S h) }
+    ensures unplanned { (most : ℕ) (S : State) (h : Items Recorded) (item : Broken) → (state S h).broken ≡ Some item → descent most S h ≡ h }
+    ensures length { (most b : ℕ) (S : State) (h : Items Recorded) → length h ≤ b → proposal_limit ≤ b → length (descent most S h) ≤ b }
+{}
+
+/// Behind a descent there is nothing more to propose. So from a plan it ends at a plan, and where the
+/// history behind it is not spent, no move near that plan is better.
+pub fn a_descent_ends_quiet_or_spent()
+    ensures ends { (most : ℕ) (S : State) (h : Items Recorded) → next_proposal most S (descent most S h) ≡ None }
+    ensures planned { (most : ℕ) (S : State) (h : Items Recorded) → (state S h).broken ≡ None → (state S (descent most S h)).broken ≡ None }
+    ensures quiet { (most : ℕ) (S : State) (h : Items Recorded) → (state S h).broken ≡ None → is_spent most (descent most S h) ≡ false → IsQuiet (state S (descent most S h)) }
+{}
+
+/// The batches of a recovery are those that it is told, in their order, each once. All its entries are
+/// from caller 0, and those that are no batches are steps of descents. It is at most 900,000 entries
+/// longer than there are batches.
+pub fn a_recovery_takes_the_batches_and_descends_behind_each()
+    ensures batches { (most : ℕ) (S : State) (batches : Items Batch) → batches_of (recovery most S batches) ≡ batches }
+    ensures entries { (most : ℕ) (S : State) (batches : Items Batch) → AllAlong IsRecoveryEntry S (recovery most S batches) }
+    ensures length { (most : ℕ) (S : State) (batches : Items Batch) → length (recovery most S batches) ≤ proposal_limit + length batches }
+{}
+
+/// Each move near a plan can be asked of the day. So what a descent adds to a legal history leaves it legal, and
+/// so is a recovery of at most 100,000 batches that can be taken: each finds room in the journal.
+pub fn descents_and_recoveries_are_legal()
+    ensures fit { (I : Situation) (P : PlanRows) → IsValid I → IsPlanFor I P → All (Fits I) (near I P) }
+    ensures descent { (most : ℕ) (I : Situation) (h : Items Recorded) → IsValid I → IsLegal (opening I) h → IsLegal (opening I) (descent most (opening I) h) }
+    ensures recovery { (most : ℕ) (I : Situation) (batches : Items Batch) → IsValid I → All (λ B. All (IsOrder I.parts) B.orders) batches → length batches ≤ 100000 → IsLegal (opening I) (recovery most (opening I) batches) }
+{}

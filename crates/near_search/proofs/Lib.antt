@@ -1,0 +1,2 @@
+pub mod PaidLaws
+pub mod FirstLaws

@@ -1,0 +1,15 @@
+use Rattle.std.proofs.Common.{◌≡◌, length}
+use Rattle.std.specs.Prelude.{find}
+use Rattle.near_moves.specs.Descent.{is_better}
+use Rattle.near_search.proofs.trial.first_of.Given as goal
+
+-- the moves are near the plan, which stands as it stood, and what is found among those that are left is what is found among all
+abbrev pub invariant-loop-m : goal.invariant-loop-m
+invariant-loop-m g l = record {
+  of : g.M.MovesLeft.is_of l.fn.eval.inst l.fn.eval.rows l.moves;
+  eval : l.eval ≡ l.fn.eval;
+  same : find (is_better l.fn.eval.inst l.fn.eval.rows) (g.M.MovesLeft.left l.fn.eval.inst l.fn.eval.rows l.moves) ≡ find (is_better l.fn.eval.inst l.fn.eval.rows) (g.M.MovesLeft.left l.fn.eval.inst l.fn.eval.rows l.fn.moves);
+}
+
+abbrev pub decreases-loop-m : goal.decreases-loop-m
+decreases-loop-m g l = length (g.M.MovesLeft.left l.fn.eval.inst l.fn.eval.rows l.moves)

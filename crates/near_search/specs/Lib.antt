@@ -1,0 +1,2 @@
+pub use Rattle.near_moves.specs.Descent
+pub use Rattle.plan_moves.specs.Fits

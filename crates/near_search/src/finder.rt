@@ -1,0 +1,12 @@
+//! What a search keeps between its calls.
+
+/// What a search keeps between its calls. It keeps nothing, so one finder serves any evaluators.
+#[derive(Debug, Drop)]
+pub struct Finder {}
+
+impl Finder {
+    /// A finder that has not searched yet.
+    pub fn new() -> Finder {
+        Finder {}
+    }
+}

@@ -1,0 +1,41 @@
+//! The first better move of a shard.
+
+ghost use Rattle.std.specs.Prelude.{◌≡◌, ◌<◌, length, IfOk};
+ghost use Rattle.std.specs.Option.{ForSome};
+ghost use Rattle.plan_moves.specs.Fits.{Fits};
+ghost use Rattle.near_moves.specs.Descent.{first_better};
+
+use crate::finder::Finder;
+use crate::trial::first_of;
+use desk_data::NoMem;
+use desk_eval::Evaluator;
+use near_legs::LegMoves;
+use near_pax::PaxMoves;
+use plan_moves::Move;
+use std::alloc::Global;
+
+/// The first move of a shard of those near the evaluator's plan that makes it feasible and cheaper, or none
+/// where no move of the shard does. A shard's number is below the number of shards: shard 0 of 1 is all moves.
+/// The evaluator's past has fewer than 1,900,000,000 changes. Moves are tried on the evaluator and taken back:
+/// it stands where it stood, after an error too. The only error is out of memory.
+pub fn first_better(
+    alloc: Global,
+    eval: &mut Evaluator,
+    finder: &mut Finder,
+    shard: u32,
+    shards: u32,
+) -> Result<Option<Move>, NoMem>
+    requires shard { shard < shards }
+    requires depth { length eval.old.past < 1900000000 }
+    ensures ok { IfOk result (λ found. found ≡ first_better eval.old.inst eval.old.rows shard shards) }
+    ensures fits { IfOk result (λ found. ForSome found (Fits eval.old.inst)) }
+    ensures eval { eval.new ≡ eval.old }
+{
+    let _ = finder;
+    let mut legs = LegMoves::of(alloc, eval.instance(), eval.plan(), shard, shards)?;
+    if let Some(m) = first_of(alloc, eval, &mut legs)? {
+        return Ok(Some(m));
+    }
+    let mut passengers = PaxMoves::of(alloc, eval.instance(), eval.plan(), shard, shards)?;
+    first_of(alloc, eval, &mut passengers)
+}

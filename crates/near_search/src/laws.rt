@@ -1,0 +1,25 @@
+//! What rules moves out.
+
+ghost use Rattle.std.specs.Prelude.{◌≡◌, ℕ, ◌≤◌, false, [], ◌∷◌, List as Items, All};
+ghost use Rattle.desk_units.specs.declared.numbers.Leg.{Leg};
+ghost use Rattle.desk_units.specs.declared.numbers.Cabin.{Cabin};
+ghost use Rattle.desk_units.specs.declared.numbers.Res.{Res};
+ghost use Rattle.plan_moves.specs.declared.moves.Move.{Move};
+ghost use Rattle.plan_moves.specs.declared.moves.Step.TheVariants.{Rebook};
+ghost use Rattle.desk_data.specs.Situation.{Situation};
+ghost use Rattle.desk_data.specs.PlanRows.{PlanRows};
+ghost use Rattle.desk_rules.specs.Cost.{cost};
+ghost use Rattle.desk_model.specs.Rebook.{after_rebook};
+ghost use Rattle.full_cost.specs.Amounts.{passenger_cost};
+ghost use Rattle.near_moves.specs.Near.{unit_moves};
+ghost use Rattle.near_moves.specs.Units.{rebooked};
+ghost use Rattle.near_moves.specs.Descent.{is_better};
+
+/// A rebooking to a path on which a passenger costs no less makes no plan cheaper, however many go: so
+/// many passengers cost so many times what one costs. So no rebooking from a path that costs a passenger
+/// nothing is better, and none of the moves that take passengers off it.
+pub fn a_rebooking_to_a_path_that_costs_no_less_is_not_better()
+    ensures cost { (I : Situation) (P : PlanRows) (r : ℕ) (path to : Items (Leg × Cabin)) (count : ℕ) → passenger_cost I P r path ≤ passenger_cost I P r to → cost I P ≤ cost I (after_rebook P r path to count) }
+    ensures better { (I : Situation) (P : PlanRows) (m : Move) (res : Res) (path to : Items (Leg × Cabin)) (count : ℕ) → m.steps ≡ Rebook res path to count ∷ [] → passenger_cost I P res.0 path ≤ passenger_cost I P res.0 to → is_better I P m ≡ false }
+    ensures unit { (I : Situation) (P : PlanRows) (r : ℕ) (path : Items (Leg × Cabin)) → passenger_cost I P r path ≡ 0 → All (λ m. is_better I P m ≡ false) (unit_moves I P (rebooked r path)) }
+{}

@@ -1,0 +1,25 @@
+//! The first move near a plan that makes it feasible and cheaper.
+//!
+//!     let mut finder = Finder::new();
+//!     let found = first_better(alloc, &mut eval, &mut finder, 0, 1)?;   // of all moves near the plan
+//!     let found = first_better(alloc, &mut eval, &mut finder, 2, 8)?;   // of shard 2 of 8
+//!
+//! The moves of legs come first (`near_legs`), and then those of passengers (`near_pax`). A move is tried on the
+//! evaluator: applied, judged by what the plan then breaks and costs, and taken back. Before that `ruled_out` asks
+//! whether it is known not to be better, which is worth while where that takes less than a trial: it may always
+//! say no. What it knows is a law each.
+//!
+//! Proved: what is found is the first of `find` over the shard, as `near_moves` defines it, and it fits; the
+//! evaluator stands where it stood, also where memory ran out.
+#![tactic(auto)]
+
+mod finder;
+mod first;
+mod laws;
+mod left;
+mod ruled_out;
+mod trial;
+
+pub use finder::Finder;
+pub use first::first_better;
+pub use laws::a_rebooking_to_a_path_that_costs_no_less_is_not_better;

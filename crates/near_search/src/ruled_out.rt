@@ -1,0 +1,51 @@
+//! Moves that are known not to be better.
+
+ghost use Rattle.std.specs.Prelude.{◌≡◌, ◌<◌, ◌≤◌, true, false, nat_le};
+ghost use Rattle.plan_moves.specs.Fits.{Fits, IsPathIn, StepFits};
+ghost use Rattle.desk_data.specs.Situation.{legs_of, reservations_of};
+ghost use Rattle.desk_rules.specs.Cost.{cost};
+ghost use Rattle.desk_model.specs.Steps.{after_step};
+ghost use Rattle.near_moves.specs.Descent.{is_better};
+ghost use Rattle.full_cost.specs.Amounts.{passenger_cost};
+
+use desk_data::{Path, Res};
+use desk_eval::Evaluator;
+use full_cost::passenger_cost;
+use plan_moves::{Move, Step};
+
+/// Whether it is known without a trial that a move is not better: it has one step, and that makes no plan
+/// cheaper. Where it says no, nothing is known.
+pub(crate) fn ruled_out(eval: &Evaluator, m: &Move) -> bool
+    requires { Fits eval.now.inst m.now }
+    ensures { result ≡ true → is_better eval.now.inst eval.now.rows m.now ≡ false }
+{
+    match m.steps.as_slice() {
+        [step] => is_no_cheaper(eval, step),
+        _ => false,
+    }
+}
+
+/// Whether it is known that a step makes the plan no cheaper: it is a rebooking to a path on which a passenger
+/// costs no less. Where it says no, nothing is known.
+fn is_no_cheaper(eval: &Evaluator, step: &Step) -> bool
+    requires { StepFits eval.now.inst step.now }
+    ensures { result ≡ true → cost eval.now.inst eval.now.rows ≤ cost eval.now.inst (after_step eval.now.inst eval.now.rows step.now) }
+{
+    match step {
+        Step::Rebook { res, path, to, .. } => costs_no_less(eval, *res, path, to),
+        _ => false,
+    }
+}
+
+/// Whether a passenger of a reservation costs no less on the path `to` than on a path.
+fn costs_no_less(eval: &Evaluator, res: Res, path: &Path, to: &Path) -> bool
+    requires res { res.0 < reservations_of eval.now.inst }
+    requires path { IsPathIn (legs_of eval.now.inst) path.now }
+    requires to { IsPathIn (legs_of eval.now.inst) to.now }
+    ensures { result ≡ nat_le (passenger_cost eval.now.inst eval.now.rows res.0 path.now) (passenger_cost eval.now.inst eval.now.rows res.0 to.now) }
+{
+    let (inst, plan) = (eval.instance(), eval.plan().plan());
+    let now = passenger_cost(inst, plan, res, path.as_slice());
+    let would = passenger_cost(inst, plan, res, to.as_slice());
+    now.0 <= would.0
+}

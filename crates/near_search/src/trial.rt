@@ -1,0 +1,52 @@
+//! Moves that are tried.
+
+ghost use Rattle.std.specs.Prelude.{◌≡◌, ◌<◌, length, IfOk, find};
+ghost use Rattle.std.specs.Option.{ForSome};
+ghost use Rattle.plan_moves.specs.Fits.{Fits};
+ghost use Rattle.near_moves.specs.Descent.{is_better};
+
+use crate::left::MovesLeft;
+use crate::ruled_out::ruled_out;
+use desk_data::NoMem;
+use desk_eval::Evaluator;
+use desk_moves::{apply, undo};
+use plan_moves::Move;
+use std::alloc::Global;
+
+/// The first better one of some moves. The evaluator stands where it stood, after an error too.
+pub(crate) fn first_of<M: MovesLeft>(
+    alloc: Global,
+    eval: &mut Evaluator,
+    moves: &mut M,
+) -> Result<Option<Move>, NoMem>
+    requires moves { M.is_of eval.old.inst eval.old.rows moves.old }
+    requires depth { length eval.old.past < 1900000000 }
+    ensures ok { IfOk result (λ found. found ≡ find (is_better eval.old.inst eval.old.rows) (M.left eval.old.inst eval.old.rows moves.old)) }
+    ensures fits { IfOk result (λ found. ForSome found (Fits eval.old.inst)) }
+    ensures eval { eval.new ≡ eval.old }
+{
+    while let Some(m) = moves.next(alloc, eval.instance(), eval.plan())? {
+        if is_better(alloc, eval, &m)? {
+            return Ok(Some(m));
+        }
+    }
+    Ok(None)
+}
+
+/// Whether a move makes the plan feasible and cheaper. It is tried on the evaluator, unless it is known not
+/// to. The evaluator stands where it stood, after an error too.
+fn is_better(alloc: Global, eval: &mut Evaluator, m: &Move) -> Result<bool, NoMem>
+    requires fits { Fits eval.old.inst m.now }
+    requires depth { length eval.old.past < 1900000000 }
+    ensures ok { IfOk result (λ better. better ≡ is_better eval.old.inst eval.old.rows m.now) }
+    ensures eval { eval.new ≡ eval.old }
+{
+    if ruled_out(eval, m) {
+        return Ok(false);
+    }
+    let now = eval.cost();
+    let applied = apply(alloc, eval, m)?;
+    let better = eval.least_broken().is_none() && eval.cost().0 < now.0;
+    undo(eval, applied);
+    Ok(better)
+}
