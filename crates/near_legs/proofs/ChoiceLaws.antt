@@ -66,6 +66,9 @@ unfolding exchanges
 exchanges-are I P first second all moments is are =
     ap (map (steps_of I P)) is ∙ map-map (steps_of I P) (λ at. Exchange first second (minute at)) moments ∙ ap (map (exchange first.0 second.0)) are
 
+pub exchanges-sound : (I : Situation) (P : PlanRows) (first second : Plane) (all : List Choice) (moments : List ℕ) → all ≡ map (λ at. Exchange first second (minute at)) moments → All (IsChoice I P) all
+exchanges-sound I P first second all moments is = subst (All (IsChoice I P)) (sym is) (All-map (IsChoice I P) (λ at. Exchange first second (minute at)) moments (λ k d lt. tt))
+
 -- ---- runs that are cancelled
 
 taken : (xs ys : List ℕ) (n : ℕ) → xs ≡ ys → length xs ≤ n → take n xs ≡ ys

@@ -52,11 +52,11 @@ pub way-ends : (I : Situation) (P : PlanRows) (x : ℕ) (legs : List Leg) (next 
 way-ends I P x legs next n way =
     sym (take_at (map (λ (l : Leg). l.0) legs) (from_next I P next) n (length-map legs (λ (l : Leg). l.0) ∙ way.count)) ∙ ap (take n) way.legs_are
 
-pub all_taken : (xs : List ℕ) (n : ℕ) → length xs ≤ n → take n xs ≡ xs
+pub all_taken : {X : Type 0} (xs : List X) (n : ℕ) → length xs ≤ n → take n xs ≡ xs
 all_taken [] zero h = refl
 all_taken [] (suc n) h = refl
 all_taken (x ∷ xs) zero h = absurd (omega (arith, h))
-all_taken (x ∷ xs) (suc n) h = ap (λ (ys : List ℕ). x ∷ ys) (all_taken xs n (omega (arith, h)))
+all_taken (x ∷ xs) (suc n) h = ap (λ ys. x ∷ ys) (all_taken xs n (omega (arith, h)))
 
 pub way-stops : (I : Situation) (P : PlanRows) (x : ℕ) (legs : List Leg) (n k : ℕ) → IsOnWay I P x legs None n → n ≤ k → map (λ (l : Leg). l.0) legs ≡ run I P x k
 way-stops I P x legs n k way le =
