@@ -1,9 +1,10 @@
 -- The walk over the units, and over their moves.
 use Rattle.std.proofs.Common.{◌≡◌, inl, inr, ℕ, zero, suc, ◌+◌, ◌-◌, ◌*◌, ◌<◌, ◌≤◌, ◌%◌, Bool, true, false, ◌&&◌, cond, not, leb, eqb, List, [], ◌∷◌, ◌++◌, length, get_or, map, drop, take, reverse, refl, sym, ap, subst, ◌∙◌, arith, add-one}
 use Rattle.std.specs.Prelude.{Option, Some, None, is_none, filter, option_to_list}
+use Rattle.std.specs.Option.{ForSome}
 use Rattle.std.specs.List.{All, flat_map}
-use Rattle.std.proofs.lemmas.Bool.{cases_Bool, true≢false, and_parts, leb-true, le-leb}
-use Rattle.std.proofs.lemmas.List.{append_assoc, append-nil, map-append, length-append}
+use Rattle.std.proofs.lemmas.Bool.{cases_Bool, true≢false, and_parts, leb-true, leb-false, le-leb}
+use Rattle.std.proofs.lemmas.List.{append_assoc, append-nil, map-append, length-append, reverse-append}
 use Rattle.std.proofs.lemmas.List.Concat.{flat_map-append, flat_map_single}
 use Rattle.std.proofs.lemmas.List.Elements.{All-nil, All-cons, All-head, All-tail, All-map, All-drop, filter-append}
 use Rattle.desk_data.specs.Situation.{Situation, legs_of, planes_of, leg_at, plane_at}
@@ -17,7 +18,7 @@ use Rattle.near_moves.specs.Places.{is_movable_flown, is_restorable, family_of, 
 use Rattle.near_moves.specs.Units.{Unit_, retimed, swapped, dropped, restored, handed, owner}
 use Rattle.near_moves.specs.LegMoves.{retimed_units, later_of_family, swapped_units, dropped_units, restored_units, run_lengths, others_of_family, handed_units}
 use Rattle.near_moves.specs.Near.{leg_units, of_shard, moves_of, unit_moves}
-use Rattle.near_moves.proofs.ListLaws.{drop_numbers, All_flat_map}
+use Rattle.near_moves.proofs.ListLaws.{drop_numbers, All_flat_map, for_none, for_some}
 use Rattle.near_moves.proofs.UnitLaws.{some-fit}
 use Rattle.near_legs.specs.declared.unit.LegUnit.{LegUnit}
 use Rattle.near_legs.specs.declared.family.Family.{Family}
@@ -208,3 +209,64 @@ end-left I P W done empty =
     ap (λ us. map unit_of us ++ (rest_of I P W.shard W.shards W.family W.owner ++ behind_family I P W.shard W.shards W.family)) empty
     ∙ ap (λ us. us ++ behind_family I P W.shard W.shards W.family) (rest-end I P W.shard W.shards W.family W.owner (leb-true (owners I W.family) W.owner parts.0))
     ∙ behind-none I P W.shard W.shards W.family parts.1
+
+next-some : (I : Situation) (P : PlanRows) (u : LegUnit) (xs : List LegUnit) → All (IsLegUnit I P) xs → u ∷ [] ≡ take 1 xs → IsLegUnit I P u × (xs ≡ u ∷ drop 1 xs)
+next-some I P u [] all is = absurd cc
+next-some I P u (x ∷ xs) all is = let same : u ≡ x = cc in (subst (IsLegUnit I P) (sym same) (All-head (IsLegUnit I P) x xs all), ap (λ y. y ∷ xs) (sym same))
+
+none_taken : (xs : List LegUnit) → [] ≡ take 1 xs → xs ≡ []
+none_taken [] is = refl
+none_taken (x ∷ xs) is = absurd cc
+
+pub next-is : (I : Situation) (P : PlanRows) (W : UnitWalk) (r : Option LegUnit) → IsUnitWalk I P W → option_to_list r ≡ take 1 W.at_hand → (W.at_hand ≡ [] → is_at_end I W ≡ true) → IsNextUnit I P W r
+next-is I P W None walk is done = let empty = none_taken W.at_hand is in end-left I P W (done empty) empty
+next-is I P W (Some u) walk is done = next-some I P u W.at_hand walk.at_hand is
+
+-- ---- a walk that goes on, whatever stands for the walk before
+
+pub owner-left : (I : Situation) (P : PlanRows) (V W : UnitWalk) (made : List LegUnit) → V ≡ W → W.at_hand ≡ [] → leb (owners I W.family) W.owner ≡ false → map unit_of made ≡ owned_in I P W.shard W.shards W.family W.owner → units_left I P (record V { at_hand = made; owner = V.owner + 1 }) ≡ units_left I P W
+owner-left I P V W made same empty before is =
+    subst (λ (U : UnitWalk). units_left I P (record U { at_hand = made; owner = U.owner + 1 }) ≡ units_left I P W) (sym same)
+    (take-left I P W made empty (leb-false (owners I W.family) W.owner before) is)
+
+pub owner-nearer : (I : Situation) (V W : UnitWalk) (made : List LegUnit) → V ≡ W → leb (owners I W.family) W.owner ≡ false → owners I W.family ≤ 20000 → places_left (record V { at_hand = made; owner = V.owner + 1 }) < places_left W
+owner-nearer I V W made same before few =
+    subst (λ (U : UnitWalk). places_left (record U { at_hand = made; owner = U.owner + 1 }) < places_left W) (sym same)
+    (take-nearer I W made (leb-false (owners I W.family) W.owner before) few)
+
+pub family-left : (I : Situation) (P : PlanRows) (U V W : UnitWalk) → U ≡ at_next_family V → V ≡ W → leb (owners I W.family) W.owner ≡ true → units_left I P U ≡ units_left I P W
+family-left I P U V W is same past = ap (units_left I P) (is ∙ ap at_next_family same) ∙ next-left I P W (leb-true (owners I W.family) W.owner past)
+
+pub family-nearer : (I : Situation) (U V W : UnitWalk) → U ≡ at_next_family V → V ≡ W → is_at_end I W ≡ false → leb (owners I W.family) W.owner ≡ true → W.owner ≤ 20000 → places_left U < places_left W
+family-nearer I U V W is same more past few =
+    subst (λ (T : UnitWalk). places_left T < places_left W) (sym (is ∙ ap at_next_family same)) (next-nearer I W more (leb-true (owners I W.family) W.owner past) few)
+
+pub skip-walk : (I : Situation) (P : PlanRows) (W : UnitWalk) → IsUnitWalk I P W → IsUnitWalk I P (record W { at_hand = drop 1 W.at_hand })
+skip-walk I P W walk = record { lists = walk.lists; shard = walk.shard; owner = walk.owner; at_hand = All-drop (IsLegUnit I P) 1 W.at_hand walk.at_hand }
+
+-- ---- moves that are given
+
+pub given-fit : (I : Situation) (old new : List Move) (r : Option Move) (rest : List Move) → old ≡ new ++ option_to_list r → All (Fits I) (reverse old ++ rest) → All (Fits I) (reverse new ++ rest) × ForSome r (Fits I)
+given-fit I old new None rest is fits = (subst (λ (ms : List Move). All (Fits I) (reverse ms ++ rest)) (is ∙ append-nil new) fits, for_none (Fits I))
+given-fit I old new (Some m) rest is fits =
+    let same : reverse old ++ rest ≡ m ∷ (reverse new ++ rest) = ap (λ (ms : List Move). reverse ms ++ rest) is ∙ ap (λ (ms : List Move). ms ++ rest) (reverse-append new (m ∷ [])) in
+    let all : All (Fits I) (m ∷ (reverse new ++ rest)) = subst (All (Fits I)) same fits in
+    (All-tail (Fits I) m (reverse new ++ rest) all, for_some (Fits I) m (All-head (Fits I) m (reverse new ++ rest) all))
+
+pub start-fits : (I : Situation) (P : PlanRows) (s n : ℕ) (us : List Unit_) → IsPlanFor I P → us ≡ of_shard s n (leg_units I P) → All (Fits I) (moves_of I P us)
+start-fits I P s n us plan is = subst (λ vs. All (Fits I) (moves_of I P vs)) (sym is) (some-fit I P (λ u. eqb (owner u % n) s) plan)
+
+-- the moves of the unit at hand, and of those behind it
+made-left : (I : Situation) (P : PlanRows) (W : UnitWalk) (u : LegUnit) → W.at_hand ≡ u ∷ drop 1 W.at_hand → moves_of I P (units_left I P W) ≡ unit_moves I P (unit_of u) ++ moves_of I P (units_left I P (record W { at_hand = drop 1 W.at_hand }))
+made-left I P W u is =
+    ap (λ (us : List LegUnit). moves_of I P (map unit_of us ++ (rest_of I P W.shard W.shards W.family W.owner ++ behind_family I P W.shard W.shards W.family))) is
+
+pub made-fit : (I : Situation) (P : PlanRows) (old : MoveWalk) (W S : UnitWalk) (u : LegUnit) (made : List Move) → All (Fits I) (left I P old) → old.made ≡ [] → units_left I P W ≡ units_left I P old.units → W.at_hand ≡ u ∷ drop 1 W.at_hand → S ≡ record W { at_hand = drop 1 W.at_hand } → made ≡ unit_moves I P (unit_of u) → All (Fits I) (made ++ moves_of I P (units_left I P S))
+made-fit I P old W S u made fits empty same next skipped is =
+    let all : left I P old ≡ made ++ moves_of I P (units_left I P S) =
+    ap (λ (ms : List Move). ms ++ moves_of I P (units_left I P old.units)) empty
+    ∙ ap (moves_of I P) (sym same)
+    ∙ made-left I P W u next
+    ∙ ap (λ (ms : List Move). ms ++ moves_of I P (units_left I P (record W { at_hand = drop 1 W.at_hand }))) (sym is)
+    ∙ ap (λ (T : UnitWalk). made ++ moves_of I P (units_left I P T)) (sym skipped) in
+    subst (All (Fits I)) all fits
