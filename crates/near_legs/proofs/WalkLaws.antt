@@ -1,11 +1,11 @@
 -- The walk over the units, and over their moves.
-use Rattle.std.proofs.Common.{◌≡◌, inl, inr, ℕ, zero, suc, ◌+◌, ◌-◌, ◌*◌, ◌<◌, ◌≤◌, ◌%◌, Bool, true, false, ◌&&◌, cond, not, leb, eqb, List, [], ◌∷◌, ◌++◌, length, get_or, map, drop, take, reverse, refl, sym, ap, subst, ◌∙◌, arith, add-one}
+use Rattle.std.proofs.Common.{◌≡◌, inl, inr, ℕ, zero, suc, ◌+◌, ◌<◌, ◌≤◌, ◌%◌, Bool, true, false, ◌&&◌, cond, not, leb, eqb, List, [], ◌∷◌, ◌++◌, length, map, drop, take, reverse, refl, sym, ap, subst, ◌∙◌, arith, add-one}
 use Rattle.std.specs.Prelude.{Option, Some, None, is_none, filter, option_to_list}
 use Rattle.std.specs.Option.{ForSome}
 use Rattle.std.specs.List.{All, flat_map}
 use Rattle.std.proofs.lemmas.Bool.{cases_Bool, true≢false, and_parts, leb-true, leb-false, le-leb}
-use Rattle.std.proofs.lemmas.List.{append_assoc, append-nil, map-append, length-append, reverse-append}
-use Rattle.std.proofs.lemmas.List.Concat.{flat_map-append, flat_map_single}
+use Rattle.std.proofs.lemmas.List.{append_assoc, append-nil, reverse-append}
+use Rattle.std.proofs.lemmas.List.Concat.{flat_map_single}
 use Rattle.std.proofs.lemmas.List.Elements.{All-nil, All-cons, All-head, All-tail, All-map, All-drop, filter-append}
 use Rattle.desk_data.specs.Situation.{Situation, legs_of, planes_of, leg_at, plane_at}
 use Rattle.desk_data.specs.PlanRows.{PlanRows}
@@ -23,9 +23,8 @@ use Rattle.near_moves.proofs.UnitLaws.{some-fit}
 use Rattle.near_legs.specs.declared.unit.LegUnit.{LegUnit}
 use Rattle.near_legs.specs.declared.family.Family.{Family}
 use Rattle.near_legs.specs.declared.family.Family.TheVariants as family
-use Rattle.near_legs.specs.Tables.{Lists, AreLists}
 use Rattle.near_legs.specs.Choices.{unit_of, IsLegUnit}
-use Rattle.near_legs.specs.Walk.{owners, handed_of_run, owned, owned_in, rest_of, next_family, behind_family, UnitWalk, units_left, IsUnitWalk, MoveWalk, left, IsOf, rank, places_left, is_at_end, at_family, at_next_family, IsNextUnit, HasMade}
+use Rattle.near_legs.specs.Walk.{owners, handed_of_run, owned_in, rest_of, next_family, behind_family, UnitWalk, units_left, IsUnitWalk, MoveWalk, left, rank, places_left, is_at_end, at_family, at_next_family, IsNextUnit}
 
 -- ---- the units of a family, in a shard
 

@@ -1,4 +1,4 @@
-use Rattle.std.proofs.Common.{◌≡◌, ℕ, List, map, ap, ◌∙◌}
+use Rattle.std.proofs.Common.{◌≡◌, map, ap, ◌∙◌}
 use Rattle.near_moves.specs.Places.{minute}
 use Rattle.near_legs.specs.declared.choice.Choice.TheVariants.{Exchange}
 use Rattle.near_legs.proofs.RunLaws.{all_taken}

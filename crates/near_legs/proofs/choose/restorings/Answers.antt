@@ -2,7 +2,7 @@ use Rattle.std.proofs.Common.{◌≡◌, ◌∷◌, List, map, subst, ap, ◌∙
 use Rattle.std.specs.Prelude.{filter}
 use Rattle.desk_units.specs.declared.numbers.Leg.{Leg}
 use Rattle.desk_data.specs.declared.info.LegInfo.{LegInfo}
-use Rattle.desk_data.specs.Situation.{legs_of, leg_at}
+use Rattle.desk_data.specs.Situation.{legs_of}
 use Rattle.desk_rules.specs.Numbers.{numbers}
 use Rattle.near_legs.specs.declared.lists.By.TheVariants.{Origin}
 use Rattle.near_legs.specs.declared.choice.Choice.TheVariants.{Alone, Both}

@@ -1,4 +1,4 @@
-use Rattle.std.proofs.Common.{◌≡◌, ◌≤◌, ◌++◌, ℕ, List, map, get_or, length, sym, ap, ◌∙◌, arith}
+use Rattle.std.proofs.Common.{◌≡◌, ◌++◌, List, map, get_or, sym, ap, ◌∙◌, arith}
 use Rattle.desk_units.specs.declared.numbers.Plane.{Plane}
 use Rattle.near_moves.specs.Places.{family_of, is_run}
 use Rattle.near_moves.specs.LegMoves.{run_lengths}

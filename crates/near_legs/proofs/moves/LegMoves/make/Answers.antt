@@ -1,11 +1,6 @@
-use Rattle.std.proofs.Common.{◌≡◌, ◌++◌, List, reverse, subst, sym, ap, ◌∙◌}
-use Rattle.std.specs.Prelude.{Option, Some}
-use Rattle.std.specs.List.{All}
+use Rattle.std.proofs.Common.{◌≡◌, reverse, subst, sym, ap, ◌∙◌}
+use Rattle.std.specs.Prelude.{Some}
 use Rattle.std.proofs.lemmas.List.{reverse-reverse}
-use Rattle.plan_moves.specs.declared.moves.Move.{Move}
-use Rattle.plan_moves.specs.Fits.{Fits}
-use Rattle.near_moves.specs.Near.{moves_of}
-use Rattle.near_legs.specs.declared.unit.LegUnit.{LegUnit}
 use Rattle.near_legs.specs.Walk.{MoveWalk, IsUnitWalk, IsNextUnit, units_left}
 use Rattle.near_legs.proofs.WalkLaws.{skip-walk, made-fit}
 use Rattle.near_legs.proofs.moves.LegMoves.make.Goals as goal

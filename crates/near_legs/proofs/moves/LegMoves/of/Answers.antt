@@ -1,4 +1,4 @@
-use Rattle.std.proofs.Common.{◌≡◌, ◌++◌, List, reverse, subst, sym, ap}
+use Rattle.std.proofs.Common.{◌++◌, List, reverse, subst, sym}
 use Rattle.std.specs.List.{All}
 use Rattle.plan_moves.specs.declared.moves.Move.{Move}
 use Rattle.plan_moves.specs.Fits.{Fits}

@@ -1,4 +1,4 @@
-use Rattle.std.proofs.Common.{◌≡◌, ◌++◌, List, map, reverse, ap, ◌∙◌}
+use Rattle.std.proofs.Common.{◌++◌, List, map, reverse, ap, ◌∙◌}
 use Rattle.near_legs.specs.declared.unit.LegUnit.{LegUnit}
 use Rattle.near_legs.specs.declared.family.Family.TheVariants.{Retimed}
 use Rattle.near_legs.specs.Choices.{unit_of}

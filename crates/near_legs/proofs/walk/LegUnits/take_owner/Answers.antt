@@ -1,8 +1,7 @@
-use Rattle.std.proofs.Common.{◌≡◌, ◌+◌, ◌≤◌, false, true, leb, map, reverse, refl, sym, ap, ◌∙◌, arith}
+use Rattle.std.proofs.Common.{◌≡◌, map, reverse, refl, sym, ap, ◌∙◌, arith}
 use Rattle.std.proofs.lemmas.List.{reverse-reverse}
-use Rattle.near_legs.specs.declared.unit.LegUnit.{LegUnit}
 use Rattle.near_legs.specs.Choices.{unit_of}
-use Rattle.near_legs.specs.Walk.{UnitWalk, owned_in, owners}
+use Rattle.near_legs.specs.Walk.{UnitWalk}
 use Rattle.near_legs.proofs.WalkLaws.{owner-left, owner-nearer, family-left, family-nearer}
 use Rattle.near_legs.proofs.walk.LegUnits.take_owner.Goals as goal
 
