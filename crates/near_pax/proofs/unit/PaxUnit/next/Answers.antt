@@ -1,4 +1,4 @@
-use Rattle.std.proofs.Common.{◌≡◌, ℕ, List, sym, ap, subst, ◌∙◌}
+use Rattle.std.proofs.Common.{◌≡◌, ℕ, List, get_or, sym, ap, subst, ◌∙◌}
 use Rattle.std.specs.Prelude.{IfOk, OnErr, Some}
 use Rattle.std.proofs.lemmas.Result.{on_err_weaker}
 use Rattle.desk_units.specs.declared.numbers.Leg.{Leg}
@@ -30,8 +30,8 @@ returns-clause-ok c =
     let next = c.next-next.new.self in
     let v : PaxUnit = record { res = res; place = place; made = Some next } in
     let own = unit-stays I P u res place made next c.requires.unit c.in_ok-made.ensures.res c.in_ok-made.ensures.place c.in_ok-made.ensures.made c.next-next.ensures.aims c.next-next.ensures.counts c.next-next.ensures.within in
-    let group = c.index-groups-self.result in
-    let is : group ≡ group_at P res.0 place = group-here P res.0 place c.groups.result.now group c.groups.ensures.groups own.place c.index-groups-self.is in
+    let group = get_or c.groups.result.now place c.index-groups-self.result in
+    let is : group ≡ group_at P res.0 place = sym c.index-groups-self.is ∙ group-here P res.0 place c.groups.result.now c.index-groups-self.result c.groups.ensures.groups own.place c.index-groups-self.is in
     let before : left_of_made res.0 group.path made ≡ left_of_unit I P u =
         ap (λ g. left_of_made res.0 g.path made) is
         ∙ ap (λ (r : Res). left_of_made r.0 (path_at P r.0 place) made) c.in_ok-made.ensures.res
