@@ -136,13 +136,7 @@ impl Made {
 }
 
 /// The move of so many passengers from a path to another.
-fn rebooking(
-    alloc: Global,
-    res: Res,
-    path: &Path,
-    aim: &Path,
-    count: u32,
-) -> Result<Move, NoMem>
+fn rebooking(alloc: Global, res: Res, path: &Path, aim: &Path, count: u32) -> Result<Move, NoMem>
     ensures { IfOk result (λ made. made ≡ move_of (rebooking res.0 path.now aim.now count)) }
 {
     let step = Step::Rebook {
