@@ -1,3 +1,3 @@
-pub mod ListLaws
+pub mod ElementLaws
 pub mod RouteLaws
 pub mod RebookingLaws

@@ -13,7 +13,7 @@ use Rattle.desk_model.specs.Rebook.{count_on}
 use Rattle.near_moves.specs.Units.{rebooked}
 use Rattle.near_moves.specs.Near.{unit_steps, unit_moves, step_in_time, move_of}
 use Rattle.near_moves.specs.PassengerMoves.{aims, portions, rebooking, rebookings}
-use Rattle.near_moves.proofs.ListLaws.{filter-all, flat_map-agree, all-from_has, map-has, flat_map-has}
+use Rattle.near_moves.proofs.ElementLaws.{filter-all, flat_map-agree, all-from_has, map-has, flat_map-has}
 use Rattle.near_pax.specs.declared.unit.Made.{Made}
 use Rattle.near_pax.specs.Left.{moves_to, other_aims, left_of_made, IsMade}
 

@@ -13,7 +13,7 @@ use Rattle.desk_rules.specs.Numbers.{numbers}
 use Rattle.near_moves.specs.Units.{Unit_, rebooked, owner}
 use Rattle.near_moves.specs.Near.{of_shard}
 use Rattle.near_moves.specs.PassengerMoves.{rebooked_units}
-use Rattle.near_moves.proofs.ListLaws.{filter-map, filter-flat_map, filter-all, filter-none, flat_map-agree, all-from_has}
+use Rattle.near_moves.proofs.ElementLaws.{filter-map, filter-flat_map, filter-all, filter-none, flat_map-agree, all-from_has}
 use Rattle.near_pax.specs.declared.units.PaxUnits.{PaxUnits}
 use Rattle.near_pax.specs.Units.{no_group, unit_at, units_of, left_units, has_path}
 
