@@ -7,5 +7,6 @@ pub mod FitLaws
 pub mod MomentLaws
 pub mod UnitLaws
 pub mod ShardLaws
+pub mod ElementLaws
 pub mod RouteLaws
 pub mod RebookingLaws
