@@ -10,7 +10,7 @@ use Rattle.plan_moves.specs.declared.moves.Step.{Step}
 use Rattle.plan_moves.specs.declared.moves.Step.TheVariants.{Set}
 use Rattle.desk_rules.specs.Rotations.{dep}
 use Rattle.desk_rules.specs.Passengers.{is_flown}
-use Rattle.near_moves.specs.Places.{leg, flown_row, run}
+use Rattle.near_moves.specs.Places.{leg, minute, flown_row}
 use Rattle.near_moves.specs.Units.{Unit_, retimed, swapped, dropped, restored, handed}
 use Rattle.near_moves.specs.LegMoves.{retiming, exchange, dropping, restoring_alone, restoring_both, handing}
 use Rattle.near_legs.specs.declared.unit.LegUnit.{LegUnit}
@@ -82,3 +82,7 @@ AreInRange I other = ⊥
 abbrev pub IsHandedOf : Situation → ℕ → LegUnit → Type 0
 IsHandedOf I x (units.Handed leg count plane) = (leg.0 ≡ x) × (plane.0 < planes_of I)
 IsHandedOf I x other = ⊥
+
+-- leg x departs so many minutes later than at a moment
+abbrev pub later_choice : Leg → ℕ → ℕ → Choice
+later_choice leg departs later = Depart leg (minute (departs + later))

@@ -6,7 +6,6 @@ use Rattle.desk_units.specs.declared.numbers.Plane.{Plane}
 use Rattle.desk_data.specs.Situation.{Situation, legs_of, planes_of, airports_of, leg_at}
 use Rattle.desk_data.specs.PlanRows.{PlanRows, row_at}
 use Rattle.desk_rules.specs.Numbers.{numbers}
-use Rattle.desk_rules.specs.Rotations.{precedes}
 use Rattle.desk_rules.specs.Passengers.{is_flown}
 use Rattle.near_moves.specs.Places.{flier, is_movable_flown, is_restorable, family_of, legs_from}
 use Rattle.near_legs.specs.declared.lists.By.{By}
@@ -26,11 +25,11 @@ pub record AreBehind (I : Situation) (P : PlanRows) (behind : List (Option Leg))
   pub flown : (x : ℕ) → ForSome (slice_index_or behind x None) (λ next. is_flown (row_at P next.0) ≡ true)
   pub each : (x : ℕ) → x < legs_of I → is_flown (row_at P x) ≡ true → legs_from I P x ≡ x ∷ from_next I P (slice_index_or behind x None)
 
--- for each leg the one that has it before it, if any has
-pub record IsInverse (before behind : List (Option Leg)) : Type 0 where
+-- for each leg the one of the first n that has it before it, if any has
+pub record IsInverse (n : ℕ) (before behind : List (Option Leg)) : Type 0 where
   pub legs : length behind ≡ length before
   pub found : (x : ℕ) → ForSome (slice_index_or behind x None) (λ next. (next.0 < length before) × (slice_index_or before next.0 None ≡ Some (record { 0 = x })))
-  pub all : (x y : ℕ) → y < length before → slice_index_or before y None ≡ Some (record { 0 = x }) → slice_index_or behind x None ≡ None → ⊥
+  pub all : (x y : ℕ) → y < n → slice_index_or before y None ≡ Some (record { 0 = x }) → slice_index_or behind x None ≡ None → ⊥
 
 -- ---- families
 

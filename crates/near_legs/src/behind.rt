@@ -29,7 +29,7 @@ pub(crate) fn legs_behind(
 fn inverse(alloc: Global, before: &[Option<Leg>]) -> Result<Vec<Option<Leg>>, NoMem>
     requires few { length before.now ≤ 20000 }
     requires within { (y : ℕ) → ForSome (slice_index_or before.now y None) (λ leg. leg.0 < length before.now) }
-    ensures { IfOk result (λ behind. IsInverse before.now behind.items) }
+    ensures { IfOk result (λ behind. IsInverse (length before.now) before.now behind.items) }
 {
     let mut behind = vec![in alloc; None; before.len()]?;
     for y in 0..before.len() {

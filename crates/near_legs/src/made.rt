@@ -30,8 +30,9 @@ pub(crate) fn moves_of(
     requires unit { IsLegUnit inst.now plan.now unit }
     ensures { IfOk result (λ moves. moves.items ≡ unit_moves inst.now plan.now (unit_of unit)) }
 {
+    let choices = choices(alloc, inst, plan, tables, unit)?;
     let mut moves = Vec::new(alloc);
-    for choice in &choices(alloc, inst, plan, tables, unit)? {
+    for choice in &choices {
         let steps = steps_of(alloc, inst, plan, tables, *choice)?;
         add_in_time(steps, &mut moves)?;
     }

@@ -1,6 +1,6 @@
 //! The walk over the moves of legs and aircraft near a plan.
 
-ghost use Rattle.std.specs.Prelude.{◌≡◌, ◌<◌, ◌∷◌, [], IfOk, MatchOption, OnErr};
+ghost use Rattle.std.specs.Prelude.{◌≡◌, ◌<◌, ◌↔◌, ◌∷◌, [], IfOk, IsTrue, MatchOption, OnErr};
 ghost use Rattle.std.specs.Option.{ForSome};
 ghost use Rattle.desk_data.specs.Valid.{IsPlanFor};
 ghost use Rattle.plan_moves.specs.Fits.{Fits};
@@ -70,12 +70,19 @@ impl LegMoves {
         ensures fits { IfOk result (λ m. ForSome m (Fits inst.now)) }
         ensures err { OnErr result (left inst.now plan.now self.new ≡ left inst.now plan.now self.old) }
     {
-        while self.made.is_empty() {
+        'units: while self.is_empty() {
             if !self.make(alloc, inst, plan)? {
                 return Ok(None);
             }
         }
         Ok(self.made.pop())
+    }
+
+    /// Whether no move is made and not given.
+    fn is_empty(&self) -> bool
+        ensures { IsTrue result ↔ (self.now.made ≡ []) }
+    {
+        self.made.is_empty()
     }
 
     /// Makes the moves of the next unit; `false` where none is left. No move is made and not given.
