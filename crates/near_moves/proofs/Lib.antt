@@ -1,3 +1,4 @@
+pub mod ElementLaws
 pub mod DescentLaws
 pub mod RecoveryLaws
 pub mod LegalLaws
@@ -7,6 +8,5 @@ pub mod FitLaws
 pub mod MomentLaws
 pub mod UnitLaws
 pub mod ShardLaws
-pub mod ElementLaws
 pub mod RouteLaws
 pub mod RebookingLaws
