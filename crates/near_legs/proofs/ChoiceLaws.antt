@@ -1,9 +1,9 @@
 -- What is chosen makes the steps of the unit's moves.
-use Rattle.std.proofs.Common.{◌≡◌, ℕ, ◌+◌, ◌<◌, ◌≤◌, Bool, true, false, ◌&&◌, cond, not, ltb, leb, eqb, List, [], ◌∷◌, ◌++◌, length, map, take, refl, sym, ap, subst, ◌∙◌, arith}
-use Rattle.std.specs.Prelude.{Option, Some, None, filter}
+use Rattle.std.proofs.Common.{◌≡◌, ℕ, ◌+◌, ◌<◌, ◌≤◌, Bool, true, false, ◌&&◌, cond, ltb, leb, eqb, List, [], ◌∷◌, ◌++◌, length, map, take, refl, sym, ap, subst, ◌∙◌}
+use Rattle.std.specs.Prelude.{Some, None, filter}
 use Rattle.std.specs.List.{All, list_all}
 use Rattle.std.proofs.lemmas.List.{append_assoc, map-append}
-use Rattle.std.proofs.lemmas.List.Elements.{All-nil, All-cons, All-map, All-filter, All-weaker, All-append, All-take, filter-append, filter_agree}
+use Rattle.std.proofs.lemmas.List.Elements.{All-cons, All-map, All-filter, filter-append, filter_agree}
 use Rattle.std.proofs.lemmas.Simd.{map-map}
 use Rattle.desk_units.specs.declared.numbers.Leg.{Leg}
 use Rattle.desk_units.specs.declared.numbers.Plane.{Plane}
@@ -20,7 +20,7 @@ use Rattle.near_moves.specs.LegMoves.{retiming, retimings, exchange, exchanges, 
 use Rattle.near_moves.specs.Near.{move_of, step_in_time}
 use Rattle.near_legs.specs.declared.lists.By.TheVariants.{Origin}
 use Rattle.near_legs.specs.declared.choice.Choice.{Choice}
-use Rattle.near_legs.specs.declared.choice.Choice.TheVariants.{Depart, Exchange, Drop, Alone, Both, Hand}
+use Rattle.near_legs.specs.declared.choice.Choice.TheVariants.{Depart, Exchange, Drop, Alone, Both}
 use Rattle.near_legs.specs.Tables.{is_number, is_listed}
 use Rattle.near_legs.specs.Choices.{IsFlownLeg, IsChoice, steps_of, run_step, leads_back, later_choice}
 use Rattle.near_legs.proofs.RunLaws.{all_taken}
@@ -65,6 +65,9 @@ pub exchanges-are : (I : Situation) (P : PlanRows) (first second : Plane) (all :
 unfolding exchanges
 exchanges-are I P first second all moments is are =
     ap (map (steps_of I P)) is ∙ map-map (steps_of I P) (λ at. Exchange first second (minute at)) moments ∙ ap (map (exchange first.0 second.0)) are
+
+pub exchanges-sound : (I : Situation) (P : PlanRows) (first second : Plane) (all : List Choice) (moments : List ℕ) → all ≡ map (λ at. Exchange first second (minute at)) moments → All (IsChoice I P) all
+exchanges-sound I P first second all moments is = subst (All (IsChoice I P)) (sym is) (All-map (IsChoice I P) (λ at. Exchange first second (minute at)) moments (λ k d lt. tt))
 
 -- ---- runs that are cancelled
 

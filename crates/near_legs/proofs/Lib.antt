@@ -3,4 +3,4 @@ pub mod RunLaws
 pub mod ListsLaws
 pub mod ChoiceLaws
 pub mod OwnLaws
--- pub mod WalkLaws
+pub mod WalkLaws

@@ -1,18 +1,18 @@
 -- The units of an owner.
-use Rattle.std.proofs.Common.{◌≡◌, ℕ, ◌+◌, ◌<◌, ◌≤◌, Bool, true, false, cond, not, ltb, eqb, List, [], ◌∷◌, ◌++◌, length, get_or, map, take, refl, sym, ap, subst, ◌∙◌, arith}
+use Rattle.std.proofs.Common.{◌≡◌, ℕ, ◌+◌, ◌<◌, ◌≤◌, Bool, true, false, cond, not, ltb, eqb, List, [], ◌∷◌, ◌++◌, length, get_or, map, take, refl, sym, ap, subst, ◌∙◌}
 use Rattle.std.specs.Prelude.{filter}
 use Rattle.std.specs.List.{All, flat_map}
 use Rattle.std.proofs.lemmas.List.{append-nil, map-append}
 use Rattle.std.proofs.lemmas.List.Concat.{flat_map-append}
-use Rattle.std.proofs.lemmas.List.Elements.{All-nil, All-map, All-filter, All-append, All-cons, filter_more}
+use Rattle.std.proofs.lemmas.List.Elements.{All-map, All-filter, filter_more}
 use Rattle.std.proofs.lemmas.Simd.{map-map}
 use Rattle.desk_units.specs.declared.numbers.Leg.{Leg}
 use Rattle.desk_units.specs.declared.numbers.Plane.{Plane}
-use Rattle.desk_data.specs.Situation.{Situation, legs_of, planes_of, leg_at, plane_at}
+use Rattle.desk_data.specs.Situation.{Situation, legs_of, planes_of}
 use Rattle.desk_data.specs.PlanRows.{PlanRows, row_at}
 use Rattle.near_moves.specs.Places.{flier, family_of, is_run}
-use Rattle.near_moves.specs.Units.{Unit_, swapped, restored, handed}
-use Rattle.near_moves.specs.LegMoves.{later_of_family, others_of_family, run_lengths}
+use Rattle.near_moves.specs.Units.{swapped, restored, handed}
+use Rattle.near_moves.specs.LegMoves.{later_of_family, run_lengths}
 use Rattle.near_moves.proofs.ListLaws.{All_flat_map}
 use Rattle.near_legs.specs.declared.unit.LegUnit.{LegUnit}
 use Rattle.near_legs.specs.declared.unit.LegUnit.TheVariants as units

@@ -1,9 +1,7 @@
 -- The moves of a unit, one by one.
-use Rattle.std.proofs.Common.{◌≡◌, ℕ, zero, suc, ◌+◌, ◌-◌, ◌^◌, ◌<◌, ◌≤◌, ◌⊎◌, inl, inr, Bool, true, false, not, ◌&&◌, cond, eqb, ltb, List, [], ◌∷◌, ◌++◌, length, get_or, map, drop, refl, sym, ap, subst, ◌∙◌, arith}
-use Rattle.std.specs.Prelude.{filter}
-use Rattle.std.specs.List.{All, flat_map, list_all}
+use Rattle.std.proofs.Common.{◌≡◌, ℕ, ◌+◌, ◌<◌, ◌≤◌, true, List, [], ◌∷◌, ◌++◌, length, get_or, map, drop, refl, sym, ap, subst, ◌∙◌, arith}
+use Rattle.std.specs.List.{flat_map, list_all}
 use Rattle.std.proofs.lemmas.List.{drop_more, drop_all, drop_at, get_or-map, length-map, length-append, get_or_append_left, map-append}
-use Rattle.std.proofs.lemmas.List.Elements.{All-map, All-append}
 use Rattle.std.proofs.lemmas.Simd.{map-map}
 use Rattle.desk_units.specs.declared.numbers.Leg.{Leg}
 use Rattle.desk_units.specs.declared.numbers.Cabin.{Cabin}
@@ -11,11 +9,11 @@ use Rattle.desk_data.specs.Situation.{Situation}
 use Rattle.desk_data.specs.PlanRows.{PlanRows, groups_at}
 use Rattle.plan_moves.specs.declared.moves.Step.{Step}
 use Rattle.plan_moves.specs.declared.moves.Move.{Move}
-use Rattle.desk_model.specs.Rebook.{count_on, same_path}
-use Rattle.near_moves.specs.Units.{Unit_, rebooked}
+use Rattle.desk_model.specs.Rebook.{count_on}
+use Rattle.near_moves.specs.Units.{rebooked}
 use Rattle.near_moves.specs.Near.{unit_steps, unit_moves, step_in_time, move_of}
 use Rattle.near_moves.specs.PassengerMoves.{aims, portions, rebooking, rebookings}
-use Rattle.near_moves.proofs.ListLaws.{filter-all, flat_map-agree, all-from_has, map-has, flat_map-has}
+use Rattle.near_moves.proofs.ElementLaws.{filter-all, flat_map-agree, all-from_has, map-has, flat_map-has}
 use Rattle.near_pax.specs.declared.unit.Made.{Made}
 use Rattle.near_pax.specs.Left.{moves_to, other_aims, left_of_made, IsMade}
 

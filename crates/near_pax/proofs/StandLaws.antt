@@ -1,6 +1,6 @@
 -- A unit of which a move was given is a unit.
-use Rattle.std.proofs.Common.{◌≡◌, ℕ, ◌<◌, length, sym, ap, subst}
-use Rattle.std.specs.Prelude.{Option, Some}
+use Rattle.std.proofs.Common.{◌≡◌, ℕ, ◌<◌, length, sym, subst}
+use Rattle.std.specs.Prelude.{Some}
 use Rattle.desk_units.specs.declared.numbers.Res.{Res}
 use Rattle.desk_data.specs.Situation.{Situation}
 use Rattle.desk_data.specs.PlanRows.{PlanRows}

@@ -1,11 +1,10 @@
 -- The paths that are left, one by one.
-use Rattle.std.proofs.Common.{◌≡◌, ℕ, zero, suc, ◌+◌, ◌-◌, ◌%◌, ◌<◌, ◌≤◌, ◌⊎◌, inl, inr, Bool, true, false, ◌&&◌, cond, eqb, ltb, List, [], ◌∷◌, ◌++◌, length, get_or, map, drop, refl, sym, ap, subst, ◌∙◌, arith}
+use Rattle.std.proofs.Common.{◌≡◌, ℕ, zero, suc, ◌+◌, ◌%◌, ◌<◌, ◌≤◌, ◌⊎◌, inl, inr, Bool, true, false, cond, eqb, ltb, List, [], ◌∷◌, ◌++◌, length, get_or, map, drop, refl, sym, ap, ◌∙◌, arith}
 use Rattle.std.specs.Prelude.{filter}
-use Rattle.std.specs.List.{All, flat_map}
+use Rattle.std.specs.List.{flat_map}
 use Rattle.std.proofs.lemmas.Bool.{cases_Bool, and_parts, ltb-true}
 use Rattle.std.proofs.lemmas.Bool.Decides.{nat_tests}
-use Rattle.std.proofs.lemmas.List.{drop_more, drop_all, get_or-map, get_or_past, length-map, length_push, length-append, get_or_append_left, get_or_at}
-use Rattle.std.proofs.lemmas.List.Elements.{filter-append}
+use Rattle.std.proofs.lemmas.List.{drop_more, drop_all, get_or-map, get_or_past, length-map, length_push, get_or_append_left, get_or_at}
 use Rattle.desk_data.specs.declared.row.Group.{Group}
 use Rattle.desk_data.specs.Situation.{Situation, reservations_of}
 use Rattle.desk_data.specs.PlanRows.{PlanRows, groups_at}
@@ -14,7 +13,7 @@ use Rattle.desk_rules.specs.Numbers.{numbers}
 use Rattle.near_moves.specs.Units.{Unit_, rebooked, owner}
 use Rattle.near_moves.specs.Near.{of_shard}
 use Rattle.near_moves.specs.PassengerMoves.{rebooked_units}
-use Rattle.near_moves.proofs.ListLaws.{filter-map, filter-flat_map, filter-all, filter-none, flat_map-agree, all-from_has}
+use Rattle.near_moves.proofs.ElementLaws.{filter-map, filter-flat_map, filter-all, filter-none, flat_map-agree, all-from_has}
 use Rattle.near_pax.specs.declared.units.PaxUnits.{PaxUnits}
 use Rattle.near_pax.specs.Units.{no_group, unit_at, units_of, left_units, has_path}
 
@@ -92,8 +91,8 @@ unit-given I P u v has s n r place =
     let mine : units_of P u.shard u.shards u.res ≡ map f groups = rw parts.0 refl in
     let rest = behind I P u.shard u.shards (u.res + 1) in
     let more : drop u.place (map f groups) ≡ unit_at P u.res u.place ∷ drop (u.place + 1) (map f groups) =
-        drop_more (map f groups) u.place (unit_at P u.res u.place) (omega (arith, lt, long))
-        ∙ ap (λ (k : Unit_). k ∷ drop (u.place + 1) (map f groups)) (get_or-map f groups u.place no_group (unit_at P u.res u.place) lt) in
+    drop_more (map f groups) u.place (unit_at P u.res u.place) (omega (arith, lt, long))
+    ∙ ap (λ (k : Unit_). k ∷ drop (u.place + 1) (map f groups)) (get_or-map f groups u.place no_group (unit_at P u.res u.place) lt) in
     rw (s, n, r, place)
     (ap (λ (us : List Unit_). drop u.place us ++ rest) mine
     ∙ ap (λ (us : List Unit_). us ++ rest) more

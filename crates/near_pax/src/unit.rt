@@ -1,6 +1,6 @@
 //! The moves that take passengers off a path.
 
-ghost use Rattle.std.specs.Prelude.{◌≡◌, ◌<◌, ◌≤◌, IfOk, IfErr, OnErr, length, not};
+ghost use Rattle.std.specs.Prelude.{◌≡◌, ◌<◌, ◌≤◌, IfOk, IfErr, OnErr, filter, length, not};
 ghost use Rattle.desk_data.specs.PlanRows.{groups_at};
 ghost use Rattle.desk_data.specs.Situation.{reservations_of};
 ghost use Rattle.desk_data.specs.Valid.{IsPlanFor};
@@ -136,13 +136,7 @@ impl Made {
 }
 
 /// The move of so many passengers from a path to another.
-fn rebooking(
-    alloc: Global,
-    res: Res,
-    path: &Path,
-    aim: &Path,
-    count: u32,
-) -> Result<Move, NoMem>
+fn rebooking(alloc: Global, res: Res, path: &Path, aim: &Path, count: u32) -> Result<Move, NoMem>
     ensures { IfOk result (λ made. made ≡ move_of (rebooking res.0 path.now aim.now count)) }
 {
     let step = Step::Rebook {
@@ -174,8 +168,18 @@ fn other_aims(
     aims.push(Path {
         legs: List(Vec::new(alloc)),
     })?;
-    aims.retain(|aim| is_other(path, aim));
-    Ok(aims)
+    others(alloc, aims, path)
+}
+
+/// Those of some paths that aren't a path.
+fn others(alloc: Global, paths: Vec<Path>, path: &Path) -> Result<Vec<Path>, NoMem>
+    ensures { IfOk result (λ others. others.items ≡ filter (λ other. not (same_path path.now other)) paths.items) }
+{
+    let others = paths
+        .into_iter()
+        .filter(|other| is_other(path, other))
+        .collect(alloc)?;
+    Ok(others)
 }
 
 /// Whether a path isn't another.

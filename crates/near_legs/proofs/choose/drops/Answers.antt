@@ -1,6 +1,4 @@
-use Rattle.std.proofs.Common.{◌≤◌, length, take, arith}
-use Rattle.std.specs.Prelude.{filter}
-use Rattle.near_moves.specs.LegMoves.{comes_round}
+use Rattle.std.proofs.Common.{arith}
 use Rattle.near_legs.proofs.ChoiceLaws.{drops-are, drops-sound}
 use Rattle.near_legs.proofs.choose.drops.Goals as goal
 

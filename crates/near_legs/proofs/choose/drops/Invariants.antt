@@ -1,4 +1,4 @@
-use Rattle.std.proofs.Common.{◌≡◌, ◌∷◌, [], map, take}
+use Rattle.std.proofs.Common.{◌≡◌, map, take}
 use Rattle.std.specs.Prelude.{filter}
 use Rattle.near_moves.specs.LegMoves.{comes_round, run_lengths}
 use Rattle.near_legs.specs.declared.choice.Choice.TheVariants.{Drop}

@@ -1,6 +1,5 @@
-use Rattle.std.proofs.Common.{◌≡◌, List, sym, ap, subst, ◌∙◌, refl}
-use Rattle.std.specs.Prelude.{IfOk, OnErr, Some, None}
-use Rattle.std.proofs.lemmas.Result.{on_err_weaker}
+use Rattle.std.proofs.Common.{◌≡◌, List, sym, ap, subst, refl}
+use Rattle.std.specs.Prelude.{IfOk, OnErr}
 use Rattle.plan_moves.specs.declared.moves.Move.{Move}
 use Rattle.near_pax.specs.Left.{Gives, unit_left, units_left, left_of_unit, left_if_any}
 use Rattle.near_pax.proofs.pax.PaxMoves.next_in_unit.Goals as goal

@@ -1,6 +1,4 @@
 use Rattle.std.proofs.Common.{refl, ap}
-use Rattle.std.specs.Prelude.{List}
-use Rattle.near_moves.specs.Units.{Unit_}
 use Rattle.near_moves.specs.Near.{moves_of}
 use Rattle.near_pax.specs.declared.units.PaxUnits.{PaxUnits}
 use Rattle.near_pax.specs.Left.{unit_left, units_left}

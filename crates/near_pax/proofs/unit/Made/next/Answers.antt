@@ -28,7 +28,7 @@ returns-clause-ok c =
     let aim : c.index.result.now ≡ get_or made.aims.items made.aim [] = get_or_read made.aims.items made.aim c.index.result.now lt c.index.ensures [] in
     let count : c.index-count.result.now ≡ get_or made.counts.items made.count 0 = get_or_read made.counts.items made.count c.index-count.result.now low c.index-count.ensures 0 in
     let next : c.in_ok-next.next ≡ move_of (rebooking r path (get_or made.aims.items made.aim []) (get_or made.counts.items made.count 0)) =
-        c.in_ok-next.ensures ∙ ap (λ (to : List (Leg × Cabin)). move_of (rebooking r path to c.index-count.result.now)) aim ∙ ap (λ (n : ℕ). move_of (rebooking r path (get_or made.aims.items made.aim []) n)) count in
+    c.in_ok-next.ensures ∙ ap (λ (to : List (Leg × Cabin)). move_of (rebooking r path to c.index-count.result.now)) aim ∙ ap (λ (n : ℕ). move_of (rebooking r path (get_or made.aims.items made.aim []) n)) count in
     elim c.if-self-len-2.branch [
       | then-self-len-2 w ↦
           let v : Made = record { aims = made.aims; counts = made.counts; aim = made.aim + 1; count = 0 } in

@@ -1,6 +1,4 @@
-use Rattle.std.proofs.Common.{◌≡◌, ℕ, ◌<◌, List, length, refl, sym, ap, ◌∙◌, arith}
-use Rattle.desk_units.specs.declared.numbers.Leg.{Leg}
-use Rattle.desk_units.specs.declared.numbers.Cabin.{Cabin}
+use Rattle.std.proofs.Common.{◌≡◌, refl, sym, ap, ◌∙◌, arith}
 use Rattle.desk_data.specs.PlanRows.{groups_at}
 use Rattle.desk_model.specs.Rebook.{count_on}
 use Rattle.near_moves.specs.PassengerMoves.{portions}

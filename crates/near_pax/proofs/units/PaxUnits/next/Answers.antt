@@ -1,6 +1,5 @@
-use Rattle.std.proofs.Common.{◌≡◌, ◌+◌, ◌≤◌, true, false, ℕ, List, ◌∷◌, refl, sym, ap, subst, ◌∙◌, arith}
+use Rattle.std.proofs.Common.{◌≡◌, ◌+◌, ◌≤◌, true, false, ℕ, ◌∷◌, refl, sym, ap, ◌∙◌, arith}
 use Rattle.desk_data.specs.Situation.{reservations_of}
-use Rattle.near_moves.specs.Units.{Unit_}
 use Rattle.near_pax.specs.declared.units.PaxUnits.{PaxUnits}
 use Rattle.near_pax.specs.Units.{unit_at, left_units, has_path}
 use Rattle.near_pax.proofs.UnitLaws.{unit-given, unit-passed, units-none}
