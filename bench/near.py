@@ -37,7 +37,7 @@ PROGRAM = r"""//! Prints the moves near the plan behind the events of a day, in 
 
 use desk_core::Book;
 use desk_data::{Grains, Instance};
-use desk_folder::{FILES, File, MemFolder};
+use desk_folder::{ALL_FILES, FILES, File, MemFolder};
 use desk_model::{Answer, Entry, Event};
 use desk_story::{InputStory, InputTask, read_task};
 use desk_words::Command;
@@ -49,12 +49,6 @@ use plan_pages::Pages;
 use std::alloc::Global;
 use std::io::{self, ErrorKind, Read, Write};
 use std::time::Instant;
-
-const ALL: [File; FILES] = [
-    File::Config, File::Flights, File::Rotations, File::Aircraft, File::Airports, File::Dist, File::Itineraries, File::Position,
-    File::AltFlights, File::AltAircraft, File::AltAirports, File::Tariff, File::Feed, File::Journal, File::SolRotations,
-    File::SolItineraries,
-];
 
 #[derive(Drop)]
 struct Asked {
@@ -76,7 +70,7 @@ fn cut_line(bytes: &[u8]) -> Option<(&str, &[u8])> {
 }
 
 fn file_of(name: &str) -> Option<File> {
-    for file in ALL {
+    for file in ALL_FILES {
         if file.name() == name {
             return Some(file);
         }

@@ -1,13 +1,12 @@
 -- What a book's steps come to.
-use Rattle.std.proofs.Common.{◌≡◌, ℕ, zero, suc, ◌+◌, ◌-◌, ◌%◌, ◌≤◌, Bool, true, false, cond, eqb, List, [], ◌∷◌, length, refl, sym, ap, ◌∙◌, arith}
+use Rattle.std.proofs.Common.{◌≡◌, ℕ, zero, suc, ◌+◌, ◌-◌, ◌≤◌, Bool, true, false, cond, List, [], length, refl, sym, ap, ◌∙◌, arith}
 use Rattle.std.specs.Prelude.{Option, None, Some, is_none, is_some, find, Result, Ok, Err, IfOk, OnErr}
 use Rattle.std.specs.Option.{ForSome}
-use Rattle.std.proofs.lemmas.Bool.{lt-ltb, eq-eqb}
+use Rattle.std.proofs.lemmas.Bool.{lt-ltb}
 use Rattle.plan_moves.specs.declared.moves.Move.{Move}
 use Rattle.plan_moves.specs.Fits.{Fits}
 use Rattle.desk_data.specs.declared.broken.Broken.{Broken}
 use Rattle.desk_data.specs.Situation.{Situation}
-use Rattle.desk_data.specs.PlanRows.{PlanRows}
 use Rattle.desk_model.specs.declared.answer.Entry.{Entry}
 use Rattle.desk_model.specs.declared.answer.Event.TheVariants as event
 use Rattle.desk_model.specs.Steps.{after_move}
@@ -17,33 +16,19 @@ use Rattle.desk_model.proofs.HistoryLaws.{state-parts, askable-parts}
 use Rattle.desk_model.proofs.StateLaws.{opening-inst}
 use Rattle.desk_eval.specs.Evaluated.{Evaluated}
 use Rattle.desk_core.specs.Recorded.{Recorded, state_of, with_entry}
-use Rattle.near_moves.specs.Units.{Unit_, owner}
-use Rattle.near_moves.specs.Near.{near, shard, units, of_shard, moves_of}
 use Rattle.near_moves.specs.Descent.{is_better, first_better, IsQuiet, is_spent, next_proposal, with_proposal, descent_of}
+use Rattle.near_moves.proofs.ShardLaws.{shard-one}
 use Rattle.near_moves.proofs.DescentLaws.{next-some, next-is, next-quiet, next-unplanned, unspent-room, step-state, descent-rests, descent-ends}
 use Rattle.desk_descent.specs.declared.descent.Ended.TheVariants.{NoPlan, Quiet, Spent}
 use Rattle.desk_descent.specs.Ending.{ending, after_descent, after_steps}
 use Rattle.desk_descent.specs.Follows.{copy_of, next_of, stepped}
-
--- ---- the one shard of one is all
-
-in_it : (u : Unit_) → eqb (owner u % 1) 0 ≡ true
-in_it u = eq-eqb (owner u % 1) 0 (omega arith)
-
-all_in_it : (us : List Unit_) → of_shard 0 1 us ≡ us
-all_in_it [] = refl
-all_in_it (u ∷ us) = rw (in_it u) (ap (λ (more : List Unit_). u ∷ more) (all_in_it us))
-
-one_shard : (I : Situation) (P : PlanRows) → shard I P 0 1 ≡ near I P
-unfolding shard near
-one_shard I P = ap (moves_of I P) (all_in_it (units I P))
 
 -- ---- what is proposed
 
 pub first-next : (most : ℕ) (B : Recorded) → (state_of B).broken ≡ None → is_spent most B.journal ≡ false → first_better (state_of B).inst (state_of B).plan 0 1 ≡ next_of most B
 first-next most B planned unspent =
     let S = state_of B in
-    ap (find (is_better S.inst S.plan)) (one_shard S.inst S.plan) ∙ sym (next-is most (opening B.opening) B.journal planned unspent)
+    ap (find (is_better S.inst S.plan)) (shard-one S.inst S.plan) ∙ sym (next-is most (opening B.opening) B.journal planned unspent)
 
 -- what can be asked at a state can be asked of the book
 pub fits-book : (B : Recorded) (m : Move) → Fits (state_of B).inst m → Fits B.opening m

@@ -10,7 +10,7 @@ use Rattle.desk_model.proofs.PathOrder.{pairs_head, pairs_tail, pairs_nil, pairs
 use Rattle.std.proofs.lemmas.List.Sums.{sum_by-cons}
 use Rattle.std.proofs.lemmas.List.Sorted.{sum_by-IsPermutation}
 use Rattle.desk_rules.specs.Numbers.{numbers}
-use Rattle.near_moves.proofs.ListLaws.{has-cases, has-head, has-tail, numbers-has, all-from_has}
+use Rattle.near_moves.proofs.ElementLaws.{has-cases, has-head, has-tail, numbers-has, all-from_has}
 
 -- no number is below an earlier one
 abbrev pub Rises : List ℕ → Type 0

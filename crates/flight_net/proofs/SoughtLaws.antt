@@ -14,7 +14,7 @@ use Rattle.desk_data.specs.PlanRows.{PlanRows, row_at}
 use Rattle.desk_rules.specs.Numbers.{numbers}
 use Rattle.desk_rules.specs.Passengers.{is_flown}
 use Rattle.desk_rules.specs.Rotations.{dep, arr}
-use Rattle.near_moves.proofs.ListLaws.{filter-none, filter-map, all-from_has, numbers-has}
+use Rattle.near_moves.proofs.ElementLaws.{filter-none, filter-map, all-from_has, numbers-has}
 use Rattle.flight_net.specs.declared.flights.Flight.{Flight}
 use Rattle.flight_net.specs.declared.sought.Sought.{Sought}
 use Rattle.flight_net.specs.Flights.{IsNetOf}

@@ -16,7 +16,7 @@ use Rattle.desk_rules.specs.Numbers.{numbers}
 use Rattle.near_moves.specs.Places.{leg}
 use Rattle.near_moves.specs.Routes.{stem, all_pairs, all_doubles}
 use Rattle.near_moves.specs.RouteParts.{is_other_route}
-use Rattle.near_moves.proofs.ListLaws.{filter-map, filter-flat_map, filter-none, flat_map-filter, flat_map-agree, all-from_has, map-has}
+use Rattle.near_moves.proofs.ElementLaws.{filter-map, filter-flat_map, filter-none, flat_map-filter, flat_map-agree, all-from_has, map-has}
 use Rattle.flight_net.specs.Tried.{others, singles_of, doubles_in, doubles_of}
 use Rattle.flight_net.proofs.SortedLaws.{filter-filter}
 

@@ -1,6 +1,6 @@
 pub mod BehindLaws
 pub mod RunLaws
 pub mod ListsLaws
--- pub mod ChoiceLaws
--- pub mod OwnLaws
--- pub mod WalkLaws
+pub mod ChoiceLaws
+pub mod OwnLaws
+pub mod WalkLaws

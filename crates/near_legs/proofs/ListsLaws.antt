@@ -1,12 +1,12 @@
 -- Lists of legs by their numbers, families, and the moments of an exchange.
-use Rattle.std.proofs.Common.{◌≡◌, ◌≢◌, ℕ, zero, suc, ◌+◌, ◌<◌, ◌≤◌, ◌⊎◌, inl, inr, Bool, true, false, ◌&&◌, not, cond, eqb, List, [], ◌∷◌, ◌++◌, length, get_or, set, map, refl, sym, ap, subst, ◌∙◌, arith, add-one, nat_cmp}
-use Rattle.std.specs.Prelude.{Option, Some, None, filter, replicate}
-use Rattle.std.specs.List.{All, AllPairs, Contains, dedup}
+use Rattle.std.proofs.Common.{◌≡◌, ◌≢◌, ℕ, ◌+◌, ◌<◌, ◌⊎◌, inl, inr, Bool, true, false, ◌&&◌, not, cond, eqb, List, [], ◌∷◌, ◌++◌, length, get_or, set, map, refl, sym, ap, subst, ◌∙◌, arith, nat_cmp}
+use Rattle.std.specs.Prelude.{Some, None, filter, replicate}
+use Rattle.std.specs.List.{All, Contains, dedup}
 use Rattle.std.specs.List.Sorted.{IsSorted, IsPermutation}
-use Rattle.std.proofs.lemmas.Bool.{true≢false, cases_Bool, and_parts, and_from, eq-eqb, eqb-true}
+use Rattle.std.proofs.lemmas.Bool.{true≢false, eq-eqb}
 use Rattle.std.proofs.lemmas.Bool.Decides.{nat_tests}
-use Rattle.std.proofs.lemmas.List.{get_or-set_same, get_or-set_other, get_or-replicate, length-replicate, length-set, map_push, map-append, get_or-map, length-map}
-use Rattle.std.proofs.lemmas.List.Elements.{All-map, All-contains, All-weaker, Contains-append_left, Contains-append_right, Contains-append_cases}
+use Rattle.std.proofs.lemmas.List.{get_or-set_same, get_or-set_other, get_or-replicate, length-replicate, length-set, map_push, get_or-map, length-map}
+use Rattle.std.proofs.lemmas.List.Elements.{Contains-append_left, Contains-append_right, Contains-append_cases}
 use Rattle.std.proofs.lemmas.List.Kept.{AllPairs-from_increasing, Contains-dedup_nat, Contains-from_dedup}
 use Rattle.std.proofs.lemmas.List.Sorted.{Contains-permutation, IsPermutation-sym}
 use Rattle.std.proofs.lemmas.Map.Keys.{IsStrictlyIncreasing-dedup}
@@ -19,7 +19,7 @@ use Rattle.desk_data.specs.PlanRows.{PlanRows, row_at}
 use Rattle.desk_data.specs.Valid.{IsPlanFor}
 use Rattle.desk_rules.specs.Numbers.{numbers}
 use Rattle.desk_rules.specs.Rotations.{dep}
-use Rattle.desk_rules.specs.Maintenance.{is_flown_by, flies}
+use Rattle.desk_rules.specs.Maintenance.{is_flown_by}
 use Rattle.desk_rules.specs.Passengers.{is_flown}
 use Rattle.desk_rules.specs.Words.{Flies}
 use Rattle.desk_rules.proofs.HourLaws.{length-numbers}

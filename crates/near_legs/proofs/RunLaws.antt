@@ -1,17 +1,16 @@
 -- Runs, from the leg behind each leg.
-use Rattle.std.proofs.Common.{◌≡◌, ◌≢◌, ℕ, zero, suc, ◌+◌, ◌-◌, ◌<◌, ◌≤◌, min, ◌⊎◌, inl, inr, Bool, true, false, ◌&&◌, ◌||◌, not, leb, eqb, List, [], ◌∷◌, ◌++◌, length, get_or, map, take, drop, refl, sym, ap, subst, ◌∙◌, arith}
+use Rattle.std.proofs.Common.{◌≡◌, ℕ, zero, suc, ◌+◌, ◌-◌, ◌<◌, ◌≤◌, min, Bool, true, false, ◌&&◌, ◌||◌, not, leb, eqb, List, [], ◌∷◌, ◌++◌, length, get_or, map, take, drop, refl, sym, ap, subst, ◌∙◌, arith}
 use Rattle.std.specs.Prelude.{Option, Some, None, is_none, is_some}
 use Rattle.std.specs.Option.{ForSome}
 use Rattle.std.specs.List.{All, list_all}
-use Rattle.std.proofs.lemmas.Bool.{cases_Bool, true≢false, and_parts, eq-eqb, leb-true}
+use Rattle.std.proofs.lemmas.Bool.{true≢false, and_parts, eq-eqb, leb-true}
 use Rattle.std.proofs.lemmas.Bool.Decides.{nat_tests}
 use Rattle.std.proofs.lemmas.List.{append_assoc, append-nil, map-append, length-map, length-append, length-take, length-drop, take-map, take-take, take_at, get_or-map, get_or-take, get_or_default}
 use Rattle.std.proofs.lemmas.List.Elements.{All-nil, All-push}
 use Rattle.std.proofs.lemmas.List.Folds.{list_all-map}
 use Rattle.desk_units.specs.declared.numbers.Leg.{Leg}
 use Rattle.desk_data.specs.Situation.{Situation, legs_of, leg_at, fixed}
-use Rattle.desk_data.specs.PlanRows.{PlanRows, row_at}
-use Rattle.desk_rules.specs.Passengers.{is_flown}
+use Rattle.desk_data.specs.PlanRows.{PlanRows}
 use Rattle.near_moves.specs.Places.{legs_from, run, is_run}
 use Rattle.near_moves.specs.LegMoves.{run_end, comes_round}
 use Rattle.near_moves.proofs.ListLaws.{for_some}
@@ -52,11 +51,11 @@ pub way-ends : (I : Situation) (P : PlanRows) (x : ℕ) (legs : List Leg) (next 
 way-ends I P x legs next n way =
     sym (take_at (map (λ (l : Leg). l.0) legs) (from_next I P next) n (length-map legs (λ (l : Leg). l.0) ∙ way.count)) ∙ ap (take n) way.legs_are
 
-all_taken : (xs : List ℕ) (n : ℕ) → length xs ≤ n → take n xs ≡ xs
+pub all_taken : {X : Type 0} (xs : List X) (n : ℕ) → length xs ≤ n → take n xs ≡ xs
 all_taken [] zero h = refl
 all_taken [] (suc n) h = refl
 all_taken (x ∷ xs) zero h = absurd (omega (arith, h))
-all_taken (x ∷ xs) (suc n) h = ap (λ (ys : List ℕ). x ∷ ys) (all_taken xs n (omega (arith, h)))
+all_taken (x ∷ xs) (suc n) h = ap (λ ys. x ∷ ys) (all_taken xs n (omega (arith, h)))
 
 pub way-stops : (I : Situation) (P : PlanRows) (x : ℕ) (legs : List Leg) (n k : ℕ) → IsOnWay I P x legs None n → n ≤ k → map (λ (l : Leg). l.0) legs ≡ run I P x k
 way-stops I P x legs n k way le =

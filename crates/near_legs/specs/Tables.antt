@@ -6,7 +6,6 @@ use Rattle.desk_units.specs.declared.numbers.Plane.{Plane}
 use Rattle.desk_data.specs.Situation.{Situation, legs_of, planes_of, airports_of, leg_at}
 use Rattle.desk_data.specs.PlanRows.{PlanRows, row_at}
 use Rattle.desk_rules.specs.Numbers.{numbers}
-use Rattle.desk_rules.specs.Rotations.{precedes}
 use Rattle.desk_rules.specs.Passengers.{is_flown}
 use Rattle.near_moves.specs.Places.{flier, is_movable_flown, is_restorable, family_of, legs_from}
 use Rattle.near_legs.specs.declared.lists.By.{By}

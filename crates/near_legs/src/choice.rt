@@ -6,15 +6,36 @@ use desk_data::{Leg, Minute, Plane};
 #[derive(Clone, Copy)]
 pub(crate) enum Choice {
     /// The leg departs then.
-    Depart { leg: Leg, at: Minute },
+    Depart {
+        leg: Leg,
+        at: Minute,
+    },
     /// The two aircraft exchange their legs from then on.
-    Exchange { first: Plane, second: Plane, at: Minute },
+    Exchange {
+        first: Plane,
+        second: Plane,
+        at: Minute,
+    },
     /// So many legs from this one on are cancelled.
-    Drop { leg: Leg, count: u32 },
+    Drop {
+        leg: Leg,
+        count: u32,
+    },
     /// The aircraft flies the leg.
-    Alone { leg: Leg, plane: Plane },
+    Alone {
+        leg: Leg,
+        plane: Plane,
+    },
     /// The aircraft flies the leg, and then another one back.
-    Both { leg: Leg, plane: Plane, back: Leg },
+    Both {
+        leg: Leg,
+        plane: Plane,
+        back: Leg,
+    },
     /// The aircraft flies so many legs from this one on.
-    Hand { leg: Leg, count: u32, plane: Plane },
+    Hand {
+        leg: Leg,
+        count: u32,
+        plane: Plane,
+    },
 }

@@ -1,6 +1,6 @@
 //! What is chosen for the moves of a unit.
 
-ghost use Rattle.std.specs.Prelude.{◌≡◌, ◌<◌, ◌∷◌, ◌++◌, [], All, IfOk, OnOk, map};
+ghost use Rattle.std.specs.Prelude.{◌≡◌, ◌<◌, ◌∷◌, ◌++◌, [], All, IfOk, OnOk, if◌then◌else◌, map, nat_lt};
 ghost use Rattle.desk_data.specs.Situation.{legs_of, planes_of};
 ghost use Rattle.desk_data.specs.Valid.{IsPlanFor};
 ghost use Rattle.near_moves.specs.LegMoves.{droppings, exchanges, restorings, retimings};
@@ -42,24 +42,26 @@ pub(crate) fn choices(
 }
 
 /// The other departures of a leg.
-fn departures(
-    alloc: Global,
-    inst: &Instance,
-    plan: &Pages,
-    leg: Leg,
-) -> Result<Vec<Choice>, NoMem>
+fn departures(alloc: Global, inst: &Instance, plan: &Pages, leg: Leg) -> Result<Vec<Choice>, NoMem>
     requires plan { IsPlanFor inst.now plan.now }
     requires leg { IsFlownLeg inst.now plan.now leg.0 }
     ensures steps { IfOk result (λ all. map (steps_of inst.now plan.now) all.items ≡ retimings inst.now plan.now leg.0) }
     ensures sound { IfOk result (λ all. All (IsChoice inst.now plan.now) all.items) }
 {
     let departs = departure(plan, leg);
-    let earliest = inst.earliest(leg).0;
-    let mut all = Vec::new(alloc);
-    if earliest < departs {
-        all.push(Choice::Depart { leg, at: Minute(earliest) })?;
-    }
+    let mut all = earlier(alloc, leg, inst.earliest(leg), departs)?;
     add_later(leg, departs, &mut all)?;
+    Ok(all)
+}
+
+/// The earliest departure of a leg, where it departs later than that.
+fn earlier(alloc: Global, leg: Leg, earliest: Minute, departs: u32) -> Result<Vec<Choice>, NoMem>
+    ensures { IfOk result (λ all. all.items ≡ (if nat_lt earliest.0 departs then Choice.Depart leg earliest ∷ [] else [])) }
+{
+    let mut all = Vec::new(alloc);
+    if earliest.0 < departs {
+        all.push(Choice::Depart { leg, at: earliest })?;
+    }
     Ok(all)
 }
 
@@ -69,7 +71,10 @@ fn add_later(leg: Leg, departs: u32, all: &mut Vec<Choice>) -> Result<(), NoMem>
     ensures { OnOk result (all.new.items ≡ all.old.items ++ map (later_choice leg departs) (15 ∷ 30 ∷ 60 ∷ 120 ∷ 240 ∷ [])) }
 {
     for later in [15, 30, 60, 120, 240] {
-        all.push(Choice::Depart { leg, at: Minute(departs + later) })?;
+        all.push(Choice::Depart {
+            leg,
+            at: Minute(departs + later),
+        })?;
     }
     Ok(())
 }
@@ -93,7 +98,11 @@ fn exchanges(
     let moments = moments(alloc, inst, plan, tables, first, second)?;
     let mut all = Vec::new(alloc);
     for at in &moments {
-        all.push(Choice::Exchange { first, second, at: Minute(*at) })?;
+        all.push(Choice::Exchange {
+            first,
+            second,
+            at: Minute(*at),
+        })?;
     }
     Ok(all)
 }
@@ -141,7 +150,11 @@ fn restorings(
     let cancelled = tables.cancelled(inst.leg(leg).dest);
     for back in cancelled {
         if leads_back(inst, leg, *back) {
-            all.push(Choice::Both { leg, plane, back: *back })?;
+            all.push(Choice::Both {
+                leg,
+                plane,
+                back: *back,
+            })?;
         }
     }
     Ok(all)
@@ -157,9 +170,7 @@ fn leads_back(inst: &Instance, leg: Leg, back: Leg) -> bool
     let there = inst.leg(leg);
     let back = inst.leg(back);
     let arrives = there.sched.0 + there.block;
-    back.dest.0 == there.origin.0
-        && arrives <= back.sched.0
-        && back.sched.0 <= arrives + 1_440
+    back.dest.0 == there.origin.0 && arrives <= back.sched.0 && back.sched.0 <= arrives + 1_440
 }
 
 /// A run is handed on.

@@ -50,7 +50,12 @@ fn retiming(alloc: Global, plan: &Pages, leg: Leg, at: Minute) -> Result<Vec<Ste
     let new = Row::Flown { plane, dep: at };
     let set = Step::Set { leg, was, new };
     let after = Some(leg);
-    let steps = vec![in alloc; set, Step::Push { plane, after }, Step::Tidy, Step::Refill { leg }]?;
+    let steps = vec![in alloc;
+        set,
+        Step::Push { plane, after },
+        Step::Tidy,
+        Step::Refill { leg },
+    ]?;
     Ok(steps)
 }
 
@@ -96,7 +101,12 @@ fn restoring_alone(
 {
     let set = restoring_step(leg, plane, inst.earliest(leg));
     let after = Some(leg);
-    let steps = vec![in alloc; set, Step::Push { plane, after }, Step::Tidy, Step::Refill { leg }]?;
+    let steps = vec![in alloc;
+        set,
+        Step::Push { plane, after },
+        Step::Tidy,
+        Step::Refill { leg },
+    ]?;
     Ok(steps)
 }
 
@@ -115,8 +125,7 @@ fn restoring_both(
 {
     let there = restoring_step(leg, plane, inst.earliest(leg));
     let again = restoring_step(back, plane, back_departure(inst, leg, plane, back));
-    let steps = vec![
-        in alloc;
+    let steps = vec![in alloc;
         there,
         again,
         push_all(plane),
@@ -186,7 +195,10 @@ fn run_step(plan: &Pages, leg: Leg, to: Option<Plane>) -> Step
 {
     let was = plan.read_row(leg);
     let new = match to {
-        Some(plane) => Row::Flown { plane, dep: Minute(departure(plan, leg)) },
+        Some(plane) => Row::Flown {
+            plane,
+            dep: Minute(departure(plan, leg)),
+        },
         None => Row::Cancelled,
     };
     Step::Set { leg, was, new }

@@ -1,6 +1,6 @@
 //! The walk over the units of legs and aircraft near a plan.
 
-ghost use Rattle.std.specs.Prelude.{◌≡◌, ◌<◌, ◌↔◌, ◌∷◌, [], All, IfOk, IsTrue, MatchOption, OnErr, OnOk, drop, map, nat_le, option_to_list, take, false};
+ghost use Rattle.std.specs.Prelude.{◌≡◌, ◌<◌, ◌≤◌, ◌↔◌, ◌∷◌, [], All, IfOk, IsTrue, MatchOption, OnErr, OnOk, drop, map, nat_le, option_to_list, take, false};
 ghost use Rattle.desk_data.specs.Valid.{IsPlanFor};
 ghost use Rattle.near_moves.specs.Near.{leg_units, of_shard, unit_moves};
 ghost use Rattle.near_legs.specs.Choices.{IsLegUnit, unit_of};
@@ -153,7 +153,8 @@ impl LegUnits {
 
     /// Whether no owner of the family is left.
     fn is_behind_owners(&self, inst: &Instance) -> bool
-        ensures { result ≡ nat_le (owners inst.now self.now.family) self.now.owner }
+        ensures behind { result ≡ nat_le (owners inst.now self.now.family) self.now.owner }
+        ensures limit { owners inst.now self.now.family ≤ 20000 }
     {
         self.family.owners(inst) <= self.owner
     }

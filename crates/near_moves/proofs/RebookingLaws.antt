@@ -29,7 +29,7 @@ use Rattle.near_moves.specs.Routes.{stem, routes}
 use Rattle.near_moves.specs.RouteWords.{IsTried, scheduled, flown, one_more, two_more}
 use Rattle.near_moves.specs.PassengerMoves.{aims, portions, rebooking, rebookings, rebooked_units}
 use Rattle.near_moves.specs.Near.{unit_steps, unit_moves, moves_of, step_in_time, move_of}
-use Rattle.near_moves.proofs.ListLaws.{has-cases, filter-has, map-has, flat_map-has, numbers-has, all-from_has}
+use Rattle.near_moves.proofs.ElementLaws.{has-cases, filter-has, map-has, flat_map-has, numbers-has, all-from_has}
 use Rattle.near_moves.proofs.RouteLaws.{has-routes, same_path-Decides}
 
 -- ---- the passengers on a path that has some are those of its group

@@ -25,7 +25,7 @@ use Rattle.near_moves.specs.Places.{leg}
 use Rattle.near_moves.specs.Routes.{all_pairs, all_doubles, stem, tried_paths, is_route, without_repeats, routes}
 use Rattle.near_moves.specs.RouteParts.{tried_rest, is_other_route}
 use Rattle.near_moves.specs.RouteWords.{IsTried, scheduled, flown, one_more, two_more, IsRoute}
-use Rattle.near_moves.proofs.ListLaws.{has_none, has-cases, has-head, has-tail, has-filter, filter-has, has-map, map-has, has-flat_map, flat_map-has, has-numbers, numbers-has, all-from_has, Apart, apart-cons, apart-head, apart-tail, apart-nil, apart-append, apart-map, apart-flat_map, apart-numbers, apart-filter, filter-all}
+use Rattle.near_moves.proofs.ElementLaws.{has_none, has-cases, has-head, has-tail, has-filter, filter-has, has-map, map-has, has-flat_map, flat_map-has, has-numbers, numbers-has, all-from_has, Apart, apart-cons, apart-head, apart-tail, apart-nil, apart-append, apart-map, apart-flat_map, apart-numbers, apart-filter, filter-all}
 
 -- ---- whether two paths are one
 

@@ -21,7 +21,7 @@ use Rattle.desk_model.specs.Rebook.{count_on}
 use Rattle.desk_model.specs.Steps.{after_step, after_steps, after_move}
 use Rattle.full_cost.specs.Amounts.{passenger_cost}
 use Rattle.near_moves.specs.PassengerMoves.{aims, portions, rebooking, rebookings}
-use Rattle.near_moves.specs.Routes.{same_path}
+use Rattle.desk_model.specs.Rebook.{same_path}
 use Rattle.near_moves.specs.Units.{rebooked}
 use Rattle.near_moves.specs.Near.{leg_units, units, unit_steps, unit_moves, moves_of, of_shard, shard, move_of, step_in_time}
 use Rattle.near_moves.specs.PassengerMoves.{rebooked_units}

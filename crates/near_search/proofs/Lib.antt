@@ -1,2 +1,3 @@
 pub mod PaidLaws
 pub mod FirstLaws
+pub mod PassedLaws

@@ -1,2 +1,3 @@
 pub use Rattle.near_moves.specs.Descent
 pub use Rattle.plan_moves.specs.Fits
+pub mod Passed

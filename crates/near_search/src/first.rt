@@ -6,6 +6,7 @@ ghost use Rattle.plan_moves.specs.Fits.{Fits};
 ghost use Rattle.near_moves.specs.Descent.{first_better};
 
 use crate::finder::Finder;
+use crate::passengers::first_of_passengers;
 use crate::trial::first_of;
 use desk_data::NoMem;
 use desk_eval::Evaluator;
@@ -32,10 +33,11 @@ pub fn first_better(
     ensures eval { eval.new ≡ eval.old }
 {
     let _ = finder;
+    let _rows = eval.instance().parts();
     let mut legs = LegMoves::of(alloc, eval.instance(), eval.plan(), shard, shards)?;
     if let Some(m) = first_of(alloc, eval, &mut legs)? {
         return Ok(Some(m));
     }
     let mut passengers = PaxMoves::of(alloc, eval.instance(), eval.plan(), shard, shards)?;
-    first_of(alloc, eval, &mut passengers)
+    first_of_passengers(alloc, eval, &mut passengers)
 }

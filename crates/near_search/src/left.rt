@@ -1,12 +1,12 @@
 //! Moves that are given one after another.
 
 ghost use Rattle.std.specs.Prelude.{◌≡◌, [], ◌∷◌, List, IfOk, MatchOption};
-ghost use Rattle.std.specs.Option.{ForSome};
 ghost use Rattle.plan_moves.specs.declared.moves.Move.{Move as Asked};
-ghost use Rattle.plan_moves.specs.Fits.{Fits};
 ghost use Rattle.desk_data.specs.Situation.{Situation};
 ghost use Rattle.desk_data.specs.PlanRows.{PlanRows};
-ghost use Rattle.near_legs.specs.Left as legs;
+ghost use Rattle.desk_data.specs.Valid.{IsPlanFor};
+ghost use Rattle.near_moves.specs.Units.{Unit_};
+ghost use Rattle.near_legs.specs.Walk as legs;
 ghost use Rattle.near_pax.specs.Left as passengers;
 
 use desk_data::{Instance, NoMem};
@@ -24,12 +24,21 @@ pub(crate) trait MovesLeft {
     /// Those that are not given yet, in their order.
     ghost left: { Situation → PlanRows → Self → List Asked };
 
-    /// The next one, or none where all were given. After `NoMem` the moves may be given up.
-    fn next(&mut self, alloc: Global, inst: &Instance, plan: &Pages) -> Result<Option<Move>, NoMem>
-        requires { is_of inst.now plan.now self.old }
+    /// The units behind them, whose moves are not given in turn.
+    ghost behind: { Situation → PlanRows → Self → List Unit_ };
+
+    /// The next one, or `None` where all were given. The units behind stay.
+    fn next_left(
+        &mut self,
+        alloc: Global,
+        inst: &Instance,
+        plan: &Pages,
+    ) -> Result<Option<Move>, NoMem>
+        requires plan { IsPlanFor inst.now plan.now }
+        requires of { is_of inst.now plan.now self.old }
         ensures of { is_of inst.now plan.now self.new }
-        ensures next { IfOk result (λ given. MatchOption given (left inst.now plan.now self.old ≡ []) (λ m. left inst.now plan.now self.old ≡ m ∷ left inst.now plan.now self.new)) }
-        ensures fits { IfOk result (λ given. ForSome given (Fits inst.now)) };
+        ensures behind { behind inst.now plan.now self.new ≡ behind inst.now plan.now self.old }
+        ensures next { IfOk result (λ given. MatchOption given (left inst.now plan.now self.old ≡ []) (λ m. left inst.now plan.now self.old ≡ m ∷ left inst.now plan.now self.new)) };
 }
 
 impl MovesLeft for LegMoves {
@@ -37,27 +46,32 @@ impl MovesLeft for LegMoves {
 
     ghost left = { legs.left };
 
-    fn next(
+    ghost behind = { λ I P moves. [] };
+
+    fn next_left(
         &mut self,
         alloc: Global,
         inst: &Instance,
         plan: &Pages,
     ) -> Result<Option<Move>, NoMem> {
-        LegMoves::next(self, alloc, inst, plan)
+        self.next(alloc, inst, plan)
     }
 }
 
+/// The moves of the path at hand, and behind them the paths that are left.
 impl MovesLeft for PaxMoves {
     ghost is_of = { passengers.IsOf };
 
-    ghost left = { passengers.left };
+    ghost left = { passengers.unit_left };
 
-    fn next(
+    ghost behind = { passengers.units_left };
+
+    fn next_left(
         &mut self,
         alloc: Global,
         inst: &Instance,
         plan: &Pages,
     ) -> Result<Option<Move>, NoMem> {
-        PaxMoves::next(self, alloc, inst, plan)
+        self.next_in_unit(alloc, inst, plan)
     }
 }

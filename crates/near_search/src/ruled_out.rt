@@ -1,11 +1,13 @@
 //! Moves that are known not to be better.
 
-ghost use Rattle.std.specs.Prelude.{◌≡◌, ◌<◌, ◌≤◌, true, false, nat_le};
+ghost use Rattle.std.specs.Prelude.{◌≡◌, ◌<◌, ◌≤◌, ◌==◌, length, true, false, nat_le};
 ghost use Rattle.plan_moves.specs.Fits.{Fits, IsPathIn, StepFits};
 ghost use Rattle.desk_data.specs.Situation.{legs_of, reservations_of};
+ghost use Rattle.desk_data.specs.PlanRows.{groups_at};
 ghost use Rattle.desk_rules.specs.Cost.{cost};
 ghost use Rattle.desk_model.specs.Steps.{after_step};
 ghost use Rattle.near_moves.specs.Descent.{is_better};
+ghost use Rattle.near_pax.specs.Units.{path_at};
 ghost use Rattle.full_cost.specs.Amounts.{passenger_cost};
 
 use desk_data::{Path, Res};
@@ -48,4 +50,16 @@ fn costs_no_less(eval: &Evaluator, res: Res, path: &Path, to: &Path) -> bool
     let now = passenger_cost(inst, plan, res, path.as_slice());
     let would = passenger_cost(inst, plan, res, to.as_slice());
     now.0 <= would.0
+}
+
+/// Whether a passenger of a reservation costs nothing on the path of one of its groups: then no move of
+/// passengers off that path is better.
+pub(crate) fn costs_nothing(eval: &Evaluator, res: Res, place: usize) -> bool
+    requires res { res.0 < reservations_of eval.now.inst }
+    requires place { place < length (groups_at eval.now.rows res.0) }
+    ensures { result ≡ (passenger_cost eval.now.inst eval.now.rows res.0 (path_at eval.now.rows res.0 place) == 0) }
+{
+    let (inst, plan) = (eval.instance(), eval.plan());
+    let path = plan.groups(res)[place].path.as_slice();
+    passenger_cost(inst, plan.plan(), res, path).0 == 0
 }

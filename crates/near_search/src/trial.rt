@@ -1,6 +1,6 @@
 //! Moves that are tried.
 
-ghost use Rattle.std.specs.Prelude.{◌≡◌, ◌<◌, length, IfOk, find};
+ghost use Rattle.std.specs.Prelude.{◌≡◌, ◌<◌, length, All, IfOk, find};
 ghost use Rattle.std.specs.Option.{ForSome};
 ghost use Rattle.plan_moves.specs.Fits.{Fits};
 ghost use Rattle.near_moves.specs.Descent.{is_better};
@@ -13,19 +13,22 @@ use desk_moves::{apply, undo};
 use plan_moves::Move;
 use std::alloc::Global;
 
-/// The first better one of some moves. The evaluator stands where it stood, after an error too.
+/// The first better one of some moves, which fit. The evaluator stands where it stood, after an error too.
 pub(crate) fn first_of<M: MovesLeft>(
     alloc: Global,
     eval: &mut Evaluator,
     moves: &mut M,
 ) -> Result<Option<Move>, NoMem>
     requires moves { M.is_of eval.old.inst eval.old.rows moves.old }
+    requires fits { All (Fits eval.old.inst) (M.left eval.old.inst eval.old.rows moves.old) }
     requires depth { length eval.old.past < 1900000000 }
     ensures ok { IfOk result (λ found. found ≡ find (is_better eval.old.inst eval.old.rows) (M.left eval.old.inst eval.old.rows moves.old)) }
     ensures fits { IfOk result (λ found. ForSome found (Fits eval.old.inst)) }
+    ensures moves { M.is_of eval.old.inst eval.old.rows moves.new }
+    ensures behind { M.behind eval.old.inst eval.old.rows moves.new ≡ M.behind eval.old.inst eval.old.rows moves.old }
     ensures eval { eval.new ≡ eval.old }
 {
-    while let Some(m) = moves.next(alloc, eval.instance(), eval.plan())? {
+    while let Some(m) = moves.next_left(alloc, eval.instance(), eval.plan())? {
         if is_better(alloc, eval, &m)? {
             return Ok(Some(m));
         }

@@ -1,7 +1,6 @@
 use Rattle.std.proofs.Common.{◌≡◌, ℕ, leb, Some, None, take, sym, ap, ◌∙◌, arith}
 use Rattle.std.specs.List.{count_by}
 use Rattle.file_rows.specs.declared.disruptions.AltRow.{AltRow}
-use Rattle.build_tables.specs.Batches.{number_of_last}
 use Rattle.build_tables.proofs.BatchLemmas.{number_of_next}
 use Rattle.build_refusals.specs.First.{first_refusal_in}
 use Rattle.build_refusals.specs.Orders.{line_of, is_order}

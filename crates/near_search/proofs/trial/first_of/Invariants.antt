@@ -1,5 +1,6 @@
 use Rattle.std.proofs.Common.{◌≡◌, length}
-use Rattle.std.specs.Prelude.{find}
+use Rattle.std.specs.Prelude.{find, All}
+use Rattle.plan_moves.specs.Fits.{Fits}
 use Rattle.near_moves.specs.Descent.{is_better}
 use Rattle.near_search.proofs.trial.first_of.Given as goal
 
@@ -8,7 +9,9 @@ abbrev pub invariant-loop-m : goal.invariant-loop-m
 invariant-loop-m g l = record {
   of : g.M.MovesLeft.is_of l.fn.eval.inst l.fn.eval.rows l.moves;
   eval : l.eval ≡ l.fn.eval;
+  behind : g.M.MovesLeft.behind l.fn.eval.inst l.fn.eval.rows l.moves ≡ g.M.MovesLeft.behind l.fn.eval.inst l.fn.eval.rows l.fn.moves;
   same : find (is_better l.fn.eval.inst l.fn.eval.rows) (g.M.MovesLeft.left l.fn.eval.inst l.fn.eval.rows l.moves) ≡ find (is_better l.fn.eval.inst l.fn.eval.rows) (g.M.MovesLeft.left l.fn.eval.inst l.fn.eval.rows l.fn.moves);
+  fits : All (Fits l.fn.eval.inst) (g.M.MovesLeft.left l.fn.eval.inst l.fn.eval.rows l.moves);
 }
 
 abbrev pub decreases-loop-m : goal.decreases-loop-m

@@ -1,0 +1,4 @@
+mod UnitLaws
+mod MadeLaws
+mod GroupLaws
+mod StandLaws

@@ -1,0 +1,125 @@
+-- Paths that are passed over, and moves that are left.
+use Rattle.std.proofs.Common.{◌≡◌, ℕ, ◌%◌, inl, inr, Bool, false, eqb, List, [], ◌∷◌, ◌++◌, length, refl, sym, ap, subst, ◌∙◌, arith}
+use Rattle.std.specs.Prelude.{Option, None, Some, find, All, MatchOption}
+use Rattle.std.specs.Option.{option_or}
+use Rattle.std.specs.List.{AllByRecursion}
+use Rattle.std.proofs.lemmas.Bool.{cases_Bool}
+use Rattle.std.proofs.lemmas.List.Elements.{All-head, All-tail, All-from_recursion, recursion_from_All}
+use Rattle.std.proofs.lemmas.List.Folds.{find-append}
+use Rattle.plan_moves.specs.declared.moves.Move.{Move}
+use Rattle.plan_moves.specs.Fits.{Fits}
+use Rattle.desk_data.specs.Situation.{Situation}
+use Rattle.desk_data.specs.PlanRows.{PlanRows}
+use Rattle.near_moves.specs.Units.{Unit_, owner}
+use Rattle.near_moves.specs.Near.{unit_moves, moves_of, of_shard}
+use Rattle.near_moves.specs.Descent.{is_better}
+use Rattle.near_pax.specs.Units.{unit_at, path_at}
+use Rattle.near_pax.specs.declared.pax.PaxMoves.{PaxMoves}
+use Rattle.near_pax.specs.Left.{left, unit_left, units_left}
+use Rattle.full_cost.specs.Amounts.{passenger_cost}
+use Rattle.near_search.specs.Passed.{IsPast, GoesOn}
+use Rattle.near_search.proofs.FirstLaws.{unit-ruled_out}
+
+-- ---- parts of a list
+
+front_by : {X : Type 0} (Q : X → Type 0) (xs ys : List X) → AllByRecursion Q (xs ++ ys) → AllByRecursion Q xs
+front_by Q [] ys all = tt
+front_by Q (x ∷ xs) ys all = (all.0, front_by Q xs ys all.1)
+
+back_by : {X : Type 0} (Q : X → Type 0) (xs ys : List X) → AllByRecursion Q (xs ++ ys) → AllByRecursion Q ys
+back_by Q [] ys all = all
+back_by Q (x ∷ xs) ys all = back_by Q xs ys all.1
+
+pub all-front : {X : Type 0} (Q : X → Type 0) (xs ys : List X) → All Q (xs ++ ys) → All Q xs
+all-front Q xs ys all = All-from_recursion Q xs (front_by Q xs ys (recursion_from_All Q (xs ++ ys) all))
+
+pub all-back : {X : Type 0} (Q : X → Type 0) (xs ys : List X) → All Q (xs ++ ys) → All Q ys
+all-back Q xs ys all = All-from_recursion Q ys (back_by Q xs ys (recursion_from_All Q (xs ++ ys) all))
+
+-- where no element of the first list passes, the first that passes is in the second
+pub find-behind : {X : Type 0} (p : X → Bool) (xs ys : List X) → find p xs ≡ None → find p (xs ++ ys) ≡ find p ys
+find-behind p xs ys none = find-append p xs ys ∙ ap (λ (o : Option _). option_or o (find p ys)) none
+
+find_none : {X : Type 0} (p : X → Bool) (xs : List X) → AllByRecursion (λ x. p x ≡ false) xs → find p xs ≡ None
+find_none p [] fails = refl
+find_none p (x ∷ xs) fails = rw fails.0 (find_none p xs fails.1)
+
+both_by : {X : Type 0} (Q : X → Type 0) (xs ys : List X) → AllByRecursion Q xs → AllByRecursion Q ys → AllByRecursion Q (xs ++ ys)
+both_by Q [] ys front back = back
+both_by Q (x ∷ xs) ys front back = (front.0, both_by Q xs ys front.1 back)
+
+-- ---- units that are passed over
+
+pub past-none : (I : Situation) (P : PlanRows) (units : List Unit_) → IsPast I P units units
+past-none I P units = record { same = refl; fits = λ all. all; fewer = omega arith }
+
+-- one more: a passenger costs nothing on its path
+pub past-more : (I : Situation) (P : PlanRows) (before now behind : List Unit_) (r place : ℕ) → IsPast I P before now → now ≡ unit_at P r place ∷ behind → passenger_cost I P r (path_at P r place) ≡ 0 → IsPast I P before behind
+past-more I P before now behind r place past is none =
+    let u = unit_at P r place in
+    let worse = recursion_from_All (λ (m : Move). is_better I P m ≡ false) (unit_moves I P u) (unit-ruled_out I P r (path_at P r place) none) in
+    let first : find (is_better I P) (moves_of I P now) ≡ find (is_better I P) (moves_of I P behind) =
+    ap (λ (us : List Unit_). find (is_better I P) (moves_of I P us)) is
+    ∙ find-behind (is_better I P) (unit_moves I P u) (moves_of I P behind) (find_none (is_better I P) (unit_moves I P u) worse) in
+    let few = past.fewer in
+    record {
+      same = past.same ∙ first;
+      fits = λ all. all-back (Fits I) (unit_moves I P u) (moves_of I P behind) (subst (λ (us : List Unit_). All (Fits I) (moves_of I P us)) is (past.fits all));
+      fewer = omega (arith, few, ap length is);
+    }
+
+-- the moves of the next one are made
+pub past-goes : (I : Situation) (P : PlanRows) (before now : List Unit_) (moves : PaxMoves) (u : Unit_) → IsPast I P before now → now ≡ u ∷ units_left I P moves → unit_left I P moves ≡ unit_moves I P u → GoesOn I P before moves
+past-goes I P before now moves u past is made =
+    let behind = units_left I P moves in
+    let all_left : left I P moves ≡ moves_of I P now =
+    ap (λ (ms : List Move). ms ++ moves_of I P behind) made ∙ sym (ap (moves_of I P) is) in
+    let few = past.fewer in
+    record {
+      same = past.same ∙ sym (ap (find (is_better I P)) all_left);
+      fits = λ all. subst (All (Fits I)) (sym all_left) (past.fits all);
+      fewer = omega (arith, few, ap length is);
+    }
+
+-- none is left
+pub past-all : (I : Situation) (P : PlanRows) (before now : List Unit_) → IsPast I P before now → now ≡ [] → find (is_better I P) (moves_of I P before) ≡ None
+past-all I P before now past none = past.same ∙ ap (λ (us : List Unit_). find (is_better I P) (moves_of I P us)) none
+
+-- ---- shards
+
+shard_by : (I : Situation) (P : PlanRows) (Q : Move → Type 0) (s n : ℕ) (us : List Unit_) → AllByRecursion Q (moves_of I P us) → AllByRecursion Q (moves_of I P (of_shard s n us))
+shard_by I P Q s n [] all = tt
+shard_by I P Q s n (u ∷ us) all =
+    let rest = shard_by I P Q s n us (back_by Q (unit_moves I P u) (moves_of I P us) all) in
+    elim (cases_Bool (eqb (owner u % n) s)) [
+      | inl passes ↦ rw passes (both_by Q (unit_moves I P u) (moves_of I P (of_shard s n us)) (front_by Q (unit_moves I P u) (moves_of I P us) all) rest)
+      | inr fails ↦ rw fails rest
+    ]
+
+-- what holds of all moves of some units holds of those of a shard
+pub shard-all : (I : Situation) (P : PlanRows) (Q : Move → Type 0) (s n : ℕ) (us : List Unit_) → All Q (moves_of I P us) → All Q (moves_of I P (of_shard s n us))
+shard-all I P Q s n us all = All-from_recursion Q (moves_of I P (of_shard s n us)) (shard_by I P Q s n us (recursion_from_All Q (moves_of I P us) all))
+
+-- ---- one after another
+
+-- the one that is given is the first of those that were left
+pub next-is : (o : Option Move) (m : Move) (before after : List Move) → MatchOption o (before ≡ []) (λ (x : Move). before ≡ x ∷ after) → o ≡ Some m → before ≡ m ∷ after
+next-is None m before after gives is = absurd cc
+next-is (Some x) m before after gives is = let same : x ≡ m = cc in gives ∙ ap (λ (y : Move). y ∷ after) same
+
+-- it fits, and so do those behind it
+pub first-fits : (I : Situation) (m : Move) (before after : List Move) → before ≡ m ∷ after → All (Fits I) before → Fits I m
+first-fits I m before after is all = All-head (Fits I) m after (subst (All (Fits I)) is all)
+
+pub rest-fits : (I : Situation) (m : Move) (before after : List Move) → before ≡ m ∷ after → All (Fits I) before → All (Fits I) after
+rest-fits I m before after is all = All-tail (Fits I) m after (subst (All (Fits I)) is all)
+
+-- where it is not better, the first better one is among those behind it
+pub rest-found : (I : Situation) (P : PlanRows) (m : Move) (before after : List Move) → before ≡ m ∷ after → is_better I P m ≡ false → find (is_better I P) after ≡ find (is_better I P) before
+rest-found I P m before after is worse =
+    let step : find (is_better I P) (m ∷ after) ≡ find (is_better I P) after = rw worse refl in
+    sym (ap (find (is_better I P)) is ∙ step)
+
+-- the first that passes of the first list is the first of both
+pub find-before : {X : Type 0} (p : X → Bool) (xs ys : List X) (x : X) → find p xs ≡ Some x → find p (xs ++ ys) ≡ Some x
+find-before p xs ys x is = find-append p xs ys ∙ ap (λ (o : Option _). option_or o (find p ys)) is

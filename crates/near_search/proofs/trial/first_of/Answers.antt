@@ -1,0 +1,35 @@
+use Rattle.std.proofs.Common.{◌≡◌, false, sym, subst, ◌∙◌}
+use Rattle.plan_moves.specs.Fits.{Fits}
+use Rattle.desk_eval.specs.Evaluated.{Evaluated}
+use Rattle.near_moves.specs.Descent.{is_better}
+use Rattle.near_search.proofs.PassedLaws.{next-is, first-fits, rest-fits, rest-found}
+use Rattle.near_search.proofs.trial.first_of.Goals as goal
+
+pub is_better-requires-clause-fits : goal.is_better-requires-clause-fits
+is_better-requires-clause-fits g c =
+    let m = c.in-Some.m in
+    let at = rw (c.instance.ensures, c.plan.ensures.rows, c.loop-m.invariant.eval) at c.in_ok-m.ensures.next in
+    let next = next-is c.in_ok-m.field-0 m _ _ at c.in-Some.is in
+    subst (λ (E : Evaluated). Fits E.inst m) (sym c.loop-m.invariant.eval) (first-fits c.args.eval.now.inst m _ _ next c.loop-m.invariant.fits)
+
+pub returns-then-branch-clause-fits : goal.returns-then-branch-clause-fits
+returns-then-branch-clause-fits g c = λ x is.
+    let m = c.in-Some.m in
+    let at = rw (c.instance.ensures, c.plan.ensures.rows, c.loop-m.invariant.eval) at c.in_ok-m.ensures.next in
+    let next = next-is c.in_ok-m.field-0 m _ _ at c.in-Some.is in
+    let same : m ≡ x = cc is in
+    subst (Fits c.args.eval.now.inst) same (first-fits c.args.eval.now.inst m _ _ next c.loop-m.invariant.fits)
+
+pub loop-m-preserved : goal.loop-m-preserved
+loop-m-preserved g c =
+    let m = c.in-Some.m in
+    let at = rw (c.instance.ensures, c.plan.ensures.rows, c.loop-m.invariant.eval) at c.in_ok-m.ensures.next in
+    let next = next-is c.in_ok-m.field-0 m _ _ at c.in-Some.is in
+    let worse : is_better c.args.eval.now.inst c.args.eval.now.rows m ≡ false = sym (rw c.loop-m.invariant.eval at c.in_ok-is_better.ensures.ok) ∙ c.if-branch.false in
+    record {
+      of = rw (c.instance.ensures, c.plan.ensures.rows, c.loop-m.invariant.eval) at c.in_ok-m.ensures.of;
+      eval = c.is_better.ensures.eval ∙ c.loop-m.invariant.eval;
+      behind = (rw (c.instance.ensures, c.plan.ensures.rows, c.loop-m.invariant.eval) at c.in_ok-m.ensures.behind) ∙ c.loop-m.invariant.behind;
+      same = rest-found c.args.eval.now.inst c.args.eval.now.rows m _ _ next worse ∙ c.loop-m.invariant.same;
+      fits = rest-fits c.args.eval.now.inst m _ _ next c.loop-m.invariant.fits;
+    }
