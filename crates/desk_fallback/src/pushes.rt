@@ -58,7 +58,7 @@ fn push(
 
 /// Places a leg: it departs at the first moment at which it may, and keeps its row where there is none.
 /// The plan at the start is any of which the leg before it is that. After an error, which is out of memory,
-/// the plan is as it was, and the counts are those of no plan.
+/// the counts may be those of no plan: whoever calls gives up the plan and them.
 fn place(
     inst: &Instance,
     plan: &mut Plan,

@@ -45,7 +45,7 @@ pub(crate) fn push_step(
 
 /// Places a leg: it departs at the first moment at which it may, and keeps its row where there is none.
 /// The plan at the step's start is any of which the leg before it is that. After an error, which is out of
-/// memory, the counts are those of no plan.
+/// memory, the counts may be those of no plan.
 fn place(
     alloc: Global,
     eval: &mut Evaluator,
@@ -67,7 +67,7 @@ fn place(
     }
 }
 
-/// Gives a leg a row, and counts it there. After an error the counts are those of no plan.
+/// Gives a leg a row, and counts it there. After an error the counts may be those of no plan.
 fn put_leg(
     alloc: Global,
     eval: &mut Evaluator,

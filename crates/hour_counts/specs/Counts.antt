@@ -20,12 +20,12 @@ abbrev pub is_slot : ℕ → ℕ → ℕ × ℕ → Bool
 is_slot a h k = is_eq (ordering_then (nat_cmp a k.0) (nat_cmp h k.1))
 
 -- the number, 0 where none is written
-abbrev pub or_none : Option ℕ → ℕ
-or_none None = 0
-or_none (Some count) = count
+abbrev pub or_zero : Option ℕ → ℕ
+or_zero None = 0
+or_zero (Some count) = count
 
 abbrev pub count_at : List ((ℕ × ℕ) × ℕ) → ℕ → ℕ → ℕ
-count_at entries a h = or_none (lookup (is_slot a h) entries)
+count_at entries a h = or_zero (lookup (is_slot a h) entries)
 
 -- another number at one of them
 abbrev pub IsWritten : List ((ℕ × ℕ) × ℕ) → List ((ℕ × ℕ) × ℕ) → ℕ → ℕ → ℕ → Type 0

@@ -47,7 +47,7 @@ impl HourCounts {
         Ok(counts)
     }
 
-    /// A leg has another row than it had. After an error, which is out of memory, what is counted is
+    /// A leg has another row than it had. After an error, which is out of memory, what is counted may be
     /// that of no plan.
     pub fn place(&mut self, inst: &Instance, leg: Leg, was: Row, new: Row) -> Result<(), NoMem>
         requires leg { leg.0 < legs_of inst.now }
@@ -76,7 +76,7 @@ impl HourCounts {
         requires row { IsRowOf (planes_of inst.now) row }
         ensures { (Q : PlanRows) → row_at Q leg.0 ≡ row → AreCountsOf inst.now Q self.now → result ≡ departures_beside inst.now Q leg.0 airport.0 hour }
     {
-        let own = is_at(departure_of(inst, leg, row), airport, hour);
+        let own = one_at(departure_of(inst, leg, row), airport, hour);
         self.departures.at(airport.0, hour).saturating_sub(own)
     }
 
@@ -93,13 +93,13 @@ impl HourCounts {
         requires row { IsRowOf (planes_of inst.now) row }
         ensures { (Q : PlanRows) → row_at Q leg.0 ≡ row → AreCountsOf inst.now Q self.now → result ≡ arrivals_beside inst.now Q leg.0 airport.0 hour }
     {
-        let own = is_at(arrival_of(inst, leg, row), airport, hour);
+        let own = one_at(arrival_of(inst, leg, row), airport, hour);
         self.arrivals.at(airport.0, hour).saturating_sub(own)
     }
 }
 
 /// 1 where a slot is at an airport in an hour, else 0.
-fn is_at(slot: Option<(u32, u32)>, airport: Airport, hour: u32) -> u32
+fn one_at(slot: Option<(u32, u32)>, airport: Airport, hour: u32) -> u32
     ensures { result ≡ among slot airport.0 hour }
 {
     match slot {

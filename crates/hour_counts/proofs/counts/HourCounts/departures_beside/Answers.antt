@@ -10,7 +10,7 @@ returns c = λ Q here are.
     let x = c.args.leg.0 in
     let a = c.args.airport.0 in
     let h = c.args.hour in
-    let own : c.is_at-own.result ≡ among (departure_of I x c.args.row) a h = c.is_at-own.ensures ∙ ap (λ (slot : Option (ℕ × ℕ)). among slot a h) c.departure_of.ensures in
+    let own : c.one_at-own.result ≡ among (departure_of I x c.args.row) a h = c.one_at-own.ensures ∙ ap (λ (slot : Option (ℕ × ℕ)). among slot a h) c.departure_of.ensures in
     let all = c.at.ensures ∙ ap (λ (counts : Counted). count_at counts.departures a h) c.self.view_is ∙ are.departures a h in
-    let less : c.saturating_sub.result ≡ c.at.result - c.is_at-own.result = search rules in
+    let less : c.saturating_sub.result ≡ c.at.result - c.one_at-own.result = search rules in
     less ∙ ap (λ (n : ℕ). c.at.result - n) own ∙ departures_are I Q x a h c.at.result c.args.row c.requires.leg here all
