@@ -7,6 +7,5 @@ pub mod FitLaws
 pub mod MomentLaws
 pub mod UnitLaws
 pub mod ShardLaws
-pub mod ElementLaws
 pub mod RouteLaws
 pub mod RebookingLaws
