@@ -3,7 +3,7 @@
 use crate::lines::{Call, Command, Line, line_of, unescaped};
 use crate::sink::ReportSink;
 use crate::texts::{Texts, add_all, push_rows, text_of, written_texts};
-use desk_folder::{File, FreeGate, MemFolder};
+use desk_folder::{ALL_FILES, File, FreeGate, MemFolder};
 use desk_top::desk_main;
 use std::alloc::{AllocError, Global};
 

@@ -40,8 +40,10 @@ pub record Continues (rows : InputRows) (left : List FileText) (first : Rows) (t
   pub exact : read_texts left (as_rows rows) ≡ read_texts texts first
   pub facts : AreInputRows rows
 
-pub texts-left : (items : List (File × Vec ℕ Global)) (i : ℕ) (item : File × Vec ℕ Global) → i < length items → item ≡ get_or items i item → named_texts (drop i items) ≡ (item.0, item.1.items) ∷ named_texts (drop (i + 1) items)
-texts-left items i item lt at = ap named_texts (let left : drop i items ≡ item ∷ drop (i + 1) items = rw add-one (drop-cons items i item lt ∙ ap (λ (x : File × Vec ℕ Global). x ∷ drop (suc i) items) (sym at)) in left)
+pub texts-left : (items : List (File × Vec ℕ Global)) (i : ℕ) (item : File × Vec ℕ Global) (text : List ℕ) → i < length items → item ≡ get_or items i item → text ≡ item.1.items → named_texts (drop i items) ≡ (item.0, text) ∷ named_texts (drop (i + 1) items)
+texts-left items i item text lt at is =
+    let left : drop i items ≡ item ∷ drop (i + 1) items = rw add-one (drop-cons items i item lt ∙ ap (λ (x : File × Vec ℕ Global). x ∷ drop (suc i) items) (sym at)) in
+    ap named_texts left ∙ ap (λ (bytes : List ℕ). (item.0, bytes) ∷ named_texts (drop (i + 1) items)) (sym is)
 
 pub texts-next : (rows more : InputRows) (first : Rows) (left rest texts : List FileText) (t : FileText) → left ≡ t ∷ rest → read_as t.0 t.1 (as_rows rows) ≡ Ok (as_rows more) → AreInputRows more → Continues rows left first texts → Continues more rest first texts
 unfolding read_texts
@@ -61,14 +63,14 @@ texts-end rows first items i texts le h = sym h.exact ∙ ap (λ (left : List (F
 
 -- ---- a day that is made up
 
+same_behind : (read : Result Rows Refusal) (f g : Rows → Result Rows Refusal) → ((rows : Rows) → f rows ≡ g rows) → (read >>= f) ≡ (read >>= g)
+same_behind (Ok rows) f g same = same rows
+same_behind (Err r) f g same = refl
+
 texts_all : (files : List File) (x : Inputs) (rows : Rows) → read_texts (map (λ name. (name, x name)) files) rows ≡ read_all files x rows
 unfolding read_texts read_all
 texts_all [] x rows = refl
-texts_all (f ∷ files) x rows = texts_behind f files x (read_as f (x f) rows)
-  where
-    texts_behind : (f : File) (files : List File) (x : Inputs) (read : Result Rows Refusal) → (read >>= read_texts (map (λ name. (name, x name)) files)) ≡ (read >>= read_all files x)
-    texts_behind f files x (Ok more) = texts_all files x more
-    texts_behind f files x (Err r) = refl
+texts_all (f ∷ files) x rows = same_behind (read_as f (x f) rows) (read_texts (map (λ name. (name, x name)) files)) (read_all files x) (texts_all files x)
 
 made_is : (seed size : ℕ) → read_texts (generated seed size) no_rows ≡ read_all day_files (text_of seed size) no_rows
 unfolding generated

@@ -68,17 +68,20 @@ pub(crate) fn take_text(
     alloc: Global,
     rows: InputRows,
     file: File,
-    text: Vec<u8>,
+    text: &[u8],
 ) -> Result<InputRows, StoryFault>
     requires facts { AreInputRows rows }
-    ensures exact { GivesRead as_rows result (read_as file text.items (as_rows rows)) }
+    ensures exact { GivesRead as_rows result (read_as file text.now (as_rows rows)) }
     ensures cause { IfErr result NeedsNoFault }
     ensures facts { IfOk result AreInputRows }
 {
     if text.len() > byte_limit(file) as usize {
         return Err(too_large(file));
     }
-    taken(alloc, rows, file, text)
+    match Vec::from_slice(alloc, text) {
+        Ok(bytes) => taken(alloc, rows, file, bytes),
+        Err(_) => Err(StoryFault::Memory),
+    }
 }
 
 // The rows with those of one file more, which is read to its end.

@@ -62,20 +62,19 @@ pub(crate) fn joined_recovery(
 // The rows with those of these texts, each the whole of its file. The first that is refused ends the reading.
 fn read_texts(
     alloc: Global,
-    texts: Vec<(File, Vec<u8>)>,
+    texts: &[(File, Vec<u8>)],
     mut rows: InputRows,
 ) -> Result<InputRows, StoryFault>
     requires facts { AreInputRows rows }
-    ensures exact { GivesRead as_rows result (read_texts (named_texts texts.items) (as_rows rows)) }
+    ensures exact { GivesRead as_rows result (read_texts (named_texts texts.now) (as_rows rows)) }
     ensures cause { IfErr result NeedsNoFault }
     ensures facts { IfOk result AreInputRows }
 {
     for named in texts {
-        let (file, text) = named;
-        rows = match take_text(alloc, rows, file, text) {
-            Ok(more) => more,
+        match take_text(alloc, rows, named.0, named.1.as_slice()) {
+            Ok(more) => rows = more,
             Err(fault) => return Err(fault),
-        };
+        }
     }
     Ok(rows)
 }
@@ -92,7 +91,7 @@ pub(crate) fn trial(alloc: Global, seed: u32, size: u32) -> Result<InputRecovery
         Ok(texts) => texts,
         Err(_) => return Err(StoryFault::Memory),
     };
-    let rows = match read_texts(alloc, texts, InputRows::new(alloc)) {
+    let rows = match read_texts(alloc, texts.as_slice(), InputRows::new(alloc)) {
         Ok(rows) => rows,
         Err(fault) => return Err(fault),
     };

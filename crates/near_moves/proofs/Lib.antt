@@ -1,3 +1,4 @@
+pub mod ElementLaws
 pub mod DescentLaws
 pub mod RecoveryLaws
 pub mod LegalLaws

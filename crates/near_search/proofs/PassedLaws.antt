@@ -14,7 +14,7 @@ use Rattle.near_moves.specs.Units.{Unit_, owner}
 use Rattle.near_moves.specs.Near.{unit_moves, moves_of, of_shard}
 use Rattle.near_moves.specs.Descent.{is_better}
 use Rattle.near_pax.specs.Units.{unit_at, path_at}
-use Rattle.near_pax.specs.declared.PaxMoves.{PaxMoves}
+use Rattle.near_pax.specs.declared.pax.PaxMoves.{PaxMoves}
 use Rattle.near_pax.specs.Left.{left, unit_left, units_left}
 use Rattle.full_cost.specs.Amounts.{passenger_cost}
 use Rattle.near_search.specs.Passed.{IsPast, GoesOn}

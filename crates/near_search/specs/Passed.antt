@@ -6,7 +6,7 @@ use Rattle.plan_moves.specs.Fits.{Fits}
 use Rattle.near_moves.specs.Units.{Unit_}
 use Rattle.near_moves.specs.Near.{moves_of}
 use Rattle.near_moves.specs.Descent.{is_better}
-use Rattle.near_pax.specs.declared.PaxMoves.{PaxMoves}
+use Rattle.near_pax.specs.declared.pax.PaxMoves.{PaxMoves}
 use Rattle.near_pax.specs.Left.{left, units_left}
 
 -- from some units on some were passed over, and these are left: the first better move is the same, and where all moves fit, so do those that are left

@@ -5,4 +5,4 @@ use Rattle.desk_story.proofs.RecoveryLaws.{Continues}
 use Rattle.desk_story.proofs.recovery.read_texts.Given as goal
 
 abbrev pub invariant-loop-named : goal.invariant-loop-named
-invariant-loop-named l = Continues l.rows (named_texts (drop l.named-index l.texts.items)) (as_rows l.fn.rows) (named_texts l.texts.items)
+invariant-loop-named l = Continues l.rows (named_texts (drop l.named-index l.texts)) (as_rows l.fn.rows) (named_texts l.texts)
