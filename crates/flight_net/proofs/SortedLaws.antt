@@ -10,7 +10,7 @@ use Rattle.desk_model.proofs.PathOrder.{pairs_head, pairs_tail, pairs_nil, pairs
 use Rattle.std.proofs.lemmas.List.Sums.{sum_by-cons}
 use Rattle.std.proofs.lemmas.List.Sorted.{sum_by-IsPermutation}
 use Rattle.desk_rules.specs.Numbers.{numbers}
-use Rattle.near_moves.proofs.ElementLaws.{has-cases, has-head, has-tail, numbers-has, all-from_has}
+use Rattle.near_moves.proofs.ListLaws.{contains_cases, contains_head, contains_tail, numbers_within, All_from_contains}
 
 -- no number is below an earlier one
 abbrev pub Rises : List ℕ → Type 0
@@ -24,11 +24,11 @@ counted : (z : ℕ) (xs : List ℕ) → 1 ≤ sum_by (is_z z) xs → Contains xs
 counted z [] some = absurd (omega (arith, some))
 counted z (x ∷ xs) some =
     elim (cases_Bool (eqb x z)) [
-      | inl same ↦ subst (λ (k : ℕ). Contains (x ∷ xs) k) (eqb-true x z same) (has-head x xs)
+      | inl same ↦ subst (λ (k : ℕ). Contains (x ∷ xs) k) (eqb-true x z same) (contains_head x xs)
       | inr other ↦
           let sum : sum_by (is_z z) (x ∷ xs) ≡ is_z z x + sum_by (is_z z) xs = sum_by-cons (is_z z) x xs in
           let none : is_z z x ≡ 0 = rw other refl in
-          has-tail x z xs (counted z xs (omega (arith, some, sum, none)))
+          contains_tail x z xs (counted z xs (omega (arith, some, sum, none)))
     ]
 
 at_front : (x : ℕ) (xs : List ℕ) → 1 ≤ sum_by (is_z x) (x ∷ xs)
@@ -39,7 +39,7 @@ at_front x xs =
 
 front-least : (x y : ℕ) (xs : List ℕ) → Rises (x ∷ xs) → Contains (x ∷ xs) y → x ≤ y
 front-least x y xs up has =
-    elim (has-cases x y xs has) [
+    elim (contains_cases x y xs has) [
       | inl same ↦ omega (arith, same)
       | inr behind ↦ All-contains (λ (k : ℕ). x ≤ k) xs y (pairs_head (λ (a b : ℕ). a ≤ b) x xs up) behind
     ]
@@ -78,7 +78,7 @@ rises-numbers (suc n) =
     let R : ℕ → ℕ → Type 0 = λ a b. a ≤ b in
     pairs_append R (numbers n) (n ∷ []) (rises-numbers n)
     (AllPairs-cons R n [] (All-nil (R n)) (pairs_nil R))
-    (all-from_has (λ x. All (R x) (n ∷ [])) (numbers n) (λ x has. let lt = numbers-has n x has in All-cons (R x) n [] (omega (arith, lt)) (All-nil (R x))))
+    (All_from_contains (λ x. All (R x) (n ∷ [])) (numbers n) (λ x has. let lt = numbers_within n x has in All-cons (R x) n [] (omega (arith, lt)) (All-nil (R x))))
 
 -- the sum of what passes
 one_passes : (f : ℕ → ℕ) (x : ℕ) (xs : List ℕ) (b : Bool) → sum_by f (cond b (x ∷ xs) xs) ≡ cond b (f x) 0 + sum_by f xs

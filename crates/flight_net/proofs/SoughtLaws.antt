@@ -14,7 +14,7 @@ use Rattle.desk_data.specs.PlanRows.{PlanRows, row_at}
 use Rattle.desk_rules.specs.Numbers.{numbers}
 use Rattle.desk_rules.specs.Passengers.{is_flown}
 use Rattle.desk_rules.specs.Rotations.{dep, arr}
-use Rattle.near_moves.proofs.ElementLaws.{filter-none, filter-map, all-from_has, numbers-has}
+use Rattle.near_moves.proofs.ListLaws.{filter_none, filter_of_map, All_from_contains, numbers_within}
 use Rattle.flight_net.specs.declared.flights.Flight.{Flight}
 use Rattle.flight_net.specs.declared.sought.Sought.{Sought}
 use Rattle.flight_net.specs.Flights.{IsNetOf}
@@ -91,9 +91,9 @@ all-out I P sought n flights sound out = λ k d lt. not_wanted I P sought n (get
 pub part-all : {X : Type 0} (P : X → Type 0) (xs ys zs whole : List X) → whole ≡ xs ++ (ys ++ zs) → All P whole → All P xs × All P ys × All P zs
 part-all {X} P xs ys zs whole is all =
     let here : All P (xs ++ (ys ++ zs)) = subst (All P) is all in (
-      all-from_has P xs (λ x has. All-contains P (xs ++ (ys ++ zs)) x here (Contains-append_left xs (ys ++ zs) x has)),
-      all-from_has P ys (λ x has. All-contains P (xs ++ (ys ++ zs)) x here (Contains-append_right xs (ys ++ zs) x (Contains-append_left ys zs x has))),
-      all-from_has P zs (λ x has. All-contains P (xs ++ (ys ++ zs)) x here (Contains-append_right xs (ys ++ zs) x (Contains-append_right ys zs x has))),
+      All_from_contains P xs (λ x has. All-contains P (xs ++ (ys ++ zs)) x here (Contains-append_left xs (ys ++ zs) x has)),
+      All_from_contains P ys (λ x has. All-contains P (xs ++ (ys ++ zs)) x here (Contains-append_right xs (ys ++ zs) x (Contains-append_left ys zs x has))),
+      All_from_contains P zs (λ x has. All-contains P (xs ++ (ys ++ zs)) x here (Contains-append_right xs (ys ++ zs) x (Contains-append_right ys zs x has))),
     )
 
 -- what is sought of all flights stands in the window
@@ -103,9 +103,9 @@ window-wanted I P sought n flights part sound w =
     let parts = part-all (IsFlight I P n) w.before part w.behind flights w.whole sound in
     ap (filter test) w.whole
     ∙ filter-append test w.before (part ++ w.behind)
-    ∙ ap (λ (fs : List Flight). fs ++ filter test (part ++ w.behind)) (filter-none test w.before (all-out I P sought n w.before parts.0 w.none_before))
+    ∙ ap (λ (fs : List Flight). fs ++ filter test (part ++ w.behind)) (filter_none test w.before (all-out I P sought n w.before parts.0 w.none_before))
     ∙ filter-append test part w.behind
-    ∙ ap (λ (fs : List Flight). filter test part ++ fs) (filter-none test w.behind (all-out I P sought n w.behind parts.2 w.none_behind))
+    ∙ ap (λ (fs : List Flight). filter test part ++ fs) (filter_none test w.behind (all-out I P sought n w.behind parts.2 w.none_behind))
     ∙ append-nil (filter test part)
 
 pub window-sound : (I : Situation) (P : PlanRows) (sought : Sought) (flights part : List Flight) → IsNetOf I P flights → IsWindow sought flights part → All (λ f. f.leg.0 < legs_of I) part
@@ -126,7 +126,7 @@ picked-numbers I P sought flights part legs net w is =
     ap (map leg_number) is
     ∙ map-map leg_number leg_of_flight (filter (wanted I P sought) part)
     ∙ ap (map number_of) (sym (window-wanted I P sought (legs_of I) flights part (net-sound I P flights net) w))
-    ∙ sym (filter-map (is_sought I P sought) number_of flights)
+    ∙ sym (filter_of_map (is_sought I P sought) number_of flights)
 
 pub legs-sorted : (I : Situation) (P : PlanRows) (sought : Sought) (flights part : List Flight) (made legs : List Leg) → IsNetOf I P flights → IsWindow sought flights part → made ≡ map leg_of_flight (filter (wanted I P sought) part) → IsPermutation made legs → IsSortedByKey leg_number nat_cmp legs → map leg_number legs ≡ filter (is_sought I P sought) (numbers (legs_of I))
 legs-sorted I P sought flights part made legs net w is sorted up =
@@ -139,10 +139,10 @@ legs-sorted I P sought flights part made legs net w is sorted up =
     let in_i : i < length legs = omega (arith, less, in_j) in
     let none : Leg = record { 0 = 0 } in
     rw (get_or-map leg_number legs i none d in_i, get_or-map leg_number legs j none d in_j) (IsNonDecreasingBy-from_sort leg_number legs up i j none (omega (arith, less)) in_j))
-    (all-from_has (λ x. is_sought I P sought x ≡ true → flown_leg P x ≡ true) (numbers (legs_of I)) (λ x has on. (sought-holds I P sought x on).flown))
+    (All_from_contains (λ x. is_sought I P sought x ≡ true → flown_leg P x ≡ true) (numbers (legs_of I)) (λ x has on. (sought-holds I P sought x on).flown))
 
 pub legs-within : (n : ℕ) (q : ℕ → Bool) (legs : List Leg) → map leg_number legs ≡ filter q (numbers n) → All (λ (leg : Leg). leg.0 < n) legs
 legs-within n q legs is = λ k d lt.
     let long : k < length (map leg_number legs) = rw (length-map legs leg_number) lt in
-    let below : All (λ x. x < n) (map leg_number legs) = subst (All (λ x. x < n)) (sym is) (All-filter q (λ x. x < n) (numbers n) (all-from_has (λ x. x < n) (numbers n) (λ x has. numbers-has n x has))) in
+    let below : All (λ x. x < n) (map leg_number legs) = subst (All (λ x. x < n)) (sym is) (All-filter q (λ x. x < n) (numbers n) (All_from_contains (λ x. x < n) (numbers n) (λ x has. numbers_within n x has))) in
     subst (λ (x : ℕ). x < n) (get_or-map leg_number legs k d 0 lt) (below k 0 long)

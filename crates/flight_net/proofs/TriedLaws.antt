@@ -3,7 +3,7 @@ use Rattle.std.proofs.Common.{◌≡◌, ℕ, inl, inr, Bool, true, false, eqb, 
 use Rattle.std.specs.Prelude.{filter}
 use Rattle.std.specs.List.{flat_map}
 use Rattle.std.proofs.lemmas.Bool.{cases_Bool, true≢false}
-use Rattle.std.proofs.lemmas.List.{append-nil, map-append}
+use Rattle.std.proofs.lemmas.List.{append-nil}
 use Rattle.std.proofs.lemmas.Simd.{map-map}
 use Rattle.std.proofs.lemmas.List.Concat.{flat_map-append, flat_map_single}
 use Rattle.desk_units.specs.declared.numbers.Leg.{Leg}
@@ -16,7 +16,7 @@ use Rattle.desk_rules.specs.Numbers.{numbers}
 use Rattle.near_moves.specs.Places.{leg}
 use Rattle.near_moves.specs.Routes.{stem, all_pairs, all_doubles}
 use Rattle.near_moves.specs.RouteParts.{is_other_route}
-use Rattle.near_moves.proofs.ElementLaws.{filter-map, filter-flat_map, filter-none, flat_map-filter, flat_map-agree, all-from_has, map-has}
+use Rattle.near_moves.proofs.ListLaws.{map_of_flat_map, filter_of_map, filter_of_flat_map, filter_none, flat_map_filter, flat_map_agree, All_from_contains, map_contains}
 use Rattle.flight_net.specs.Tried.{others, singles_of, doubles_in, doubles_of}
 use Rattle.flight_net.proofs.SortedLaws.{filter-filter}
 
@@ -26,13 +26,9 @@ three x = (leg x, cabin.F) ∷ (leg x, cabin.B) ∷ (leg x, cabin.E) ∷ []
 abbrev cabins : List Cabin
 cabins = cabin.F ∷ cabin.B ∷ cabin.E ∷ []
 
-map-flat_map : {X Y Z : Type 0} (f : Y → Z) (g : X → List Y) (xs : List X) → map f (flat_map g xs) ≡ flat_map (λ x. map f (g x)) xs
-map-flat_map f g [] = refl
-map-flat_map {X} {Y} {Z} f g (x ∷ xs) = map-append f (g x) (flat_map g xs) ∙ ap (λ (zs : List Z). map f (g x) ++ zs) (map-flat_map f g xs)
-
-flat_map-flat_map : {X Y Z : Type 0} (f : Y → List Z) (g : X → List Y) (xs : List X) → flat_map f (flat_map g xs) ≡ flat_map (λ x. flat_map f (g x)) xs
-flat_map-flat_map f g [] = refl
-flat_map-flat_map {X} {Y} {Z} f g (x ∷ xs) = flat_map-append f (g x) (flat_map g xs) ∙ ap (λ (zs : List Z). flat_map f (g x) ++ zs) (flat_map-flat_map f g xs)
+flat_map_of_flat_map : {X Y Z : Type 0} (f : Y → List Z) (g : X → List Y) (xs : List X) → flat_map f (flat_map g xs) ≡ flat_map (λ x. flat_map f (g x)) xs
+flat_map_of_flat_map f g [] = refl
+flat_map_of_flat_map {X} {Y} {Z} f g (x ∷ xs) = flat_map-append f (g x) (flat_map g xs) ∙ ap (λ (zs : List Z). flat_map f (g x) ++ zs) (flat_map_of_flat_map f g xs)
 
 -- ---- one leg
 
@@ -42,17 +38,17 @@ unfolding all_pairs
 singles-picked I P r q fewer =
     let start = stem I r in
     let ns = numbers (legs_of I) in
-    flat_map-filter (λ x. others I P r (singles_of I r x)) q ns
-    (all-from_has (λ x. q x ≡ false → others I P r (singles_of I r x) ≡ []) ns (λ x has off.
-    filter-none (is_other_route I P r) (singles_of I r x)
-    (all-from_has (λ path. is_other_route I P r path ≡ false) (singles_of I r x) (λ path made.
-    let at = map-has (λ c. start ++ (leg x, c) ∷ []) cabins path made in
+    flat_map_filter (λ x. others I P r (singles_of I r x)) q ns
+    (All_from_contains (λ x. q x ≡ false → others I P r (singles_of I r x) ≡ []) ns (λ x has off.
+    filter_none (is_other_route I P r) (singles_of I r x)
+    (All_from_contains (λ path. is_other_route I P r path ≡ false) (singles_of I r x) (λ path made.
+    let at = map_contains (λ c. start ++ (leg x, c) ∷ []) cabins path made in
     elim (cases_Bool (is_other_route I P r path)) [
-      | inl on ↦ absurd (true≢false (sym (fewer x at.0 (subst (λ (z : List (Leg × Cabin)). is_other_route I P r z ≡ true) (sym at.2) on)) ∙ off))
+      | inl on ↦ absurd (true≢false (sym (fewer x at.from (subst (λ (z : List (Leg × Cabin)). is_other_route I P r z ≡ true) (sym at.is) on)) ∙ off))
       | inr out ↦ out
     ]))))
-    ∙ sym (filter-flat_map (is_other_route I P r) (singles_of I r) ns)
-    ∙ ap (filter (is_other_route I P r)) (sym (map-flat_map (λ (pair : Leg × Cabin). start ++ pair ∷ []) three ns))
+    ∙ sym (filter_of_flat_map (is_other_route I P r) (singles_of I r) ns)
+    ∙ ap (filter (is_other_route I P r)) (sym (map_of_flat_map (λ (pair : Leg × Cabin). start ++ pair ∷ []) three ns))
 
 -- ---- two legs
 
@@ -64,9 +60,9 @@ in_cabin-three cabin.E y = refl
 in_cabin-pairs : (I : Situation) (c : Cabin) → filter (λ (b : Leg × Cabin). eqb (cabin_rank c) (cabin_rank b.1)) (all_pairs I) ≡ map (λ y. (leg y, c)) (numbers (legs_of I))
 unfolding all_pairs
 in_cabin-pairs I c =
-    filter-flat_map (λ (b : Leg × Cabin). eqb (cabin_rank c) (cabin_rank b.1)) three (numbers (legs_of I))
-    ∙ flat_map-agree (λ y. filter (λ (b : Leg × Cabin). eqb (cabin_rank c) (cabin_rank b.1)) (three y)) (λ y. (leg y, c) ∷ []) (numbers (legs_of I))
-    (all-from_has (λ y. filter (λ (b : Leg × Cabin). eqb (cabin_rank c) (cabin_rank b.1)) (three y) ≡ (leg y, c) ∷ []) (numbers (legs_of I)) (λ y has. in_cabin-three c y))
+    filter_of_flat_map (λ (b : Leg × Cabin). eqb (cabin_rank c) (cabin_rank b.1)) three (numbers (legs_of I))
+    ∙ flat_map_agree (λ y. filter (λ (b : Leg × Cabin). eqb (cabin_rank c) (cabin_rank b.1)) (three y)) (λ y. (leg y, c) ∷ []) (numbers (legs_of I))
+    (All_from_contains (λ y. filter (λ (b : Leg × Cabin). eqb (cabin_rank c) (cabin_rank b.1)) (three y) ≡ (leg y, c) ∷ []) (numbers (legs_of I)) (λ y has. in_cabin-three c y))
     ∙ flat_map_single (λ y. (leg y, c)) (numbers (legs_of I))
 
 abbrev double : Leg × Cabin → Leg × Cabin → List (Leg × Cabin)
@@ -87,10 +83,10 @@ unfolding all_pairs
 doubles-by_leg I r =
     let from : Leg × Cabin → List (List (Leg × Cabin)) = λ a. map (double a) (filter (λ (b : Leg × Cabin). eqb (cabin_rank a.1) (cabin_rank b.1)) (all_pairs I)) in
     let ns = numbers (legs_of I) in
-    map-flat_map (behind I r) from (all_pairs I)
-    ∙ flat_map-flat_map (λ a. map (behind I r) (from a)) three ns
-    ∙ flat_map-agree (λ x. flat_map (λ a. map (behind I r) (from a)) (three x)) (λ x. doubles_of I r x ns) ns
-    (all-from_has (λ x. flat_map (λ a. map (behind I r) (from a)) (three x) ≡ doubles_of I r x ns) ns
+    map_of_flat_map (behind I r) from (all_pairs I)
+    ∙ flat_map_of_flat_map (λ a. map (behind I r) (from a)) three ns
+    ∙ flat_map_agree (λ x. flat_map (λ a. map (behind I r) (from a)) (three x)) (λ x. doubles_of I r x ns) ns
+    (All_from_contains (λ x. flat_map (λ a. map (behind I r) (from a)) (three x) ≡ doubles_of I r x ns) ns
     (λ x has. rw (doubles-in I r x cabin.F, doubles-in I r x cabin.B, doubles-in I r x cabin.E) refl))
 
 -- of second legs that pass where any of their paths does
@@ -98,24 +94,24 @@ pub doubles-seconds : (I : Situation) (P : PlanRows) (r x : ℕ) (q : ℕ → Bo
 doubles-seconds I P r x q c fewer =
     let path : ℕ → List (Leg × Cabin) = λ y. stem I r ++ (leg x, c) ∷ (leg y, c) ∷ [] in
     let ns = numbers (legs_of I) in
-    filter-map (is_other_route I P r) path (filter q ns)
-    ∙ ap (map path) (filter-filter q (λ y. is_other_route I P r (path y)) ns (all-from_has (λ y. is_other_route I P r (path y) ≡ true → q y ≡ true) ns (λ y has on. fewer y on)))
-    ∙ sym (filter-map (is_other_route I P r) path ns)
+    filter_of_map (is_other_route I P r) path (filter q ns)
+    ∙ ap (map path) (filter-filter q (λ y. is_other_route I P r (path y)) ns (All_from_contains (λ y. is_other_route I P r (path y) ≡ true → q y ≡ true) ns (λ y has on. fewer y on)))
+    ∙ sym (filter_of_map (is_other_route I P r) path ns)
 
 pub others-cabins : (I : Situation) (P : PlanRows) (r x : ℕ) (ys : List ℕ) → others I P r (doubles_of I r x ys) ≡ others I P r (doubles_in I r x ys cabin.F) ++ (others I P r (doubles_in I r x ys cabin.B) ++ others I P r (doubles_in I r x ys cabin.E))
 others-cabins I P r x ys =
-    filter-flat_map (is_other_route I P r) (doubles_in I r x ys) cabins
+    filter_of_flat_map (is_other_route I P r) (doubles_in I r x ys) cabins
     ∙ ap (λ (zs : List (List (Leg × Cabin))). others I P r (doubles_in I r x ys cabin.F) ++ (others I P r (doubles_in I r x ys cabin.B) ++ zs)) (append-nil (others I P r (doubles_in I r x ys cabin.E)))
 
 no_doubles_in : (I : Situation) (P : PlanRows) (r x : ℕ) (c : Cabin) → ((y : ℕ) → is_other_route I P r (stem I r ++ (leg x, c) ∷ (leg y, c) ∷ []) ≡ true → ⊥) → others I P r (doubles_in I r x (numbers (legs_of I)) c) ≡ []
 no_doubles_in I P r x c none =
     let ns = numbers (legs_of I) in
     let path : ℕ → List (Leg × Cabin) = λ y. stem I r ++ (leg x, c) ∷ (leg y, c) ∷ [] in
-    filter-none (is_other_route I P r) (doubles_in I r x ns c)
-    (all-from_has (λ p. is_other_route I P r p ≡ false) (doubles_in I r x ns c) (λ p made.
-    let at = map-has path ns p made in
+    filter_none (is_other_route I P r) (doubles_in I r x ns c)
+    (All_from_contains (λ p. is_other_route I P r p ≡ false) (doubles_in I r x ns c) (λ p made.
+    let at = map_contains path ns p made in
     elim (cases_Bool (is_other_route I P r p)) [
-      | inl on ↦ absurd (none at.0 (subst (λ (z : List (Leg × Cabin)). is_other_route I P r z ≡ true) (sym at.2) on))
+      | inl on ↦ absurd (none at.from (subst (λ (z : List (Leg × Cabin)). is_other_route I P r z ≡ true) (sym at.is) on))
       | inr out ↦ out
     ]))
 
@@ -123,10 +119,10 @@ no_doubles_in I P r x c none =
 pub doubles-picked : (I : Situation) (P : PlanRows) (r : ℕ) (q : ℕ → Bool) → ((x y : ℕ) (c : Cabin) → is_other_route I P r (stem I r ++ (leg x, c) ∷ (leg y, c) ∷ []) ≡ true → q x ≡ true) → flat_map (λ x. others I P r (doubles_of I r x (numbers (legs_of I)))) (filter q (numbers (legs_of I))) ≡ others I P r (map (λ double. stem I r ++ double) (all_doubles I))
 doubles-picked I P r q fewer =
     let ns = numbers (legs_of I) in
-    flat_map-filter (λ x. others I P r (doubles_of I r x ns)) q ns
-    (all-from_has (λ x. q x ≡ false → others I P r (doubles_of I r x ns) ≡ []) ns (λ x has off.
+    flat_map_filter (λ x. others I P r (doubles_of I r x ns)) q ns
+    (All_from_contains (λ x. q x ≡ false → others I P r (doubles_of I r x ns) ≡ []) ns (λ x has off.
     let none : (c : Cabin) (y : ℕ) → is_other_route I P r (stem I r ++ (leg x, c) ∷ (leg y, c) ∷ []) ≡ true → ⊥ = λ c y on. true≢false (sym (fewer x y c on) ∙ off) in
     others-cabins I P r x ns
     ∙ rw (no_doubles_in I P r x cabin.F (none cabin.F), no_doubles_in I P r x cabin.B (none cabin.B), no_doubles_in I P r x cabin.E (none cabin.E)) refl))
-    ∙ sym (filter-flat_map (is_other_route I P r) (λ x. doubles_of I r x ns) ns)
+    ∙ sym (filter_of_flat_map (is_other_route I P r) (λ x. doubles_of I r x ns) ns)
     ∙ ap (filter (is_other_route I P r)) (sym (doubles-by_leg I r))

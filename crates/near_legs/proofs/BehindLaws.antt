@@ -3,8 +3,7 @@ use Rattle.std.proofs.Common.{◌≡◌, ◌≢◌, ℕ, zero, suc, ◌+◌, ◌
 use Rattle.std.specs.Prelude.{Option, Some, None, filter, replicate}
 use Rattle.std.specs.Option.{ForSome}
 use Rattle.std.specs.List.{All, AllPairs, Contains}
-use Rattle.std.proofs.lemmas.Bool.{true≢false}
-use Rattle.std.proofs.lemmas.Bool.Decides.{nat_tests}
+use Rattle.std.proofs.lemmas.Bool.{cases_eq, true≢false}
 use Rattle.std.proofs.lemmas.List.{get_or-set_same, get_or-set_other, length-replicate, length-set, get_or_past}
 use Rattle.std.proofs.lemmas.List.Elements.{All-nil, All-head, All-contains}
 use Rattle.std.proofs.lemmas.List.Kept.{AllPairs-cons, AllPairs-filter}
@@ -33,9 +32,6 @@ use Rattle.near_legs.specs.Tables.{IsInverse, AreBehind, from_next}
 
 below_cases : (x n : ℕ) → x < n + 1 → (x < n) ⊎ (x ≡ n)
 below_cases x n h = grind arith
-
-nat_cases : (x y : ℕ) → (x ≡ y) ⊎ (x ≢ y)
-nat_cases x y = grind (arith, nat_tests)
 
 blank : (n x : ℕ) → get_or (replicate n (let o : Option Leg = None in o)) x None ≡ None
 blank zero x = refl
@@ -86,8 +82,8 @@ inverse_more before behind n leg next lt same was within is =
     let inside : leg.0 < length behind = omega (arith, is.legs, within) in
     record {
       legs = length-set behind leg.0 (Some next) ∙ is.legs;
-      found = λ x. inverse_found before behind n leg next x lt same was inside (nat_cases x leg.0) (is.found x);
-      all = λ x y below had now. inverse_all before behind n leg next x y was inside is (below_cases y n below) (nat_cases x leg.0) had now;
+      found = λ x. inverse_found before behind n leg next x lt same was inside (cases_eq x leg.0) (is.found x);
+      all = λ x y below had now. inverse_all before behind n leg next x y was inside is (below_cases y n below) (cases_eq x leg.0) had now;
     }
 
 -- ---- the legs from a leg on are the leg, and those from the leg behind it on
@@ -117,7 +113,7 @@ behind-next I P x y z nearest first inside within before =
     let plane : before.plane ≡ first.plane = flown_once P x before.plane first.plane before.dep first.dep before.first first.first in
     let own : Flies P z first.plane before.later = subst (λ (p : ℕ). Flies P z p before.later) plane before.second in
     let place : (z ≡ y) ⊎ Precedes P y z =
-    elim (nat_cases z y) [
+    elim (cases_eq z y) [
       | inl same ↦ inl same
       | inr apart ↦ elim (precedes-total P first.plane z y before.later first.later own first.second apart) [
         | inl earlier ↦ absurd (not_both (precedes P x z) (precedes-from P x z before) (nearest.nearest z within (precedes-from P z y earlier)))

@@ -3,7 +3,7 @@ use Rattle.std.proofs.Common.{◌≡◌, ◌≢◌, ℕ, ◌+◌, ◌<◌, ◌�
 use Rattle.std.specs.Prelude.{Some, None, filter, replicate}
 use Rattle.std.specs.List.{All, Contains, dedup}
 use Rattle.std.specs.List.Sorted.{IsSorted, IsPermutation}
-use Rattle.std.proofs.lemmas.Bool.{true≢false, eq-eqb}
+use Rattle.std.proofs.lemmas.Bool.{cases_eq, true≢false, eq-eqb}
 use Rattle.std.proofs.lemmas.Bool.Decides.{nat_tests}
 use Rattle.std.proofs.lemmas.List.{get_or-set_same, get_or-set_other, get_or-replicate, length-replicate, length-set, map_push, get_or-map, length-map}
 use Rattle.std.proofs.lemmas.List.Elements.{Contains-append_left, Contains-append_right, Contains-append_cases}
@@ -36,9 +36,6 @@ use Rattle.near_legs.specs.declared.lists.By.TheVariants.{Aircraft}
 use Rattle.near_legs.specs.Tables.{is_number, place, count_of, is_listed, AreListed, AreFamilies}
 
 -- ---- one leg more
-
-nat_cases : (p q : ℕ) → (p ≡ q) ⊎ (p ≢ q)
-nat_cases p q = grind (arith, nat_tests)
 
 other_number : (n k : ℕ) → k ≢ n → eqb n k ≡ false
 other_number n k apart = grind (arith, nat_tests)
@@ -76,7 +73,7 @@ list_with I P by lists number leg k (inr apart) lt on is =
 pub lists_more : (I : Situation) (P : PlanRows) (by : By) (lists : List (List Leg)) (number : ℕ) (leg : Leg) → number < count_of I by → place I P by leg.0 ≡ Some number → AreListed leg.0 I P by lists → AreListed (leg.0 + 1) I P by (set lists number (get_or lists number [] ++ leg ∷ []))
 lists_more I P by lists number leg lt on are = record {
   count = length-set lists number (get_or lists number [] ++ leg ∷ []) ∙ are.count;
-  each = λ k within. list_with I P by lists number leg k (nat_cases k number) (omega (arith, are.count, lt)) on (are.each k within);
+  each = λ k within. list_with I P by lists number leg k (cases_eq k number) (omega (arith, are.count, lt)) on (are.each k within);
 }
 
 -- the legs that are listed are legs of the day

@@ -20,7 +20,8 @@ use Rattle.near_moves.specs.Places.{leg, plane, flier, legs_from, run}
 use Rattle.near_moves.specs.Units.{Unit_, retimed, swapped, dropped, restored, handed}
 use Rattle.near_moves.specs.LegMoves.{retiming, retimings, other_departures, exchange, exchanges, exchange_moments, cancelling, dropping, droppings, comes_round, run_lengths, restoring_alone, restoring_both, restorings, brings_back, handing_step, handing}
 use Rattle.near_moves.specs.Near.{unit_steps, unit_moves, move_of, row_in_time, step_in_time}
-use Rattle.near_moves.proofs.ListLaws.{All_from_contains, all_holds, for_none, for_some, numbers_below}
+use Rattle.std.proofs.lemmas.List.Sums.{AllPass-from_list_all}
+use Rattle.near_moves.proofs.ListLaws.{All_from_contains, for_none, for_some, numbers_below}
 use Rattle.near_moves.proofs.FromLaws.{from-holds}
 use Rattle.near_moves.proofs.MomentLaws.{row_of_plan}
 
@@ -66,7 +67,7 @@ move_fits : (I : Situation) (steps : List Step) → AreInRange I steps → list_
 move_fits I steps range time = record {
   some = range.some;
   most = range.most;
-  each = λ k d lt. step_fits I _ (range.each k d lt) (all_holds step_in_time steps time k d lt);
+  each = λ k d lt. step_fits I _ (range.each k d lt) (AllPass-from_list_all step_in_time steps time k d lt);
 }
 
 pub unit-fits : (I : Situation) (P : PlanRows) (u : Unit_) → All (AreInRange I) (unit_steps I P u) → All (Fits I) (unit_moves I P u)

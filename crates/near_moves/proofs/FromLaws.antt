@@ -16,7 +16,8 @@ use Rattle.desk_model.specs.Push.{rotation}
 use Rattle.desk_model.proofs.RotationOrder.{rotation-ordered, rotation-flown, rotation-each}
 use Rattle.near_moves.specs.Places.{flier, legs_from, run, is_run}
 use Rattle.near_moves.specs.Words.{IsFrom, IsRun}
-use Rattle.near_moves.proofs.ListLaws.{contains_filter, filter_contains, all_from, all_holds}
+use Rattle.std.proofs.lemmas.List.Sums.{AllPass-from_list_all, list_all-from_AllPass}
+use Rattle.near_moves.proofs.ListLaws.{contains_filter, filter_contains}
 
 pub or_cases : (a b : Bool) → (a || b) ≡ true → (a ≡ true) ⊎ (b ≡ true)
 or_cases true b h = inl refl
@@ -80,7 +81,7 @@ run-holds I P x k h =
     let parts = and_parts (eqb (length (run I P x k)) k) (list_all (λ y. not (fixed I y)) (run I P x k)) h in
     record {
       long = min_test k (length (legs_from I P x)) (ap (λ (n : ℕ). eqb n k) (sym (length-take k (legs_from I P x))) ∙ parts.0);
-      movable = All-weaker (λ y. not (fixed I y) ≡ true) (λ y. fixed I y ≡ false) (λ y. not-true (fixed I y)) (run I P x k) (all_holds (λ y. not (fixed I y)) (run I P x k) parts.1);
+      movable = All-weaker (λ y. not (fixed I y) ≡ true) (λ y. fixed I y ≡ false) (λ y. not-true (fixed I y)) (run I P x k) (AllPass-from_list_all (λ y. not (fixed I y)) (run I P x k) parts.1);
     }
 
 pub run-from : (I : Situation) (P : PlanRows) (x k : ℕ) → IsRun I P x k → is_run I P x k ≡ true
@@ -88,4 +89,4 @@ unfolding is_run
 run-from I P x k is =
     and_from (eqb (length (run I P x k)) k) (list_all (λ y. not (fixed I y)) (run I P x k))
     (ap (λ (n : ℕ). eqb n k) (length-take k (legs_from I P x)) ∙ min_holds k (length (legs_from I P x)) is.long)
-    (all_from (λ y. not (fixed I y)) (run I P x k) (All-weaker (λ y. fixed I y ≡ false) (λ y. not (fixed I y) ≡ true) (λ y fails. ap not fails) (run I P x k) is.movable))
+    (list_all-from_AllPass (λ y. not (fixed I y)) (run I P x k) (All-weaker (λ y. fixed I y ≡ false) (λ y. not (fixed I y) ≡ true) (λ y fails. ap not fails) (run I P x k) is.movable))

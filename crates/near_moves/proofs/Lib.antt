@@ -1,4 +1,3 @@
-pub mod ElementLaws
 pub mod DescentLaws
 pub mod RecoveryLaws
 pub mod LegalLaws

@@ -1,14 +1,15 @@
--- What lists contain, and lists in order that have the same elements.
-use Rattle.std.proofs.Common.{◌≡◌, ℕ, zero, suc, ◌+◌, ◌<◌, ◌⊎◌, inl, inr, Bool, true, false, List, [], ◌∷◌, ◌++◌, length, map, drop, refl, sym, ap, subst, ◌∙◌, arith, add-one}
+-- What lists contain, lists that are filtered, mapped and joined, what is contained once, and lists in order that have the
+-- same elements.
+use Rattle.std.proofs.Common.{◌≡◌, ℕ, zero, suc, ◌+◌, ◌<◌, ◌⊎◌, inl, inr, Bool, true, false, List, [], ◌∷◌, ◌++◌, length, get_or, map, drop, refl, sym, ap, subst, ◌∙◌, arith, add-one}
 use Rattle.std.specs.Prelude.{filter, Some, None}
 use Rattle.std.specs.Option.{ForSome}
-use Rattle.std.specs.List.{All, AllPairs, Contains, flat_map, list_any, list_all}
+use Rattle.std.specs.List.{All, AllPairs, Contains, flat_map, list_any}
 use Rattle.std.proofs.Math.Seq.{drop-cons}
-use Rattle.std.proofs.lemmas.Bool.{cases_Bool, and_parts, and_from}
-use Rattle.std.proofs.lemmas.List.{append-nil}
-use Rattle.std.proofs.lemmas.List.Elements.{All-nil, All-cons, All-head, All-tail, All-append, All-weaker, All-filter, All-contains, All-contains_itself, filter_passes, filter-append, Contains-append_left, Contains-append_right, Contains-append_cases, Contains-push}
+use Rattle.std.proofs.lemmas.Bool.{cases_Bool}
+use Rattle.std.proofs.lemmas.List.{append-nil, map-append}
+use Rattle.std.proofs.lemmas.List.Elements.{All-nil, All-cons, All-head, All-tail, All-append, All-weaker, All-filter, All-contains, All-contains_itself, filter_passes, filter-append, Contains-append_left, Contains-append_right, Contains-append_cases, Contains-get_or, Contains-push}
 use Rattle.std.proofs.lemmas.List.Folds.{Any-from_list_any, list_any_at}
-use Rattle.std.proofs.lemmas.List.Kept.{AllPairs-cons}
+use Rattle.std.proofs.lemmas.List.Kept.{AllPairs-cons, AllPairs-filter}
 use Rattle.desk_rules.specs.Numbers.{numbers}
 use Rattle.desk_rules.proofs.HourLaws.{length-numbers}
 use Rattle.desk_model.proofs.PathOrder.{pairs_head, pairs_tail, pairs_nil, pairs_append}
@@ -96,15 +97,7 @@ All_flat_map P f (x ∷ xs) all = All-append P (f x) (flat_map f xs) (All-head (
 pub All_from_contains : {X : Type 0} (P : X → Type 0) (xs : List X) → ((x : X) → Contains xs x → P x) → All P xs
 All_from_contains P xs each = All-weaker (Contains xs) P each xs (All-contains_itself xs)
 
--- a test that each element passes, and one that some element passes
-pub all_from : {X : Type 0} (p : X → Bool) (xs : List X) → All (λ x. p x ≡ true) xs → list_all p xs ≡ true
-all_from p [] all = refl
-all_from p (x ∷ xs) all = and_from (p x) (list_all p xs) (All-head (λ y. p y ≡ true) x xs all) (all_from p xs (All-tail (λ y. p y ≡ true) x xs all))
-
-pub all_holds : {X : Type 0} (p : X → Bool) (xs : List X) → list_all p xs ≡ true → All (λ x. p x ≡ true) xs
-all_holds p [] h = All-nil (λ x. p x ≡ true)
-all_holds p (x ∷ xs) h = let parts = and_parts (p x) (list_all p xs) h in All-cons (λ y. p y ≡ true) x xs parts.0 (all_holds p xs parts.1)
-
+-- a test that some element passes
 pub any_holds : {X : Type 0} (p : X → Bool) (xs : List X) → list_any p xs ≡ true → Source xs (λ x. p x ≡ true)
 any_holds p xs h = let some = Any-from_list_any p xs h in record { from = some.1; there = (some.0, some.2, some.3); is = some.4 }
 
@@ -156,6 +149,94 @@ filter_yes p n holds = rw add-one (filter-append p (numbers n) (n ∷ []) ∙ rw
 
 pub filter_no : (p : ℕ → Bool) (n : ℕ) → p n ≡ false → filter p (numbers (n + 1)) ≡ filter p (numbers n)
 filter_no p n fails = rw add-one (filter-append p (numbers n) (n ∷ []) ∙ rw fails (append-nil (filter p (numbers n))))
+
+pub filter_all : {X : Type 0} (p : X → Bool) (xs : List X) → All (λ x. p x ≡ true) xs → filter p xs ≡ xs
+filter_all p [] all = refl
+filter_all {X} p (x ∷ xs) all = rw (All-head (λ (x : X). p x ≡ true) x xs all) (ap (λ (ys : List X). x ∷ ys) (filter_all p xs (All-tail (λ (x : X). p x ≡ true) x xs all)))
+
+pub filter_none : {X : Type 0} (p : X → Bool) (xs : List X) → All (λ x. p x ≡ false) xs → filter p xs ≡ []
+filter_none p [] all = refl
+filter_none {X} p (x ∷ xs) all = rw (All-head (λ (x : X). p x ≡ false) x xs all) (filter_none p xs (All-tail (λ (x : X). p x ≡ false) x xs all))
+
+pub filter_of_map : {X Y : Type 0} (p : Y → Bool) (f : X → Y) (xs : List X) → filter p (map f xs) ≡ map f (filter (λ x. p (f x)) xs)
+filter_of_map p f [] = refl
+filter_of_map {X} {Y} p f (x ∷ xs) =
+    elim (cases_Bool (p (f x))) [
+      | inl front ↦ rw front (ap (λ (ys : List Y). f x ∷ ys) (filter_of_map p f xs))
+      | inr fails ↦ rw fails (filter_of_map p f xs)
+    ]
+
+pub filter_of_flat_map : {X Y : Type 0} (p : Y → Bool) (f : X → List Y) (xs : List X) → filter p (flat_map f xs) ≡ flat_map (λ x. filter p (f x)) xs
+filter_of_flat_map p f [] = refl
+filter_of_flat_map {X} {Y} p f (x ∷ xs) = filter-append p (f x) (flat_map f xs) ∙ ap (λ (ys : List Y). filter p (f x) ++ ys) (filter_of_flat_map p f xs)
+
+pub map_of_flat_map : {X Y Z : Type 0} (f : Y → Z) (g : X → List Y) (xs : List X) → map f (flat_map g xs) ≡ flat_map (λ x. map f (g x)) xs
+map_of_flat_map f g [] = refl
+map_of_flat_map {X} {Y} {Z} f g (x ∷ xs) = map-append f (g x) (flat_map g xs) ∙ ap (λ (zs : List Z). map f (g x) ++ zs) (map_of_flat_map f g xs)
+
+-- elements that give nothing may be left out
+pub flat_map_filter : {X Y : Type 0} (f : X → List Y) (q : X → Bool) (xs : List X) → All (λ x. q x ≡ false → f x ≡ []) xs → flat_map f (filter q xs) ≡ flat_map f xs
+flat_map_filter f q [] none = refl
+flat_map_filter {X} {Y} f q (x ∷ xs) none =
+    let rest = flat_map_filter f q xs (All-tail (λ (x : X). q x ≡ false → f x ≡ []) x xs none) in
+    elim (cases_Bool (q x)) [
+      | inl front ↦ rw front (ap (λ (ys : List Y). f x ++ ys) rest)
+      | inr fails ↦ rw fails (rest ∙ ap (λ (ys : List Y). ys ++ flat_map f xs) (sym (All-head (λ (x : X). q x ≡ false → f x ≡ []) x xs none fails)))
+    ]
+
+pub flat_map_agree : {X Y : Type 0} (f g : X → List Y) (xs : List X) → All (λ x. f x ≡ g x) xs → flat_map f xs ≡ flat_map g xs
+flat_map_agree f g [] same = refl
+flat_map_agree {X} {Y} f g (x ∷ xs) same =
+    ap (λ (ys : List Y). ys ++ flat_map f xs) (All-head (λ (x : X). f x ≡ g x) x xs same)
+    ∙ ap (λ (ys : List Y). g x ++ ys) (flat_map_agree f g xs (All-tail (λ (x : X). f x ≡ g x) x xs same))
+
+-- ---- what is contained once
+
+abbrev pub Apart : {X : Type 0} → List X → Type 0
+Apart xs = AllPairs (λ a b. a ≡ b → ⊥) xs
+
+pub apart_cons : {X : Type 0} (x : X) (xs : List X) → (Contains xs x → ⊥) → Apart xs → Apart (x ∷ xs)
+apart_cons {X} x xs other rest =
+    AllPairs-cons (λ (a b : X). a ≡ b → ⊥) x xs (λ k d lt same. other (subst (λ (z : X). Contains xs z) (sym same) (Contains-get_or xs k d lt))) rest
+
+pub apart_append : {X : Type 0} (xs ys : List X) → Apart xs → Apart ys → ((z : X) → Contains xs z → Contains ys z → ⊥) → Apart (xs ++ ys)
+apart_append {X} xs ys a b other =
+    pairs_append (λ (a b : X). a ≡ b → ⊥) xs ys a b
+    (λ k d lt j e within same. other (get_or xs k d) (Contains-get_or xs k d lt) (subst (λ (z : X). Contains ys z) (sym same) (Contains-get_or ys j e within)))
+
+pub apart_head : {X : Type 0} (x : X) (xs : List X) → Apart (x ∷ xs) → Contains xs x → ⊥
+apart_head {X} x xs h has = All-contains (λ (z : X). x ≡ z → ⊥) xs x (pairs_head (λ (a b : X). a ≡ b → ⊥) x xs h) has refl
+
+pub apart_tail : {X : Type 0} (x : X) (xs : List X) → Apart (x ∷ xs) → Apart xs
+apart_tail {X} x xs h = pairs_tail (λ (a b : X). a ≡ b → ⊥) x xs h
+
+pub apart_nil : {X : Type 0} → Apart {X = X} []
+apart_nil {X} = pairs_nil (λ (a b : X). a ≡ b → ⊥)
+
+pub apart_filter : {X : Type 0} (p : X → Bool) (xs : List X) → Apart xs → Apart (filter p xs)
+apart_filter {X} p xs h = AllPairs-filter (λ (a b : X). a ≡ b → ⊥) p xs h
+
+pub apart_map : {X Y : Type 0} (f : X → Y) (xs : List X) → ((a b : X) → f a ≡ f b → a ≡ b) → Apart xs → Apart (map f xs)
+apart_map f [] one h = apart_nil
+apart_map {X} {Y} f (x ∷ xs) one h =
+    apart_cons (f x) (map f xs)
+    (λ has. let other = map_contains f xs (f x) has in apart_head x xs h (subst (λ (z : X). Contains xs z) (one other.from x other.is) other.there))
+    (apart_map f xs one (apart_tail x xs h))
+
+pub apart_flat_map : {X Y : Type 0} (f : X → List Y) (xs : List X) → ((x : X) → Apart (f x)) → ((a b : X) (y : Y) → Contains (f a) y → Contains (f b) y → a ≡ b) → Apart xs → Apart (flat_map f xs)
+apart_flat_map f [] each one h = apart_nil
+apart_flat_map {X} {Y} f (x ∷ xs) each one h =
+    apart_append (f x) (flat_map f xs) (each x) (apart_flat_map f xs each one (apart_tail x xs h))
+    (λ z here behind. let other = flat_map_contains f xs z behind in apart_head x xs h (subst (λ (k : X). Contains xs k) (one other.from x z other.is here) other.there))
+
+pub apart_numbers : (n : ℕ) → Apart (numbers n)
+apart_numbers zero = apart_nil
+apart_numbers (suc n) =
+    apart_append (numbers n) (n ∷ []) (apart_numbers n) (apart_cons n [] (contains_none n) apart_nil)
+    (λ z less last. elim (contains_cases n z [] last) [
+      | inl same ↦ (let lt = numbers_within n z less in omega (arith, lt, same))
+      | inr none ↦ contains_none z none
+    ])
 
 -- ---- two lists in a strict order that have the same elements are one list
 

@@ -29,7 +29,7 @@ use Rattle.near_moves.specs.Routes.{stem, routes}
 use Rattle.near_moves.specs.RouteWords.{IsTried, scheduled, flown, one_more, two_more}
 use Rattle.near_moves.specs.PassengerMoves.{aims, portions, rebooking, rebookings, rebooked_units}
 use Rattle.near_moves.specs.Near.{unit_steps, unit_moves, moves_of, step_in_time, move_of}
-use Rattle.near_moves.proofs.ElementLaws.{has-cases, filter-has, map-has, flat_map-has, numbers-has, all-from_has}
+use Rattle.near_moves.proofs.ListLaws.{contains_cases, filter_contains, map_contains, flat_map_contains, numbers_within, All_from_contains}
 use Rattle.near_moves.proofs.RouteLaws.{has-routes, same_path-Decides}
 
 -- ---- the passengers on a path that has some are those of its group
@@ -62,17 +62,17 @@ count_at (group ∷ groups) (suc k) d up lt =
 
 powers-within : (k : ℕ) → Contains (map (λ e. 2 ^ e) (reverse (numbers 10))) k → 1 ≤ k
 powers-within k has =
-    let at = map-has (λ e. 2 ^ e) (reverse (numbers 10)) k has in
-    let some = pow_pos at.0 in
-    let is = at.2 in
+    let at = map_contains (λ e. 2 ^ e) (reverse (numbers 10)) k has in
+    let some = pow_pos at.from in
+    let is = at.is in
     omega (arith, some, is)
 
 portions-within : (n k : ℕ) → 1 ≤ n → n ≤ 1000 → Contains (portions n) k → (1 ≤ k) × (k ≤ 1000)
 portions-within n k some most has =
-    elim (has-cases n k (filter (λ k. ltb k n) (map (λ e. 2 ^ e) (reverse (numbers 10)))) has) [
+    elim (contains_cases n k (filter (λ k. ltb k n) (map (λ e. 2 ^ e) (reverse (numbers 10)))) has) [
       | inl same ↦ (omega (arith, same, some), omega (arith, same, most))
       | inr behind ↦
-          let parts = filter-has (λ k. ltb k n) (map (λ e. 2 ^ e) (reverse (numbers 10))) k behind in
+          let parts = filter_contains (λ k. ltb k n) (map (λ e. 2 ^ e) (reverse (numbers 10))) k behind in
           let less = ltb-true k n parts.1 in
           (powers-within k parts.0, omega (arith, less, most))
     ]
@@ -99,7 +99,7 @@ pub aims-within : (I : Situation) (P : PlanRows) (r : ℕ) → IsValid I → r <
 unfolding aims
 aims-within I P r valid lt =
     All-append (IsPathIn (legs_of I)) (routes I P r) ([] ∷ [])
-    (all-from_has (IsPathIn (legs_of I)) (routes I P r) (λ path has.
+    (All_from_contains (IsPathIn (legs_of I)) (routes I P r) (λ path has.
     let own = has-routes I P r path has in
     record { short = own.short; among = tried-within I r path (scheduled-within I r valid lt).path own.kind }))
     (All-cons (IsPathIn (legs_of I)) [] [] (record { short = omega arith; among = All-nil (λ (pair : Leg × Cabin). pair.0.0 < legs_of I) }) (All-nil (IsPathIn (legs_of I))))
@@ -147,31 +147,31 @@ unfolding rebookings
 rebooking-fits I P r path steps valid lt here has =
     let n = count_on path (groups_at P r) in
     let others = filter (λ aim. not (same_path path aim)) (aims I P r) in
-    let at = flat_map-has (λ aim. map (rebooking r path aim) (portions n)) others steps has in
-    let aim = at.0 in
-    let some = map-has (rebooking r path aim) (portions n) steps at.2 in
-    let to = All-contains (IsPathIn (legs_of I)) (aims I P r) aim (aims-within I P r valid lt) (filter-has (λ aim. not (same_path path aim)) (aims I P r) aim at.1).0 in
-    let count = portions-within n some.0 here.some here.most some.1 in
-    subst (λ (zs : List Step). Fits I (move_of zs)) some.2
-    (one_step I (let number : Res = record { 0 = r } in Rebook number path aim some.0) (lt, here.within, to, count.0, count.1))
+    let at = flat_map_contains (λ aim. map (rebooking r path aim) (portions n)) others steps has in
+    let aim = at.from in
+    let some = map_contains (rebooking r path aim) (portions n) steps at.is in
+    let to = All-contains (IsPathIn (legs_of I)) (aims I P r) aim (aims-within I P r valid lt) (filter_contains (λ aim. not (same_path path aim)) (aims I P r) aim at.there).0 in
+    let count = portions-within n some.from here.some here.most some.there in
+    subst (λ (zs : List Step). Fits I (move_of zs)) some.is
+    (one_step I (let number : Res = record { 0 = r } in Rebook number path aim some.from) (lt, here.within, to, count.0, count.1))
 
 unit-fits : (I : Situation) (P : PlanRows) (r : ℕ) (path : List (Leg × Cabin)) (m : Move) → IsValid I → r < reservations_of I → IsHere I P r path → Contains (unit_moves I P (rebooked r path)) m → Fits I m
 unfolding unit_moves unit_steps
 unit-fits I P r path m valid lt here has =
-    let at = map-has move_of (filter (list_all step_in_time) (rebookings I P r path)) m has in
-    subst (Fits I) at.2 (rebooking-fits I P r path at.0 valid lt here (filter-has (list_all step_in_time) (rebookings I P r path) at.0 at.1).0)
+    let at = map_contains move_of (filter (list_all step_in_time) (rebookings I P r path)) m has in
+    subst (Fits I) at.is (rebooking-fits I P r path at.from valid lt here (filter_contains (list_all step_in_time) (rebookings I P r path) at.from at.there).0)
 
 unit-here : (I : Situation) (P : PlanRows) (u : Unit_) (m : Move) → IsValid I → IsPlanFor I P → Contains (rebooked_units I P) u → Contains (unit_moves I P u) m → Fits I m
 unfolding rebooked_units
 unit-here I P u m valid plan has moves =
-    let res = flat_map-has (λ r. map (λ (group : Group). rebooked r group.path) (groups_at P r)) (numbers (reservations_of I)) u has in
-    let r = res.0 in
-    let lt = numbers-has (reservations_of I) r res.1 in
-    let at = map-has (λ (group : Group). rebooked r group.path) (groups_at P r) u res.2 in
-    unit-fits I P r at.0.path m valid lt (group-here I P r at.0 valid plan lt at.1) (subst (λ (v : Unit_). Contains (unit_moves I P v) m) (sym at.2) moves)
+    let res = flat_map_contains (λ r. map (λ (group : Group). rebooked r group.path) (groups_at P r)) (numbers (reservations_of I)) u has in
+    let r = res.from in
+    let lt = numbers_within (reservations_of I) r res.there in
+    let at = map_contains (λ (group : Group). rebooked r group.path) (groups_at P r) u res.is in
+    unit-fits I P r at.from.path m valid lt (group-here I P r at.from valid plan lt at.there) (subst (λ (v : Unit_). Contains (unit_moves I P v) m) (sym at.is) moves)
 
 pub rebookings-fit : (I : Situation) (P : PlanRows) → IsValid I → IsPlanFor I P → All (Fits I) (moves_of I P (rebooked_units I P))
 rebookings-fit I P valid plan =
-    all-from_has (Fits I) (moves_of I P (rebooked_units I P)) (λ m has.
-    let at = flat_map-has (unit_moves I P) (rebooked_units I P) m has in
-    unit-here I P at.0 m valid plan at.1 at.2)
+    All_from_contains (Fits I) (moves_of I P (rebooked_units I P)) (λ m has.
+    let at = flat_map_contains (unit_moves I P) (rebooked_units I P) m has in
+    unit-here I P at.from m valid plan at.there at.is)

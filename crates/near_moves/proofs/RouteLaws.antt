@@ -25,7 +25,7 @@ use Rattle.near_moves.specs.Places.{leg}
 use Rattle.near_moves.specs.Routes.{all_pairs, all_doubles, stem, tried_paths, is_route, without_repeats, routes}
 use Rattle.near_moves.specs.RouteParts.{tried_rest, is_other_route}
 use Rattle.near_moves.specs.RouteWords.{IsTried, scheduled, flown, one_more, two_more, IsRoute}
-use Rattle.near_moves.proofs.ElementLaws.{has_none, has-cases, has-head, has-tail, has-filter, filter-has, has-map, map-has, has-flat_map, flat_map-has, has-numbers, numbers-has, all-from_has, Apart, apart-cons, apart-head, apart-tail, apart-nil, apart-append, apart-map, apart-flat_map, apart-numbers, apart-filter, filter-all}
+use Rattle.near_moves.proofs.ListLaws.{contains_none, contains_cases, contains_head, contains_tail, contains_filter, filter_contains, contains_map, map_contains, contains_flat_map, flat_map_contains, numbers_each, numbers_within, All_from_contains, Apart, apart_cons, apart_head, apart_tail, apart_nil, apart_append, apart_map, apart_flat_map, apart_numbers, apart_filter, filter_all}
 
 -- ---- whether two paths are one
 
@@ -50,45 +50,45 @@ not_other a b h is = true≢false (sym h ∙ ap not ((same_path-Decides a b).1 i
 
 pub repeats-has : (paths : List (List (Leg × Cabin))) (path : List (Leg × Cabin)) → Contains paths path → Contains (without_repeats paths) path
 unfolding without_repeats
-repeats-has [] path has = absurd (has_none path has)
+repeats-has [] path has = absurd (contains_none path has)
 repeats-has (first ∷ paths) path has =
     let rest = filter (λ other. not (same_path first other)) (without_repeats paths) in
-    elim (has-cases first path paths has) [
-      | inl same ↦ subst (λ (z : List (Leg × Cabin)). Contains (first ∷ rest) z) same (has-head first rest)
+    elim (contains_cases first path paths has) [
+      | inl same ↦ subst (λ (z : List (Leg × Cabin)). Contains (first ∷ rest) z) same (contains_head first rest)
       | inr behind ↦ elim (cases_Bool (same_path first path)) [
-        | inl same ↦ subst (λ (z : List (Leg × Cabin)). Contains (first ∷ rest) z) (same_path-holds first path same) (has-head first rest)
-        | inr other ↦ has-tail first path rest (has-filter (λ other. not (same_path first other)) (without_repeats paths) path (repeats-has paths path behind) (ap not other))
+        | inl same ↦ subst (λ (z : List (Leg × Cabin)). Contains (first ∷ rest) z) (same_path-holds first path same) (contains_head first rest)
+        | inr other ↦ contains_tail first path rest (contains_filter (λ other. not (same_path first other)) (without_repeats paths) path (repeats-has paths path behind) (ap not other))
       ]
     ]
 
 pub has-repeats : (paths : List (List (Leg × Cabin))) (path : List (Leg × Cabin)) → Contains (without_repeats paths) path → Contains paths path
 unfolding without_repeats
-has-repeats [] path has = absurd (has_none path has)
+has-repeats [] path has = absurd (contains_none path has)
 has-repeats (first ∷ paths) path has =
-    elim (has-cases first path (filter (λ other. not (same_path first other)) (without_repeats paths)) has) [
-      | inl same ↦ subst (λ (z : List (Leg × Cabin)). Contains (first ∷ paths) z) same (has-head first paths)
-      | inr behind ↦ has-tail first path paths (has-repeats paths path (filter-has (λ other. not (same_path first other)) (without_repeats paths) path behind).0)
+    elim (contains_cases first path (filter (λ other. not (same_path first other)) (without_repeats paths)) has) [
+      | inl same ↦ subst (λ (z : List (Leg × Cabin)). Contains (first ∷ paths) z) same (contains_head first paths)
+      | inr behind ↦ contains_tail first path paths (has-repeats paths path (filter_contains (λ other. not (same_path first other)) (without_repeats paths) path behind).0)
     ]
 
 pub repeats-apart : (paths : List (List (Leg × Cabin))) → Apart (without_repeats paths)
 unfolding without_repeats
-repeats-apart [] = apart-nil
+repeats-apart [] = apart_nil
 repeats-apart (first ∷ paths) =
     let rest = filter (λ other. not (same_path first other)) (without_repeats paths) in
-    apart-cons first rest
-    (λ has. not_other first first (filter-has (λ other. not (same_path first other)) (without_repeats paths) first has).1 refl)
-    (apart-filter (λ other. not (same_path first other)) (without_repeats paths) (repeats-apart paths))
+    apart_cons first rest
+    (λ has. not_other first first (filter_contains (λ other. not (same_path first other)) (without_repeats paths) first has).1 refl)
+    (apart_filter (λ other. not (same_path first other)) (without_repeats paths) (repeats-apart paths))
 
 -- where there is none, nothing goes
 pub repeats-none : (paths : List (List (Leg × Cabin))) → Apart paths → without_repeats paths ≡ paths
 unfolding without_repeats
 repeats-none [] h = refl
 repeats-none (first ∷ paths) h =
-    let rest = repeats-none paths (apart-tail first paths h) in
+    let rest = repeats-none paths (apart_tail first paths h) in
     ap (λ (zs : List (List (Leg × Cabin))). first ∷ filter (λ other. not (same_path first other)) zs) rest
     ∙ ap (λ (zs : List (List (Leg × Cabin))). first ∷ zs)
-    (filter-all (λ other. not (same_path first other)) paths
-    (all-from_has (λ other. not (same_path first other) ≡ true) paths (λ other has. other_path first other (λ is. apart-head first paths h (subst (λ (z : List (Leg × Cabin)). Contains paths z) (sym is) has)))))
+    (filter_all (λ other. not (same_path first other)) paths
+    (All_from_contains (λ other. not (same_path first other) ≡ true) paths (λ other has. other_path first other (λ is. apart_head first paths h (subst (λ (z : List (Leg × Cabin)). Contains paths z) (sym is) has)))))
 
 -- ---- legs with cabins, and two of them
 
@@ -96,21 +96,21 @@ abbrev three : ℕ → List (Leg × Cabin)
 three x = (leg x, cabin.F) ∷ (leg x, cabin.B) ∷ (leg x, cabin.E) ∷ []
 
 three-has : (x : ℕ) (c : Cabin) → Contains (three x) (leg x, c)
-three-has x cabin.F = has-head (leg x, cabin.F) ((leg x, cabin.B) ∷ (leg x, cabin.E) ∷ [])
-three-has x cabin.B = has-tail (leg x, cabin.F) (leg x, cabin.B) ((leg x, cabin.B) ∷ (leg x, cabin.E) ∷ []) (has-head (leg x, cabin.B) ((leg x, cabin.E) ∷ []))
+three-has x cabin.F = contains_head (leg x, cabin.F) ((leg x, cabin.B) ∷ (leg x, cabin.E) ∷ [])
+three-has x cabin.B = contains_tail (leg x, cabin.F) (leg x, cabin.B) ((leg x, cabin.B) ∷ (leg x, cabin.E) ∷ []) (contains_head (leg x, cabin.B) ((leg x, cabin.E) ∷ []))
 three-has x cabin.E =
-    has-tail (leg x, cabin.F) (leg x, cabin.E) ((leg x, cabin.B) ∷ (leg x, cabin.E) ∷ [])
-    (has-tail (leg x, cabin.B) (leg x, cabin.E) ((leg x, cabin.E) ∷ []) (has-head (leg x, cabin.E) []))
+    contains_tail (leg x, cabin.F) (leg x, cabin.E) ((leg x, cabin.B) ∷ (leg x, cabin.E) ∷ [])
+    (contains_tail (leg x, cabin.B) (leg x, cabin.E) ((leg x, cabin.E) ∷ []) (contains_head (leg x, cabin.E) []))
 
 three-leg : (x : ℕ) (pair : Leg × Cabin) → Contains (three x) pair → pair.0.0 ≡ x
 three-leg x pair has =
-    elim (has-cases (leg x, cabin.F) pair ((leg x, cabin.B) ∷ (leg x, cabin.E) ∷ []) has) [
+    elim (contains_cases (leg x, cabin.F) pair ((leg x, cabin.B) ∷ (leg x, cabin.E) ∷ []) has) [
       | inl same ↦ ap (λ (z : Leg × Cabin). z.0.0) (sym same)
-      | inr behind ↦ elim (has-cases (leg x, cabin.B) pair ((leg x, cabin.E) ∷ []) behind) [
+      | inr behind ↦ elim (contains_cases (leg x, cabin.B) pair ((leg x, cabin.E) ∷ []) behind) [
         | inl same ↦ ap (λ (z : Leg × Cabin). z.0.0) (sym same)
-        | inr last ↦ elim (has-cases (leg x, cabin.E) pair [] last) [
+        | inr last ↦ elim (contains_cases (leg x, cabin.E) pair [] last) [
           | inl same ↦ ap (λ (z : Leg × Cabin). z.0.0) (sym same)
-          | inr none ↦ absurd (has_none pair none)
+          | inr none ↦ absurd (contains_none pair none)
         ]
       ]
     ]
@@ -120,39 +120,39 @@ apart_cabins x a b other same = true≢false (sym (eq-eqb (cabin_rank a) (cabin_
 
 three-apart : (x : ℕ) → Apart (three x)
 three-apart x =
-    apart-cons (leg x, cabin.F) ((leg x, cabin.B) ∷ (leg x, cabin.E) ∷ [])
-    (λ has. elim (has-cases (leg x, cabin.B) (leg x, cabin.F) ((leg x, cabin.E) ∷ []) has) [
+    apart_cons (leg x, cabin.F) ((leg x, cabin.B) ∷ (leg x, cabin.E) ∷ [])
+    (λ has. elim (contains_cases (leg x, cabin.B) (leg x, cabin.F) ((leg x, cabin.E) ∷ []) has) [
       | inl same ↦ apart_cabins x cabin.B cabin.F refl same
-      | inr last ↦ elim (has-cases (leg x, cabin.E) (leg x, cabin.F) [] last) [
+      | inr last ↦ elim (contains_cases (leg x, cabin.E) (leg x, cabin.F) [] last) [
         | inl same ↦ apart_cabins x cabin.E cabin.F refl same
-        | inr none ↦ has_none (leg x, cabin.F) none
+        | inr none ↦ contains_none (leg x, cabin.F) none
       ]
     ])
-    (apart-cons (leg x, cabin.B) ((leg x, cabin.E) ∷ [])
-    (λ has. elim (has-cases (leg x, cabin.E) (leg x, cabin.B) [] has) [
+    (apart_cons (leg x, cabin.B) ((leg x, cabin.E) ∷ [])
+    (λ has. elim (contains_cases (leg x, cabin.E) (leg x, cabin.B) [] has) [
       | inl same ↦ apart_cabins x cabin.E cabin.B refl same
-      | inr none ↦ has_none (leg x, cabin.B) none
+      | inr none ↦ contains_none (leg x, cabin.B) none
     ])
-    (apart-cons (leg x, cabin.E) [] (has_none (leg x, cabin.E)) apart-nil))
+    (apart_cons (leg x, cabin.E) [] (contains_none (leg x, cabin.E)) apart_nil))
 
 pub pairs-has : (I : Situation) (x : ℕ) (c : Cabin) → x < legs_of I → Contains (all_pairs I) (leg x, c)
 unfolding all_pairs
-pairs-has I x c lt = has-flat_map three (numbers (legs_of I)) x (leg x, c) (has-numbers (legs_of I) x lt) (three-has x c)
+pairs-has I x c lt = contains_flat_map three (numbers (legs_of I)) x (leg x, c) (numbers_each (legs_of I) x lt) (three-has x c)
 
 pub has-pairs : (I : Situation) (pair : Leg × Cabin) → Contains (all_pairs I) pair → pair.0.0 < legs_of I
 unfolding all_pairs
 has-pairs I pair has =
-    let at = flat_map-has three (numbers (legs_of I)) pair has in
-    let lt = numbers-has (legs_of I) at.0 at.1 in
-    let same = three-leg at.0 pair at.2 in
+    let at = flat_map_contains three (numbers (legs_of I)) pair has in
+    let lt = numbers_within (legs_of I) at.from at.there in
+    let same = three-leg at.from pair at.is in
     omega (arith, lt, same)
 
 pairs-apart : (I : Situation) → Apart (all_pairs I)
 unfolding all_pairs
 pairs-apart I =
-    apart-flat_map three (numbers (legs_of I)) three-apart
+    apart_flat_map three (numbers (legs_of I)) three-apart
     (λ a b pair first second. sym (three-leg a pair first) ∙ three-leg b pair second)
-    (apart-numbers (legs_of I))
+    (apart_numbers (legs_of I))
 
 -- the doubles that begin with a pair
 abbrev in_cabin_of : Leg × Cabin → Leg × Cabin → Bool
@@ -166,9 +166,9 @@ doubles_from I a = map (double a) (filter (in_cabin_of a) (all_pairs I))
 
 doubles-has : (I : Situation) (x y : ℕ) (c : Cabin) → x < legs_of I → y < legs_of I → Contains (all_doubles I) ((leg x, c) ∷ (leg y, c) ∷ [])
 doubles-has I x y c lt lower =
-    has-flat_map (doubles_from I) (all_pairs I) (leg x, c) ((leg x, c) ∷ (leg y, c) ∷ []) (pairs-has I x c lt)
-    (has-map (double (leg x, c)) (filter (in_cabin_of (leg x, c)) (all_pairs I)) (leg y, c)
-    (has-filter (in_cabin_of (leg x, c)) (all_pairs I) (leg y, c) (pairs-has I y c lower) (eq-eqb (cabin_rank c) (cabin_rank c) refl)))
+    contains_flat_map (doubles_from I) (all_pairs I) (leg x, c) ((leg x, c) ∷ (leg y, c) ∷ []) (pairs-has I x c lt)
+    (contains_map (double (leg x, c)) (filter (in_cabin_of (leg x, c)) (all_pairs I)) (leg y, c)
+    (contains_filter (in_cabin_of (leg x, c)) (all_pairs I) (leg y, c) (pairs-has I y c lower) (eq-eqb (cabin_rank c) (cabin_rank c) refl)))
 
 -- what a double is
 record IsDouble (I : Situation) (path : List (Leg × Cabin)) : Type 0 where
@@ -186,27 +186,27 @@ same_cabin a b h =
 
 has-doubles_from : (I : Situation) (a : Leg × Cabin) (path : List (Leg × Cabin)) → Contains (doubles_from I a) path → (b : Leg × Cabin) × Contains (all_pairs I) b × (cabin_rank a.1 ≡ cabin_rank b.1) × (path ≡ a ∷ b ∷ [])
 has-doubles_from I a path has =
-    let at = map-has (double a) (filter (in_cabin_of a) (all_pairs I)) path has in
-    let parts = filter-has (in_cabin_of a) (all_pairs I) at.0 at.1 in
-    (at.0, parts.0, eqb-true (cabin_rank a.1) (cabin_rank at.0.1) parts.1, sym at.2)
+    let at = map_contains (double a) (filter (in_cabin_of a) (all_pairs I)) path has in
+    let parts = filter_contains (in_cabin_of a) (all_pairs I) at.from at.there in
+    (at.from, parts.0, eqb-true (cabin_rank a.1) (cabin_rank at.from.1) parts.1, sym at.is)
 
 has-doubles : (I : Situation) (path : List (Leg × Cabin)) → Contains (all_doubles I) path → IsDouble I path
 has-doubles I path has =
-    let first = flat_map-has (doubles_from I) (all_pairs I) path has in
-    let second = has-doubles_from I first.0 path first.2 in
+    let first = flat_map_contains (doubles_from I) (all_pairs I) path has in
+    let second = has-doubles_from I first.from path first.is in
     record {
-      first = first.0;
+      first = first.from;
       second = second.0;
-      among = first.1;
+      among = first.there;
       within = second.1;
-      one_cabin = same_cabin first.0.1 second.0.1 second.2;
+      one_cabin = same_cabin first.from.1 second.0.1 second.2;
       is = second.3;
     }
 
 doubles-apart : (I : Situation) → Apart (all_doubles I)
 doubles-apart I =
-    apart-flat_map (doubles_from I) (all_pairs I)
-    (λ a. apart-map (double a) (filter (in_cabin_of a) (all_pairs I)) (λ b c same. cc) (apart-filter (in_cabin_of a) (all_pairs I) (pairs-apart I)))
+    apart_flat_map (doubles_from I) (all_pairs I)
+    (λ a. apart_map (double a) (filter (in_cabin_of a) (all_pairs I)) (λ b c same. cc) (apart_filter (in_cabin_of a) (all_pairs I) (pairs-apart I)))
     (λ a b path here there.
     let one = has-doubles_from I a path here in
     let two = has-doubles_from I b path there in
@@ -224,31 +224,31 @@ unfolding tried_paths
 tried-rest I r = refl
 
 tried-from : (I : Situation) (r : ℕ) (path : List (Leg × Cabin)) → IsTried I r path → Contains (booked_path I r ∷ tried_rest I r) path
-tried-from I r path (scheduled is) = subst (λ (z : List (Leg × Cabin)). Contains (booked_path I r ∷ tried_rest I r) z) (sym is) (has-head (booked_path I r) (tried_rest I r))
+tried-from I r path (scheduled is) = subst (λ (z : List (Leg × Cabin)). Contains (booked_path I r ∷ tried_rest I r) z) (sym is) (contains_head (booked_path I r) (tried_rest I r))
 tried-from I r path (flown is) =
     let start = stem I r in
     let singles = map (with_pair start) (all_pairs I) in
     let doubles = map (λ (d : List (Leg × Cabin)). start ++ d) (all_doubles I) in
     subst (λ (z : List (Leg × Cabin)). Contains (booked_path I r ∷ tried_rest I r) z) (sym is)
-    (has-tail (booked_path I r) start (tried_rest I r) (has-head start (singles ++ doubles)))
+    (contains_tail (booked_path I r) start (tried_rest I r) (contains_head start (singles ++ doubles)))
 tried-from I r path (one_more x c lt is) =
     let start = stem I r in
     let singles = map (with_pair start) (all_pairs I) in
     let doubles = map (λ (d : List (Leg × Cabin)). start ++ d) (all_doubles I) in
     let made = start ++ (leg x, c) ∷ [] in
     subst (λ (z : List (Leg × Cabin)). Contains (booked_path I r ∷ tried_rest I r) z) (sym is)
-    (has-tail (booked_path I r) made (tried_rest I r)
-    (has-tail start made (singles ++ doubles)
-    (Contains-append_left singles doubles made (has-map (with_pair start) (all_pairs I) (leg x, c) (pairs-has I x c lt)))))
+    (contains_tail (booked_path I r) made (tried_rest I r)
+    (contains_tail start made (singles ++ doubles)
+    (Contains-append_left singles doubles made (contains_map (with_pair start) (all_pairs I) (leg x, c) (pairs-has I x c lt)))))
 tried-from I r path (two_more x y c lt lower is) =
     let start = stem I r in
     let singles = map (with_pair start) (all_pairs I) in
     let doubles = map (λ (d : List (Leg × Cabin)). start ++ d) (all_doubles I) in
     let made = start ++ (leg x, c) ∷ (leg y, c) ∷ [] in
     subst (λ (z : List (Leg × Cabin)). Contains (booked_path I r ∷ tried_rest I r) z) (sym is)
-    (has-tail (booked_path I r) made (tried_rest I r)
-    (has-tail start made (singles ++ doubles)
-    (Contains-append_right singles doubles made (has-map (λ (d : List (Leg × Cabin)). start ++ d) (all_doubles I) ((leg x, c) ∷ (leg y, c) ∷ []) (doubles-has I x y c lt lower)))))
+    (contains_tail (booked_path I r) made (tried_rest I r)
+    (contains_tail start made (singles ++ doubles)
+    (Contains-append_right singles doubles made (contains_map (λ (d : List (Leg × Cabin)). start ++ d) (all_doubles I) ((leg x, c) ∷ (leg y, c) ∷ []) (doubles-has I x y c lt lower)))))
 
 pair_is : (pair : Leg × Cabin) (c : Cabin) → pair.1 ≡ c → ◌≡◌ {A = Leg × Cabin} pair (leg pair.0.0, c)
 pair_is pair c h = ap (λ (k : Cabin). let p : Leg × Cabin = (pair.0, k) in p) h
@@ -264,17 +264,17 @@ from-tried I r path has =
     let start = stem I r in
     let singles = map (with_pair start) (all_pairs I) in
     let doubles = map (λ (d : List (Leg × Cabin)). start ++ d) (all_doubles I) in
-    elim (has-cases (booked_path I r) path (tried_rest I r) has) [
+    elim (contains_cases (booked_path I r) path (tried_rest I r) has) [
       | inl first ↦ scheduled (sym first)
-      | inr behind ↦ elim (has-cases start path (singles ++ doubles) behind) [
+      | inr behind ↦ elim (contains_cases start path (singles ++ doubles) behind) [
         | inl first ↦ flown (sym first)
         | inr more ↦ elim (Contains-append_cases singles doubles path more) [
           | inl single ↦
-              let at = map-has (with_pair start) (all_pairs I) path single in
-              one_more at.0.0.0 at.0.1 (has-pairs I at.0 at.1) (sym at.2)
+              let at = map_contains (with_pair start) (all_pairs I) path single in
+              one_more at.from.0.0 at.from.1 (has-pairs I at.from at.there) (sym at.is)
           | inr two ↦
-              let at = map-has (λ (d : List (Leg × Cabin)). start ++ d) (all_doubles I) path two in
-              double-kind I r path at.0 (has-doubles I at.0 at.1) at.2
+              let at = map_contains (λ (d : List (Leg × Cabin)). start ++ d) (all_doubles I) path two in
+              double-kind I r path at.from (has-doubles I at.from at.there) at.is
         ]
       ]
     ]
@@ -312,14 +312,14 @@ pub routes-has : (I : Situation) (P : PlanRows) (r : ℕ) (path : List (Leg × C
 unfolding routes
 routes-has I P r path h =
     repeats-has (filter (is_route I P r) (tried_paths I r)) path
-    (has-filter (is_route I P r) (tried_paths I r) path
+    (contains_filter (is_route I P r) (tried_paths I r) path
     (subst (λ (zs : List (List (Leg × Cabin))). Contains zs path) (sym (tried-rest I r)) (tried-from I r path h.kind))
     (is_route-from I P r path h.some h.short (is_fit-from I P r path h.fit)))
 
 pub has-routes : (I : Situation) (P : PlanRows) (r : ℕ) (path : List (Leg × Cabin)) → Contains (routes I P r) path → IsRoute I P r path
 unfolding routes
 has-routes I P r path has =
-    let parts = filter-has (is_route I P r) (tried_paths I r) path (has-repeats (filter (is_route I P r) (tried_paths I r)) path has) in
+    let parts = filter_contains (is_route I P r) (tried_paths I r) path (has-repeats (filter (is_route I P r) (tried_paths I r)) path has) in
     let own = is_route-parts I P r path parts.1 in
     record {
       kind = from-tried I r path (subst (λ (zs : List (List (Leg × Cabin))). Contains zs path) (tried-rest I r) parts.0);
@@ -345,24 +345,24 @@ rest-apart I r =
     let start = stem I r in
     let singles = map (with_pair start) (all_pairs I) in
     let doubles = map (λ (d : List (Leg × Cabin)). start ++ d) (all_doubles I) in
-    apart-cons start (singles ++ doubles)
+    apart_cons start (singles ++ doubles)
     (λ has. elim (Contains-append_cases singles doubles start has) [
       | inl single ↦
-          let at = map-has (with_pair start) (all_pairs I) start single in
-          longer start (at.0 ∷ []) (omega arith) (sym at.2)
+          let at = map_contains (with_pair start) (all_pairs I) start single in
+          longer start (at.from ∷ []) (omega arith) (sym at.is)
       | inr two ↦
-          let at = map-has (λ (d : List (Leg × Cabin)). start ++ d) (all_doubles I) start two in
-          let d = has-doubles I at.0 at.1 in
-          longer start (d.first ∷ d.second ∷ []) (omega arith) (sym at.2 ∙ ap (λ (z : List (Leg × Cabin)). start ++ z) d.is)
+          let at = map_contains (λ (d : List (Leg × Cabin)). start ++ d) (all_doubles I) start two in
+          let d = has-doubles I at.from at.there in
+          longer start (d.first ∷ d.second ∷ []) (omega arith) (sym at.is ∙ ap (λ (z : List (Leg × Cabin)). start ++ z) d.is)
     ])
-    (apart-append singles doubles
-    (apart-map (with_pair start) (all_pairs I) (λ a b same. let e : a ∷ [] ≡ b ∷ [] = append_cancel_left start (a ∷ []) (b ∷ []) same in cc) (pairs-apart I))
-    (apart-map (λ (d : List (Leg × Cabin)). start ++ d) (all_doubles I) (λ a b same. append_cancel_left start a b same) (doubles-apart I))
+    (apart_append singles doubles
+    (apart_map (with_pair start) (all_pairs I) (λ a b same. let e : a ∷ [] ≡ b ∷ [] = append_cancel_left start (a ∷ []) (b ∷ []) same in cc) (pairs-apart I))
+    (apart_map (λ (d : List (Leg × Cabin)). start ++ d) (all_doubles I) (λ a b same. append_cancel_left start a b same) (doubles-apart I))
     (λ z single two.
-    let one = map-has (with_pair start) (all_pairs I) z single in
-    let at = map-has (λ (d : List (Leg × Cabin)). start ++ d) (all_doubles I) z two in
-    let d = has-doubles I at.0 at.1 in
-    one_two start one.0 d.first d.second (one.2 ∙ sym at.2 ∙ ap (λ (k : List (Leg × Cabin)). start ++ k) d.is)))
+    let one = map_contains (with_pair start) (all_pairs I) z single in
+    let at = map_contains (λ (d : List (Leg × Cabin)). start ++ d) (all_doubles I) z two in
+    let d = has-doubles I at.from at.there in
+    one_two start one.from d.first d.second (one.is ∙ sym at.is ∙ ap (λ (k : List (Leg × Cabin)). start ++ k) d.is)))
 
 filter-both : {X : Type 0} (p q : X → Bool) (xs : List X) → filter q (filter p xs) ≡ filter (λ x. p x && q x) xs
 filter-both p q [] = refl
@@ -393,7 +393,7 @@ routes-parts I P r =
     let route = is_route I P r in
     let first = booked_path I r in
     let rest = tried_rest I r in
-    let once = repeats-none (filter route rest) (apart-filter route rest (rest-apart I r)) in
+    let once = repeats-none (filter route rest) (apart_filter route rest (rest-apart I r)) in
     ap (λ (zs : List (List (Leg × Cabin))). without_repeats (filter route zs)) (tried-rest I r)
     ∙ elim (cases_Bool (route first)) [
       | inl on ↦ rw (on) (ap (λ (zs : List (List (Leg × Cabin))). first ∷ filter (λ other. not (same_path first other)) zs) once ∙ ap (λ (zs : List (List (Leg × Cabin))). first ∷ zs) (filter-both route (λ other. not (same_path first other)) rest))

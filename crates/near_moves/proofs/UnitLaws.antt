@@ -21,11 +21,11 @@ use Rattle.desk_model.proofs.PathOrder.{pairs_nil, pairs_head, pairs_tail, pairs
 use Rattle.near_moves.specs.Places.{flier, is_movable_flown, is_restorable, family_of, is_run}
 use Rattle.near_moves.specs.Units.{Unit_, retimed, swapped, dropped, restored, handed}
 use Rattle.near_moves.specs.LegMoves.{retimed_units, later_of_family, swapped_units, dropped_units, restored_units, run_lengths, others_of_family, handed_units}
-use Rattle.near_moves.specs.Near.{leg_units, unit_moves, moves_of}
+use Rattle.near_moves.specs.Near.{unit_steps, leg_units, unit_moves, moves_of}
 use Rattle.near_moves.specs.Words.{ExchangesTwo, AreInOrder, HandsRun}
 use Rattle.near_moves.proofs.ListLaws.{contains_filter, filter_contains, contains_map, map_contains, contains_flat_map, flat_map_contains, All_flat_map, All_from_contains, numbers_each, numbers_within, numbers_ordered}
 use Rattle.near_moves.proofs.FromLaws.{run-holds, run-from}
-use Rattle.near_moves.proofs.FitLaws.{unit-fits, retimed-range, swapped-range, dropped-range, restored-range, handed-range}
+use Rattle.near_moves.proofs.FitLaws.{AreInRange, unit-fits, retimed-range, swapped-range, dropped-range, restored-range, handed-range}
 
 -- ---- families
 
@@ -220,21 +220,21 @@ hands-each I P u is =
 MovesFit : Situation → PlanRows → Unit_ → Type 0
 MovesFit I P u = All (Fits I) (unit_moves I P u)
 
-retimed-fit : (I : Situation) (P : PlanRows) → IsPlanFor I P → All (MovesFit I P) (retimed_units I P)
-unfolding retimed_units MovesFit
-retimed-fit I P plan =
-    All-map (MovesFit I P) retimed (filter (is_movable_flown I P) (numbers (legs_of I)))
-    (All_from_contains (λ x. MovesFit I P (retimed x)) (filter (is_movable_flown I P) (numbers (legs_of I))) (λ x has.
+movable-fit : (I : Situation) (P : PlanRows) (unit : ℕ → Unit_) → ((x : ℕ) → x < legs_of I → is_flown (row_at P x) ≡ true → All (AreInRange I) (unit_steps I P (unit x))) → All (MovesFit I P) (map unit (filter (is_movable_flown I P) (numbers (legs_of I))))
+unfolding MovesFit
+movable-fit I P unit range =
+    All-map (MovesFit I P) unit (filter (is_movable_flown I P) (numbers (legs_of I)))
+    (All_from_contains (λ x. MovesFit I P (unit x)) (filter (is_movable_flown I P) (numbers (legs_of I))) (λ x has.
     let own = filter_contains (is_movable_flown I P) (numbers (legs_of I)) x has in
-    unit-fits I P (retimed x) (retimed-range I P x (numbers_within (legs_of I) x own.0) plan (and_parts (not (fixed I x)) (is_flown (row_at P x)) own.1).1)))
+    unit-fits I P (unit x) (range x (numbers_within (legs_of I) x own.0) (and_parts (not (fixed I x)) (is_flown (row_at P x)) own.1).1)))
+
+retimed-fit : (I : Situation) (P : PlanRows) → IsPlanFor I P → All (MovesFit I P) (retimed_units I P)
+unfolding retimed_units
+retimed-fit I P plan = movable-fit I P retimed (λ x within flown. retimed-range I P x within plan flown)
 
 dropped-fit : (I : Situation) (P : PlanRows) → IsPlanFor I P → All (MovesFit I P) (dropped_units I P)
-unfolding dropped_units MovesFit
-dropped-fit I P plan =
-    All-map (MovesFit I P) dropped (filter (is_movable_flown I P) (numbers (legs_of I)))
-    (All_from_contains (λ x. MovesFit I P (dropped x)) (filter (is_movable_flown I P) (numbers (legs_of I))) (λ x has.
-    let own = filter_contains (is_movable_flown I P) (numbers (legs_of I)) x has in
-    unit-fits I P (dropped x) (dropped-range I P x (numbers_within (legs_of I) x own.0) plan (and_parts (not (fixed I x)) (is_flown (row_at P x)) own.1).1)))
+unfolding dropped_units
+dropped-fit I P plan = movable-fit I P dropped (λ x within flown. dropped-range I P x within plan flown)
 
 swapped-fit : (I : Situation) (P : PlanRows) → All (MovesFit I P) (swapped_units I)
 unfolding MovesFit

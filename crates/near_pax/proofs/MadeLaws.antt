@@ -1,7 +1,7 @@
 -- The moves of a unit, one by one.
 use Rattle.std.proofs.Common.{◌≡◌, ℕ, ◌+◌, ◌<◌, ◌≤◌, true, List, [], ◌∷◌, ◌++◌, length, get_or, map, drop, refl, sym, ap, subst, ◌∙◌, arith}
 use Rattle.std.specs.List.{flat_map, list_all}
-use Rattle.std.proofs.lemmas.List.{drop_more, drop_all, drop_at, get_or-map, length-map, length-append, get_or_append_left, map-append}
+use Rattle.std.proofs.lemmas.List.{drop_more, drop_all, drop_at, get_or-map, length-map, length-append, get_or_append_left}
 use Rattle.std.proofs.lemmas.Simd.{map-map}
 use Rattle.desk_units.specs.declared.numbers.Leg.{Leg}
 use Rattle.desk_units.specs.declared.numbers.Cabin.{Cabin}
@@ -13,15 +13,11 @@ use Rattle.desk_model.specs.Rebook.{count_on}
 use Rattle.near_moves.specs.Units.{rebooked}
 use Rattle.near_moves.specs.Near.{unit_steps, unit_moves, step_in_time, move_of}
 use Rattle.near_moves.specs.PassengerMoves.{aims, portions, rebooking, rebookings}
-use Rattle.near_moves.proofs.ElementLaws.{filter-all, flat_map-agree, all-from_has, map-has, flat_map-has}
+use Rattle.near_moves.proofs.ListLaws.{map_of_flat_map, filter_all, flat_map_agree, All_from_contains, map_contains, flat_map_contains}
 use Rattle.near_pax.specs.declared.unit.Made.{Made}
 use Rattle.near_pax.specs.Left.{moves_to, other_aims, left_of_made, IsMade}
 
 -- ---- all moves of a unit
-
-map-flat_map : {X Y Z : Type 0} (f : Y → Z) (g : X → List Y) (xs : List X) → map f (flat_map g xs) ≡ flat_map (λ x. map f (g x)) xs
-map-flat_map f g [] = refl
-map-flat_map {X} {Y} {Z} f g (x ∷ xs) = map-append f (g x) (flat_map g xs) ∙ ap (λ (zs : List Z). map f (g x) ++ zs) (map-flat_map f g xs)
 
 pub unit-moves : (I : Situation) (P : PlanRows) (r : ℕ) (path : List (Leg × Cabin)) → unit_moves I P (rebooked r path) ≡ flat_map (moves_to r path (portions (count_on path (groups_at P r)))) (other_aims I P r path)
 unfolding unit_moves unit_steps rebookings
@@ -29,14 +25,14 @@ unit-moves I P r path =
     let counts = portions (count_on path (groups_at P r)) in
     let others = other_aims I P r path in
     let steps : List (Leg × Cabin) → List (List Step) = λ aim. map (rebooking r path aim) counts in
-    ap (map move_of) (filter-all (list_all step_in_time) (flat_map steps others)
-    (all-from_has (λ s. list_all step_in_time s ≡ true) (flat_map steps others) (λ s has.
-    let at = flat_map-has steps others s has in
-    let own = map-has (rebooking r path at.0) counts s at.2 in
-    subst (λ (z : List Step). list_all step_in_time z ≡ true) own.2 refl)))
-    ∙ map-flat_map move_of steps others
-    ∙ flat_map-agree (λ aim. map move_of (steps aim)) (moves_to r path counts) others
-    (all-from_has (λ aim. map move_of (steps aim) ≡ moves_to r path counts aim) others (λ aim has. map-map move_of (rebooking r path aim) counts))
+    ap (map move_of) (filter_all (list_all step_in_time) (flat_map steps others)
+    (All_from_contains (λ s. list_all step_in_time s ≡ true) (flat_map steps others) (λ s has.
+    let at = flat_map_contains steps others s has in
+    let own = map_contains (rebooking r path at.from) counts s at.is in
+    subst (λ (z : List Step). list_all step_in_time z ≡ true) own.is refl)))
+    ∙ map_of_flat_map move_of steps others
+    ∙ flat_map_agree (λ aim. map move_of (steps aim)) (moves_to r path counts) others
+    (All_from_contains (λ aim. map move_of (steps aim) ≡ moves_to r path counts aim) others (λ aim has. map-map move_of (rebooking r path aim) counts))
 
 pub made-first : (I : Situation) (P : PlanRows) (r : ℕ) (path : List (Leg × Cabin)) (made : Made) → IsMade I P r path made → made.aim ≡ 0 → made.count ≡ 0 → left_of_made r path made ≡ unit_moves I P (rebooked r path)
 unfolding left_of_made

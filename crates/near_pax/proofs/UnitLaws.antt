@@ -13,7 +13,7 @@ use Rattle.desk_rules.specs.Numbers.{numbers}
 use Rattle.near_moves.specs.Units.{Unit_, rebooked, owner}
 use Rattle.near_moves.specs.Near.{of_shard}
 use Rattle.near_moves.specs.PassengerMoves.{rebooked_units}
-use Rattle.near_moves.proofs.ElementLaws.{filter-map, filter-flat_map, filter-all, filter-none, flat_map-agree, all-from_has}
+use Rattle.near_moves.proofs.ListLaws.{filter_of_map, filter_of_flat_map, filter_all, filter_none, flat_map_agree, All_from_contains}
 use Rattle.near_pax.specs.declared.units.PaxUnits.{PaxUnits}
 use Rattle.near_pax.specs.Units.{no_group, unit_at, units_of, left_units, has_path}
 
@@ -59,11 +59,11 @@ behind-next I P s n r plan =
 -- the units of a shard are those of its reservations
 shard-units : (P : PlanRows) (s n r : ℕ) (groups : List Group) (b : Bool) → eqb (r % n) s ≡ b → filter (λ u. eqb (owner u % n) s) (map (λ (group : Group). rebooked r group.path) groups) ≡ cond b (map (λ (group : Group). rebooked r group.path) groups) []
 shard-units P s n r groups true is =
-    filter-map (λ u. eqb (owner u % n) s) (λ (group : Group). rebooked r group.path) groups
-    ∙ ap (map (λ (group : Group). rebooked r group.path)) (filter-all (λ (group : Group). eqb (r % n) s) groups (λ k d lt. is))
+    filter_of_map (λ u. eqb (owner u % n) s) (λ (group : Group). rebooked r group.path) groups
+    ∙ ap (map (λ (group : Group). rebooked r group.path)) (filter_all (λ (group : Group). eqb (r % n) s) groups (λ k d lt. is))
 shard-units P s n r groups false is =
-    filter-map (λ u. eqb (owner u % n) s) (λ (group : Group). rebooked r group.path) groups
-    ∙ ap (map (λ (group : Group). rebooked r group.path)) (filter-none (λ (group : Group). eqb (r % n) s) groups (λ k d lt. is))
+    filter_of_map (λ u. eqb (owner u % n) s) (λ (group : Group). rebooked r group.path) groups
+    ∙ ap (map (λ (group : Group). rebooked r group.path)) (filter_none (λ (group : Group). eqb (r % n) s) groups (λ k d lt. is))
 
 pub all-units : (I : Situation) (P : PlanRows) (u : PaxUnits) → IsPlanFor I P → u.res ≡ 0 → u.place ≡ 0 → left_units I P u ≡ of_shard u.shard u.shards (rebooked_units I P)
 unfolding left_units rebooked_units
@@ -73,10 +73,10 @@ all-units I P u plan first start =
     let ns = numbers (reservations_of I) in
     rw (first, start)
     (sym (behind-next I P s n 0 plan)
-    ∙ flat_map-agree (units_of P s n) (λ r. filter (λ v. eqb (owner v % n) s) (map (λ (group : Group). rebooked r group.path) (groups_at P r))) ns
-    (all-from_has (λ r. units_of P s n r ≡ filter (λ v. eqb (owner v % n) s) (map (λ (group : Group). rebooked r group.path) (groups_at P r))) ns
+    ∙ flat_map_agree (units_of P s n) (λ r. filter (λ v. eqb (owner v % n) s) (map (λ (group : Group). rebooked r group.path) (groups_at P r))) ns
+    (All_from_contains (λ r. units_of P s n r ≡ filter (λ v. eqb (owner v % n) s) (map (λ (group : Group). rebooked r group.path) (groups_at P r))) ns
     (λ r has. sym (shard-units P s n r (groups_at P r) (eqb (r % n) s) refl)))
-    ∙ sym (filter-flat_map (λ v. eqb (owner v % n) s) (λ r. map (λ (group : Group). rebooked r group.path) (groups_at P r)) ns))
+    ∙ sym (filter_of_flat_map (λ v. eqb (owner v % n) s) (λ r. map (λ (group : Group). rebooked r group.path) (groups_at P r)) ns))
 
 -- ---- one after another
 
