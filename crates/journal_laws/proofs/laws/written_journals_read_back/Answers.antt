@@ -1,4 +1,4 @@
-use Rattle.std.proofs.Common.{ap}
+use Rattle.std.proofs.Common.{None, ap}
 use Rattle.desk_model.specs.States.{opening}
 use Rattle.desk_tasks.specs.Play.{history, history_outcome}
 use Rattle.journal_laws.proofs.Whole.{rows_are_read, rows_are_joined}
@@ -16,4 +16,8 @@ returns-clause-run c = λ I h legal. run_back (opening I) h legal
 
 pub returns-clause-replayed : goal.returns-clause-replayed
 unfolding history
-returns-clause-replayed c = λ I h legal. ap (history_outcome I) (run_back (opening I) h legal)
+returns-clause-replayed c = λ I h legal. ap (history_outcome I None) (run_back (opening I) h legal)
+
+pub returns-clause-searched : goal.returns-clause-searched
+unfolding history, history_outcome
+returns-clause-searched c = λ I search h legal. ap (λ g. (history_outcome I None g).texts.files) (run_back (opening I) h legal)
