@@ -15,7 +15,7 @@ ghost use Rattle.desk_model.specs.States.{State, opening, answer};
 ghost use Rattle.desk_model.specs.Histories.{IsLegal, is_accepted, state, proposal_limit, accepted_since_batch, entry_of};
 ghost use Rattle.near_moves.specs.Near.{near};
 ghost use Rattle.near_moves.specs.Descent.{is_better, better, IsQuiet, is_spent, next_proposal, descent, recovery};
-ghost use Rattle.near_moves.specs.Descents.{Descends, AllAlong, IsRecoveryEntry, batches_of};
+ghost use Rattle.near_moves.specs.Descents.{Descends, AllAlong, IsRecoveryEntry, HasEnded, BatchesWait, batches_of};
 
 /// A proposal is accepted exactly where there is a plan and the move is better. The first better move
 /// near a plan is the first of all that are.
@@ -48,18 +48,17 @@ pub fn a_descent_ends_quiet_or_spent()
 /// from caller 0, and those that are no batches are steps of descents. It is at most 900,000 entries
 /// longer than there are batches.
 ///
-/// The recovery of some first batches stands at its beginning. Behind each batch it goes on by the descent from there: at the
-/// end of that descent, before the next batch arrives, at most `most` were accepted since the batch and there is nothing more to
-/// propose. So where there is a plan then and the history is not spent, no move near that plan is better.
+/// The recovery of some first batches stands at its beginning. Behind each batch it goes on by the descent from there, and
+/// this ends before the next batch arrives, and behind the last: at most `most` were accepted since the batch, and there is
+/// nothing more to propose. So where there is a plan then and the history is not spent, no move near that plan is better.
 pub fn a_recovery_takes_the_batches_and_descends_behind_each()
     ensures batches { (most : ℕ) (S : State) (batches : Items Batch) → batches_of (recovery most S batches) ≡ batches }
     ensures entries { (most : ℕ) (S : State) (batches : Items Batch) → AllAlong IsRecoveryEntry S (recovery most S batches) }
     ensures length { (most : ℕ) (S : State) (batches : Items Batch) → length (recovery most S batches) ≤ proposal_limit + length batches }
     ensures begins { (most : ℕ) (S : State) (before behind : Items Batch) → take (length (recovery most S before)) (recovery most S (before ++ behind)) ≡ recovery most S before }
     ensures descends { (most : ℕ) (S : State) (before : Items Batch) (B : Batch) → recovery most S (before ++ B ∷ []) ≡ descent most S (recovery most S before ++ entry_of (state S (recovery most S before)) 0 (event.Batch B) ∷ []) }
-    ensures few { (most : ℕ) (S : State) (before : Items Batch) → accepted_since_batch (recovery most S before) ≤ most }
-    ensures ends { (most : ℕ) (S : State) (before : Items Batch) (B : Batch) → next_proposal most S (recovery most S (before ++ B ∷ [])) ≡ None }
-    ensures quiet { (most : ℕ) (S : State) (before : Items Batch) (B : Batch) → (state S (recovery most S (before ++ B ∷ []))).broken ≡ None → is_spent most (recovery most S (before ++ B ∷ [])) ≡ false → IsQuiet (state S (recovery most S (before ++ B ∷ []))) }
+    ensures ended { (most : ℕ) (S : State) (before : Items Batch) (B : Batch) → HasEnded most S (recovery most S (before ++ B ∷ [])) }
+    ensures waits { (most : ℕ) (S : State) (batches : Items Batch) → BatchesWait most S (recovery most S batches) }
 {}
 
 /// Each move near a plan can be asked of the day. So what a descent adds to a legal history leaves it legal, and

@@ -1,5 +1,5 @@
 use Rattle.std.proofs.Common.{[], arith}
-use Rattle.near_moves.proofs.RecoveryLaws.{recovery-batches, recovery-along, recovery-length, recovery-begins, recovery-descends, recovery-few, recovery-ends, recovery-quiet}
+use Rattle.near_moves.proofs.RecoveryLaws.{recovery-batches, recovery-along, recovery-length, recovery-begins, recovery-descends, recovery-ended, recovery-all_wait}
 use Rattle.near_moves.proofs.descents.a_recovery_takes_the_batches_and_descends_behind_each.Goals as goal
 
 pub returns : goal.returns
@@ -9,7 +9,6 @@ returns c = record {
   length = λ most S batches. recovery-length most 900000 S [] batches (omega arith) (omega arith);
   begins = recovery-begins;
   descends = recovery-descends;
-  few = λ most S before. recovery-few most S [] before (omega arith);
-  ends = recovery-ends;
-  quiet = recovery-quiet;
+  ended = recovery-ended;
+  waits = recovery-all_wait;
 }
