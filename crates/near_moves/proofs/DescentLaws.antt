@@ -5,6 +5,7 @@ use Rattle.std.specs.List.{find, AllByRecursion}
 use Rattle.std.proofs.lemmas.Bool.{cases_Bool, leb-true, leb-false, le-leb, lt-ltb, le-ltb, or_parts, or_left, true≢false}
 use Rattle.std.proofs.lemmas.List.{append-nil, reverse-append}
 use Rattle.std.proofs.lemmas.List.Sums.{sum_by-cons, take_while-cons}
+use Rattle.day_orders.specs.declared.orders.Batch.{Batch}
 use Rattle.plan_moves.specs.declared.moves.Move.{Move}
 use Rattle.desk_data.specs.declared.broken.Broken.{Broken}
 use Rattle.desk_rules.specs.Least.{least}
@@ -141,6 +142,10 @@ unspent_parts : (most : ℕ) (h : List Entry) → is_spent most h ≡ false → 
 unfolding is_spent
 unspent_parts most h unspent = or_parts (leb most (accepted_since_batch h)) (leb proposal_limit (length h)) unspent
 
+-- of what may be accepted since a batch something is left
+unspent-few : (most : ℕ) (h : List Entry) → is_spent most h ≡ false → accepted_since_batch h < most
+unspent-few most h unspent = leb-false most (accepted_since_batch h) (unspent_parts most h unspent).0
+
 -- a history that is not spent takes a proposal
 pub unspent-room : (most : ℕ) (h : List Entry) → is_spent most h ≡ false → length h < proposal_limit
 unspent-room most h unspent = leb-false proposal_limit (length h) (unspent_parts most h unspent).1
@@ -184,6 +189,10 @@ step-since most S h m next =
     ∙ sum_by-cons (λ (e : Entry). cond (is_accepted e.answer) 1 0) entry (since_batch h)
     ∙ rw (step-accepted most S h m next) (omega arith)
 
+-- behind a batch none was accepted yet
+pub batch-since : (S : State) (h : List Entry) (B : Batch) → accepted_since_batch (h ++ entry_of (state S h) 0 (event.Batch B) ∷ []) ≡ 0
+batch-since S h B = ap (count_by (λ (e : Entry). is_accepted e.answer)) (since_is h (entry_of (state S h) 0 (event.Batch B)))
+
 -- ---- several steps
 
 -- nothing is added once nothing is proposed
@@ -222,6 +231,19 @@ unfolding descent_of
 descent-length zero most b S h le limit = le
 descent-length (suc n) most b S h le limit =
     descent-length n most b S (with_proposal S h (next_proposal most S h)) (length_step most b S h (next_proposal most S h) refl le limit) limit
+
+few_step : (most b : ℕ) (S : State) (h : List Entry) (o : Option Move) → next_proposal most S h ≡ o → accepted_since_batch h ≤ b → most ≤ b → accepted_since_batch (with_proposal S h o) ≤ b
+few_step most b S h None is few limit = few
+few_step most b S h (Some m) is few limit =
+    let next = next-some most S h m is in
+    omega (arith, unspent-few most h next.unspent, step-since most S h m next, limit)
+
+-- no more are accepted since a batch than there were, or than may be
+pub descent-few : (n most b : ℕ) (S : State) (h : List Entry) → accepted_since_batch h ≤ b → most ≤ b → accepted_since_batch (descent_of n most S h) ≤ b
+unfolding descent_of
+descent-few zero most b S h few limit = few
+descent-few (suc n) most b S h few limit =
+    descent-few n most b S (with_proposal S h (next_proposal most S h)) (few_step most b S h (next_proposal most S h) refl few limit) limit
 
 planned_step : (most : ℕ) (S : State) (h : List Entry) (o : Option Move) → next_proposal most S h ≡ o → (state S h).broken ≡ None → (state S (with_proposal S h o)).broken ≡ None
 planned_step most S h None is planned = planned

@@ -1,5 +1,5 @@
 -- What descents and recoveries add to a history.
-use Rattle.std.specs.Prelude.{◌≡◌, true, false, Some, None, List, [], ◌∷◌, ◌++◌}
+use Rattle.std.specs.Prelude.{◌≡◌, ℕ, ◌<◌, ◌≤◌, true, false, Some, None, List, [], ◌∷◌, ◌++◌, take, slice_get}
 use Rattle.std.specs.List.{find, flat_map}
 use Rattle.plan_moves.specs.declared.moves.Move.{Move}
 use Rattle.day_orders.specs.declared.orders.Batch.{Batch}
@@ -7,9 +7,9 @@ use Rattle.desk_model.specs.declared.answer.Event.{Event}
 use Rattle.desk_model.specs.declared.answer.Event.TheVariants as event
 use Rattle.desk_model.specs.declared.answer.Entry.{Entry}
 use Rattle.desk_model.specs.States.{State, after}
-use Rattle.desk_model.specs.Histories.{state, is_batch, is_accepted, entry_of}
+use Rattle.desk_model.specs.Histories.{state, is_batch, is_accepted, accepted_since_batch, entry_of}
 use Rattle.near_moves.specs.Near.{near}
-use Rattle.near_moves.specs.Descent.{is_better}
+use Rattle.near_moves.specs.Descent.{is_better, IsQuiet, is_spent, next_proposal}
 
 -- the entry of a step at a state that has a plan: caller 0 proposes the first better move near the plan, and it is accepted
 pub record IsDescentStep (S : State) (entry : Entry) : Type 0 where
@@ -42,3 +42,14 @@ batch_in (event.Move m) = []
 
 abbrev pub batches_of : List Entry → List Batch
 batches_of h = flat_map (λ entry. batch_in entry.event) h
+
+-- a descent has ended behind a history: nothing more is proposed, at most so many were accepted since the last batch, and a plan
+-- whose history is not spent is quiet
+pub record HasEnded (most : ℕ) (S : State) (h : List Entry) : Type 0 where
+  pub none : next_proposal most S h ≡ None
+  pub few : accepted_since_batch h ≤ most
+  pub quiet : (state S h).broken ≡ None → is_spent most h ≡ false → IsQuiet (state S h)
+
+-- each batch of a history but one that is its first entry arrives where a descent has ended
+abbrev pub BatchesWait : ℕ → State → List Entry → Type 0
+BatchesWait most S h = (i : ℕ) (entry : Entry) → 0 < i → slice_get h i ≡ Some entry → is_batch entry.event ≡ true → HasEnded most S (take i h)

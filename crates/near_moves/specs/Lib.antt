@@ -4,6 +4,7 @@ pub mod LegMoves
 pub mod Routes
 pub mod PassengerMoves
 pub mod Near
+pub mod Shards
 pub mod Words
 pub mod Descent
 pub mod Descents

@@ -1,6 +1,6 @@
 //! What holds of descents and recoveries.
 
-ghost use Rattle.std.specs.Prelude.{◌≡◌, ◌↔◌, ℕ, ◌+◌, ◌≤◌, ◌&&◌, Bool, true, false, None, Some, is_none, List as Items, length, slice_get, All};
+ghost use Rattle.std.specs.Prelude.{◌≡◌, ◌↔◌, ℕ, ◌+◌, ◌≤◌, max, ◌&&◌, Bool, true, false, None, Some, is_none, List as Items, [], ◌∷◌, ◌++◌, length, take, slice_get, All};
 ghost use Rattle.std.specs.List.{find};
 ghost use Rattle.day_orders.specs.declared.orders.Batch.{Batch};
 ghost use Rattle.plan_moves.specs.declared.moves.Move.{Move};
@@ -12,10 +12,10 @@ ghost use Rattle.desk_data.specs.Valid.{IsOrder, IsPlanFor, IsValid};
 ghost use Rattle.desk_model.specs.declared.answer.Entry.{Entry as Recorded};
 ghost use Rattle.desk_model.specs.declared.answer.Event.TheVariants as event;
 ghost use Rattle.desk_model.specs.States.{State, opening, answer};
-ghost use Rattle.desk_model.specs.Histories.{IsLegal, is_accepted, state, proposal_limit};
+ghost use Rattle.desk_model.specs.Histories.{IsLegal, is_accepted, state, proposal_limit, accepted_since_batch, entry_of};
 ghost use Rattle.near_moves.specs.Near.{near};
 ghost use Rattle.near_moves.specs.Descent.{is_better, better, IsQuiet, is_spent, next_proposal, descent, recovery};
-ghost use Rattle.near_moves.specs.Descents.{Descends, AllAlong, IsRecoveryEntry, batches_of};
+ghost use Rattle.near_moves.specs.Descents.{Descends, AllAlong, IsRecoveryEntry, HasEnded, BatchesWait, batches_of};
 
 /// A proposal is accepted exactly where there is a plan and the move is better. The first better move
 /// near a plan is the first of all that are.
@@ -26,11 +26,14 @@ pub fn a_proposal_is_accepted_exactly_where_it_is_better()
 
 /// A descent leaves the history that it begins with, and adds steps to it: in each caller 0 proposes
 /// the first better move near the plan as it stands, and it is accepted. Where there is no plan, it adds
-/// nothing. It never makes a history of 900,000 entries or more longer.
+/// nothing. It never makes a history of 900,000 entries or more longer. Since the last batch no more are accepted behind it
+/// than `most`, or than there were: behind a batch, where none was accepted yet, at most `most`.
 pub fn a_descent_adds_the_first_better_moves()
     ensures adds { (most : ℕ) (S : State) (h : Items Recorded) → Descends S h (descent most S h) }
     ensures unplanned { (most : ℕ) (S : State) (h : Items Recorded) (item : Broken) → (state S h).broken ≡ Some item → descent most S h ≡ h }
     ensures length { (most b : ℕ) (S : State) (h : Items Recorded) → length h ≤ b → proposal_limit ≤ b → length (descent most S h) ≤ b }
+    ensures few { (most : ℕ) (S : State) (h : Items Recorded) → accepted_since_batch (descent most S h) ≤ max most (accepted_since_batch h) }
+    ensures batch { (S : State) (h : Items Recorded) (B : Batch) → accepted_since_batch (h ++ entry_of (state S h) 0 (event.Batch B) ∷ []) ≡ 0 }
 {}
 
 /// Behind a descent there is nothing more to propose. So from a plan it ends at a plan, and where the
@@ -44,10 +47,18 @@ pub fn a_descent_ends_quiet_or_spent()
 /// The batches of a recovery are those that it is told, in their order, each once. All its entries are
 /// from caller 0, and those that are no batches are steps of descents. It is at most 900,000 entries
 /// longer than there are batches.
+///
+/// The recovery of some first batches stands at its beginning. Behind each batch it goes on by the descent from there, and
+/// this ends before the next batch arrives, and behind the last: at most `most` were accepted since the batch, and there is
+/// nothing more to propose. So where there is a plan then and the history is not spent, no move near that plan is better.
 pub fn a_recovery_takes_the_batches_and_descends_behind_each()
     ensures batches { (most : ℕ) (S : State) (batches : Items Batch) → batches_of (recovery most S batches) ≡ batches }
     ensures entries { (most : ℕ) (S : State) (batches : Items Batch) → AllAlong IsRecoveryEntry S (recovery most S batches) }
     ensures length { (most : ℕ) (S : State) (batches : Items Batch) → length (recovery most S batches) ≤ proposal_limit + length batches }
+    ensures begins { (most : ℕ) (S : State) (before behind : Items Batch) → take (length (recovery most S before)) (recovery most S (before ++ behind)) ≡ recovery most S before }
+    ensures descends { (most : ℕ) (S : State) (before : Items Batch) (B : Batch) → recovery most S (before ++ B ∷ []) ≡ descent most S (recovery most S before ++ entry_of (state S (recovery most S before)) 0 (event.Batch B) ∷ []) }
+    ensures ended { (most : ℕ) (S : State) (before : Items Batch) (B : Batch) → HasEnded most S (recovery most S (before ++ B ∷ [])) }
+    ensures waits { (most : ℕ) (S : State) (batches : Items Batch) → BatchesWait most S (recovery most S batches) }
 {}
 
 /// Each move near a plan can be asked of the day. So what a descent adds to a legal history leaves it legal, and

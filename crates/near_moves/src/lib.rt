@@ -31,4 +31,4 @@ pub use legs::{
 pub use passenger_laws::{
     rebookings_near_a_plan_fit, routes_are_the_paths_that_passengers_may_take,
 };
-pub use shards::shards_part_the_units;
+pub use shards::{shards_hold_the_moves, shards_part_the_units};
