@@ -10,3 +10,4 @@ pub mod UnitLaws
 pub mod ShardLaws
 pub mod RouteLaws
 pub mod RebookingLaws
+pub mod DropLaws

@@ -9,3 +9,4 @@ pub mod Descent
 pub mod Descents
 pub mod RouteWords
 pub mod RouteParts
+pub mod DropWords
