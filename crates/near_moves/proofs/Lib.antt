@@ -11,3 +11,4 @@ pub mod ShardLaws
 pub mod RouteLaws
 pub mod RebookingLaws
 pub mod DropLaws
+pub mod FamilyLaws

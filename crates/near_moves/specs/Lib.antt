@@ -10,3 +10,4 @@ pub mod Descents
 pub mod RouteWords
 pub mod RouteParts
 pub mod DropWords
+pub mod FamilyWords

@@ -15,6 +15,7 @@
 
 mod descents;
 mod drops;
+mod families;
 mod legs;
 mod passenger_laws;
 mod shards;
@@ -25,6 +26,7 @@ pub use descents::{
     a_recovery_takes_the_batches_and_descends_behind_each, descents_and_recoveries_are_legal,
 };
 pub use drops::runs_are_dropped_where_they_come_round;
+pub use families::units_are_of_six_families;
 pub use legs::{
     legs_from_a_leg_are_in_their_order, moments_of_an_exchange_are_departures_in_order,
     moves_of_legs_fit, runs_are_handed_within_the_family, runs_are_of_movable_legs,
