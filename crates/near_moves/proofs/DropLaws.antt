@@ -13,7 +13,7 @@ use Rattle.desk_rules.specs.Words.{Precedes}
 use Rattle.desk_model.proofs.RotationOrder.{precedes-trans, precedes-itself}
 use Rattle.near_moves.specs.Places.{legs_from, run, is_run}
 use Rattle.near_moves.specs.LegMoves.{run_end, comes_round, run_lengths, dropping, droppings}
-use Rattle.near_moves.specs.Words.{IsFrom, IsRun}
+use Rattle.near_moves.specs.Words.{IsFrom}
 use Rattle.near_moves.specs.DropWords.{IsLastLeg, DropsRun, IsDropping}
 use Rattle.near_moves.proofs.ListLaws.{contains_filter, filter_contains, contains_map, map_contains}
 use Rattle.near_moves.proofs.FromLaws.{or_cases, or_left, or_right, from-holds, from-each, from-ordered, run-holds, run-from}
@@ -65,7 +65,7 @@ end-last I P x k some whole = λ y within behind.
     let cases : (j < k - 1) ⊎ (j ≡ k - 1) = grind (arith, some, whole, below) in
     elim cases [
       | inl less ↦ precedes-itself P y (precedes-trans P y e y
-        (subst (λ (z : ℕ). Precedes P y z) same (subst (λ (z : ℕ). Precedes P z (get_or legs (k - 1) y)) at (from-ordered I P x j (k - 1) y less lt))) behind)
+          (subst (λ (z : ℕ). Precedes P y z) same (subst (λ (z : ℕ). Precedes P z (get_or legs (k - 1) y)) at (from-ordered I P x j (k - 1) y less lt))) behind)
       | inr here ↦
           let is : e ≡ y = sym same ∙ ap (λ (i : ℕ). get_or legs i y) (sym here) ∙ at in
           precedes-itself P y (subst (λ (z : ℕ). Precedes P z y) is behind)
@@ -114,9 +114,9 @@ round-from I P x k is =
     let test : RoundTest I P x k ≡ true =
     elim is.round [
       | inl back ↦ or_left (eqb (leg_at I end).dest.0 (leg_at I x).origin.0) (eqb (length (legs_from I P x)) k)
-        (eq-eqb (leg_at I end).dest.0 (leg_at I x).origin.0 (ap (λ (y : ℕ). (leg_at I y).dest.0) same ∙ back))
+          (eq-eqb (leg_at I end).dest.0 (leg_at I x).origin.0 (ap (λ (y : ℕ). (leg_at I y).dest.0) same ∙ back))
       | inr last ↦ or_right (eqb (leg_at I end).dest.0 (leg_at I x).origin.0) (eqb (length (legs_from I P x)) k)
-        (eq-eqb (length (legs_from I P x)) k (last-end I P x k is.some is.movable.long (subst (IsLastLeg I P) (sym same ∙ end-at I P x k is.some) last)))
+          (eq-eqb (length (legs_from I P x)) k (last-end I P x k is.some is.movable.long (subst (IsLastLeg I P) (sym same ∙ end-at I P x k is.some) last)))
     ] in
     and_from (is_run I P x k) (RoundTest I P x k) (run-from I P x k is.movable) test
 

@@ -1,7 +1,7 @@
 -- The units near a plan are those of six families.
-use Rattle.std.proofs.Common.{◌≡◌, ℕ, inl, inr, Bool, true, false, ◌&&◌, not, List, ◌++◌, map, refl, sym, ap, subst, ◌∙◌}
+use Rattle.std.proofs.Common.{◌≡◌, ℕ, inl, inr, false, ◌&&◌, not, ◌++◌, map, refl, sym, ap, subst}
 use Rattle.std.specs.Prelude.{filter}
-use Rattle.std.specs.List.{Contains, flat_map}
+use Rattle.std.specs.List.{Contains}
 use Rattle.std.proofs.lemmas.Bool.{and_parts, and_from, not-true}
 use Rattle.std.proofs.lemmas.List.Elements.{Contains-append_left, Contains-append_right, Contains-append_cases}
 use Rattle.desk_data.specs.declared.row.Row.{Row}
@@ -12,7 +12,7 @@ use Rattle.desk_data.specs.PlanRows.{PlanRows, row_at, groups_at}
 use Rattle.desk_rules.specs.Numbers.{numbers}
 use Rattle.desk_rules.specs.Passengers.{is_flown}
 use Rattle.near_moves.specs.Places.{is_movable_flown, is_restorable, family_of}
-use Rattle.near_moves.specs.Units.{Unit_, retimed, swapped, dropped, restored, handed, rebooked}
+use Rattle.near_moves.specs.Units.{Unit_, retimed, dropped, restored, rebooked}
 use Rattle.near_moves.specs.LegMoves.{retimed_units, swapped_units, dropped_units, restored_units, handed_units}
 use Rattle.near_moves.specs.PassengerMoves.{rebooked_units}
 use Rattle.near_moves.specs.Near.{leg_units, units}

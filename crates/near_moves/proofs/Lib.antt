@@ -12,3 +12,4 @@ pub mod RouteLaws
 pub mod RebookingLaws
 pub mod DropLaws
 pub mod FamilyLaws
+pub mod AimLaws

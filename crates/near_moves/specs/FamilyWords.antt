@@ -1,5 +1,5 @@
 -- The six families of units in words.
-use Rattle.std.specs.Prelude.{◌≡◌, ℕ, ◌<◌, ◌≤◌, false, List, Contains}
+use Rattle.std.specs.Prelude.{◌≡◌, ℕ, ◌^◌, ◌<◌, ◌⊎◌, false, List, [], Contains}
 use Rattle.desk_units.specs.declared.numbers.Leg.{Leg}
 use Rattle.desk_units.specs.declared.numbers.Cabin.{Cabin}
 use Rattle.desk_data.specs.declared.row.Row.TheVariants.{Cancelled}
@@ -7,8 +7,9 @@ use Rattle.desk_data.specs.declared.row.Group.{Group}
 use Rattle.desk_data.specs.Situation.{Situation, legs_of, planes_of, reservations_of, leg_at, plane_at, fixed, ordered_off}
 use Rattle.desk_data.specs.PlanRows.{PlanRows, row_at, groups_at}
 use Rattle.desk_rules.specs.Words.{Flies}
-use Rattle.near_moves.specs.Units.{Unit_, retimed, swapped, dropped, restored, handed, rebooked}
+use Rattle.near_moves.specs.Units.{Unit_, retimed, dropped, restored, rebooked}
 use Rattle.near_moves.specs.Words.{ExchangesTwo, HandsRun}
+use Rattle.near_moves.specs.RouteWords.{IsRoute}
 
 -- leg x is movable, and an aircraft flies it
 pub record IsMovableLeg (I : Situation) (P : PlanRows) (x : ℕ) : Type 0 where
@@ -48,3 +49,17 @@ pub data IsUnit (I : Situation) (P : PlanRows) (u : Unit_) : Type 0 where
   hands : HandsRun I P u → IsUnit I P u
   -- passengers leave the path that they are on
   rebooks : (r : ℕ) (path : List (Leg × Cabin)) → HasPassengers I P r path → u ≡ rebooked r path → IsUnit I P u
+
+-- k is a power of two below n
+pub record IsPowerBelow (n k : ℕ) : Type 0 where
+  pub exponent : ℕ
+  pub power : k ≡ 2 ^ exponent
+  pub below : k < n
+
+-- of n passengers k may go: all of them, or a power of two below n
+abbrev pub IsPortion : ℕ → ℕ → Type 0
+IsPortion n k = (k ≡ n) ⊎ IsPowerBelow n k
+
+-- passengers of reservation r may go to each route, and off all paths
+abbrev pub IsAim : Situation → PlanRows → ℕ → List (Leg × Cabin) → Type 0
+IsAim I P r path = IsRoute I P r path ⊎ (path ≡ [])

@@ -26,7 +26,10 @@ pub use descents::{
     a_recovery_takes_the_batches_and_descends_behind_each, descents_and_recoveries_are_legal,
 };
 pub use drops::runs_are_dropped_where_they_come_round;
-pub use families::units_are_of_six_families;
+pub use families::{
+    all_or_a_power_of_two_may_go, passengers_go_to_routes_or_off_all_paths,
+    units_are_of_six_families,
+};
 pub use legs::{
     legs_from_a_leg_are_in_their_order, moments_of_an_exchange_are_departures_in_order,
     moves_of_legs_fit, runs_are_handed_within_the_family, runs_are_of_movable_legs,
