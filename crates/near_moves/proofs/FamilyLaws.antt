@@ -56,7 +56,7 @@ dropped-each I P x is = contains_map dropped (filter (is_movable_flown I P) (num
 
 -- ---- legs that may be flown again
 
-row_cancelled : (row : Row) → is_flown row ≡ false → row ≡ Cancelled
+pub row_cancelled : (row : Row) → is_flown row ≡ false → row ≡ Cancelled
 row_cancelled (Flown plane dep) h = absurd cc
 row_cancelled Cancelled h = refl
 

@@ -13,3 +13,4 @@ pub mod RebookingLaws
 pub mod DropLaws
 pub mod FamilyLaws
 pub mod AimLaws
+pub mod StepLaws

@@ -11,3 +11,4 @@ pub mod RouteWords
 pub mod RouteParts
 pub mod DropWords
 pub mod FamilyWords
+pub mod StepWords

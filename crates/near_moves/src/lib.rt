@@ -27,8 +27,8 @@ pub use descents::{
 };
 pub use drops::runs_are_dropped_where_they_come_round;
 pub use families::{
-    all_or_a_power_of_two_may_go, passengers_go_to_routes_or_off_all_paths,
-    units_are_of_six_families,
+    all_or_a_power_of_two_may_go, legs_are_retimed_and_restored_and_passengers_rebooked,
+    passengers_go_to_routes_or_off_all_paths, units_are_of_six_families,
 };
 pub use legs::{
     legs_from_a_leg_are_in_their_order, moments_of_an_exchange_are_departures_in_order,
