@@ -9,3 +9,7 @@ pub mod UnitLaws
 pub mod ShardLaws
 pub mod RouteLaws
 pub mod RebookingLaws
+pub mod DropLaws
+pub mod FamilyLaws
+pub mod AimLaws
+pub mod StepLaws

@@ -10,3 +10,6 @@ pub mod Descent
 pub mod Descents
 pub mod RouteWords
 pub mod RouteParts
+pub mod DropWords
+pub mod FamilyWords
+pub mod StepWords

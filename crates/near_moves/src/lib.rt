@@ -14,6 +14,8 @@
 #![tactic(auto)]
 
 mod descents;
+mod drops;
+mod families;
 mod legs;
 mod passenger_laws;
 mod shards;
@@ -22,6 +24,11 @@ pub use descents::{
     a_descent_adds_the_first_better_moves, a_descent_ends_quiet_or_spent,
     a_proposal_is_accepted_exactly_where_it_is_better,
     a_recovery_takes_the_batches_and_descends_behind_each, descents_and_recoveries_are_legal,
+};
+pub use drops::runs_are_dropped_where_they_come_round;
+pub use families::{
+    all_or_a_power_of_two_may_go, legs_are_retimed_and_restored_and_passengers_rebooked,
+    passengers_go_to_routes_or_off_all_paths, units_are_of_six_families,
 };
 pub use legs::{
     legs_from_a_leg_are_in_their_order, moments_of_an_exchange_are_departures_in_order,
