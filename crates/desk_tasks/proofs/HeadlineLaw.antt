@@ -19,7 +19,7 @@ use Rattle.desk_runs.specs.Outcome.{Texts}
 use Rattle.desk_runs.specs.Runs.{World, IsWritten}
 use Rattle.near_moves.specs.Descent.{recovery}
 use Rattle.near_moves.proofs.LegalLaws.{recovery-legal}
-use Rattle.near_moves.proofs.RecoveryLaws.{recovery-along, recovery-batches}
+use Rattle.near_moves.proofs.RecoveryLaws.{recovery-all_wait, recovery-along, recovery-batches}
 use Rattle.desk_tasks.specs.declared.ended.SearchEnd.{SearchEnd}
 use Rattle.desk_tasks.specs.Play.{Story, history, planned_rotations, planned_itineraries, report_text, history_outcome, played}
 use Rattle.desk_tasks.specs.Recover.{Recovery, recovered_history, search_end, told_alone, recovered, tried}
@@ -126,6 +126,7 @@ recovers r can =
       exact = refl;
       batches = recovery-batches r.moves S [] r.batches;
       entries = recovery-along r.moves S [] r.batches tt;
+      waits = recovery-all_wait r.moves S r.batches;
       legal = legal;
       promises = promises r.day h legal;
       ended = search-ended r.day r.moves h (recovery-rests r.moves S [] r.batches can.some);

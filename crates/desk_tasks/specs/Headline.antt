@@ -8,7 +8,7 @@ use Rattle.desk_model.specs.States.{opening}
 use Rattle.desk_model.specs.Histories.{IsLegal, run, state}
 use Rattle.desk_model.specs.Promises.{KeepsPromises}
 use Rattle.near_moves.specs.Descent.{recovery}
-use Rattle.near_moves.specs.Descents.{AllAlong, IsRecoveryEntry, batches_of}
+use Rattle.near_moves.specs.Descents.{AllAlong, IsRecoveryEntry, BatchesWait, batches_of}
 use Rattle.journal_text.specs.Lines.{journal_text}
 use Rattle.sol_text.specs.Rotations.{rotations_text}
 use Rattle.sol_text.specs.Itineraries.{itineraries_text}
@@ -61,6 +61,9 @@ pub record Recovers (r : Recovery) (h : List Entry) : Type 0 where
   pub batches : batches_of h ≡ r.batches
   -- the desk asks for all entries, and what is no batch is an accepted proposal of the first better move near the plan as it stands
   pub entries : AllAlong IsRecoveryEntry (opening r.day) h
+  -- each batch but the first waits until the descent before it has ended: with no plan, with so many accepted as may be, or where
+  -- no move near the plan is better
+  pub waits : BatchesWait r.moves (opening r.day) h
   -- and it keeps what is promised of a story that is played
   pub legal : IsLegal (opening r.day) h
   pub promises : KeepsPromises r.day h

@@ -12,8 +12,7 @@ use Rattle.near_moves.specs.Near.{near, of_shard, shard, units, unit_moves, move
 use Rattle.near_moves.specs.Shards.{IsInAShard}
 use Rattle.near_moves.specs.Descent.{is_better, better, first_better}
 use Rattle.near_moves.specs.Words.{IsInOneShard}
-use Rattle.near_moves.proofs.ListLaws.{contains_head, contains_tail, contains_none, contains_filter, filter_contains, contains_flat_map, flat_map_contains, All_from_contains}
-use Rattle.near_moves.proofs.ElementLaws.{filter-none}
+use Rattle.near_moves.proofs.ListLaws.{contains_head, contains_tail, contains_none, contains_filter, filter_contains, contains_flat_map, flat_map_contains, All_from_contains, filter_none}
 use Rattle.near_moves.proofs.DescentLaws.{find-first, find-none}
 
 remainder : (k n : ℕ) → 0 < n → k % n < n
@@ -77,7 +76,7 @@ found_none p (x ∷ xs) each = rw (each x (contains_head x xs)) (found_none p xs
 
 pub none-better : (I : Situation) (P : PlanRows) (n : ℕ) → 0 < n → ((s : ℕ) → s < n → first_better I P s n ≡ None) → better I P ≡ []
 none-better I P n some none =
-    filter-none (is_better I P) (near I P) (All_from_contains (λ m. is_better I P m ≡ false) (near I P) (λ m has.
+    filter_none (is_better I P) (near I P) (All_from_contains (λ m. is_better I P m ≡ false) (near I P) (λ m has.
     let own = moves-part I P n m some has in
     not_found (is_better I P) (shard I P own.number n) m (none own.number own.below) own.there))
 
