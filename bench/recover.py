@@ -16,7 +16,7 @@ import sys
 import tempfile
 import time
 
-from near import TOP, try_program
+from near import TOP, input_of, try_program
 
 PROGRAM = [os.path.join(TOP, "crates", "desk", "out", "desk")]
 # the script `desk` asks for large pages too
@@ -72,8 +72,7 @@ def walk(folder, size):
     day = make_day(folder, SEEDS[0], size)
     with open(os.path.join(day, "journal.csv"), "w") as file:
         file.write("0,batch,0\n")
-    printed, told = try_program("count", [(day, 0, 1)], seconds=1800)
-    lines = [line for lines in printed.values() for line in lines if line.endswith(" ms in all")]
+    lines, told = try_program(input_of((day, 0, 1)), 3600)
     print("size %d, all moves near the plan: %s" % (size, lines[0] if lines else told))
 
 
