@@ -19,5 +19,5 @@ unfolding history
 returns-clause-replayed c = λ I h legal. ap (history_outcome I None) (run_back (opening I) h legal)
 
 pub returns-clause-searched : goal.returns-clause-searched
-unfolding history, history_outcome
+unfolding history history_outcome
 returns-clause-searched c = λ I search h legal. ap (λ g. (history_outcome I None g).texts.files) (run_back (opening I) h legal)
