@@ -1,15 +1,19 @@
 -- What is chosen makes the steps of the unit's moves.
-use Rattle.std.proofs.Common.{◌≡◌, ℕ, ◌+◌, ◌<◌, ◌≤◌, Bool, true, false, ◌&&◌, cond, ltb, leb, eqb, List, [], ◌∷◌, ◌++◌, length, map, take, refl, sym, ap, subst, ◌∙◌}
+use Rattle.std.proofs.Common.{◌≡◌, ℕ, ◌+◌, ◌<◌, ◌≤◌, ◌⊎◌, inl, inr, Bool, true, false, ◌&&◌, cond, ltb, leb, eqb, List, [], ◌∷◌, ◌++◌, length, get_or, map, take, refl, sym, ap, subst, ◌∙◌, arith}
 use Rattle.std.specs.Prelude.{Some, None, filter}
 use Rattle.std.specs.List.{All, list_all}
-use Rattle.std.proofs.lemmas.List.{append_assoc, map-append}
-use Rattle.std.proofs.lemmas.List.Elements.{All-cons, All-map, All-filter, filter-append, filter_agree}
+use Rattle.std.proofs.lemmas.Bool.{cases_lt}
+use Rattle.std.proofs.lemmas.Bool.Decides.{nat_tests}
+use Rattle.std.proofs.lemmas.List.{append_assoc, map-append, get_or_past}
+use Rattle.std.proofs.lemmas.List.Elements.{All-cons, All-get_or, All-map, All-filter, filter-append, filter_agree}
 use Rattle.std.proofs.lemmas.Simd.{map-map}
 use Rattle.desk_units.specs.declared.numbers.Leg.{Leg}
 use Rattle.desk_units.specs.declared.numbers.Plane.{Plane}
 use Rattle.desk_units.specs.declared.numbers.Minute.{Minute}
-use Rattle.desk_data.specs.Situation.{Situation, legs_of, planes_of, leg_at, earliest}
+use Rattle.desk_data.specs.declared.info.LegInfo.{LegInfo}
+use Rattle.desk_data.specs.Situation.{Situation, legs_of, planes_of, airports_of, leg_at, no_leg, earliest}
 use Rattle.desk_data.specs.PlanRows.{PlanRows, row_at}
+use Rattle.desk_data.specs.Valid.{IsValid, IsLeg}
 use Rattle.plan_moves.specs.declared.moves.Step.{Step}
 use Rattle.plan_moves.specs.declared.moves.Move.{Move}
 use Rattle.plan_moves.specs.declared.moves.Step.TheVariants.{Push, Tidy}
@@ -18,11 +22,11 @@ use Rattle.desk_rules.specs.Rotations.{dep}
 use Rattle.near_moves.specs.Places.{plane, minute, flier, is_restorable, run}
 use Rattle.near_moves.specs.LegMoves.{retiming, retimings, exchange, exchanges, exchange_moments, comes_round, run_lengths, dropping, droppings, cancelling, brings_back, restoring_alone, restoring_both, restorings, handing, handing_step}
 use Rattle.near_moves.specs.Near.{move_of, step_in_time}
-use Rattle.near_legs.specs.declared.lists.By.TheVariants.{Origin}
+use Rattle.near_legs.specs.declared.lists.By.TheVariants.{AirportPair}
 use Rattle.near_legs.specs.declared.choice.Choice.{Choice}
 use Rattle.near_legs.specs.declared.choice.Choice.TheVariants.{Depart, Exchange, Drop, Alone, Both}
-use Rattle.near_legs.specs.Tables.{is_number, is_listed}
-use Rattle.near_legs.specs.Choices.{IsFlownLeg, IsChoice, steps_of, run_step, leads_back, later_choice}
+use Rattle.near_legs.specs.Tables.{is_number, is_listed, pair_number, AreListed}
+use Rattle.near_legs.specs.Choices.{IsFlownLeg, IsChoice, steps_of, run_step, is_back_in_time, later_choice}
 use Rattle.near_legs.proofs.RunLaws.{all_taken}
 
 -- ---- lists
@@ -86,46 +90,79 @@ drops-sound I P leg all ks flown is = subst (All (IsChoice I P)) (sym is) (All-m
 
 -- ---- legs that are flown again
 
-regroup : (r : Bool) (a b c : Bool) → (r && ((a && b) && c)) ≡ (cond r a false && (b && c))
-regroup true true b c = refl
-regroup true false b c = refl
-regroup false a b c = refl
+-- airports are below 500, so pairs with the same number are the same
+ends_below : (I : Situation) (x : ℕ) → IsValid I → ((leg_at I x).origin.0 < 500) × ((leg_at I x).dest.0 < 500)
+unfolding no_leg
+ends_below I x valid =
+    elim (cases_lt x (legs_of I)) [
+      | inl within ↦
+          let leg = All-get_or (IsLeg (airports_of I) (planes_of I) (legs_of I)) I.parts.legs x no_leg within valid.parts.legs in
+          let few = valid.parts.few.airports in
+          let origin = leg.origin in
+          let dest = leg.dest in
+          (omega (arith, few, origin), omega (arith, few, dest))
+      | inr past ↦ rw (get_or_past I.parts.legs x no_leg past) (omega arith, omega arith)
+    ]
+
+pair_same : (from to other_from other_to : ℕ) → to < 500 → other_to < 500 → (eqb from other_from && eqb to other_to) ≡ eqb (pair_number from to) (pair_number other_from other_to)
+pair_same from to other_from other_to below other_below = grind (arith, nat_tests)
+
+regroup : (r : Bool) (same in_time : Bool) → (r && (same && in_time)) ≡ (cond r same false && in_time)
+regroup true same in_time = refl
+regroup false same in_time = refl
 
 number_test : (r : Bool) (k n : ℕ) → is_number k (cond r (Some n) None) ≡ cond r (eqb n k) false
 number_test true k n = refl
 number_test false k n = refl
 
-back_test : (I : Situation) (P : PlanRows) (x y : ℕ) → brings_back I P x y ≡ (is_listed I P Origin (leg_at I x).dest.0 y && leads_back I x y)
+-- the number of the airports of leg x the other way round
+abbrev pub back_number : Situation → ℕ → ℕ
+back_number I x = pair_number (leg_at I x).dest.0 (leg_at I x).origin.0
+
+-- the legs that are listed there are those that may be restored and lead back
+pub backs-listed : (I : Situation) (P : PlanRows) (lists : List (List Leg)) (backs : List Leg) (there : LegInfo) (leg : Leg) → IsValid I → leg.0 < legs_of I → there ≡ leg_at I leg.0 → AreListed (legs_of I) I P AirportPair lists → backs ≡ get_or lists (pair_number there.dest.0 there.origin.0) []
+    → map (λ (l : Leg). l.0) backs ≡ filter (is_listed I P AirportPair (back_number I leg.0)) (numbers (legs_of I))
+backs-listed I P lists backs there leg valid within row are is =
+    let own = All-get_or (IsLeg (airports_of I) (planes_of I) (legs_of I)) I.parts.legs leg.0 no_leg within valid.parts.legs in
+    let few = valid.parts.few.airports in
+    let origin = own.origin in
+    let dest = own.dest in
+    ap (map (λ (l : Leg). l.0)) (is ∙ ap (λ (i : LegInfo). get_or lists (pair_number i.dest.0 i.origin.0) []) row)
+    ∙ are.each (back_number I leg.0) (omega (arith, few, origin, dest))
+
+back_test : (I : Situation) (P : PlanRows) (x y : ℕ) → IsValid I → brings_back I P x y ≡ (is_listed I P AirportPair (back_number I x) y && is_back_in_time I x y)
 unfolding brings_back
-back_test I P x y =
+back_test I P x y valid =
     let there = leg_at I x in
     let back = leg_at I y in
-    regroup (is_restorable I P y) (eqb back.origin.0 there.dest.0) (eqb back.dest.0 there.origin.0) (leb (there.sched.0 + there.block) back.sched.0 && leb back.sched.0 (there.sched.0 + there.block + 1440))
-    ∙ ap (λ (b : Bool). b && leads_back I x y) (sym (number_test (is_restorable I P y) there.dest.0 back.origin.0))
+    regroup (is_restorable I P y) (eqb back.origin.0 there.dest.0 && eqb back.dest.0 there.origin.0) (is_back_in_time I x y)
+    ∙ ap (λ (b : Bool). b && is_back_in_time I x y)
+    (ap (λ (b : Bool). cond (is_restorable I P y) b false) (pair_same back.origin.0 back.dest.0 there.dest.0 there.origin.0 (ends_below I y valid).1 (ends_below I x valid).0)
+    ∙ sym (number_test (is_restorable I P y) (back_number I x) (pair_number back.origin.0 back.dest.0)))
 
-backs-are : (I : Situation) (P : PlanRows) (x : ℕ) (cancelled : List Leg) → map (λ (l : Leg). l.0) cancelled ≡ filter (is_listed I P Origin (leg_at I x).dest.0) (numbers (legs_of I)) → map (λ (l : Leg). l.0) (filter (λ (b : Leg). leads_back I x b.0) cancelled) ≡ filter (brings_back I P x) (numbers (legs_of I))
-backs-are I P x cancelled are =
-    map-filter (λ (l : Leg). l.0) (leads_back I x) cancelled
-    ∙ ap (filter (leads_back I x)) are
-    ∙ filter-filter (leads_back I x) (is_listed I P Origin (leg_at I x).dest.0) (numbers (legs_of I))
-    ∙ filter_agree (λ y. is_listed I P Origin (leg_at I x).dest.0 y && leads_back I x y) (brings_back I P x) (λ y. sym (back_test I P x y)) (numbers (legs_of I))
+backs-are : (I : Situation) (P : PlanRows) (x : ℕ) (cancelled : List Leg) → IsValid I → map (λ (l : Leg). l.0) cancelled ≡ filter (is_listed I P AirportPair (back_number I x)) (numbers (legs_of I)) → map (λ (l : Leg). l.0) (filter (λ (b : Leg). is_back_in_time I x b.0) cancelled) ≡ filter (brings_back I P x) (numbers (legs_of I))
+backs-are I P x cancelled valid are =
+    map-filter (λ (l : Leg). l.0) (is_back_in_time I x) cancelled
+    ∙ ap (filter (is_back_in_time I x)) are
+    ∙ filter-filter (is_back_in_time I x) (is_listed I P AirportPair (back_number I x)) (numbers (legs_of I))
+    ∙ filter_agree (λ y. is_listed I P AirportPair (back_number I x) y && is_back_in_time I x y) (brings_back I P x) (λ y. sym (back_test I P x y valid)) (numbers (legs_of I))
 
-pub restorings-are : (I : Situation) (P : PlanRows) (leg : Leg) (p : Plane) (all : List Choice) (cancelled : List Leg) → all ≡ Alone leg p ∷ map (Both leg p) (filter (λ (b : Leg). leads_back I leg.0 b.0) cancelled) → map (λ (l : Leg). l.0) cancelled ≡ filter (is_listed I P Origin (leg_at I leg.0).dest.0) (numbers (legs_of I)) → map (steps_of I P) all ≡ restorings I P leg.0 p.0
+pub restorings-are : (I : Situation) (P : PlanRows) (leg : Leg) (p : Plane) (all : List Choice) (cancelled : List Leg) → IsValid I → all ≡ Alone leg p ∷ map (Both leg p) (filter (λ (b : Leg). is_back_in_time I leg.0 b.0) cancelled) → map (λ (l : Leg). l.0) cancelled ≡ filter (is_listed I P AirportPair (back_number I leg.0)) (numbers (legs_of I)) → map (steps_of I P) all ≡ restorings I P leg.0 p.0
 unfolding restorings
-restorings-are I P leg p all cancelled is are =
-    let backs = filter (λ (b : Leg). leads_back I leg.0 b.0) cancelled in
+restorings-are I P leg p all cancelled valid is are =
+    let backs = filter (λ (b : Leg). is_back_in_time I leg.0 b.0) cancelled in
     ap (map (steps_of I P)) is
     ∙ ap (λ ys. restoring_alone I leg.0 p.0 ∷ ys)
     (map-map (steps_of I P) (Both leg p) backs
     ∙ sym (map-map (restoring_both I leg.0 p.0) (λ (l : Leg). l.0) backs)
-    ∙ ap (map (restoring_both I leg.0 p.0)) (backs-are I P leg.0 cancelled are))
+    ∙ ap (map (restoring_both I leg.0 p.0)) (backs-are I P leg.0 cancelled valid are))
 
-pub restorings-sound : (I : Situation) (P : PlanRows) (leg : Leg) (p : Plane) (all : List Choice) (cancelled : List Leg) → leg.0 < legs_of I → p.0 < planes_of I → All (λ l. l.0 < legs_of I) cancelled → all ≡ Alone leg p ∷ map (Both leg p) (filter (λ (b : Leg). leads_back I leg.0 b.0) cancelled) → All (IsChoice I P) all
+pub restorings-sound : (I : Situation) (P : PlanRows) (leg : Leg) (p : Plane) (all : List Choice) (cancelled : List Leg) → leg.0 < legs_of I → p.0 < planes_of I → All (λ l. l.0 < legs_of I) cancelled → all ≡ Alone leg p ∷ map (Both leg p) (filter (λ (b : Leg). is_back_in_time I leg.0 b.0) cancelled) → All (IsChoice I P) all
 restorings-sound I P leg p all cancelled within planes inside is =
-    let backs = filter (λ (b : Leg). leads_back I leg.0 b.0) cancelled in
+    let backs = filter (λ (b : Leg). is_back_in_time I leg.0 b.0) cancelled in
     subst (All (IsChoice I P)) (sym is)
     (All-cons (IsChoice I P) (Alone leg p) (map (Both leg p) backs) within
-    (All-map (IsChoice I P) (Both leg p) backs (λ k d lt. (within, All-filter (λ (b : Leg). leads_back I leg.0 b.0) (λ (l : Leg). l.0 < legs_of I) cancelled inside k d lt, planes))))
+    (All-map (IsChoice I P) (Both leg p) backs (λ k d lt. (within, All-filter (λ (b : Leg). is_back_in_time I leg.0 b.0) (λ (l : Leg). l.0 < legs_of I) cancelled inside k d lt, planes))))
 
 -- ---- the steps of a run
 

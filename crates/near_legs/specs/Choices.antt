@@ -65,12 +65,12 @@ new_row P (Some plane) y = flown_row plane.0 (dep P y)
 abbrev pub run_step : PlanRows → Option Plane → ℕ → Step
 run_step P to y = Set (leg y) (row_at P y) (new_row P to y)
 
--- whether leg y, which leaves where leg x arrives, leads back from there in time
-abbrev pub leads_back : Situation → ℕ → ℕ → Bool
-leads_back I x y =
+-- whether leg y, which leads back from where leg x arrives, does so in time
+abbrev pub is_back_in_time : Situation → ℕ → ℕ → Bool
+is_back_in_time I x y =
     let there = leg_at I x in
     let back = leg_at I y in
-    (back.dest.0 == there.origin.0) && (nat_le (there.sched.0 + there.block) back.sched.0 && nat_le back.sched.0 (there.sched.0 + there.block + 1440))
+    nat_le (there.sched.0 + there.block) back.sched.0 && nat_le back.sched.0 (there.sched.0 + there.block + 1440)
 
 -- the aircraft of two that exchange legs are in range, and so are the leg and the aircraft of a leg that is restored
 abbrev pub AreInRange : Situation → LegUnit → Type 0

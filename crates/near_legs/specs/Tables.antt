@@ -1,5 +1,5 @@
 -- What is looked up again and again while moves of legs are made: it is worked out once.
-use Rattle.std.specs.Prelude.{◌≡◌, ℕ, ◌<◌, Bool, true, false, ◌==◌, if◌then◌else◌, List, [], ◌∷◌, length, map, filter, Option, Some, None, slice_index_or}
+use Rattle.std.specs.Prelude.{◌≡◌, ℕ, ◌+◌, ◌*◌, ◌<◌, Bool, true, false, ◌==◌, if◌then◌else◌, List, [], ◌∷◌, length, map, filter, Option, Some, None, slice_index_or}
 use Rattle.std.specs.Option.{ForSome}
 use Rattle.desk_units.specs.declared.numbers.Leg.{Leg}
 use Rattle.desk_units.specs.declared.numbers.Plane.{Plane}
@@ -9,7 +9,7 @@ use Rattle.desk_rules.specs.Numbers.{numbers}
 use Rattle.desk_rules.specs.Passengers.{is_flown}
 use Rattle.near_moves.specs.Places.{flier, is_movable_flown, is_restorable, family_of, legs_from}
 use Rattle.near_legs.specs.declared.lists.By.{By}
-use Rattle.near_legs.specs.declared.lists.By.TheVariants.{Aircraft, Origin}
+use Rattle.near_legs.specs.declared.lists.By.TheVariants.{Aircraft, AirportPair}
 
 -- ---- the leg behind a leg
 
@@ -45,15 +45,19 @@ abbrev pub is_number : ℕ → Option ℕ → Bool
 is_number k None = false
 is_number k (Some n) = n == k
 
--- under which number leg x is listed: a movable leg under the aircraft that flies it, one that may be restored under its origin
+-- the number of a pair of airports, from one to the other: there are at most 500
+abbrev pub pair_number : ℕ → ℕ → ℕ
+pair_number from to = 500 * from + to
+
+-- under which number leg x is listed: a movable leg under the aircraft that flies it, one that may be restored under its airports
 abbrev pub place : Situation → PlanRows → By → ℕ → Option ℕ
 place I P Aircraft x = if is_movable_flown I P x then Some (flier (row_at P x)) else None
-place I P Origin x = if is_restorable I P x then Some (leg_at I x).origin.0 else None
+place I P AirportPair x = if is_restorable I P x then Some (pair_number (leg_at I x).origin.0 (leg_at I x).dest.0) else None
 
 -- how many numbers there are
 abbrev pub count_of : Situation → By → ℕ
 count_of I Aircraft = planes_of I
-count_of I Origin = airports_of I
+count_of I AirportPair = 500 * airports_of I
 
 abbrev pub is_listed : Situation → PlanRows → By → ℕ → ℕ → Bool
 is_listed I P by k x = is_number k (place I P by x)
@@ -72,11 +76,11 @@ pub record Lists : Type 0 where
   pub families : List (List Plane)
   -- of each aircraft the movable legs that it flies
   pub flown : List (List Leg)
-  -- of each airport the legs from it that may be restored
+  -- of each pair of airports the legs from the one to the other that may be restored
   pub cancelled : List (List Leg)
 
 pub record AreLists (I : Situation) (P : PlanRows) (lists : Lists) : Type 0 where
   pub behind : AreBehind I P lists.behind
   pub families : AreFamilies I lists.families
   pub flown : AreListed (legs_of I) I P Aircraft lists.flown
-  pub cancelled : AreListed (legs_of I) I P Origin lists.cancelled
+  pub cancelled : AreListed (legs_of I) I P AirportPair lists.cancelled

@@ -5,7 +5,7 @@ ghost use Rattle.desk_data.specs.Situation.{legs_of, planes_of};
 ghost use Rattle.desk_data.specs.Valid.{IsPlanFor};
 ghost use Rattle.near_moves.specs.LegMoves.{droppings, exchanges, restorings, retimings};
 ghost use Rattle.near_moves.specs.Near.{unit_steps};
-ghost use Rattle.near_legs.specs.Choices.{IsChoice, IsFlownLeg, IsLegUnit, later_choice, leads_back, steps_of, unit_of};
+ghost use Rattle.near_legs.specs.Choices.{IsChoice, IsFlownLeg, IsLegUnit, is_back_in_time, later_choice, steps_of, unit_of};
 ghost use Rattle.near_legs.specs.Tables.{AreLists};
 
 use crate::choice::Choice;
@@ -130,7 +130,8 @@ fn drops(
     Ok(all)
 }
 
-/// A leg is flown again by an aircraft alone, and then with each leg that leads back.
+/// A leg is flown again by an aircraft alone, and then with each leg that leads back in time. Only the legs from
+/// its destination to its origin are read.
 fn restorings(
     alloc: Global,
     inst: &Instance,
@@ -147,9 +148,11 @@ fn restorings(
 {
     let mut all = Vec::new(alloc);
     all.push(Choice::Alone { leg, plane })?;
-    let cancelled = tables.cancelled(inst.leg(leg).dest);
-    for back in cancelled {
-        if leads_back(inst, leg, *back) {
+    let _rows = inst.parts();
+    let there = inst.leg(leg);
+    let backs = tables.cancelled(there.dest, there.origin);
+    for back in backs {
+        if is_back_in_time(inst, leg, *back) {
             all.push(Choice::Both {
                 leg,
                 plane,
@@ -160,17 +163,17 @@ fn restorings(
     Ok(all)
 }
 
-/// Whether a leg from where another arrives leads to where that leaves, and is scheduled to depart at most
-/// 1,440 minutes after its scheduled arrival, and not before it.
-fn leads_back(inst: &Instance, leg: Leg, back: Leg) -> bool
+/// Whether a leg that leads back from where another arrives is scheduled to depart at most 1,440 minutes after
+/// the scheduled arrival of that, and not before it.
+fn is_back_in_time(inst: &Instance, leg: Leg, back: Leg) -> bool
     requires leg { leg.0 < legs_of inst.now }
     requires back { back.0 < legs_of inst.now }
-    ensures { result ≡ leads_back inst.now leg.0 back.0 }
+    ensures { result ≡ is_back_in_time inst.now leg.0 back.0 }
 {
     let there = inst.leg(leg);
     let back = inst.leg(back);
     let arrives = there.sched.0 + there.block;
-    back.dest.0 == there.origin.0 && arrives <= back.sched.0 && back.sched.0 <= arrives + 1_440
+    arrives <= back.sched.0 && back.sched.0 <= arrives + 1_440
 }
 
 /// A run is handed on.

@@ -1,4 +1,4 @@
-//! Lists of legs, by the aircraft that flies them or by their origin.
+//! Lists of legs, by the aircraft that flies them or by their airports.
 
 ghost use Rattle.std.specs.Prelude.{◌≡◌, ◌+◌, ◌<◌, [], ◌∷◌, ◌++◌, IfOk, OnOk, IfSome, length, map, replicate, slice_index_or, slice_set};
 ghost use Rattle.std.specs.Option.{ForSome};
@@ -7,9 +7,9 @@ ghost use Rattle.desk_data.specs.PlanRows.{row_at};
 ghost use Rattle.desk_data.specs.Valid.{IsPlanFor};
 ghost use Rattle.desk_rules.specs.Passengers.{is_flown};
 ghost use Rattle.near_moves.specs.Places.{is_movable_flown, is_restorable};
-ghost use Rattle.near_legs.specs.Tables.{AreListed, count_of, place};
+ghost use Rattle.near_legs.specs.Tables.{AreListed, count_of, pair_number, place};
 
-use desk_data::{Instance, Leg, NoMem, Row};
+use desk_data::{Airport, Instance, Leg, NoMem, Row};
 use plan_pages::Pages;
 use std::alloc::Global;
 
@@ -18,11 +18,11 @@ use std::alloc::Global;
 pub(crate) enum By {
     /// Movable legs by the aircraft that flies them.
     Aircraft,
-    /// Legs that may be restored by their origin.
-    Origin,
+    /// Legs that may be restored by their origin and destination.
+    AirportPair,
 }
 
-/// Under each number, of an aircraft or of an airport, the legs that are listed there, by leg. The only error
+/// Under each number, of an aircraft or of a pair of airports, the legs that are listed there, by leg. The only error
 /// is out of memory.
 pub(crate) fn lists(
     alloc: Global,
@@ -46,7 +46,7 @@ fn count_of(inst: &Instance, by: By) -> u32
 {
     match by {
         By::Aircraft => inst.planes(),
-        By::Origin => inst.airports(),
+        By::AirportPair => 500 * inst.airports(),
     }
 }
 
@@ -89,7 +89,7 @@ fn place(inst: &Instance, plan: &Pages, by: By, leg: Leg) -> Option<u32>
 {
     match by {
         By::Aircraft => flier_of_movable(inst, plan, leg),
-        By::Origin => origin_of_restorable(inst, plan, leg),
+        By::AirportPair => airports_of_restorable(inst, plan, leg),
     }
 }
 
@@ -109,18 +109,29 @@ fn flier_of_movable(inst: &Instance, plan: &Pages, leg: Leg) -> Option<u32>
     }
 }
 
-/// The origin of a leg, if it may be restored.
-fn origin_of_restorable(inst: &Instance, plan: &Pages, leg: Leg) -> Option<u32>
+/// The number of the airports of a leg, if it may be restored.
+fn airports_of_restorable(inst: &Instance, plan: &Pages, leg: Leg) -> Option<u32>
     requires plan { IsPlanFor inst.now plan.now }
     requires leg { leg.0 < legs_of inst.now }
-    ensures place { result ≡ place inst.now plan.now By.Origin leg.0 }
-    ensures limit { ForSome result (λ number. number < count_of inst.now By.Origin) }
+    ensures place { result ≡ place inst.now plan.now By.AirportPair leg.0 }
+    ensures limit { ForSome result (λ number. number < count_of inst.now By.AirportPair) }
 {
     if is_restorable(inst, plan, leg) {
-        Some(inst.leg(leg).origin.0)
+        let _few = inst.airports();
+        let leg = inst.leg(leg);
+        Some(pair_number(leg.origin, leg.dest))
     } else {
         None
     }
+}
+
+/// The number of a pair of airports, from one to the other: there are at most 500.
+pub(crate) fn pair_number(from: Airport, to: Airport) -> u32
+    requires from { from.0 < 500 }
+    requires to { to.0 < 500 }
+    ensures { result ≡ pair_number from.0 to.0 }
+{
+    500 * from.0 + to.0
 }
 
 /// Whether a leg is movable, and flown.

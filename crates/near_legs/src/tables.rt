@@ -2,11 +2,11 @@
 
 ghost use Rattle.std.specs.Prelude.{◌≡◌, ◌<◌, None, [], IfOk, length, slice_index_or};
 ghost use Rattle.desk_data.specs.Valid.{IsPlanFor};
-ghost use Rattle.near_legs.specs.Tables.{AreLists};
+ghost use Rattle.near_legs.specs.Tables.{AreLists, pair_number};
 
 use crate::behind::legs_behind;
 use crate::families::families;
-use crate::lists::{By, lists};
+use crate::lists::{By, lists, pair_number};
 use desk_data::{Airport, Instance, Leg, NoMem, Plane};
 use plan_pages::Pages;
 use std::alloc::Global;
@@ -39,7 +39,7 @@ impl Tables {
         let behind = legs_behind(alloc, inst, plan)?;
         let families = families(alloc, inst)?;
         let flown = lists(alloc, inst, plan, By::Aircraft)?;
-        let cancelled = lists(alloc, inst, plan, By::Origin)?;
+        let cancelled = lists(alloc, inst, plan, By::AirportPair)?;
         Ok(Tables {
             behind,
             families,
@@ -72,11 +72,13 @@ impl Tables {
         self.flown[plane.0 as usize].as_slice()
     }
 
-    /// The legs from an airport that may be restored.
-    pub(crate) fn cancelled(&self, airport: Airport) -> &[Leg]
-        requires { airport.0 < length self.now.cancelled }
-        ensures { result.now ≡ slice_index_or self.now.cancelled airport.0 [] }
+    /// The legs from one airport to another that may be restored, by leg.
+    pub(crate) fn cancelled(&self, from: Airport, to: Airport) -> &[Leg]
+        requires from { from.0 < 500 }
+        requires to { to.0 < 500 }
+        requires listed { pair_number from.0 to.0 < length self.now.cancelled }
+        ensures { result.now ≡ slice_index_or self.now.cancelled (pair_number from.0 to.0) [] }
     {
-        self.cancelled[airport.0 as usize].as_slice()
+        self.cancelled[pair_number(from, to) as usize].as_slice()
     }
 }
