@@ -1,20 +1,22 @@
 -- Lists of legs by their numbers, families, and the moments of an exchange.
-use Rattle.std.proofs.Common.{◌≡◌, ◌≢◌, ℕ, ◌+◌, ◌<◌, ◌⊎◌, inl, inr, Bool, true, false, ◌&&◌, not, cond, eqb, List, [], ◌∷◌, ◌++◌, length, get_or, set, map, refl, sym, ap, subst, ◌∙◌, arith, nat_cmp}
+use Rattle.std.proofs.Common.{◌≡◌, ◌≢◌, ℕ, ◌+◌, ◌<◌, ◌⊎◌, inl, inr, Bool, true, false, ◌&&◌, not, cond, eqb, List, [], ◌∷◌, ◌++◌, length, get_or, set, map, refl, sym, ap, subst, ◌∙◌, arith, rules, nat_cmp}
 use Rattle.std.specs.Prelude.{Some, None, filter, replicate}
 use Rattle.std.specs.List.{All, Contains, dedup}
+use Rattle.std.specs.Str.{bytes_eq}
 use Rattle.std.specs.List.Sorted.{IsSorted, IsPermutation}
 use Rattle.std.proofs.lemmas.Bool.{cases_eq, true≢false, eq-eqb}
 use Rattle.std.proofs.lemmas.Bool.Decides.{nat_tests}
 use Rattle.std.proofs.lemmas.List.{get_or-set_same, get_or-set_other, get_or-replicate, length-replicate, length-set, map_push, get_or-map, length-map}
-use Rattle.std.proofs.lemmas.List.Elements.{Contains-append_left, Contains-append_right, Contains-append_cases}
+use Rattle.std.proofs.lemmas.List.Elements.{All-push, Contains-append_left, Contains-append_right, Contains-append_cases}
 use Rattle.std.proofs.lemmas.List.Kept.{AllPairs-from_increasing, Contains-dedup_nat, Contains-from_dedup}
 use Rattle.std.proofs.lemmas.List.Sorted.{Contains-permutation, IsPermutation-sym}
+use Rattle.std.proofs.lemmas.Slice.Eq.{bytes_eq-Decides}
 use Rattle.std.proofs.lemmas.Map.Keys.{IsStrictlyIncreasing-dedup}
 use Rattle.desk_units.specs.declared.numbers.Leg.{Leg}
 use Rattle.desk_units.specs.declared.numbers.Plane.{Plane}
 use Rattle.desk_data.specs.declared.row.Row.{Row}
 use Rattle.desk_data.specs.declared.row.Row.TheVariants.{Flown, Cancelled}
-use Rattle.desk_data.specs.Situation.{Situation, legs_of, planes_of, fixed}
+use Rattle.desk_data.specs.Situation.{Situation, legs_of, planes_of, plane_at, fixed}
 use Rattle.desk_data.specs.PlanRows.{PlanRows, row_at}
 use Rattle.desk_data.specs.Valid.{IsPlanFor}
 use Rattle.desk_rules.specs.Numbers.{numbers}
@@ -92,17 +94,39 @@ flown-within I P p flown legs plan are within at = λ k d lt.
 
 -- ---- families
 
+pub families-long : {X : Type 0} (I : Situation) (f : X → List ℕ) (families : List X) (n : ℕ) → map f families ≡ map (family_of I) (numbers n) → length families ≡ n
+families-long I f families n are = sym (length-map families f) ∙ ap length are ∙ length-map (numbers n) (family_of I) ∙ length-numbers n
+
+-- those of an aircraft, of lists for the aircraft below n
+family-at : (I : Situation) (families : List (List Plane)) (n p : ℕ) → map (map (λ (q : Plane). q.0)) families ≡ map (family_of I) (numbers n) → p < n → map (λ (q : Plane). q.0) (get_or families p []) ≡ family_of I p
+family-at I families n p are lt =
+    let long : length families ≡ n = families-long I (map (λ (q : Plane). q.0)) families n are in
+    sym (get_or-map (map (λ (q : Plane). q.0)) families p [] [] (omega (arith, long, lt)))
+    ∙ ap (λ (xs : List (List ℕ)). get_or xs p []) are
+    ∙ get_or-map (family_of I) (numbers n) p 0 [] (rw length-numbers lt)
+    ∙ ap (family_of I) (numbers-at n p 0 lt)
+
 pub families-are : (I : Situation) (families : List (List Plane)) → map (map (λ (p : Plane). p.0)) families ≡ map (family_of I) (numbers (planes_of I)) → AreFamilies I families
-families-are I families are =
-    let long : length families ≡ planes_of I = sym (length-map families (map (λ (p : Plane). p.0))) ∙ ap length are ∙ length-map (numbers (planes_of I)) (family_of I) ∙ length-numbers (planes_of I) in
-    record {
-      planes = long;
-      each = λ p lt.
-          sym (get_or-map (map (λ (q : Plane). q.0)) families p [] [] (omega (arith, long, lt)))
-          ∙ ap (λ (xs : List (List ℕ)). get_or xs p []) are
-          ∙ get_or-map (family_of I) (numbers (planes_of I)) p 0 [] (rw length-numbers lt)
-          ∙ ap (family_of I) (numbers-at (planes_of I) p 0 lt);
-    }
+families-are I families are = record {
+  planes = families-long I (map (λ (p : Plane). p.0)) families (planes_of I) are;
+  each = λ p lt. family-at I families (planes_of I) p are lt;
+}
+
+-- aircraft of one family have the same
+family-same : (I : Situation) (q p : ℕ) → bytes_eq (plane_at I q).family (plane_at I p).family ≡ true → family_of I q ≡ family_of I p
+unfolding family_of
+family-same I q p same =
+    let is : (plane_at I q).family ≡ (plane_at I p).family = search (rules, bytes_eq-Decides) in
+    ap (λ (family : List ℕ). filter (λ r. bytes_eq (plane_at I r).family family) (numbers (planes_of I))) is
+
+pub family-copied : (I : Situation) (families : List (List Plane)) (q p : ℕ) → map (map (λ (r : Plane). r.0)) families ≡ map (family_of I) (numbers p) → q < p → bytes_eq (plane_at I q).family (plane_at I p).family ≡ true → map (λ (r : Plane). r.0) (get_or families q []) ≡ family_of I p
+family-copied I families q p are lt same = family-at I families p q are lt ∙ family-same I q p same
+
+pub firsts_wider : (n : ℕ) (firsts : List Plane) → All (λ q. q.0 < n) firsts → All (λ q. q.0 < n + 1) firsts
+firsts_wider n firsts below = λ k d lt. let first = below k d lt in omega (arith, first)
+
+pub firsts_more : (firsts : List Plane) (plane : Plane) → All (λ q. q.0 < plane.0) firsts → All (λ q. q.0 < plane.0 + 1) (firsts ++ plane ∷ [])
+firsts_more firsts plane below = All-push (λ q. q.0 < plane.0 + 1) firsts plane (firsts_wider plane.0 firsts below) (omega arith)
 
 pub families-within : (I : Situation) (p : ℕ) (family : List Plane) → map (λ (q : Plane). q.0) family ≡ family_of I p → All (λ q. q.0 < planes_of I) family
 families-within I p family are = λ i d lt.

@@ -1,12 +1,8 @@
-use Rattle.std.proofs.Common.{◌≡◌, ◌∷◌, List, map, subst, ap, ◌∙◌, arith}
+use Rattle.std.proofs.Common.{◌∷◌, List, map, ap, ◌∙◌}
 use Rattle.std.specs.Prelude.{filter}
 use Rattle.desk_units.specs.declared.numbers.Leg.{Leg}
-use Rattle.desk_data.specs.declared.info.LegInfo.{LegInfo}
-use Rattle.desk_data.specs.Situation.{legs_of}
-use Rattle.desk_rules.specs.Numbers.{numbers}
 use Rattle.near_legs.specs.declared.lists.By.TheVariants.{AirportPair}
 use Rattle.near_legs.specs.declared.choice.Choice.TheVariants.{Alone, Both}
-use Rattle.near_legs.specs.Tables.{is_listed, pair_number}
 use Rattle.near_legs.specs.Choices.{is_back_in_time}
 use Rattle.near_legs.proofs.ListsLaws.{listed-within}
 use Rattle.near_legs.proofs.RunLaws.{all_taken}

@@ -13,4 +13,4 @@ returns c =
     let count = c.planes-p-end.ensures.count in
     let end : c.loop-p.p ≡ planes_of I = omega (arith, count) in
     families-are I (map (λ f. f.items) c.loop-p.all.items)
-    (map-map (map (λ (p : Plane). p.0)) (λ f. f.items) c.loop-p.all.items ∙ c.loop-p.invariant ∙ ap (λ n. map (family_of I) (numbers n)) end)
+    (map-map (map (λ (p : Plane). p.0)) (λ f. f.items) c.loop-p.all.items ∙ c.loop-p.invariant.done ∙ ap (λ n. map (family_of I) (numbers n)) end)
