@@ -26,6 +26,9 @@ use Rattle.near_moves.specs.Units.{rebooked}
 use Rattle.near_moves.specs.Near.{leg_units, units, unit_steps, unit_moves, moves_of, of_shard, shard, move_of, step_in_time}
 use Rattle.near_moves.specs.PassengerMoves.{rebooked_units}
 use Rattle.near_moves.specs.Descent.{is_better, first_better}
+use Rattle.near_legs.specs.Walk as leg_moves
+use Rattle.near_pax.specs.Left as passenger_moves
+use Rattle.near_search.specs.Given.{GivesAll, LegsGive, PassengersGive}
 use Rattle.near_search.proofs.PaidLaws.{rebook-dearer}
 
 -- ---- what rules moves out
@@ -84,6 +87,16 @@ unfolding shard units
 shard_is I P s n =
     ap (moves_of I P) (filter-append _ (leg_units I P) (rebooked_units I P))
     ∙ flat_map-append (unit_moves I P) (of_shard s n (leg_units I P)) (of_shard s n (rebooked_units I P))
+
+given-all : {Walk : Type 0} (left : Walk → List Move) (given : List Move) (walk : Walk) → GivesAll left given walk → given ≡ left walk
+given-all left [] walk none = sym none
+given-all left (m ∷ given) walk gives = ap (λ (ms : List Move). m ∷ ms) (given-all left given gives.after gives.behind) ∙ sym gives.first
+
+pub given-shard : (I : Situation) (P : PlanRows) (s n : ℕ) (legs passengers : List Move) → LegsGive I P s n legs → PassengersGive I P s n passengers → legs ++ passengers ≡ shard I P s n
+given-shard I P s n legs passengers by_legs by_passengers =
+    ap (λ (ms : List Move). ms ++ passengers) (given-all (leg_moves.left I P) legs by_legs.walk by_legs.all ∙ by_legs.made)
+    ∙ ap (λ (ms : List Move). moves_of I P (of_shard s n (leg_units I P)) ++ ms) (given-all (passenger_moves.left I P) passengers by_passengers.walk by_passengers.all ∙ by_passengers.made)
+    ∙ sym (shard_is I P s n)
 
 pub first-is : (I : Situation) (P : PlanRows) (s n : ℕ) → first_better I P s n ≡ option_or (find (is_better I P) (moves_of I P (of_shard s n (leg_units I P)))) (find (is_better I P) (moves_of I P (of_shard s n (rebooked_units I P))))
 first-is I P s n =

@@ -32,7 +32,6 @@ pub fn first_better(
     ensures fits { IfOk result (λ found. ForSome found (Fits eval.old.inst)) }
     ensures eval { eval.new ≡ eval.old }
 {
-    let _ = finder;
     let _rows = eval.instance().parts();
     let mut legs = LegMoves::of(alloc, eval.instance(), eval.plan(), shard, shards)?;
     if let Some(m) = first_of(alloc, eval, &mut legs)? {

@@ -1,6 +1,6 @@
-//! What rules moves out.
+//! What the moves of a shard are, and what rules moves out.
 
-ghost use Rattle.std.specs.Prelude.{◌≡◌, ℕ, ◌≤◌, false, [], ◌∷◌, List as Items, All};
+ghost use Rattle.std.specs.Prelude.{◌≡◌, ℕ, ◌≤◌, false, [], ◌∷◌, ◌++◌, List as Items, All};
 ghost use Rattle.desk_units.specs.declared.numbers.Leg.{Leg};
 ghost use Rattle.desk_units.specs.declared.numbers.Cabin.{Cabin};
 ghost use Rattle.desk_units.specs.declared.numbers.Res.{Res};
@@ -11,9 +11,16 @@ ghost use Rattle.desk_data.specs.PlanRows.{PlanRows};
 ghost use Rattle.desk_rules.specs.Cost.{cost};
 ghost use Rattle.desk_model.specs.Rebook.{after_rebook};
 ghost use Rattle.full_cost.specs.Amounts.{passenger_cost};
-ghost use Rattle.near_moves.specs.Near.{unit_moves};
+ghost use Rattle.near_moves.specs.Near.{shard, unit_moves};
 ghost use Rattle.near_moves.specs.Units.{rebooked};
 ghost use Rattle.near_moves.specs.Descent.{is_better};
+ghost use Rattle.near_search.specs.Given.{LegsGive, PassengersGive};
+
+/// The moves that a `LegMoves` of a shard gives, call after call until it gives none, and behind them those that a
+/// `PaxMoves` of the shard gives so, are the moves of the shard: all of them, in their order, and no others.
+pub fn moves_of_legs_and_then_of_passengers_are_the_shard()
+    ensures { (I : Situation) (P : PlanRows) (s n : ℕ) (legs passengers : Items Move) → LegsGive I P s n legs → PassengersGive I P s n passengers → legs ++ passengers ≡ shard I P s n }
+{}
 
 /// A rebooking to a path on which a passenger costs no less makes no plan cheaper, however many go: so
 /// many passengers cost so many times what one costs. So no rebooking from a path that costs a passenger

@@ -4,7 +4,8 @@
 //!     let found = first_better(alloc, &mut eval, &mut finder, 0, 1)?;   // of all moves near the plan
 //!     let found = first_better(alloc, &mut eval, &mut finder, 2, 8)?;   // of shard 2 of 8
 //!
-//! The moves of legs come first (`near_legs`), and then those of passengers (`near_pax`). A move is tried on the
+//! The moves of legs come first (`near_legs`), and then those of passengers (`near_pax`): together they are the
+//! shard, which is a law. A move is tried on the
 //! evaluator: applied, judged by what the plan then breaks and costs, and taken back. Before that `ruled_out` asks
 //! whether it is known not to be better, which is worth while where that takes less than a trial: it may always
 //! say no. A path that costs a passenger nothing is passed over before the moves off it are made. What is known
@@ -24,4 +25,7 @@ mod trial;
 
 pub use finder::Finder;
 pub use first::first_better;
-pub use laws::a_rebooking_to_a_path_that_costs_no_less_is_not_better;
+pub use laws::{
+    a_rebooking_to_a_path_that_costs_no_less_is_not_better,
+    moves_of_legs_and_then_of_passengers_are_the_shard,
+};
