@@ -22,8 +22,8 @@ pub(crate) enum By {
     AirportPair,
 }
 
-/// Under each number, of an aircraft or of a pair of airports, the legs that are listed there, by leg. The only error
-/// is out of memory.
+/// Under each number, of an aircraft or of a pair of airports, the legs that are listed there, by leg. The
+/// only error is out of memory.
 pub(crate) fn lists(
     alloc: Global,
     inst: &Instance,
