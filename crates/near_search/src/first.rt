@@ -18,7 +18,8 @@ use std::alloc::Global;
 /// The first move of a shard of those near the evaluator's plan that makes it feasible and cheaper, or none
 /// where no move of the shard does. A shard's number is below the number of shards: shard 0 of 1 is all moves.
 /// The evaluator's past has fewer than 1,900,000,000 changes. Moves are tried on the evaluator and taken back:
-/// it stands where it stood, after an error too. The only error is out of memory.
+/// it stands where it stood, after an error too. The finder keeps nothing yet, and is not asked. The only error
+/// is out of memory.
 pub fn first_better(
     alloc: Global,
     eval: &mut Evaluator,
