@@ -1,5 +1,5 @@
 -- The moves of legs and aircraft in words: which units there are, and at which moments two aircraft exchange legs.
-use Rattle.std.specs.Prelude.{◌≡◌, ◌≢◌, ℕ, ◌<◌, ◌≤◌, ◌⊎◌, false, List, length, All}
+use Rattle.std.specs.Prelude.{◌≡◌, ◌≢◌, ℕ, ◌<◌, ◌≤◌, ◌⊎◌, false, length, All}
 use Rattle.desk_data.specs.Situation.{Situation, legs_of, planes_of, plane_at, fixed}
 use Rattle.desk_data.specs.PlanRows.{PlanRows}
 use Rattle.desk_rules.specs.Words.{Flies, Precedes}

@@ -70,13 +70,11 @@ impl PaxMoves {
         ensures err { OnErr result (left inst.now plan.now self.new ≡ left inst.now plan.now self.old) }
     {
         loop {
-            match self.next_in_unit(alloc, inst, plan)? {
-                Some(next) => return Ok(Some(next)),
-                None => {}
+            if let Some(next) = self.next_in_unit(alloc, inst, plan)? {
+                return Ok(Some(next));
             }
-            match self.next_unit(inst, plan) {
-                Some(_) => {}
-                None => return Ok(None),
+            if self.next_unit(inst, plan).is_none() {
+                return Ok(None);
             }
         }
     }
