@@ -54,7 +54,7 @@ const DAY: [(File, &str); 16] = [
 ];
 
 /// The words of a run, a file that is changed, its text, and the status of that run.
-const RUNS: [(&str, File, &str, u8); 14] = [
+const RUNS: [(&str, File, &str, u8); 11] = [
     (
         "replay in out",
         File::Config,
@@ -71,13 +71,6 @@ const RUNS: [(&str, File, &str, u8); 14] = [
     ("replay in out", File::Dist, "AAA BBB 60 X\n", 3),
     ("replay in out", File::Tariff, "position,1\nposition,2\n", 3),
     ("replay in out", File::Feed, "2,none\n", 3),
-    (
-        "recover in out --moves 2",
-        File::Config,
-        "01/03/08 06:00 02/03/08 06:00\n",
-        0,
-    ),
-    ("recover in out --moves 2", File::Feed, "2,none\n", 3),
     ("check in out", File::Journal, "", 0),
     (
         "check in out",
@@ -88,7 +81,6 @@ const RUNS: [(&str, File, &str, u8); 14] = [
     ("check in out", File::SolItineraries, "R1 A 10\n", 3),
     ("gen out --seed 7 --size=1", File::Config, "", 0),
     ("gen out --size 41", File::Config, "", 2),
-    ("trial --seed 3", File::Config, "", 0),
 ];
 
 /// A folder with the files of the day, but for one that has this text.
