@@ -13,7 +13,7 @@ use Rattle.desk_model.specs.declared.answer.Entry.{Entry}
 use Rattle.desk_model.specs.Histories.{is_batch}
 use Rattle.journal_text.proofs.PartsLaws.{answer-same}
 use Rattle.desk_runs.specs.Outcome.{line}
-use Rattle.desk_tasks.specs.Play.{batches_of, batch_line, batch_lines}
+use Rattle.desk_tasks.specs.Play.{batch_entries, batch_line, batch_lines}
 
 zip_behind : {A B : Type 0} (xs : List A) (ys : List B) (x : A) (y : B) → length xs ≡ length ys → zip (xs ++ x ∷ []) (ys ++ y ∷ []) ≡ zip xs ys ++ (x, y) ∷ []
 zip_behind [] [] x y e = refl
@@ -22,11 +22,11 @@ zip_behind (a ∷ xs) [] x y e = absurd (omega (arith, e))
 zip_behind (a ∷ xs) (b ∷ ys) x y e = ap (λ (t : List _). (a, b) ∷ t) (zip_behind xs ys x y (omega (arith, e)))
 
 -- one batch more
-batches-batch : (h : List Entry) (entry : Entry) → is_batch entry.event ≡ true → batches_of (h ++ entry ∷ []) ≡ batches_of h ++ entry ∷ []
+batches-batch : (h : List Entry) (entry : Entry) → is_batch entry.event ≡ true → batch_entries (h ++ entry ∷ []) ≡ batch_entries h ++ entry ∷ []
 batches-batch h entry is = filter-append (λ (e : Entry). is_batch e.event) h (entry ∷ []) ∙ (rw is refl)
 
-batches-move : (h : List Entry) (entry : Entry) → is_batch entry.event ≡ false → batches_of (h ++ entry ∷ []) ≡ batches_of h
-batches-move h entry is = filter-append (λ (e : Entry). is_batch e.event) h (entry ∷ []) ∙ (rw is (append-nil (batches_of h)))
+batches-move : (h : List Entry) (entry : Entry) → is_batch entry.event ≡ false → batch_entries (h ++ entry ∷ []) ≡ batch_entries h
+batches-move h entry is = filter-append (λ (e : Entry). is_batch e.event) h (entry ∷ []) ∙ (rw is (append-nil (batch_entries h)))
 
 -- the numbers of a list with one element more
 numbered-more : (bs : List Entry) (entry : Entry) → zip (numbers (length (bs ++ entry ∷ []))) (bs ++ entry ∷ []) ≡ zip (numbers (length bs)) bs ++ (length bs, entry) ∷ []
@@ -34,14 +34,14 @@ numbered-more bs entry =
     let n : length (bs ++ entry ∷ []) ≡ suc (length bs) = length-append bs (entry ∷ []) ∙ add-one (length bs) in
     ap (λ (k : ℕ). zip (numbers k) (bs ++ entry ∷ [])) n ∙ zip_behind (numbers (length bs)) bs (length bs) entry (length-numbers (length bs))
 
-pub lines-batch : (I : Situation) (h : List Entry) (entry : Entry) → is_batch entry.event ≡ true → batch_lines I (h ++ entry ∷ []) ≡ batch_lines I h ++ batch_line I (length (batches_of h)) entry.answer
+pub lines-batch : (I : Situation) (h : List Entry) (entry : Entry) → is_batch entry.event ≡ true → batch_lines I (h ++ entry ∷ []) ≡ batch_lines I h ++ batch_line I (length (batch_entries h)) entry.answer
 unfolding batch_lines
 lines-batch I h entry is =
     let line = λ (numbered : ℕ × Entry). batch_line I numbered.0 numbered.1.answer in
     ap (λ (bs : List Entry). flat_map line (zip (numbers (length bs)) bs)) (batches-batch h entry is)
-    ∙ ap (flat_map line) (numbered-more (batches_of h) entry)
-    ∙ flat_map-append line (zip (numbers (length (batches_of h))) (batches_of h)) ((length (batches_of h), entry) ∷ [])
-    ∙ ap (λ (t : List ℕ). batch_lines I h ++ t) (append-nil (batch_line I (length (batches_of h)) entry.answer))
+    ∙ ap (flat_map line) (numbered-more (batch_entries h) entry)
+    ∙ flat_map-append line (zip (numbers (length (batch_entries h))) (batch_entries h)) ((length (batch_entries h), entry) ∷ [])
+    ∙ ap (λ (t : List ℕ). batch_lines I h ++ t) (append-nil (batch_line I (length (batch_entries h)) entry.answer))
 
 pub lines-move : (I : Situation) (h : List Entry) (entry : Entry) → is_batch entry.event ≡ false → batch_lines I (h ++ entry ∷ []) ≡ batch_lines I h
 unfolding batch_lines
@@ -52,7 +52,7 @@ lines-move I h entry is =
 -- so many bytes are told of the first entries, and so many batches are among them
 pub record IsTold (I : Situation) (before now : List ℕ) (number i : ℕ) (h : List Entry) : Type 0 where
   pub text : now ≡ before ++ batch_lines I (take i h)
-  pub number_is : number ≡ length (batches_of (take i h))
+  pub number_is : number ≡ length (batch_entries (take i h))
   pub small : number ≤ i
 
 pub told-start : (I : Situation) (before : List ℕ) (h : List Entry) → IsTold I before before 0 0 h
@@ -73,7 +73,7 @@ told-batch I before mid now number i h entry lt at is text told =
           ∙ ap (λ (k : ℕ). before ++ (batch_lines I (take i h) ++ batch_line I k entry.answer)) n
           ∙ ap (λ (t : List ℕ). before ++ t) (sym (lines-batch I (take i h) entry is))
           ∙ ap (λ (t : List Entry). before ++ batch_lines I t) (sym more);
-      number_is = ap (λ (k : ℕ). k + 1) n ∙ sym (length-append (batches_of (take i h)) (entry ∷ [])) ∙ ap length (sym (batches-batch (take i h) entry is)) ∙ ap (λ (t : List Entry). length (batches_of t)) (sym more);
+      number_is = ap (λ (k : ℕ). k + 1) n ∙ sym (length-append (batch_entries (take i h)) (entry ∷ [])) ∙ ap length (sym (batches-batch (take i h) entry is)) ∙ ap (λ (t : List Entry). length (batch_entries t)) (sym more);
       small = omega (arith, told.small);
     }
 
@@ -82,7 +82,7 @@ told-move I before now number i h entry lt at is told =
     let more = one_more h i entry lt at in
     record {
       text = told.text ∙ ap (λ (t : List ℕ). before ++ t) (sym (lines-move I (take i h) entry is)) ∙ ap (λ (t : List Entry). before ++ batch_lines I t) (sym more);
-      number_is = told.number_is ∙ ap length (sym (batches-move (take i h) entry is)) ∙ ap (λ (t : List Entry). length (batches_of t)) (sym more);
+      number_is = told.number_is ∙ ap length (sym (batches-move (take i h) entry is)) ∙ ap (λ (t : List Entry). length (batch_entries t)) (sym more);
       small = omega (arith, told.small);
     }
 
@@ -90,5 +90,5 @@ told-move I before now number i h entry lt at is told =
 pub lines-same : (I J : Situation) → I.parts ≡ J.parts → (h : List Entry) → batch_lines I h ≡ batch_lines J h
 unfolding batch_lines
 lines-same I J same h =
-    ap (λ (text : ℕ × Entry → List ℕ). flat_map text (zip (numbers (length (batches_of h))) (batches_of h)))
+    ap (λ (text : ℕ × Entry → List ℕ). flat_map text (zip (numbers (length (batch_entries h))) (batch_entries h)))
     (fun_ext (λ (numbered : ℕ × Entry). ap (λ (told : List ℕ). line (codes "batch " ++ decimal numbered.0 ++ codes " " ++ told)) (answer-same I J same numbered.1.answer)))

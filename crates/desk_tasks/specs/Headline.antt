@@ -8,7 +8,7 @@ use Rattle.desk_model.specs.States.{opening}
 use Rattle.desk_model.specs.Histories.{IsLegal, run, state}
 use Rattle.desk_model.specs.Promises.{KeepsPromises}
 use Rattle.near_moves.specs.Descent.{recovery}
-use Rattle.near_moves.specs.Descents.{AllAlong, IsRecoveryEntry, BatchesWait, batches_of}
+use Rattle.near_moves.specs.Descents.{AllAlong, IsRecoveryEntry, BatchesWait, batches_in}
 use Rattle.journal_text.specs.Lines.{journal_text}
 use Rattle.sol_text.specs.Rotations.{rotations_text}
 use Rattle.sol_text.specs.Itineraries.{itineraries_text}
@@ -58,7 +58,7 @@ pub record Recovers (r : Recovery) (h : List Entry) : Type 0 where
   -- that makes it feasible and cheaper
   pub exact : h ≡ recovery r.moves (opening r.day) r.batches
   -- the batches are those that were read, in their order, each once
-  pub batches : batches_of h ≡ r.batches
+  pub batches : batches_in h ≡ r.batches
   -- the desk asks for all entries, and what is no batch is an accepted proposal of the first better move near the plan as it stands
   pub entries : AllAlong IsRecoveryEntry (opening r.day) h
   -- each batch but the first waits until the descent before it has ended: with no plan, with so many accepted as may be, or where

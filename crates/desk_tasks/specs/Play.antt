@@ -42,8 +42,8 @@ cost_or_broken I cost None = codes "cost " ++ decimal cost
 cost_or_broken I cost (Some item) = codes "no plan " ++ broken_text I item
 
 -- the entries of the batches of a history, in order
-abbrev pub batches_of : List Entry → List Entry
-batches_of h = filter (λ entry. is_batch entry.event) h
+abbrev pub batch_entries : List Entry → List Entry
+batch_entries h = filter (λ entry. is_batch entry.event) h
 
 -- the line of a batch, by its number: what was answered to it
 abbrev pub batch_line : Situation → ℕ → Answer → List ℕ
@@ -51,7 +51,7 @@ batch_line I number told = line (codes "batch " ++ decimal number ++ codes " " +
 
 -- a line for each batch of a history, numbered from 0
 unfoldable pub batch_lines : Situation → List Entry → List ℕ
-batch_lines I h = flat_map (λ numbered. batch_line I numbered.0 numbered.1.answer) (zip (numbers (length (batches_of h))) (batches_of h))
+batch_lines I h = flat_map (λ numbered. batch_line I numbered.0 numbered.1.answer) (zip (numbers (length (batch_entries h))) (batch_entries h))
 
 -- how many changes there were, and the cost of the last plan, or what is broken
 unfoldable pub end_lines : Situation → List Entry → List ℕ

@@ -45,10 +45,10 @@ fn told_run<F: Folder, O: Sink>(alloc: Global, words: &[String], folder: &mut F,
 /// The desk: does what the words say, the program's name left out, and answers the status.
 ///
 /// 0: done; of a replay, a recovery or a trial with a plan at the end, of a check with a plan that breaks no
-/// rule. 1: a replay, a recovery or a trial was done, with no plan at the end. 2: the words are no command. 3: the input is refused. 4: the folder failed
-/// to name the directories or to read a file. 5: the folder failed to write a file, or the sink to write the
-/// report. 6: memory ran out. 7: a check was done, and the plan breaks a rule. From 2 to 6, a line in the
-/// report says why.
+/// rule. 1: a replay, a recovery or a trial was done, with no plan at the end. 2: the words are no command.
+/// 3: the input is refused. 4: the folder failed to name the directories or to read a file. 5: the folder
+/// failed to write a file, or the sink to write the report. 6: memory ran out. 7: a check was done, and the
+/// plan breaks a rule. From 2 to 6, a line in the report says why.
 pub fn desk_main<F: Folder, O: Sink, G: Gate>(
     alloc: Global,
     words: &[String],

@@ -86,7 +86,7 @@ leg-next I P r start rest a b h =
     let second : leg_in path (i + 1) ≡ b.0.0 = ap (λ (p : List (Leg × Cabin)). leg_in p (i + 1)) whole ∙ leg_behind (start ++ a ∷ []) rest b (i + 1) (omega (arith, n)) in
     subst (λ (y : ℕ). GoesOn I P a.0.0 y) second (subst (λ (x : ℕ). GoesOn I P x (leg_in path (i + 1))) first at)
 
--- the first leg behind what was flown already
+-- the first leg behind what was begun
 record Follows (I : Situation) (P : PlanRows) (r : ℕ) (start : List (Leg × Cabin)) (x : ℕ) : Type 0 where
   place : (leg_at I x).origin.0 ≡ place_behind I r start
   time : ready_behind I P r start ≤ dep P x

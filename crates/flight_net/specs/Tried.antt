@@ -14,7 +14,7 @@ use Rattle.near_moves.specs.RouteParts.{is_other_route}
 abbrev pub others : Situation → PlanRows → ℕ → List (List (Leg × Cabin)) → List (List (Leg × Cabin))
 others I P r paths = filter (is_other_route I P r) paths
 
--- leg x behind the legs that were flown already, in each cabin
+-- leg x behind the legs that were begun, in each cabin
 abbrev pub singles_of : Situation → ℕ → ℕ → List (List (Leg × Cabin))
 singles_of I r x = map (λ c. stem I r ++ (leg x, c) ∷ []) (F ∷ B ∷ E ∷ [])
 

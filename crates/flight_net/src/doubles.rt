@@ -1,4 +1,4 @@
-//! Routes with two legs behind what was flown already, in one cabin.
+//! Routes with two legs behind what was begun, in one cabin.
 
 ghost use Rattle.std.specs.Prelude.{◌≡◌, ◌<◌, ◌++◌, OnOk, All, map};
 ghost use Rattle.desk_data.specs.Situation.{legs_of, reservations_of};

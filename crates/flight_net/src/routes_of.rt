@@ -13,9 +13,9 @@ use plan_pages::Pages;
 use std::alloc::Global;
 
 impl FlightNet {
-    /// The routes of a reservation in the plan whose legs these are, each once: the scheduled path, what
-    /// was flown already, and that with one leg or with two legs in one cabin behind it, in path order. It
-    /// tries the legs that leave where passengers stand, in time. The only error is out of memory.
+    /// The routes of a reservation in the plan whose legs these are, each once: the scheduled path, then
+    /// what was begun, then that with one leg behind it, then with two in one cabin, each kind in path order.
+    /// It tries the legs that leave where passengers stand, in time. The only error is out of memory.
     pub fn routes(
         &self,
         alloc: Global,

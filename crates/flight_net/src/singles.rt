@@ -1,4 +1,4 @@
-//! Routes with one leg behind what was flown already.
+//! Routes with one leg behind what was begun.
 
 ghost use Rattle.std.specs.Prelude.{◌≡◌, ◌<◌, ◌≤◌, ◌++◌, ◌∷◌, [], OnOk, map};
 ghost use Rattle.desk_data.specs.Situation.{legs_of, reservations_of};

@@ -1,4 +1,4 @@
-//! Where and when passengers may go on behind what they have flown already.
+//! Where and when passengers may go on behind what they have begun.
 
 ghost use Rattle.std.specs.Prelude.{◌≡◌, ◌<◌, ◌≤◌, length};
 ghost use Rattle.desk_rules.specs.Passengers.{longest_delay};
@@ -11,7 +11,8 @@ use desk_data::{Airport, Cabin, Haul, Instance, Leg, Res};
 use plan_pages::Pages;
 use plan_reads::arrival;
 
-/// What passengers of a reservation have flown already: the legs of their scheduled path that have begun.
+/// What passengers of a reservation have begun: the legs of their scheduled path that are scheduled before
+/// the window.
 #[tactic(auto, unfolding(near_moves::specs::Routes::stem))]
 pub(crate) fn stem(inst: &Instance, res: Res) -> &[(Leg, Cabin)]
     requires { res.0 < reservations_of inst.now }

@@ -34,7 +34,7 @@ pub(crate) fn take_scheduled(
     Ok(())
 }
 
-/// Takes the path that is what was flown already and some legs behind it, where it is a route and not
+/// Takes the path that is what was begun and some legs behind it, where it is a route and not
 /// the scheduled path.
 pub(crate) fn take_behind(
     alloc: Global,

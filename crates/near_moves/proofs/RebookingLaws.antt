@@ -26,7 +26,7 @@ use Rattle.desk_model.proofs.PathOrder.{pairs_head, pairs_tail, path_before}
 use Rattle.near_moves.specs.Units.{Unit_, rebooked}
 use Rattle.near_moves.specs.Places.{leg}
 use Rattle.near_moves.specs.Routes.{stem, routes}
-use Rattle.near_moves.specs.RouteWords.{IsTried, scheduled, flown, one_more, two_more}
+use Rattle.near_moves.specs.RouteWords.{IsTried, scheduled, begun_alone, one_more, two_more}
 use Rattle.near_moves.specs.PassengerMoves.{aims, portions, rebooking, rebookings, rebooked_units}
 use Rattle.near_moves.specs.Near.{unit_steps, unit_moves, moves_of, step_in_time, move_of}
 use Rattle.near_moves.proofs.ListLaws.{contains_cases, filter_contains, map_contains, flat_map_contains, numbers_within, All_from_contains}
@@ -84,7 +84,7 @@ scheduled-within I r valid lt = valid.parts.res r no_res lt
 
 tried-within : (I : Situation) (r : ℕ) (path : List (Leg × Cabin)) → IsPathOf (legs_of I) (booked_path I r) → IsTried I r path → IsPathOf (legs_of I) path
 tried-within I r path own (scheduled is) = subst (IsPathOf (legs_of I)) (sym is) own
-tried-within I r path own (flown is) = subst (IsPathOf (legs_of I)) (sym is) (All-take (λ (pair : Leg × Cabin). pair.0.0 < legs_of I) (begun I r) (booked_path I r) own)
+tried-within I r path own (begun_alone is) = subst (IsPathOf (legs_of I)) (sym is) (All-take (λ (pair : Leg × Cabin). pair.0.0 < legs_of I) (begun I r) (booked_path I r) own)
 tried-within I r path own (one_more x c lt is) =
     let P : Leg × Cabin → Type 0 = λ pair. pair.0.0 < legs_of I in
     subst (IsPathOf (legs_of I)) (sym is)

@@ -11,7 +11,7 @@ use Rattle.desk_model.specs.declared.answer.Entry.{Entry}
 use Rattle.desk_model.specs.States.{State, after}
 use Rattle.desk_model.specs.Histories.{state, proposal_limit, is_batch, accepted_since_batch, entry_of}
 use Rattle.near_moves.specs.Descent.{descent, recovery_behind, recovery}
-use Rattle.near_moves.specs.Descents.{IsDescentStep, AllAlong, IsRecoveryEntry, HasEnded, BatchesWait, batch_in, batches_of}
+use Rattle.near_moves.specs.Descents.{IsDescentStep, AllAlong, IsRecoveryEntry, HasEnded, BatchesWait, batch_in, batches_in}
 use Rattle.near_moves.proofs.DescentLaws.{next-quiet, batch-since, descent-descends, descent-length, descent-few, descent-ends}
 
 -- ---- entries along a history
@@ -49,30 +49,30 @@ recovery-along most S h (B ∷ batches) all =
 
 -- ---- the batches
 
-steps_bring_none : (S : State) (h : List Entry) → AllAlong IsDescentStep S h → batches_of h ≡ []
+steps_bring_none : (S : State) (h : List Entry) → AllAlong IsDescentStep S h → batches_in h ≡ []
 steps_bring_none S [] steps = refl
 steps_bring_none S (entry ∷ h) steps =
     let none : List Batch = [] in
     let here : batch_in entry.event ≡ none = ap (λ (e : Entry). batch_in e.event) steps.0.told in
     rw here (steps_bring_none (after S entry.event) h steps.1)
 
-batches_append : (h g : List Entry) → batches_of (h ++ g) ≡ batches_of h ++ batches_of g
+batches_append : (h g : List Entry) → batches_in (h ++ g) ≡ batches_in h ++ batches_in g
 batches_append h g = flat_map-append (λ (entry : Entry). batch_in entry.event) h g
 
-descent_brings_none : (most : ℕ) (S : State) (h : List Entry) → batches_of (descent most S h) ≡ batches_of h
+descent_brings_none : (most : ℕ) (S : State) (h : List Entry) → batches_in (descent most S h) ≡ batches_in h
 descent_brings_none most S h =
     let down = descent-descends most most S h in
-    ap batches_of down.behind ∙ batches_append h down.added
-    ∙ ap (λ (bs : List Batch). batches_of h ++ bs) (steps_bring_none (state S h) down.added down.steps) ∙ append-nil (batches_of h)
+    ap batches_in down.behind ∙ batches_append h down.added
+    ∙ ap (λ (bs : List Batch). batches_in h ++ bs) (steps_bring_none (state S h) down.added down.steps) ∙ append-nil (batches_in h)
 
-pub recovery-batches : (most : ℕ) (S : State) (h : List Entry) (batches : List Batch) → batches_of (recovery_behind most S h batches) ≡ batches_of h ++ batches
+pub recovery-batches : (most : ℕ) (S : State) (h : List Entry) (batches : List Batch) → batches_in (recovery_behind most S h batches) ≡ batches_in h ++ batches
 unfolding recovery_behind
-recovery-batches most S h [] = sym (append-nil (batches_of h))
+recovery-batches most S h [] = sym (append-nil (batches_in h))
 recovery-batches most S h (B ∷ batches) =
     let g = h ++ batch_entry S h B ∷ [] in
     recovery-batches most S (descent most S g) batches
     ∙ ap (λ (bs : List Batch). bs ++ batches) (descent_brings_none most S g ∙ batches_append h (batch_entry S h B ∷ []))
-    ∙ append_assoc (batches_of h) (B ∷ []) batches
+    ∙ append_assoc (batches_in h) (B ∷ []) batches
 
 -- ---- the length
 

@@ -24,7 +24,7 @@ use Rattle.desk_model.proofs.TidyLaws.{is_fit-holds, is_fit-from}
 use Rattle.near_moves.specs.Places.{leg}
 use Rattle.near_moves.specs.Routes.{all_pairs, all_doubles, stem, tried_paths, is_route, without_repeats, routes}
 use Rattle.near_moves.specs.RouteParts.{tried_rest, is_other_route}
-use Rattle.near_moves.specs.RouteWords.{IsTried, scheduled, flown, one_more, two_more, IsRoute}
+use Rattle.near_moves.specs.RouteWords.{IsTried, scheduled, begun_alone, one_more, two_more, IsRoute}
 use Rattle.near_moves.proofs.ListLaws.{contains_none, contains_cases, contains_head, contains_tail, contains_filter, filter_contains, contains_map, map_contains, contains_flat_map, flat_map_contains, numbers_each, numbers_within, All_from_contains, Apart, apart_cons, apart_head, apart_tail, apart_nil, apart_append, apart_map, apart_flat_map, apart_numbers, apart_filter, filter_all}
 
 -- ---- whether two paths are one
@@ -225,7 +225,7 @@ tried-rest I r = refl
 
 tried-from : (I : Situation) (r : ℕ) (path : List (Leg × Cabin)) → IsTried I r path → Contains (booked_path I r ∷ tried_rest I r) path
 tried-from I r path (scheduled is) = subst (λ (z : List (Leg × Cabin)). Contains (booked_path I r ∷ tried_rest I r) z) (sym is) (contains_head (booked_path I r) (tried_rest I r))
-tried-from I r path (flown is) =
+tried-from I r path (begun_alone is) =
     let start = stem I r in
     let singles = map (with_pair start) (all_pairs I) in
     let doubles = map (λ (d : List (Leg × Cabin)). start ++ d) (all_doubles I) in
@@ -267,7 +267,7 @@ from-tried I r path has =
     elim (contains_cases (booked_path I r) path (tried_rest I r) has) [
       | inl first ↦ scheduled (sym first)
       | inr behind ↦ elim (contains_cases start path (singles ++ doubles) behind) [
-        | inl first ↦ flown (sym first)
+        | inl first ↦ begun_alone (sym first)
         | inr more ↦ elim (Contains-append_cases singles doubles path more) [
           | inl single ↦
               let at = map_contains (with_pair start) (all_pairs I) path single in

@@ -11,7 +11,7 @@ use Rattle.near_moves.specs.Units.{Unit_, owner}
 use Rattle.near_moves.specs.Near.{near, of_shard, shard, units, unit_moves, moves_of}
 use Rattle.near_moves.specs.Shards.{IsInAShard}
 use Rattle.near_moves.specs.Descent.{is_better, better, first_better}
-use Rattle.near_moves.specs.Words.{IsInOneShard}
+use Rattle.near_moves.specs.Shards.{IsInOneShard}
 use Rattle.near_moves.proofs.ListLaws.{contains_head, contains_tail, contains_none, contains_filter, filter_contains, contains_flat_map, flat_map_contains, All_from_contains, filter_none}
 use Rattle.near_moves.proofs.DescentLaws.{find-first, find-none}
 

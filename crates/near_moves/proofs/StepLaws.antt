@@ -1,14 +1,15 @@
--- Of what the moves that retime, restore and rebook are made.
-use Rattle.std.proofs.Common.{◌≡◌, ℕ, ◌+◌, ◌<◌, ◌≤◌, inl, inr, Bool, true, ◌&&◌, not, cond, eqb, ltb, leb, List, [], ◌∷◌, ◌++◌, map, sym, ap, subst, ◌∙◌, arith}
-use Rattle.std.specs.Prelude.{filter, Some}
+-- Of what the moves that retime, exchange, restore, hand on and rebook are made.
+use Rattle.std.proofs.Common.{◌≡◌, ℕ, ◌+◌, ◌<◌, ◌≤◌, inl, inr, Bool, true, ◌&&◌, not, cond, eqb, ltb, leb, List, [], ◌∷◌, ◌++◌, map, refl, sym, ap, subst, ◌∙◌, arith}
+use Rattle.std.specs.Prelude.{filter, Some, None, All}
 use Rattle.std.specs.List.{Contains, flat_map}
 use Rattle.std.proofs.lemmas.Bool.{cases_Bool, and_parts, and_from, not-true, lt-ltb, ltb-true, le-leb, leb-true, eq-eqb, eqb-true}
-use Rattle.std.proofs.lemmas.List.Elements.{Contains-append_left, Contains-append_right, Contains-append_cases}
+use Rattle.std.proofs.lemmas.List.Elements.{All-head, All-tail, All-take, Contains-append_left, Contains-append_right, Contains-append_cases}
 use Rattle.desk_units.specs.declared.numbers.Leg.{Leg}
 use Rattle.desk_units.specs.declared.numbers.Cabin.{Cabin}
 use Rattle.desk_data.specs.declared.row.Row.{Row}
 use Rattle.desk_data.specs.Situation.{Situation, legs_of, leg_at, earliest, fixed, ordered_off}
 use Rattle.desk_data.specs.PlanRows.{PlanRows, row_at, groups_at}
+use Rattle.desk_data.specs.Valid.{IsPlanFor}
 use Rattle.plan_moves.specs.declared.moves.Step.{Step}
 use Rattle.plan_moves.specs.declared.moves.Step.TheVariants.{Set, Push, Tidy, Refill}
 use Rattle.desk_rules.specs.Numbers.{numbers}
@@ -17,11 +18,16 @@ use Rattle.desk_rules.specs.Words.{Flies}
 use Rattle.desk_rules.specs.Passengers.{is_flown}
 use Rattle.desk_rules.proofs.MaintenanceLaws.{dep-is}
 use Rattle.desk_model.specs.Rebook.{count_on, same_path}
-use Rattle.near_moves.specs.Places.{leg, plane, flier, flown_row, is_restorable}
-use Rattle.near_moves.specs.LegMoves.{other_departures, retiming, retimings, restoring_alone, restoring_both, brings_back, restorings}
+use Rattle.desk_model.proofs.RotationOrder.{flown_once}
+use Rattle.near_moves.specs.Places.{leg, plane, flier, flown_row, is_restorable, legs_from, run}
+use Rattle.near_moves.specs.LegMoves.{other_departures, retiming, retimings, exchange_moments, exchange, exchanges, handing_step, handing, restoring_alone, restoring_both, brings_back, restorings}
 use Rattle.near_moves.specs.PassengerMoves.{aims, portions, rebooking, rebookings}
-use Rattle.near_moves.specs.StepWords.{IsOtherDeparture, at_earliest, later_by_15, later_by_30, later_by_60, later_by_120, later_by_240, IsRetiming, IsRebooking, LeadsBack, IsRestoring, alone, with_back}
-use Rattle.near_moves.proofs.ListLaws.{contains_cases, contains_head, contains_tail, contains_none, contains_filter, filter_contains, contains_map, map_contains, contains_flat_map, flat_map_contains, numbers_each, numbers_within}
+use Rattle.near_moves.specs.Units.{handed}
+use Rattle.near_moves.specs.Near.{unit_steps}
+use Rattle.near_moves.specs.StepWords.{IsOtherDeparture, at_earliest, later_by_15, later_by_30, later_by_60, later_by_120, later_by_240, IsRetiming, IsExchange, IsHanding, IsRebooking, LeadsBack, IsRestoring, alone, with_back}
+use Rattle.near_moves.proofs.ListLaws.{contains_cases, contains_head, contains_tail, contains_none, contains_filter, filter_contains, contains_map, map_contains, contains_flat_map, flat_map_contains, numbers_each, numbers_within, All_from_contains}
+use Rattle.near_moves.proofs.FromLaws.{from-holds}
+use Rattle.near_moves.proofs.MomentLaws.{moments-hold, moments-each}
 use Rattle.near_moves.proofs.RouteLaws.{other_path, not_other}
 use Rattle.near_moves.proofs.FamilyLaws.{row_cancelled}
 use Rattle.near_moves.proofs.AimLaws.{aims-hold, aims-each, portions-hold, portions-each}
@@ -111,6 +117,85 @@ retimings-each I P x p d steps flown is =
     subst (Contains (map (retiming P x) (other_departures I P x))) (retiming-is P x p d is.at flown ∙ sym is.all)
     (contains_map (retiming P x) (other_departures I P x) is.at
     (subst (λ (ts : List ℕ). Contains ts is.at) (sym (departures-are I P x d (dep-is P p x d flown))) (departures-each I x d is.at is.other)))
+
+-- ---- exchanged
+
+pub exchanges-hold : (I : Situation) (P : PlanRows) (p q : ℕ) (steps : List Step) → Contains (exchanges I P p q) steps → IsExchange I P p q steps
+unfolding exchanges
+exchanges-hold I P p q steps has =
+    let of_moment = map_contains (exchange p q) (exchange_moments I P p q) steps has in
+    record {
+      at = of_moment.from;
+      departs = moments-hold I P p q of_moment.from of_moment.there;
+      all = sym {a = exchange p q of_moment.from} of_moment.is;
+    }
+
+pub exchanges-each : (I : Situation) (P : PlanRows) (p q : ℕ) (steps : List Step) → IsPlanFor I P → IsExchange I P p q steps → Contains (exchanges I P p q) steps
+unfolding exchanges
+exchanges-each I P p q steps plan is =
+    subst (Contains (map (exchange p q) (exchange_moments I P p q))) (sym is.all)
+    (contains_map (exchange p q) (exchange_moments I P p q) is.at (moments-each I P p q is.at plan is.departs))
+
+-- ---- handed
+
+-- one aircraft flies all legs from a leg on
+row-from : (I : Situation) (P : PlanRows) (x p d y : ℕ) → Flies P x p d → Contains (legs_from I P x) y → row_at P y ≡ flown_row p (dep P y)
+row-from I P x p d y flown has =
+    let from = from-holds I P x y has in
+    elim from.place [
+      | inl same ↦
+          let here : Flies P y p d = subst (λ (z : ℕ). Flies P z p d) (sym same) flown in
+          here ∙ ap (flown_row p) (sym (dep-is P p y d here))
+      | inr before ↦
+          let own : before.plane ≡ p = flown_once P x before.plane p before.dep d before.first flown in
+          let here : Flies P y p before.later = subst (λ (k : ℕ). Flies P y k before.later) own before.second in
+          here ∙ ap (flown_row p) (sym (dep-is P p y before.later here))
+    ]
+
+handed_leg : PlanRows → ℕ → ℕ → ℕ → Row → Step
+handed_leg P q y t row = Set (leg y) row (flown_row q t)
+
+abbrev goes : PlanRows → ℕ → ℕ → ℕ → Step
+goes P p q y = Set (leg y) (flown_row p (dep P y)) (flown_row q (dep P y))
+
+goes-is : (P : PlanRows) (p q y : ℕ) → row_at P y ≡ flown_row p (dep P y) → handing_step P q y ≡ goes P p q y
+unfolding handed_leg
+goes-is P p q y is = ap (handed_leg P q y (dep P y)) is
+
+all_go : (P : PlanRows) (p q : ℕ) (ys : List ℕ) → All (λ y. row_at P y ≡ flown_row p (dep P y)) ys → map (handing_step P q) ys ≡ map (goes P p q) ys
+all_go P p q [] rows = refl
+all_go P p q (y ∷ ys) rows =
+    let row = All-head (λ z. row_at P z ≡ flown_row p (dep P z)) y ys rows in
+    let rest = all_go P p q ys (All-tail (λ z. row_at P z ≡ flown_row p (dep P z)) y ys rows) in
+    ap (λ (s : Step). s ∷ map (handing_step P q) ys) (goes-is P p q y row) ∙ ap (λ (steps : List Step). goes P p q y ∷ steps) rest
+
+run_goes : (I : Situation) (P : PlanRows) (x k p q d : ℕ) → Flies P x p d → map (handing_step P q) (run I P x k) ≡ map (goes P p q) (run I P x k)
+run_goes I P x k p q d flown =
+    all_go P p q (run I P x k)
+    (All-take (λ y. row_at P y ≡ flown_row p (dep P y)) k (legs_from I P x)
+    (All_from_contains (λ y. row_at P y ≡ flown_row p (dep P y)) (legs_from I P x) (λ y has. row-from I P x p d y flown has)))
+
+ending : ℕ → ℕ → List Step
+ending q p = Push (plane q) None ∷ Push (plane p) None ∷ Tidy ∷ []
+
+handing-is : (I : Situation) (P : PlanRows) (x k p q d : ℕ) → Flies P x p d → handing I P x k q ≡ map (goes P p q) (run I P x k) ++ Push (plane q) None ∷ Push (plane p) None ∷ Tidy ∷ []
+unfolding ending
+handing-is I P x k p q d flown =
+    ap (λ (n : ℕ). map (handing_step P q) (run I P x k) ++ ending q n) (ap flier flown)
+    ∙ ap (λ (steps : List Step). steps ++ ending q p) (run_goes I P x k p q d flown)
+
+pub handing-holds : (I : Situation) (P : PlanRows) (x k p q d : ℕ) (steps : List Step) → Flies P x p d → Contains (unit_steps I P (handed x k q)) steps → IsHanding I P x k p q steps
+unfolding unit_steps
+handing-holds I P x k p q d steps flown has =
+    elim (contains_cases (handing I P x k q) steps [] has) [
+      | inl same ↦ record { all = sym {a = handing I P x k q} same ∙ handing-is I P x k p q d flown }
+      | inr none ↦ absurd (contains_none steps none)
+    ]
+
+pub handing-each : (I : Situation) (P : PlanRows) (x k p q d : ℕ) (steps : List Step) → Flies P x p d → IsHanding I P x k p q steps → Contains (unit_steps I P (handed x k q)) steps
+unfolding unit_steps
+handing-each I P x k p q d steps flown is =
+    subst (Contains (handing I P x k q ∷ [])) (handing-is I P x k p q d flown ∙ sym is.all) (contains_head (handing I P x k q) [])
 
 -- ---- rebooked
 

@@ -44,7 +44,7 @@ abbrev pub with_proposal : State → List Entry → Option Move → List Entry
 with_proposal S h None = h
 with_proposal S h (Some m) = h ++ entry_of (state S h) 0 (event.Move m) ∷ []
 
--- n times
+-- a history after up to n proposals
 unfoldable pub descent_of : ℕ → ℕ → State → List Entry → List Entry
 descent_of zero most S h = h
 descent_of (suc n) most S h = descent_of n most S (with_proposal S h (next_proposal most S h))

@@ -40,8 +40,8 @@ abbrev pub batch_in : Event → List Batch
 batch_in (event.Batch B) = B ∷ []
 batch_in (event.Move m) = []
 
-abbrev pub batches_of : List Entry → List Batch
-batches_of h = flat_map (λ entry. batch_in entry.event) h
+abbrev pub batches_in : List Entry → List Batch
+batches_in h = flat_map (λ entry. batch_in entry.event) h
 
 -- a descent has ended behind a history: nothing more is proposed, at most so many were accepted since the last batch, and a plan
 -- whose history is not spent is quiet

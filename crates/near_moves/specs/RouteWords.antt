@@ -13,8 +13,8 @@ use Rattle.near_moves.specs.Routes.{stem}
 pub data IsTried (I : Situation) (r : ℕ) (path : List (Leg × Cabin)) : Type 0 where
   -- the scheduled path
   scheduled : path ≡ booked_path I r → IsTried I r path
-  -- what was flown already, alone
-  flown : path ≡ stem I r → IsTried I r path
+  -- what was begun, alone
+  begun_alone : path ≡ stem I r → IsTried I r path
   -- and with one leg behind it, in any cabin
   one_more : (x : ℕ) (c : Cabin) → x < legs_of I → path ≡ stem I r ++ (leg x, c) ∷ [] → IsTried I r path
   -- and with two legs behind it, in one cabin

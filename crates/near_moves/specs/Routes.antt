@@ -22,11 +22,11 @@ all_pairs I = flat_map (λ x. (leg x, F) ∷ (leg x, B) ∷ (leg x, E) ∷ []) (
 abbrev pub all_doubles : Situation → List (List (Leg × Cabin))
 all_doubles I = flat_map (λ a. map (λ b. a ∷ b ∷ []) (filter (λ b. cabin_rank a.1 == cabin_rank b.1) (all_pairs I))) (all_pairs I)
 
--- what the passengers have flown already
+-- what the passengers have begun: the legs of their scheduled path that are scheduled before the window
 abbrev pub stem : Situation → ℕ → List (Leg × Cabin)
 stem I r = take (begun I r) (booked_path I r)
 
--- the scheduled path; what was flown already, alone; and behind that one leg, or two legs in one cabin
+-- the scheduled path; what was begun, alone; and behind that one leg, or two legs in one cabin
 unfoldable pub tried_paths : Situation → ℕ → List (List (Leg × Cabin))
 tried_paths I r =
     booked_path I r

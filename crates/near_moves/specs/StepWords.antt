@@ -1,14 +1,16 @@
--- Of what the moves that retime, restore and rebook are made, in words.
-use Rattle.std.specs.Prelude.{◌≡◌, ◌≢◌, ℕ, ◌+◌, ◌<◌, ◌≤◌, false, Some, None, List, [], ◌∷◌, max}
+-- Of what the moves that retime, exchange, restore, hand on and rebook are made, in words.
+use Rattle.std.specs.Prelude.{◌≡◌, ◌≢◌, ℕ, ◌+◌, ◌<◌, ◌≤◌, false, Some, None, List, [], ◌∷◌, ◌++◌, map, max}
 use Rattle.desk_units.specs.declared.numbers.Leg.{Leg}
 use Rattle.desk_units.specs.declared.numbers.Cabin.{Cabin}
 use Rattle.desk_data.specs.declared.row.Row.TheVariants.{Cancelled}
 use Rattle.desk_data.specs.Situation.{Situation, legs_of, leg_at, plane_at, earliest, fixed, ordered_off}
 use Rattle.desk_data.specs.PlanRows.{PlanRows, row_at, groups_at}
 use Rattle.plan_moves.specs.declared.moves.Step.{Step}
-use Rattle.plan_moves.specs.declared.moves.Step.TheVariants.{Set, Push, Tidy, Refill, Rebook}
+use Rattle.plan_moves.specs.declared.moves.Step.TheVariants.{Set, Push, Swap, Tidy, Refill, Rebook}
+use Rattle.desk_rules.specs.Rotations.{dep}
 use Rattle.desk_model.specs.Rebook.{count_on}
-use Rattle.near_moves.specs.Places.{leg, plane, flown_row}
+use Rattle.near_moves.specs.Places.{leg, plane, minute, flown_row, run}
+use Rattle.near_moves.specs.Words.{DepartsOneAt}
 use Rattle.near_moves.specs.FamilyWords.{IsAim, IsPortion}
 
 -- a leg that departs at moment d may depart at its earliest departure instead, where that is before d, or 15, 30, 60, 120 or 240 minutes later
@@ -25,6 +27,16 @@ pub record IsRetiming (I : Situation) (P : PlanRows) (x p d : ℕ) (steps : List
   pub at : ℕ
   pub other : IsOtherDeparture I x d at
   pub all : steps ≡ Set (leg x) (flown_row p d) (flown_row p at) ∷ Push (plane p) (Some (leg x)) ∷ Tidy ∷ Refill (leg x) ∷ []
+
+-- aircraft p and q exchange their legs from a moment on at which a movable leg of one of them departs; the movable legs of p are pushed, then those of q, and then a Tidy
+pub record IsExchange (I : Situation) (P : PlanRows) (p q : ℕ) (steps : List Step) : Type 0 where
+  pub at : ℕ
+  pub departs : DepartsOneAt I P p q at
+  pub all : steps ≡ Swap (plane p) (plane q) (minute at) ∷ Push (plane p) None ∷ Push (plane q) None ∷ Tidy ∷ []
+
+-- the k legs from leg x on go from aircraft p to aircraft q, in their order and each at its time; the movable legs of q are pushed, then those of p, and then a Tidy
+pub record IsHanding (I : Situation) (P : PlanRows) (x k p q : ℕ) (steps : List Step) : Type 0 where
+  pub all : steps ≡ map (λ y. Set (leg y) (flown_row p (dep P y)) (flown_row q (dep P y))) (run I P x k) ++ Push (plane q) None ∷ Push (plane p) None ∷ Tidy ∷ []
 
 -- passengers on a path go to an aim that isn't that path, all or a power of two below all
 pub record IsRebooking (I : Situation) (P : PlanRows) (r : ℕ) (path : List (Leg × Cabin)) (steps : List Step) : Type 0 where

@@ -1,11 +1,10 @@
 -- The moves of legs and aircraft in words: which units there are, and at which moments two aircraft exchange legs.
-use Rattle.std.specs.Prelude.{◌≡◌, ◌≢◌, ℕ, ◌<◌, ◌≤◌, ◌⊎◌, false, List, length, All, Contains}
+use Rattle.std.specs.Prelude.{◌≡◌, ◌≢◌, ℕ, ◌<◌, ◌≤◌, ◌⊎◌, false, length, All}
 use Rattle.desk_data.specs.Situation.{Situation, legs_of, planes_of, plane_at, fixed}
 use Rattle.desk_data.specs.PlanRows.{PlanRows}
 use Rattle.desk_rules.specs.Words.{Flies, Precedes}
 use Rattle.near_moves.specs.Places.{legs_from, run}
 use Rattle.near_moves.specs.Units.{Unit_, swapped, handed}
-use Rattle.near_moves.specs.Near.{of_shard}
 
 -- two aircraft are of one family, the first is no surface transport, and the second has the greater number
 pub record ExchangesTwo (I : Situation) (u : Unit_) : Type 0 where
@@ -64,10 +63,3 @@ pub record HandsRun (I : Situation) (P : PlanRows) (u : Unit_) : Type 0 where
   pub other : to ≢ plane
   pub planes : to < planes_of I
   pub family : (plane_at I to).family ≡ (plane_at I plane).family
-
--- a unit is in one of n shards, and in no other
-pub record IsInOneShard (n : ℕ) (us : List Unit_) (u : Unit_) : Type 0 where
-  pub shard : ℕ
-  pub below : shard < n
-  pub there : Contains (of_shard shard n us) u
-  pub only : (s : ℕ) → Contains (of_shard s n us) u → s ≡ shard

@@ -15,7 +15,7 @@ ghost use Rattle.desk_model.specs.States.{State, opening, answer};
 ghost use Rattle.desk_model.specs.Histories.{IsLegal, is_accepted, state, proposal_limit, accepted_since_batch, entry_of};
 ghost use Rattle.near_moves.specs.Near.{near};
 ghost use Rattle.near_moves.specs.Descent.{is_better, better, IsQuiet, is_spent, next_proposal, descent, recovery};
-ghost use Rattle.near_moves.specs.Descents.{Descends, AllAlong, IsRecoveryEntry, HasEnded, BatchesWait, batches_of};
+ghost use Rattle.near_moves.specs.Descents.{Descends, AllAlong, IsRecoveryEntry, HasEnded, BatchesWait, batches_in};
 
 /// A proposal is accepted exactly where there is a plan and the move is better. The first better move
 /// near a plan is the first of all that are.
@@ -52,7 +52,7 @@ pub fn a_descent_ends_quiet_or_spent()
 /// this ends before the next batch arrives, and behind the last: at most `most` were accepted since the batch, and there is
 /// nothing more to propose. So where there is a plan then and the history is not spent, no move near that plan is better.
 pub fn a_recovery_takes_the_batches_and_descends_behind_each()
-    ensures batches { (most : ℕ) (S : State) (batches : Items Batch) → batches_of (recovery most S batches) ≡ batches }
+    ensures batches { (most : ℕ) (S : State) (batches : Items Batch) → batches_in (recovery most S batches) ≡ batches }
     ensures entries { (most : ℕ) (S : State) (batches : Items Batch) → AllAlong IsRecoveryEntry S (recovery most S batches) }
     ensures length { (most : ℕ) (S : State) (batches : Items Batch) → length (recovery most S batches) ≤ proposal_limit + length batches }
     ensures begins { (most : ℕ) (S : State) (before behind : Items Batch) → take (length (recovery most S before)) (recovery most S (before ++ behind)) ≡ recovery most S before }

@@ -1,9 +1,11 @@
 //! The moves near a plan that a search tries, in their order, and what a descent makes of them.
 //!
-//! The definitions stand in `specs/`: `Units`, of what the moves of a unit are made; `LegMoves` and
-//! `PassengerMoves`, the moves of each family; `Near`, all of them in their order, and their shards;
-//! `Routes`, where passengers may go; `Descent`, what is proposed one after another. What a move makes of a
-//! plan stands in `desk_model`.
+//! The definitions stand in `specs/`: `Places`, the legs and aircraft that moves are made of; `Units`, of what
+//! the moves of a unit are made; `LegMoves` and `PassengerMoves`, the moves of each family; `Near`, all of
+//! them in their order, and their shards; `Routes`, where passengers may go; `Descent`, what is proposed one
+//! after another. The same in words, for the laws: `FamilyWords`, `Words`, `DropWords`, `StepWords` and
+//! `RouteWords`; `Shards`, what is in a shard; `Descents`, what descents and recoveries add to a history. What
+//! a move makes of a plan stands in `desk_model`.
 //!
 //! The families, in their order: a leg departs at another time (retimed), two aircraft exchange their legs from
 //! a moment on (swapped), legs are cancelled so that the aircraft is again where it was (dropped), a cancelled
@@ -27,8 +29,10 @@ pub use descents::{
 };
 pub use drops::runs_are_dropped_where_they_come_round;
 pub use families::{
-    all_or_a_power_of_two_may_go, legs_are_retimed_and_restored_and_passengers_rebooked,
-    passengers_go_to_routes_or_off_all_paths, units_are_of_six_families,
+    aircraft_exchange_their_legs_at_departures, all_or_a_power_of_two_may_go,
+    legs_are_restored_alone_or_with_one_back, legs_are_retimed_to_other_departures,
+    passengers_are_rebooked_in_portions, passengers_go_to_routes_or_off_all_paths,
+    runs_are_handed_on_at_their_times, units_are_of_six_families,
 };
 pub use legs::{
     legs_from_a_leg_are_in_their_order, moments_of_an_exchange_are_departures_in_order,

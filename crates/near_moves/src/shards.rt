@@ -6,8 +6,7 @@ ghost use Rattle.desk_data.specs.Situation.{Situation};
 ghost use Rattle.desk_data.specs.PlanRows.{PlanRows};
 ghost use Rattle.near_moves.specs.Near.{near, of_shard, shard, units};
 ghost use Rattle.near_moves.specs.Units.{Unit_};
-ghost use Rattle.near_moves.specs.Shards.{IsInAShard};
-ghost use Rattle.near_moves.specs.Words.{IsInOneShard};
+ghost use Rattle.near_moves.specs.Shards.{IsInAShard, IsInOneShard};
 ghost use Rattle.near_moves.specs.Descent.{better, first_better};
 
 /// So many shards part the units near a plan: each unit is in one of them and in no other, a shard has no

@@ -27,8 +27,8 @@ pub struct PaxMoves {
 }
 
 impl PaxMoves {
-    /// All of them, of the reservations whose number leaves `shard` when it is divided by `shards`. The
-    /// only error is out of memory.
+    /// All of them, of the reservations whose number leaves `shard` when it is divided by `shards`. `shards`
+    /// is at least 1, and `shard` below it. The only error is out of memory.
     pub fn of(
         alloc: Global,
         inst: &Instance,
@@ -55,8 +55,8 @@ impl PaxMoves {
         })
     }
 
-    /// The next move. After an error the moves that are left are as before. The only error is out of
-    /// memory.
+    /// The next move, or `None` where none is left. After an error the moves that are left are as before. The
+    /// only error is out of memory.
     pub fn next(
         &mut self,
         alloc: Global,
@@ -70,13 +70,11 @@ impl PaxMoves {
         ensures err { OnErr result (left inst.now plan.now self.new ≡ left inst.now plan.now self.old) }
     {
         loop {
-            match self.next_in_unit(alloc, inst, plan)? {
-                Some(next) => return Ok(Some(next)),
-                None => {}
+            if let Some(next) = self.next_in_unit(alloc, inst, plan)? {
+                return Ok(Some(next));
             }
-            match self.next_unit(inst, plan) {
-                Some(_) => {}
-                None => return Ok(None),
+            if self.next_unit(inst, plan).is_none() {
+                return Ok(None);
             }
         }
     }
@@ -111,8 +109,8 @@ impl PaxMoves {
         }
     }
 
-    /// The next move off the path at hand; the paths behind it stay. After an error the moves that are
-    /// left are as before.
+    /// The next move off the path at hand; the paths behind it stay. `None` where that path has none left. The
+    /// only error is out of memory, and after it the moves that are left are as before.
     pub fn next_in_unit(
         &mut self,
         alloc: Global,

@@ -9,7 +9,7 @@ use Rattle.near_moves.specs.Descent.{is_better}
 use Rattle.near_pax.specs.declared.pax.PaxMoves.{PaxMoves}
 use Rattle.near_pax.specs.Left.{left, units_left}
 
--- from some units on some were passed over, and these are left: the first better move is the same, and where all moves fit, so do those that are left
+-- what is left once units were passed over: the first better move is the same, all fit where they did, and fewer units are left behind
 pub record IsPast (I : Situation) (P : PlanRows) (before now : List Unit_) : Type 0 where
   pub same : find (is_better I P) (moves_of I P before) ≡ find (is_better I P) (moves_of I P now)
   pub fits : All (Fits I) (moves_of I P before) → All (Fits I) (moves_of I P now)

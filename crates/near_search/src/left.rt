@@ -24,7 +24,7 @@ pub(crate) trait MovesLeft {
     /// Those that are not given yet, in their order.
     ghost left: { Situation → PlanRows → Self → List Asked };
 
-    /// The units behind them, whose moves are not given in turn.
+    /// The units behind the one at hand: `next_left` gives none of their moves.
     ghost behind: { Situation → PlanRows → Self → List Unit_ };
 
     /// The next one, or `None` where all were given. The units behind stay.

@@ -7,9 +7,9 @@
 //! The moves of legs come first (`near_legs`), and then those of passengers (`near_pax`): together they are the
 //! shard, which is a law. A move is tried on the
 //! evaluator: applied, judged by what the plan then breaks and costs, and taken back. Before that `ruled_out` asks
-//! whether it is known not to be better, which is worth while where that takes less than a trial: it may always
-//! say no. A path that costs a passenger nothing is passed over before the moves off it are made. What is known
-//! is a law each.
+//! whether it is known not to be better, which is worth while where that takes less than to try the move: it may
+//! always say no. A path that costs a passenger nothing is passed over before the moves off it are made. What is
+//! known is a law each.
 //!
 //! Proved: what is found is the first of `find` over the shard, as `near_moves` defines it, and it fits; the
 //! evaluator stands where it stood, also where memory ran out.

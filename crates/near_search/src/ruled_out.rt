@@ -15,7 +15,7 @@ use desk_eval::Evaluator;
 use full_cost::passenger_cost;
 use plan_moves::{Move, Step};
 
-/// Whether it is known without a trial that a move is not better: it has one step, and that makes no plan
+/// Whether it is known without trying it that a move is not better: it has one step, and that makes no plan
 /// cheaper. Where it says no, nothing is known.
 pub(crate) fn ruled_out(eval: &Evaluator, m: &Move) -> bool
     requires { Fits eval.now.inst m.now }
