@@ -339,14 +339,21 @@ FILES = (
 )
 
 
+def link(old, new):
+    """Gives a file another name, or copies it where the new one lies on another disk. `rt` takes no symbolic link here."""
+    try:
+        os.link(old, new)
+    except OSError:
+        shutil.copy2(old, new)
+
+
 def make_program(top):
     """A copy of this repository's sources with the program, over the same built libraries, and the program's folder."""
     shutil.copytree(CRATES, os.path.join(top, "crates"), ignore=shutil.ignore_patterns("out", "data", "must-fail"))
     for name in os.listdir(CRATES):
         built = os.path.join(CRATES, name, "out", "rlib")
         if os.path.isdir(built):
-            os.mkdir(os.path.join(top, "crates", name, "out"))
-            os.symlink(built, os.path.join(top, "crates", name, "out", "rlib"))
+            shutil.copytree(built, os.path.join(top, "crates", name, "out", "rlib"), copy_function=link)
     for name in ("crates.txt", "HANDLES"):
         shutil.copy(os.path.join(TOP, name), top)
     with open(os.path.join(top, "crates.txt"), "a") as file:

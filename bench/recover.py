@@ -4,10 +4,10 @@
 Usage: bench/recover.py [--sizes 1,2,3] [--seeds 5] [--moves N] [--runs 3] [--walk SIZE] [OTHER ..]
 
 OTHER is a command that takes the words of the desk. `recover` runs on days of some sizes, each of some seeds from 1 on, with the
-built desk and with OTHER beside it: how many moves were accepted, the time of each size, how it grows, the most memory, and whether
-OTHER wrote the same. A time is of the processor, and the shortest of some runs, so that other work beside it tells little. With
---moves at most so many moves are accepted behind each batch. Then the moves near the schedule of a day of a size are made one after
-another and not applied, by the program of bench/near.py; --walk 0 leaves that out.
+built desk and with OTHER beside it: how many moves were accepted, the time of each size, how it grows, and whether OTHER wrote the
+same. A time is of the processor, and the shortest of some runs, so that other work beside it tells little. With --moves at most so
+many moves are accepted behind each batch. Then the moves near the schedule of a day of a size, 40 where it is left out, are made one
+after another and not applied, by the program of bench/near.py; with 0 that is left out.
 
 The status is 1 where OTHER gave something else.
 """
@@ -34,7 +34,7 @@ def make_day(folder, seed, size):
 
 
 def timed(command, text=b""):
-    """The status of a command, what it prints, its seconds of the processor and its most memory in bytes."""
+    """The status of a command, what it prints, and its seconds of the processor."""
     with tempfile.TemporaryFile() as given, tempfile.TemporaryFile() as told:
         given.write(text)
         given.seek(0)
@@ -42,40 +42,38 @@ def timed(command, text=b""):
         _, status, used = os.wait4(child.pid, 0)
         child.returncode = os.waitstatus_to_exitcode(status)
         told.seek(0)
-        return child.returncode, told.read(), used.ru_utime + used.ru_stime, 1024 * used.ru_maxrss
+        return child.returncode, told.read(), used.ru_utime + used.ru_stime
 
 
 def recover(program, day, asked):
-    """What a recovery gives, its status, report and files; its shortest time in seconds and its memory."""
-    best, most = None, 0
+    """What a recovery gives, its status, report and files; and its shortest time in seconds."""
+    best = None
     for _ in range(asked.runs):
         with tempfile.TemporaryDirectory() as out:
             moves = ["--moves", str(asked.moves)] if asked.moves else []
-            status, told, took, memory = timed(program + ["recover", day, out] + moves)
+            status, told, took = timed(program + ["recover", day, out] + moves)
             best = took if best is None else min(best, took)
-            most = max(most, memory)
             given = [status, told]
             for name in WRITTEN:
                 path = os.path.join(out, name)
                 with open(path if os.path.exists(path) else os.devnull, "rb") as file:
                     given.append(file.read())
-    return given, best, most
+    return given, best
 
 
 def times_of(folder, size, asked):
-    """The moves accepted on the days of a size, the time of all, that of OTHER, how many it gave otherwise, and memory."""
-    accepted, own_time, other_time, differ, most = 0, 0.0, 0.0, 0, 0
+    """The moves accepted on the days of a size, the time of all, that of OTHER, and how many it gave otherwise."""
+    accepted, own_time, other_time, differ = 0, 0.0, 0.0, 0
     for seed in range(1, asked.seeds + 1):
         day = make_day(folder, seed, size)
-        given, took, memory = recover(PROGRAM, day, asked)
+        given, took = recover(PROGRAM, day, asked)
         accepted += given[2].count(b",accepted ")
         own_time += took
-        most = max(most, memory)
         if asked.other:
-            others, took, _ = recover(asked.other, day, asked)
+            others, took = recover(asked.other, day, asked)
             other_time += took
             differ += others != given
-    return accepted, own_time, other_time, differ, most
+    return accepted, own_time, other_time, differ
 
 
 def walk(folder, size):
@@ -83,8 +81,8 @@ def walk(folder, size):
     day = os.path.join(folder, "walk")
     os.mkdir(day)
     day = make_day(day, 1, size)
-    _, told, took, memory = timed([built_program()], input_of((day, 0, 1)))
-    print("size %d, all moves near the schedule: %s; %.2f s with all that is read, %.1f MB" % (size, told.decode().strip(), took, memory / 1e6))
+    _, told, took = timed([built_program()], input_of((day, 0, 1)))
+    print("size %d, all moves near the schedule: %s; %.2f s with all that is read" % (size, told.decode().strip(), took))
 
 
 def main():
@@ -99,12 +97,11 @@ def main():
     before, differ = None, 0
     with tempfile.TemporaryDirectory() as folder:
         for size in map(int, asked.sizes.split(",")):
-            accepted, took, other_took, others, most = times_of(folder, size, asked)
+            accepted, took, other_took, others = times_of(folder, size, asked)
             differ += others
             grown = "" if before is None else ", %.1f times that of the size before" % (took / before)
             beside = "; the other %.3f s, %d of them otherwise" % (other_took, others) if asked.other else ""
-            told = (size, asked.seeds, accepted, took, grown, most / 1e6, beside)
-            print("size %d, %d days: %d moves accepted, %.3f s%s, %.1f MB%s" % told, flush=True)
+            print("size %d, %d days: %d moves accepted, %.3f s%s%s" % (size, asked.seeds, accepted, took, grown, beside), flush=True)
             before = took
         if asked.walk:
             walk(folder, asked.walk)
