@@ -1,29 +1,27 @@
 #!/usr/bin/env python3
 """Times recoveries of days that are made up, and walks through their lists of moves.
 
-Usage: bench/recover.py [--walk SIZE] [OTHER]     OTHER is a command that takes the words of the desk
+Usage: bench/recover.py [--sizes 1,2,3] [--seeds 5] [--moves N] [--runs 3] [--walk SIZE] [OTHER ..]
 
-`recover` runs on days of size 1, 2 and 3, of five seeds each, with the built desk and with OTHER beside it: how many moves were
-accepted, the time of each size, how it grows, and whether OTHER wrote the same. Each time is the shortest of three runs. Then the
-moves near the plan behind batch 0 of a day of a size, 40 where it is left out, are made one after another and not applied, by the
-program of bench/near.py: it is tried unproved and checks itself as it goes, so that the built desk is faster.
+OTHER is a command that takes the words of the desk. `recover` runs on days of some sizes, each of some seeds from 1 on, with the
+built desk and with OTHER beside it: how many moves were accepted, the time of each size, how it grows, and whether OTHER wrote the
+same. A time is of the processor, and the shortest of some runs, so that other work beside it tells little. With --moves at most so
+many moves are accepted behind each batch. Then the moves near the schedule of a day of a size, 40 where it is left out, are made one
+after another and not applied, by the program of bench/near.py; with 0 that is left out.
 
 The status is 1 where OTHER gave something else.
 """
+import argparse
 import os
 import subprocess
 import sys
 import tempfile
-import time
 
-from near import TOP, input_of, try_program
+from near import TOP, built_program, input_of
 
 PROGRAM = [os.path.join(TOP, "crates", "desk", "out", "desk")]
 # the script `desk` asks for large pages too
 AS_DESK = {**os.environ, "GLIBC_TUNABLES": "glibc.malloc.hugetlb=1"}
-SIZES = (1, 2, 3)
-SEEDS = (1, 2, 3, 4, 5)
-RUNS = 3
 WRITTEN = ("journal.csv", "sol_rotations.csv", "sol_itineraries.csv")
 
 
@@ -35,16 +33,27 @@ def make_day(folder, seed, size):
     return day
 
 
-def recover(program, day):
+def timed(command, text=b""):
+    """The status of a command, what it prints, and its seconds of the processor."""
+    with tempfile.TemporaryFile() as given, tempfile.TemporaryFile() as told:
+        given.write(text)
+        given.seek(0)
+        child = subprocess.Popen(command, stdin=given, stdout=told, env=AS_DESK)
+        _, status, used = os.wait4(child.pid, 0)
+        child.returncode = os.waitstatus_to_exitcode(status)
+        told.seek(0)
+        return child.returncode, told.read(), used.ru_utime + used.ru_stime
+
+
+def recover(program, day, asked):
     """What a recovery gives, its status, report and files; and its shortest time in seconds."""
     best = None
-    for _ in range(RUNS):
+    for _ in range(asked.runs):
         with tempfile.TemporaryDirectory() as out:
-            start = time.perf_counter()
-            done = subprocess.run(program + ["recover", day, out], stdout=subprocess.PIPE, env=AS_DESK)
-            took = time.perf_counter() - start
+            moves = ["--moves", str(asked.moves)] if asked.moves else []
+            status, told, took = timed(program + ["recover", day, out] + moves)
             best = took if best is None else min(best, took)
-            given = [done.returncode, done.stdout]
+            given = [status, told]
             for name in WRITTEN:
                 path = os.path.join(out, name)
                 with open(path if os.path.exists(path) else os.devnull, "rb") as file:
@@ -52,44 +61,50 @@ def recover(program, day):
     return given, best
 
 
-def times_of(folder, size, other):
+def times_of(folder, size, asked):
     """The moves accepted on the days of a size, the time of all, that of OTHER, and how many it gave otherwise."""
     accepted, own_time, other_time, differ = 0, 0.0, 0.0, 0
-    for seed in SEEDS:
+    for seed in range(1, asked.seeds + 1):
         day = make_day(folder, seed, size)
-        given, took = recover(PROGRAM, day)
+        given, took = recover(PROGRAM, day, asked)
         accepted += given[2].count(b",accepted ")
         own_time += took
-        if other:
-            others, took = recover(other, day)
+        if asked.other:
+            others, took = recover(asked.other, day, asked)
             other_time += took
             differ += others != given
     return accepted, own_time, other_time, differ
 
 
 def walk(folder, size):
-    """Tells how many moves there are near the plan behind batch 0 of a day, and how long they take."""
-    day = make_day(folder, SEEDS[0], size)
-    with open(os.path.join(day, "journal.csv"), "w") as file:
-        file.write("0,batch,0\n")
-    lines, told = try_program(input_of((day, 0, 1)), 3600)
-    print("size %d, all moves near the plan: %s" % (size, lines[0] if lines else told))
+    """Tells how many moves there are near the schedule of a day, and how long they take."""
+    day = os.path.join(folder, "walk")
+    os.mkdir(day)
+    day = make_day(day, 1, size)
+    _, told, took = timed([built_program()], input_of((day, 0, 1)))
+    print("size %d, all moves near the schedule: %s; %.2f s with all that is read" % (size, told.decode().strip(), took))
 
 
 def main():
-    words = sys.argv[1:]
-    walked = int(words[1]) if words[:1] == ["--walk"] else 40
-    other = words[2 if words[:1] == ["--walk"] else 0:]
+    words = argparse.ArgumentParser(usage=__doc__)
+    words.add_argument("--sizes", default="1,2,3")
+    words.add_argument("--seeds", type=int, default=5)
+    words.add_argument("--moves", type=int)
+    words.add_argument("--runs", type=int, default=3)
+    words.add_argument("--walk", type=int, default=40)
+    words.add_argument("other", nargs="*")
+    asked = words.parse_args()
     before, differ = None, 0
     with tempfile.TemporaryDirectory() as folder:
-        for size in SIZES:
-            accepted, took, other_took, others = times_of(folder, size, other)
+        for size in map(int, asked.sizes.split(",")):
+            accepted, took, other_took, others = times_of(folder, size, asked)
             differ += others
             grown = "" if before is None else ", %.1f times that of the size before" % (took / before)
-            beside = "; the other %.3f s, %d of them otherwise" % (other_took, others) if other else ""
-            print("size %d, %d days: %d moves accepted, %.3f s%s%s" % (size, len(SEEDS), accepted, took, grown, beside))
+            beside = "; the other %.3f s, %d of them otherwise" % (other_took, others) if asked.other else ""
+            print("size %d, %d days: %d moves accepted, %.3f s%s%s" % (size, asked.seeds, accepted, took, grown, beside), flush=True)
             before = took
-        walk(folder, walked)
+        if asked.walk:
+            walk(folder, asked.walk)
     return 1 if differ else 0
 
 
