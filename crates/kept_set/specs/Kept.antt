@@ -1,0 +1,44 @@
+-- A set that is kept in order, with room.
+use Rattle.std.specs.Prelude.{◌≡◌, ◌≢◌, ℕ, ◌≤◌, ◌⊎◌, List, [], ◌∷◌, length, All, Option, None, Some, IsTrue, ◌↔◌, Bool}
+use Rattle.std.specs.List.{AllPairs, AllWithin, Contains}
+use Rattle.std.specs.declared.cmp.Ordering.{Ordering}
+use Rattle.std.specs.declared.cmp.Ordering.TheVariants.{Less, Equal, Greater}
+
+-- the items, and how many there is room for
+pub record Kept (K : Type 0) : Type 0 where
+  pub items : List K
+  pub room : ℕ
+
+-- items that compare alike are one
+abbrev pub IsExact : {K : Type 0} → (K → K → Ordering) → Type 0
+IsExact {K} cmp = (x y : K) → cmp x y ≡ Equal → x ≡ y
+
+-- each item is below those behind it
+abbrev pub AreRising : {K : Type 0} → (K → K → Ordering) → List K → Type 0
+AreRising cmp items = AllPairs (λ a b. cmp a b ≡ Less) items
+
+-- the same items, but that one item is among them exactly where a test says so
+pub record AreSet {K : Type 0} (old new : List K) (item : K) (is_in : Bool) : Type 0 where
+  pub here : IsTrue is_in ↔ Contains new item
+  pub others : (y : K) → y ≢ item → Contains new y ↔ Contains old y
+
+-- where an item would stand that is not among the items
+pub record IsGap {K : Type 0} (cmp : K → K → Ordering) (items : List K) (item : K) (at : ℕ) : Type 0 where
+  pub within : at ≤ length items
+  pub before : AllWithin (λ y. cmp y item ≡ Less) items 0 at
+  pub behind : AllWithin (λ y. cmp y item ≡ Greater) items at (length items)
+
+-- the greatest item below an item, if there is one
+abbrev pub IsLastBefore : {K : Type 0} → (K → K → Ordering) → List K → K → Option K → Type 0
+IsLastBefore cmp items item None = All (λ y. cmp y item ≢ Less) items
+IsLastBefore cmp items item (Some z) = Contains items z × (cmp z item ≡ Less) × All (λ y. cmp y item ≡ Less → (y ≡ z) ⊎ (cmp y z ≡ Less)) items
+
+-- the least item above an item, if there is one
+abbrev pub IsFirstBehind : {K : Type 0} → (K → K → Ordering) → List K → K → Option K → Type 0
+IsFirstBehind cmp items item None = All (λ y. cmp item y ≢ Less) items
+IsFirstBehind cmp items item (Some z) = Contains items z × (cmp item z ≡ Less) × All (λ y. cmp item y ≡ Less → (y ≡ z) ⊎ (cmp z y ≡ Less)) items
+
+-- the first of a list, if it has one
+abbrev pub first : {X : Type 0} → List X → Option X
+first [] = None
+first (x ∷ xs) = Some x

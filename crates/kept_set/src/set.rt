@@ -1,0 +1,159 @@
+//! The set.
+
+ghost use Rattle.std.specs.Prelude.{◌≡◌, ◌≢◌, ◌+◌, ◌<◌, ◌≤◌, [], length, OnOk, IfOk, IfErr, IsTrue, ◌↔◌, true, false};
+ghost use Rattle.std.specs.List.{AllWithin, Contains, HoldsAt};
+ghost use Rattle.std.specs.declared.cmp.Ordering.TheVariants.{Less, Equal};
+ghost use Rattle.kept_set.specs.Kept.{AreSet, AreRising, IsExact, IsFirstBehind, IsGap, IsLastBefore, first};
+
+use std::alloc::{AllocError, Global};
+use std::marker::Model;
+
+/// Items in their order, none twice. Contracts see them, and how many there is room for.
+#[derive(Debug, Drop)]
+pub struct KeptSet<K: Ord> {
+    items: Vec<K>,
+}
+
+impl<K: Ord> Model for KeptSet<K> {
+    ghost use Rattle.std.specs.Vec.{vec_capacity};
+    ghost use Rattle.kept_set.specs.Kept.{Kept, AreRising};
+
+    ghost Value = { Kept K };
+
+    ghost view = { λ i. record { items = i.items.items; room = vec_capacity i.items } };
+
+    ghost invariant = { λ i. AreRising K.cmp i.items.items };
+}
+
+impl<K: Ord + Copy> KeptSet<K> {
+    /// No items, and no room.
+    pub fn new(alloc: Global) -> KeptSet<K>
+        ensures { result.items ≡ [] }
+    {
+        KeptSet {
+            items: Vec::new(alloc),
+        }
+    }
+
+    /// The items, in their order.
+    pub fn items(&self) -> &[K]
+        ensures items { result.now ≡ self.now.items }
+        ensures rising { AreRising K.cmp self.now.items }
+    {
+        self.items.as_slice()
+    }
+
+    /// The least item, if there is one.
+    pub fn first(&self) -> Option<K>
+        ensures first { result ≡ first self.now.items }
+        ensures rising { AreRising K.cmp self.now.items }
+    {
+        self.items.as_slice().first().copied()
+    }
+
+    /// Makes room for so many items more than there are. The only error is out of memory; the items
+    /// stay, and no room is lost.
+    pub fn reserve(&mut self, more: usize) -> Result<(), AllocError>
+        ensures items { self.new.items ≡ self.old.items }
+        ensures room { self.old.room ≤ self.new.room }
+        ensures ok { OnOk result (length self.new.items + more ≤ self.new.room) }
+    {
+        self.items.reserve(more)
+    }
+
+    /// From now on the item is among the items, and the others stay, where items that compare alike are
+    /// one. There is room for one more. It takes no memory.
+    pub fn put(&mut self, item: K)
+        requires { length self.old.items < self.old.room }
+        ensures set { IsExact K.cmp → AreSet self.old.items self.new.items item true }
+        ensures length { length self.new.items ≤ length self.old.items + 1 }
+        ensures room { self.old.room ≤ self.new.room }
+    {
+        if let Err(at) = self.find(item) {
+            // there is room, so it is not refused
+            let _inserted = self.items.insert(at, item);
+        }
+    }
+
+    /// From now on the item is not among the items, and the others stay, where items that compare alike
+    /// are one. Its room stays. It takes no memory.
+    pub fn take(&mut self, item: K)
+        ensures set { IsExact K.cmp → AreSet self.old.items self.new.items item false }
+        ensures length { length self.new.items ≤ length self.old.items }
+        ensures room { self.old.room ≤ self.new.room }
+    {
+        if let Ok(at) = self.find(item) {
+            self.items.remove(at);
+        }
+    }
+
+    /// Whether an item is among the items, where items that compare alike are one.
+    pub fn has(&self, item: K) -> bool
+        ensures { IsExact K.cmp → IsTrue result ↔ Contains self.now.items item }
+    {
+        match self.find(item) {
+            Ok(_at) => true,
+            Err(_at) => false,
+        }
+    }
+
+    /// At which place an item stands, or else at which it would: those before it are below it, and
+    /// those from there on above.
+    pub fn find(&self, item: K) -> Result<usize, usize>
+        ensures bound { IfOk result (λ at. at < length self.now.items) }
+        ensures found { IfOk result (HoldsAt (λ y. K.cmp y item ≡ Equal) self.now.items) }
+        ensures missing { IfErr result (IsGap K.cmp self.now.items item) }
+    {
+        self.items.as_slice().binary_search(&item)
+    }
+
+    /// The greatest item below an item, which need not be among the items.
+    pub fn before(&self, item: K) -> Option<K>
+        ensures { IsLastBefore K.cmp self.now.items item result }
+    {
+        let at = self.count_below(item);
+        if at == 0 {
+            return None;
+        }
+        Some(self.items.as_slice()[at - 1])
+    }
+
+    /// The least item above an item, which need not be among the items.
+    pub fn behind(&self, item: K) -> Option<K>
+        ensures { IsFirstBehind K.cmp self.now.items item result }
+    {
+        let at = self.count_not_above(item);
+        if at == self.items.len() {
+            return None;
+        }
+        Some(self.items.as_slice()[at])
+    }
+
+    /// How many items are below an item.
+    fn count_below(&self, item: K) -> usize
+        ensures bound { result ≤ length self.now.items }
+        ensures before { AllWithin (λ y. K.cmp y item ≡ Less) self.now.items 0 result }
+        ensures rest { AllWithin (λ y. K.cmp y item ≢ Less) self.now.items result (length self.now.items) }
+    {
+        // by this the proof knows that the items ascend
+        let _ = &self.items;
+        match self.find(item) {
+            Ok(at) => at,
+            Err(at) => at,
+        }
+    }
+
+    /// How many items are not above an item.
+    fn count_not_above(&self, item: K) -> usize
+        ensures bound { result ≤ length self.now.items }
+        ensures before { AllWithin (λ y. K.cmp item y ≢ Less) self.now.items 0 result }
+        ensures rest { AllWithin (λ y. K.cmp item y ≡ Less) self.now.items result (length self.now.items) }
+    {
+        // by this the proof knows that a place and one more is a number
+        let _ = self.items.len();
+        match self.find(item) {
+            Ok(at) => at + 1,
+            Err(at) => at,
+        }
+    }
+}
