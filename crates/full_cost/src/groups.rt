@@ -8,18 +8,15 @@ ghost use Rattle.full_cost.specs.Amounts.{group_cost, reservation_cost};
 ghost use Rattle.full_cost.specs.Counted.{IsGroupOf, group_on};
 ghost use Rattle.full_cost.specs.Weighed.{AreWeights};
 
-use crate::cancellation::cancellation_cost;
-use crate::delay::{delay_cost, minutes_late};
-use crate::downgrade::downgrade_cost;
-use crate::legal::{late_cost, uncarried_cost};
+use crate::ended::{cost_by_end, path_end};
 use crate::weights::{Weights, weights_of};
-use desk_data::{Cabin, Grains, Instance, Leg, Plan, Res};
-use plan_reads::{all_flown, is_carried};
+use desk_data::{Cabin, Grains, Instance, Leg, Res};
+use plan_reads::ReadPlan;
 
 /// What the passengers cost.
-pub(crate) fn passengers_cost(inst: &Instance, plan: &Plan) -> Grains
-    requires { IsPlanFor inst.now plan.now }
-    ensures cost { result.0 ≡ delay_cost inst.now plan.now + cancellation_cost inst.now plan.now + downgrade_cost inst.now plan.now + legal_cost inst.now plan.now }
+pub(crate) fn passengers_cost<P: ReadPlan>(inst: &Instance, plan: &P) -> Grains
+    requires { IsPlanFor inst.now (P.plan_of plan.now) }
+    ensures cost { result.0 ≡ delay_cost inst.now (P.plan_of plan.now) + cancellation_cost inst.now (P.plan_of plan.now) + downgrade_cost inst.now (P.plan_of plan.now) + legal_cost inst.now (P.plan_of plan.now) }
     ensures limit { result.0 ≤ 6 * 10 ^ 37 }
 {
     let weights = weights_of(inst);
@@ -32,11 +29,11 @@ pub(crate) fn passengers_cost(inst: &Instance, plan: &Plan) -> Grains
 }
 
 /// What the passengers of a reservation cost.
-fn reservation_cost(inst: &Instance, plan: &Plan, weights: Weights, res: Res) -> Grains
-    requires plan { IsPlanFor inst.now plan.now }
+fn reservation_cost<P: ReadPlan>(inst: &Instance, plan: &P, weights: Weights, res: Res) -> Grains
+    requires plan { IsPlanFor inst.now (P.plan_of plan.now) }
     requires weights { AreWeights inst.now weights }
     requires res { res.0 < reservations_of inst.now }
-    ensures { result ≡ grains (reservation_cost inst.now plan.now res.0) }
+    ensures { result ≡ grains (reservation_cost inst.now (P.plan_of plan.now) res.0) }
 {
     let _rows = inst.parts();
     let mut total = Grains(0);
@@ -47,38 +44,20 @@ fn reservation_cost(inst: &Instance, plan: &Plan, weights: Weights, res: Res) ->
     total
 }
 
-/// What some passengers of a reservation cost on a path. Those who are not carried cost their
-/// cancellation and what is owed to them. Those who are cost their downgrades and, where all their
-/// legs are flown, their delay and what is owed for it.
-pub(crate) fn group_cost(
+/// What some passengers of a reservation cost on a path.
+pub(crate) fn group_cost<P: ReadPlan>(
     inst: &Instance,
-    plan: &Plan,
+    plan: &P,
     weights: Weights,
     res: Res,
     path: &[(Leg, Cabin)],
     count: u32,
 ) -> Grains
-    requires plan { IsPlanFor inst.now plan.now }
+    requires plan { IsPlanFor inst.now (P.plan_of plan.now) }
     requires weights { AreWeights inst.now weights }
     requires res { res.0 < reservations_of inst.now }
     requires group { IsGroupOf inst.now (group_on path.now count) }
-    ensures { result ≡ grains (group_cost inst.now plan.now res.0 (group_on path.now count)) }
+    ensures { result ≡ grains (group_cost inst.now (P.plan_of plan.now) res.0 (group_on path.now count)) }
 {
-    let _rows = inst.parts();
-    if !is_carried(path) {
-        return cancellation_cost(inst, weights.cancellation, res, count).plus(uncarried_cost(
-            inst,
-            weights.legal,
-            res,
-            count,
-        ));
-    }
-    let downgrades = downgrade_cost(inst, weights.downgrade, res, path, count);
-    if !all_flown(plan, path) {
-        return downgrades;
-    }
-    let minutes = minutes_late(inst, plan, res, path);
-    downgrades
-        .plus(delay_cost(inst, weights.delay, res, minutes, count))
-        .plus(late_cost(inst, weights.legal, res, minutes, count))
+    cost_by_end(inst, weights, res, path, count, path_end(inst, plan, path))
 }

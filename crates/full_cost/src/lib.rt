@@ -13,6 +13,7 @@ mod cancellation;
 mod cost;
 mod delay;
 mod downgrade;
+mod ended;
 mod groups;
 mod legal;
 mod operating;
@@ -22,4 +23,6 @@ mod stands;
 mod weights;
 
 pub use cost::full_cost;
+pub use ended::ended_cost;
+pub use operating::flight_cost;
 pub use passenger::passenger_cost;

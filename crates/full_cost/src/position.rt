@@ -8,10 +8,9 @@ ghost use Rattle.full_cost.specs.Stands.{is_there, AreHere, count_of_wanted};
 
 use crate::stands::put_stands;
 use crate::weights::weight_of;
-use desk_data::{
-    Airport, Grains, Instance, Leg, Plan, Plane, PlaneInfo, PositionInfo, Seats, Term,
-};
+use desk_data::{Airport, Grains, Instance, Leg, Plane, PlaneInfo, PositionInfo, Seats, Term};
 use desk_units::per_item;
+use plan_reads::ReadPlan;
 
 /// The most aircraft that a day has.
 const PLANES: usize = 1_000;
@@ -24,9 +23,9 @@ struct Gathered {
 }
 
 /// What the aircraft cost that are missing where the window ends.
-pub(crate) fn position_cost(inst: &Instance, plan: &Plan) -> Grains
-    requires { IsPlanFor inst.now plan.now }
-    ensures cost { result ≡ grains (position_cost inst.now plan.now) }
+pub(crate) fn position_cost<P: ReadPlan>(inst: &Instance, plan: &P) -> Grains
+    requires { IsPlanFor inst.now (P.plan_of plan.now) }
+    ensures cost { result ≡ grains (position_cost inst.now (P.plan_of plan.now)) }
     ensures limit { result.0 ≤ 10 ^ 32 }
 {
     let mut lasts = [None; PLANES];
@@ -46,18 +45,18 @@ pub(crate) fn position_cost(inst: &Instance, plan: &Plan) -> Grains
 /// aircraft. The groups of one line of the file stand one after another, so the aircraft that end at
 /// an airport are gathered once for all groups of a line.
 #[tactic(auto, unfolding(desk_rules::specs::Cost::position_cost))]
-fn missing_cost(
+fn missing_cost<P: ReadPlan>(
     inst: &Instance,
-    plan: &Plan,
+    plan: &P,
     lasts: &mut [Option<Leg>],
     stands: &mut [Option<Airport>],
     here: &mut [u32],
 ) -> Grains
-    requires plan { IsPlanFor inst.now plan.now }
+    requires plan { IsPlanFor inst.now (P.plan_of plan.now) }
     requires lasts { length lasts.old ≡ planes_of inst.now }
     requires stands { length stands.old ≡ planes_of inst.now }
     requires here { length here.old ≡ planes_of inst.now }
-    ensures cost { result ≡ grains (position_cost inst.now plan.now) }
+    ensures cost { result ≡ grains (position_cost inst.now (P.plan_of plan.now)) }
     ensures limit { result.0 ≤ 10 ^ 32 }
 {
     put_stands(inst, plan, lasts, stands);

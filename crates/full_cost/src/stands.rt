@@ -6,21 +6,21 @@ ghost use Rattle.desk_data.specs.Situation.{legs_of, planes_of};
 ghost use Rattle.desk_data.specs.Valid.{IsPlanFor};
 ghost use Rattle.full_cost.specs.Stands.{AreStands, end_of};
 
-use desk_data::{Airport, Instance, Leg, Plan, Plane};
-use plan_reads::{put_lasts, stand_of};
+use desk_data::{Airport, Instance, Leg, Plane};
+use plan_reads::{ReadPlan, put_lasts, stand_of};
 
 /// Writes where each aircraft ends: its last leg that departs before the window's end arrived there,
 /// or it began there. In `lasts` it keeps these legs.
-pub(crate) fn put_stands(
+pub(crate) fn put_stands<P: ReadPlan>(
     inst: &Instance,
-    plan: &Plan,
+    plan: &P,
     lasts: &mut [Option<Leg>],
     stands: &mut [Option<Airport>],
 )
-    requires plan { IsPlanFor inst.now plan.now }
+    requires plan { IsPlanFor inst.now (P.plan_of plan.now) }
     requires lasts { length lasts.old ≡ planes_of inst.now }
     requires stands { length stands.old ≡ planes_of inst.now }
-    ensures { AreStands inst.now plan.now stands.new }
+    ensures { AreStands inst.now (P.plan_of plan.now) stands.new }
 {
     let end = inst.window().1;
     put_lasts(&end, inst, plan, lasts);

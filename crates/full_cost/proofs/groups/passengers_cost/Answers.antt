@@ -9,27 +9,27 @@ use Rattle.full_cost.proofs.GroupLaws.{reservations-le, reservations_are}
 use Rattle.full_cost.proofs.groups.passengers_cost.Goals as goal
 
 pub plus-total-requires : goal.plus-total-requires
-plus-total-requires c =
+plus-total-requires g c =
     let I = c.args.inst.now in
-    let P = c.args.plan.now in
+    let P = g.P.ReadPlan.plan_of c.args.plan.now in
     let one : c.reservation_cost.result.0 ≡ reservation_cost I P c.loop-r.r = ap (λ g. g.0) c.reservation_cost.ensures in
     omega (arith, reservations-le I P (c.loop-r.r + 1) c.parts-rows.ensures.valid c.requires, sum-more (reservation_cost I P) c.loop-r.r, one, c.loop-r.invariant)
 
 pub loop-r-preserved : goal.loop-r-preserved
-loop-r-preserved c =
+loop-r-preserved g c =
     let I = c.args.inst.now in
-    let P = c.args.plan.now in
+    let P = g.P.ReadPlan.plan_of c.args.plan.now in
     let one : c.reservation_cost.result.0 ≡ reservation_cost I P c.loop-r.r = ap (λ g. g.0) c.reservation_cost.ensures in
     omega (arith, sum-more (reservation_cost I P) c.loop-r.r, one, c.loop-r.invariant)
 
 pub returns-clause-cost : goal.returns-clause-cost
 unfolding delay_cost cancellation_cost downgrade_cost legal_cost
-returns-clause-cost c =
+returns-clause-cost g c =
     let all : c.loop-r.r ≡ reservations_of c.args.inst.now = omega arith in
     c.loop-r.invariant
-    ∙ ap (λ n. sum_by (reservation_cost c.args.inst.now c.args.plan.now) (numbers n)) all
-    ∙ reservations_are c.args.inst.now c.args.plan.now (reservations_of c.args.inst.now)
+    ∙ ap (λ n. sum_by (reservation_cost c.args.inst.now (g.P.ReadPlan.plan_of c.args.plan.now)) (numbers n)) all
+    ∙ reservations_are c.args.inst.now (g.P.ReadPlan.plan_of c.args.plan.now) (reservations_of c.args.inst.now)
 
 pub returns-clause-limit : goal.returns-clause-limit
-returns-clause-limit c =
-    omega (arith, reservations-le c.args.inst.now c.args.plan.now c.loop-r.r c.parts-rows.ensures.valid c.requires, c.loop-r.invariant)
+returns-clause-limit g c =
+    omega (arith, reservations-le c.args.inst.now (g.P.ReadPlan.plan_of c.args.plan.now) c.loop-r.r c.parts-rows.ensures.valid c.requires, c.loop-r.invariant)

@@ -6,4 +6,4 @@ use Rattle.full_cost.proofs.groups.passengers_cost.Given as goal
 
 -- what the reservations so far cost
 abbrev pub invariant-loop-r : goal.invariant-loop-r
-invariant-loop-r l = l.total.0 ≡ sum_by (reservation_cost l.inst l.plan) (numbers l.r)
+invariant-loop-r g l = l.total.0 ≡ sum_by (reservation_cost l.inst (g.P.ReadPlan.plan_of l.plan)) (numbers l.r)

@@ -7,9 +7,9 @@ use Rattle.full_cost.proofs.GroupLaws.{group-fits, some-groups-lt, all-groups}
 use Rattle.full_cost.proofs.groups.reservation_cost.Goals as goal
 
 pub group_cost-requires-clause-group : goal.group_cost-requires-clause-group
-group_cost-requires-clause-group c =
+group_cost-requires-clause-group g c =
     let I = c.args.inst.now in
-    let P = c.args.plan.now in
+    let P = g.P.ReadPlan.plan_of c.args.plan.now in
     let r = c.args.res.0 in
     let i = c.loop-group.group-index in
     let lt : i < length (groups_at P r) = rw c.groups-group-items.ensures.groups at c.loop-group-test.true in
@@ -17,9 +17,9 @@ group_cost-requires-clause-group c =
     rw c.as_slice-path.ensures (group-fits I P r i c.group-item.result c.parts-rows.ensures.valid c.requires.plan c.requires.res lt is)
 
 pub plus-total-requires : goal.plus-total-requires
-plus-total-requires c =
+plus-total-requires g c =
     let I = c.args.inst.now in
-    let P = c.args.plan.now in
+    let P = g.P.ReadPlan.plan_of c.args.plan.now in
     let r = c.args.res.0 in
     let i = c.loop-group.group-index in
     let lt : i < length (groups_at P r) = rw c.groups-group-items.ensures.groups at c.loop-group-test.true in
@@ -28,9 +28,9 @@ plus-total-requires c =
     omega (arith, some-groups-lt I P r i c.group-item.result c.parts-rows.ensures.valid c.requires.plan lt, one, c.loop-group.invariant)
 
 pub loop-group-preserved : goal.loop-group-preserved
-loop-group-preserved c =
+loop-group-preserved g c =
     let I = c.args.inst.now in
-    let P = c.args.plan.now in
+    let P = g.P.ReadPlan.plan_of c.args.plan.now in
     let r = c.args.res.0 in
     let i = c.loop-group.group-index in
     let lt : i < length (groups_at P r) = rw c.groups-group-items.ensures.groups at c.loop-group-test.true in
@@ -39,9 +39,9 @@ loop-group-preserved c =
     omega (arith, sum_by_more (group_cost I P r) (groups_at P r) i c.group-item.result lt, c.plus-total.ensures, one, c.loop-group.invariant)
 
 pub returns : goal.returns
-returns c =
+returns g c =
     let I = c.args.inst.now in
-    let P = c.args.plan.now in
+    let P = g.P.ReadPlan.plan_of c.args.plan.now in
     let r = c.args.res.0 in
     let i = c.loop-group.group-index in
     let all : length (groups_at P r) ≤ i = rw c.groups-group-items.ensures.groups at c.loop-group-test.false in

@@ -6,4 +6,4 @@ use Rattle.full_cost.proofs.groups.reservation_cost.Given as goal
 
 -- what the groups so far cost
 abbrev pub invariant-loop-group : goal.invariant-loop-group
-invariant-loop-group l = l.total.0 ≡ sum_by (group_cost l.inst l.plan l.fn.res.0) (take l.group-index (groups_at l.plan l.fn.res.0))
+invariant-loop-group g l = l.total.0 ≡ sum_by (group_cost l.inst (g.P.ReadPlan.plan_of l.plan) l.fn.res.0) (take l.group-index (groups_at (g.P.ReadPlan.plan_of l.plan) l.fn.res.0))

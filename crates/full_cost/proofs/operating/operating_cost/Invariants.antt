@@ -6,4 +6,4 @@ use Rattle.full_cost.proofs.operating.operating_cost.Given as goal
 
 -- what the legs so far cost
 abbrev pub invariant-loop-x : goal.invariant-loop-x
-invariant-loop-x l = l.total.0 ≡ sum_by (operating l.inst l.plan) (numbers l.x)
+invariant-loop-x g l = l.total.0 ≡ sum_by (operating l.inst (g.P.ReadPlan.plan_of l.plan)) (numbers l.x)

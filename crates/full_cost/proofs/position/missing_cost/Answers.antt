@@ -7,13 +7,13 @@ use Rattle.full_cost.proofs.StandLaws.{here_at_hand, here_below}
 use Rattle.full_cost.proofs.position.missing_cost.Goals as goal
 
 pub at_hand-requires : goal.at_hand-requires
-at_hand-requires c = here_below c.args.inst.now c.put_stands.new.stands c.position-item.result.airport.0 c.gather_at-gathered.result.count c.gather_at-gathered.new.here c.gather_at-gathered.ensures.here
+at_hand-requires g c = here_below c.args.inst.now c.put_stands.new.stands c.position-item.result.airport.0 c.gather_at-gathered.result.count c.gather_at-gathered.new.here c.gather_at-gathered.ensures.here
 
 pub plus-total-requires : goal.plus-total-requires
 unfolding missing_aircraft
-plus-total-requires c =
+plus-total-requires g c =
     let I = c.args.inst.now in
-    let P = c.args.plan.now in
+    let P = g.P.ReadPlan.plan_of c.args.plan.now in
     let position = c.position-item.result in
     let i = c.loop-position.position-index in
     let lt : i < length I.parts.positions = rw c.positions-position-items.ensures at c.loop-position-test.true in
@@ -29,9 +29,9 @@ plus-total-requires c =
 
 pub loop-position-preserved : goal.loop-position-preserved
 unfolding missing_aircraft
-loop-position-preserved c =
+loop-position-preserved g c =
     let I = c.args.inst.now in
-    let P = c.args.plan.now in
+    let P = g.P.ReadPlan.plan_of c.args.plan.now in
     let position = c.position-item.result in
     let i = c.loop-position.position-index in
     let lt : i < length I.parts.positions = rw c.positions-position-items.ensures at c.loop-position-test.true in
@@ -49,7 +49,7 @@ loop-position-preserved c =
     }
 
 pub returns-clause-limit : goal.returns-clause-limit
-returns-clause-limit c =
+returns-clause-limit g c =
     let I = c.args.inst.now in
-    let P = c.args.plan.now in
+    let P = g.P.ReadPlan.plan_of c.args.plan.now in
     omega (arith, sum_by-take-le (missing_aircraft I P) I.parts.positions c.loop-position.position-index, missing-sum-le I P c.parts-rows.ensures.valid, c.loop-position.invariant.cost)

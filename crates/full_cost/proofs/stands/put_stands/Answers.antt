@@ -6,9 +6,9 @@ use Rattle.full_cost.proofs.StandLaws.{stand_is}
 use Rattle.full_cost.proofs.stands.put_stands.Goals as goal
 
 pub returns : goal.returns
-returns c =
+returns g c =
     let I = c.args.inst.now in
-    let P = c.args.plan.now in
+    let P = g.P.ReadPlan.plan_of c.args.plan.now in
     let lasts : AreLasts I P (λ (p : ℕ). I.parts.to.0) (legs_of I) c.put_lasts.new.lasts = rw c.window.ensures at c.put_lasts.ensures in
     record {
       planes = search rules;
