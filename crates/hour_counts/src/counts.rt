@@ -7,6 +7,7 @@ ghost use Rattle.desk_data.specs.Valid.{IsPlanFor, IsRowOf};
 ghost use Rattle.desk_model.specs.Push.{arrivals_beside, departures_beside};
 ghost use Rattle.hour_counts.specs.Counts.{AreCountsOf, among, arrival_of, counted_departure, departure_of};
 
+use crate::asked::KnowsHours;
 use crate::table::Table;
 use desk_data::{Airport, Instance, Leg, Minute, NoMem, Row};
 use plan_reads::ReadPlan;
@@ -95,6 +96,34 @@ impl HourCounts {
     {
         let own = one_at(arrival_of(inst, leg, row), airport, hour);
         self.arrivals.at(airport.0, hour).saturating_sub(own)
+    }
+}
+
+impl KnowsHours for HourCounts {
+    ghost use Rattle.hour_counts.specs.Counts.{AreCountsOf};
+
+    ghost knows = { λ counts I Q. AreCountsOf I Q counts };
+
+    fn departures_beside(
+        &self,
+        inst: &Instance,
+        leg: Leg,
+        row: Row,
+        airport: Airport,
+        hour: u32,
+    ) -> u32 {
+        HourCounts::departures_beside(self, inst, leg, row, airport, hour)
+    }
+
+    fn arrivals_beside(
+        &self,
+        inst: &Instance,
+        leg: Leg,
+        row: Row,
+        airport: Airport,
+        hour: u32,
+    ) -> u32 {
+        HourCounts::arrivals_beside(self, inst, leg, row, airport, hour)
     }
 }
 

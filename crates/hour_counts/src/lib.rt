@@ -5,13 +5,15 @@
 //!     counts.place(&inst, leg, was, new)?;                             // a leg has another row
 //!
 //! Counted are the legs that are flown and whose scheduled aircraft is no surface transport; a look-up
-//! leaves the leg out that it is asked for.
+//! leaves the leg out that it is asked for. `KnowsHours` is the trait of all that has these look-ups.
 //!
 //! Proved: what is counted is `AreCountsOf` a plan, and the look-ups are `departures_beside` and
 //! `arrivals_beside` of desk_model. It stands on `desk_data`, `desk_rules`, `desk_model` and `plan_reads`.
 #![tactic(auto)]
 
+mod asked;
 mod counts;
 mod table;
 
+pub use asked::KnowsHours;
 pub use counts::HourCounts;

@@ -2,13 +2,14 @@
 //!
 //!     groups_after_rebook(alloc, &inst, &plan, res, path, to, count)?    // from one path to another
 //!     groups_after_tidy(alloc, &inst, &plan, res)?                       // off the paths that break a rule
-//!     groups_after_refill(alloc, &inst, &plan, leg, res)?                // back to the scheduled path
+//!     groups_after_refill(alloc, &inst, &plan, &seats, leg, res)?        // back to the scheduled path
 //!
 //! Each call answers the groups that the step makes, or `None` where the reservation keeps those that it
 //! has; a Tidy takes memory only where groups change. A Tidy is `groups_after_tidy` of each reservation in
 //! the plan at its start. A Refill is `groups_after_refill` of one reservation after another, each in the
-//! plan as those before it left it: it walks over all groups of the plan once for each reservation that
-//! has someone to refill. The plan is whatever has its rows and groups, by the trait `ReadPlan`.
+//! plan as those before it left it. The plan is whatever has its rows and groups, by the trait `ReadPlan`,
+//! and how many are aboard its legs is asked of whatever knows it, by the trait `KnowsAboard`: no call walks
+//! over other reservations.
 //!
 //! Proved: the groups are those of which desk_model speaks, they ascend by path, and their passengers are
 //! all those of the reservation; the answer is `None` just where nobody goes, or the two paths are one, and
@@ -26,6 +27,7 @@ mod refill;
 mod seats;
 mod tidy;
 
+pub use aboard::KnowsAboard;
 pub use rebook::groups_after_rebook;
 pub use refill::groups_after_refill;
 pub use tidy::groups_after_tidy;

@@ -3,13 +3,12 @@
 ghost use Rattle.std.specs.Prelude.{◌≡◌, ◌<◌, ◌≤◌, ◌==◌, IfOk, is_none};
 ghost use Rattle.std.specs.Option.{ForSome};
 ghost use Rattle.desk_data.specs.PlanRows.{groups_at, with_groups};
-ghost use Rattle.desk_data.specs.Situation.{legs_of, reservations_of};
-ghost use Rattle.desk_data.specs.Valid.{IsPathOf, IsPlanFor};
-ghost use Rattle.desk_model.specs.Choices.{greatest_within};
-ghost use Rattle.desk_model.specs.Refill.{after_refilling, has_leg, has_seats_for};
+ghost use Rattle.desk_data.specs.Situation.{reservations_of};
+ghost use Rattle.desk_data.specs.Valid.{IsPlanFor};
+ghost use Rattle.desk_model.specs.Refill.{after_refilling, has_leg};
 ghost use Rattle.plan_groups.specs.Made.{AreWhole, everyone, going_back, groups_or};
 
-use crate::aboard::aboard_each;
+use crate::aboard::KnowsAboard;
 use crate::counts::{count_on, groups_of};
 use crate::fits::is_fit_path;
 use crate::rebook::rebooked;
@@ -22,23 +21,25 @@ use std::alloc::Global;
 /// the leg and meets C13, C14 and C15, as many of its passengers who are not carried go to that path
 /// as all its legs have seats for. `None` where nobody goes: the reservation keeps its groups.
 ///
-/// Where somebody may go, the passengers aboard the path's legs are counted in one walk over all
-/// groups of the plan. The only error is out of memory.
-pub fn groups_after_refill<P: ReadPlan>(
+/// How many passengers are aboard the path's legs is what `seats` knows of the plan. The only error is
+/// out of memory.
+pub fn groups_after_refill<P: ReadPlan, S: KnowsAboard>(
     alloc: Global,
     inst: &Instance,
     plan: &P,
+    seats: &S,
     leg: Leg,
     res: Res,
 ) -> Result<Option<Vec<Group>>, NoMem>
     requires plan { IsPlanFor inst.now (P.plan_of plan.now) }
+    requires seats { S.knows seats.now (P.plan_of plan.now) }
     requires res { res.0 < reservations_of inst.now }
     ensures made { IfOk result (λ made. with_groups (P.plan_of plan.now) res.0 (groups_or (groups_at (P.plan_of plan.now) res.0) made) ≡ after_refilling inst.now leg.0 (P.plan_of plan.now) res.0) }
     ensures whole { IfOk result (λ made. ForSome made (λ groups. AreWhole inst.now res.0 groups.items)) }
     ensures none { IfOk result (λ made. is_none made ≡ (going_back inst.now (P.plan_of plan.now) leg.0 res.0 == 0)) }
 {
     let groups = groups_of(inst, plan, res);
-    let going = going_back(alloc, inst, plan, leg, res, groups)?;
+    let going = going_back(inst, plan, seats, leg, res, groups);
     if going == 0 {
         return Ok(None);
     }
@@ -48,26 +49,27 @@ pub fn groups_after_refill<P: ReadPlan>(
 }
 
 /// How many of a reservation's passengers, with these groups, go back to its scheduled path.
-fn going_back<P: ReadPlan>(
-    alloc: Global,
+fn going_back<P: ReadPlan, S: KnowsAboard>(
     inst: &Instance,
     plan: &P,
+    seats: &S,
     leg: Leg,
     res: Res,
     groups: &[Group],
-) -> Result<u32, NoMem>
+) -> u32
     requires plan { IsPlanFor inst.now (P.plan_of plan.now) }
+    requires seats { S.knows seats.now (P.plan_of plan.now) }
     requires res { res.0 < reservations_of inst.now }
     requires groups { groups.now ≡ groups_at (P.plan_of plan.now) res.0 }
     requires few { everyone groups.now ≤ 1000 }
-    ensures { IfOk result (λ going. going ≡ going_back inst.now (P.plan_of plan.now) leg.0 res.0) }
+    ensures { result ≡ going_back inst.now (P.plan_of plan.now) leg.0 res.0 }
 {
     let path = &inst.res(res).path;
     let waiting = count_on(&[], groups);
     if waiting == 0 || !has_leg(leg, path.as_slice()) || !is_fit_path(inst, plan, res, path) {
-        return Ok(0);
+        return 0;
     }
-    refill_count(alloc, inst, plan, path.as_slice(), waiting)
+    fitting(inst, plan, seats, path.as_slice(), waiting)
 }
 
 /// Whether a path has a leg.
@@ -75,21 +77,4 @@ fn has_leg(leg: Leg, path: &[(Leg, Cabin)]) -> bool
     ensures { result ≡ has_leg leg.0 path.now }
 {
     path.iter().any(|pair| pair.0.0 == leg.0)
-}
-
-/// The greatest number of passengers waiting, who are not carried, for whom all legs of a path have
-/// seats left; 0 where a leg has more passengers than seats.
-fn refill_count<P: ReadPlan>(
-    alloc: Global,
-    inst: &Instance,
-    plan: &P,
-    path: &[(Leg, Cabin)],
-    waiting: u32,
-) -> Result<u32, NoMem>
-    requires plan { IsPlanFor inst.now (P.plan_of plan.now) }
-    requires path { IsPathOf (legs_of inst.now) path.now }
-    ensures { IfOk result (λ going. going ≡ greatest_within waiting (has_seats_for inst.now (P.plan_of plan.now) path.now)) }
-{
-    let aboard = aboard_each(alloc, inst, plan, path)?;
-    Ok(fitting(inst, plan, path, aboard.as_slice(), waiting))
 }

@@ -7,30 +7,29 @@ ghost use Rattle.desk_data.specs.Valid.{IsPathOf, IsPlanFor, IsRowOf};
 ghost use Rattle.desk_model.specs.Choices.{greatest_within};
 ghost use Rattle.desk_model.specs.Refill.{has_seats_for, seats_of};
 ghost use Rattle.desk_rules.specs.Passengers.{seats_in};
-ghost use Rattle.plan_groups.specs.Aboard.{AreAboard};
 
+use crate::aboard::KnowsAboard;
 use desk_data::{Cabin, Instance, Leg, Row, Seats};
 use plan_reads::ReadPlan;
 
-/// The greatest number of passengers waiting for whom all legs of a path have seats left, given those
-/// aboard each of its pairs.
-pub(crate) fn fitting<P: ReadPlan>(
+/// The greatest number of passengers waiting for whom all legs of a path have seats left.
+pub(crate) fn fitting<P: ReadPlan, S: KnowsAboard>(
     inst: &Instance,
     plan: &P,
+    seats: &S,
     path: &[(Leg, Cabin)],
-    aboard: &[u32],
     waiting: u32,
 ) -> u32
     requires plan { IsPlanFor inst.now (P.plan_of plan.now) }
     requires path { IsPathOf (legs_of inst.now) path.now }
-    requires aboard { AreAboard (P.plan_of plan.now) path.now aboard.now }
+    requires seats { S.knows seats.now (P.plan_of plan.now) }
     ensures { result ≡ greatest_within waiting (has_seats_for inst.now (P.plan_of plan.now) path.now) }
 {
     let mut most = waiting;
     for k in 0..path.len() {
         let (leg, cabin) = path[k];
-        let seats = seats_of(inst, plan.read_row(leg), cabin);
-        most = most.min(seats.saturating_sub(aboard[k]));
+        let all = seats_of(inst, plan.read_row(leg), cabin);
+        most = most.min(all.saturating_sub(seats.aboard(leg, cabin)));
     }
     most
 }

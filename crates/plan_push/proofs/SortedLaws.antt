@@ -176,3 +176,11 @@ flown-within I P p legs are = λ k d lt.
     let each : All (λ x. x < legs_of I) (map (λ (leg : Leg). leg.0) legs) = subst (All (λ x. x < legs_of I)) (sym are) below in
     let long : k < length (map (λ (leg : Leg). leg.0) legs) = rw (length-map legs (λ (leg : Leg). leg.0)) lt in
     subst (λ (x : ℕ). x < legs_of I) (get_or-map (λ (leg : Leg). leg.0) legs k d 0 lt) (each k 0 long)
+
+-- and so they are in their order
+pub rotation-within : (I : Situation) (P : PlanRows) (p : ℕ) (legs : List Leg) → map (λ (leg : Leg). leg.0) legs ≡ rotation I P p → All (λ (leg : Leg). leg.0 < legs_of I) legs
+rotation-within I P p legs are = λ k d lt.
+    let below = All-weaker (λ x. (x < legs_of I) × (flies P p x ≡ true)) (λ x. x < legs_of I) (λ x both. both.0) (rotation I P p) (rotation-flown I P p) in
+    let each : All (λ x. x < legs_of I) (map (λ (leg : Leg). leg.0) legs) = subst (All (λ x. x < legs_of I)) (sym are) below in
+    let long : k < length (map (λ (leg : Leg). leg.0) legs) = rw (length-map legs (λ (leg : Leg). leg.0)) lt in
+    subst (λ (x : ℕ). x < legs_of I) (get_or-map (λ (leg : Leg). leg.0) legs k d 0 lt) (each k 0 long)

@@ -8,30 +8,29 @@ ghost use Rattle.desk_data.specs.Valid.{IsPlanFor};
 ghost use Rattle.desk_rules.specs.Rotations.{ground};
 ghost use Rattle.desk_model.specs.Choices.{first_within};
 ghost use Rattle.desk_model.specs.Push.{can_depart, first_departure, ready_moment};
-ghost use Rattle.hour_counts.specs.Counts.{AreCountsOf};
 ghost use Rattle.plan_push.specs.Placings.{AreLegs, IsPlacing};
 
 use crate::pushed::Placing;
 use crate::ruled_out::ruled_out_until;
 use desk_data::{Instance, Leg, Minute, Plane};
-use hour_counts::HourCounts;
+use hour_counts::KnowsHours;
 use plan_reads::{ReadPlan, arrival};
 
 /// The first moment at which a leg can depart when it is placed in the plan as it stands, in minutes
 /// since 2000-01-01, below 52,500,000: not before its earliest departure, nor before the leg that was before it at the step's
 /// start has arrived, as it stands now, and the ground time is over; not after its latest departure;
 /// where the aircraft is in service and not at its maintenance; and where the airports have room in the
-/// hours of departure and arrival, the leg itself not counted. `None` where it can at no moment. The counts
-/// are those of the plan as it stands.
-pub fn first_departure<P: ReadPlan>(
+/// hours of departure and arrival, the leg itself not counted. `None` where it can at no moment. The hours
+/// that are known are those of the plan as it stands.
+pub fn first_departure<P: ReadPlan, C: KnowsHours>(
     inst: &Instance,
     plan: &P,
-    counts: &HourCounts,
+    counts: &C,
     plane: Plane,
     placing: &Placing,
 ) -> Option<Minute>
     requires plan { IsPlanFor inst.now (P.plan_of plan.now) }
-    requires counts { AreCountsOf inst.now (P.plan_of plan.now) counts.now }
+    requires counts { C.knows counts.now inst.now (P.plan_of plan.now) }
     requires plane { plane.0 < planes_of inst.now }
     requires legs { AreLegs inst.now placing.now }
     ensures at { option_map (λ t. t.0) result ≡ first_within (max (ready_moment inst.now (P.plan_of plan.now) plane.0 placing.now.leg.0 (option_map (λ l. l.0) placing.now.before)) (earliest inst.now placing.now.leg.0)) (latest inst.now placing.now.leg.0) (can_depart inst.now (P.plan_of plan.now) plane.0 placing.now.leg.0) }
@@ -45,16 +44,16 @@ pub fn first_departure<P: ReadPlan>(
 }
 
 /// The first moment from `low` on at which a leg can depart, up to its latest departure.
-fn first_from<P: ReadPlan>(
+fn first_from<P: ReadPlan, C: KnowsHours>(
     inst: &Instance,
     plan: &P,
-    counts: &HourCounts,
+    counts: &C,
     plane: Plane,
     leg: Leg,
     low: u32,
 ) -> Option<Minute>
     requires plan { IsPlanFor inst.now (P.plan_of plan.now) }
-    requires counts { AreCountsOf inst.now (P.plan_of plan.now) counts.now }
+    requires counts { C.knows counts.now inst.now (P.plan_of plan.now) }
     requires plane { plane.0 < planes_of inst.now }
     requires leg { leg.0 < legs_of inst.now }
     ensures first { option_map (λ t. t.0) result ≡ first_within low (latest inst.now leg.0) (can_depart inst.now (P.plan_of plan.now) plane.0 leg.0) }

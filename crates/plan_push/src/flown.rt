@@ -1,10 +1,12 @@
 //! The legs that each aircraft flies.
 
-ghost use Rattle.std.specs.Prelude.{◌≡◌, ◌+◌, ◌<◌, [], ◌∷◌, ◌++◌, IfOk, OnOk, length, map, replicate, slice_index_or, slice_set};
+ghost use Rattle.std.specs.Prelude.{◌≡◌, ◌+◌, ◌<◌, [], ◌∷◌, ◌++◌, All, IfOk, OnOk, length, map, replicate, slice_index_or, slice_set};
 ghost use Rattle.desk_data.specs.Situation.{legs_of, planes_of};
 ghost use Rattle.desk_data.specs.Valid.{IsPlanFor};
+ghost use Rattle.desk_model.specs.Push.{rotation};
 ghost use Rattle.plan_push.specs.Flown.{AreFlown, AreFlownOfFirst};
 
+use crate::turns::{legs_of, sorted_turns};
 use desk_data::{Instance, Leg, NoMem, Plane, Row};
 use plan_reads::ReadPlan;
 use std::alloc::Global;
@@ -39,8 +41,29 @@ impl FlownLegs {
         Ok(FlownLegs { legs })
     }
 
-    /// Those of an aircraft.
-    pub(crate) fn legs(&self, plane: Plane) -> &[Leg]
+    /// Those of an aircraft in their order. They are sorted, and no others are walked over. The only
+    /// error is out of memory.
+    pub fn rotation<P: ReadPlan>(
+        &self,
+        alloc: Global,
+        inst: &Instance,
+        plan: &P,
+        plane: Plane,
+    ) -> Result<Vec<Leg>, NoMem>
+        requires plan { IsPlanFor inst.now (P.plan_of plan.now) }
+        requires flown { AreFlown inst.now (P.plan_of plan.now) self.now }
+        requires plane { plane.0 < planes_of inst.now }
+        ensures order { IfOk result (λ legs. map (λ leg. leg.0) legs.items ≡ rotation inst.now (P.plan_of plan.now) plane.0) }
+        ensures within { IfOk result (λ legs. All (λ leg. leg.0 < legs_of inst.now) legs.items) }
+    {
+        // there are as many rows as legs
+        let _ = inst.legs();
+        let turns = sorted_turns(alloc, plan, self.legs(plane))?;
+        legs_of(alloc, turns.as_slice())
+    }
+
+    /// Those of an aircraft, by leg.
+    fn legs(&self, plane: Plane) -> &[Leg]
         requires { plane.0 < length self.now }
         ensures { result.now ≡ slice_index_or self.now plane.0 [] }
     {

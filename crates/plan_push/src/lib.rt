@@ -3,14 +3,17 @@
 //!
 //!     let flown = FlownLegs::of(alloc, &inst, &plan)?;                   // one walk over the legs
 //!     let mut counts = HourCounts::of(alloc, &inst, &plan)?;             // another
-//!     let placed = placings(alloc, &inst, &plan, &flown, plane, after)?; // once, at the step's start
+//!     let legs = flown.rotation(alloc, &inst, &plan, plane)?;            // once, at the step's start
+//!     let placed = placings(alloc, &inst, &plan, legs.as_slice(), after)?;
 //!     for placing in &placed {
 //!         first_departure(&inst, &plan, &counts, plane, placing)         // in the plan as it stands then
 //!     }
 //!
 //! Whoever takes the step writes each departure into the plan, and into the counts of its hours, before it
 //! asks for the next. A Push leaves each leg to its aircraft, so that `flown` serves the Pushes of all aircraft.
-//! The plan is read through `ReadPlan`, so that whatever has rows and groups can be pushed.
+//! The plan is read through `ReadPlan`, and its hours through `KnowsHours`, so that whatever has rows and
+//! groups can be pushed: who keeps the legs of each aircraft in their order and the counts of the hours,
+//! as an evaluator does, hands in these, and makes no tables.
 //!
 //! Proved: the legs are `pushed_legs` of desk_model, each with the leg before it at the step's start, and
 //! the moment is `first_departure` of desk_model.

@@ -1,17 +1,14 @@
 //! The legs that a Push places.
 
-ghost use Rattle.std.specs.Prelude.{◌≡◌, ◌<◌, IfOk, All, map, length};
+ghost use Rattle.std.specs.Prelude.{◌≡◌, ℕ, ◌<◌, IfOk, All, map, length};
 ghost use Rattle.std.specs.Option.{ForSome};
-ghost use Rattle.desk_data.specs.Situation.{legs_of, planes_of};
+ghost use Rattle.desk_data.specs.Situation.{legs_of};
 ghost use Rattle.desk_data.specs.Valid.{IsPlanFor};
 ghost use Rattle.desk_rules.specs.Rotations.{comes_before, is_earlier};
-ghost use Rattle.desk_model.specs.Push.{comes_behind, pushed_legs};
-ghost use Rattle.plan_push.specs.Flown.{AreFlown};
+ghost use Rattle.desk_model.specs.Push.{comes_behind, pushed_legs, rotation};
 ghost use Rattle.plan_push.specs.Placings.{IsPlacing, is_placed};
 
-use crate::flown::FlownLegs;
-use crate::turns::sorted_turns;
-use desk_data::{Instance, Leg, Minute, NoMem, Plane, Row};
+use desk_data::{Instance, Leg, Minute, NoMem, Row};
 use plan_reads::ReadPlan;
 use std::alloc::Global;
 
@@ -24,28 +21,25 @@ pub struct Placing {
 }
 
 /// The legs that a Push of an aircraft places, in their order: the movable legs that it flies, behind
-/// the leg `after` where one is named. None is behind a leg that the aircraft does not fly. The legs of the
-/// aircraft are sorted, and no others walked over. The only error is out of memory.
+/// the leg `after` where one is named. None is behind a leg that the aircraft does not fly. All legs that
+/// it flies are handed in, in their order; no others are walked over. The only error is out of memory.
 pub fn placings<P: ReadPlan>(
     alloc: Global,
     inst: &Instance,
     plan: &P,
-    flown: &FlownLegs,
-    plane: Plane,
+    legs: &[Leg],
     after: Option<Leg>,
 ) -> Result<Vec<Placing>, NoMem>
     requires plan { IsPlanFor inst.now (P.plan_of plan.now) }
-    requires flown { AreFlown inst.now (P.plan_of plan.now) flown.now }
-    requires plane { plane.0 < planes_of inst.now }
+    requires within { All (λ leg. leg.0 < legs_of inst.now) legs.now }
     requires after { ForSome after (λ leg. leg.0 < legs_of inst.now) }
-    ensures legs { IfOk result (λ all. map (λ placing. placing.leg.0) all.items ≡ pushed_legs inst.now (P.plan_of plan.now) plane.0 after) }
-    ensures before { IfOk result (λ all. All (IsPlacing inst.now (P.plan_of plan.now)) all.items) }
+    ensures legs { (p : ℕ) → map (λ leg. leg.0) legs.now ≡ rotation inst.now (P.plan_of plan.now) p → IfOk result (λ all. map (λ placing. placing.leg.0) all.items ≡ pushed_legs inst.now (P.plan_of plan.now) p after) }
+    ensures before { (p : ℕ) → map (λ leg. leg.0) legs.now ≡ rotation inst.now (P.plan_of plan.now) p → IfOk result (λ all. All (IsPlacing inst.now (P.plan_of plan.now)) all.items) }
 {
-    let turns = sorted_turns(alloc, plan, flown.legs(plane))?;
     let mut all = Vec::new(alloc);
     let mut before = None;
-    for k in 0..turns.len() {
-        let leg = turns[k].leg;
+    for k in 0..legs.len() {
+        let leg = legs[k];
         if is_placed(inst, plan, after, leg) {
             all.push(Placing { leg, before })?;
         }

@@ -3,11 +3,10 @@
 ghost use Rattle.std.specs.Prelude.{◌≡◌, ◌<◌};
 ghost use Rattle.desk_data.specs.Situation.{legs_of};
 ghost use Rattle.desk_data.specs.Valid.{IsPlanFor};
-ghost use Rattle.hour_counts.specs.Counts.{AreCountsOf};
 ghost use Rattle.plan_push.specs.Room.{cap, has_room, others};
 
 use desk_data::{Instance, Leg};
-use hour_counts::HourCounts;
+use hour_counts::KnowsHours;
 use plan_reads::ReadPlan;
 
 /// What a leg does at an airport: it departs from its origin, and arrives at its destination.
@@ -19,16 +18,16 @@ pub(crate) enum Movement {
 
 /// Whether a leg's airport has room for it in an hour: it has no cap then, or fewer other legs than
 /// the cap do the same there.
-pub(crate) fn has_room<P: ReadPlan>(
+pub(crate) fn has_room<P: ReadPlan, C: KnowsHours>(
     inst: &Instance,
     plan: &P,
-    counts: &HourCounts,
+    counts: &C,
     movement: Movement,
     leg: Leg,
     hour: u32,
 ) -> bool
     requires plan { IsPlanFor inst.now (P.plan_of plan.now) }
-    requires counts { AreCountsOf inst.now (P.plan_of plan.now) counts.now }
+    requires counts { C.knows counts.now inst.now (P.plan_of plan.now) }
     requires leg { leg.0 < legs_of inst.now }
     ensures { result ≡ has_room inst.now (P.plan_of plan.now) movement leg.0 hour }
 {
@@ -51,16 +50,16 @@ fn cap_of(inst: &Instance, movement: Movement, leg: Leg, hour: u32) -> Option<u3
 }
 
 /// How many other legs do the same as a leg at its airport in an hour.
-fn count_others<P: ReadPlan>(
+fn count_others<P: ReadPlan, C: KnowsHours>(
     inst: &Instance,
     plan: &P,
-    counts: &HourCounts,
+    counts: &C,
     movement: Movement,
     leg: Leg,
     hour: u32,
 ) -> u32
     requires plan { IsPlanFor inst.now (P.plan_of plan.now) }
-    requires counts { AreCountsOf inst.now (P.plan_of plan.now) counts.now }
+    requires counts { C.knows counts.now inst.now (P.plan_of plan.now) }
     requires leg { leg.0 < legs_of inst.now }
     ensures { result ≡ others inst.now (P.plan_of plan.now) movement leg.0 hour }
 {

@@ -5,26 +5,25 @@ ghost use Rattle.desk_data.specs.Situation.{legs_of, planes_of};
 ghost use Rattle.desk_data.specs.Valid.{IsPlanFor};
 ghost use Rattle.desk_rules.specs.Rules.{meets_span};
 ghost use Rattle.desk_model.specs.Push.{can_depart, has_slots, is_free};
-ghost use Rattle.hour_counts.specs.Counts.{AreCountsOf};
 ghost use Rattle.plan_push.specs.RuledOut.{HoldsOrIsRuledOut, end_of_maintenance, end_of_first_met};
 
 use crate::room::{Movement, has_room};
 use desk_data::{Instance, Leg, Maint, Minute, Plane};
-use hour_counts::HourCounts;
+use hour_counts::KnowsHours;
 use plan_reads::ReadPlan;
 
 /// `None` where a leg can depart at a moment, which is no later than the latest departure of any leg.
 /// Else a later moment: it can depart at none before that.
-pub(crate) fn ruled_out_until<P: ReadPlan>(
+pub(crate) fn ruled_out_until<P: ReadPlan, C: KnowsHours>(
     inst: &Instance,
     plan: &P,
-    counts: &HourCounts,
+    counts: &C,
     plane: Plane,
     leg: Leg,
     at: u32,
 ) -> Option<u32>
     requires plan { IsPlanFor inst.now (P.plan_of plan.now) }
-    requires counts { AreCountsOf inst.now (P.plan_of plan.now) counts.now }
+    requires counts { C.knows counts.now inst.now (P.plan_of plan.now) }
     requires plane { plane.0 < planes_of inst.now }
     requires leg { leg.0 < legs_of inst.now }
     requires at { at ≤ 52485760 }
@@ -100,15 +99,15 @@ fn meets(departs: u32, arrives: u32, from: Minute, to: Minute) -> bool
 
 /// The same as `ruled_out_until` of the airports alone: the next hour of departure, or the moment from
 /// which the leg arrives in the next hour.
-fn full_until<P: ReadPlan>(
+fn full_until<P: ReadPlan, C: KnowsHours>(
     inst: &Instance,
     plan: &P,
-    counts: &HourCounts,
+    counts: &C,
     leg: Leg,
     at: u32,
 ) -> Option<u32>
     requires plan { IsPlanFor inst.now (P.plan_of plan.now) }
-    requires counts { AreCountsOf inst.now (P.plan_of plan.now) counts.now }
+    requires counts { C.knows counts.now inst.now (P.plan_of plan.now) }
     requires leg { leg.0 < legs_of inst.now }
     requires at { at ≤ 52485760 }
     ensures { HoldsOrIsRuledOut (has_slots inst.now (P.plan_of plan.now) leg.0) at result }

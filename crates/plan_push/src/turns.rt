@@ -14,7 +14,7 @@ use std::alloc::Global;
 #[derive(Clone, Copy, PartialEq, Eq, PartialOrd, Ord)]
 pub(crate) struct Turn {
     dep: Minute,
-    pub(crate) leg: Leg,
+    leg: Leg,
 }
 
 /// The legs of an aircraft, given by leg, in their order.
@@ -43,4 +43,15 @@ fn turns_of<P: ReadPlan>(alloc: Global, plan: &P, legs: &[Leg]) -> Result<Vec<Tu
         all.push(Turn { dep, leg: *leg })?;
     }
     Ok(all)
+}
+
+/// The legs of some turns.
+pub(crate) fn legs_of(alloc: Global, turns: &[Turn]) -> Result<Vec<Leg>, NoMem>
+    ensures { IfOk result (λ legs. map (λ leg. leg.0) legs.items ≡ map (λ turn. turn.leg.0) turns.now) }
+{
+    let mut legs = Vec::with_capacity(alloc, turns.len())?;
+    for turn in turns {
+        legs.push(turn.leg)?;
+    }
+    Ok(legs)
 }

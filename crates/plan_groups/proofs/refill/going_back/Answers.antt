@@ -1,12 +1,10 @@
-use Rattle.std.proofs.Common.{◌≡◌, ◌∙◌, ℕ, [], ap, sym, subst}
-use Rattle.std.specs.Prelude.{IfOk}
+use Rattle.std.proofs.Common.{◌≡◌, ◌∙◌, [], ap, sym}
 use Rattle.desk_data.specs.Booked.{booked_path}
 use Rattle.desk_data.specs.PlanRows.{groups_at}
 use Rattle.desk_model.specs.Choices.{greatest_within}
 use Rattle.desk_model.specs.Rebook.{count_on}
 use Rattle.desk_model.specs.Refill.{has_leg, has_seats_for}
 use Rattle.desk_model.specs.Tidy.{is_fit_path}
-use Rattle.plan_groups.specs.Made.{going_back}
 use Rattle.plan_groups.proofs.RefillCalls.{going-nobody_waits, going-no_leg, going-not_fit, going-fit}
 use Rattle.plan_groups.proofs.refill.going_back.Goals as goal
 use Rattle.plan_groups.proofs.refill.going_back.Goals.{then-waiting-eq0-via-then-waiting-eq0, then-waiting-eq0-via-else-waiting-eq0+then-not-has_leg, then-waiting-eq0-via-else-waiting-eq0+else-not-has_leg+then-not-is_fit_path}
@@ -35,9 +33,8 @@ returns g c =
     let r = c.args.res.0 in
     let booked : c.res.result.now.path ≡ booked_path I r = ap (λ info. info.path) c.res.ensures.row in
     let waiting : c.count_on-waiting.result ≡ count_on [] (groups_at P r) = c.count_on-waiting.ensures ∙ ap (count_on []) c.requires.groups in
-    let is : greatest_within c.count_on-waiting.result (has_seats_for I P c.as_slice-2.result.now) ≡ going_back I P x r =
-    ap (λ path. greatest_within c.count_on-waiting.result (has_seats_for I P path)) (c.as_slice-2.ensures ∙ booked)
+    c.fitting.ensures
+    ∙ ap (λ path. greatest_within c.count_on-waiting.result (has_seats_for I P path)) (c.as_slice-2.ensures ∙ booked)
     ∙ going-fit I P x r c.count_on-waiting.result waiting
     (ap (has_leg x) (sym (c.as_slice.ensures ∙ booked)) ∙ sym c.has_leg.ensures ∙ c.if-not-has_leg.false)
-    (ap (is_fit_path I P r) (sym booked) ∙ sym c.is_fit_path.ensures ∙ c.if-not-is_fit_path.false) in
-    subst (λ (n : ℕ). IfOk c.refill_count.result (λ going. going ≡ n)) is c.refill_count.ensures
+    (ap (is_fit_path I P r) (sym booked) ∙ sym c.is_fit_path.ensures ∙ c.if-not-is_fit_path.false)

@@ -5,6 +5,7 @@ use Rattle.desk_units.specs.declared.numbers.Cabin.{Cabin}
 use Rattle.desk_data.specs.Paths.{no_pair}
 use Rattle.desk_data.specs.declared.row.Row.{Row}
 use Rattle.desk_data.specs.PlanRows.{row_at}
+use Rattle.desk_rules.specs.Passengers.{aboard}
 use Rattle.desk_model.specs.Choices.{IsGreatestWithin}
 use Rattle.desk_model.specs.Refill.{has_seats_for, seats_of}
 use Rattle.desk_model.proofs.ChoiceLaws.{greatest_within-is}
@@ -22,10 +23,11 @@ loop-k-preserved g c =
     let path = c.args.path.now in
     let k = c.loop-k.k in
     let pair = get_or path k no_pair in
-    let seats : c.seats_of-seats.result ≡ seats_of I pair.1 (row_at P pair.0.0) = subst (λ (row : Row). c.seats_of-seats.result ≡ seats_of I pair.1 row) c.read_row.ensures.row c.seats_of-seats.ensures in
-    let most : c.min-most.result ≡ min c.loop-k.most (c.seats_of-seats.result - get_or c.args.aboard.now k 0) = c.min-most.ensures ∙ ap (min c.loop-k.most) c.saturating_sub.ensures in
+    let all : c.seats_of-all.result ≡ seats_of I pair.1 (row_at P pair.0.0) = subst (λ (row : Row). c.seats_of-all.result ≡ seats_of I pair.1 row) c.read_row.ensures.row c.seats_of-all.ensures in
+    let there : c.aboard.result ≡ aboard P pair.0.0 pair.1 = c.aboard.ensures P (omega (arith, c.requires.plan.legs, c.requires.path k pair c.loop-k-test.true)) c.requires.seats in
+    let most : c.min-most.result ≡ min c.loop-k.most (c.seats_of-all.result - c.aboard.result) = c.min-most.ensures ∙ ap (min c.loop-k.most) c.saturating_sub.ensures in
     subst (IsGreatestWithin c.args.waiting (has_seats_for I P (take (k + 1) path))) (sym most)
-    (fit-more I P path c.args.waiting k c.loop-k.most c.seats_of-seats.result (get_or c.args.aboard.now k 0) no_pair c.loop-k-test.true seats (c.requires.aboard.each k c.loop-k-test.true) c.loop-k.invariant)
+    (fit-more I P path c.args.waiting k c.loop-k.most c.seats_of-all.result c.aboard.result no_pair c.loop-k-test.true all there c.loop-k.invariant)
 
 pub returns : goal.returns
 returns g c =
