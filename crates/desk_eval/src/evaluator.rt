@@ -1,10 +1,15 @@
 //! The evaluator.
 
-ghost use Rattle.std.specs.Prelude.{◌≡◌, ◌+◌, ◌<◌, ◌≤◌, [], ◌∷◌, length, IfOk, OnOk, OnErr};
+ghost use Rattle.std.specs.Prelude.{◌≡◌, ◌+◌, ◌<◌, ◌≤◌, [], ◌∷◌, length, map, filter, not, All, IfOk, OnOk, OnErr};
 
-use crate::change::{Change, Judged, Replaced};
-use crate::judge::{copied_groups, judge, judge_with_groups, judge_with_row, put_back};
-use desk_data::{Broken, Grains, Group, Instance, Leg, List, NoMem, Plan, Res, Row, Steps};
+use crate::boards::Boards;
+use crate::change::{Replaced, change_groups, change_row, copied_groups, put_back};
+use desk_data::{
+    Airport, Broken, Cabin, Grains, Group, Instance, Leg, List, NoMem, Plan, Plane, Res, Row, Steps,
+};
+use hour_counts::KnowsHours;
+use leg_users::LegUsers;
+use plan_groups::KnowsAboard;
 use plan_pages::Pages;
 use std::alloc::Global;
 use std::marker::Model;
@@ -18,13 +23,16 @@ use std::sync::ledger::Ledger;
 pub struct Evaluator {
     inst: Instance,
     pages: Pages,
-    judged: Judged,
-    /// The changes since the past was last empty, with what each of them replaced.
-    past: Vec<Change>,
+    boards: Boards,
+    /// Who is booked on each leg, which no change of the plan touches.
+    booked: LegUsers,
+    /// What each change since the past was last empty replaced.
+    past: Vec<Replaced>,
 }
 
 impl Model for Evaluator {
     ghost use Rattle.std.specs.Prelude.{reverse};
+    ghost use Rattle.desk_eval.specs.Asked.{AreBooked};
     ghost use Rattle.desk_eval.specs.Evaluated.{Evaluated};
     ghost use Rattle.desk_eval.specs.Past.{plans_before, IsEvaluator};
 
@@ -32,7 +40,7 @@ impl Model for Evaluator {
 
     ghost view = { λ e. record { inst = e.inst; rows = e.pages; past = plans_before e.pages (reverse e.past.items) } };
 
-    ghost invariant = { λ e. IsEvaluator e.inst e.pages e.judged e.past.items };
+    ghost invariant = { λ e. IsEvaluator e.inst e.pages e.boards e.past.items × AreBooked e.inst e.booked };
 }
 
 impl Evaluator {
@@ -41,6 +49,10 @@ impl Evaluator {
     ghost use Rattle.desk_data.specs.Valid.{IsRowOf, AreGroupsOf, IsPlanFor};
     ghost use Rattle.desk_rules.specs.Least.{least};
     ghost use Rattle.desk_rules.specs.Cost.{cost, grains};
+    ghost use Rattle.desk_rules.specs.Numbers.{numbers};
+    ghost use Rattle.desk_model.specs.Push.{rotation};
+    ghost use Rattle.desk_eval.specs.Asked.{keeps_paths};
+    ghost use Rattle.leg_users.specs.Users.{is_booked_on};
     ghost use Rattle.desk_eval.specs.Evaluated.{after_change, row_reads, group_reads};
 
     /// The evaluator of a plan, with an empty past. The plan is one for the instance. The only error is
@@ -50,12 +62,14 @@ impl Evaluator {
         ensures { IfOk result (λ opened. opened ≡ record { inst = inst; rows = plan.now; past = [] }) }
     {
         let pages = Pages::of(alloc, plan)?;
-        let judged = judge(alloc, &inst, &pages)?;
+        let boards = Boards::open(alloc, &inst, &pages)?;
+        let booked = LegUsers::booked(alloc, &inst)?;
         let past = Vec::new(alloc);
         Ok(Evaluator {
             inst,
             pages,
-            judged,
+            boards,
+            booked,
             past,
         })
     }
@@ -79,7 +93,7 @@ impl Evaluator {
     pub fn cost(&self) -> Grains
         ensures { result ≡ grains (cost self.now.inst self.now.rows) }
     {
-        self.judged.cost
+        self.boards.cost()
     }
 
     /// The first item that the plan breaks, by rule and then by what the items name, or `None` where
@@ -87,7 +101,7 @@ impl Evaluator {
     pub fn least_broken(&self) -> Option<Broken>
         ensures { result ≡ least self.now.inst self.now.rows }
     {
-        self.judged.broken
+        self.boards.least()
     }
 
     /// How many changes can be taken back: the length of the past, at most 2,000,000,000.
@@ -99,9 +113,9 @@ impl Evaluator {
     }
 
     /// Gives a leg another row, and answers the one that it had. The past, which has fewer than
-    /// 2,000,000,000 changes, grows by one. Of the plan it reads under `steps` at most 40 rows, and 20
-    /// for each group whose path has the leg; what the check and the cost read is not counted, and is
-    /// the whole plan. After an error, which is out of memory, the evaluator is as before.
+    /// 2,000,000,000 changes, grows by one. Of the plan it and its boards read under `steps` at most 40
+    /// rows, and 20 for each group whose path has the leg. After an error, which is out of memory, the
+    /// evaluator is as before.
     pub fn set_row<L: Ledger>(
         &mut self,
         alloc: Global,
@@ -118,14 +132,17 @@ impl Evaluator {
         ensures reads { steps.new ≤ steps.old + row_reads self.old.rows leg.0 }
     {
         let had = self.pages.row(leg, steps);
-        let replaced = Replaced::Row { leg, row: had };
-        let judged = self.judged;
-        self.past.push(Change { replaced, judged })?;
-        match judge_with_row(alloc, &self.inst, &mut self.pages, leg, row) {
-            Ok(judged) => {
-                self.judged = judged;
-                Ok(had)
-            }
+        self.past.push(Replaced::Row { leg, row: had })?;
+        match change_row(
+            alloc,
+            &self.inst,
+            &mut self.pages,
+            &mut self.boards,
+            leg,
+            row,
+            steps,
+        ) {
+            Ok(()) => Ok(had),
             Err(error) => {
                 let _ = self.past.pop();
                 Err(error)
@@ -134,10 +151,9 @@ impl Evaluator {
     }
 
     /// Gives a reservation other groups, and answers those that it had. The past, which has fewer than
-    /// 2,000,000,000 changes, grows by one. Of the plan it reads under `steps` at most 20 rows for each
-    /// of the groups before and after; what the check and the cost read is not counted, and is the
-    /// whole plan. After an error, which is out of memory, the evaluator is as before, and the groups
-    /// handed in are given up.
+    /// 2,000,000,000 changes, grows by one. Of the plan it and its boards read under `steps` at most 20
+    /// rows for each of the groups before and after. After an error, which is out of memory, the evaluator
+    /// is as before, and the groups handed in are given up.
     pub fn set_groups<L: Ledger>(
         &mut self,
         alloc: Global,
@@ -154,20 +170,22 @@ impl Evaluator {
         ensures err { OnErr result (self.new ≡ self.old) }
         ensures reads { steps.new ≤ steps.old + group_reads (groups_at self.old.rows res.0) groups.items }
     {
-        let _ = steps;
         let had = copied_groups(alloc, self.pages.groups(res))?;
         let kept = copied_groups(alloc, self.pages.groups(res))?;
-        let replaced = Replaced::Groups {
+        self.past.push(Replaced::Groups {
             res,
             groups: List(kept),
-        };
-        let judged = self.judged;
-        self.past.push(Change { replaced, judged })?;
-        match judge_with_groups(alloc, &self.inst, &mut self.pages, res, groups) {
-            Ok(judged) => {
-                self.judged = judged;
-                Ok(had)
-            }
+        })?;
+        match change_groups(
+            alloc,
+            &self.inst,
+            &mut self.pages,
+            &mut self.boards,
+            res,
+            groups,
+            steps,
+        ) {
+            Ok(()) => Ok(had),
             Err(error) => {
                 let _ = self.past.pop();
                 Err(error)
@@ -181,11 +199,14 @@ impl Evaluator {
     {
         let inst = self.inst.copy(alloc)?;
         let pages = self.pages.share(alloc)?;
+        let boards = Boards::open(alloc, &inst, &pages)?;
+        let booked = LegUsers::booked(alloc, &inst)?;
         let past = Vec::new(alloc);
         Ok(Evaluator {
             inst,
             pages,
-            judged: self.judged,
+            boards,
+            booked,
             past,
         })
     }
@@ -197,9 +218,9 @@ impl Evaluator {
         ensures plan { self.new.rows ∷ self.new.past ≡ self.old.past }
         ensures inst { self.new.inst ≡ self.old.inst }
     {
-        if let Some(change) = self.past.pop() {
-            put_back(&mut self.pages, change.replaced);
-            self.judged = change.judged;
+        if let Some(replaced) = self.past.pop() {
+            self.boards.back();
+            put_back(&mut self.pages, replaced);
         }
     }
 
@@ -208,6 +229,80 @@ impl Evaluator {
     pub fn forget(&mut self)
         ensures { self.new ≡ record self.old { past = [] } }
     {
+        self.boards.forget();
         self.past.clear();
+    }
+
+    /// The legs that an aircraft flies, in their order. No others are walked over. The only error is out of
+    /// memory.
+    pub fn rotation(&self, alloc: Global, plane: Plane) -> Result<Vec<Leg>, NoMem>
+        requires { plane.0 < planes_of self.now.inst }
+        ensures order { IfOk result (λ legs. map (λ leg. leg.0) legs.items ≡ rotation self.now.inst self.now.rows plane.0) }
+        ensures within { IfOk result (λ legs. All (λ leg. leg.0 < legs_of self.now.inst) legs.items) }
+    {
+        self.boards.rotation(alloc, plane)
+    }
+
+    /// The reservations that break C13, C14 or C15, ascending by number. No others are walked over, and no row
+    /// of the plan is read. The only error is out of memory.
+    pub fn broken_reservations(&self, alloc: Global) -> Result<Vec<Res>, NoMem>
+        ensures { IfOk result (λ all. map (λ res. res.0) all.items ≡ filter (λ r. not (keeps_paths self.now.inst self.now.rows r)) (numbers (reservations_of self.now.inst))) }
+    {
+        self.boards.broken_reservations(alloc)
+    }
+
+    /// The reservations whose scheduled path has a leg, ascending by number. No others are walked over. The only
+    /// error is out of memory.
+    pub fn booked_on(&self, alloc: Global, leg: Leg) -> Result<Vec<Res>, NoMem>
+        requires { leg.0 < legs_of self.now.inst }
+        ensures { IfOk result (λ all. map (λ res. res.0) all.items ≡ filter (is_booked_on self.now.inst leg.0) (numbers (reservations_of self.now.inst))) }
+    {
+        Ok(self.booked.users(leg).to_vec(alloc)?)
+    }
+}
+
+/// An evaluator knows the hours of its plan, with no walk.
+impl KnowsHours for Evaluator {
+    ghost use Rattle.std.specs.Prelude.{◌≡◌};
+
+    ghost knows = { λ e I Q. (I ≡ e.inst) × (Q ≡ e.rows) };
+
+    fn departures_beside(
+        &self,
+        inst: &Instance,
+        leg: Leg,
+        row: Row,
+        airport: Airport,
+        hour: u32,
+    ) -> u32 {
+        let slots = &self.boards.slots;
+        slots.departures_beside(inst, leg, row, airport, hour)
+    }
+
+    fn arrivals_beside(
+        &self,
+        inst: &Instance,
+        leg: Leg,
+        row: Row,
+        airport: Airport,
+        hour: u32,
+    ) -> u32 {
+        let slots = &self.boards.slots;
+        slots.arrivals_beside(inst, leg, row, airport, hour)
+    }
+}
+
+/// An evaluator knows how many are aboard in its plan, with no walk.
+impl KnowsAboard for Evaluator {
+    ghost use Rattle.std.specs.Prelude.{◌≡◌};
+
+    ghost knows = { λ e Q. Q ≡ e.rows };
+
+    fn aboard(&self, leg: Leg, cabin: Cabin) -> u32 {
+        if leg.0 < self.inst.legs() {
+            self.boards.seats.aboard(leg, cabin)
+        } else {
+            0
+        }
     }
 }

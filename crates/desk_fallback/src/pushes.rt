@@ -49,7 +49,8 @@ fn push(
     ensures valid { OnOk result (IsPlanFor inst.now plan.new) }
     ensures counts { OnOk result (AreCountsOf inst.now plan.new counts.new) }
 {
-    let all = placings(alloc, inst, &*plan, flown, plane, None)?;
+    let legs = flown.rotation(alloc, inst, &*plan, plane)?;
+    let all = placings(alloc, inst, &*plan, legs.as_slice(), None)?;
     for placing in &all {
         place(inst, plan, counts, plane, placing)?;
     }

@@ -40,13 +40,13 @@ tidied_to-at : (I : Situation) (P : PlanRows) (n : ℕ) → n < length P.groups 
 unfolding tidied_to
 tidied_to-at I P n within = ap (λ (rest : List (List Group)). map (groups_after_tidy I P) (numbers n) ++ rest) (drop_more P.groups n [] within)
 
-tidied_to-next : (I : Situation) (P : PlanRows) (n : ℕ) → n < length P.groups → groups_at (tidied_to I n P) n ≡ groups_at P n
+pub tidied_to-next : (I : Situation) (P : PlanRows) (n : ℕ) → n < length P.groups → groups_at (tidied_to I n P) n ≡ groups_at P n
 tidied_to-next I P n within =
     ap (λ (all : List (List Group)). get_or all n []) (tidied_to-at I P n within)
     ∙ get_or_at (map (groups_after_tidy I P) (numbers n)) (groups_at P n) (drop (n + 1) P.groups) [] n (length-front I P n)
 
 -- the groups that a reservation gets are those of the plan at the start
-tidied_to-judges : (I : Situation) (P : PlanRows) (n : ℕ) → n < length P.groups → groups_after_tidy I (tidied_to I n P) n ≡ groups_after_tidy I P n
+pub tidied_to-judges : (I : Situation) (P : PlanRows) (n : ℕ) → n < length P.groups → groups_after_tidy I (tidied_to I n P) n ≡ groups_after_tidy I P n
 unfolding tidied_to
 tidied_to-judges I P n within = tidy-beside I P (map (groups_after_tidy I P) (numbers n) ++ drop n P.groups) n (tidied_to-next I P n within)
 

@@ -3,3 +3,4 @@ pub mod SwapLaws
 pub mod GroupLaws
 pub mod PushLaws
 pub mod StepLaws
+pub mod WalkLaws

@@ -57,7 +57,7 @@ length-legs : (P : PlanRows) (legs more : List ℕ) → length (fold (with_leg P
 length-legs P legs [] = omega arith
 length-legs P legs (x ∷ more) = omega (arith, length-legs P (with_leg P legs x) more, length-with_leg P legs x)
 
-length-rotation : (I : Situation) (P : PlanRows) (p : ℕ) → length (rotation I P p) ≤ legs_of I
+pub length-rotation : (I : Situation) (P : PlanRows) (p : ℕ) → length (rotation I P p) ≤ legs_of I
 unfolding rotation
 length-rotation I P p =
     let flown = length-filter-le (flies P p) (numbers (legs_of I)) in

@@ -3,3 +3,4 @@ pub use Rattle.desk_model.specs.Steps
 pub use Rattle.plan_moves.specs.Fits
 pub mod Back
 pub mod UsualMoves
+pub mod Swapped

@@ -12,16 +12,20 @@ use desk_eval::Evaluator;
 use plan_groups::groups_after_refill;
 use std::alloc::Global;
 
-/// Takes a Refill: one reservation after another, each in the plan as those before it left it. After an
-/// error, which is out of memory, some reservations may be refilled.
+/// Takes a Refill: one reservation after another, each in the plan as those before it left it. Those that
+/// did not book the leg stay as they are, and none of their groups is looked at. After an error, which is out of memory,
+/// some reservations may be refilled.
 pub(crate) fn refill_step(alloc: Global, eval: &mut Evaluator, leg: Leg) -> Result<(), NoMem>
     requires leg { leg.0 < legs_of eval.old.inst }
     requires depth { length eval.old.past < 1950000000 }
     ensures rows { OnOk result (eval.new.rows ≡ after_refill eval.old.inst eval.old.rows leg.0) }
     ensures after { IsAfter 100000 eval.old eval.new }
 {
-    for r in 0..reservation_count(eval) {
-        refill_reservation(alloc, eval, leg, Res(r))?;
+    // no reservation is refilled twice, and there are at most 100,000
+    let _ = reservation_count(eval);
+    let booked = eval.booked_on(alloc, leg)?;
+    for res in &booked {
+        refill_reservation(alloc, eval, leg, *res)?;
     }
     Ok(())
 }
@@ -34,6 +38,6 @@ fn refill_reservation(alloc: Global, eval: &mut Evaluator, leg: Leg, res: Res) -
     ensures rows { OnOk result (eval.new.rows ≡ after_refilling eval.old.inst leg.0 eval.old.rows res.0) }
     ensures after { IsAfter 1 eval.old eval.new }
 {
-    let made = groups_after_refill(alloc, eval.instance(), eval.plan(), leg, res)?;
+    let made = groups_after_refill(alloc, eval.instance(), eval.plan(), &*eval, leg, res)?;
     set_groups(alloc, eval, res, made)
 }

@@ -1,10 +1,11 @@
 //! Swap: two aircraft fly each other's legs from a moment on.
 
-ghost use Rattle.std.specs.Prelude.{◌≡◌, ◌<◌, OnOk, length};
+ghost use Rattle.std.specs.Prelude.{◌≡◌, ◌<◌, IfOk, OnOk, length, map};
 ghost use Rattle.desk_data.specs.Situation.{legs_of, planes_of};
 ghost use Rattle.desk_data.specs.PlanRows.{row_at, with_row};
 ghost use Rattle.desk_model.specs.Swap.{after_swap, other_plane, row_after_swap};
 ghost use Rattle.desk_moves.specs.Back.{IsAfter};
+ghost use Rattle.desk_moves.specs.Swapped.{legs_of_both};
 
 use crate::changes::set_row;
 use crate::sizes::leg_count;
@@ -20,7 +21,8 @@ pub(crate) struct Exchange {
     pub at: Minute,
 }
 
-/// Takes a Swap. After an error, which is out of memory, some legs may have gone over.
+/// Takes a Swap. The legs of both aircraft are walked over, and no others. After an error, which is out of
+/// memory, some legs may have gone over.
 pub(crate) fn swap_step(
     alloc: Global,
     eval: &mut Evaluator,
@@ -32,10 +34,27 @@ pub(crate) fn swap_step(
     ensures rows { OnOk result (eval.new.rows ≡ after_swap eval.old.rows exchange.first.0 exchange.second.0 exchange.at.0) }
     ensures after { IsAfter 100000 eval.old eval.new }
 {
-    for x in 0..leg_count(eval) {
-        swap_leg(alloc, eval, exchange, Leg(x))?;
+    // no leg goes over twice, and there are at most 20,000
+    let _ = leg_count(eval);
+    let legs = legs_of_both(alloc, eval, exchange)?;
+    for leg in &legs {
+        swap_leg(alloc, eval, exchange, *leg)?;
     }
     Ok(())
+}
+
+/// The legs of both aircraft, each once: those of the first in their order, then those of the second.
+fn legs_of_both(alloc: Global, eval: &Evaluator, exchange: Exchange) -> Result<Vec<Leg>, NoMem>
+    requires first { exchange.first.0 < planes_of eval.now.inst }
+    requires second { exchange.second.0 < planes_of eval.now.inst }
+    ensures { IfOk result (λ legs. map (λ leg. leg.0) legs.items ≡ legs_of_both eval.now.inst eval.now.rows exchange.first.0 exchange.second.0) }
+{
+    let mut legs = eval.rotation(alloc, exchange.first)?;
+    if exchange.second.0 != exchange.first.0 {
+        let others = eval.rotation(alloc, exchange.second)?;
+        legs.extend_from_slice(others.as_slice())?;
+    }
+    Ok(legs)
 }
 
 /// Gives a leg its row after the swap.

@@ -14,14 +14,19 @@ use plan_groups::groups_after_tidy;
 use std::alloc::Global;
 
 /// Takes a Tidy. No row changes, and a reservation keeps its groups until its turn, so that each is judged
-/// as in the plan at the step's start. After an error, which is out of memory, some reservations may be tidy.
+/// as in the plan at the step's start. Those that break no rule of paths stay as they are, and none of their
+/// paths is judged. After an error, which is out of memory, some reservations may be tidy.
 pub(crate) fn tidy_step(alloc: Global, eval: &mut Evaluator) -> Result<(), NoMem>
     requires depth { length eval.old.past < 1950000000 }
     ensures rows { OnOk result (eval.new.rows ≡ after_tidy eval.old.inst eval.old.rows) }
     ensures after { IsAfter 100000 eval.old eval.new }
 {
-    for r in 0..reservation_count(eval) {
-        tidy_reservation(alloc, eval, Res(r))?;
+    // the plan is one for the instance; no reservation is tidied twice, and there are at most 100,000
+    let _ = eval.plan();
+    let _ = reservation_count(eval);
+    let broken = eval.broken_reservations(alloc)?;
+    for res in &broken {
+        tidy_reservation(alloc, eval, *res)?;
     }
     Ok(())
 }

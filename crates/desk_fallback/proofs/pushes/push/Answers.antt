@@ -1,6 +1,7 @@
-use Rattle.std.proofs.Common.{◌<◌, length, get_or, refl, ap, ◌∙◌}
+use Rattle.std.proofs.Common.{◌<◌, length, map, get_or, refl, ap, ◌∙◌}
 use Rattle.std.proofs.lemmas.List.{take_all}
 use Rattle.std.specs.Prelude.{None}
+use Rattle.desk_units.specs.declared.numbers.Leg.{Leg}
 use Rattle.desk_data.specs.PlanRows.{PlanRows}
 use Rattle.desk_model.specs.Push.{after_placing}
 use Rattle.plan_push.specs.declared.pushed.Placing.{Placing}
@@ -18,7 +19,7 @@ place-requires c =
     let I = c.args.inst.now in
     let P = c.args.plan.now in
     let items = c.deref-placing-items.result.now in
-    let are = rw (← c.deref-placing-items.ensures.value) at c.in_ok-all.ensures.before in
+    let are = rw (← c.deref-placing-items.ensures.value) at c.in_ok-all.ensures.before c.args.plane.0 (ap (map (λ (leg : Leg). leg.0)) c.as_slice.ensures.value ∙ c.in_ok-legs.ensures.order) in
     let is : IsPlacing I P (get_or items c.loop-placing.placing-index no_placing) = are c.loop-placing.placing-index no_placing c.loop-placing-test.true in
     record { plan = c.loop-placing.invariant.valid; counts = c.loop-placing.invariant.counts; plane = c.requires.plane; legs = is.legs }
 
@@ -35,7 +36,7 @@ loop-placing-preserved c =
     let i = c.loop-placing.placing-index in
     let placing = get_or items i no_placing in
     let within : i < length items = c.loop-placing-test.true in
-    let are = rw (← c.deref-placing-items.ensures.value) at c.in_ok-all.ensures.before in
+    let are = rw (← c.deref-placing-items.ensures.value) at c.in_ok-all.ensures.before c.args.plane.0 (ap (map (λ (leg : Leg). leg.0)) c.as_slice.ensures.value ∙ c.in_ok-legs.ensures.order) in
     let is : IsPlacing I P placing = are i no_placing within in
     record {
       made = c.in_ok-place.ensures.made P is
@@ -50,7 +51,7 @@ returns-clause-made c =
     let I = c.args.inst.now in
     let P = c.args.plan.now in
     let items = c.deref-placing-items.result.now in
-    let legs = rw (← c.deref-placing-items.ensures.value) at c.in_ok-all.ensures.legs in
+    let legs = rw (← c.deref-placing-items.ensures.value) at c.in_ok-all.ensures.legs c.args.plane.0 (ap (map (λ (leg : Leg). leg.0)) c.as_slice.ensures.value ∙ c.in_ok-legs.ensures.order) in
     c.loop-placing.invariant.made
     ∙ ap (placed_all I P c.args.plane.0) (take_all c.loop-placing.placing-index items c.loop-placing-test.false)
     ∙ placed_all-is I P c.args.plane.0 None items legs

@@ -1,5 +1,4 @@
 use Rattle.std.proofs.Common.{◌≡◌, take}
-use Rattle.hour_counts.specs.Counts.{AreCountsOf}
 use Rattle.desk_moves.specs.Back.{IsAfter}
 use Rattle.desk_moves.proofs.PushLaws.{placed_all}
 use Rattle.desk_moves.proofs.push_step.push_step.Given as goal
@@ -7,6 +6,5 @@ use Rattle.desk_moves.proofs.push_step.push_step.Given as goal
 abbrev pub invariant-loop-placing : goal.invariant-loop-placing
 invariant-loop-placing l = record {
   rows : l.eval.rows ≡ placed_all l.fn.eval.inst l.fn.eval.rows l.plane.0 (take l.placing-index l.placing-items);
-  counts : AreCountsOf l.fn.eval.inst l.eval.rows l.counts;
   after : IsAfter l.placing-index l.fn.eval l.eval;
 }

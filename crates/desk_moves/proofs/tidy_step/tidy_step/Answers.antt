@@ -1,33 +1,70 @@
-use Rattle.std.proofs.Common.{◌+◌, ◌<◌, length, sym, ap, ◌∙◌, arith}
-use Rattle.desk_data.specs.Situation.{Situation}
-use Rattle.desk_data.specs.PlanRows.{PlanRows, with_groups}
-use Rattle.desk_model.specs.Tidy.{groups_after_tidy}
-use Rattle.desk_moves.proofs.BackLaws.{after-itself, after-then}
-use Rattle.desk_moves.proofs.GroupLaws.{tidied_to-none, tidied_to-more, tidied_to-all}
+use Rattle.std.proofs.Common.{◌≡◌, ◌+◌, ◌<◌, not, get_or, refl, sym, ap, subst, ◌∙◌, arith}
+use Rattle.std.proofs.lemmas.List.{take_all}
+use Rattle.desk_data.specs.Situation.{Situation, reservations_of}
+use Rattle.desk_data.specs.PlanRows.{PlanRows}
+use Rattle.desk_data.specs.Valid.{IsPlanFor}
+use Rattle.desk_eval.specs.Asked.{keeps_paths}
+use Rattle.desk_moves.proofs.BackLaws.{after-itself, after-more, after-then}
+use Rattle.desk_moves.proofs.WalkLaws.{no_res, length-some, some-within, tidying, tidied_all, tidied_all-more, tidied_all-is}
 use Rattle.desk_moves.proofs.tidy_step.tidy_step.Goals as goal
 
-pub loop-r-init : goal.loop-r-init
-loop-r-init c = record { rows = sym (tidied_to-none c.args.eval.now.inst c.args.eval.now.rows); after = after-itself 0 c.args.eval.now }
+pub returns-in_err-broken-clause-after : goal.returns-in_err-broken-clause-after
+returns-in_err-broken-clause-after c = after-itself 100000 c.args.eval.now
+
+pub loop-res-init : goal.loop-res-init
+loop-res-init c = record { rows = refl; after = after-itself 0 c.args.eval.now }
+
+pub tidy_reservation-requires : goal.tidy_reservation-requires
+tidy_reservation-requires c =
+    let E = c.args.eval.now in
+    let items = c.deref-res-items.result.now in
+    let i = c.loop-res.res-index in
+    let kept = c.loop-res.invariant.after in
+    let few = kept.few in
+    let are = rw (← c.deref-res-items.ensures.value) at c.in_ok-broken.ensures in
+    let most = length-some (reservations_of E.inst) (λ r. not (keeps_paths E.inst E.rows r)) items are in
+    record {
+      res = subst (λ (I : Situation). (get_or items i no_res).0 < reservations_of I) (sym kept.inst) (some-within (reservations_of E.inst) (λ r. not (keeps_paths E.inst E.rows r)) items are i c.loop-res-test.true);
+      depth = omega (arith, few, most);
+    }
 
 pub returns-in_err-tidy_reservation-clause-after : goal.returns-in_err-tidy_reservation-clause-after
 returns-in_err-tidy_reservation-clause-after c =
-    after-then c.loop-r.r 1 100000 c.args.eval.now c.loop-r.eval c.tidy_reservation.new.eval (omega arith) c.loop-r.invariant.after c.tidy_reservation.ensures.after
+    let E = c.args.eval.now in
+    let items = c.deref-res-items.result.now in
+    let are = rw (← c.deref-res-items.ensures.value) at c.in_ok-broken.ensures in
+    let most = length-some (reservations_of E.inst) (λ r. not (keeps_paths E.inst E.rows r)) items are in
+    after-then c.loop-res.res-index 1 100000 E c.loop-res.eval c.tidy_reservation.new.eval (omega (arith, most)) c.loop-res.invariant.after c.tidy_reservation.ensures.after
 
-pub loop-r-preserved : goal.loop-r-preserved
-loop-r-preserved c =
-    let I = c.args.eval.now.inst in
-    let P = c.args.eval.now.rows in
-    let r = c.loop-r.r in
-    let within : r < length P.groups = omega arith in
+pub loop-res-preserved : goal.loop-res-preserved
+loop-res-preserved c =
+    let E = c.args.eval.now in
+    let items = c.deref-res-items.result.now in
+    let i = c.loop-res.res-index in
+    let F = c.loop-res.eval in
+    let r = (get_or items i no_res).0 in
+    let kept = c.loop-res.invariant.after in
     record {
       rows = c.in_ok-tidy_reservation.ensures.rows
-          ∙ ap (λ (J : Situation). with_groups c.loop-r.eval.rows r (groups_after_tidy J c.loop-r.eval.rows r)) c.loop-r.invariant.after.inst
-          ∙ ap (λ (Q : PlanRows). with_groups Q r (groups_after_tidy I Q r)) c.loop-r.invariant.rows
-          ∙ tidied_to-more I P r within;
-      after = after-then r 1 (r + 1) c.args.eval.now c.loop-r.eval c.tidy_reservation.new.eval (omega arith) c.loop-r.invariant.after c.tidy_reservation.ensures.after;
+          ∙ ap (λ (I : Situation). tidying I F.rows r) kept.inst
+          ∙ ap (λ (Q : PlanRows). tidying E.inst Q r) c.loop-res.invariant.rows
+          ∙ tidied_all-more E.inst E.rows items i c.loop-res-test.true;
+      after = after-then i 1 (i + 1) E F c.tidy_reservation.new.eval (omega arith) kept c.tidy_reservation.ensures.after;
     }
 
 pub returns-clause-rows : goal.returns-clause-rows
 returns-clause-rows c =
     let E = c.args.eval.now in
-    c.loop-r.invariant.rows ∙ tidied_to-all E.inst E.rows c.loop-r.r (omega arith) (omega arith)
+    let items = c.deref-res-items.result.now in
+    let are = rw (← c.deref-res-items.ensures.value) at c.in_ok-broken.ensures in
+    c.loop-res.invariant.rows
+    ∙ ap (tidied_all E.inst E.rows) (take_all c.loop-res.res-index items c.loop-res-test.false)
+    ∙ tidied_all-is E.inst E.rows items (rw (c.plan.ensures.rows) at c.plan.ensures.valid) are
+
+pub returns-clause-after : goal.returns-clause-after
+returns-clause-after c =
+    let E = c.args.eval.now in
+    let items = c.deref-res-items.result.now in
+    let are = rw (← c.deref-res-items.ensures.value) at c.in_ok-broken.ensures in
+    let most = length-some (reservations_of E.inst) (λ r. not (keeps_paths E.inst E.rows r)) items are in
+    after-more c.loop-res.res-index 100000 E c.loop-res.eval (omega (arith, most)) c.loop-res.invariant.after

@@ -1,10 +1,10 @@
-use Rattle.std.proofs.Common.{◌≡◌}
+use Rattle.std.proofs.Common.{◌≡◌, take}
 use Rattle.desk_moves.specs.Back.{IsAfter}
-use Rattle.desk_moves.proofs.GroupLaws.{tidied_to}
+use Rattle.desk_moves.proofs.WalkLaws.{tidied_all}
 use Rattle.desk_moves.proofs.tidy_step.tidy_step.Given as goal
 
-abbrev pub invariant-loop-r : goal.invariant-loop-r
-invariant-loop-r l = record {
-  rows : l.eval.rows ≡ tidied_to l.fn.eval.inst l.r l.fn.eval.rows;
-  after : IsAfter l.r l.fn.eval l.eval;
+abbrev pub invariant-loop-res : goal.invariant-loop-res
+invariant-loop-res l = record {
+  rows : l.eval.rows ≡ tidied_all l.fn.eval.inst l.fn.eval.rows (take l.res-index l.res-items);
+  after : IsAfter l.res-index l.fn.eval l.eval;
 }

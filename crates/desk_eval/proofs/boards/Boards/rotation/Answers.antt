@@ -1,0 +1,15 @@
+use Rattle.std.specs.Prelude.{Result, Ok, Err, IfOk}
+use Rattle.desk_eval.proofs.TurnLaws.{numbers_are, legs_within}
+use Rattle.desk_eval.proofs.boards.Boards.rotation.Goals as goal
+
+if_ok : {X E : Type 0} (r : Result X E) (A B : X → Type 0) → ((x : X) → A x → B x) → IfOk r A → IfOk r B
+if_ok (Ok x) A B so is = so x is
+if_ok (Err e) A B so is = tt
+
+pub returns-clause-order : goal.returns-clause-order
+returns-clause-order c I P Ps valid is =
+    if_ok c.legs_of_turns.result _ _ (λ legs are. numbers_are legs.items c.turns.result.now _ are (c.turns.ensures.legs I P Ps valid is.rot)) c.legs_of_turns.ensures
+
+pub returns-clause-within : goal.returns-clause-within
+returns-clause-within c I P Ps valid is =
+    if_ok c.legs_of_turns.result _ _ (λ legs are. legs_within I P c.args.plane legs.items c.turns.result.now are (c.turns.ensures.rows I P Ps valid is.rot)) c.legs_of_turns.ensures
