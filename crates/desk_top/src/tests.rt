@@ -1,4 +1,8 @@
-//! The desk where memory runs out: `bench/each_allocation.py` refuses each allocation of this test in turn.
+//! The desk where memory runs out: `bench/each_allocation.py` refuses each allocation of this test in turn. Beside it
+//! the evaluator on the largest day that is made up, and a recovery of one that is larger than the usual one.
+
+mod changes;
+mod trial;
 
 use crate::desk_main;
 use desk_data::NoMem;
