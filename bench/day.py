@@ -9,17 +9,18 @@ but for the airports and the tariff, so that half the distances are of half the 
 flies 20 legs there and back between two airports. The day, one of half its rows and one of no rows are
 run with a journal whose one line names a leg that is not there, so that a run ends when all is read and
 joined; and the first two with an empty journal, so that the schedule is checked and written too; and
-with one of moves of one step, each of which is judged and refused: the moved plan is checked by all rules and its
-cost summed. The day of no rows tells the start of the program apart. The schedule that the whole day writes is read
+with one of moves of one step, each of which is applied, judged, refused and taken back. The day of no rows tells the
+start of the program apart. The schedule that the whole day writes is read
 again and judged by `check`, under all news. Then the whole day is run with a journal
-of each of some usual moves, asked again and again, which are told and not limited. Last the whole day and
+of each of some usual moves, asked again and again. Last the whole day and
 half of it take a batch: each 50th leg is half an hour late, each 100th aircraft is out of service for an hour, and
 each 50th airport is closed for one, so that the schedule does not stand, and the desk shifts. The desk runs on one
 processor.
 
 The last lines say how many bytes a second were read and joined, how long a check takes beside a replay without a journal,
 how long a move and a batch take, and how much longer twice the rows took. The status is 1 where that is less than 40 MB a
-second, more than 1.5 times the replay, more than 100 ms a move, more than 500 ms a batch, or more than 2.3 times as long.
+second, more than 1.5 times the replay, more than 50 microseconds a set or a rebooking, more than 500 a delay or a swap, more
+than 500 ms a batch, more than 1.5 times as long for a set on twice the legs, or more than 2.3 times as long for the rest.
 """
 import os
 import subprocess
@@ -34,23 +35,24 @@ AS_DESK = {**os.environ, "GLIBC_TUNABLES": "glibc.malloc.hugetlb=1"}
 LEGS_OF_AIRCRAFT = 20
 AIRPORTS = 500
 UNKNOWN = "1,move,set F0 02/03/08 - -\n"
-MOVES = 40
+MOVES = 20000
 REFUSED = "1,move,set F0 01/03/08 + P0 01/03/08 00:00 + P0 01/03/08 00:01\n" * MOVES
-# usual moves, each refused, so that the next one meets the same plan; and how often each is asked
+# usual moves, each refused, so that the next one meets the same plan; how often each is asked; and at most how many microseconds it may
+# take, where that is limited
 USUAL = [
-    ("a set", "set F0 01/03/08 + P0 01/03/08 00:00 + P0 01/03/08 00:01", 40),
-    ("a delay by half an hour", "set F0 01/03/08 + P0 01/03/08 00:00 + P0 01/03/08 00:30 push P0 after F0 01/03/08 tidy", 5),
-    ("a cancellation", "set F0 01/03/08 + P0 01/03/08 00:00 - tidy", 5),
-    ("a swap", "swap P0 P500 01/03/08 12:00 push P0 all push P500 all tidy", 5),
-    ("a rebooking", "rebook R0 A 1 1 F0 01/03/08 B 0", 40),
-    ("a tidy", "tidy", 40),
-    ("a refill", "refill F0 01/03/08", 40),
+    ("a set", "set F0 01/03/08 + P0 01/03/08 00:00 + P0 01/03/08 00:01", 20000, 50),
+    ("a delay by half an hour", "set F0 01/03/08 + P0 01/03/08 00:00 + P0 01/03/08 00:30 push P0 after F0 01/03/08 tidy", 2000, 500),
+    ("a cancellation", "set F0 01/03/08 + P0 01/03/08 00:00 - tidy", 2000, None),
+    ("a swap", "swap P0 P500 01/03/08 12:00 push P0 all push P500 all tidy", 2000, 500),
+    ("a rebooking", "rebook R0 A 1 1 F0 01/03/08 B 0", 20000, 50),
+    ("a tidy", "tidy", 20000, None),
+    ("a refill", "refill F0 01/03/08", 20000, None),
 ]
 BATCH = "0,batch,0\n"
 LEAST_RATE = 40.0
-MOST_MILLISECONDS = 100.0
 MOST_BATCH_MILLISECONDS = 500.0
 MOST_RATIO = 2.3
+MOST_MOVE_RATIO = 1.5
 MOST_OF_CHECK = 1.5
 
 
@@ -168,24 +170,25 @@ def main():
     _, whole_moved = run(legs, "and moves answered", REFUSED)
     rate = size / 1e6 / (whole - nothing)
     ratio = (whole - nothing) / (half - nothing)
-    move = 1000 * (whole_moved - whole_checked) / MOVES
     move_ratio = (whole_moved - whole_checked) / (half_moved - half_checked)
     print("%.1f MB a second read and joined (at least %.0f)" % (rate, LEAST_RATE))
     print("%.2f times as long for twice the rows (at most %.1f)" % (ratio, MOST_RATIO))
     print("%.2f times a replay without a journal for a check (at most %.1f)" % (judged / whole_checked, MOST_OF_CHECK))
-    print("%.1f ms a move: checked, its cost summed (at most %.0f)" % (move, MOST_MILLISECONDS))
-    print("%.2f times as long for twice the legs (at most %.1f)" % (move_ratio, MOST_RATIO))
-    for name, steps, count in USUAL:
+    print("%.2f times as long for a set on twice the legs (at most %.1f)" % (move_ratio, MOST_MOVE_RATIO))
+    slow = 0
+    for name, steps, count, most in USUAL:
         _, moved = run(legs, name, ("1,move,%s\n" % steps) * count)
-        print("%.1f ms %s" % (1000 * (moved - whole_checked) / count, name))
+        took = 1e6 * (moved - whole_checked) / count
+        slow += most is not None and took > most
+        print("%.1f microseconds %s%s" % (took, name, "" if most is None else " (at most %d)" % most))
     _, half_fallen = run(legs // 2, "and a batch taken", BATCH)
     _, fallen = run(legs, "and a batch taken", BATCH)
     batch = 1000 * (fallen - whole_checked)
     batch_ratio = (fallen - whole_checked) / (half_fallen - half_checked)
     print("%.1f ms a batch (at most %.0f)" % (batch, MOST_BATCH_MILLISECONDS))
     print("%.2f times as long for twice the legs (at most %.1f)" % (batch_ratio, MOST_RATIO))
-    held = (rate >= LEAST_RATE and judged <= MOST_OF_CHECK * whole_checked and move <= MOST_MILLISECONDS
-            and batch <= MOST_BATCH_MILLISECONDS and max(ratio, move_ratio, batch_ratio) <= MOST_RATIO)
+    held = (rate >= LEAST_RATE and judged <= MOST_OF_CHECK * whole_checked and not slow and move_ratio <= MOST_MOVE_RATIO
+            and batch <= MOST_BATCH_MILLISECONDS and max(ratio, batch_ratio) <= MOST_RATIO)
     return 0 if held else 1
 
 
