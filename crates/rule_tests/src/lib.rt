@@ -1,4 +1,4 @@
-//! Tests of the rules, the costs and the book, on small days.
+//! Tests of the rules and the costs, on small days.
 //!
 //! There is no code here but tests: a crate with tests is proved twice, so they stand in a crate of their
 //! own. A table of like cases is one test, and a row that fails names itself. What a run of the program

@@ -1,6 +1,5 @@
 //! What small days break and cost, worked out by hand.
 
-mod book;
 mod costs;
 mod days;
 mod passengers;

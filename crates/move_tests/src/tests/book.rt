@@ -1,4 +1,4 @@
-//! The usual moves, made of the plan of a book and answered by it.
+//! The usual moves, made of the plan of a book and answered by it, and what the book keeps of them.
 
 ghost use Rattle.std.specs.Prelude.{IfOk};
 ghost use Rattle.std.specs.Option.{ForSome};
@@ -7,9 +7,9 @@ ghost use Rattle.plan_moves.specs.Fits.{Fits};
 use super::day::{LATER, NOWHERE, OFF, Way, flown, path_of, small_day};
 use desk_core::Book;
 use desk_data::{Grains, Leg, Minute, Plane, Res, Row};
-use desk_model::Answer;
+use desk_model::{Answer, Event};
 use desk_moves::{cancel, delay, rebook, reroute, swap};
-use plan_moves::{Move, fits};
+use plan_moves::{Move, Step, fits};
 use plan_reads::departure;
 use std::alloc::Global;
 use std::test::Fail;
@@ -96,6 +96,27 @@ fn rows_of(book: &Book) -> Option<[Row; 3]> {
     ])
 }
 
+/// Who proposed the last of five entries, what was answered, and the leg whose row was to change, with its
+/// rows before and behind; `None` where the entries from the fifth one on are others than that.
+type Last = Option<(u32, Answer, (Leg, Row, Row))>;
+
+fn last_of(alloc: Global, book: &Book) -> Result<Last, Fail> {
+    if book.entries() != 5 {
+        return Ok(None);
+    }
+    let later = book.since(alloc, 4)?;
+    let [entry] = later.as_slice() else {
+        return Ok(None);
+    };
+    let Event::Move(asked) = &entry.event else {
+        return Ok(None);
+    };
+    let [Step::Set { leg, was, new }, Step::Tidy] = asked.steps.as_slice() else {
+        return Ok(None);
+    };
+    Ok(Some((entry.caller, entry.answer, (*leg, *was, *new))))
+}
+
 #[test]
 fn usual_moves_are_answered(rt: HostRuntime) -> Result<(), Fail> {
     let alloc = rt.alloc();
@@ -127,5 +148,7 @@ fn usual_moves_are_answered(rt: HostRuntime) -> Result<(), Fail> {
     }
     assert_eq!(rt; (book.entries(), book.changes()), (5, 3));
     assert_eq!(rt; rows_of(&book), Some([flown(1, 480), flown(1, 570), OFF]));
+    let last = (1, accepted(61_800_000_000), (Leg(2), flown(1, 700), OFF));
+    assert_eq!(rt; last_of(alloc, &book)?, Some(last));
     Ok(())
 }

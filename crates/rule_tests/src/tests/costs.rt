@@ -201,32 +201,70 @@ const IN_TWO_PLACES: &[Wanted] = &[(0, b"M1", LARGE, 2), (2, b"M1", LARGE, 3)];
 
 const IN_SECOND: &[Wanted] = &[(1, b"M1", LARGE, 1)];
 
-/// A day of these prices and weights, with no positions.
-fn priced<'a>(prices: &'a [TariffRow], weights: &'a [(Term, u32)]) -> Day<'a> {
-    Day {
-        prices,
-        weights,
-        to: NEVER,
-        wanted: &[],
+/// A row of a table: a weight in thousandths, the rows that are changed, the paths of the two reservations,
+/// and the cost in grains.
+type Case = (u32, &'static [Change], Way, Way, u128);
+
+/// The weights where only one term counts.
+fn weights_of(term: Term, weight: u32) -> [(Term, u32); 3] {
+    match term {
+        Term::Operating => [(term, weight), (Term::Legal, 0), (Term::Delay, 0)],
+        Term::Legal => [(Term::Operating, 0), (term, weight), (Term::Delay, 0)],
+        _ => [(Term::Operating, 0), (Term::Legal, 0), (term, weight)],
     }
 }
 
+/// The place of the first case of a table whose plan does not cost what it says, with what it costs, on a
+/// day of these prices, of which only one term counts.
+fn first_wrong(
+    alloc: Global,
+    term: Term,
+    prices: &[TariffRow],
+    table: &[Case],
+) -> Result<Option<(usize, Option<Grains>)>, Fail> {
+    for at in 0..table.len() {
+        let (weight, rows, first, second, grains) = table[at];
+        let weights = weights_of(term, weight);
+        let day = Day {
+            prices,
+            weights: &weights,
+            to: NEVER,
+            wanted: &[],
+        };
+        let cost = cost_of(alloc, &day, rows, [first, second])?;
+        if cost != Some(Grains(grains)) {
+            return Ok(Some((at, cost)));
+        }
+    }
+    Ok(None)
+}
+
+/// As scheduled 120 + 240 + 100.000166.. + 100.
+const FLOWN: [Case; 5] = [
+    (1_000, &[], FIRST, SECOND, 336_000_100_000),
+    (2_500, &[], FIRST, SECOND, 840_000_250_000),
+    (1_000, &[(1, NOT)], FIRST, SECOND, 192_000_100_000),
+    // an hour of the second aircraft in place of one of the first
+    (
+        1_000,
+        &[(0, Some((1, 480)))],
+        FIRST,
+        SECOND,
+        300_000_160_000,
+    ),
+    (
+        1_000,
+        &[(0, Some((0, 500)))],
+        FIRST,
+        SECOND,
+        336_000_100_000,
+    ),
+];
+
 #[test]
 fn flown_legs_cost_the_hours_of_their_aircraft(rt: HostRuntime) -> Result<(), Fail> {
-    // the weight, the rows, and the cost in grains: as scheduled 120 + 240 + 100.000166.. + 100
-    let table: [(u32, &[Change], u128); 5] = [
-        (1_000, &[], 336_000_100_000),
-        (2_500, &[], 840_000_250_000),
-        (1_000, &[(1, NOT)], 192_000_100_000),
-        // an hour of the second aircraft in place of one of the first
-        (1_000, &[(0, Some((1, 480)))], 300_000_160_000),
-        (1_000, &[(0, Some((0, 500)))], 336_000_100_000),
-    ];
-    for (weight, rows, grains) in table.iter() {
-        let weights = [(Term::Operating, *weight)];
-        let cost = cost_of(rt.alloc(), &priced(&[], &weights), rows, BOOKED)?;
-        assert_eq!(rt; cost, Some(Grains(*grains)), "{weight} {rows:?}");
-    }
+    let wrong = first_wrong(rt.alloc(), Term::Operating, &[], &FLOWN)?;
+    assert_eq!(rt; wrong, None);
     Ok(())
 }
 
@@ -238,10 +276,36 @@ fn delay(haul: Haul, cabin: Cabin, price: u64) -> TariffRow {
     }
 }
 
+/// An hour of a passenger of the first reservation costs 12, and of the second 7, since the highest haul
+/// and the highest cabin decide.
+const LATE: [Case; 12] = [
+    (1_000, &[], FIRST, SECOND, 0),
+    (1_000, &[(1, Some((0, 590)))], FIRST, SECOND, 0),
+    // three passengers are a minute late
+    (1_000, &[(1, Some((0, 601)))], FIRST, SECOND, 360_000_000),
+    (1_500, &[(1, Some((0, 601)))], FIRST, SECOND, 540_000_000),
+    (1_000, &[(1, Some((1, 630)))], FIRST, SECOND, 18 * UNIT),
+    // two passengers are 10 minutes late
+    (1_000, &[(0, Some((0, 490)))], FIRST, SECOND, 1_400_000_000),
+    // all are an hour late
+    (
+        1_000,
+        &[(0, Some((0, 540))), (1, Some((0, 660)))],
+        FIRST,
+        SECOND,
+        50 * UNIT,
+    ),
+    // 80 minutes late by another flight, and by bus
+    (1_000, &[], DIRECT, SECOND, 48 * UNIT),
+    (1_000, &[], BY_BUS, SECOND, 48 * UNIT),
+    // who is not carried, or is on a path with a cancelled leg, is not late
+    (1_000, &[(1, Some((0, 630)))], NOWHERE, SECOND, 0),
+    (1_000, &[(1, NOT)], FIRST, SECOND, 0),
+    (1_000, &[(0, NOT), (1, Some((0, 630)))], FIRST, SECOND, 0),
+];
+
 #[test]
 fn late_passengers_cost_the_hours_of_what_they_booked(rt: HostRuntime) -> Result<(), Fail> {
-    // an hour of a passenger of the first reservation costs 12, and of the second 7, since the
-    // highest haul and the highest cabin decide
     let prices = [
         delay(Haul::D, Cabin::E, 500_000),
         delay(Haul::D, Cabin::B, 510_000),
@@ -251,41 +315,8 @@ fn late_passengers_cost_the_hours_of_what_they_booked(rt: HostRuntime) -> Result
         delay(Haul::I, Cabin::B, 120_000),
         delay(Haul::D, Cabin::F, 70_000),
     ];
-    // the weight, the rows, the path of the first reservation, and the cost in grains
-    let table: [(u32, &[Change], Way, u128); 12] = [
-        (1_000, &[], FIRST, 0),
-        (1_000, &[(1, Some((0, 590)))], FIRST, 0),
-        // three passengers are a minute late
-        (1_000, &[(1, Some((0, 601)))], FIRST, 360_000_000),
-        (1_500, &[(1, Some((0, 601)))], FIRST, 540_000_000),
-        (1_000, &[(1, Some((1, 630)))], FIRST, 18 * UNIT),
-        // two passengers are 10 minutes late
-        (1_000, &[(0, Some((0, 490)))], FIRST, 1_400_000_000),
-        // all are an hour late
-        (
-            1_000,
-            &[(0, Some((0, 540))), (1, Some((0, 660)))],
-            FIRST,
-            50 * UNIT,
-        ),
-        // 80 minutes late by another flight, and by bus
-        (1_000, &[], DIRECT, 48 * UNIT),
-        (1_000, &[], BY_BUS, 48 * UNIT),
-        // who is not carried, or is on a path with a cancelled leg, is not late
-        (1_000, &[(1, Some((0, 630)))], NOWHERE, 0),
-        (1_000, &[(1, NOT)], FIRST, 0),
-        (1_000, &[(0, NOT), (1, Some((0, 630)))], FIRST, 0),
-    ];
-    for (weight, rows, way, grains) in table.iter() {
-        let weights = [
-            (Term::Operating, 0),
-            (Term::Legal, 0),
-            (Term::Delay, *weight),
-        ];
-        let day = priced(&prices, &weights);
-        let cost = cost_of(rt.alloc(), &day, rows, [*way, SECOND])?;
-        assert_eq!(rt; cost, Some(Grains(*grains)), "{weight} {rows:?} {way:?}");
-    }
+    let wrong = first_wrong(rt.alloc(), Term::Delay, &prices, &LATE)?;
+    assert_eq!(rt; wrong, None);
     Ok(())
 }
 
@@ -297,6 +328,15 @@ fn cancel(haul: Haul, cabin: Cabin, price: u64) -> TariffRow {
     }
 }
 
+const LEFT_BEHIND: [Case; 5] = [
+    (1_000, &[], FIRST, SECOND, 0),
+    (1_000, &[], NOWHERE, SECOND, 300 * UNIT),
+    (1_000, &[], FIRST, NOWHERE, 21 * UNIT),
+    (100, &[], NOWHERE, NOWHERE, 19_260_000_000),
+    // passengers on a cancelled leg are not yet cancelled
+    (1_000, &[(0, NOT)], FIRST, SECOND, 0),
+];
+
 #[test]
 fn cancelled_passengers_cost_the_price_of_what_they_booked(rt: HostRuntime) -> Result<(), Fail> {
     let prices = [
@@ -306,29 +346,8 @@ fn cancelled_passengers_cost_the_price_of_what_they_booked(rt: HostRuntime) -> R
         cancel(Haul::I, Cabin::B, 1_000_000),
         cancel(Haul::D, Cabin::F, 105_000),
     ];
-    // the weight, the rows, the paths, and the cost in grains
-    let table: [(u32, &[Change], Way, Way, u128); 5] = [
-        (1_000, &[], FIRST, SECOND, 0),
-        (1_000, &[], NOWHERE, SECOND, 300 * UNIT),
-        (1_000, &[], FIRST, NOWHERE, 21 * UNIT),
-        (100, &[], NOWHERE, NOWHERE, 19_260_000_000),
-        // passengers on a cancelled leg are not yet cancelled
-        (1_000, &[(0, NOT)], FIRST, SECOND, 0),
-    ];
-    for (weight, rows, first, second, grains) in table.iter() {
-        let weights = [
-            (Term::Operating, 0),
-            (Term::Legal, 0),
-            (Term::Cancellation, *weight),
-        ];
-        let day = priced(&prices, &weights);
-        let cost = cost_of(rt.alloc(), &day, rows, [*first, *second])?;
-        assert_eq!(rt;
-            cost,
-            Some(Grains(*grains)),
-            "{weight} {rows:?} {first:?} {second:?}"
-        );
-    }
+    let wrong = first_wrong(rt.alloc(), Term::Cancellation, &prices, &LEFT_BEHIND)?;
+    assert_eq!(rt; wrong, None);
     Ok(())
 }
 
@@ -341,6 +360,19 @@ fn downgrade(haul: Haul, reference: Cabin, below: Cabin, price: u64) -> TariffRo
     }
 }
 
+const DOWNGRADED: [Case; 9] = [
+    // the first leg is booked below the cabin of the second
+    (1_000, &[], FIRST, SECOND, 12 * UNIT),
+    (1_000, &[], BELOW, SECOND, 39 * UNIT),
+    (500, &[], BELOW, SECOND, 11_700_000_000),
+    (1_000, &[(1, NOT)], BELOW, SECOND, 39 * UNIT),
+    (1_000, &[], ABOVE, SECOND, 0),
+    (1_000, &[], BELOW_BY_BUS, SECOND, 12 * UNIT),
+    (1_000, &[], NOWHERE, SECOND, 0),
+    (1_000, &[], ABOVE, IN_BUSINESS, 10 * UNIT),
+    (1_000, &[], ABOVE, IN_ECONOMY, 12 * UNIT),
+];
+
 #[test]
 fn legs_in_lower_cabins_cost_the_price_of_their_haul(rt: HostRuntime) -> Result<(), Fail> {
     let prices = [
@@ -351,33 +383,8 @@ fn legs_in_lower_cabins_cost_the_price_of_their_haul(rt: HostRuntime) -> Result<
         downgrade(Haul::D, Cabin::F, Cabin::E, 60_000),
         downgrade(Haul::I, Cabin::F, Cabin::E, 510_000),
     ];
-    // the weight, the rows, the paths, and the cost in grains
-    let table: [(u32, &[Change], Way, Way, u128); 9] = [
-        // the first leg is booked below the cabin of the second
-        (1_000, &[], FIRST, SECOND, 12 * UNIT),
-        (1_000, &[], BELOW, SECOND, 39 * UNIT),
-        (500, &[], BELOW, SECOND, 11_700_000_000),
-        (1_000, &[(1, NOT)], BELOW, SECOND, 39 * UNIT),
-        (1_000, &[], ABOVE, SECOND, 0),
-        (1_000, &[], BELOW_BY_BUS, SECOND, 12 * UNIT),
-        (1_000, &[], NOWHERE, SECOND, 0),
-        (1_000, &[], ABOVE, IN_BUSINESS, 10 * UNIT),
-        (1_000, &[], ABOVE, IN_ECONOMY, 12 * UNIT),
-    ];
-    for (weight, rows, first, second, grains) in table.iter() {
-        let weights = [
-            (Term::Operating, 0),
-            (Term::Legal, 0),
-            (Term::Downgrade, *weight),
-        ];
-        let day = priced(&prices, &weights);
-        let cost = cost_of(rt.alloc(), &day, rows, [*first, *second])?;
-        assert_eq!(rt;
-            cost,
-            Some(Grains(*grains)),
-            "{weight} {rows:?} {first:?} {second:?}"
-        );
-    }
+    let wrong = first_wrong(rt.alloc(), Term::Downgrade, &prices, &DOWNGRADED)?;
+    assert_eq!(rt; wrong, None);
     Ok(())
 }
 
@@ -397,6 +404,25 @@ fn compensation(haul: Haul, threshold: Option<u32>, price: u64) -> TariffRow {
     }
 }
 
+/// The second reservation is as late as the first leg, and the first as late as the second.
+const OWED: [Case; 13] = [
+    (1_000, &[(0, Some((0, 539)))], FIRST, SECOND, 0),
+    (1_000, &[(0, Some((0, 540)))], FIRST, SECOND, 10 * UNIT),
+    (1_000, &[(0, Some((0, 541)))], FIRST, SECOND, 10 * UNIT),
+    (1_000, &[(0, Some((0, 599)))], FIRST, SECOND, 10 * UNIT),
+    (1_000, &[(0, Some((0, 600)))], FIRST, SECOND, 17 * UNIT),
+    (1_000, &[(0, Some((0, 659)))], FIRST, SECOND, 17 * UNIT),
+    (1_000, &[(0, Some((0, 660)))], FIRST, SECOND, 517 * UNIT),
+    (3_000, &[(0, Some((0, 660)))], FIRST, SECOND, 1_551 * UNIT),
+    (1_000, &[(1, Some((0, 629)))], FIRST, SECOND, 0),
+    (1_000, &[(1, Some((0, 630)))], FIRST, SECOND, 3 * UNIT),
+    // a cancelled leg
+    (1_000, &[(0, NOT), (1, Some((0, 660)))], FIRST, SECOND, 0),
+    // not carried: the 80 that they paid, care and compensation; the 250, and care
+    (1_000, &[], FIRST, NOWHERE, 480_000_120_000),
+    (1_000, &[], NOWHERE, SECOND, 840 * UNIT),
+];
+
 #[test]
 fn late_and_uncarried_passengers_are_owed_by_law(rt: HostRuntime) -> Result<(), Fail> {
     let prices = [
@@ -409,35 +435,8 @@ fn late_and_uncarried_passengers_are_owed_by_law(rt: HostRuntime) -> Result<(), 
         care(Haul::I, None, 300_000),
         care(Haul::C, Some(1), 9_000_000),
     ];
-    // the weight, the rows, the paths, and the cost in grains. The second reservation is as late as
-    // the first leg, and the first as late as the second
-    let table: [(u32, &[Change], Way, Way, u128); 13] = [
-        (1_000, &[(0, Some((0, 539)))], FIRST, SECOND, 0),
-        (1_000, &[(0, Some((0, 540)))], FIRST, SECOND, 10 * UNIT),
-        (1_000, &[(0, Some((0, 541)))], FIRST, SECOND, 10 * UNIT),
-        (1_000, &[(0, Some((0, 599)))], FIRST, SECOND, 10 * UNIT),
-        (1_000, &[(0, Some((0, 600)))], FIRST, SECOND, 17 * UNIT),
-        (1_000, &[(0, Some((0, 659)))], FIRST, SECOND, 17 * UNIT),
-        (1_000, &[(0, Some((0, 660)))], FIRST, SECOND, 517 * UNIT),
-        (3_000, &[(0, Some((0, 660)))], FIRST, SECOND, 1_551 * UNIT),
-        (1_000, &[(1, Some((0, 629)))], FIRST, SECOND, 0),
-        (1_000, &[(1, Some((0, 630)))], FIRST, SECOND, 3 * UNIT),
-        // a cancelled leg
-        (1_000, &[(0, NOT), (1, Some((0, 660)))], FIRST, SECOND, 0),
-        // not carried: the 80 that they paid, care and compensation; the 250, and care
-        (1_000, &[], FIRST, NOWHERE, 480_000_120_000),
-        (1_000, &[], NOWHERE, SECOND, 840 * UNIT),
-    ];
-    for (weight, rows, first, second, grains) in table.iter() {
-        let weights = [(Term::Operating, 0), (Term::Legal, *weight)];
-        let day = priced(&prices, &weights);
-        let cost = cost_of(rt.alloc(), &day, rows, [*first, *second])?;
-        assert_eq!(rt;
-            cost,
-            Some(Grains(*grains)),
-            "{weight} {rows:?} {first:?} {second:?}"
-        );
-    }
+    let wrong = first_wrong(rt.alloc(), Term::Legal, &prices, &OWED)?;
+    assert_eq!(rt; wrong, None);
     Ok(())
 }
 
