@@ -4,8 +4,8 @@
 //! and takes no memory within its room, so that a change can be taken back.
 //!
 //! The lemmas in `proofs/` say what a change of one row changes, once for all boards: of a sum or a count
-//! over numbers only the term of the row's leg (`SumLaws`), of the items only those whose test changes
-//! (`ItemLaws`); and that the first of the items that are kept is the first broken one of a list in order
+//! over numbers only the term of the row's leg (`SumLaws`), and so over all legs or all reservations of a
+//! plan (`RowLaws`); of the items only those whose test changes (`ItemLaws`); and that the first of the items that are kept is the first broken one of a list in order
 //! (`FirstLaws`, `MemberLaws`).
 //!
 //! It stands on `desk_data`, `desk_rules` and `kept_set`.

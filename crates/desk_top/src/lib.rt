@@ -7,8 +7,9 @@
 //! docs/PROMISES.md tells them in plain words. The body takes the words apart, names the directories, and has
 //! `run_plain` do the command, which puts the line that tells why a run was not done.
 //!
-//! Its runs stand in `desk_rows`, as files. The test here is for running out of memory: each allocation
-//! of some runs can be refused in turn. It stands on the crates of the commands; the program `desk` and
+//! Its runs stand in `desk_rows`, as files. The tests here are of what a file cannot say: each allocation
+//! of some runs is refused in turn, a million changes are made and taken back, and a larger trial is run
+//! twice. It stands on the crates of the commands; the program `desk` and
 //! `desk_rows` stand on it.
 #![tactic(auto)]
 
