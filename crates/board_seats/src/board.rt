@@ -31,11 +31,18 @@ use std::sync::ledger::Ledger;
 /// and C15, and the first item of C12 to C15 that the plan breaks, kept while it changes place by place.
 /// The board keeps its past, so that changes are taken back. It holds neither the instance nor the plan:
 /// contracts say of which it is the board.
-#[derive(Debug, Drop)]
+#[derive(Debug)]
 pub struct SeatBoard {
     sheet: LoggedSheet,
     /// How many edits the sheet had before each change since the past was last empty.
     past: Vec<usize>,
+}
+
+/// In one call, so that whoever lets one go does not prove anew that each part of it may go.
+impl Drop for SeatBoard {
+    fn drop(self) {
+        let SeatBoard { sheet: _, past: _ } = self;
+    }
 }
 
 impl Model for SeatBoard {

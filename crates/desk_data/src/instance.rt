@@ -24,7 +24,7 @@ use std::sync::Arc;
 use tariff_prices::Prices;
 
 /// A day with the orders taken so far. Contracts see it as its rows and its list of orders.
-#[derive(Debug, Drop)]
+#[derive(Debug)]
 pub struct Instance {
     parts: Arc<Parts>,
     prices: Arc<Prices>,
@@ -33,6 +33,19 @@ pub struct Instance {
     orders: Vec<Order>,
     /// What the orders say.
     kept: Kept,
+}
+
+/// In one call, so that whoever lets a day go does not prove anew that each part of it may go.
+impl Drop for Instance {
+    fn drop(self) {
+        let Instance {
+            parts: _,
+            prices: _,
+            bookings: _,
+            orders: _,
+            kept: _,
+        } = self;
+    }
 }
 
 impl Model for Instance {

@@ -23,12 +23,24 @@ use std::alloc::Global;
 use std::sync::ledger::Ledger;
 
 /// What is kept of a plan: its rotations, its hours, its seats and paths, and its cost.
-#[derive(Debug, Drop)]
+#[derive(Debug)]
 pub(crate) struct Boards {
     pub rot: RotBoard,
     pub slots: SlotBoard,
     pub seats: SeatBoard,
     pub cost: CostBoard,
+}
+
+/// In one call, so that whoever lets the boards go does not prove anew that each part of them may go.
+impl Drop for Boards {
+    fn drop(self) {
+        let Boards {
+            rot: _,
+            slots: _,
+            seats: _,
+            cost: _,
+        } = self;
+    }
 }
 
 impl Boards {

@@ -19,7 +19,7 @@ use std::sync::ledger::Ledger;
 /// and what the plan costs, as a check and a cost from scratch would say. It keeps its past, the
 /// plans before each change, so that changes are taken back. Contracts see it as the instance, the
 /// plan's rows and groups, and those of its past, the last first.
-#[derive(Debug, Drop)]
+#[derive(Debug)]
 pub struct Evaluator {
     inst: Instance,
     pages: Pages,
@@ -28,6 +28,19 @@ pub struct Evaluator {
     booked: LegUsers,
     /// What each change since the past was last empty replaced.
     past: Vec<Replaced>,
+}
+
+/// In one call, so that whoever lets an evaluator go does not prove anew that each part of it may go.
+impl Drop for Evaluator {
+    fn drop(self) {
+        let Evaluator {
+            inst: _,
+            pages: _,
+            boards: _,
+            booked: _,
+            past: _,
+        } = self;
+    }
 }
 
 impl Model for Evaluator {

@@ -8,7 +8,6 @@ use std::marker::Model;
 /// whole, and fails the calls of `next` and `put` with the numbers that it was given, counted from 1
 /// over all files, and the call of `place` behind each `fail_place`. A call that fails names, takes and
 /// writes nothing.
-#[derive(Drop)]
 pub struct MemFolder {
     inputs: Vec<(File, Vec<u8>)>,
     taken: [usize; FILES],
@@ -23,6 +22,27 @@ pub struct MemFolder {
     place_faults: u64,
     next_faults: [u64; FILES],
     put_faults: [u64; FILES],
+}
+
+/// In one call, so that whoever lets one go does not prove anew that each part of it may go.
+impl Drop for MemFolder {
+    fn drop(self) {
+        let MemFolder {
+            inputs: _,
+            taken: _,
+            outputs: _,
+            input: _,
+            output: _,
+            place_fails: _,
+            next_calls: _,
+            put_calls: _,
+            fail_next: _,
+            fail_put: _,
+            place_faults: _,
+            next_faults: _,
+            put_faults: _,
+        } = self;
+    }
 }
 
 impl Model for MemFolder {

@@ -117,38 +117,64 @@ fn last_of(alloc: Global, book: &Book) -> Result<Last, Fail> {
     Ok(Some((entry.caller, entry.answer, (*leg, *was, *new))))
 }
 
+/// The usual moves, one after the other.
+const ASKED: [Asked; 5] = [
+    Asked::Delay(Leg(0), 10),
+    Asked::Swap(Plane(0), Plane(1), Minute(0)),
+    Asked::Reroute(Leg(2), Plane(1)),
+    Asked::Rebook(Res(1), LATER, NOWHERE, 2),
+    Asked::Cancel(Leg(2)),
+];
+
+/// What a book answers to them.
+fn answers_of(alloc: Global, book: &mut Book) -> Result<Vec<Option<Answer>>, Fail> {
+    let mut answers = Vec::new(alloc);
+    for asked in ASKED.iter() {
+        answers.push(answered(alloc, book, *asked)?)?;
+    }
+    Ok(answers)
+}
+
+/// What a book answers to the usual moves, how many entries and changes it has then, and what it keeps.
+type Heard = (Vec<Option<Answer>>, (u32, u32), Option<[Row; 3]>, Last);
+
+fn heard_of(alloc: Global, book: &mut Book) -> Result<Heard, Fail> {
+    let answers = answers_of(alloc, book)?;
+    let last = last_of(alloc, book)?;
+    Ok((
+        answers,
+        (book.entries(), book.changes()),
+        rows_of(book),
+        last,
+    ))
+}
+
+/// The same of the book of the small day, which lives no longer than this call.
+fn heard(alloc: Global) -> Result<Heard, Fail> {
+    let mut book = Book::open(alloc, small_day(alloc)?)?;
+    heard_of(alloc, &mut book)
+}
+
 #[test]
 fn usual_moves_are_answered(rt: HostRuntime) -> Result<(), Fail> {
-    let alloc = rt.alloc();
-    let mut book = Book::open(alloc, small_day(alloc)?)?;
-    let table = [
+    let (answers, counts, rows, last) = heard(rt.alloc())?;
+    let expected = [
         // two passengers are 10 minutes late; the second leg departs at 580
-        (
-            Asked::Delay(Leg(0), 10),
-            dearer(150_000_000_000, 162_000_000_000),
-        ),
+        Some(dearer(150_000_000_000, 162_000_000_000)),
         // the dearer aircraft has one leg, and no longer two
-        (
-            Asked::Swap(Plane(0), Plane(1), Minute(0)),
-            accepted(120_000_000_000),
-        ),
+        Some(accepted(120_000_000_000)),
         // it has none
-        (Asked::Reroute(Leg(2), Plane(1)), accepted(90_000_000_000)),
+        Some(accepted(90_000_000_000)),
         // two passengers are not carried
-        (
-            Asked::Rebook(Res(1), LATER, NOWHERE, 2),
-            dearer(90_000_000_000, 91_200_000_000),
-        ),
+        Some(dearer(90_000_000_000, 91_200_000_000)),
         // all three are not, and two legs are flown
-        (Asked::Cancel(Leg(2)), accepted(61_800_000_000)),
+        Some(accepted(61_800_000_000)),
     ];
-    for (asked, expected) in table.iter() {
-        let answer = answered(alloc, &mut book, *asked)?;
-        assert_eq!(rt; answer, Some(*expected), "{asked:?}");
-    }
-    assert_eq!(rt; (book.entries(), book.changes()), (5, 3));
-    assert_eq!(rt; rows_of(&book), Some([flown(1, 480), flown(1, 570), OFF]));
-    let last = (1, accepted(61_800_000_000), (Leg(2), flown(1, 700), OFF));
-    assert_eq!(rt; last_of(alloc, &book)?, Some(last));
+    assert_eq!(rt; answers.as_slice(), expected.as_slice());
+    let off = (1, accepted(61_800_000_000), (Leg(2), flown(1, 700), OFF));
+    assert_eq!(rt;
+        (counts, rows, last),
+        ((5, 3), Some([flown(1, 480), flown(1, 570), OFF]), Some(off))
+    );
     Ok(())
 }

@@ -42,13 +42,17 @@ fn there_and_back<L: Ledger>(
     Ok([before, changed, said(eval)])
 }
 
-#[test]
-fn a_change_is_taken_back(rt: HostRuntime) -> Result<(), Fail> {
-    let alloc = rt.alloc();
+/// The same of an evaluator of the small day, which lives no longer than this call.
+fn all_said(alloc: Global) -> Result<[Said; 3], Fail> {
     let inst = small_day(alloc)?;
     let plan = inst.schedule(alloc)?;
     let mut eval = Evaluator::open(alloc, inst, &plan)?;
-    let all = there_and_back::<Brand>(Blank::new(1), alloc, &mut eval)?;
+    Ok(there_and_back::<Brand>(Blank::new(1), alloc, &mut eval)?)
+}
+
+#[test]
+fn a_change_is_taken_back(rt: HostRuntime) -> Result<(), Fail> {
+    let all = all_said(rt.alloc())?;
     // hours of 100, 100 and 50; the passengers of a leg that is cancelled are still on it
     let before = (flown(1, 700), None, Grains(150_000_000_000));
     let changed = (OFF, Some(Broken::C13(Res(1))), Grains(120_000_000_000));
