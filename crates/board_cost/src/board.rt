@@ -1,22 +1,23 @@
 //! The board.
 
-ghost use Rattle.std.specs.Prelude.{◌≡◌, ◌+◌, ◌*◌, ◌<◌, ◌≤◌, List as Items, ◌∷◌, ◌++◌, [], length, OnOk, OnErr, IfOk};
+ghost use Rattle.std.specs.Prelude.{◌≡◌, ◌+◌, ◌*◌, ◌<◌, ◌≤◌, List as Items, ◌∷◌, ◌++◌, [], length, OnOk, IfOk};
 ghost use Rattle.std.specs.Vec.{vec_capacity};
-ghost use Rattle.desk_data.specs.PlanRows.{PlanRows, AreGroups, groups_at, with_row, with_groups};
-ghost use Rattle.desk_data.specs.Situation.{Situation, legs_of, planes_of, reservations_of, res_at};
-ghost use Rattle.desk_data.specs.Valid.{AreGroupsOf, IsPlanFor, IsRowOf};
+ghost use Rattle.desk_data.specs.PlanRows.{PlanRows, AreGroups, groups_at, with_groups};
+ghost use Rattle.desk_data.specs.Situation.{Situation, legs_of, reservations_of, res_at};
+ghost use Rattle.desk_data.specs.Valid.{AreGroupsOf, IsPlanFor};
 ghost use Rattle.desk_rules.specs.Cost.{cost, grains};
 ghost use Rattle.leg_users.specs.Users.{users};
-ghost use Rattle.board_cost.specs.Board.{HasFewEdits, HasPlace, HasRoomFor, IsBoardOf, IsRoomierFleet, StandsAt};
+ghost use Rattle.board_cost.specs.Board.{HasFewEdits, HasPlace, HasRoomFor, IsBoardOf, IsRoomierFleet};
 
 use crate::balance::Balance;
-use crate::change::{Added, Change};
+use crate::change::{Added, CostChange};
 use crate::fleet::Fleet;
 use crate::passengers::groups_cost;
 use crate::paths::RowChange;
+use crate::rotation_leg::{Turns, rotation_legs_of};
 use crate::row::change_row;
-use crate::turn::{Turns, turns_of};
 use crate::users::{add_users, take_users};
+use board_kit::Board;
 use desk_data::{Grains, Group, Instance, Leg, NoMem, Res, Row, Steps};
 use full_cost::full_cost;
 use leg_users::LegUsers;
@@ -28,13 +29,25 @@ use std::sync::ledger::Ledger;
 
 /// What a plan costs, kept while it changes place by place. The board keeps its past, so that changes are
 /// taken back. It holds neither the instance nor the plan: contracts say of which it is the board.
-#[derive(Debug, Drop)]
+#[derive(Debug)]
 pub struct CostBoard {
     total: Grains,
     users: LegUsers,
     fleet: Fleet,
     /// The changes since the past was last empty.
-    past: Vec<Change>,
+    past: Vec<CostChange>,
+}
+
+/// In one call, so that whoever lets a board go does not prove anew that each part of it may go.
+impl Drop for CostBoard {
+    fn drop(self) {
+        let CostBoard {
+            total: _,
+            users: _,
+            fleet: _,
+            past: _,
+        } = self;
+    }
 }
 
 impl Model for CostBoard {
@@ -71,21 +84,29 @@ impl CostBoard {
     {
         self.total
     }
+}
 
-    /// How many changes can be taken back: the length of the past, at most 2,000,000,000.
-    pub fn depth(&self) -> u32
-        ensures length { result ≡ length self.now.past }
-        ensures limit { result ≤ 2000000000 }
-        ensures plans { (I : Situation) (P : PlanRows) (Ps : Items PlanRows) → IsBoardOf I P Ps self.now → result ≡ length Ps }
-    {
+impl Board for CostBoard {
+    ghost use Rattle.std.specs.Prelude.{◌+◌, ◌*◌, length};
+    ghost use Rattle.desk_data.specs.PlanRows.{groups_at};
+    ghost use Rattle.leg_users.specs.Users.{users};
+    ghost use Rattle.board_cost.specs.Board.{IsBoardOf};
+
+    ghost is_board_of = { IsBoardOf };
+
+    /// A change of a row reads at most 8 rows, and 10 for each group of passengers that has the leg in its path.
+    ghost row_reads = { λ P x. 8 + 10 * users P x };
+
+    /// A change of groups reads at most 10 rows for each group, before and after.
+    ghost group_reads = { λ P r groups. 10 * (length (groups_at P r) + length groups) };
+
+    /// The length of the past.
+    fn depth(&self) -> u32 {
         self.past.len() as u32
     }
 
-    /// Gives a leg another row. The plan is that of the board, before the change; of it rows are read
-    /// under `steps`: at most 8, and 10 for each group of passengers that has the leg in its path. The
-    /// past, which has fewer than 2,000,000,000 changes, grows by one. After an error, which is out of
-    /// memory, the board is still that of the plan.
-    pub fn set_row<L: Ledger>(
+    /// Changes the total by what the leg, its aircraft and those who use it cost more or less.
+    fn set_row<L: Ledger>(
         &mut self,
         alloc: Global,
         inst: &Instance,
@@ -93,19 +114,10 @@ impl CostBoard {
         leg: Leg,
         row: Row,
         steps: &mut Steps<L>,
-    ) -> Result<(), NoMem>
-        requires plan { IsPlanFor inst.now plan.now }
-        requires leg { leg.0 < legs_of inst.now }
-        requires row { IsRowOf (planes_of inst.now) row }
-        requires board { StandsAt inst.now plan.now self.old }
-        requires depth { length self.old.past < 2000000000 }
-        ensures ok { OnOk result ((Ps : Items PlanRows) → IsBoardOf inst.now plan.now Ps self.old → IsBoardOf inst.now (with_row plan.now leg.0 row) (plan.now ∷ Ps) self.new) }
-        ensures err { OnErr result ((Ps : Items PlanRows) → IsBoardOf inst.now plan.now Ps self.old → IsBoardOf inst.now plan.now Ps self.new) }
-        ensures reads { steps.new ≤ steps.old + (8 + 10 * users plan.now leg.0) }
-    {
+    ) -> Result<(), NoMem> {
         let old = plan.row(leg, steps);
         let change = RowChange { leg, old, new: row };
-        let turns = turns_of(inst, change);
+        let turns = rotation_legs_of(inst, change);
         make_ready(&mut self.past, &mut self.fleet, turns)?;
         let total = self.total;
         let (users, fleet) = (&self.users, &mut self.fleet);
@@ -114,7 +126,7 @@ impl CostBoard {
         let added = Added::none(alloc, Res(0));
         push_change(
             &mut self.past,
-            Change {
+            CostChange {
                 total,
                 gone,
                 come,
@@ -124,11 +136,8 @@ impl CostBoard {
         Ok(())
     }
 
-    /// Gives a reservation other groups. The plan is that of the board, before the change; of it rows are
-    /// read under `steps`: at most 10 for each of the groups, before and after. The past, which has fewer
-    /// than 2,000,000,000 changes, grows by one. After an error, which is out of memory, the board is
-    /// still that of the plan.
-    pub fn set_groups<L: Ledger>(
+    /// Changes the total by what the groups cost more or less, and keeps their legs' users.
+    fn set_groups<L: Ledger>(
         &mut self,
         alloc: Global,
         inst: &Instance,
@@ -136,17 +145,7 @@ impl CostBoard {
         res: Res,
         groups: &[Group],
         steps: &mut Steps<L>,
-    ) -> Result<(), NoMem>
-        requires plan { IsPlanFor inst.now plan.now }
-        requires res { res.0 < reservations_of inst.now }
-        requires groups { AreGroups groups.now }
-        requires passengers { AreGroupsOf (legs_of inst.now) (res_at inst.now res.0).count groups.now }
-        requires board { StandsAt inst.now plan.now self.old }
-        requires depth { length self.old.past < 2000000000 }
-        ensures ok { OnOk result ((Ps : Items PlanRows) → IsBoardOf inst.now plan.now Ps self.old → IsBoardOf inst.now (with_groups plan.now res.0 groups.now) (plan.now ∷ Ps) self.new) }
-        ensures err { OnErr result ((Ps : Items PlanRows) → IsBoardOf inst.now plan.now Ps self.old → IsBoardOf inst.now plan.now Ps self.new) }
-        ensures reads { steps.new ≤ steps.old + 10 * (length (groups_at plan.now res.0) + length groups.now) }
-    {
+    ) -> Result<(), NoMem> {
         self.past.reserve(1)?;
         let total = self.total;
         let now = change_groups(inst, plan, res, groups, total, steps);
@@ -156,7 +155,7 @@ impl CostBoard {
                 self.total = now;
                 push_change(
                     &mut self.past,
-                    Change {
+                    CostChange {
                         total,
                         gone: None,
                         come: None,
@@ -172,12 +171,8 @@ impl CostBoard {
         }
     }
 
-    /// Takes the last change back: the board is that of the plan and the past from before it. The past
-    /// is not empty. It takes no memory.
-    pub fn back(&mut self)
-        requires { 0 < length self.old.past }
-        ensures { (I : Situation) (P Q : PlanRows) (Qs : Items PlanRows) → IsBoardOf I P (Q ∷ Qs) self.old → IsBoardOf I Q Qs self.new }
-    {
+    /// Puts the total of before back, with the rotation legs and the users of the last change.
+    fn back(&mut self) {
         if let Some(change) = self.past.pop() {
             self.fleet.undo(change.come, false);
             self.fleet.undo(change.gone, true);
@@ -186,17 +181,15 @@ impl CostBoard {
         }
     }
 
-    /// Empties the past, so that what was changed is not taken back any more. It takes no memory.
-    pub fn forget(&mut self)
-        ensures { (I : Situation) (P : PlanRows) (Ps : Items PlanRows) → IsBoardOf I P Ps self.old → IsBoardOf I P [] self.new }
-    {
+    /// Empties the past; the total stays.
+    fn forget(&mut self) {
         self.past.clear();
         self.fleet.forget();
     }
 }
 
-/// Makes room for a change, and for its turns. The only error is out of memory; nothing else changes.
-fn make_ready(past: &mut Vec<Change>, fleet: &mut Fleet, turns: Turns) -> Result<(), NoMem>
+/// Makes room for a change, and for its rotation legs. The only error is out of memory; nothing else changes.
+fn make_ready(past: &mut Vec<CostChange>, fleet: &mut Fleet, turns: Turns) -> Result<(), NoMem>
     requires gone { HasPlace (length fleet.old.rotations) turns.gone }
     requires come { HasPlace (length fleet.old.rotations) turns.come }
     requires few { HasFewEdits 4000000000 fleet.old.rotations }
@@ -213,7 +206,7 @@ fn make_ready(past: &mut Vec<Change>, fleet: &mut Fleet, turns: Turns) -> Result
 }
 
 /// One change more, for which there is room.
-fn push_change(past: &mut Vec<Change>, change: Change)
+fn push_change(past: &mut Vec<CostChange>, change: CostChange)
     requires { length past.old.items < vec_capacity past.old }
     ensures { past.new.items ≡ past.old.items ++ change ∷ [] }
 {

@@ -23,10 +23,10 @@ pub struct BrokenItems {
 impl Model for BrokenItems {
     ghost use Rattle.std.specs.Prelude.{map};
     ghost use Rattle.desk_data.specs.declared.broken.Broken.{Broken};
-    ghost use Rattle.kept_set.specs.Kept.{Kept};
+    ghost use Rattle.kept_set.specs.Kept.{OrderedItems};
     ghost use Rattle.board_items.specs.Items.{AreKeys, item_of};
 
-    ghost Value = { Kept Broken };
+    ghost Value = { OrderedItems Broken };
 
     ghost view = { λ i. record { items = map item_of i.keys.items; room = i.keys.room } };
 

@@ -1,6 +1,6 @@
 //! The board.
 
-ghost use Rattle.std.specs.Prelude.{◌≡◌, ◌+◌, ◌*◌, ◌<◌, ◌≤◌, ◌&&◌, ◌==◌, not, map, filter, List as Items, ◌∷◌, [], length, OnOk, OnErr, IfOk};
+ghost use Rattle.std.specs.Prelude.{◌≡◌, ◌+◌, ◌*◌, ◌<◌, ◌≤◌, ◌&&◌, not, map, filter, List as Items, [], length, OnOk, IfOk};
 ghost use Rattle.desk_data.specs.PlanRows.{PlanRows, AreGroups, groups_at, with_row, with_groups};
 ghost use Rattle.desk_data.specs.Situation.{Situation, legs_of, planes_of, reservations_of, res_at};
 ghost use Rattle.desk_data.specs.Valid.{AreGroupsOf, IsPlanFor, IsRowOf};
@@ -18,7 +18,8 @@ use crate::change::{judge_faults, rejudge_users};
 use crate::groups::{judge_groups, judge_seats};
 use crate::opening::{enter_all, judge_legs, judge_reservations};
 use crate::seats::{judge_leg, seats_in};
-use crate::sheet::LoggedSheet;
+use crate::undo_log::UndoLog;
+use board_kit::Board;
 use desk_data::{Broken, Cabin, Group, Instance, Leg, NoMem, Res, Row, Steps};
 use leg_users::LegUsers;
 use plan_pages::Pages;
@@ -33,7 +34,7 @@ use std::sync::ledger::Ledger;
 /// contracts say of which it is the board.
 #[derive(Debug)]
 pub struct SeatBoard {
-    sheet: LoggedSheet,
+    log: UndoLog,
     /// How many edits the sheet had before each change since the past was last empty.
     past: Vec<usize>,
 }
@@ -41,7 +42,7 @@ pub struct SeatBoard {
 /// In one call, so that whoever lets one go does not prove anew that each part of it may go.
 impl Drop for SeatBoard {
     fn drop(self) {
-        let SeatBoard { sheet: _, past: _ } = self;
+        let SeatBoard { log: _, past: _ } = self;
     }
 }
 
@@ -51,7 +52,7 @@ impl Model for SeatBoard {
 
     ghost Value = { Board };
 
-    ghost view = { λ b. record { lists = b.sheet; past = reverse b.past.items } };
+    ghost view = { λ b. record { lists = b.log; past = reverse b.past.items } };
 
     ghost invariant = { λ b. length b.past.items ≤ 2000000000 };
 }
@@ -64,12 +65,12 @@ impl SeatBoard {
         ensures { IfOk result (λ board. IsBoardOf inst.now (P.plan_of plan.now) [] board) }
     {
         let users = LegUsers::open(alloc, inst, plan)?;
-        let mut sheet = LoggedSheet::blank(alloc, inst.legs(), inst.reservations(), users)?;
+        let mut sheet = UndoLog::blank(alloc, inst.legs(), inst.reservations(), users)?;
         enter_all(&mut sheet, inst, plan)?;
         judge_legs(&mut sheet, inst, plan)?;
         judge_reservations(&mut sheet, inst, plan)?;
         Ok(SeatBoard {
-            sheet,
+            log: sheet,
             past: Vec::new(alloc),
         })
     }
@@ -79,16 +80,7 @@ impl SeatBoard {
     pub fn least(&self) -> Option<Broken>
         ensures { (I : Situation) (P : PlanRows) (Ps : Items PlanRows) → IsBoardOf I P Ps self.now → result ≡ least_pax I P }
     {
-        self.sheet.first()
-    }
-
-    /// How many changes can be taken back: the length of the past, at most 2,000,000,000.
-    pub fn depth(&self) -> u32
-        ensures length { result ≡ length self.now.past }
-        ensures limit { result ≤ 2000000000 }
-        ensures plans { (I : Situation) (P : PlanRows) (Ps : Items PlanRows) → IsBoardOf I P Ps self.now → result ≡ length Ps }
-    {
-        self.past.len() as u32
+        self.log.first()
     }
 
     /// The passengers in a cabin of a leg, in one look-up.
@@ -96,7 +88,7 @@ impl SeatBoard {
         requires { leg.0 < length self.now.lists.taken }
         ensures { (I : Situation) (P : PlanRows) → StandsAt I P self.now → result ≡ aboard P leg.0 cabin }
     {
-        seats_in(self.sheet.taken(leg), cabin)
+        seats_in(self.log.taken(leg), cabin)
     }
 
     /// The reservations that break C13, C14 or C15, ascending by number. What is broken is walked over, and
@@ -104,15 +96,32 @@ impl SeatBoard {
     pub fn broken_reservations(&self, alloc: Global) -> Result<Vec<Res>, NoMem>
         ensures { (I : Situation) (P : PlanRows) → StandsAt I P self.now → IfOk result (λ all. map (λ res. res.0) all.items ≡ filter (λ r. not (keeps_c13 I P r && keeps_c14 I P r && keeps_c15 I P r)) (numbers (reservations_of I))) }
     {
-        let named = self.sheet.named_reservations(alloc)?;
+        let named = self.log.named_reservations(alloc)?;
         Ok(named.items().to_vec(alloc)?)
     }
+}
 
-    /// Gives a leg another row. The plan is that of the board, before the change; of it rows are read
-    /// under `steps`: at most 8 for each group of passengers that has the leg in its path. The past,
-    /// which has fewer than 2,000,000,000 changes, grows by one. After an error, which is out of memory,
-    /// the board is still that of the plan.
-    pub fn set_row<L: Ledger>(
+impl Board for SeatBoard {
+    ghost use Rattle.std.specs.Prelude.{◌+◌, ◌*◌, length};
+    ghost use Rattle.desk_data.specs.PlanRows.{groups_at};
+    ghost use Rattle.leg_users.specs.Users.{users};
+    ghost use Rattle.board_seats.specs.Board.{IsBoardOf};
+
+    ghost is_board_of = { IsBoardOf };
+
+    /// A change of a row reads at most 8 rows for each group of passengers that has the leg in its path.
+    ghost row_reads = { λ P x. 8 * users P x };
+
+    /// A change of groups reads at most 8 rows for each group, before and after.
+    ghost group_reads = { λ P r groups. 8 * (length (groups_at P r) + length groups) };
+
+    /// The length of the past.
+    fn depth(&self) -> u32 {
+        self.past.len() as u32
+    }
+
+    /// Judges the seats of the leg, and the paths of those who use it.
+    fn set_row<L: Ledger>(
         &mut self,
         _alloc: Global,
         inst: &Instance,
@@ -120,33 +129,21 @@ impl SeatBoard {
         leg: Leg,
         row: Row,
         steps: &mut Steps<L>,
-    ) -> Result<(), NoMem>
-        requires plan { IsPlanFor inst.now plan.now }
-        requires board { StandsAt inst.now plan.now self.old }
-        requires leg { leg.0 < legs_of inst.now }
-        requires row { IsRowOf (planes_of inst.now) row }
-        requires depth { length self.old.past < 2000000000 }
-        ensures ok { OnOk result ((Ps : Items PlanRows) → IsBoardOf inst.now plan.now Ps self.old → IsBoardOf inst.now (with_row plan.now leg.0 row) (plan.now ∷ Ps) self.new) }
-        ensures err { OnErr result ((Ps : Items PlanRows) → IsBoardOf inst.now plan.now Ps self.old → IsBoardOf inst.now plan.now Ps self.new) }
-        ensures reads { steps.new ≤ steps.old + 8 * users plan.now leg.0 }
-    {
-        let edits = self.sheet.edits();
+    ) -> Result<(), NoMem> {
+        let edits = self.log.edits();
         self.past.push(edits)?;
-        match with_row(&mut self.sheet, inst, plan, leg, row, steps) {
+        match with_row(&mut self.log, inst, plan, leg, row, steps) {
             Ok(()) => Ok(()),
             Err(error) => {
-                self.sheet.undo_to(edits);
+                self.log.undo_to(edits);
                 let _ = self.past.pop();
                 Err(error)
             }
         }
     }
 
-    /// Gives a reservation other groups. The plan is that of the board, before the change; of it rows
-    /// are read under `steps`: at most 8 for each group, before and after. The past, which has fewer than
-    /// 2,000,000,000 changes, grows by one. After an error, which is out of memory, the board is still
-    /// that of the plan.
-    pub fn set_groups<L: Ledger>(
+    /// Moves the passengers from their old paths to their new ones, and judges what both have.
+    fn set_groups<L: Ledger>(
         &mut self,
         _alloc: Global,
         inst: &Instance,
@@ -154,53 +151,37 @@ impl SeatBoard {
         res: Res,
         groups: &[Group],
         steps: &mut Steps<L>,
-    ) -> Result<(), NoMem>
-        requires plan { IsPlanFor inst.now plan.now }
-        requires board { StandsAt inst.now plan.now self.old }
-        requires res { res.0 < reservations_of inst.now }
-        requires groups { AreGroups groups.now }
-        requires passengers { AreGroupsOf (legs_of inst.now) (res_at inst.now res.0).count groups.now }
-        requires depth { length self.old.past < 2000000000 }
-        ensures ok { OnOk result ((Ps : Items PlanRows) → IsBoardOf inst.now plan.now Ps self.old → IsBoardOf inst.now (with_groups plan.now res.0 groups.now) (plan.now ∷ Ps) self.new) }
-        ensures err { OnErr result ((Ps : Items PlanRows) → IsBoardOf inst.now plan.now Ps self.old → IsBoardOf inst.now plan.now Ps self.new) }
-        ensures reads { steps.new ≤ steps.old + 8 * (length (groups_at plan.now res.0) + length groups.now) }
-    {
-        let edits = self.sheet.edits();
+    ) -> Result<(), NoMem> {
+        let edits = self.log.edits();
         self.past.push(edits)?;
-        match with_groups(&mut self.sheet, inst, plan, res, groups, steps) {
+        match with_groups(&mut self.log, inst, plan, res, groups, steps) {
             Ok(()) => Ok(()),
             Err(error) => {
-                self.sheet.undo_to(edits);
+                self.log.undo_to(edits);
                 let _ = self.past.pop();
                 Err(error)
             }
         }
     }
 
-    /// Takes the last change back: the board is that of the plan and the past from before it. The past
-    /// is not empty. It takes no memory.
-    pub fn back(&mut self)
-        requires { 0 < length self.old.past }
-        ensures { (I : Situation) (P Q : PlanRows) (Qs : Items PlanRows) → IsBoardOf I P (Q ∷ Qs) self.old → IsBoardOf I Q Qs self.new }
-    {
+    /// Takes the edits of the last change back.
+    fn back(&mut self) {
         if let Some(edits) = self.past.pop() {
-            let edits = edits.min(self.sheet.edits());
-            self.sheet.undo_to(edits);
+            let edits = edits.min(self.log.edits());
+            self.log.undo_to(edits);
         }
     }
 
-    /// Empties the past, so that what was changed is not taken back any more. It takes no memory.
-    pub fn forget(&mut self)
-        ensures { (I : Situation) (P : PlanRows) (Ps : Items PlanRows) → IsBoardOf I P Ps self.old → IsBoardOf I P [] self.new }
-    {
-        self.sheet.forget();
+    /// Empties the past and the log of edits; what is known of the plan stays.
+    fn forget(&mut self) {
+        self.log.forget();
         self.past.clear();
     }
 }
 
 /// Gives a leg another row on a sheet.
 fn with_row<L: Ledger>(
-    sheet: &mut LoggedSheet,
+    sheet: &mut UndoLog,
     inst: &Instance,
     plan: &Pages,
     leg: Leg,
@@ -221,7 +202,7 @@ fn with_row<L: Ledger>(
 
 /// Gives a reservation other groups on a sheet.
 fn with_groups<L: Ledger>(
-    sheet: &mut LoggedSheet,
+    sheet: &mut UndoLog,
     inst: &Instance,
     plan: &Pages,
     res: Res,

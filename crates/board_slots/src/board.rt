@@ -1,9 +1,9 @@
 //! The board.
 
-ghost use Rattle.std.specs.Prelude.{◌≡◌, ◌&&◌, ◌==◌, ◌+◌, ◌<◌, ◌≤◌, List as Items, ◌∷◌, [], length, None, OnOk, OnErr, IfOk};
-ghost use Rattle.desk_data.specs.PlanRows.{PlanRows, AreGroups, row_at, with_row, with_groups};
-ghost use Rattle.desk_data.specs.Situation.{Situation, legs_of, planes_of, reservations_of, res_at};
-ghost use Rattle.desk_data.specs.Valid.{AreGroupsOf, IsPlanFor, IsRowOf};
+ghost use Rattle.std.specs.Prelude.{◌≡◌, ◌&&◌, ◌==◌, ◌+◌, ◌<◌, List as Items, ◌∷◌, [], length, None, OnOk, OnErr, IfOk};
+ghost use Rattle.desk_data.specs.PlanRows.{PlanRows, row_at};
+ghost use Rattle.desk_data.specs.Situation.{Situation, legs_of, planes_of};
+ghost use Rattle.desk_data.specs.Valid.{IsPlanFor, IsRowOf};
 ghost use Rattle.desk_rules.specs.Least.{least_slots};
 ghost use Rattle.desk_model.specs.Push.{arrivals_beside, departures_beside};
 ghost use Rattle.hour_counts.specs.Counts.{arrives_at, departs_at, one_if};
@@ -11,7 +11,8 @@ ghost use Rattle.board_slots.specs.Slots.{AreSlots, slots_of};
 ghost use Rattle.board_slots.specs.Board.{IsBoardOf};
 
 use crate::loads::Loads;
-use crate::slot::{Change, Movement, Slot, Taken, is_same, slots_of};
+use crate::slot::{Movement, Slot, SlotChange, SlotUse, is_same, slots_of};
+use board_kit::Board;
 use desk_data::{Airport, Broken, Group, Instance, Leg, NoMem, Res, Row, Steps};
 use plan_pages::Pages;
 use plan_reads::ReadPlan;
@@ -23,11 +24,18 @@ use std::sync::ledger::Ledger;
 /// of C10 and C11 that the plan breaks, kept while it changes place by place. The board keeps its past,
 /// so that changes are taken back. It holds neither the instance nor the plan: contracts say of which it
 /// is the board.
-#[derive(Debug, Drop)]
+#[derive(Debug)]
 pub struct SlotBoard {
     loads: Loads,
     /// The changes since the past was last empty.
-    past: Vec<Change>,
+    past: Vec<SlotChange>,
+}
+
+/// In one call, so that whoever lets a board go does not prove anew that each part of it may go.
+impl Drop for SlotBoard {
+    fn drop(self) {
+        let SlotBoard { loads: _, past: _ } = self;
+    }
 }
 
 impl Model for SlotBoard {
@@ -69,80 +77,6 @@ impl SlotBoard {
         self.loads.first()
     }
 
-    /// How many changes can be taken back: the length of the past, at most 2,000,000,000.
-    pub fn depth(&self) -> u32
-        ensures length { result ≡ length self.now.past }
-        ensures limit { result ≤ 2000000000 }
-        ensures plans { (I : Situation) (P : PlanRows) (Ps : Items PlanRows) → IsBoardOf I P Ps self.now → result ≡ length Ps }
-    {
-        self.past.len() as u32
-    }
-
-    /// Gives a leg another row. The plan is that of the board, before the change; of it one row is
-    /// read, under `steps`. The past, which has fewer than 2,000,000,000 changes, grows by one. After an
-    /// error, which is out of memory, the board is still that of the plan.
-    pub fn set_row<L: Ledger>(
-        &mut self,
-        _alloc: Global,
-        inst: &Instance,
-        plan: &Pages,
-        leg: Leg,
-        row: Row,
-        steps: &mut Steps<L>,
-    ) -> Result<(), NoMem>
-        requires plan { IsPlanFor inst.now plan.now }
-        requires leg { leg.0 < legs_of inst.now }
-        requires row { IsRowOf (planes_of inst.now) row }
-        requires depth { length self.old.past < 2000000000 }
-        ensures ok { OnOk result ((Ps : Items PlanRows) → IsBoardOf inst.now plan.now Ps self.old → IsBoardOf inst.now (with_row plan.now leg.0 row) (plan.now ∷ Ps) self.new) }
-        ensures err { OnErr result ((Ps : Items PlanRows) → IsBoardOf inst.now plan.now Ps self.old → IsBoardOf inst.now plan.now Ps self.new) }
-        ensures reads { steps.new ≡ steps.old + 1 }
-    {
-        let gone = slots_read(inst, plan, leg, steps);
-        let come = slots_of(inst, leg, row);
-        // within its hours a leg changes no count
-        if is_same(gone, come) {
-            return self.stay();
-        }
-        self.past.reserve(1)?;
-        let more = 4 * self.past.len() + 8;
-        self.loads.make_ready(inst, gone, come, more)?;
-        self.loads.enter(come);
-        self.loads.leave(gone);
-        let _pushed = self.past.push(Change { gone, come });
-        Ok(())
-    }
-
-    /// Gives a reservation other groups, which changes no hour. The plan is that of the board, before
-    /// the change; no row of it is read. The past, which has fewer than 2,000,000,000 changes, grows by
-    /// one. After an error, which is out of memory, the board is still that of the plan.
-    pub fn set_groups<L: Ledger>(
-        &mut self,
-        _alloc: Global,
-        inst: &Instance,
-        plan: &Pages,
-        res: Res,
-        groups: &[Group],
-        steps: &mut Steps<L>,
-    ) -> Result<(), NoMem>
-        requires plan { IsPlanFor inst.now plan.now }
-        requires res { res.0 < reservations_of inst.now }
-        requires groups { AreGroups groups.now }
-        requires passengers { AreGroupsOf (legs_of inst.now) (res_at inst.now res.0).count groups.now }
-        requires depth { length self.old.past < 2000000000 }
-        ensures ok { OnOk result ((Ps : Items PlanRows) → IsBoardOf inst.now plan.now Ps self.old → IsBoardOf inst.now (with_groups plan.now res.0 groups.now) (plan.now ∷ Ps) self.new) }
-        ensures err { OnErr result ((Ps : Items PlanRows) → IsBoardOf inst.now plan.now Ps self.old → IsBoardOf inst.now plan.now Ps self.new) }
-        ensures reads { steps.new ≡ steps.old }
-    {
-        // all boards are asked alike, and this one keeps nothing of groups
-        let _ = inst;
-        let _ = plan;
-        let _ = res;
-        let _ = groups;
-        let _ = steps;
-        self.stay()
-    }
-
     /// One change more, with which no slot is left and none is taken. After an error, which is out of
     /// memory, the past is as before.
     fn stay(&mut self) -> Result<(), NoMem>
@@ -154,30 +88,11 @@ impl SlotBoard {
         self.past.reserve(1)?;
         let more = 4 * self.past.len() + 4;
         self.loads.reserve(more)?;
-        let _pushed = self.past.push(Change {
+        let _pushed = self.past.push(SlotChange {
             gone: None,
             come: None,
         });
         Ok(())
-    }
-
-    /// Takes the last change back: the board is that of the plan and the past from before it. The past
-    /// is not empty. It takes no memory.
-    pub fn back(&mut self)
-        requires { 0 < length self.old.past }
-        ensures { (I : Situation) (P Q : PlanRows) (Qs : Items PlanRows) → IsBoardOf I P (Q ∷ Qs) self.old → IsBoardOf I Q Qs self.new }
-    {
-        if let Some(change) = self.past.pop() {
-            self.loads.enter(change.gone);
-            self.loads.leave(change.come);
-        }
-    }
-
-    /// Empties the past, so that what was changed is not taken back any more. It takes no memory.
-    pub fn forget(&mut self)
-        ensures { (I : Situation) (P : PlanRows) (Ps : Items PlanRows) → IsBoardOf I P Ps self.old → IsBoardOf I P [] self.new }
-    {
-        self.past.clear();
     }
 
     /// How many legs depart from an airport in an hour, of those that are flown and whose scheduled
@@ -227,13 +142,109 @@ impl SlotBoard {
     }
 }
 
+impl Board for SlotBoard {
+    ghost use Rattle.std.specs.Prelude.{◌+◌, ◌<◌, ◌≡◌, OnOk, OnErr};
+    ghost use Rattle.board_kit.specs.Boards.{IsReady, IsChanged, IsUnchanged};
+    ghost use Rattle.desk_data.specs.PlanRows.{AreGroups, with_row, with_groups};
+    ghost use Rattle.desk_data.specs.Situation.{legs_of, planes_of, reservations_of, res_at};
+    ghost use Rattle.desk_data.specs.Valid.{AreGroupsOf, IsPlanFor, IsRowOf};
+    ghost use Rattle.board_slots.specs.Board.{IsBoardOf};
+
+    ghost is_board_of = { IsBoardOf };
+
+    /// A change of a row reads the row before it.
+    ghost row_reads = { λ P x. 1 };
+
+    /// Groups change no hour.
+    ghost group_reads = { λ P r groups. 0 };
+
+    /// The length of the past.
+    fn depth(&self) -> u32 {
+        self.past.len() as u32
+    }
+
+    /// Counts the leg at its new hours, and no more at its old ones. Within its hours it changes no count.
+    fn set_row<L: Ledger>(
+        &mut self,
+        _alloc: Global,
+        inst: &Instance,
+        plan: &Pages,
+        leg: Leg,
+        row: Row,
+        steps: &mut Steps<L>,
+    ) -> Result<(), NoMem>
+        requires plan { IsPlanFor inst.now plan.now }
+        requires leg { leg.0 < legs_of inst.now }
+        requires row { IsRowOf (planes_of inst.now) row }
+        requires ready { IsReady (IsBoardOf inst.now plan.now) self.old }
+        ensures ok { OnOk result (IsChanged IsBoardOf inst.now plan.now (with_row plan.now leg.0 row) self.old self.new) }
+        ensures err { OnErr result (IsUnchanged IsBoardOf inst.now plan.now self.old self.new) }
+        ensures reads { steps.new ≡ steps.old + 1 }
+    {
+        let gone = slots_read(inst, plan, leg, steps);
+        let come = slots_of(inst, leg, row);
+        // within its hours a leg changes no count
+        if is_same(gone, come) {
+            return self.stay();
+        }
+        self.past.reserve(1)?;
+        let more = 4 * self.past.len() + 8;
+        self.loads.make_ready(inst, gone, come, more)?;
+        self.loads.enter(come);
+        self.loads.leave(gone);
+        let _pushed = self.past.push(SlotChange { gone, come });
+        Ok(())
+    }
+
+    /// Other groups change no hour: the past alone grows.
+    fn set_groups<L: Ledger>(
+        &mut self,
+        _alloc: Global,
+        inst: &Instance,
+        plan: &Pages,
+        res: Res,
+        groups: &[Group],
+        steps: &mut Steps<L>,
+    ) -> Result<(), NoMem>
+        requires plan { IsPlanFor inst.now plan.now }
+        requires res { res.0 < reservations_of inst.now }
+        requires groups { AreGroups groups.now }
+        requires passengers { AreGroupsOf (legs_of inst.now) (res_at inst.now res.0).count groups.now }
+        requires ready { IsReady (IsBoardOf inst.now plan.now) self.old }
+        ensures ok { OnOk result (IsChanged IsBoardOf inst.now plan.now (with_groups plan.now res.0 groups.now) self.old self.new) }
+        ensures err { OnErr result (IsUnchanged IsBoardOf inst.now plan.now self.old self.new) }
+        ensures reads { steps.new ≡ steps.old }
+    {
+        // all boards are asked alike, and this one keeps nothing of groups
+        let _ = inst;
+        let _ = plan;
+        let _ = res;
+        let _ = groups;
+        let _ = steps;
+        self.stay()
+    }
+
+    /// Counts the last change the other way round. Its slots are known, so that no memory is taken.
+    fn back(&mut self) {
+        if let Some(change) = self.past.pop() {
+            self.loads.enter(change.gone);
+            self.loads.leave(change.come);
+        }
+    }
+
+    /// Empties the past; the counts stay.
+    fn forget(&mut self) {
+        self.past.clear();
+    }
+}
+
 /// The slots of a leg's row in a plan, if it is flown. Reads one row under `steps`.
 fn slots_read<L: Ledger>(
     inst: &Instance,
     plan: &Pages,
     leg: Leg,
     steps: &mut Steps<L>,
-) -> Option<Taken>
+) -> Option<SlotUse>
     requires plan { IsPlanFor inst.now plan.now }
     requires leg { leg.0 < legs_of inst.now }
     ensures slots { result ≡ slots_of inst.now leg.0 (row_at plan.now leg.0) }

@@ -2,17 +2,16 @@
 
 ghost use Rattle.std.specs.Prelude.{◌≡◌, ◌++◌, All, IfOk, OnOk, Option};
 ghost use Rattle.desk_core.specs.Recorded.{state_of};
-ghost use Rattle.desk_model.specs.Histories.{is_batch};
 ghost use Rattle.journal_text.specs.Lines.{journal_text};
 ghost use Rattle.journal_text.specs.Told.{AnswerNames, CanBeTold};
-ghost use Rattle.desk_tasks.specs.Play.{planned_rotations, planned_itineraries, batch_line, batch_lines, search_line, end_lines, report_text, history_outcome};
+ghost use Rattle.desk_tasks.specs.Play.{planned_rotations, planned_itineraries, batch_line, batch_lines, search_line, end_lines, search_told, report_text, history_outcome};
 ghost use Rattle.desk_tasks.specs.Recover.{told_alone};
 ghost use Rattle.desk_runs.specs.Writing.{as_texts};
 
 use desk_core::Book;
 use desk_data::{Instance, NoMem};
 use desk_folder::File;
-use desk_model::{Answer, Entry, Event};
+use desk_model::{Answer, Entry};
 use desk_runs::OutputTexts;
 use desk_tasks::SearchEnd;
 use journal_text::{journal_text, legal_entries_can_be_told, push_answer, push_broken};
@@ -56,16 +55,6 @@ fn push_batch(
     Ok(())
 }
 
-// Whether an event is a batch.
-fn is_batch(event: &Event) -> bool
-    ensures { result ≡ is_batch event.now }
-{
-    match event {
-        Event::Batch(_) => true,
-        Event::Move(_) => false,
-    }
-}
-
 // Adds a line for each batch of these entries, numbered from 0.
 fn push_batches(text: &mut Vec<u8>, inst: &Instance, entries: &[Entry]) -> Result<(), NoMem>
     requires { All (CanBeTold inst.now) entries.now }
@@ -73,7 +62,7 @@ fn push_batches(text: &mut Vec<u8>, inst: &Instance, entries: &[Entry]) -> Resul
 {
     let mut number = 0;
     for entry in entries {
-        if is_batch(&entry.event) {
+        if entry.event.is_batch() {
             push_batch(text, inst, number, &entry.answer)?;
             number += 1;
         }
@@ -121,7 +110,7 @@ fn push_search(text: &mut Vec<u8>, search: Option<SearchEnd>) -> Result<(), NoMe
 // the plan or what is broken.
 #[tactic(auto, unfolding(desk_tasks::specs::Play::report_text))]
 fn report_text(alloc: Global, book: &Book, search: Option<SearchEnd>) -> Result<Vec<u8>, NoMem>
-    ensures { IfOk result (λ text. text.items ≡ report_text book.now.opening search book.now.journal) }
+    ensures { IfOk result (λ text. text.items ≡ report_text book.now.opening (search_told search) book.now.journal) }
 {
     let mut text = Vec::new(alloc);
     push_batches(&mut text, book.instance(), book.journal())?;
@@ -145,7 +134,7 @@ pub(crate) fn output_texts(
     book: &Book,
     search: Option<SearchEnd>,
 ) -> Result<OutputTexts, NoMem>
-    ensures { IfOk result (λ t. as_texts t ≡ (history_outcome book.now.opening search book.now.journal).texts) }
+    ensures { IfOk result (λ t. as_texts t ≡ (history_outcome book.now.opening (search_told search) book.now.journal).texts) }
 {
     let mut files = Vec::new(alloc);
     files.push((File::SolRotations, planned_rotations(alloc, book)?))?;
@@ -162,7 +151,7 @@ pub(crate) fn report_alone(
     book: &Book,
     search: Option<SearchEnd>,
 ) -> Result<OutputTexts, NoMem>
-    ensures { IfOk result (λ t. as_texts t ≡ (told_alone (history_outcome book.now.opening search book.now.journal)).texts) }
+    ensures { IfOk result (λ t. as_texts t ≡ (told_alone (history_outcome book.now.opening (search_told search) book.now.journal)).texts) }
 {
     let files = Vec::new(alloc);
     let report = report_text(alloc, book, search)?;

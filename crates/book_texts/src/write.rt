@@ -2,9 +2,9 @@
 
 ghost use Rattle.std.specs.Prelude.{◌≡◌, []};
 ghost use Rattle.desk_runs.specs.Commands.{history_files};
-ghost use Rattle.desk_runs.specs.Runs.{world};
+ghost use Rattle.desk_runs.specs.Runs.{Between};
 ghost use Rattle.desk_runs.specs.Finishing.{Completes};
-ghost use Rattle.desk_tasks.specs.Play.{history_outcome, played_end};
+ghost use Rattle.desk_tasks.specs.Play.{search_told, history_outcome, played_end};
 ghost use Rattle.desk_tasks.specs.Recover.{told_alone};
 
 use crate::texts::{output_texts, report_alone};
@@ -37,8 +37,8 @@ pub fn write_history<F: Folder, O: Sink>(
     folder: &mut F,
     out: &mut O,
 ) -> Ending
-    ensures { Completes history_files (world (F.outside folder.old) (O.report out.old))
-        (world (F.outside folder.new) (O.report out.new)) (history_outcome book.now.opening search book.now.journal) result }
+    ensures { Between F.outside O.report folder.old out.old folder.new out.new (λ before now.
+        Completes history_files before now (history_outcome book.now.opening (search_told search) book.now.journal) result) }
 {
     let texts = match output_texts(alloc, book, search) {
         Ok(texts) => texts,
@@ -61,8 +61,8 @@ pub fn report_history<F: Folder, O: Sink>(
     folder: &mut F,
     out: &mut O,
 ) -> Ending
-    ensures { Completes [] (world (F.outside folder.old) (O.report out.old))
-        (world (F.outside folder.new) (O.report out.new)) (told_alone (history_outcome book.now.opening search book.now.journal)) result }
+    ensures { Between F.outside O.report folder.old out.old folder.new out.new (λ before now.
+        Completes [] before now (told_alone (history_outcome book.now.opening (search_told search) book.now.journal)) result) }
 {
     let texts = match report_alone(alloc, book, search) {
         Ok(texts) => texts,

@@ -6,8 +6,7 @@ use Rattle.std.proofs.lemmas.List.FromFn.{length-map-range_with_len}
 use Rattle.std.proofs.lemmas.List.Elements.{All-nil, All-cons, All-head, All-tail, All-map, All-append, All-filter, filter_map-append}
 use Rattle.day_orders.specs.declared.orders.Order.{Order}
 use Rattle.day_orders.specs.declared.orders.Order.TheVariants as order
-use Rattle.day_orders.specs.declared.orders.Batch.{Batch}
-use Rattle.desk_data.specs.Valid.{IsOrder}
+use Rattle.desk_data.specs.Valid.{IsOrder, IsBatch}
 use Rattle.file_rows.specs.declared.disruptions.AltRow.{AltRow}
 use Rattle.file_rows.specs.declared.disruptions.AltRow.TheVariants as alt
 use Rattle.file_rows.specs.Facts.{IsAlt}
@@ -71,7 +70,10 @@ module _ (x : Files) (rows : AreFileRows x) (fit : FitTogether x) where
   batch_good : (k : ℕ) → All (IsOrder (parts_of x)) (orders_in_batch x x.feed k)
   batch_good k = all_given (λ (fed : ℕ × AltRow). IsGood x fed.1) (IsOrder (parts_of x)) (λ (fed : ℕ × AltRow). order_of x fed.1) (λ fed y. is_order x fed.1 y) (filter _ x.feed) (All-filter _ (λ (fed : ℕ × AltRow). IsGood x fed.1) x.feed feed_good)
 
-  pub batches_good : All (λ (batch : Batch). All (IsOrder (parts_of x)) batch.orders) (batches_of x)
+  batch_of : (orders : List Order) → All (IsOrder (parts_of x)) orders → IsBatch (parts_of x) (batch_with orders)
+  batch_of orders good = record { orders = good; at = refl }
+
+  pub batches_good : All (IsBatch (parts_of x)) (batches_of x)
   unfolding batches_of
-  batches_good = All-cons (λ (batch : Batch). All (IsOrder (parts_of x)) batch.orders) (batch_with (opening_orders x)) _ opening_good
-      (All-map (λ (batch : Batch). All (IsOrder (parts_of x)) batch.orders) (λ k. batch_with (orders_in_batch x x.feed k)) (range_with_len 1 (last_batch x.feed)) (λ k d below. batch_good _))
+  batches_good = All-cons (IsBatch (parts_of x)) (batch_with (opening_orders x)) _ (batch_of _ opening_good)
+      (All-map (IsBatch (parts_of x)) (λ k. batch_with (orders_in_batch x x.feed k)) (range_with_len 1 (last_batch x.feed)) (λ k d below. batch_of _ (batch_good _)))

@@ -1,5 +1,5 @@
 -- The day of the rows: names become numbers.
-use Rattle.std.specs.Prelude.{ℕ, List, [], map, Bool, false, option_map, bytes_eq}
+use Rattle.std.specs.Prelude.{ℕ, List, map, Bool, false, option_map, bytes_eq}
 use Rattle.std.specs.List.{list_any, flat_map}
 use Rattle.desk_units.specs.declared.numbers.Leg.{Leg}
 use Rattle.desk_units.specs.declared.numbers.Airport.{Airport}
@@ -13,7 +13,7 @@ use Rattle.desk_data.specs.declared.info.PlaneInfo.{PlaneInfo}
 use Rattle.desk_data.specs.declared.info.ResInfo.{ResInfo}
 use Rattle.desk_data.specs.declared.info.PositionInfo.{PositionInfo}
 use Rattle.desk_data.specs.declared.parts.Parts.{Parts}
-use Rattle.desk_data.specs.Situation.{Situation}
+use Rattle.desk_data.specs.Situation.{Situation, fresh_day}
 use Rattle.file_rows.specs.declared.network.CapRow.{CapRow}
 use Rattle.file_rows.specs.declared.network.AirportRow.{AirportRow}
 use Rattle.file_rows.specs.declared.fleet.MaintRow.{MaintRow}
@@ -87,6 +87,6 @@ parts_of x = record {
   tariff = x.tariff;
 }
 
--- the day of the rows, which has no orders yet
+-- the day of the rows, before any batch
 abbrev pub day_of : Files → Situation
-day_of x = record { parts = parts_of x; orders = [] }
+day_of x = fresh_day (parts_of x)

@@ -2,21 +2,21 @@
 
 ghost use Rattle.std.specs.Prelude.{◌≡◌, ◌+◌, ◌≤◌, ◌++◌, [], ◌∷◌, ◌==◌, if◌then◌else◌, length, All, IfOk, OnOk};
 ghost use Rattle.file_rows.specs.Limits.{most_batches};
-ghost use Rattle.desk_data.specs.Valid.{IsOrder};
+ghost use Rattle.desk_data.specs.Valid.{IsBatch};
 ghost use Rattle.build_tables.specs.Facts.{AreFileRows};
 ghost use Rattle.build_tables.specs.Fitting.{AreFew, FitTogether};
 ghost use Rattle.build_day.specs.Day.{parts_of};
 ghost use Rattle.build_day.specs.Batches.{order_of, orders_of, opening_orders, batch_with, batches_of};
 
 use crate::legs::{airport_of, leg_at, plane_of};
-use build_tables::Tables;
+use build_tables::NameTables;
 use desk_data::{Batch, Order};
 use desk_units::{List, NoMem};
 use file_rows::AltRow;
 use std::alloc::Global;
 
 /// The order of a row, where it has one.
-fn order_of(tables: &Tables<'_>, row: &AltRow) -> Option<Order>
+fn order_of(tables: &NameTables<'_>, row: &AltRow) -> Option<Order>
     requires { AreFew tables.now.files.now }
     ensures { result ≡ order_of tables.now.files.now row.now }
 {
@@ -59,7 +59,7 @@ fn order_of(tables: &Tables<'_>, row: &AltRow) -> Option<Order>
 }
 
 /// Adds the order of a row, where it has one.
-fn push_order(tables: &Tables<'_>, orders: &mut Vec<Order>, row: &AltRow) -> Result<(), NoMem>
+fn push_order(tables: &NameTables<'_>, orders: &mut Vec<Order>, row: &AltRow) -> Result<(), NoMem>
     requires { AreFew tables.now.files.now }
     ensures { OnOk result (orders.new.items ≡ orders.old.items ++ orders_of tables.now.files.now (row.now ∷ [])) }
 {
@@ -70,7 +70,11 @@ fn push_order(tables: &Tables<'_>, orders: &mut Vec<Order>, row: &AltRow) -> Res
 }
 
 /// Adds the orders of rows.
-fn push_orders(tables: &Tables<'_>, orders: &mut Vec<Order>, rows: &[AltRow]) -> Result<(), NoMem>
+fn push_orders(
+    tables: &NameTables<'_>,
+    orders: &mut Vec<Order>,
+    rows: &[AltRow],
+) -> Result<(), NoMem>
     requires { AreFew tables.now.files.now }
     ensures { OnOk result (orders.new.items ≡ orders.old.items ++ orders_of tables.now.files.now rows.now) }
 {
@@ -81,7 +85,7 @@ fn push_orders(tables: &Tables<'_>, orders: &mut Vec<Order>, rows: &[AltRow]) ->
 }
 
 /// The orders of the alt files, in file order.
-fn opening_orders(alloc: Global, tables: &Tables<'_>) -> Result<Vec<Order>, NoMem>
+fn opening_orders(alloc: Global, tables: &NameTables<'_>) -> Result<Vec<Order>, NoMem>
     requires { AreFew tables.now.files.now }
     ensures { IfOk result (λ orders. orders.items ≡ opening_orders tables.now.files.now) }
 {
@@ -97,7 +101,7 @@ fn opening_orders(alloc: Global, tables: &Tables<'_>) -> Result<Vec<Order>, NoMe
 /// batch of the rows before it, their batch is done.
 fn take_row(
     alloc: Global,
-    tables: &Tables<'_>,
+    tables: &NameTables<'_>,
     done: &mut Vec<Batch>,
     orders: Vec<Order>,
     number: u32,
@@ -113,6 +117,7 @@ fn take_row(
         return Ok(taken);
     }
     done.push(Batch {
+        at: None,
         orders: List(orders),
     })?;
     let mut taken = Vec::new(alloc);
@@ -121,7 +126,7 @@ fn take_row(
 }
 
 /// Batch 0 and the batches of the feed: each row is looked at once.
-fn filled(alloc: Global, tables: &Tables<'_>) -> Result<Vec<Batch>, NoMem>
+fn filled(alloc: Global, tables: &NameTables<'_>) -> Result<Vec<Batch>, NoMem>
     requires rows { AreFileRows tables.now.files.now }
     requires fit { FitTogether tables.now.files.now }
     ensures { IfOk result (λ batches. batches.items ≡ batches_of tables.now.files.now) }
@@ -135,6 +140,7 @@ fn filled(alloc: Global, tables: &Tables<'_>) -> Result<Vec<Batch>, NoMem>
         number = fed.0;
     }
     done.push(Batch {
+        at: None,
         orders: List(orders),
     })?;
     Ok(done)
@@ -143,12 +149,12 @@ fn filled(alloc: Global, tables: &Tables<'_>) -> Result<Vec<Batch>, NoMem>
 /// The batches: batch 0 has the orders of alt_flights.csv, alt_aircraft.csv and alt_airports.csv in this
 /// order, and batch k those of the rows of the feed with the number k, from 1 to the last number. A batch
 /// may be empty. The only error is out of memory.
-pub fn batches_of(alloc: Global, tables: &Tables<'_>) -> Result<Vec<Batch>, NoMem>
+pub fn batches_of(alloc: Global, tables: &NameTables<'_>) -> Result<Vec<Batch>, NoMem>
     requires rows { AreFileRows tables.now.files.now }
     requires fit { FitTogether tables.now.files.now }
     ensures exact { IfOk result (λ batches. batches.items ≡ batches_of tables.now.files.now) }
     ensures few { IfOk result (λ batches. length batches.items ≤ most_batches + 1) }
-    ensures orders { IfOk result (λ batches. All (λ batch. All (IsOrder (parts_of tables.now.files.now)) batch.orders) batches.items) }
+    ensures batches { IfOk result (λ batches. All (IsBatch (parts_of tables.now.files.now)) batches.items) }
 {
     let batches = filled(alloc, tables)?;
     Ok(batches)

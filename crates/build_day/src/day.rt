@@ -11,13 +11,13 @@ use crate::legs::leg_of;
 use crate::planes::planes;
 use crate::positions::positions;
 use crate::reservations::reservations;
-use build_tables::Tables;
+use build_tables::NameTables;
 use desk_data::{Instance, LegInfo, Parts};
 use desk_units::{List, NoMem, Tariff};
 use std::alloc::Global;
 
 /// The legs, in the order of the lines of their rotations.
-fn legs(alloc: Global, tables: &Tables<'_>) -> Result<Vec<LegInfo>, NoMem>
+fn legs(alloc: Global, tables: &NameTables<'_>) -> Result<Vec<LegInfo>, NoMem>
     requires rows { AreFileRows tables.now.files.now }
     requires few { AreFew tables.now.files.now }
     requires known { HasKnownFlights tables.now.files.now }
@@ -33,7 +33,7 @@ fn legs(alloc: Global, tables: &Tables<'_>) -> Result<Vec<LegInfo>, NoMem>
 
 /// The rows of the day.
 #[tactic(auto, unfolding(crate::specs::Day::parts_of))]
-fn parts(alloc: Global, tables: &Tables<'_>) -> Result<Parts, NoMem>
+fn parts(alloc: Global, tables: &NameTables<'_>) -> Result<Parts, NoMem>
     requires rows { AreFileRows tables.now.files.now }
     requires few { AreFew tables.now.files.now }
     requires known { HasKnownFlights tables.now.files.now }
@@ -57,8 +57,8 @@ fn parts(alloc: Global, tables: &Tables<'_>) -> Result<Parts, NoMem>
     })
 }
 
-/// The day of the rows, with no orders yet.
-pub fn day_of(alloc: Global, tables: &Tables<'_>) -> Result<Instance, NoMem>
+/// The day of the rows, before any batch. The only error is out of memory.
+pub fn day_of(alloc: Global, tables: &NameTables<'_>) -> Result<Instance, NoMem>
     requires rows { AreFileRows tables.now.files.now }
     requires fit { FitTogether tables.now.files.now }
     ensures { IfOk result (λ day. day ≡ day_of tables.now.files.now) }

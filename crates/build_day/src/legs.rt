@@ -6,13 +6,13 @@ ghost use Rattle.build_tables.specs.Names.{flight_named, aircraft_place};
 ghost use Rattle.build_tables.specs.Fitting.{AreFew};
 ghost use Rattle.build_day.specs.Legs.{last_in_time, previous_place, airport_of, leg_number, leg_at, minutes_of, haul_of, leg_by, leg_of};
 
-use build_tables::Tables;
-use desk_data::LegInfo;
+use build_tables::NameTables;
+use desk_data::{DAY, LegInfo};
 use desk_units::{Airport, Haul, Leg, Minute, Name, Plane};
 use file_rows::{DistRow, FlightRow, RotationRow};
 
 /// The number of an airport: its place, or 0 for an unknown name.
-pub(crate) fn airport_of(tables: &Tables<'_>, name: &Name) -> Airport
+pub(crate) fn airport_of(tables: &NameTables<'_>, name: &Name) -> Airport
     requires { AreFew tables.now.files.now }
     ensures { result ≡ airport_of tables.now.files.now.airports name.now }
 {
@@ -21,7 +21,7 @@ pub(crate) fn airport_of(tables: &Tables<'_>, name: &Name) -> Airport
 }
 
 /// The number of the leg of a flight on a day: the place of its rotation, or 0 where there is none.
-pub(crate) fn leg_at(tables: &Tables<'_>, flight: &Name, day: u32) -> Leg
+pub(crate) fn leg_at(tables: &NameTables<'_>, flight: &Name, day: u32) -> Leg
     requires { AreFew tables.now.files.now }
     ensures { result ≡ leg_at tables.now.files.now.rotations flight.now day }
 {
@@ -34,7 +34,7 @@ pub(crate) fn leg_at(tables: &Tables<'_>, flight: &Name, day: u32) -> Leg
 ///
 /// The last day on which the flight arrives by then is the one that is looked for. If it is not flown
 /// on that day, then the day before counts, where it arrives just 1,440 minutes before.
-fn last_in_time(tables: &Tables<'_>, flight: &FlightRow, at: u32) -> Option<usize>
+fn last_in_time(tables: &NameTables<'_>, flight: &FlightRow, at: u32) -> Option<usize>
     ensures exact { result ≡ last_in_time flight.now at tables.now.files.now.rotations }
     ensures within { IfSome result (λ place. place < length tables.now.files.now.rotations) }
 {
@@ -42,9 +42,9 @@ fn last_in_time(tables: &Tables<'_>, flight: &FlightRow, at: u32) -> Option<usiz
         return None;
     }
     let since = at - flight.arr;
-    let day = since / 1_440;
+    let day = since / DAY;
     let place = tables.rotation_place(&flight.flight, day);
-    if place.is_some() || day == 0 || since % 1_440 != 0 {
+    if place.is_some() || day == 0 || since % DAY != 0 {
         return place;
     }
     tables.rotation_place(&flight.flight, day - 1)
@@ -52,7 +52,7 @@ fn last_in_time(tables: &Tables<'_>, flight: &FlightRow, at: u32) -> Option<usiz
 
 /// The place of the previous leg of the flight's leg on a day.
 #[tactic(auto, unfolding(crate::specs::Legs::previous_place))]
-fn previous_place(tables: &Tables<'_>, flight: &FlightRow, day: u32) -> Option<usize>
+fn previous_place(tables: &NameTables<'_>, flight: &FlightRow, day: u32) -> Option<usize>
     requires flight { IsFlight flight.now }
     requires day { day < 36525 }
     ensures exact { result ≡ previous_place tables.now.files.now flight.now day }
@@ -60,11 +60,11 @@ fn previous_place(tables: &Tables<'_>, flight: &FlightRow, day: u32) -> Option<u
 {
     let name = flight.prev?;
     let previous = tables.flight(&name)?;
-    last_in_time(tables, previous, 1_440 * day + flight.dep)
+    last_in_time(tables, previous, DAY * day + flight.dep)
 }
 
 /// The previous leg of the flight's leg on a day.
-fn previous_leg(tables: &Tables<'_>, flight: &FlightRow, day: u32) -> Option<Leg>
+fn previous_leg(tables: &NameTables<'_>, flight: &FlightRow, day: u32) -> Option<Leg>
     requires few { AreFew tables.now.files.now }
     requires flight { IsFlight flight.now }
     requires day { day < 36525 }
@@ -75,7 +75,7 @@ fn previous_leg(tables: &Tables<'_>, flight: &FlightRow, day: u32) -> Option<Leg
 }
 
 /// The number of an aircraft: its place, or 0 for an unknown name.
-pub(crate) fn plane_of(tables: &Tables<'_>, name: &Name) -> Plane
+pub(crate) fn plane_of(tables: &NameTables<'_>, name: &Name) -> Plane
     requires { AreFew tables.now.files.now }
     ensures { result.0 ≡ unwrap_or (aircraft_place tables.now.files.now.aircraft name.now) 0 }
 {
@@ -99,7 +99,7 @@ fn haul_of(distance: Option<&DistRow>) -> Haul
 
 /// The leg of a rotation of this flight.
 #[tactic(auto, unfolding(crate::specs::Legs::leg_by))]
-fn leg_by(tables: &Tables<'_>, row: &RotationRow, flight: &FlightRow) -> LegInfo
+fn leg_by(tables: &NameTables<'_>, row: &RotationRow, flight: &FlightRow) -> LegInfo
     requires few { AreFew tables.now.files.now }
     requires row { IsRotation row.now }
     requires flight { IsFlight flight.now }
@@ -111,7 +111,7 @@ fn leg_by(tables: &Tables<'_>, row: &RotationRow, flight: &FlightRow) -> LegInfo
         day: row.day,
         origin: airport_of(tables, &flight.origin),
         dest: airport_of(tables, &flight.dest),
-        sched: Minute(1_440 * row.day + flight.dep),
+        sched: Minute(DAY * row.day + flight.dep),
         block: flight.arr - flight.dep,
         distance: minutes_of(distance),
         haul: haul_of(distance),
@@ -122,7 +122,7 @@ fn leg_by(tables: &Tables<'_>, row: &RotationRow, flight: &FlightRow) -> LegInfo
 
 /// The leg of a rotation, whose flight is known.
 #[tactic(auto, unfolding(crate::specs::Legs::leg_of))]
-pub(crate) fn leg_of(tables: &Tables<'_>, row: &RotationRow) -> LegInfo
+pub(crate) fn leg_of(tables: &NameTables<'_>, row: &RotationRow) -> LegInfo
     requires few { AreFew tables.now.files.now }
     requires flights { All IsFlight tables.now.files.now.flights }
     requires row { IsRotation row.now }

@@ -6,14 +6,14 @@ ghost use Rattle.build_day.specs.Day.{maint_info, plane_info};
 
 use crate::legs::airport_of;
 use crate::surface::is_surface;
-use build_tables::Tables;
+use build_tables::NameTables;
 use desk_data::{Maint, PlaneInfo};
 use desk_units::NoMem;
 use file_rows::{AircraftRow, MaintRow};
 use std::alloc::Global;
 
 /// A maintenance.
-fn maint_info(tables: &Tables<'_>, row: &MaintRow) -> Maint
+fn maint_info(tables: &NameTables<'_>, row: &MaintRow) -> Maint
     requires { AreFew tables.now.files.now }
     ensures { result ≡ maint_info tables.now.files.now.airports row.now }
 {
@@ -26,7 +26,7 @@ fn maint_info(tables: &Tables<'_>, row: &MaintRow) -> Maint
 }
 
 /// The maintenance of an aircraft, where it has one.
-fn maint_of(tables: &Tables<'_>, row: &AircraftRow) -> Option<Maint>
+fn maint_of(tables: &NameTables<'_>, row: &AircraftRow) -> Option<Maint>
     requires { AreFew tables.now.files.now }
     ensures { result ≡ option_map (maint_info tables.now.files.now.airports) row.now.maint }
 {
@@ -36,7 +36,7 @@ fn maint_of(tables: &Tables<'_>, row: &AircraftRow) -> Option<Maint>
 
 /// An aircraft.
 #[tactic(auto, unfolding(crate::specs::Day::plane_info))]
-fn plane_info(tables: &Tables<'_>, row: &AircraftRow) -> PlaneInfo
+fn plane_info(tables: &NameTables<'_>, row: &AircraftRow) -> PlaneInfo
     requires { AreFew tables.now.files.now }
     ensures { result ≡ plane_info tables.now.files.now row.now }
 {
@@ -56,7 +56,7 @@ fn plane_info(tables: &Tables<'_>, row: &AircraftRow) -> PlaneInfo
 }
 
 /// The aircraft, in the order of their lines.
-pub(crate) fn planes(alloc: Global, tables: &Tables<'_>) -> Result<Vec<PlaneInfo>, NoMem>
+pub(crate) fn planes(alloc: Global, tables: &NameTables<'_>) -> Result<Vec<PlaneInfo>, NoMem>
     requires { AreFew tables.now.files.now }
     ensures { IfOk result (λ planes. planes.items ≡ map (plane_info tables.now.files.now) tables.now.files.now.aircraft) }
 {

@@ -6,7 +6,7 @@ ghost use Rattle.build_tables.specs.Fitting.{AreFew};
 ghost use Rattle.build_day.specs.Day.{position_info, positions_of};
 
 use crate::legs::airport_of;
-use build_tables::Tables;
+use build_tables::NameTables;
 use desk_data::PositionInfo;
 use desk_units::{Airport, NoMem};
 use file_rows::PositionGroup;
@@ -39,7 +39,7 @@ fn push_groups(
 }
 
 /// The positions, one for each group, in the order of the lines and of the groups in a line.
-pub(crate) fn positions(alloc: Global, tables: &Tables<'_>) -> Result<Vec<PositionInfo>, NoMem>
+pub(crate) fn positions(alloc: Global, tables: &NameTables<'_>) -> Result<Vec<PositionInfo>, NoMem>
     requires { AreFew tables.now.files.now }
     ensures { IfOk result (λ positions. positions.items ≡ flat_map (positions_of tables.now.files.now.airports) tables.now.files.now.position) }
 {

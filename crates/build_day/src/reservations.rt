@@ -5,14 +5,14 @@ ghost use Rattle.build_tables.specs.Fitting.{AreFew};
 ghost use Rattle.build_day.specs.Day.{path_leg, res_info};
 
 use crate::legs::leg_at;
-use build_tables::Tables;
+use build_tables::NameTables;
 use desk_data::{Path, ResInfo};
 use desk_units::{Cabin, Leg, List, NoMem};
 use file_rows::{ItineraryRow, LegRow};
 use std::alloc::Global;
 
 /// A leg of a path, with the cabin that is booked.
-fn path_leg(tables: &Tables<'_>, leg: &LegRow) -> (Leg, Cabin)
+fn path_leg(tables: &NameTables<'_>, leg: &LegRow) -> (Leg, Cabin)
     requires { AreFew tables.now.files.now }
     ensures { result ≡ path_leg tables.now.files.now.rotations leg.now }
 {
@@ -20,7 +20,7 @@ fn path_leg(tables: &Tables<'_>, leg: &LegRow) -> (Leg, Cabin)
 }
 
 /// The path of a reservation, in the order of its line.
-fn path(alloc: Global, tables: &Tables<'_>, rows: &[LegRow]) -> Result<Path, NoMem>
+fn path(alloc: Global, tables: &NameTables<'_>, rows: &[LegRow]) -> Result<Path, NoMem>
     requires { AreFew tables.now.files.now }
     ensures { IfOk result (λ path. path ≡ map (path_leg tables.now.files.now.rotations) rows.now) }
 {
@@ -32,7 +32,7 @@ fn path(alloc: Global, tables: &Tables<'_>, rows: &[LegRow]) -> Result<Path, NoM
 }
 
 /// A reservation.
-fn res_info(alloc: Global, tables: &Tables<'_>, row: &ItineraryRow) -> Result<ResInfo, NoMem>
+fn res_info(alloc: Global, tables: &NameTables<'_>, row: &ItineraryRow) -> Result<ResInfo, NoMem>
     requires { AreFew tables.now.files.now }
     ensures { IfOk result (λ res. res ≡ res_info tables.now.files.now.rotations row.now) }
 {
@@ -47,7 +47,7 @@ fn res_info(alloc: Global, tables: &Tables<'_>, row: &ItineraryRow) -> Result<Re
 }
 
 /// The reservations, in the order of their lines.
-pub(crate) fn reservations(alloc: Global, tables: &Tables<'_>) -> Result<Vec<ResInfo>, NoMem>
+pub(crate) fn reservations(alloc: Global, tables: &NameTables<'_>) -> Result<Vec<ResInfo>, NoMem>
     requires { AreFew tables.now.files.now }
     ensures { IfOk result (λ res. res.items ≡ map (res_info tables.now.files.now.rotations) tables.now.files.now.itineraries) }
 {

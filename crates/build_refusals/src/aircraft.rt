@@ -6,19 +6,19 @@ ghost use Rattle.build_refusals.specs.Aircraft.{aircraft_cause, has_known_mainte
 
 use crate::before::is_before;
 use crate::first::{Check, Lined};
-use build_tables::Tables;
+use build_tables::NameTables;
 use desk_units::Name;
 use file_rows::{AircraftRow, Cause, MOST_AIRCRAFT, MaintRow};
 
 /// Whether an aircraft of this name stands before this place.
-fn has_aircraft_before(tables: &Tables<'_>, name: &Name, place: usize) -> bool
+fn has_aircraft_before(tables: &NameTables<'_>, name: &Name, place: usize) -> bool
     ensures { result ≡ list_any (λ a. bytes_eq name.now a.name) (take place tables.now.files.now.aircraft) }
 {
     is_before(tables.aircraft_place(name), place)
 }
 
 /// Whether the airport of an aircraft's maintenance is known, where it has one.
-fn has_known_maintenance(tables: &Tables<'_>, maint: Option<MaintRow>) -> bool
+fn has_known_maintenance(tables: &NameTables<'_>, maint: Option<MaintRow>) -> bool
     ensures { result ≡ has_known_maintenance tables.now.files.now.airports maint }
 {
     match maint {
@@ -42,7 +42,7 @@ impl Lined for AircraftRow {
     }
 }
 
-impl Check<AircraftRow> for Tables<'_> {
+impl Check<AircraftRow> for NameTables<'_> {
     ghost cause_of = { λ tables. aircraft_cause tables.files.now };
 
     #[tactic(auto, unfolding(crate::specs::Aircraft::aircraft_cause))]

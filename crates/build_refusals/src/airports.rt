@@ -6,12 +6,12 @@ ghost use Rattle.build_refusals.specs.Airports.{airport_cause};
 
 use crate::before::is_before;
 use crate::first::{Check, Lined};
-use build_tables::Tables;
+use build_tables::NameTables;
 use desk_units::Name;
 use file_rows::{AirportRow, Cause, MOST_AIRPORTS};
 
 /// Whether an airport of this name stands before this place.
-fn has_airport_before(tables: &Tables<'_>, name: &Name, place: usize) -> bool
+fn has_airport_before(tables: &NameTables<'_>, name: &Name, place: usize) -> bool
     ensures { result ≡ list_any (λ a. bytes_eq name.now a.airport) (take place tables.now.files.now.airports) }
 {
     is_before(tables.airport_place(name), place)
@@ -25,7 +25,7 @@ impl Lined for AirportRow {
     }
 }
 
-impl Check<AirportRow> for Tables<'_> {
+impl Check<AirportRow> for NameTables<'_> {
     ghost cause_of = { λ tables. airport_cause tables.files.now.airports };
 
     #[tactic(auto, unfolding(crate::specs::Airports::airport_cause))]

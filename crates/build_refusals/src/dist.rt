@@ -3,7 +3,7 @@
 ghost use Rattle.build_refusals.specs.Dist.{dist_cause};
 
 use crate::first::{Check, Lined};
-use build_tables::Tables;
+use build_tables::NameTables;
 use file_rows::{Cause, DistRow, MOST_DISTANCES};
 
 impl Lined for DistRow {
@@ -14,7 +14,7 @@ impl Lined for DistRow {
     }
 }
 
-impl Check<DistRow> for Tables<'_> {
+impl Check<DistRow> for NameTables<'_> {
     ghost cause_of = { λ tables. dist_cause };
 
     #[tactic(auto, unfolding(crate::specs::Dist::dist_cause))]

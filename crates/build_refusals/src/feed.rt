@@ -7,7 +7,7 @@ ghost use Rattle.build_refusals.specs.Orders.{line_of};
 ghost use Rattle.build_refusals.specs.Feed.{is_in_turn, fed_cause, feed_cause};
 
 use crate::orders::{line_of, order_cause, room_behind_row};
-use build_tables::Tables;
+use build_tables::NameTables;
 use file_rows::{AltRow, Cause, MOST_BATCHES};
 
 /// Whether a batch comes in turn behind that of the row before, where there is one.
@@ -24,7 +24,7 @@ fn is_in_turn(before: Option<u32>, number: u32) -> bool
 /// says that as many orders stand before it as there may be.
 #[tactic(auto, unfolding(crate::specs::Feed::fed_cause))]
 fn fed_cause(
-    tables: &Tables<'_>,
+    tables: &NameTables<'_>,
     before: Option<u32>,
     full: bool,
     fed: &(u32, AltRow),
@@ -40,7 +40,7 @@ fn fed_cause(
 
 /// The line of the first row of the feed that is refused, and why. So many orders may come in it.
 pub(crate) fn feed_refusal(
-    tables: &Tables<'_>,
+    tables: &NameTables<'_>,
     room: usize,
     rows: &[(u32, AltRow)],
 ) -> Option<(u32, Cause)>

@@ -6,12 +6,12 @@ ghost use Rattle.build_refusals.specs.Flights.{flight_cause, has_good_previous};
 
 use crate::before::is_before;
 use crate::first::{Check, Lined};
-use build_tables::Tables;
+use build_tables::NameTables;
 use desk_units::Name;
 use file_rows::{Cause, FlightRow, MOST_FLIGHTS};
 
 /// Whether a flight of this name stands before this place.
-fn has_flight_before(tables: &Tables<'_>, name: &Name, place: usize) -> bool
+fn has_flight_before(tables: &NameTables<'_>, name: &Name, place: usize) -> bool
     ensures { result ≡ list_any (λ f. bytes_eq name.now f.flight) (take place tables.now.files.now.flights) }
 {
     is_before(tables.flight_place(name), place)
@@ -19,7 +19,7 @@ fn has_flight_before(tables: &Tables<'_>, name: &Name, place: usize) -> bool
 
 /// Whether the previous flight of a flight is in the file and ends where this one starts, or the
 /// flight names none.
-fn has_good_previous(tables: &Tables<'_>, row: &FlightRow) -> bool
+fn has_good_previous(tables: &NameTables<'_>, row: &FlightRow) -> bool
     ensures { result ≡ has_good_previous tables.now.files.now.flights row.now }
 {
     let Some(name) = row.prev else {
@@ -39,7 +39,7 @@ impl Lined for FlightRow {
     }
 }
 
-impl Check<FlightRow> for Tables<'_> {
+impl Check<FlightRow> for NameTables<'_> {
     ghost cause_of = { λ tables. flight_cause tables.files.now.flights };
 
     #[tactic(auto, unfolding(crate::specs::Flights::flight_cause))]

@@ -8,7 +8,7 @@ ghost use Rattle.build_refusals.specs.Itineraries.{itinerary_cause, is_same_rese
 
 use crate::before::is_before;
 use crate::first::{Check, Lined};
-use build_tables::Tables;
+use build_tables::NameTables;
 use file_rows::{Cause, ItineraryRow, LegRow, MOST_ITINERARIES, MOST_LEGS, MOST_PASSENGERS};
 
 /// Whether a reservation has more passengers or more legs than it may have.
@@ -19,21 +19,21 @@ fn is_too_large(row: &ItineraryRow) -> bool
 }
 
 /// Whether the reservation stands before this place.
-fn has_reservation_before(tables: &Tables<'_>, row: &ItineraryRow, place: usize) -> bool
+fn has_reservation_before(tables: &NameTables<'_>, row: &ItineraryRow, place: usize) -> bool
     ensures { result ≡ list_any (is_same_reservation row.now) (take place tables.now.files.now.itineraries) }
 {
     is_before(tables.itinerary_place(&row.name, row.inbound), place)
 }
 
 /// Whether there is a rotation of the leg.
-fn is_known_leg(tables: &Tables<'_>, leg: &LegRow) -> bool
+fn is_known_leg(tables: &NameTables<'_>, leg: &LegRow) -> bool
     ensures { result ≡ is_some (rotation_place tables.now.files.now.rotations leg.now.flight leg.now.day) }
 {
     tables.rotation_place(&leg.flight, leg.day).is_some()
 }
 
 /// Whether there is a rotation of each leg of a reservation.
-fn has_known_legs(tables: &Tables<'_>, row: &ItineraryRow) -> bool
+fn has_known_legs(tables: &NameTables<'_>, row: &ItineraryRow) -> bool
     ensures { result ≡ has_known_legs tables.now.files.now.rotations row.now }
 {
     row.legs
@@ -50,7 +50,7 @@ impl Lined for ItineraryRow {
     }
 }
 
-impl Check<ItineraryRow> for Tables<'_> {
+impl Check<ItineraryRow> for NameTables<'_> {
     ghost cause_of = { λ tables. itinerary_cause tables.files.now };
 
     #[tactic(auto, unfolding(crate::specs::Itineraries::itinerary_cause))]

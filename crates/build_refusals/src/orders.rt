@@ -4,7 +4,7 @@ ghost use Rattle.std.specs.Prelude.{◌≡◌, ◌-◌, if◌then◌else◌};
 ghost use Rattle.build_refusals.specs.First.{first_refusal_in};
 ghost use Rattle.build_refusals.specs.Orders.{line_of, is_order, room_behind, is_about_known, has_good_span, order_cause, alt_cause};
 
-use build_tables::Tables;
+use build_tables::NameTables;
 use file_rows::{AltRow, Cause};
 
 /// The line of a row, counted from 1.
@@ -32,7 +32,7 @@ fn is_order(row: &AltRow) -> bool
 }
 
 /// Whether the leg, the aircraft or the airport of an order is known.
-fn is_about_known(tables: &Tables<'_>, row: &AltRow) -> bool
+fn is_about_known(tables: &NameTables<'_>, row: &AltRow) -> bool
     ensures { result ≡ is_about_known tables.now.files.now row.now }
 {
     match row {
@@ -57,7 +57,7 @@ fn has_good_span(row: &AltRow) -> bool
 
 /// Why a row is refused, where it is. `full` says that as many orders stand before it as there may be.
 #[tactic(auto, unfolding(crate::specs::Orders::order_cause))]
-pub(crate) fn order_cause(tables: &Tables<'_>, full: bool, row: &AltRow) -> Option<Cause>
+pub(crate) fn order_cause(tables: &NameTables<'_>, full: bool, row: &AltRow) -> Option<Cause>
     ensures { result ≡ order_cause tables.now.files.now full row.now }
 {
     if full && is_order(row) {
@@ -94,7 +94,11 @@ pub(crate) fn room_behind(room: usize, rows: &[AltRow]) -> usize
 }
 
 /// The line of the first row of an alt file that is refused, and why. So many orders may come in it.
-pub(crate) fn alt_refusal(tables: &Tables<'_>, room: usize, rows: &[AltRow]) -> Option<(u32, Cause)>
+pub(crate) fn alt_refusal(
+    tables: &NameTables<'_>,
+    room: usize,
+    rows: &[AltRow],
+) -> Option<(u32, Cause)>
     ensures { result ≡ first_refusal_in (alt_cause tables.now.files.now room rows.now) line_of rows.now }
 {
     let mut left = room;

@@ -6,7 +6,7 @@ ghost use Rattle.file_rows.specs.Limits.{most_groups};
 ghost use Rattle.build_refusals.specs.Position.{groups_in, position_cause};
 
 use crate::first::{Check, Lined};
-use build_tables::Tables;
+use build_tables::NameTables;
 use file_rows::{Cause, MOST_GROUPS, PositionRow};
 
 /// The place of the row that holds the first group past the limit.
@@ -27,13 +27,13 @@ fn past_limit(rows: &[PositionRow]) -> Option<usize>
 /// What decides whether a row of position.csv is refused.
 #[derive(Drop)]
 pub(crate) struct Positions<'a> {
-    tables: &'a Tables<'a>,
+    tables: &'a NameTables<'a>,
     past: Option<usize>,
     ghost counted: { (n : ℕ) → option_map_or (λ k. nat_le k n) past false ≡ nat_lt most_groups (groups_in (n + 1) tables.now.files.now.position) },
 }
 
 impl<'a> Positions<'a> {
-    pub(crate) fn of(tables: &'a Tables<'a>) -> Positions<'a>
+    pub(crate) fn of(tables: &'a NameTables<'a>) -> Positions<'a>
         ensures { result.tables.now ≡ tables.now }
     {
         let past = past_limit(tables.files.position.as_slice());

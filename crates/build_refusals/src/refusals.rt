@@ -11,7 +11,7 @@ use crate::first::{Check, Lined, first_refusal_in};
 use crate::orders::{alt_refusal, room_behind};
 use crate::position::Positions;
 use crate::tariff::tariff_refusal;
-use build_tables::{Files, Tables};
+use build_tables::{Files, NameTables};
 use desk_folder::File;
 use file_rows::{Cause, MOST_ORDERS};
 
@@ -36,7 +36,7 @@ fn in_rows<Row: Lined, C: Check<Row>>(
 
 /// The first refusal in the files of the schedule.
 #[tactic(auto, unfolding(crate::specs::Refusals::refusal_of_schedule))]
-fn refusal_in_schedule(tables: &Tables<'_>) -> Option<(File, u32, Cause)>
+fn refusal_in_schedule(tables: &NameTables<'_>) -> Option<(File, u32, Cause)>
     ensures { result ≡ refusal_of_schedule tables.now.files.now }
 {
     let files = tables.files;
@@ -81,7 +81,7 @@ fn room_for_feed(files: &Files) -> usize
 
 /// The first refusal in the alt files.
 #[tactic(auto, unfolding(crate::specs::Refusals::refusal_of_alternatives))]
-fn refusal_in_alternatives(tables: &Tables<'_>) -> Option<(File, u32, Cause)>
+fn refusal_in_alternatives(tables: &NameTables<'_>) -> Option<(File, u32, Cause)>
     ensures { result ≡ refusal_of_alternatives tables.now.files.now }
 {
     let files = tables.files;
@@ -101,7 +101,7 @@ fn refusal_in_alternatives(tables: &Tables<'_>) -> Option<(File, u32, Cause)>
 
 /// The first refusal in the files of what is asked of the schedule, and in the tariff.
 #[tactic(auto, unfolding(crate::specs::Refusals::refusal_of_demand))]
-fn refusal_in_demand(tables: &Tables<'_>) -> Option<(File, u32, Cause)>
+fn refusal_in_demand(tables: &NameTables<'_>) -> Option<(File, u32, Cause)>
     ensures { result ≡ refusal_of_demand tables.now.files.now }
 {
     let files = tables.files;
@@ -127,7 +127,7 @@ fn refusal_in_demand(tables: &Tables<'_>) -> Option<(File, u32, Cause)>
 
 /// The first refusal in all files.
 #[tactic(auto, unfolding(crate::specs::Refusals::refusal_of))]
-fn refusal(tables: &Tables<'_>) -> Option<(File, u32, Cause)>
+fn refusal(tables: &NameTables<'_>) -> Option<(File, u32, Cause)>
     ensures { result ≡ refusal_of tables.now.files.now }
 {
     match refusal_in_schedule(tables) {
@@ -138,7 +138,7 @@ fn refusal(tables: &Tables<'_>) -> Option<(File, u32, Cause)>
 
 /// The first refusal: in the order of the files, then of their lines, which count from 1, then of
 /// the causes. Where there is none, the rows fit together.
-pub fn first_refusal(tables: &Tables<'_>) -> Option<(File, u32, Cause)>
+pub fn first_refusal(tables: &NameTables<'_>) -> Option<(File, u32, Cause)>
     ensures exact { result ≡ refusal_of tables.now.files.now }
     ensures fit { IfNone result (FitTogether tables.now.files.now) }
 {

@@ -9,7 +9,7 @@ ghost use Rattle.build_refusals.specs.Rotations.{rotation_cause, has_airports};
 
 use crate::before::is_before;
 use crate::first::{Check, Lined};
-use build_tables::Tables;
+use build_tables::NameTables;
 use desk_units::Name;
 use file_rows::{Cause, FlightRow, LATEST_DEPARTURE, MOST_FLIGHTS, RotationRow};
 
@@ -22,21 +22,21 @@ fn departs_late(flight: &FlightRow, day: u32) -> bool
 }
 
 /// Whether the airports of a flight are known.
-fn has_airports(tables: &Tables<'_>, flight: &FlightRow) -> bool
+fn has_airports(tables: &NameTables<'_>, flight: &FlightRow) -> bool
     ensures { result ≡ has_airports tables.now.files.now.airports flight.now }
 {
     tables.airport_place(&flight.origin).is_some() && tables.airport_place(&flight.dest).is_some()
 }
 
 /// Whether there is a distance between the airports of a flight.
-fn has_distance(tables: &Tables<'_>, flight: &FlightRow) -> bool
+fn has_distance(tables: &NameTables<'_>, flight: &FlightRow) -> bool
     ensures { result ≡ is_some (distance_between tables.now.files.now.dist flight.now.origin flight.now.dest) }
 {
     tables.distance(&flight.origin, &flight.dest).is_some()
 }
 
 /// Whether a rotation of this flight on this day stands before this place.
-fn has_rotation_before(tables: &Tables<'_>, flight: &Name, day: u32, place: usize) -> bool
+fn has_rotation_before(tables: &NameTables<'_>, flight: &Name, day: u32, place: usize) -> bool
     ensures { result ≡ list_any (λ row. bytes_eq flight.now row.flight && (day == row.day)) (take place tables.now.files.now.rotations) }
 {
     is_before(tables.rotation_place(flight, day), place)
@@ -50,7 +50,7 @@ impl Lined for RotationRow {
     }
 }
 
-impl Check<RotationRow> for Tables<'_> {
+impl Check<RotationRow> for NameTables<'_> {
     ghost cause_of = { λ tables. rotation_cause tables.files.now };
 
     #[tactic(auto, unfolding(crate::specs::Rotations::rotation_cause))]

@@ -8,7 +8,7 @@ use file_rows::{
 
 /// The rows of the input files, each list in the order of its file's lines. A day takes at most as many
 /// as each field says; a row past that is refused with `Limit` when the rows are joined.
-#[derive(Debug, Drop)]
+#[derive(Debug)]
 pub struct Files {
     /// Of config.csv.
     pub config: Window,
@@ -36,4 +36,25 @@ pub struct Files {
     pub tariff: Tariff,
     /// Of feed.csv, each with the number of its batch, from 1 to 1,000.
     pub feed: List<(u32, AltRow)>,
+}
+
+/// In one call, so that whoever lets them go does not prove anew that each part of them may go.
+impl Drop for Files {
+    fn drop(self) {
+        let Files {
+            config: _,
+            flights: _,
+            rotations: _,
+            aircraft: _,
+            airports: _,
+            dist: _,
+            itineraries: _,
+            position: _,
+            alt_flights: _,
+            alt_aircraft: _,
+            alt_airports: _,
+            tariff: _,
+            feed: _,
+        } = self;
+    }
 }

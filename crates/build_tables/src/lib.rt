@@ -1,6 +1,6 @@
 //! The rows of the input files, and what finds them by the names that they have.
 //!
-//!     let tables = Tables::of(alloc, &files)?;
+//!     let tables = NameTables::of(alloc, &files)?;
 //!     tables.flight(&name)                // the first row of flights.csv of this name
 //!     tables.rotation_place(&name, day)   // the place of the first row of this flight and date
 //!     tables.distance(&origin, &dest)     // the row of the pair, else that of the way back
@@ -19,4 +19,4 @@ mod rows;
 mod tables;
 
 pub use files::Files;
-pub use tables::Tables;
+pub use tables::NameTables;

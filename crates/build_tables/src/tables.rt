@@ -12,8 +12,7 @@ use file_rows::{DistRow, FlightRow};
 use std::alloc::Global;
 
 /// The rows of the files, found by their names. A name stands for the first row that has it.
-#[derive(Drop)]
-pub struct Tables<'a> {
+pub struct NameTables<'a> {
     /// The rows.
     pub files: &'a Files,
     flights: Places<'a>,
@@ -28,6 +27,21 @@ pub struct Tables<'a> {
     ghost airports_placed: { ArePlacesOf (λ row. by_name row.airport) files.now.airports airports },
     ghost dist_placed: { ArePlacesOf (λ row. between row.origin row.dest) files.now.dist dist },
     ghost itineraries_placed: { ArePlacesOf (λ row. by_reservation row.name row.inbound) files.now.itineraries itineraries },
+}
+
+/// In one call, so that whoever lets them go does not prove anew that each part of them may go.
+impl<'a> Drop for NameTables<'a> {
+    fn drop(self) {
+        let NameTables {
+            files: _,
+            flights: _,
+            rotations: _,
+            aircraft: _,
+            airports: _,
+            dist: _,
+            itineraries: _,
+        } = self;
+    }
 }
 
 /// The places of flights, rotations and aircraft.
@@ -60,14 +74,14 @@ fn places_of_network<'a>(
     Ok((airports, dist, itineraries))
 }
 
-impl<'a> Tables<'a> {
+impl<'a> NameTables<'a> {
     /// The tables of these rows. The only error is out of memory.
-    pub fn of(alloc: Global, files: &'a Files) -> Result<Tables<'a>, NoMem>
+    pub fn of(alloc: Global, files: &'a Files) -> Result<NameTables<'a>, NoMem>
         ensures { IfOk result (λ tables. tables.files.now ≡ files.now) }
     {
         let (flights, rotations, aircraft) = places_of_schedule(alloc, files)?;
         let (airports, dist, itineraries) = places_of_network(alloc, files)?;
-        Ok(Tables {
+        Ok(NameTables {
             files,
             flights,
             rotations,

@@ -4,7 +4,7 @@
 //! whose join sees to it; whoever makes one in another way, as the tests do, asks here:
 //!
 //!     if are_parts(alloc, &parts)? { let inst = Instance::of(alloc, parts)?; .. }
-//!     if can_add(&inst, &batch) { inst.add(alloc, &batch)?; }
+//!     if can_add(&inst, &batch) { inst.add(alloc, &plan, &batch)?; }
 //!
 //! Proved: both answer exactly whether the condition holds. No crate of the program stands on it.
 #![tactic(auto)]

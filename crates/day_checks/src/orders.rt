@@ -1,9 +1,9 @@
 //! Whether a day can take orders.
 
 ghost use Rattle.std.specs.Prelude.{◌↔◌, IsTrue, All};
-ghost use Rattle.desk_data.specs.Valid.{IsOrder};
+ghost use Rattle.desk_data.specs.Valid.{IsBatch, IsOrder};
 
-use desk_data::{Batch, Instance, Order, Parts};
+use desk_data::{Batch, Instance, MOST_DELAY, Order, Parts};
 
 fn is_order(parts: &Parts, order: &Order) -> bool
     ensures { IsTrue result ↔ IsOrder parts.now order.now }
@@ -11,22 +11,23 @@ fn is_order(parts: &Parts, order: &Order) -> bool
     match order {
         Order::Flight { leg, delay } => {
             (leg.0 as usize) < parts.legs.as_slice().len()
-                && delay.is_none_or(|minutes| minutes <= 2_880)
+                && delay.is_none_or(|minutes| minutes <= MOST_DELAY)
         }
         Order::Aircraft { plane, .. } => (plane.0 as usize) < parts.planes.as_slice().len(),
         Order::Field { airport, .. } => (airport.0 as usize) < parts.airports.as_slice().len(),
     }
 }
 
-/// Whether the orders of a batch can be taken: their legs, aircraft and airports are in range,
-/// and their delays at most 2,880.
-pub fn can_add(inst: &Instance, batch: &Batch) -> bool
-    ensures { IsTrue result ↔ All (IsOrder inst.now.parts) batch.now.orders }
+fn are_orders(parts: &Parts, orders: &[Order]) -> bool
+    ensures { IsTrue result ↔ All (IsOrder parts.now) orders.now }
 {
-    let parts = inst.parts();
-    batch
-        .orders
-        .as_slice()
-        .iter()
-        .all(|order| is_order(parts, order))
+    orders.iter().all(|order| is_order(parts, order))
+}
+
+/// Whether a batch can be taken: it tells no moment, the legs, aircraft and airports of its orders are in
+/// range, and their delays at most 2,880.
+pub fn can_add(inst: &Instance, batch: &Batch) -> bool
+    ensures { IsTrue result ↔ IsBatch inst.now.parts batch.now }
+{
+    batch.at.is_none() && are_orders(inst.parts(), batch.orders.as_slice())
 }

@@ -5,8 +5,8 @@ ghost use Rattle.tariff_prices.specs.Rows.{IsPrice};
 ghost use Rattle.desk_data.specs.Valid.{IsSeen, IsPathOf, IsMoment, AreSeats, IsCap, IsAirport, IsMaint, IsPlane, IsLeg, IsReservation, IsPosition, AreDistinct, AreWithinLimits, AreParts};
 
 use desk_data::{
-    AirportInfo, Cap, LegInfo, Maint, Minute, Name, NoMem, Parts, PlaneInfo, PositionInfo, Price,
-    ResInfo, Seats,
+    AirportInfo, Cap, DAY, LAST_SCHEDULED, LegInfo, MOMENTS_END, Maint, Minute, Name, NoMem, Parts,
+    PlaneInfo, PositionInfo, Price, ResInfo, Seats,
 };
 use std::alloc::Global;
 use std::collections::HashSet;
@@ -23,7 +23,7 @@ fn is_seen(name: &Name) -> bool
 fn is_moment(at: Minute) -> bool
     ensures { IsTrue result ↔ IsMoment at.0 }
 {
-    at.0 < 52_596_000
+    at.0 < MOMENTS_END
 }
 
 fn is_price(price: Price) -> bool
@@ -41,7 +41,7 @@ fn are_seats(seats: &Seats) -> bool
 fn is_cap(cap: &Cap) -> bool
     ensures { IsTrue result ↔ IsCap cap.now }
 {
-    cap.deps <= 100_000 && cap.arrs <= 100_000 && cap.from < 1_440 && cap.to <= 1_440
+    cap.deps <= 100_000 && cap.arrs <= 100_000 && cap.from < DAY && cap.to <= DAY
 }
 
 fn is_airport(airport: &AirportInfo) -> bool
@@ -91,7 +91,7 @@ fn are_leg_numbers(leg: &LegInfo) -> bool
     ensures { IsTrue result ↔ ((leg.now.day < 36525) × (leg.now.sched.0 ≤ 52480000) × (1 ≤ leg.now.block) × (leg.now.block ≤ 2880) × (leg.now.distance ≤ 100000)) }
 {
     leg.day < 36_525
-        && leg.sched.0 <= 52_480_000
+        && leg.sched.0 <= LAST_SCHEDULED
         && 1 <= leg.block
         && leg.block <= 2_880
         && leg.distance <= 100_000

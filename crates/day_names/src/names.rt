@@ -11,13 +11,25 @@ use std::alloc::Global;
 use std::marker::Model;
 
 /// The names of a day's legs, aircraft, reservations and airports. Contracts see it as the day.
-#[derive(Drop)]
 pub struct DayNames<'a> {
     inst: &'a Instance,
     legs: Places<'a>,
     planes: Places<'a>,
     reservations: Places<'a>,
     airports: Places<'a>,
+}
+
+/// In one call, so that whoever lets them go does not prove anew that each part of them may go.
+impl<'a> Drop for DayNames<'a> {
+    fn drop(self) {
+        let DayNames {
+            inst: _,
+            legs: _,
+            planes: _,
+            reservations: _,
+            airports: _,
+        } = self;
+    }
 }
 
 impl<'a> Model for DayNames<'a> {

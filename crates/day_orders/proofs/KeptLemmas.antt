@@ -10,7 +10,7 @@ use Rattle.desk_units.specs.declared.numbers.Airport.{Airport}
 use Rattle.desk_units.specs.declared.numbers.Leg.{Leg}
 use Rattle.desk_units.specs.declared.numbers.Minute.{Minute}
 use Rattle.desk_units.specs.declared.numbers.Plane.{Plane}
-use Rattle.day_orders.specs.declared.hours.Change.{Change}
+use Rattle.day_orders.specs.declared.hours.CapChange.{CapChange}
 use Rattle.day_orders.specs.declared.hours.HourCap.{HourCap}
 use Rattle.day_orders.specs.declared.orders.Order.{Order}
 use Rattle.day_orders.specs.declared.orders.Order.TheVariants.{Flight, Aircraft, Field}
@@ -62,7 +62,7 @@ over : (b : Bool) (cap : HourCap) (kept : Option HourCap) → (if b then Some ca
 over true cap kept = refl
 over false cap kept = refl
 
-pub adds_field : (old : KeptLists) (airport : Airport) (from to : Minute) (cap : HourCap) (first behind : ℕ) (changes : List Change) → airport.0 < length old.hours → All AreInOrder old.hours → ((h : ℕ) → touches h from.0 to.0 ≡ (leb first h && ltb h behind)) → AreInOrder changes → ((h : ℕ) → kept_cap changes h ≡ (if leb first h && ltb h behind then Some cap else kept_cap (kept_hours old airport.0) h)) → Adds (Field airport from to cap.deps cap.arrs ∷ []) old (record old { hours = set old.hours airport.0 changes })
+pub adds_field : (old : KeptLists) (airport : Airport) (from to : Minute) (cap : HourCap) (first behind : ℕ) (changes : List CapChange) → airport.0 < length old.hours → All AreInOrder old.hours → ((h : ℕ) → touches h from.0 to.0 ≡ (leb first h && ltb h behind)) → AreInOrder changes → ((h : ℕ) → kept_cap changes h ≡ (if leb first h && ltb h behind then Some cap else kept_cap (kept_hours old airport.0) h)) → Adds (Field airport from to cap.deps cap.arrs ∷ []) old (record old { hours = set old.hours airport.0 changes })
 unfolding last_order_on_leg last_word
 adds_field old airport from to cap first behind changes within order hours up caps = record {
   all_legs = refl;

@@ -4,7 +4,7 @@ use Rattle.std.specs.List.{filter_map}
 use Rattle.std.specs.List.Sorted.{IsNonDecreasingBy}
 use Rattle.std.specs.Option.{option_flatten, option_or}
 use Rattle.desk_units.specs.declared.numbers.Minute.{Minute}
-use Rattle.day_orders.specs.declared.hours.Change.{Change}
+use Rattle.day_orders.specs.declared.hours.CapChange.{CapChange}
 use Rattle.day_orders.specs.declared.hours.HourCap.{HourCap}
 use Rattle.day_orders.specs.declared.orders.Order.{Order}
 use Rattle.day_orders.specs.declared.orders.Order.TheVariants.{Flight, Aircraft, Field}
@@ -14,18 +14,18 @@ use Rattle.day_orders.specs.LastOrders.{last_order_on_leg, span_of, last_word, o
 pub record KeptLists : Type 0 where
   pub legs : List (Option (Option ℕ))
   pub spans : List (List (Minute × Minute))
-  pub hours : List (List Change)
+  pub hours : List (List CapChange)
 
 -- changes stand in the order of their hours
-abbrev pub AreInOrder : List Change → Type 0
+abbrev pub AreInOrder : List CapChange → Type 0
 AreInOrder changes = IsNonDecreasingBy (λ change. change.hour) changes
 
 -- what a change says of hour h
-abbrev pub cap_from : ℕ → Change → Option (Option HourCap)
+abbrev pub cap_from : ℕ → CapChange → Option (Option HourCap)
 cap_from h change = if nat_le change.hour h then Some change.cap else None
 
 -- the last change at or before hour h decides
-unfoldable pub kept_cap : List Change → ℕ → Option HourCap
+unfoldable pub kept_cap : List CapChange → ℕ → Option HourCap
 kept_cap changes h = option_flatten (last_word (cap_from h) changes)
 
 abbrev pub kept_leg : KeptLists → ℕ → Option (Option ℕ)
@@ -34,7 +34,7 @@ kept_leg kept x = slice_index_or kept.legs x None
 abbrev pub kept_spans : KeptLists → ℕ → List (Minute × Minute)
 kept_spans kept p = slice_index_or kept.spans p []
 
-abbrev pub kept_hours : KeptLists → ℕ → List Change
+abbrev pub kept_hours : KeptLists → ℕ → List CapChange
 kept_hours kept a = slice_index_or kept.hours a []
 
 -- an order speaks of a leg, an aircraft or an airport of which something is kept

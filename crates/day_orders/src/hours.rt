@@ -18,7 +18,7 @@ pub struct HourCap {
 
 /// What the orders say of an airport from an hour on, up to the hour of the next change.
 #[derive(Clone, Copy, Debug)]
-pub struct Change {
+pub struct CapChange {
     pub hour: u32,
     /// `None` where they say nothing.
     pub cap: Option<HourCap>,
@@ -39,7 +39,7 @@ pub fn hours_of(from: Minute, to: Minute) -> Option<(u32, u32)>
 }
 
 /// How many changes stand before an hour.
-fn count_before(changes: &[Change], hour: u32) -> usize
+fn count_before(changes: &[CapChange], hour: u32) -> usize
     requires { AreInOrder changes.now }
     ensures within { result ≤ length changes.now }
     ensures front { All (λ change. change.hour < hour) (take result changes.now) }
@@ -49,7 +49,7 @@ fn count_before(changes: &[Change], hour: u32) -> usize
 }
 
 /// How many changes stand at or before an hour.
-fn count_up_to(changes: &[Change], hour: u32) -> usize
+fn count_up_to(changes: &[CapChange], hour: u32) -> usize
     requires { AreInOrder changes.now }
     ensures within { result ≤ length changes.now }
     ensures front { All (λ change. change.hour ≤ hour) (take result changes.now) }
@@ -59,7 +59,7 @@ fn count_up_to(changes: &[Change], hour: u32) -> usize
 }
 
 /// What the changes say of an hour: what the last one at or before it says.
-pub fn cap_at(changes: &[Change], hour: u32) -> Option<HourCap>
+pub fn cap_at(changes: &[CapChange], hour: u32) -> Option<HourCap>
     requires { AreInOrder changes.now }
     ensures { result ≡ kept_cap changes.now hour }
 {
@@ -71,14 +71,15 @@ pub fn cap_at(changes: &[Change], hour: u32) -> Option<HourCap>
     }
 }
 
-/// The changes with this cap from one hour up to but not including the other.
+/// The changes with this cap from one hour up to but not including the other. The only error is out of
+/// memory.
 pub fn with_cap(
     alloc: Global,
-    changes: &[Change],
+    changes: &[CapChange],
     first: u32,
     behind: u32,
     cap: HourCap,
-) -> Result<Vec<Change>, NoMem>
+) -> Result<Vec<CapChange>, NoMem>
     requires order { AreInOrder changes.now }
     requires up { first < behind }
     ensures order { IfOk result (λ new. AreInOrder new.items) }
@@ -88,11 +89,11 @@ pub fn with_cap(
     let end = count_up_to(changes, behind);
     let resumed = cap_at(changes, behind);
     let mut new = Vec::from_slice(alloc, &changes[..start])?;
-    new.push(Change {
+    new.push(CapChange {
         hour: first,
         cap: Some(cap),
     })?;
-    new.push(Change {
+    new.push(CapChange {
         hour: behind,
         cap: resumed,
     })?;

@@ -3,24 +3,35 @@
 ghost use Rattle.std.specs.Prelude.{◌≡◌, ◌<◌, ℕ, Some, None, [], ◌∷◌, ◌++◌, length, map, replicate, slice_set, All, IfOk};
 ghost use Rattle.day_orders.specs.KeptLists.{AreInOrder, kept_leg, kept_spans, kept_hours, HasPlace, Adds, nothing_kept};
 
-use crate::hours::{Change, HourCap, hours_of, with_cap};
+use crate::hours::{CapChange, HourCap, hours_of, with_cap};
 use crate::orders::Order;
 use desk_units::{Airport, Leg, Minute, NoMem, Plane};
 use std::alloc::Global;
 use std::marker::Model;
 
 /// What is kept of the orders.
-#[derive(Debug, Drop)]
-pub struct Kept {
+#[derive(Debug)]
+pub struct OrderTables {
     /// By leg, what its last order says: a delay in minutes, or `None` inside where it is off.
     legs: Vec<Option<Option<u32>>>,
     /// By aircraft, when it is out of service, in the order of its orders.
     spans: Vec<Vec<(Minute, Minute)>>,
     /// By airport, the changes of what orders say of its hours, in the order of the hours.
-    hours: Vec<Vec<Change>>,
+    hours: Vec<Vec<CapChange>>,
 }
 
-impl Model for Kept {
+/// In one call, so that whoever lets it go does not prove anew that each part of it may go.
+impl Drop for OrderTables {
+    fn drop(self) {
+        let OrderTables {
+            legs: _,
+            spans: _,
+            hours: _,
+        } = self;
+    }
+}
+
+impl Model for OrderTables {
     ghost use Rattle.std.specs.Prelude.{map};
     ghost use Rattle.day_orders.specs.KeptLists.{KeptLists};
 
@@ -29,30 +40,30 @@ impl Model for Kept {
     ghost view = { λ k. record { legs = k.legs.items; spans = map (λ s. s.items) k.spans.items; hours = map (λ c. c.items) k.hours.items } };
 }
 
-impl Kept {
-    /// Of no orders, by how many legs, aircraft and airports there are.
+impl OrderTables {
+    /// Of no orders, by how many legs, aircraft and airports there are. The only error is out of memory.
     pub fn nothing(
         alloc: Global,
         legs: usize,
         planes: usize,
         airports: usize,
-    ) -> Result<Kept, NoMem>
+    ) -> Result<OrderTables, NoMem>
         ensures { IfOk result (λ kept. kept ≡ nothing_kept legs planes airports) }
     {
         let legs = no_words(alloc, legs)?;
         let spans = no_rows(alloc, planes)?;
         let hours = no_rows(alloc, airports)?;
-        Ok(Kept { legs, spans, hours })
+        Ok(OrderTables { legs, spans, hours })
     }
 
-    /// An equal one.
-    pub fn copy(&self, alloc: Global) -> Result<Kept, NoMem>
+    /// An equal one. The only error is out of memory.
+    pub fn copy(&self, alloc: Global) -> Result<OrderTables, NoMem>
         ensures { IfOk result (λ copy. copy ≡ self.now) }
     {
         let legs = Vec::from_slice(alloc, self.legs.as_slice())?;
         let spans = copied_lists(alloc, self.spans.as_slice())?;
         let hours = copied_lists(alloc, self.hours.as_slice())?;
-        Ok(Kept { legs, spans, hours })
+        Ok(OrderTables { legs, spans, hours })
     }
 
     /// What the last order of a leg says.
@@ -72,7 +83,7 @@ impl Kept {
     }
 
     /// The changes of what orders say of an airport's hours.
-    pub fn hours(&self, airport: Airport) -> &[Change]
+    pub fn hours(&self, airport: Airport) -> &[CapChange]
         requires { airport.0 < length self.now.hours }
         ensures { result.now ≡ kept_hours self.now airport.0 }
     {
@@ -110,9 +121,9 @@ fn copied_lists<T: Copy + Drop>(alloc: Global, lists: &[Vec<T>]) -> Result<Vec<V
     Ok(copy)
 }
 
-impl Kept {
-    /// What is kept with these orders too.
-    pub fn with(&self, alloc: Global, orders: &[Order]) -> Result<Kept, NoMem>
+impl OrderTables {
+    /// What is kept with these orders too. The only error is out of memory.
+    pub fn with(&self, alloc: Global, orders: &[Order]) -> Result<OrderTables, NoMem>
         requires place { All (HasPlace self.now) orders.now }
         requires order { All AreInOrder self.now.hours }
         ensures { IfOk result (λ kept. Adds orders.now self.now kept) }
@@ -170,7 +181,7 @@ impl Kept {
     }
 
     /// Gives an airport other changes.
-    fn put_hours(&mut self, airport: Airport, changes: Vec<Change>)
+    fn put_hours(&mut self, airport: Airport, changes: Vec<CapChange>)
         requires { airport.0 < length self.old.hours }
         ensures { self.new ≡ record self.old { hours = slice_set self.old.hours airport.0 changes.items } }
     {

@@ -1,11 +1,12 @@
 //! Disruptions, as the orders that they give, and tables of what the orders say.
 //!
 //! An `Order` delays a leg or takes it out of the plan, keeps an aircraft on the ground for a span, or
-//! sets the caps of an airport for a span. `Batch` is those that become known together. What an order
-//! says is defined over the whole list of orders (`specs/LastOrders`): of a leg and of an airport's
-//! hour the last one decides, and the spans of an aircraft add up.
+//! sets the caps of an airport for a span. `Batch` is those that become known together, with the moment at
+//! which they do where that is told. What an order says is defined over the whole list of orders
+//! (`specs/LastOrders`): of a leg and of an airport's hour the last one decides, and the spans of an
+//! aircraft add up.
 //!
-//! `Kept` has for each leg, aircraft and airport what the orders taken so far say of it, so that no
+//! `OrderTables` has for each leg, aircraft and airport what the orders taken so far say of it, so that no
 //! look-up walks over the orders; `with` makes the tables with some orders more. Proved: each table
 //! is what the definitions say of the list. `Instance` of desk_data keeps one. It stands on
 //! `desk_units` alone.
@@ -15,6 +16,6 @@ mod hours;
 mod kept;
 mod orders;
 
-pub use hours::{Change, HourCap, cap_at};
-pub use kept::Kept;
+pub use hours::{CapChange, HourCap, cap_at};
+pub use kept::OrderTables;
 pub use orders::{Batch, Order};

@@ -1,6 +1,9 @@
 //! Disruptions, as the orders that they give.
 
-use desk_units::{Airport, Leg, List, Minute, Plane};
+ghost use Rattle.std.specs.Prelude.{◌≡◌, IfOk};
+
+use desk_units::{Airport, Leg, List, Minute, NoMem, Plane};
+use std::alloc::Global;
 
 /// One disruption.
 #[derive(Clone, Copy, Debug)]
@@ -22,13 +25,32 @@ pub enum Order {
         airport: Airport,
         from: Minute,
         to: Minute,
+        /// How many departures, 0 to 100,000 where a file tells them.
         deps: u32,
+        /// How many arrivals, 0 to 100,000 where a file tells them.
         arrs: u32,
     },
 }
 
-/// Disruptions that become known together.
+/// Disruptions that become known together, and the moment at which they do, where that is told. No
+/// batch tells one yet.
 #[derive(Debug, Drop)]
 pub struct Batch {
+    /// The moment at which they become known, where it is told.
+    pub at: Option<Minute>,
+    /// What they order, in the order in which it is taken.
     pub orders: List<Order>,
+}
+
+impl Batch {
+    /// An equal batch. The only error is out of memory.
+    pub fn copy(&self, alloc: Global) -> Result<Batch, NoMem>
+        ensures { IfOk result (λ copy. copy ≡ self.now) }
+    {
+        let orders = Vec::from_slice(alloc, self.orders.as_slice())?;
+        Ok(Batch {
+            at: self.at,
+            orders: List(orders),
+        })
+    }
 }

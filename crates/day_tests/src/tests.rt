@@ -1,7 +1,9 @@
-//! Tests through the public calls of the libraries.
+//! The tests, by what they ask.
 
+mod book;
 mod data;
 mod days;
+mod evaluator;
 mod orders;
-mod steps;
+mod plans;
 mod tariffs;

@@ -1,10 +1,10 @@
 //! The airline disruption recovery desk.
 //!
-//! `replay IN OUT` reads the day, its batches of news and the journal of the directory IN, takes each
+//! `replay IN OUT` reads the day, its batches of orders and the journal of the directory IN, takes each
 //! recorded batch and answers each recorded move in order, and writes the journal with its answers and the
 //! two files of the last plan to OUT. `recover IN OUT` takes the batches of the day and searches for a
 //! cheaper plan behind each, with at most `--moves` accepted moves, and writes the same files. `check IN OUT`
-//! judges the plan that two files of OUT tell, under all the news of the day in IN: the first rule that it
+//! judges the plan that two files of OUT tell, under all the orders of the day in IN: the first rule that it
 //! breaks, and its cost. `gen OUT` makes up a day, by `--seed` and `--size`, and writes its files to OUT;
 //! `trial` makes up such a day in memory, recovers it and reports that alone.
 //!

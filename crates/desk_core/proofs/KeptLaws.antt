@@ -1,17 +1,15 @@
 -- What a book keeps when it is opened and when an entry is added.
 use Rattle.std.proofs.Common.{◌≡◌, ℕ, ◌+◌, ◌<◌, Bool, true, false, cond, List, [], ◌∷◌, ◌++◌, length, refl, sym, ap, subst, ◌∙◌, arith, length-append}
 use Rattle.std.specs.Prelude.{None, reverse, take_while, count_by, not}
-use Rattle.std.specs.List.{All}
 use Rattle.std.proofs.lemmas.Bool.{lt-ltb}
 use Rattle.std.proofs.lemmas.List.{reverse-append}
 use Rattle.std.proofs.lemmas.List.Sums.{sum_by-append, sum_by-cons, take_while-cons}
 use Rattle.desk_units.specs.declared.money.Grains.{Grains}
-use Rattle.day_orders.specs.declared.orders.Order.{Order}
 use Rattle.day_orders.specs.declared.orders.Batch.{Batch}
 use Rattle.plan_moves.specs.declared.moves.Move.{Move}
-use Rattle.desk_data.specs.Situation.{Situation, schedule}
+use Rattle.desk_data.specs.Situation.{Situation, fresh_day, schedule}
 use Rattle.desk_data.specs.PlanRows.{PlanRows}
-use Rattle.desk_data.specs.Valid.{IsOrder}
+use Rattle.desk_data.specs.Valid.{IsBatch}
 use Rattle.plan_moves.specs.Fits.{Fits}
 use Rattle.desk_model.specs.declared.answer.Answer.{Answer}
 use Rattle.desk_model.specs.declared.answer.Answer.TheVariants.{Accepted}
@@ -32,16 +30,12 @@ use Rattle.desk_core.specs.Taken.{IsTaken}
 abbrev pub settled_at : Situation → PlanRows → Evaluated
 settled_at I P = record { inst = I; rows = P; past = [] }
 
--- an instance without orders is the one before any batch
-pub undisturbed_is : (I : Situation) → I.orders ≡ [] → undisturbed I ≡ I
-undisturbed_is I none = ap (λ (os : List Order). let at : Situation = record I { orders = os } in at) (sym none)
-
-pub kept_opening : (I : Situation) → I.orders ≡ [] → IsBook (settled_at I (schedule I)) 0 0 []
+pub kept_opening : (I : Situation) → I ≡ fresh_day I.parts → IsBook (settled_at I (schedule I)) 0 0 []
 unfolding opening
-kept_opening I none = record {
+kept_opening I fresh = record {
   settled = refl;
   legal = legal-nil (opening (undisturbed I));
-  reached = rw (undisturbed_is I none) refl;
+  reached = rw (sym fresh) refl;
   changed = refl;
   since = refl;
   within = omega arith;
@@ -135,15 +129,15 @@ kept_moved E counted accepted h caller m told kept few fits is =
 abbrev entry_of_batch : ℕ → Batch → Answer → Entry
 entry_of_batch caller B told = record { caller = caller; event = event.Batch B; answer = told }
 
-stands_batch : (E : Evaluated) (h : List Entry) (caller : ℕ) (B : Batch) (told : Answer) → state (opening (undisturbed E.inst)) h ≡ state_in E → length h < batch_limit → All (IsOrder E.inst.parts) B.orders → answer (state_in E) (event.Batch B) ≡ told → Stands (opening (undisturbed E.inst)) h (entry_of_batch caller B told)
+stands_batch : (E : Evaluated) (h : List Entry) (caller : ℕ) (B : Batch) (told : Answer) → state (opening (undisturbed E.inst)) h ≡ state_in E → length h < batch_limit → IsBatch E.inst.parts B → answer (state_in E) (event.Batch B) ≡ told → Stands (opening (undisturbed E.inst)) h (entry_of_batch caller B told)
 unfolding entry_at
-stands_batch E h caller B told reached few orders is = stands E h caller (event.Batch B) told reached (lt-ltb (length h) batch_limit few) orders is
+stands_batch E h caller B told reached few batch is = stands E h caller (event.Batch B) told reached (lt-ltb (length h) batch_limit few) batch is
 
-pub kept_taken : (E F : Evaluated) (counted accepted : ℕ) (h : List Entry) (caller : ℕ) (B : Batch) (told : Answer) → IsBook E counted accepted h → length h < batch_limit → All (IsOrder E.inst.parts) B.orders → IsTaken E B F told → IsBook F (counted + 1) 0 (h ++ entry_of_batch caller B told ∷ [])
-kept_taken E F counted accepted h caller B told kept few orders taken =
+pub kept_taken : (E F : Evaluated) (counted accepted : ℕ) (h : List Entry) (caller : ℕ) (B : Batch) (told : Answer) → IsBook E counted accepted h → length h < batch_limit → IsBatch E.inst.parts B → IsTaken E B F told → IsBook F (counted + 1) 0 (h ++ entry_of_batch caller B told ∷ [])
+kept_taken E F counted accepted h caller B told kept few batch taken =
     let entry = entry_of_batch caller B told in
     let same : undisturbed E.inst ≡ undisturbed F.inst = sym (ap undisturbed taken.inst) in
-    let legal = legal-append (opening (undisturbed E.inst)) h entry kept.legal (stands_batch E h caller B told kept.reached few orders taken.answered) in
+    let legal = legal-append (opening (undisturbed E.inst)) h entry kept.legal (stands_batch E h caller B told kept.reached few batch taken.answered) in
     let reached : state (opening (undisturbed E.inst)) (h ++ entry ∷ []) ≡ state_in F
     = state-append (opening (undisturbed E.inst)) h (entry ∷ []) ∙ ap (λ (S : State). after S (event.Batch B)) kept.reached ∙ taken.reached in
     record {

@@ -5,7 +5,7 @@ use Rattle.std.proofs.lemmas.Bool.{cases_Bool}
 use Rattle.std.proofs.lemmas.List.{append-nil}
 use Rattle.plan_moves.specs.declared.moves.Move.{Move}
 use Rattle.desk_data.specs.declared.broken.Broken.{Broken}
-use Rattle.desk_data.specs.Situation.{Situation}
+use Rattle.desk_data.specs.Situation.{Situation, with_batch}
 use Rattle.desk_rules.specs.Least.{least}
 use Rattle.desk_rules.specs.Cost.{cost}
 use Rattle.desk_model.specs.declared.answer.Answer.{Answer}
@@ -15,11 +15,11 @@ use Rattle.desk_model.specs.declared.answer.Entry.{Entry}
 use Rattle.desk_model.specs.declared.fallbacks.Fallback.{Fallback}
 use Rattle.desk_model.specs.declared.fallbacks.Fallback.TheVariants as fallen
 use Rattle.desk_model.specs.Steps.{after_move}
-use Rattle.desk_model.specs.States.{State, opening, with_batch, fallback_on, batch_answer, verdict, move_answer, answer}
+use Rattle.desk_model.specs.States.{State, opening, fallback_on, batch_answer, verdict, move_answer, answer}
 use Rattle.desk_model.specs.Histories.{state, has_room, IsAskable, Stands, IsLegal, entry_of}
 use Rattle.desk_model.specs.Promises.{KeepsPromises}
 use Rattle.desk_model.proofs.HistoryLaws.{promises}
-use Rattle.desk_model.proofs.NewsLaws.{askable_along}
+use Rattle.desk_model.proofs.StatePlans.{askable_along}
 use Rattle.turn_book.specs.Histories as turn
 use Rattle.turn_book.specs.Passes.{Called}
 use Rattle.turn_book.specs.declared.view.View.{View}
@@ -46,7 +46,7 @@ move_tells S m None = verdict_tells (least S.inst (after_move S.inst S.plan m)) 
 
 pub answer_tells : (S : State) (e : Event) → is_full (answer S e) ≡ false
 unfolding answer
-answer_tells S (event.Batch B) = batch_tells (with_batch S.inst B) (fallback_on S B)
+answer_tells S (event.Batch B) = batch_tells (with_batch S.inst S.plan B) (fallback_on S B)
 answer_tells S (event.Move m) = move_tells S m S.broken
 
 -- ---- what is served

@@ -1,15 +1,15 @@
 -- What every book keeps.
 use Rattle.std.specs.Prelude.{◌≡◌, ℕ, ◌≤◌, List, [], length}
-use Rattle.desk_data.specs.Situation.{Situation}
+use Rattle.desk_data.specs.Situation.{Situation, fresh_day}
 use Rattle.desk_eval.specs.Evaluated.{Evaluated}
 use Rattle.desk_model.specs.declared.answer.Entry.{Entry}
 use Rattle.desk_model.specs.States.{opening}
 use Rattle.desk_model.specs.Histories.{state, batch_limit, IsLegal, changes, accepted_since_batch}
 use Rattle.desk_core.specs.Judged.{state_in}
 
--- the instance before any batch: its joined rows, and no orders
+-- the day before any batch, of the same joined rows
 abbrev pub undisturbed : Situation → Situation
-undisturbed I = record I { orders = [] }
+undisturbed I = fresh_day I.parts
 
 -- the plan in the evaluator and both counts are those of the journal h, and no change waits to be taken back
 pub record IsBook (E : Evaluated) (counted accepted : ℕ) (h : List Entry) : Type 0 where

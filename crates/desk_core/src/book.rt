@@ -1,9 +1,10 @@
 //! The book.
 
-ghost use Rattle.std.specs.Prelude.{◌≡◌, ◌≤◌, [], length, drop, All, IfOk, OnOk, OnErr};
+ghost use Rattle.std.specs.Prelude.{◌≡◌, ◌≤◌, [], length, drop, nat_lt, IfOk, OnOk, OnErr};
 
 use crate::judged::{Judged, judge, publish};
-use crate::taken::{Taken, copied_batch, take_in};
+use crate::search::Search;
+use crate::taken::{Taken, take_in};
 use desk_data::{Batch, Broken, Grains, Instance, NoMem};
 use desk_eval::Evaluator;
 use desk_model::{Answer, Entry, Event};
@@ -44,23 +45,24 @@ impl Model for Book {
 }
 
 impl Book {
-    ghost use Rattle.desk_data.specs.Valid.{IsOrder};
+    ghost use Rattle.desk_data.specs.Situation.{fresh_day};
+    ghost use Rattle.desk_data.specs.Valid.{IsBatch};
     ghost use Rattle.plan_moves.specs.Fits.{Fits};
     ghost use Rattle.desk_rules.specs.Cost.{grains};
     ghost use Rattle.desk_model.specs.declared.answer.Event.TheVariants as event;
     ghost use Rattle.desk_model.specs.States.{opening};
-    ghost use Rattle.desk_model.specs.Histories.{accepted_since_batch, changes, IsLegal};
+    ghost use Rattle.desk_model.specs.Histories.{accepted_since_batch, changes, proposal_limit, IsLegal};
     ghost use Rattle.desk_model.specs.Promises.{cost_of, KeepsPromises};
     ghost use Rattle.desk_core.specs.Recorded.{Recorded, state_of, reply, with_entry};
 
-    /// The book of an instance that has no orders: its plan is the schedule, and nothing is
-    /// journalled yet.
+    /// The book of a day before any batch: its plan is the schedule, and nothing is journalled yet.
+    /// The only error is out of memory.
     pub fn open(alloc: Global, inst: Instance) -> Result<Book, NoMem>
-        requires { inst.orders ≡ [] }
+        requires { inst ≡ fresh_day inst.parts }
         ensures { IfOk result (λ book. book ≡ record { opening = inst; journal = [] }) }
     {
         let plan = inst.schedule(alloc)?;
-        let eval = Evaluator::open(alloc, inst, &plan)?;
+        let eval = Evaluator::of_plan(alloc, inst, plan)?;
         Ok(Book {
             eval,
             journal: Vec::new(alloc),
@@ -69,11 +71,11 @@ impl Book {
         })
     }
 
-    /// Takes the news of a batch. Where the journal has 1,000,000 entries, the answer is `Full` and
+    /// Takes a batch of orders. Where the journal has 1,000,000 entries, the answer is `Full` and
     /// nothing changes. Else the batch's orders are taken, the plan is what the desk falls back on,
     /// and one entry is journalled. After `NoMem` the book is as before.
     pub fn intake(&mut self, alloc: Global, caller: u32, batch: &Batch) -> Result<Answer, NoMem>
-        requires { All (IsOrder self.old.opening.parts) batch.now.orders }
+        requires { IsBatch self.old.opening.parts batch.now }
         ensures answer { IfOk result (λ told. told ≡ reply self.old (event.Batch batch.now)) }
         ensures after { OnOk result (self.new ≡ with_entry self.old caller (event.Batch batch.now)) }
         ensures err { OnErr result (self.new ≡ self.old) }
@@ -85,7 +87,7 @@ impl Book {
             });
         }
         self.journal.reserve(1)?;
-        let event = Event::Batch(copied_batch(alloc, batch)?);
+        let event = Event::Batch(batch.copy(alloc)?);
         let Taken { eval, answer } = take_in(alloc, &self.eval, batch)?;
         self.journal.push(Entry {
             caller,
@@ -155,6 +157,13 @@ impl Book {
         self.journal.len() as u32
     }
 
+    /// Whether the journal takes a proposal: it has fewer than 900,000 entries.
+    pub fn takes_proposals(&self) -> bool
+        ensures { result ≡ nat_lt (length self.now.journal) proposal_limit }
+    {
+        self.journal.len() < PROPOSAL_LIMIT
+    }
+
     /// How many entries changed the state: all batches, and the proposals that were accepted.
     pub fn changes(&self) -> u32
         ensures { result ≡ changes self.now.journal }
@@ -192,6 +201,19 @@ impl Book {
         &self.eval
     }
 
+    /// What a search finds at the plan. It works on the book's own evaluator, of which no copy is made, and the
+    /// book stays as it is, after an error too, which is out of memory.
+    pub fn search<S: Search>(
+        &mut self,
+        alloc: Global,
+        search: &mut S,
+    ) -> Result<Option<Move>, NoMem>
+        ensures found { IfOk result (λ found. S.finds (state_of self.old).inst (state_of self.old).plan found) }
+        ensures same { self.new ≡ self.old }
+    {
+        search.search(alloc, &mut self.eval)
+    }
+
     /// The instance as it is disrupted: the one that the book was opened with, and the orders of all
     /// batches.
     pub fn instance(&self) -> &Instance
@@ -211,7 +233,7 @@ impl Book {
         self.journal.as_slice()
     }
 
-    /// The entries from place `n` on, as copies.
+    /// The entries from place `n` on, as copies. The only error is out of memory.
     pub fn since(&self, alloc: Global, n: u32) -> Result<Vec<Entry>, NoMem>
         requires { n ≤ length self.now.journal }
         ensures { IfOk result (λ later. later.items ≡ drop n self.now.journal) }
@@ -240,7 +262,7 @@ fn copied_event(alloc: Global, event: &Event) -> Result<Event, NoMem>
     ensures { IfOk result (λ copy. copy ≡ event.now) }
 {
     match event {
-        Event::Batch(batch) => Ok(Event::Batch(copied_batch(alloc, batch)?)),
+        Event::Batch(batch) => Ok(Event::Batch(batch.copy(alloc)?)),
         Event::Move(m) => Ok(Event::Move(m.copy(alloc)?)),
     }
 }

@@ -1,8 +1,9 @@
 //! The book: the state of the desk, and the journal of what arrived, what was proposed and what was answered.
 //!
 //!     let mut book = Book::open(alloc, inst)?;           // the plan is the schedule
-//!     let answer = book.intake(alloc, 0, &batch)?;       // news: the desk falls back on a plan
+//!     let answer = book.intake(alloc, 0, &batch)?;       // orders: the desk falls back on a plan
 //!     let answer = book.propose(alloc, 1, &move_)?;      // caller 1 proposes a move that fits
+//!     let found = book.search(alloc, &mut search)?;      // what a search finds at the plan, which stays
 //!     for entry in book.journal() { .. }                 // who asked, what, and the answer
 //!     let plan = book.eval().plan();                     // the plan as it stands
 //!
@@ -18,12 +19,14 @@
 
 mod book;
 mod judged;
+mod search;
 mod taken;
 mod turned;
 
 pub use book::Book;
 pub use desk_eval::Evaluator;
 pub use desk_model::{Answer, Batch, Broken, Entry, Event, Grains, Move, Which};
+pub use search::Search;
 pub use turned::{
     a_pass_is_told_the_answer_at_the_history_of_its_turn, what_a_pass_has_seen_keeps_the_promises,
 };

@@ -18,10 +18,10 @@ use crate::book::Book;
 use desk_data::{Instance, NoMem};
 use desk_model::{Answer, Entry, Event};
 use std::alloc::Global;
-use turn_book::Kept;
+use turn_book::SharedBook;
 
-impl Kept for Book {
-    /// The instance that it was opened with, which has no orders.
+impl SharedBook for Book {
+    /// The day that it was opened with, before any batch.
     type Opening = Instance;
 
     type Ask = Event;

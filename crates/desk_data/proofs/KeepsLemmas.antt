@@ -5,7 +5,7 @@ use Rattle.std.specs.List.{All, filter_map}
 use Rattle.std.proofs.lemmas.List.{length-replicate, get_or-replicate}
 use Rattle.std.proofs.lemmas.List.Elements.{All-replicate, filter_map-append}
 use Rattle.std.proofs.lemmas.List.Sorted.{IsNonDecreasingBy-short}
-use Rattle.day_orders.specs.declared.hours.Change.{Change}
+use Rattle.day_orders.specs.declared.hours.CapChange.{CapChange}
 use Rattle.day_orders.specs.declared.orders.Order.{Order}
 use Rattle.day_orders.specs.declared.orders.Order.TheVariants.{Flight, Aircraft, Field}
 use Rattle.day_orders.specs.LastOrders.{last_order_on_leg, span_of, last_word, order_on_hour}
@@ -14,10 +14,10 @@ use Rattle.day_orders.proofs.LastLemmas.{last_word-append}
 use Rattle.day_orders.proofs.KeptLemmas.{last_order_on_leg-append}
 use Rattle.desk_data.specs.declared.parts.Parts.{Parts}
 use Rattle.desk_data.specs.Keeps.{Keeps}
-use Rattle.desk_data.specs.Situation.{Situation, spans}
+use Rattle.desk_data.specs.Situation.{Situation, fresh_day, spans}
 use Rattle.desk_data.specs.Valid.{IsOrder}
 
-pub keeps_nothing : (parts : Parts) → Keeps (record { parts = parts; orders = [] }) (nothing_kept (length parts.legs) (length parts.planes) (length parts.airports))
+pub keeps_nothing : (parts : Parts) → Keeps (fresh_day parts) (nothing_kept (length parts.legs) (length parts.planes) (length parts.airports))
 unfolding last_order_on_leg last_word spans kept_cap
 keeps_nothing parts = record {
   all_legs = length-replicate (length parts.legs) None;
@@ -25,8 +25,8 @@ keeps_nothing parts = record {
   all_airports = length-replicate (length parts.airports) [];
   legs = λ x within. get_or-replicate (length parts.legs) x None None within;
   spans = λ p within. get_or-replicate (length parts.planes) p [] [] within;
-  in_order = All-replicate AreInOrder (length parts.airports) [] (IsNonDecreasingBy-short (λ (c : Change). c.hour) [] (omega arith));
-  hours = λ a h within. ap (λ (l : List Change). kept_cap l h) (get_or-replicate (length parts.airports) a [] [] within);
+  in_order = All-replicate AreInOrder (length parts.airports) [] (IsNonDecreasingBy-short (λ (c : CapChange). c.hour) [] (omega arith));
+  hours = λ a h within. ap (λ (l : List CapChange). kept_cap l h) (get_or-replicate (length parts.airports) a [] [] within);
 }
 
 pub keeps_more : (I : Situation) (orders : List Order) (old new : KeptLists) → Keeps I old → Adds orders old new → Keeps (record I { orders = I.orders ++ orders }) new

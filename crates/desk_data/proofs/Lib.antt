@@ -1,6 +1,10 @@
+pub mod BatchLaws
 mod BegunLemmas
 mod BookedLemmas
+pub mod BoundLaws
+pub mod DepartureLaws
 mod HighestLaws
 mod KeepsLemmas
+pub mod OrderedLaws
 pub mod SaidLemmas
-mod ScheduleLemmas
+pub mod ScheduleLemmas

@@ -1,4 +1,4 @@
--- What reservations booked, by their scheduled paths. No order changes it.
+-- What reservations booked, by their scheduled paths. No order and no passing of time changes it.
 use Rattle.std.specs.Prelude.{◌≡◌, ℕ, ◌+◌, ◌<◌, ◌≤◌, nat_lt, if◌then◌else◌, List, [], ◌∷◌, length, slice_index_or}
 use Rattle.desk_units.specs.declared.numbers.Leg.{Leg}
 use Rattle.desk_units.specs.declared.numbers.Cabin.{Cabin}
@@ -7,7 +7,6 @@ use Rattle.desk_units.specs.declared.numbers.Haul.{Haul}
 use Rattle.desk_units.specs.declared.numbers.Haul.TheVariants as haul
 use Rattle.desk_units.specs.Ranks.{cabin_rank, haul_rank}
 use Rattle.desk_data.specs.declared.booked.Booked.{Booked}
-use Rattle.desk_data.specs.declared.parts.Parts.{Parts}
 use Rattle.desk_data.specs.Paths.{first_leg, last_leg}
 use Rattle.desk_data.specs.Situation.{Situation, reservations_of, leg_at, res_at}
 
@@ -67,7 +66,3 @@ pub record IsBooked (I : Situation) (r : ℕ) (booked : Booked) : Type 0 where
 pub record AreBookings (I : Situation) (table : List Booked) : Type 0 where
   pub all : length table ≡ reservations_of I
   pub each : (r : ℕ) (other : Booked) → r < reservations_of I → IsBooked I r (slice_index_or table r other)
-
--- a day before any order
-abbrev pub without_orders : Parts → Situation
-without_orders parts = record { parts = parts; orders = [] }

@@ -1,8 +1,10 @@
 pub mod Paths
 pub mod Situation
 pub mod Booked
+pub mod Begun
 pub mod Hours
 pub mod Keeps
+pub mod LaterOrders
 pub mod PlanRows
 pub mod Valid
 pub use Rattle.tariff_prices.specs.Rows

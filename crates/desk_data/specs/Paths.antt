@@ -1,5 +1,5 @@
 -- The legs of a path, by their places in it.
-use Rattle.std.specs.Prelude.{ℕ, ◌-◌, List, length, slice_index_or}
+use Rattle.std.specs.Prelude.{ℕ, ◌-◌, Bool, true, false, List, [], ◌∷◌, length, slice_index_or}
 use Rattle.desk_units.specs.declared.numbers.Leg.{Leg}
 use Rattle.desk_units.specs.declared.numbers.Cabin.{Cabin}
 use Rattle.desk_units.specs.declared.numbers.Cabin.TheVariants as cabin
@@ -17,3 +17,8 @@ first_leg path = leg_in path 0
 
 abbrev pub last_leg : List (Leg × Cabin) → ℕ
 last_leg path = leg_in path (length path - 1)
+
+-- the empty path means that passengers are not carried
+abbrev pub is_carried : List (Leg × Cabin) → Bool
+is_carried [] = false
+is_carried (pair ∷ path) = true

@@ -1,7 +1,7 @@
 -- A plan: one row for each leg, and for each reservation its groups of passengers.
-use Rattle.std.specs.Prelude.{◌≡◌, ℕ, ◌<◌, ◌≤◌, List, length, All, slice_index_or, slice_set, []}
+use Rattle.std.specs.Prelude.{◌≡◌, ℕ, ◌<◌, ◌≤◌, Bool, List, length, All, slice_index_or, slice_set, []}
 use Rattle.std.specs.List.{AllPairs}
-use Rattle.std.specs.Ordering.{nat_cmp, ordering_then}
+use Rattle.std.specs.Ordering.{nat_cmp, ordering_then, is_eq}
 use Rattle.std.specs.Cmp.Lexicographic.{slice_cmp}
 use Rattle.std.specs.declared.cmp.Ordering.{Ordering}
 use Rattle.std.specs.declared.cmp.Ordering.TheVariants.{Less}
@@ -38,6 +38,10 @@ pair_cmp a b = ordering_then (nat_cmp a.0.0 b.0.0) (nat_cmp (cabin_rank a.1) (ca
 -- paths are ordered as lists of pairs, a proper prefix first
 abbrev pub path_cmp : List (Leg × Cabin) → List (Leg × Cabin) → Ordering
 path_cmp a b = slice_cmp pair_cmp a b
+
+-- whether two paths are one
+abbrev pub same_path : List (Leg × Cabin) → List (Leg × Cabin) → Bool
+same_path a b = is_eq (path_cmp a b)
 
 -- a departure is below 52,500,000
 abbrev pub IsRow : Row → Type 0

@@ -1,11 +1,12 @@
--- A day as it is disrupted: the joined rows and the orders taken so far. Every word on it is total:
--- what is out of range is a row of nothing.
-use Rattle.std.specs.Prelude.{ℕ, ◌+◌, Bool, false, ◌&&◌, ◌||◌, nat_lt, ◌==◌, if◌then◌else◌, List, [], ◌∷◌, Option, Some, None, length, map, take, slice_index_or, unwrap_or, is_none}
+-- A day as it is disrupted: the joined rows, the orders taken so far, and how far the day has gone on. Every word on it is
+-- total: what is out of range is a row of nothing.
+use Rattle.std.specs.Prelude.{ℕ, ◌+◌, Bool, false, ◌&&◌, ◌||◌, nat_lt, ◌==◌, if◌then◌else◌, List, [], ◌∷◌, ◌++◌, Option, Some, None, length, map, take, replicate, slice_index_or, unwrap_or, is_none}
 use Rattle.std.specs.List.{filter_map, prefix_len, starts_with}
 use Rattle.desk_units.specs.declared.numbers.Cabin.{Cabin}
 use Rattle.desk_units.specs.declared.numbers.Haul.TheVariants.{D}
 use Rattle.desk_units.specs.declared.numbers.Leg.{Leg}
 use Rattle.desk_units.specs.declared.numbers.Minute.{Minute}
+use Rattle.day_orders.specs.declared.orders.Batch.{Batch}
 use Rattle.day_orders.specs.declared.orders.Order.{Order}
 use Rattle.day_orders.specs.LastOrders.{last_order_on_leg, span_of}
 use Rattle.desk_data.specs.declared.info.LegInfo.{LegInfo}
@@ -19,10 +20,39 @@ use Rattle.desk_data.specs.declared.row.Group.{Group}
 use Rattle.desk_units.specs.Ranks.{cabin_rank}
 use Rattle.desk_data.specs.PlanRows.{PlanRows}
 
+-- some passengers of a reservation, by the legs of their path that have left
+abbrev pub PassengersGone : Type 0
+PassengersGone = List (Leg × Cabin) × ℕ
+
+-- how far a day has gone on: up to which moment; by leg, the row with which it left or was given up, if it is frozen;
+-- and by reservation, how many passengers have which frozen legs behind them, in the order of paths
+pub record Progress : Type 0 where
+  pub now : Minute
+  pub frozen : List (Option Row)
+  pub tally : List (List PassengersGone)
+
 -- a day as it is disrupted
 pub record Situation : Type 0 where
   pub parts : Parts
   pub orders : List Order
+  pub progress : Progress
+
+-- ---- a day before any batch: its window begins, no leg has left, and no passenger has flown
+
+abbrev pub all_waiting : ResInfo → List PassengersGone
+all_waiting r = ([], r.count) ∷ []
+
+unfoldable pub first_progress : Parts → Progress
+first_progress parts = record { now = parts.from; frozen = replicate (length parts.legs) None; tally = map all_waiting parts.res }
+
+abbrev pub fresh_day : Parts → Situation
+fresh_day parts = record { parts = parts; orders = []; progress = first_progress parts }
+
+-- ---- a batch
+
+-- the day with a batch: its orders stand behind those taken before. The plan that stands when it arrives decides nothing yet
+abbrev pub with_batch : Situation → PlanRows → Batch → Situation
+with_batch I P B = record I { orders = I.orders ++ B.orders }
 
 -- how many there are
 abbrev pub legs_of : Situation → ℕ

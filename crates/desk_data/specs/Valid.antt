@@ -1,10 +1,11 @@
 -- Which rows make an instance, and which plans are plans for it.
-use Rattle.std.specs.Prelude.{◌≡◌, ◌≢◌, ℕ, ◌<◌, ◌≤◌, List, length, All, sum_by}
+use Rattle.std.specs.Prelude.{◌≡◌, ◌≢◌, ℕ, ◌<◌, ◌≤◌, List, None, length, All, sum_by}
 use Rattle.std.specs.List.{AllPairs}
 use Rattle.std.specs.Option.{ForSome}
 use Rattle.desk_units.specs.declared.numbers.Leg.{Leg}
 use Rattle.desk_units.specs.declared.numbers.Cabin.{Cabin}
 use Rattle.desk_units.specs.declared.numbers.Seats.{Seats}
+use Rattle.day_orders.specs.declared.orders.Batch.{Batch}
 use Rattle.day_orders.specs.declared.orders.Order.{Order}
 use Rattle.day_orders.specs.declared.orders.Order.TheVariants.{Flight, Aircraft, Field}
 use Rattle.tariff_prices.specs.Rows.{AreTariffRows, IsPrice}
@@ -20,7 +21,7 @@ use Rattle.desk_data.specs.declared.row.Row.{Row}
 use Rattle.desk_data.specs.declared.row.Row.TheVariants.{Flown, Cancelled}
 use Rattle.desk_data.specs.declared.row.Group.{Group}
 use Rattle.desk_data.specs.PlanRows.{PlanRows, IsSound, groups_at}
-use Rattle.desk_data.specs.Situation.{Situation, legs_of, planes_of, reservations_of, res_at}
+use Rattle.desk_data.specs.Situation.{Situation, legs_of, planes_of, first_progress, reservations_of, res_at}
 
 -- the bytes of a name can be seen: from ! to ~
 abbrev pub IsSeen : List ℕ → Type 0
@@ -129,10 +130,16 @@ IsOrder parts (Flight leg delay) = (leg.0 < length parts.legs) × ForSome delay 
 IsOrder parts (Aircraft plane from to) = plane.0 < length parts.planes
 IsOrder parts (Field airport from to deps arrs) = airport.0 < length parts.airports
 
--- what every instance keeps
+-- a batch that an instance can take: its orders are about what there is, and it tells no moment
+pub record IsBatch (parts : Parts) (batch : Batch) : Type 0 where
+  pub orders : All (IsOrder parts) batch.orders
+  pub at : batch.at ≡ None
+
+-- what every instance keeps; no batch moves its progress yet
 pub record IsValid (I : Situation) : Type 0 where
   pub parts : AreParts I.parts
   pub orders : All (IsOrder I.parts) I.orders
+  pub progress : I.progress ≡ first_progress I.parts
 
 -- a row for n aircraft
 abbrev pub IsRowOf : ℕ → Row → Type 0

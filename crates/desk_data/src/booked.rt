@@ -1,8 +1,8 @@
 //! What reservations booked, from their scheduled paths: worked out once for a day.
 
 ghost use Rattle.std.specs.Prelude.{◌≡◌, ◌<◌, ◌≤◌, IfOk, length};
-ghost use Rattle.desk_data.specs.Booked.{AreBookings, IsBooked, booked_path, higher_cabin, higher_haul, highest_cabin, highest_haul, without_orders};
-ghost use Rattle.desk_data.specs.Situation.{leg_at};
+ghost use Rattle.desk_data.specs.Booked.{AreBookings, IsBooked, booked_path, higher_cabin, higher_haul, highest_cabin, highest_haul};
+ghost use Rattle.desk_data.specs.Situation.{fresh_day, leg_at};
 ghost use Rattle.desk_data.specs.Valid.{AreParts, IsLeg, IsPathOf};
 
 use crate::info::LegInfo;
@@ -31,7 +31,7 @@ pub struct Booked {
 /// paths.
 pub(crate) fn bookings_of(alloc: Global, parts: &Parts) -> Result<List<Booked>, NoMem>
     requires { AreParts parts.now }
-    ensures { IfOk result (AreBookings (without_orders parts.now)) }
+    ensures { IfOk result (AreBookings (fresh_day parts.now)) }
 {
     let count = parts.res.as_slice().len();
     let mut bookings = Vec::with_capacity(alloc, count)?;
@@ -45,7 +45,7 @@ pub(crate) fn bookings_of(alloc: Global, parts: &Parts) -> Result<List<Booked>, 
 fn booked_of(parts: &Parts, res: Res) -> Booked
     requires parts { AreParts parts.now }
     requires res { res.0 < length parts.now.res }
-    ensures { IsBooked (without_orders parts.now) res.0 result }
+    ensures { IsBooked (fresh_day parts.now) res.0 result }
 {
     let path = path_of(parts, res);
     let first = leg_of(parts, path[0].0);
@@ -64,7 +64,7 @@ fn booked_of(parts: &Parts, res: Res) -> Booked
 fn path_of(parts: &Parts, res: Res) -> &[(Leg, Cabin)]
     requires parts { AreParts parts.now }
     requires res { res.0 < length parts.now.res }
-    ensures path { result.now ≡ booked_path (without_orders parts.now) res.0 }
+    ensures path { result.now ≡ booked_path (fresh_day parts.now) res.0 }
     ensures legs { IsPathOf (length parts.now.legs) result.now }
     ensures starts { 1 ≤ length result.now }
 {
@@ -74,7 +74,7 @@ fn path_of(parts: &Parts, res: Res) -> &[(Leg, Cabin)]
 fn leg_of(parts: &Parts, leg: Leg) -> &LegInfo
     requires parts { AreParts parts.now }
     requires leg { leg.0 < length parts.now.legs }
-    ensures row { result.now ≡ leg_at (without_orders parts.now) leg.0 }
+    ensures row { result.now ≡ leg_at (fresh_day parts.now) leg.0 }
     ensures ranges { IsLeg (length parts.now.airports) (length parts.now.planes) (length parts.now.legs) result.now }
 {
     &parts.legs.as_slice()[leg.0 as usize]
@@ -84,7 +84,7 @@ fn leg_of(parts: &Parts, leg: Leg) -> &LegInfo
 fn highest_haul(parts: &Parts, path: &[(Leg, Cabin)]) -> Haul
     requires parts { AreParts parts.now }
     requires path { IsPathOf (length parts.now.legs) path.now }
-    ensures { result ≡ highest_haul (without_orders parts.now) path.now }
+    ensures { result ≡ highest_haul (fresh_day parts.now) path.now }
 {
     let mut highest = Haul::D;
     for (leg, _) in path {

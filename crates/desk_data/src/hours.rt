@@ -5,6 +5,7 @@ ghost use Rattle.day_orders.specs.LastOrders.{last_word};
 ghost use Rattle.desk_data.specs.Hours.{covers, cap_on_minute};
 
 use crate::info::Cap;
+use crate::limits::DAY;
 use day_orders::HourCap;
 
 /// What the last group of an airport's line says that covers a minute of the day.
@@ -35,7 +36,7 @@ fn cap_of_group(group: &Cap, minute: u32) -> Option<HourCap>
 fn covers(group: &Cap, minute: u32) -> bool
     ensures { result ≡ covers group.now minute }
 {
-    let end = if group.to == 0 { 1_440 } else { group.to };
+    let end = if group.to == 0 { DAY } else { group.to };
     if group.from < end {
         group.from <= minute && minute < end
     } else {

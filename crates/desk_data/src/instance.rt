@@ -1,29 +1,30 @@
-//! The instance: the joined rows, shared, and the disruption orders taken so far.
+//! The instance: the joined rows, shared, the disruption orders taken so far, and how far the day has gone on.
 
-ghost use Rattle.std.specs.Prelude.{◌≡◌, ◌<◌, ◌≤◌, ℕ, [], ◌++◌, length, map, All, IfOk, OnOk, OnErr, IfSome, nat_lt};
+ghost use Rattle.std.specs.Prelude.{◌≡◌, ◌<◌, ◌≤◌, length, map, IfOk, OnOk, OnErr, IfSome, nat_lt};
 ghost use Rattle.day_orders.specs.KeptLists.{nothing_kept};
 ghost use Rattle.day_orders.specs.LastOrders.{last_order_on_leg};
 ghost use Rattle.desk_data.specs.Booked.{IsBooked};
 ghost use Rattle.desk_data.specs.Hours.{hour_cap, dep_cap, arr_cap};
-ghost use Rattle.desk_data.specs.PlanRows.{row_at};
-ghost use Rattle.desk_data.specs.Situation.{legs_of, planes_of, airports_of, reservations_of, leg_at, plane_at, res_at, airport_at, earliest, latest, ordered_off, fixed, due, spans, begun, bound, delay_of, scheduled_row, groups_of, schedule};
-ghost use Rattle.desk_data.specs.Valid.{AreParts, IsValid, IsLeg, IsPlane, IsReservation, IsAirport, IsOrder, IsRowOf, IsPlanFor};
+ghost use Rattle.desk_data.specs.Situation.{fresh_day, with_batch, legs_of, planes_of, airports_of, reservations_of, leg_at, plane_at, res_at, airport_at, earliest, latest, ordered_off, fixed, due, spans, begun, bound, delay_of, scheduled_row, groups_of, schedule};
+ghost use Rattle.desk_data.specs.Valid.{AreParts, IsValid, IsLeg, IsPlane, IsReservation, IsAirport, IsBatch, IsRowOf, IsPlanFor};
 
 use crate::booked::{Booked, bookings_of};
 use crate::hours::cap_of_line;
 use crate::info::{AirportInfo, LegInfo, PlaneInfo, PositionInfo, ResInfo};
+use crate::limits::MOST_DELAY;
 use crate::parts::Parts;
 use crate::path::Path;
 use crate::plan::Plan;
 use crate::row::{Group, Row};
-use day_orders::{Batch, HourCap, Kept, Order, cap_at};
+use day_orders::{Batch, HourCap, Order, OrderTables, cap_at};
 use desk_units::{Airport, Leg, List, Minute, NoMem, Plane, Res, Tariff};
 use std::alloc::Global;
 use std::marker::Model;
 use std::sync::Arc;
 use tariff_prices::Prices;
 
-/// A day with the orders taken so far. Contracts see it as its rows and its list of orders.
+/// A day with the orders taken so far. Contracts see it as its rows, its list of orders and its progress.
+/// No batch moves its progress yet: it is always that of the day before any batch, so nothing is kept of it.
 #[derive(Debug)]
 pub struct Instance {
     parts: Arc<Parts>,
@@ -32,7 +33,7 @@ pub struct Instance {
     bookings: Arc<List<Booked>>,
     orders: Vec<Order>,
     /// What the orders say.
-    kept: Kept,
+    kept: OrderTables,
 }
 
 /// In one call, so that whoever lets a day go does not prove anew that each part of it may go.
@@ -49,23 +50,23 @@ impl Drop for Instance {
 }
 
 impl Model for Instance {
-    ghost use Rattle.desk_data.specs.Situation.{Situation};
+    ghost use Rattle.desk_data.specs.Situation.{Situation, first_progress};
     ghost use Rattle.desk_data.specs.Keeps.{IsWhole};
     ghost use Rattle.std.specs.Arc.{arc_value};
 
     ghost Value = { Situation };
 
-    ghost view = { λ i. record { parts = arc_value i.parts; orders = i.orders.items } };
+    ghost view = { λ i. record { parts = arc_value i.parts; orders = i.orders.items; progress = first_progress (arc_value i.parts) } };
 
-    ghost invariant = { λ i. IsWhole (record { parts = arc_value i.parts; orders = i.orders.items }) i.kept (arc_value i.prices) (arc_value i.bookings) };
+    ghost invariant = { λ i. IsWhole (record { parts = arc_value i.parts; orders = i.orders.items; progress = first_progress (arc_value i.parts) }) i.kept (arc_value i.prices) (arc_value i.bookings) };
 }
 
 impl Instance {
-    /// The instance of these rows, with no orders. `are_parts` of day_checks tests its condition. The
-    /// only error is out of memory.
+    /// The day of these rows before any batch. `are_parts` of day_checks tests its condition. The only
+    /// error is out of memory.
     pub fn of(alloc: Global, parts: Parts) -> Result<Instance, NoMem>
         requires { AreParts parts }
-        ensures { IfOk result (λ inst. inst ≡ record { parts = parts; orders = [] }) }
+        ensures { IfOk result (λ inst. inst ≡ fresh_day parts) }
     {
         let kept = nothing_kept(alloc, &parts)?;
         let prices = Arc::new(alloc, Prices::of(alloc, &parts.tariff)?)?;
@@ -178,7 +179,7 @@ impl Instance {
         ensures latest { result.0 ≡ latest self.now leg.0 }
         ensures limit { result.0 ≤ 52485760 }
     {
-        Minute(self.earliest(leg).0 + 2_880)
+        Minute(self.earliest(leg).0 + MOST_DELAY)
     }
 
     /// Whether the last flight order of a leg takes it out of the plan.
@@ -345,11 +346,13 @@ impl Instance {
         Ok(Plan::of(rows, groups))
     }
 
-    /// Takes the orders of a batch, behind those taken before. After an error the instance is as
-    /// before. `can_add` of day_checks tests its condition.
-    pub fn add(&mut self, alloc: Global, batch: &Batch) -> Result<(), NoMem>
-        requires { All (IsOrder self.old.parts) batch.now.orders }
-        ensures ok { OnOk result (self.new ≡ record self.old { orders = self.old.orders ++ batch.now.orders }) }
+    /// Takes the orders of a batch, behind those taken before. The plan is the one that stands when the batch
+    /// arrives; it decides nothing yet. After an error the instance is as before. `can_add` of day_checks tests
+    /// the condition of the batch.
+    pub fn add(&mut self, alloc: Global, plan: &Plan, batch: &Batch) -> Result<(), NoMem>
+        requires batch { IsBatch self.old.parts batch.now }
+        requires plan { IsPlanFor self.old plan.now }
+        ensures ok { OnOk result (self.new ≡ with_batch self.old plan.now batch.now) }
         ensures err { OnErr result (self.new ≡ self.old) }
     {
         let orders = batch.orders.as_slice();
@@ -392,13 +395,13 @@ impl Instance {
 }
 
 /// What is kept of no orders.
-fn nothing_kept(alloc: Global, parts: &Parts) -> Result<Kept, NoMem>
+fn nothing_kept(alloc: Global, parts: &Parts) -> Result<OrderTables, NoMem>
     ensures { IfOk result (λ kept. kept ≡ nothing_kept (length parts.now.legs) (length parts.now.planes) (length parts.now.airports)) }
 {
     let legs = parts.legs.as_slice().len();
     let planes = parts.planes.as_slice().len();
     let airports = parts.airports.as_slice().len();
-    Kept::nothing(alloc, legs, planes, airports)
+    OrderTables::nothing(alloc, legs, planes, airports)
 }
 
 fn scheduled_rows(alloc: Global, legs: &[LegInfo]) -> Result<Vec<Row>, NoMem>

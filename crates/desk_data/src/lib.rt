@@ -10,10 +10,11 @@
 //!     let row = plan.read_row(Leg(0));                   // flown, by whom and when, or cancelled
 //!     let first = inst.earliest(Leg(0));                 // with the delay that orders give
 //!
-//! Contracts see a day as its rows and its list of orders, and a plan as its rows and groups
+//! Contracts see a day as its rows, its list of orders and its progress, and a plan as its rows and groups
 //! (`specs/Situation`, `specs/PlanRows`). Proved: each look-up is the definition over these, from
-//! tables; a batch's orders are appended, or the day is as before. It stands on
-//! `desk_units`, `tariff_prices` and `day_orders`.
+//! tables; a batch's orders are appended, or the day is as before. Crates above use what holds of
+//! departures, rows that are due and paths that are bound by the laws alone (`src/laws`, `proofs`), and
+//! look inside none of these definitions. It stands on `desk_units`, `tariff_prices` and `day_orders`.
 #![tactic(auto)]
 
 mod booked;
@@ -21,6 +22,8 @@ mod broken;
 mod hours;
 mod info;
 mod instance;
+mod laws;
+mod limits;
 mod parts;
 mod path;
 mod plan;
@@ -35,8 +38,13 @@ pub use desk_units::{
 };
 pub use info::{AirportInfo, Cap, LegInfo, Maint, PlaneInfo, PositionInfo, ResInfo};
 pub use instance::Instance;
+pub use laws::{
+    batches_keep_days_valid, departures_are_in_time, fixed_legs_have_rows_due,
+    paths_are_bound_to_what_has_begun,
+};
+pub use limits::{DAY, DEPARTURES_END, LAST_SCHEDULED, MOMENTS_END, MOST_DELAY};
 pub use parts::Parts;
-pub use path::Path;
+pub use path::{Path, path_order, same_path};
 pub use plan::Plan;
 pub use row::{Group, Row};
 pub use tariff_prices::Prices;

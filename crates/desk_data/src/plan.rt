@@ -93,7 +93,20 @@ impl Plan {
         self.groups[res.0 as usize] = groups;
     }
 
-    /// An equal plan.
+    /// Gives a reservation other groups, and leaves those that it had in their place. All else stays, and no
+    /// memory is taken.
+    pub fn swap_groups(&mut self, res: Res, groups: &mut Vec<Group>)
+        requires res { res.0 < length self.old.groups }
+        requires groups { AreGroups groups.old.items }
+        ensures plan { self.new ≡ with_groups self.old res.0 groups.old.items }
+        ensures had { groups.new.items ≡ groups_at self.old res.0 }
+        ensures sound { AreGroups groups.new.items }
+    {
+        let _had = self.groups(res);
+        std::mem::swap(&mut self.groups[res.0 as usize], groups);
+    }
+
+    /// An equal plan. The only error is out of memory.
     pub fn copy(&self, alloc: Global) -> Result<Plan, NoMem>
         ensures { IfOk result (λ copy. copy ≡ self.now) }
     {

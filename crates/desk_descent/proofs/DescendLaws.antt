@@ -1,6 +1,6 @@
 -- What a book's steps come to.
-use Rattle.std.proofs.Common.{◌≡◌, ℕ, zero, suc, ◌+◌, ◌-◌, ◌≤◌, Bool, true, false, cond, List, [], length, refl, sym, ap, ◌∙◌, arith}
-use Rattle.std.specs.Prelude.{Option, None, Some, is_none, is_some, find, Result, Ok, Err, IfOk, OnErr}
+use Rattle.std.proofs.Common.{◌≡◌, ℕ, zero, suc, ◌+◌, ◌-◌, ◌≤◌, Bool, true, false, List, length, refl, sym, ap, ◌∙◌, arith}
+use Rattle.std.specs.Prelude.{Option, None, Some, is_some, find, Result, Ok, Err, IfOk, OnErr}
 use Rattle.std.specs.Option.{ForSome}
 use Rattle.std.proofs.lemmas.Bool.{lt-ltb}
 use Rattle.plan_moves.specs.declared.moves.Move.{Move}
@@ -9,19 +9,17 @@ use Rattle.desk_data.specs.declared.broken.Broken.{Broken}
 use Rattle.desk_data.specs.Situation.{Situation}
 use Rattle.desk_model.specs.declared.answer.Entry.{Entry}
 use Rattle.desk_model.specs.declared.answer.Event.TheVariants as event
-use Rattle.desk_model.specs.Steps.{after_move}
 use Rattle.desk_model.specs.States.{State, opening}
 use Rattle.desk_model.specs.Histories.{proposal_limit, has_room}
 use Rattle.desk_model.proofs.HistoryLaws.{state-parts, askable-parts}
 use Rattle.desk_model.proofs.StateLaws.{opening-inst}
-use Rattle.desk_eval.specs.Evaluated.{Evaluated}
 use Rattle.desk_core.specs.Recorded.{Recorded, state_of, with_entry}
-use Rattle.near_moves.specs.Descent.{is_better, first_better, IsQuiet, is_spent, next_proposal, with_proposal, descent_of}
+use Rattle.near_moves.specs.Descent.{is_better, first_better, IsQuiet, end_by, is_spent, next_proposal, with_proposal, descent_of}
 use Rattle.near_moves.proofs.ShardLaws.{shard-one}
-use Rattle.near_moves.proofs.DescentLaws.{next-some, next-is, next-quiet, next-unplanned, unspent-room, step-state, descent-rests, descent-ends}
-use Rattle.desk_descent.specs.declared.descent.Ended.TheVariants.{NoPlan, Quiet, Spent}
+use Rattle.near_moves.proofs.DescentLaws.{next-some, next-is, next-quiet, next-unplanned, unspent-room, descent-rests, descent-ends}
+use Rattle.near_moves.specs.declared.ended.SearchEnd.TheVariants.{Quiet}
 use Rattle.desk_descent.specs.Ending.{ending, after_descent, after_steps}
-use Rattle.desk_descent.specs.Follows.{copy_of, next_of, stepped}
+use Rattle.desk_descent.specs.Steps.{next_of, stepped}
 
 -- ---- what is proposed
 
@@ -34,10 +32,6 @@ first-next most B planned unspent =
 pub fits-book : (B : Recorded) (m : Move) → Fits (state_of B).inst m → Fits B.opening m
 fits-book B m fits =
     askable-parts (state_of B).inst B.opening (event.Move m) (state-parts (opening B.opening) B.journal ∙ ap (λ (J : Situation). J.parts) (opening-inst B.opening)) fits
-
-pub fits-state : (B : Recorded) (m : Move) → Fits B.opening m → Fits (state_of B).inst m
-fits-state B m fits =
-    askable-parts B.opening (state_of B).inst (event.Move m) (sym (state-parts (opening B.opening) B.journal ∙ ap (λ (J : Situation). J.parts) (opening-inst B.opening))) fits
 
 pub found-fits : (B : Recorded) (found : Option Move) → ForSome found (Fits (state_of B).inst) → ForSome found (Fits B.opening)
 found-fits B found fits = λ m is. fits-book B m (fits m is)
@@ -58,10 +52,6 @@ pub none-since : {X : Type 0} (o : Option X) → is_some o ≡ false → o ≡ N
 none-since None none = refl
 none-since (Some x) none = absurd cc
 
--- the copy of a book's evaluator
-pub copied : (E C : Evaluated) (S : State) → C ≡ record E { past = [] } → E.inst ≡ S.inst → E.rows ≡ S.plan → C ≡ copy_of S
-copied E C S is inst rows = is ∙ rw (inst, rows) refl
-
 pub on-err : {X E : Type 0} (r : Result X E) (P : Type 0) → P → OnErr r P
 on-err (Ok x) P p = tt
 on-err (Err e) P p = p
@@ -77,13 +67,6 @@ step-recorded most B m is =
 
 pub step-none : (most : ℕ) (B : Recorded) → next_of most B ≡ None → B ≡ stepped most B
 step-none most B is = rw is refl
-
--- the evaluator that follows, once its past is forgotten
-pub step-follows : (most : ℕ) (B : Recorded) (m : Move) (E : Evaluated) → next_of most B ≡ Some m → E.inst ≡ (state_of B).inst → E.rows ≡ after_move (state_of B).inst (state_of B).plan m → record E { past = [] } ≡ copy_of (state_of (stepped most B))
-step-follows most B m E is inst rows =
-    let next = next-some most (opening B.opening) B.journal m is in
-    let there : state_of (stepped most B) ≡ record { inst = (state_of B).inst; plan = after_move (state_of B).inst (state_of B).plan m; broken = None } = rw is (step-state most (opening B.opening) B.journal m next) in
-    rw (inst, rows) (ap copy_of (sym there))
 
 -- ---- several steps
 
@@ -127,12 +110,12 @@ stopped i most B N M le is none step = step ∙ sym (step-none most N none) ∙ 
 
 -- ---- the end
 
-quiet_parts : (b : Option Broken) (spent : Bool) → cond (is_none b) (cond spent Spent Quiet) NoPlan ≡ Quiet → (b ≡ None) × (spent ≡ false)
+quiet_parts : (b : Option Broken) (spent : Bool) → end_by b spent ≡ Some Quiet → (b ≡ None) × (spent ≡ false)
 quiet_parts None true told = absurd cc
 quiet_parts None false told = (refl, refl)
 quiet_parts (Some item) spent told = absurd cc
 
-pub quiet-end : (most : ℕ) (B N : Recorded) → N ≡ after_descent most B → ending most (state_of N) N.journal ≡ Quiet → IsQuiet (state_of N)
+pub quiet-end : (most : ℕ) (B N : Recorded) → N ≡ after_descent most B → ending most (state_of N) N.journal ≡ Some Quiet → IsQuiet (state_of N)
 unfolding ending
 quiet-end most B N is told =
     let none : next_of most N ≡ None = ap (next_of most) is ∙ descent-ends most (opening B.opening) B.journal in

@@ -1,15 +1,14 @@
 -- How a descent of a book ends.
-use Rattle.std.specs.Prelude.{◌≡◌, ℕ, if◌then◌else◌, is_none, List}
+use Rattle.std.specs.Prelude.{◌≡◌, ℕ, Option, List}
 use Rattle.desk_model.specs.declared.answer.Entry.{Entry}
 use Rattle.desk_model.specs.States.{State, opening}
 use Rattle.desk_core.specs.Recorded.{Recorded}
-use Rattle.near_moves.specs.Descent.{is_spent, descent_of, descent}
-use Rattle.desk_descent.specs.declared.descent.Ended.{Ended}
-use Rattle.desk_descent.specs.declared.descent.Ended.TheVariants.{NoPlan, Quiet, Spent}
+use Rattle.near_moves.specs.declared.ended.SearchEnd.{SearchEnd}
+use Rattle.near_moves.specs.Descent.{end_by, is_spent, descent_of, descent}
 
--- how it ended, by the state and the history behind it
-unfoldable pub ending : ℕ → State → List Entry → Ended
-ending most S h = if is_none S.broken then (if is_spent most h then Spent else Quiet) else NoPlan
+-- why it ended, by the state and the history behind it
+unfoldable pub ending : ℕ → State → List Entry → Option SearchEnd
+ending most S h = end_by S.broken (is_spent most h)
 
 -- a book behind a descent, and behind its first n steps
 abbrev pub after_descent : ℕ → Recorded → Recorded

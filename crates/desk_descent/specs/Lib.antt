@@ -1,4 +1,4 @@
 pub use Rattle.desk_core.specs.Recorded
 pub use Rattle.near_moves.specs.Descent
 pub mod Ending
-pub mod Follows
+pub mod Steps

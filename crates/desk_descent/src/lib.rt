@@ -1,12 +1,12 @@
 //! The descent of a book: as long as a move near its plan makes it feasible and cheaper, the first such move is
 //! proposed.
 //!
-//!     let ended = descend(alloc, &mut book, 40)?;   // at most 40 acceptances since the last batch
+//!     let end = descend(alloc, &mut book, 40)?;   // at most 40 acceptances since the last batch
 //!
-//! The search (`near_search`) tries moves on a copy of the book's evaluator, which follows the book: what the
-//! book accepts is applied to it too. Caller 0 proposes, and each proposal is accepted. A descent ends where
-//! there is no plan, where no move is better, or where the history is spent: so many were accepted since the
-//! last batch, or the journal has 900,000 entries.
+//! The search (`near_search`) tries moves on the book's own evaluator and takes them back, so that nothing is
+//! copied or judged anew. Caller 0 proposes, and each proposal is accepted. A descent ends where there is no plan,
+//! where no move is better, or where the history is spent: so many were accepted since the last batch, or the
+//! journal has 900,000 entries.
 //!
 //! Proved: the journal is `descent` of `near_moves` of the journal before, and how it ended is told exactly;
 //! where memory runs out, the journal is that of some first steps of it.
@@ -15,4 +15,5 @@
 mod descent;
 mod step;
 
-pub use descent::{Ended, descend};
+pub use descent::descend;
+pub use near_moves::SearchEnd;

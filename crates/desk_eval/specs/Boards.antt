@@ -1,30 +1,32 @@
 -- The four boards of an evaluator, and of which plan they are.
-use Rattle.std.specs.Prelude.{◌<◌, List, ◌∷◌, length}
+use Rattle.std.specs.Prelude.{List}
 use Rattle.desk_data.specs.Situation.{Situation}
 use Rattle.desk_data.specs.PlanRows.{PlanRows}
-use Rattle.board_rot.specs.Boards.{IsBoardOf as IsRotBoardOf}
-use Rattle.board_slots.specs.Board.{IsBoardOf as IsSlotBoardOf}
-use Rattle.board_seats.specs.Board.{IsBoardOf as IsSeatBoardOf}
-use Rattle.board_cost.specs.Board.{IsBoardOf as IsCostBoardOf}
-use Rattle.desk_eval.specs.declared.boards.Boards.{Boards}
+use Rattle.board_kit.specs.declared.both.Both.{Both}
+use Rattle.board_kit.specs.Boards.{AreBoth}
+use Rattle.board_rot.specs.Boards.{Board as RotBoard, IsBoardOf as IsRotBoardOf}
+use Rattle.board_slots.specs.Board.{Board as SlotBoard, IsBoardOf as IsSlotBoardOf}
+use Rattle.board_seats.specs.Board.{Board as SeatBoard, IsBoardOf as IsSeatBoardOf}
+use Rattle.board_cost.specs.Board.{Board as CostBoard, IsBoardOf as IsCostBoardOf}
+
+-- all boards as one: of rotations and of hours, and of seats and of the cost
+abbrev pub AllBoards : Type 0
+AllBoards = Both (Both RotBoard SlotBoard) (Both SeatBoard CostBoard)
+
+-- each of them by its name
+abbrev pub rotations_of : AllBoards → RotBoard
+rotations_of all = all.first.first
+
+abbrev pub slots_of : AllBoards → SlotBoard
+slots_of all = all.first.second
+
+abbrev pub seats_of : AllBoards → SeatBoard
+seats_of all = all.second.first
+
+abbrev pub cost_board_of : AllBoards → CostBoard
+cost_board_of all = all.second.second
 
 -- the boards are those of the day and of plan P, and their past the plans Ps, the last first
-pub record AreBoardsOf (I : Situation) (P : PlanRows) (Ps : List PlanRows) (boards : Boards) : Type 0 where
-  pub rot : IsRotBoardOf I P Ps boards.rot
-  pub slots : IsSlotBoardOf I P Ps boards.slots
-  pub seats : IsSeatBoardOf I P Ps boards.seats
-  pub cost : IsCostBoardOf I P Ps boards.cost
-
--- boards of plan P whose past has room for one change more
-pub record AreReady (I : Situation) (P : PlanRows) (all : Boards) : Type 0 where
-  pub plans : List PlanRows
-  pub boards : AreBoardsOf I P plans all
-  pub few : length plans < 2000000000
-
--- boards whose past has a change to take back
-pub record CanGoBack (all : Boards) : Type 0 where
-  pub inst : Situation
-  pub plan : PlanRows
-  pub before : PlanRows
-  pub plans : List PlanRows
-  pub boards : AreBoardsOf inst plan (before ∷ plans) all
+abbrev pub AreBoardsOf : Situation → PlanRows → List PlanRows → AllBoards → Type 0
+AreBoardsOf I P Ps all =
+    AreBoth (AreBoth (IsRotBoardOf I P Ps (rotations_of all)) (IsSlotBoardOf I P Ps (slots_of all))) (AreBoth (IsSeatBoardOf I P Ps (seats_of all)) (IsCostBoardOf I P Ps (cost_board_of all)))

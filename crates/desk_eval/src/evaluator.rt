@@ -3,14 +3,15 @@
 ghost use Rattle.std.specs.Prelude.{◌≡◌, ◌+◌, ◌<◌, ◌≤◌, [], ◌∷◌, length, map, filter, not, All, IfOk, OnOk, OnErr};
 
 use crate::boards::Boards;
-use crate::change::{Replaced, change_groups, change_row, copied_groups, put_back};
+use crate::change::{change_groups, change_row, copied_groups};
+use board_kit::Board;
 use desk_data::{
-    Airport, Broken, Cabin, Grains, Group, Instance, Leg, List, NoMem, Plan, Plane, Res, Row, Steps,
+    Airport, Broken, Cabin, Grains, Group, Instance, Leg, NoMem, Plan, Plane, Res, Row, Steps,
 };
 use hour_counts::KnowsHours;
 use leg_users::LegUsers;
 use plan_groups::KnowsAboard;
-use plan_pages::Pages;
+use plan_pages::{Page, Pages};
 use std::alloc::Global;
 use std::marker::Model;
 use std::sync::ledger::Ledger;
@@ -26,8 +27,8 @@ pub struct Evaluator {
     boards: Boards,
     /// Who is booked on each leg, which no change of the plan touches.
     booked: LegUsers,
-    /// What each change since the past was last empty replaced.
-    past: Vec<Replaced>,
+    /// The pages that each change since the past was last empty took from the plan.
+    past: Vec<Page>,
 }
 
 /// In one call, so that whoever lets an evaluator go does not prove anew that each part of it may go.
@@ -53,7 +54,7 @@ impl Model for Evaluator {
 
     ghost view = { λ e. record { inst = e.inst; rows = e.pages; past = plans_before e.pages (reverse e.past.items) } };
 
-    ghost invariant = { λ e. IsEvaluator e.inst e.pages e.boards e.past.items × AreBooked e.inst e.booked };
+    ghost invariant = { λ e. IsEvaluator e.inst e.pages e.boards.all e.past.items × AreBooked e.inst e.booked };
 }
 
 impl Evaluator {
@@ -75,6 +76,24 @@ impl Evaluator {
         ensures { IfOk result (λ opened. opened ≡ record { inst = inst; rows = plan.now; past = [] }) }
     {
         let pages = Pages::of(alloc, plan)?;
+        Evaluator::of_pages(alloc, inst, pages)
+    }
+
+    /// The evaluator of a plan that is handed in and not copied, with an empty past. The plan is one for the
+    /// instance. The only error is out of memory.
+    pub fn of_plan(alloc: Global, inst: Instance, plan: Plan) -> Result<Evaluator, NoMem>
+        requires { IsPlanFor inst plan }
+        ensures { IfOk result (λ opened. opened ≡ record { inst = inst; rows = plan; past = [] }) }
+    {
+        let pages = Pages::from_plan(alloc, plan)?;
+        Evaluator::of_pages(alloc, inst, pages)
+    }
+
+    /// The evaluator of the plan of these pages, with an empty past.
+    fn of_pages(alloc: Global, inst: Instance, pages: Pages) -> Result<Evaluator, NoMem>
+        requires { IsPlanFor inst pages }
+        ensures { IfOk result (λ opened. opened ≡ record { inst = inst; rows = pages; past = [] }) }
+    {
         let boards = Boards::open(alloc, &inst, &pages)?;
         let booked = LegUsers::booked(alloc, &inst)?;
         let past = Vec::new(alloc);
@@ -145,22 +164,19 @@ impl Evaluator {
         ensures reads { steps.new ≤ steps.old + row_reads self.old.rows leg.0 }
     {
         let had = self.pages.row(leg, steps);
-        self.past.push(Replaced::Row { leg, row: had })?;
-        match change_row(
+        self.past.reserve(1)?;
+        let page = change_row(
             alloc,
             &self.inst,
             &mut self.pages,
-            &mut self.boards,
+            &mut self.boards.all,
             leg,
             row,
             steps,
-        ) {
-            Ok(()) => Ok(had),
-            Err(error) => {
-                let _ = self.past.pop();
-                Err(error)
-            }
-        }
+        )?;
+        // there is room: it was reserved above
+        let _pushed = self.past.push(page);
+        Ok(had)
     }
 
     /// Gives a reservation other groups, and answers those that it had. The past, which has fewer than
@@ -184,26 +200,19 @@ impl Evaluator {
         ensures reads { steps.new ≤ steps.old + group_reads (groups_at self.old.rows res.0) groups.items }
     {
         let had = copied_groups(alloc, self.pages.groups(res))?;
-        let kept = copied_groups(alloc, self.pages.groups(res))?;
-        self.past.push(Replaced::Groups {
-            res,
-            groups: List(kept),
-        })?;
-        match change_groups(
+        self.past.reserve(1)?;
+        let page = change_groups(
             alloc,
             &self.inst,
             &mut self.pages,
-            &mut self.boards,
+            &mut self.boards.all,
             res,
             groups,
             steps,
-        ) {
-            Ok(()) => Ok(had),
-            Err(error) => {
-                let _ = self.past.pop();
-                Err(error)
-            }
-        }
+        )?;
+        // there is room: it was reserved above
+        let _pushed = self.past.push(page);
+        Ok(had)
     }
 
     /// An evaluator of the same instance and plan, with an empty past. The only error is out of memory.
@@ -212,16 +221,7 @@ impl Evaluator {
     {
         let inst = self.inst.copy(alloc)?;
         let pages = self.pages.share(alloc)?;
-        let boards = Boards::open(alloc, &inst, &pages)?;
-        let booked = LegUsers::booked(alloc, &inst)?;
-        let past = Vec::new(alloc);
-        Ok(Evaluator {
-            inst,
-            pages,
-            boards,
-            booked,
-            past,
-        })
+        Evaluator::of_pages(alloc, inst, pages)
     }
 
     /// Takes the last change back: the plan and the past are those from before it. The past is not
@@ -231,9 +231,9 @@ impl Evaluator {
         ensures plan { self.new.rows ∷ self.new.past ≡ self.old.past }
         ensures inst { self.new.inst ≡ self.old.inst }
     {
-        if let Some(replaced) = self.past.pop() {
-            self.boards.back();
-            put_back(&mut self.pages, replaced);
+        if let Some(page) = self.past.pop() {
+            self.boards.all.back();
+            self.pages.put_back(page);
         }
     }
 
@@ -242,7 +242,7 @@ impl Evaluator {
     pub fn forget(&mut self)
         ensures { self.new ≡ record self.old { past = [] } }
     {
-        self.boards.forget();
+        self.boards.all.forget();
         self.past.clear();
     }
 
@@ -288,7 +288,7 @@ impl KnowsHours for Evaluator {
         airport: Airport,
         hour: u32,
     ) -> u32 {
-        let slots = &self.boards.slots;
+        let slots = self.boards.slots();
         slots.departures_beside(inst, leg, row, airport, hour)
     }
 
@@ -300,7 +300,7 @@ impl KnowsHours for Evaluator {
         airport: Airport,
         hour: u32,
     ) -> u32 {
-        let slots = &self.boards.slots;
+        let slots = self.boards.slots();
         slots.arrivals_beside(inst, leg, row, airport, hour)
     }
 }
@@ -313,7 +313,7 @@ impl KnowsAboard for Evaluator {
 
     fn aboard(&self, leg: Leg, cabin: Cabin) -> u32 {
         if leg.0 < self.inst.legs() {
-            self.boards.seats.aboard(leg, cabin)
+            self.boards.seats().aboard(leg, cabin)
         } else {
             0
         }

@@ -2,12 +2,11 @@
 use Rattle.std.proofs.Common.{◌≡◌, ℕ, ◌+◌, ◌<◌, List, [], ◌∷◌, ◌++◌, not, length, get_or, set, drop, refl, sym, ap, ◌∙◌, add-one, arith}
 use Rattle.std.specs.Prelude.{map, unwrap_or, if◌then◌else◌}
 use Rattle.std.proofs.lemmas.List.{append-nil, append_assoc, length-map, get_or_at, set_at, drop_all, drop_more, map-append}
-use Rattle.std.proofs.lemmas.List.Elements.{All-get_or}
 use Rattle.desk_data.specs.declared.row.Row.{Row}
 use Rattle.desk_data.specs.declared.row.Row.TheVariants.{Cancelled}
-use Rattle.desk_data.specs.Situation.{Situation, legs_of, planes_of, due, fixed}
+use Rattle.desk_data.specs.Situation.{Situation, legs_of, due, fixed}
 use Rattle.desk_data.specs.PlanRows.{PlanRows, row_at, with_row}
-use Rattle.desk_data.specs.Valid.{IsRowOf, IsPlanFor}
+use Rattle.desk_data.specs.Valid.{IsPlanFor}
 use Rattle.desk_rules.specs.Numbers.{numbers}
 use Rattle.desk_rules.proofs.HourLaws.{length-numbers}
 use Rattle.desk_model.specs.Fallback.{with_each_row, settled, cancelled, is_stopped, stopped}
@@ -91,9 +90,6 @@ unfolding stopped cancelled
 stopped-all I P n is all = rowed_to-all I (stopped_row I P) P n is all
 
 -- ---- one leg
-
-pub row_of_plan : (I : Situation) (P : PlanRows) (x : ℕ) → x < legs_of I → IsPlanFor I P → IsRowOf (planes_of I) (row_at P x)
-row_of_plan I P x within plan = All-get_or (IsRowOf (planes_of I)) P.rows x Cancelled (let legs = plan.legs in omega (arith, legs, within)) plan.rows
 
 pub cancelled-valid : (I : Situation) (P : PlanRows) (x : ℕ) → IsPlanFor I P → IsPlanFor I (with_row P x Cancelled)
 cancelled-valid I P x plan = with_row-valid I P x Cancelled tt plan

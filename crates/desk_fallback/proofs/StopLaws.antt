@@ -19,9 +19,10 @@ use Rattle.plan_reads.proofs.OrderLaws.{not_both, same_tests}
 use Rattle.desk_model.specs.Fallback.{is_movable_off, is_stopped, IsStopped}
 use Rattle.desk_model.proofs.RotationOrder.{flown_once}
 use Rattle.desk_model.proofs.FallbackLaws.{is_stopped-holds, is_stopped-from}
+use Rattle.desk_model.proofs.ValidLaws.{row_of_plan}
 use Rattle.desk_fallback.specs.declared.firsts.Stop.{Stop}
 use Rattle.desk_fallback.specs.Stops.{off_row, first_with, IsFirst, IsFirstOf, AreFirsts, is_at_or_behind, row_after_stop}
-use Rattle.desk_fallback.proofs.RowParts.{row_of_plan, stopped_row}
+use Rattle.desk_fallback.proofs.RowParts.{stopped_row}
 
 below_cases : (k n : ℕ) → k < suc n → (k < n) ⊎ (k ≡ n)
 below_cases k n h = grind arith

@@ -14,29 +14,30 @@ use std::alloc::Global;
 
 /// What the desk falls back on: the first that is feasible of the plan as it stands, Shift and Ground,
 /// with its name. Where none is, there is no plan: the rows are those of Ground, and the item is the
-/// first that they break. The rows are a valid plan either way. The only error is out of memory.
+/// first that they break. The rows are a valid plan either way. The plan is handed in, and copied once where it
+/// is not feasible. The only error is out of memory.
 #[tactic(auto, unfolding(desk_model::specs::Fallback::fallback))]
-pub fn fallback(alloc: Global, inst: &Instance, plan: &Plan) -> Result<Fallback, NoMem>
-    requires { IsPlanFor inst.now plan.now }
-    ensures first { IfOk result (λ made. made ≡ fallback inst.now plan.now) }
+pub fn fallback(alloc: Global, inst: &Instance, plan: Plan) -> Result<Fallback, NoMem>
+    requires { IsPlanFor inst.now plan }
+    ensures first { IfOk result (λ made. made ≡ fallback inst.now plan) }
     ensures valid { IfOk result (λ made. IsPlanFor inst.now (rows_of made)) }
 {
-    match full_check(alloc, inst, plan)? {
+    match full_check(alloc, inst, &plan)? {
         None => Ok(Fallback::Chosen {
             which: Which::Keep,
-            plan: plan.copy(alloc)?,
+            plan,
         }),
         Some(_) => shift_or_ground(alloc, inst, plan),
     }
 }
 
-/// The choice where the plan as it stands is not feasible.
-fn shift_or_ground(alloc: Global, inst: &Instance, plan: &Plan) -> Result<Fallback, NoMem>
-    requires { IsPlanFor inst.now plan.now }
-    ensures made { IfOk result (λ made. made ≡ chosen_or Shift (shifted inst.now plan.now) (least inst.now (shifted inst.now plan.now)) (last_choice (grounded inst.now plan.now) (least inst.now (grounded inst.now plan.now)))) }
+/// The choice where the plan as it stands is not feasible. Shift is made in a copy of it, and Ground in itself.
+fn shift_or_ground(alloc: Global, inst: &Instance, plan: Plan) -> Result<Fallback, NoMem>
+    requires { IsPlanFor inst.now plan }
+    ensures made { IfOk result (λ made. made ≡ chosen_or Shift (shifted inst.now plan) (least inst.now (shifted inst.now plan)) (last_choice (grounded inst.now plan) (least inst.now (grounded inst.now plan)))) }
     ensures valid { IfOk result (λ made. IsPlanFor inst.now (rows_of made)) }
 {
-    let made = shifted(alloc, inst, plan)?;
+    let made = shifted(alloc, inst, plan.copy(alloc)?)?;
     match full_check(alloc, inst, &made)? {
         None => Ok(Fallback::Chosen {
             which: Which::Shift,
@@ -47,9 +48,9 @@ fn shift_or_ground(alloc: Global, inst: &Instance, plan: &Plan) -> Result<Fallba
 }
 
 /// The choice where Shift is not feasible either.
-fn ground_or_none(alloc: Global, inst: &Instance, plan: &Plan) -> Result<Fallback, NoMem>
-    requires { IsPlanFor inst.now plan.now }
-    ensures made { IfOk result (λ made. made ≡ last_choice (grounded inst.now plan.now) (least inst.now (grounded inst.now plan.now))) }
+fn ground_or_none(alloc: Global, inst: &Instance, plan: Plan) -> Result<Fallback, NoMem>
+    requires { IsPlanFor inst.now plan }
+    ensures made { IfOk result (λ made. made ≡ last_choice (grounded inst.now plan) (least inst.now (grounded inst.now plan))) }
     ensures valid { IfOk result (λ made. IsPlanFor inst.now (rows_of made)) }
 {
     let made = grounded(alloc, inst, plan)?;

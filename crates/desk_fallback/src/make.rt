@@ -1,4 +1,4 @@
-//! Shift and Ground, each in a copy of a plan.
+//! Shift and Ground, each made in the plan that is handed in.
 
 ghost use Rattle.std.specs.Prelude.{◌≡◌, IfOk};
 ghost use Rattle.desk_data.specs.Valid.{IsPlanFor};
@@ -11,15 +11,15 @@ use crate::tidy::tidy;
 use desk_data::{Instance, NoMem, Plan};
 use std::alloc::Global;
 
-/// The plan settled, an aircraft's movable legs cancelled from the first on that is ordered off, every
+/// The plan that is handed in settled, an aircraft's movable legs cancelled from the first on that is ordered off, every
 /// aircraft pushed, and tidied.
 #[tactic(auto, unfolding(desk_model::specs::Fallback::shifted))]
-pub(crate) fn shifted(alloc: Global, inst: &Instance, plan: &Plan) -> Result<Plan, NoMem>
-    requires { IsPlanFor inst.now plan.now }
-    ensures made { IfOk result (λ made. made ≡ shifted inst.now plan.now) }
+pub(crate) fn shifted(alloc: Global, inst: &Instance, plan: Plan) -> Result<Plan, NoMem>
+    requires { IsPlanFor inst.now plan }
+    ensures made { IfOk result (λ made. made ≡ shifted inst.now plan) }
     ensures valid { IfOk result (λ made. IsPlanFor inst.now made) }
 {
-    let mut made = plan.copy(alloc)?;
+    let mut made = plan;
     settle(inst, &mut made);
     stop_legs(alloc, inst, &mut made)?;
     push_all(alloc, inst, &mut made)?;
@@ -27,14 +27,14 @@ pub(crate) fn shifted(alloc: Global, inst: &Instance, plan: &Plan) -> Result<Pla
     Ok(made)
 }
 
-/// The plan settled, every movable leg cancelled, and tidied.
+/// The plan that is handed in settled, every movable leg cancelled, and tidied.
 #[tactic(auto, unfolding(desk_model::specs::Fallback::grounded))]
-pub(crate) fn grounded(alloc: Global, inst: &Instance, plan: &Plan) -> Result<Plan, NoMem>
-    requires { IsPlanFor inst.now plan.now }
-    ensures made { IfOk result (λ made. made ≡ grounded inst.now plan.now) }
+pub(crate) fn grounded(alloc: Global, inst: &Instance, plan: Plan) -> Result<Plan, NoMem>
+    requires { IsPlanFor inst.now plan }
+    ensures made { IfOk result (λ made. made ≡ grounded inst.now plan) }
     ensures valid { IfOk result (λ made. IsPlanFor inst.now made) }
 {
-    let mut made = plan.copy(alloc)?;
+    let mut made = plan;
     settle(inst, &mut made);
     cancel_movable(inst, &mut made);
     tidy(alloc, inst, &mut made)?;

@@ -32,7 +32,7 @@ pub enum File {
     AltAirports,
     /// the prices of the recovery
     Tariff,
-    /// the batches of later news
+    /// the batches of orders that become known later
     Feed,
     /// the events of the desk, read and written
     Journal,

@@ -21,7 +21,6 @@ use std::rt::Files;
 /// what this run wrote: the first `put` into a file, before it writes, and `settle` at the end empty each
 /// output that this run has not begun and has not read from there. All other files stay as they are. Where
 /// an output can't be emptied, no `put` into another file fails for that, and `settle` tells it.
-#[derive(Drop)]
 pub struct HostFolder<R: Files + Drop> {
     rt: R,
     input: String,
@@ -31,6 +30,22 @@ pub struct HostFolder<R: Files + Drop> {
     targets: [Option<R::File>; FILES],
     next_faults: [u64; FILES],
     put_faults: [u64; FILES],
+}
+
+/// In one call, so that whoever lets one go does not prove anew that each part of it may go.
+impl<R: Files + Drop> Drop for HostFolder<R> {
+    fn drop(self) {
+        let HostFolder {
+            rt: _,
+            input: _,
+            output: _,
+            is_output: _,
+            sources: _,
+            targets: _,
+            next_faults: _,
+            put_faults: _,
+        } = self;
+    }
 }
 
 impl<R: Files + Drop> Model for HostFolder<R> {

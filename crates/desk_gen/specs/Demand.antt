@@ -3,6 +3,7 @@ use Rattle.std.specs.Prelude.{ℕ, zero, suc, ◌+◌, ◌-◌, ◌*◌, ◌/◌
 use Rattle.desk_units.specs.declared.numbers.Cabin.{Cabin}
 use Rattle.desk_units.specs.declared.numbers.Cabin.TheVariants as cabin
 use Rattle.desk_units.specs.Ranks.{cabin_rank}
+use Rattle.desk_text.specs.Texts.{cabin_text}
 use Rattle.desk_gen.specs.declared.demand.Trip.{Trip}
 use Rattle.desk_gen.specs.declared.demand.Trip.TheVariants.{One, Two}
 use Rattle.desk_gen.specs.declared.demand.Request.{Request}
@@ -88,11 +89,6 @@ with_request lines request =
 unfoldable pub lines_of : ℕ → ℕ → ℕ → List Line
 lines_of seed size zero = []
 lines_of seed size (suc j) = with_request (lines_of seed size j) (request_of seed size j)
-
-abbrev pub cabin_text : Cabin → List ℕ
-cabin_text cabin.F = codes "F"
-cabin_text cabin.B = codes "B"
-cabin_text cabin.E = codes "E"
 
 -- FLIGHT DATE CABIN of a leg, behind a space
 abbrev pub seat_text : Cabin → ℕ → List ℕ

@@ -3,13 +3,13 @@
 ghost use Rattle.std.specs.Prelude.{◌≡◌, ◌<◌, ◌≤◌, ◌++◌, ◌∷◌, [], length, IfOk, OnOk};
 ghost use Rattle.std.specs.List.{flat_map};
 ghost use Rattle.desk_gen.specs.Schedule.{flight_name};
-ghost use Rattle.desk_gen.specs.Demand.{cabin_text, seat_text, trip_legs, itinerary_line, itineraries_text};
+ghost use Rattle.desk_gen.specs.Demand.{seat_text, trip_legs, itinerary_line, itineraries_text};
 ghost use Rattle.desk_gen.specs.Seats.{IsTripWithin, rows_served, text_served};
 ghost use Rattle.desk_gen.specs.Generated.{IsSize};
 
 use crate::demand::{Request, Trip, behind_tours, next_request};
 use crate::seats::{all_seats, granted, take};
-use desk_text::push_all;
+use desk_text::{cabin_letter, push_all};
 use desk_units::{Cabin, NoMem, Seats};
 use itoa::Buffer;
 use std::alloc::Global;
@@ -95,18 +95,7 @@ fn push_seat(text: &mut Vec<u8>, x: u32, cabin: Cabin) -> Result<(), NoMem>
             b" F",
             flight.format(u64::from(x) + 1).as_bytes(),
             b" 01/03/08 ",
-            cabin_text(cabin),
+            &cabin_letter(cabin),
         ],
     )
-}
-
-// The letter of a cabin.
-fn cabin_text(cabin: Cabin) -> &'static [u8]
-    ensures { result.now ≡ cabin_text cabin }
-{
-    match cabin {
-        Cabin::F => b"F",
-        Cabin::B => b"B",
-        Cabin::E => b"E",
-    }
 }

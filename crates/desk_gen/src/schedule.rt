@@ -1,12 +1,11 @@
 //! The files of the flights and of the legs.
 
 ghost use Rattle.std.specs.Prelude.{◌≡◌, ◌<◌, ◌≤◌, ◌+◌, ◌++◌, IfOk, OnOk};
-ghost use Rattle.desk_text.specs.Texts.{time_text};
 ghost use Rattle.desk_gen.specs.Draws.{state_after};
 ghost use Rattle.desk_gen.specs.Schedule.{nth_station, station_name, block_of, tour_at, flight_line, there_and_back, tour_lines, flights_text, rotation_line, rotations_text};
 
 use crate::draws::{draw, seeded};
-use desk_text::{push_all, two_digits};
+use desk_text::{push_all, time_text};
 use desk_units::NoMem;
 use itoa::Buffer;
 use rand_xoshiro::Xoshiro256PlusPlus;
@@ -80,17 +79,6 @@ fn next_tour(words: &mut Xoshiro256PlusPlus) -> Tour
         first: nth_station(first),
         second: nth_station(second),
     }
-}
-
-// The time of a minute of the day, as `06:05`.
-#[tactic(auto, unfolding(desk_text::specs::Texts::time_text))]
-fn time_text(minute: u32) -> [u8; 5]
-    requires { minute < 1440 }
-    ensures { result ≡ time_text minute }
-{
-    let hour = two_digits(minute / 60);
-    let minute = two_digits(minute % 60);
-    [hour[0], hour[1], b':', minute[0], minute[1]]
 }
 
 /// The flights of a day of this seed and size, 1 to 40: four for each aircraft. The only error is out

@@ -4,7 +4,7 @@ ghost use Rattle.std.specs.Prelude.{◌≡◌, ◌++◌, [], IfOk, IfSome, OnOk}
 ghost use Rattle.desk_data.specs.Valid.{IsPlanFor};
 ghost use Rattle.journal_text.specs.Told.{Names};
 ghost use Rattle.desk_tasks.specs.Judge.{verdict_text, verdict_report, verdict_end, verdict};
-ghost use Rattle.desk_runs.specs.Runs.{world};
+ghost use Rattle.desk_runs.specs.Runs.{Between};
 ghost use Rattle.desk_runs.specs.Finishing.{Completes};
 
 use desk_data::{Broken, Grains, Instance, NoMem, Plan};
@@ -74,8 +74,8 @@ pub fn judge_plan<F: Folder, O: Sink>(
     out: &mut O,
 ) -> Ending
     requires { IsPlanFor inst.now plan.now }
-    ensures { Completes [] (world (F.outside folder.old) (O.report out.old))
-        (world (F.outside folder.new) (O.report out.new)) (verdict inst.now plan.now) result }
+    ensures { Between F.outside O.report folder.old out.old folder.new out.new
+        (λ before now. Completes [] before now (verdict inst.now plan.now) result) }
 {
     let broken = match full_check(alloc, inst, plan) {
         Ok(broken) => broken,

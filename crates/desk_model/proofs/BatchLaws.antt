@@ -7,7 +7,7 @@ use Rattle.std.proofs.lemmas.List.Folds.{find-append}
 use Rattle.std.proofs.lemmas.List.Elements.{recursion_from_All}
 use Rattle.day_orders.specs.declared.orders.Batch.{Batch}
 use Rattle.desk_data.specs.declared.broken.Broken.{Broken}
-use Rattle.desk_data.specs.Situation.{Situation}
+use Rattle.desk_data.specs.Situation.{Situation, with_batch}
 use Rattle.desk_data.specs.PlanRows.{PlanRows}
 use Rattle.desk_rules.specs.Least.{breaks, least}
 use Rattle.desk_rules.specs.Words.{Meets, IsLeast}
@@ -20,8 +20,8 @@ use Rattle.desk_units.specs.declared.money.Grains.{Grains}
 use Rattle.desk_model.specs.declared.fallbacks.Which.{Which}
 use Rattle.desk_model.specs.declared.fallbacks.Which.TheVariants.{Keep, Shift, Ground}
 use Rattle.desk_model.specs.Fallback.{fallback, shifted, grounded, chosen_or, last_choice, rows_of, rows_named}
-use Rattle.desk_model.specs.States.{State, with_batch, fallback_on, batch_answer, answer}
-use Rattle.desk_model.specs.News.{TellsOfBatch}
+use Rattle.desk_model.specs.States.{State, fallback_on, batch_answer, answer}
+use Rattle.desk_model.specs.Batches.{TellsOfBatch}
 use Rattle.desk_model.proofs.FallbackLaws.{infeasible}
 
 -- ---- the first item
@@ -74,10 +74,10 @@ tells_by J P (Some i) (Some j) (Some k) p s g = record {
   );
 }
 
-pub tells_of_batch : (S : State) (B : Batch) → TellsOfBatch (with_batch S.inst B) S.plan (answer S (event.Batch B))
+pub tells_of_batch : (S : State) (B : Batch) → TellsOfBatch (with_batch S.inst S.plan B) S.plan (answer S (event.Batch B))
 unfolding answer fallback_on fallback
 tells_of_batch S B =
-    let J = with_batch S.inst B in
+    let J = with_batch S.inst S.plan B in
     tells_by J S.plan (least J S.plan) (least J (shifted J S.plan)) (least J (grounded J S.plan)) refl refl refl
 
 -- ---- the rows that are told of
@@ -89,10 +89,10 @@ named_by J P (Some i) (Some j) None which price h = let same : Ground ≡ which 
 named_by J P (Some i) (Some j) (Some k) which price h = absurd cc
 
 -- the rows are those that the name stands for
-pub rows_of_name : (S : State) (B : Batch) (which : Which) (price : Grains) → answer S (event.Batch B) ≡ Taken which price → rows_of (fallback_on S B) ≡ rows_named (with_batch S.inst B) S.plan which
+pub rows_of_name : (S : State) (B : Batch) (which : Which) (price : Grains) → answer S (event.Batch B) ≡ Taken which price → rows_of (fallback_on S B) ≡ rows_named (with_batch S.inst S.plan B) S.plan which
 unfolding answer fallback_on fallback
 rows_of_name S B which price h =
-    let J = with_batch S.inst B in
+    let J = with_batch S.inst S.plan B in
     named_by J S.plan (least J S.plan) (least J (shifted J S.plan)) (least J (grounded J S.plan)) which price h
 
 left_by : (J : Situation) (P : PlanRows) (a b c : Option Broken) (item : Broken) → batch_answer J (chosen_or Keep P a (chosen_or Shift (shifted J P) b (last_choice (grounded J P) c))) ≡ NoPlan item → rows_of (chosen_or Keep P a (chosen_or Shift (shifted J P) b (last_choice (grounded J P) c))) ≡ grounded J P
@@ -102,8 +102,8 @@ left_by J P (Some i) (Some j) None item h = absurd cc
 left_by J P (Some i) (Some j) (Some k) item h = refl
 
 -- where there is no plan they are those of Ground
-pub rows_left : (S : State) (B : Batch) (item : Broken) → answer S (event.Batch B) ≡ NoPlan item → rows_of (fallback_on S B) ≡ grounded (with_batch S.inst B) S.plan
+pub rows_left : (S : State) (B : Batch) (item : Broken) → answer S (event.Batch B) ≡ NoPlan item → rows_of (fallback_on S B) ≡ grounded (with_batch S.inst S.plan B) S.plan
 unfolding answer fallback_on fallback
 rows_left S B item h =
-    let J = with_batch S.inst B in
+    let J = with_batch S.inst S.plan B in
     left_by J S.plan (least J S.plan) (least J (shifted J S.plan)) (least J (grounded J S.plan)) item h

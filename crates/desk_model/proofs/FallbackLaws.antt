@@ -4,17 +4,16 @@ use Rattle.std.specs.Prelude.{Option, None, Some, unwrap_or, map, fold, if◌the
 use Rattle.std.specs.List.{All, AllByRecursion, list_any}
 use Rattle.std.proofs.lemmas.Bool.{true≢false, cases_Bool, cases_lt, and_parts, and_from, or_cases, or_left, or_right, not-true, not_from_false, eq-eqb, eqb-true}
 use Rattle.std.proofs.lemmas.List.{length-map, get_or-map, get_or_past}
-use Rattle.std.proofs.lemmas.List.Elements.{All-map, All-weaker, All-get_or, recursion_from_All}
+use Rattle.std.proofs.lemmas.List.Elements.{All-map, All-weaker, recursion_from_All}
 use Rattle.std.proofs.lemmas.List.Folds.{list_any_at, list_any-append}
 use Rattle.std.proofs.lemmas.List.Sums.{fold-append}
-use Rattle.desk_units.specs.declared.numbers.Plane.{Plane}
-use Rattle.desk_units.specs.declared.numbers.Minute.{Minute}
 use Rattle.desk_data.specs.declared.row.Row.{Row}
-use Rattle.desk_data.specs.declared.row.Row.TheVariants.{Flown, Cancelled}
+use Rattle.desk_data.specs.declared.row.Row.TheVariants.{Cancelled}
 use Rattle.desk_data.specs.declared.broken.Broken.{Broken}
-use Rattle.desk_data.specs.Situation.{Situation, legs_of, planes_of, airports_of, reservations_of, leg_at, no_leg, fixed, ordered_off, earliest, latest, due}
+use Rattle.desk_data.specs.Situation.{Situation, legs_of, planes_of, reservations_of, fixed, ordered_off, due}
 use Rattle.desk_data.specs.PlanRows.{PlanRows, IsRow, row_at}
-use Rattle.desk_data.specs.Valid.{IsLeg, IsRowOf, IsValid, IsPlanFor}
+use Rattle.desk_data.specs.Valid.{IsRowOf, IsValid, IsPlanFor}
+use Rattle.desk_data.proofs.DepartureLaws.{due-movable, due-valid}
 use Rattle.desk_rules.specs.Numbers.{numbers}
 use Rattle.desk_rules.specs.Rotations.{precedes}
 use Rattle.desk_rules.specs.Least.{least}
@@ -28,9 +27,10 @@ use Rattle.desk_model.specs.Push.{after_push}
 use Rattle.desk_model.specs.Tidy.{TidiesReservation, after_tidy}
 use Rattle.desk_model.specs.Fallback.{with_each_row, settled, cancelled, is_movable_off, is_at_or_before, is_stopped, stopped, first_pushed, all_pushed, shifted, grounded, chosen_or, last_choice, fallback, rows_of, IsFlownBy, IsStopped, CarriesFit, FallsBack}
 use Rattle.desk_model.proofs.GroupPlans.{numbers-at}
-use Rattle.desk_model.proofs.PushLaws.{latest-lt, after_push-groups, after_push-others, after_push-plane, after_push-valid}
+use Rattle.desk_model.proofs.PushLaws.{after_push-groups, after_push-others, after_push-plane, after_push-valid}
 use Rattle.desk_model.proofs.RotationOrder.{flown_once}
 use Rattle.desk_model.proofs.TidyLaws.{after_tidy-rows, after_tidy-valid, after_tidy-tidies}
+use Rattle.desk_model.proofs.ValidLaws.{row_is_sound, row_of_plan}
 
 -- ---- rows of all legs
 
@@ -42,10 +42,6 @@ each_row-at I row P x within =
 each_row-past : (I : Situation) (row : ℕ → Row) (P : PlanRows) (x : ℕ) → legs_of I ≤ x → row_at (with_each_row I row P) x ≡ Cancelled
 each_row-past I row P x past = get_or_past (map row (numbers (legs_of I))) x Cancelled (rw (length-map, length-numbers) past)
 
-row-sound : (planes : ℕ) (row : Row) → IsRowOf planes row → IsRow row
-row-sound planes (Flown plane dep) is = is.1
-row-sound planes Cancelled is = tt
-
 each_row-valid : (I : Situation) (row : ℕ → Row) (P : PlanRows) → ((x : ℕ) → x < legs_of I → IsRowOf (planes_of I) (row x)) → IsPlanFor I P → IsPlanFor I (with_each_row I row P)
 each_row-valid I row P are plan =
     let rows : All (IsRowOf (planes_of I)) (map row (numbers (legs_of I))) =
@@ -53,40 +49,15 @@ each_row-valid I row P are plan =
     let lt : k < legs_of I = omega (arith, within, length-numbers (legs_of I)) in
     subst (λ (j : ℕ). IsRowOf (planes_of I) (row j)) (sym (numbers-at (legs_of I) k d lt)) (are k lt)) in
     record {
-      sound = record { rows = All-weaker (IsRowOf (planes_of I)) IsRow (row-sound (planes_of I)) (map row (numbers (legs_of I))) rows; groups = plan.sound.groups };
+      sound = record { rows = All-weaker (IsRowOf (planes_of I)) IsRow (row_is_sound (planes_of I)) (map row (numbers (legs_of I))) rows; groups = plan.sound.groups };
       legs = length-map (numbers (legs_of I)) row ∙ length-numbers (legs_of I);
       res = plan.res;
       rows = rows;
       groups = plan.groups;
     }
 
--- a plan for the instance has a row for each leg
-row_of_plan : (I : Situation) (P : PlanRows) (x : ℕ) → x < legs_of I → IsPlanFor I P → IsRowOf (planes_of I) (row_at P x)
-row_of_plan I P x within plan = All-get_or (IsRowOf (planes_of I)) P.rows x Cancelled (let legs = plan.legs in omega (arith, legs, within)) plan.rows
-
 row_past : (I : Situation) (P : PlanRows) (x : ℕ) → legs_of I ≤ x → IsPlanFor I P → row_at P x ≡ Cancelled
 row_past I P x past plan = get_or_past P.rows x Cancelled (let legs = plan.legs in omega (arith, legs, past))
-
--- ---- the rows that are due
-
-earliest-lt : (I : Situation) (x : ℕ) → IsValid I → earliest I x < 52500000
-unfolding latest
-earliest-lt I x valid = let last = latest-lt I x valid in omega (arith, last)
-
-due_by : (planes : ℕ) (f o : Bool) (plane : Plane) (at : Minute) → plane.0 < planes → at.0 < 52500000 → (row : Row) → (if f then Some (if o then Cancelled else Flown plane at) else None) ≡ Some row → IsRowOf planes row
-due_by planes true true plane at some below row is = subst (IsRowOf planes) (let same : Cancelled ≡ row = cc in same) tt
-due_by planes true false plane at some below row is = subst (IsRowOf planes) (let same : Flown plane at ≡ row = cc in same) (some, below)
-due_by planes false o plane at some below row is = absurd cc
-
-pub due-valid : (I : Situation) (x : ℕ) → IsValid I → x < legs_of I → (row : Row) → due I x ≡ Some row → IsRowOf (planes_of I) row
-unfolding due
-due-valid I x valid within row is =
-    let leg = All-get_or (IsLeg (airports_of I) (planes_of I) (legs_of I)) I.parts.legs x no_leg within valid.parts.legs in
-    due_by (planes_of I) (fixed I x) (ordered_off I x) (leg_at I x).plane (record { 0 = earliest I x }) leg.plane (earliest-lt I x valid) row is
-
-due-movable : (I : Situation) (x : ℕ) → fixed I x ≡ false → due I x ≡ None
-unfolding due
-due-movable I x movable = rw movable refl
 
 -- ---- Settle
 

@@ -1,12 +1,12 @@
 -- What holds of histories.
 use Rattle.std.proofs.Common.{◌≡◌, ◌↔◌, ℕ, zero, suc, ◌+◌, ◌-◌, ◌<◌, ◌≤◌, ◌⊎◌, inl, inr, Bool, true, false, cond, List, [], ◌∷◌, ◌++◌, length, take, refl, sym, ap, subst, ◌∙◌, arith, append_assoc, length-append}
-use Rattle.std.specs.Prelude.{None, Some, slice_get}
-use Rattle.std.specs.List.{AllByRecursion, All}
+use Rattle.std.specs.Prelude.{None, Some, not, slice_get, take_while, reverse}
+use Rattle.std.specs.List.{AllByRecursion}
 use Rattle.std.specs.Option.{ForSome}
 use Rattle.std.proofs.lemmas.Bool.{cases_Bool}
 use Rattle.std.proofs.lemmas.Option.{slice_get_within, get_or_from_slice_get, slice_get-get_or}
-use Rattle.std.proofs.lemmas.List.{take_more, take-append-le, append-nil, take_all}
-use Rattle.std.proofs.lemmas.List.Sums.{count_by_more_no, count_by_more_yes}
+use Rattle.std.proofs.lemmas.List.{take_more, take-append-le, append-nil, take_all, reverse-append}
+use Rattle.std.proofs.lemmas.List.Sums.{count_by_more_no, count_by_more_yes, take_while-cons}
 use Rattle.std.proofs.Math.ListN.{get_or-append}
 use Rattle.std.proofs.Math.Seq.{get_or-append_seam}
 use Rattle.std.proofs.lemmas.List.Elements.{recursion_from_All, All-weaker}
@@ -17,10 +17,11 @@ use Rattle.plan_moves.specs.Fits.{StepFits, IsPathIn}
 use Rattle.day_orders.specs.declared.orders.Order.{Order}
 use Rattle.day_orders.specs.declared.orders.Batch.{Batch}
 use Rattle.desk_data.specs.declared.parts.Parts.{Parts}
-use Rattle.desk_data.specs.Valid.{IsOrder, IsRowOf}
+use Rattle.desk_data.specs.Valid.{IsBatch, IsRowOf}
+use Rattle.desk_data.proofs.BatchLaws.{with_batch-orders}
 use Rattle.desk_units.specs.declared.money.Grains.{Grains}
 use Rattle.desk_data.specs.declared.broken.Broken.{Broken}
-use Rattle.desk_data.specs.Situation.{Situation}
+use Rattle.desk_data.specs.Situation.{Situation, with_batch}
 use Rattle.desk_rules.specs.Cost.{grains}
 use Rattle.desk_rules.proofs.LeastLaws.{feasible-holds, feasible-from, least-holds}
 use Rattle.desk_model.specs.declared.answer.Answer.TheVariants.{Taken, Accepted, Breaks, Dearer, NoPlan}
@@ -29,13 +30,13 @@ use Rattle.desk_model.specs.declared.answer.Event.{Event}
 use Rattle.desk_model.specs.declared.answer.Event.TheVariants as event
 use Rattle.desk_model.specs.declared.answer.Entry.{Entry}
 use Rattle.desk_model.specs.Steps.{after_move}
-use Rattle.desk_model.specs.States.{State, opening, with_batch, fallback_on, answer, after}
-use Rattle.desk_model.specs.Histories.{state, has_room, IsAskable, AreAskable, Stands, IsLegal, is_batch, is_accepted, is_change, changes, news_of, orders_of, entry_of, entries, run}
+use Rattle.desk_model.specs.States.{State, opening, fallback_on, answer, after}
+use Rattle.desk_model.specs.Histories.{state, has_room, IsAskable, AreAskable, Stands, IsLegal, is_batch, is_accepted, is_change, changes, since_batch, orders_in, orders_of, entry_of, entries, run}
 use Rattle.desk_model.specs.Promises.{state_at, cost_of, IsHonest, Improves, IsTakenIn, HadNoPlan, BreaksFirst, IsDearer, IsKept, AreProposals, KeepsPromises}
 use Rattle.desk_model.specs.Fallback.{grounded, rows_of, rows_named}
-use Rattle.desk_model.specs.News.{TellsOfBatch}
+use Rattle.desk_model.specs.Batches.{TellsOfBatch}
 use Rattle.desk_model.proofs.BatchLaws.{tells_of_batch, rows_of_name, rows_left}
-use Rattle.desk_model.proofs.StateLaws.{accepted-cause, accepted-from, batch-not-accepted, batch-priced, batch-published, batch-unplanned, move-not-taken, move-unplanned, move-broken, dearer-cause, after-batch-inst, after-batch-plan, IsTold, after-told, opening-told, after-move-inst, after-parts, after-unchanged, after-accepted, accepted-told, after-falls}
+use Rattle.desk_model.proofs.StateLaws.{accepted-cause, accepted-from, batch-not-accepted, batch-priced, batch-published, batch-unplanned, move-not-taken, move-unplanned, move-broken, dearer-cause, after-batch-inst, after-batch-plan, IsTold, after-told, opening-told, after-move-inst, after-parts, after-progress, after-unchanged, after-accepted, accepted-told, after-falls}
 
 -- ---- the state after a history
 
@@ -52,9 +53,14 @@ pub state-parts : (S : State) (h : List Entry) → (state S h).inst.parts ≡ S.
 state-parts S [] = refl
 state-parts S (entry ∷ h) = state-parts (after S entry.event) h ∙ after-parts S entry.event
 
-after_orders : (S : State) (e : Event) → (after S e).inst.orders ≡ S.inst.orders ++ news_of e
-after_orders S (event.Batch B) = ap (λ (J : Situation). J.orders) (after-batch-inst S B)
+after_orders : (S : State) (e : Event) → (after S e).inst.orders ≡ S.inst.orders ++ orders_in e
+after_orders S (event.Batch B) = ap (λ (J : Situation). J.orders) (after-batch-inst S B) ∙ with_batch-orders S.inst S.plan B
 after_orders S (event.Move m) = ap (λ (J : Situation). J.orders) (after-move-inst S m) ∙ sym (append-nil S.inst.orders)
+
+-- and how far the day has gone on
+pub state-progress : (S : State) (h : List Entry) → (state S h).inst.progress ≡ S.inst.progress
+state-progress S [] = refl
+state-progress S (entry ∷ h) = state-progress (after S entry.event) h ∙ after-progress S entry.event
 
 -- the orders are those that there were, and behind them those of the history's batches
 pub state-orders : (S : State) (h : List Entry) → (state S h).inst.orders ≡ S.inst.orders ++ orders_of h
@@ -62,7 +68,7 @@ state-orders S [] = sym (append-nil S.inst.orders)
 state-orders S (entry ∷ h) =
     state-orders (after S entry.event) h
     ∙ ap (λ (os : List Order). os ++ orders_of h) (after_orders S entry.event)
-    ∙ append_assoc S.inst.orders (news_of entry.event) (orders_of h)
+    ∙ append_assoc S.inst.orders (orders_in entry.event) (orders_of h)
 
 -- the entry at i is the next after the first i
 pub take-next : (h : List Entry) (i : ℕ) (entry : Entry) → slice_get h i ≡ Some entry → take (i + 1) h ≡ take i h ++ entry ∷ []
@@ -77,12 +83,12 @@ state-next S h i entry at = ap (state S) (take-next h i entry at) ∙ state-appe
 
 kept_taken : (S : State) (entry : Entry) (B : Batch) → entry.event ≡ event.Batch B → entry.answer ≡ answer S entry.event → IsTakenIn S B entry.answer (after S entry.event)
 kept_taken S entry B is by =
-    let orders : (after S entry.event).inst ≡ with_batch S.inst B = ap (λ (e : Event). (after S e).inst) is ∙ after-batch-inst S B in
+    let orders : (after S entry.event).inst ≡ with_batch S.inst S.plan B = ap (λ (e : Event). (after S e).inst) is ∙ after-batch-inst S B in
     let rows : (after S entry.event).plan ≡ rows_of (fallback_on S B) = ap (λ (e : Event). (after S e).plan) is ∙ after-batch-plan S B in
     let given : entry.answer ≡ answer S (event.Batch B) = by ∙ ap (answer S) is in
     record {
       orders = orders;
-      told = subst (λ (J : Situation). TellsOfBatch J S.plan entry.answer) (sym orders) (subst (TellsOfBatch (with_batch S.inst B) S.plan) (sym given) (tells_of_batch S B));
+      told = subst (λ (J : Situation). TellsOfBatch J S.plan entry.answer) (sym orders) (subst (TellsOfBatch (with_batch S.inst S.plan B) S.plan) (sym given) (tells_of_batch S B));
       rows = rows;
       named = λ which price h. rows ∙ rows_of_name S B which price (sym given ∙ h) ∙ ap (λ (J : Situation). rows_named J S.plan which) (sym orders);
       left = λ item h. rows ∙ rows_left S B item (sym given ∙ h) ∙ ap (λ (J : Situation). grounded J S.plan) (sym orders);
@@ -282,10 +288,18 @@ fits_step I J same (step.Rebook res path to count) h = subst (λ (p : Parts). (r
 fits_step I J same step.Tidy h = h
 fits_step I J same (step.Refill leg) h = subst (λ (p : Parts). leg.0 < length p.legs) same h
 
--- orders make no difference to what can be asked
+-- neither orders nor progress make a difference to what can be asked
 pub askable-parts : (I J : Situation) (e : Event) → I.parts ≡ J.parts → IsAskable I e → IsAskable J e
-askable-parts I J (event.Batch B) same asked = subst (λ (p : Parts). All (IsOrder p) B.orders) same asked
+askable-parts I J (event.Batch B) same asked = subst (λ (p : Parts). IsBatch p B) same asked
 askable-parts I J (event.Move m) same asked = record { some = asked.some; most = asked.most; each = All-weaker (StepFits I) (StepFits J) (fits_step I J same) m.steps asked.each }
+
+-- ---- since the last batch
+
+-- one entry more stands before those since the last batch, or there are none where it is a batch
+pub since_is : (h : List Entry) (entry : Entry) → since_batch (h ++ entry ∷ []) ≡ cond (not (is_batch entry.event)) (entry ∷ since_batch h) []
+since_is h entry =
+    ap (take_while (λ (e : Entry). not (is_batch e.event))) (reverse-append h (entry ∷ []))
+    ∙ take_while-cons (λ (e : Entry). not (is_batch e.event)) entry (reverse h)
 
 -- ---- runs
 

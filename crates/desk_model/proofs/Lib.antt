@@ -16,6 +16,4 @@ pub mod HistoryLaws
 pub mod ValidLaws
 pub mod MoveLaws
 pub mod FallbackLaws
-mod ScheduleLaws
-pub mod NewsLaws
-pub mod OrderedLaws
+pub mod StatePlans

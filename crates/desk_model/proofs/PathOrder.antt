@@ -13,7 +13,7 @@ use Rattle.desk_units.specs.declared.numbers.Leg.{Leg}
 use Rattle.desk_units.specs.declared.numbers.Cabin.{Cabin}
 use Rattle.desk_units.specs.Ranks.{cabin_rank}
 use Rattle.desk_data.specs.PlanRows.{pair_cmp, path_cmp}
-use Rattle.desk_rules.proofs.CarriageLaws.{same_pair-holds}
+use Rattle.desk_data.proofs.BoundLaws.{same_pair-holds}
 
 -- ---- what an answer of an order says
 

@@ -4,7 +4,7 @@ use Rattle.std.specs.Prelude.{Option, None, Some, filter, find, fold, map}
 use Rattle.std.specs.List.{All, AllPairs, Contains, AllByRecursion, list_any}
 use Rattle.std.proofs.lemmas.Bool.{true≢false, cases_Bool, cases_eq, cases_lt, and_parts, and_from, not-true, not_from_false, ltb-true, lt-ltb}
 use Rattle.std.proofs.lemmas.List.{map-id, length-set, get_or-set_same, get_or-set_other, get_or_past}
-use Rattle.std.proofs.lemmas.List.Elements.{All-filter, All-weaker, All-contains, All-contains_itself, All-get_or, recursion_from_All, filter_passes}
+use Rattle.std.proofs.lemmas.List.Elements.{All-filter, All-weaker, All-contains, All-contains_itself, recursion_from_All, filter_passes}
 use Rattle.std.proofs.lemmas.List.Folds.{list_any_none, list_any_at}
 use Rattle.std.proofs.lemmas.List.Kept.{AllPairs-filter}
 use Rattle.std.proofs.lemmas.List.Sums.{fold-append}
@@ -12,13 +12,13 @@ use Rattle.desk_units.specs.declared.numbers.Leg.{Leg}
 use Rattle.desk_units.specs.declared.numbers.Minute.{Minute}
 use Rattle.desk_data.specs.declared.row.Row.TheVariants.{Flown, Cancelled}
 use Rattle.desk_data.specs.declared.info.Maint.{Maint}
-use Rattle.desk_data.specs.Situation.{Situation, legs_of, planes_of, airports_of, leg_at, plane_at, no_leg, fixed, earliest, latest, spans}
+use Rattle.desk_data.specs.Situation.{Situation, legs_of, planes_of, leg_at, plane_at, fixed, earliest, latest, spans}
 use Rattle.desk_data.specs.Hours.{dep_cap, arr_cap}
 use Rattle.desk_data.specs.PlanRows.{PlanRows, row_at}
-use Rattle.desk_data.specs.Valid.{IsValid, IsLeg, IsPlanFor}
-use Rattle.desk_data.proofs.SaidLemmas.{delay_of-last_order_on_leg}
+use Rattle.desk_data.specs.Valid.{IsValid, IsPlanFor}
+use Rattle.desk_data.proofs.DepartureLaws.{latest-lt}
 use Rattle.desk_rules.specs.Numbers.{numbers}
-use Rattle.desk_rules.specs.Rotations.{dep, arr, follows, ground}
+use Rattle.desk_rules.specs.Rotations.{dep, arr, follows, ground_time}
 use Rattle.desk_rules.specs.Rules.{meets_span}
 use Rattle.desk_rules.specs.Maintenance.{flies}
 use Rattle.desk_rules.specs.Slots.{hour_of}
@@ -52,16 +52,16 @@ follows_once I P v w x in_v in_w a b =
 before-is : (I : Situation) (P : PlanRows) (x : ℕ) → leg_before I P x ≡ find (λ w. follows I P w x) (map (λ (k : ℕ). k) (numbers (legs_of I)))
 before-is I P x = ap (find (λ w. follows I P w x)) (sym (map-id (numbers (legs_of I))))
 
-ready_to : (I : Situation) (P Q : PlanRows) (p x t : ℕ) (o : Option ℕ) → leg_before I P x ≡ o → ready_moment I Q p x o ≤ t → (w : ℕ) → w < legs_of I → Follows I P w x → arr I Q w + ground I p w x ≤ t
+ready_to : (I : Situation) (P Q : PlanRows) (p x t : ℕ) (o : Option ℕ) → leg_before I P x ≡ o → ready_moment I Q p x o ≤ t → (w : ℕ) → w < legs_of I → Follows I P w x → arr I Q w + ground_time I p w x ≤ t
 ready_to I P Q p x t None is le w within follows_x =
     absurd (true≢false (sym (follows-from I P w x follows_x) ∙ none_of_numbers (λ v. follows I P v x) (λ (k : ℕ). k) (legs_of I) (sym (before-is I P x) ∙ is) w within))
 ready_to I P Q p x t (Some v) is le w within follows_x =
     let at : FirstAt (λ u. follows I P u x) (λ (k : ℕ). k) (legs_of I) v = found_first (λ u. follows I P u x) (λ (k : ℕ). k) (legs_of I) v (sym (before-is I P x) ∙ is) in
     let in_v : v < legs_of I = subst (λ (k : ℕ). k < legs_of I) at.is at.within in
     let same : v ≡ w = follows_once I P v w x in_v within (follows-holds I P v x at.holds) follows_x in
-    subst (λ (u : ℕ). arr I Q u + ground I p u x ≤ t) same le
+    subst (λ (u : ℕ). arr I Q u + ground_time I p u x ≤ t) same le
 
-ready_from : (I : Situation) (P Q : PlanRows) (p x t : ℕ) (o : Option ℕ) → leg_before I P x ≡ o → ((w : ℕ) → w < legs_of I → Follows I P w x → arr I Q w + ground I p w x ≤ t) → ready_moment I Q p x o ≤ t
+ready_from : (I : Situation) (P Q : PlanRows) (p x t : ℕ) (o : Option ℕ) → leg_before I P x ≡ o → ((w : ℕ) → w < legs_of I → Follows I P w x → arr I Q w + ground_time I p w x ≤ t) → ready_moment I Q p x o ≤ t
 ready_from I P Q p x t None is le = omega arith
 ready_from I P Q p x t (Some v) is le =
     let at : FirstAt (λ u. follows I P u x) (λ (k : ℕ). k) (legs_of I) v = found_first (λ u. follows I P u x) (λ (k : ℕ). k) (legs_of I) v (sym (before-is I P x) ∙ is) in
@@ -310,18 +310,6 @@ after_push-places I P p after done x rest plan is =
     (places I P p done x rest (subst (AllPairs (Precedes P)) is (pushed-ordered I P p after)) within)
 
 -- ---- a valid plan stays valid
-
-sched_le : (I : Situation) (x : ℕ) → IsValid I → (leg_at I x).sched.0 ≤ 52480000
-unfolding no_leg
-sched_le I x valid =
-    elim (cases_lt x (legs_of I)) [
-      | inl within ↦ (All-get_or (IsLeg (airports_of I) (planes_of I) (legs_of I)) I.parts.legs x no_leg within valid.parts.legs).sched
-      | inr past ↦ rw (get_or_past I.parts.legs x no_leg past) (omega arith)
-    ]
-
-pub latest-lt : (I : Situation) (x : ℕ) → IsValid I → latest I x < 52500000
-unfolding latest earliest
-latest-lt I x valid = omega (arith, sched_le I x valid, delay_of-last_order_on_leg I.parts x I.orders valid.orders)
 
 with_departure-valid : (I : Situation) (Q : PlanRows) (p x : ℕ) (o : Option ℕ) → p < planes_of I → ((t : ℕ) → o ≡ Some t → t < 52500000) → IsPlanFor I Q → IsPlanFor I (with_departure Q p x o)
 with_departure-valid I Q p x None plane below plan = plan

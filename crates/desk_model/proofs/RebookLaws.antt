@@ -12,9 +12,9 @@ use Rattle.std.proofs.lemmas.List.Sums.{sum_by-cons, sum_by-append}
 use Rattle.desk_units.specs.declared.numbers.Leg.{Leg}
 use Rattle.desk_units.specs.declared.numbers.Cabin.{Cabin}
 use Rattle.desk_data.specs.declared.row.Group.{Group}
-use Rattle.desk_data.specs.PlanRows.{path_cmp, IsGroup, AreGroups}
+use Rattle.desk_data.specs.PlanRows.{path_cmp, IsGroup, AreGroups, same_path}
 use Rattle.desk_data.specs.Valid.{IsPathOf, AreGroupsOf}
-use Rattle.desk_model.specs.Rebook.{passengers_on, same_path, count_on, is_before, is_behind, group_of, with_count, with_fewer, with_more, groups_after_rebook}
+use Rattle.desk_model.specs.Rebook.{passengers_on, count_on, is_before, is_behind, group_of, with_count, with_fewer, with_more, groups_after_rebook}
 use Rattle.desk_model.proofs.PathOrder.{by_order, is_lt-holds, is_gt-holds, path_total, path_same, path_itself, path_behind, path_before, pairs_head, pairs_tail, pairs_nil, pairs_append}
 
 -- the passengers of a group, if its path passes a test

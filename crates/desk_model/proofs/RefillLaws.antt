@@ -12,15 +12,15 @@ use Rattle.desk_units.specs.Ranks.{cabin_rank}
 use Rattle.desk_data.specs.declared.row.Row.{Row}
 use Rattle.desk_data.specs.declared.row.Group.{Group}
 use Rattle.desk_data.specs.Situation.{Situation, legs_of, reservations_of, res_at, no_res, bound}
-use Rattle.desk_data.specs.PlanRows.{PlanRows, row_at, groups_at, with_groups}
+use Rattle.desk_data.specs.PlanRows.{PlanRows, row_at, groups_at, with_groups, same_path}
 use Rattle.desk_data.specs.Valid.{IsValid, IsReservation, IsPlanFor}
 use Rattle.desk_rules.specs.Numbers.{numbers}
 use Rattle.desk_data.specs.Booked.{booked_path}
 use Rattle.desk_rules.specs.Passengers.{aboard, aboard_of, takes}
-use Rattle.desk_rules.proofs.CarriageLaws.{same_pair-holds}
+use Rattle.desk_data.proofs.BoundLaws.{same_pair-holds}
 use Rattle.desk_rules.specs.Carriage.{is_good_path, is_in_time_path}
 use Rattle.desk_model.specs.Choices.{IsGreatestWithin}
-use Rattle.desk_model.specs.Rebook.{passengers_on, same_path, count_on, groups_after_rebook, after_rebook}
+use Rattle.desk_model.specs.Rebook.{passengers_on, count_on, groups_after_rebook, after_rebook}
 use Rattle.desk_model.specs.Tidy.{is_fit_path}
 use Rattle.desk_model.specs.Refill.{seats_of, has_seats_for, HasSeatsFor, has_leg, refill_count, is_refilled, after_refilling, after_refill, RefillsReservation, IsNotOverfilled}
 use Rattle.desk_model.proofs.ChoiceLaws.{greatest_within-holds}

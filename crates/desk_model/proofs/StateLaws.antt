@@ -1,12 +1,13 @@
 -- What answers say of states.
-use Rattle.std.proofs.Common.{◌≡◌, ℕ, ◌<◌, ◌≤◌, Bool, true, false, cond, leb, refl, sym, ap, arith}
+use Rattle.std.proofs.Common.{◌≡◌, ℕ, ◌<◌, ◌≤◌, Bool, true, false, cond, leb, refl, sym, ap, ◌∙◌, arith}
 use Rattle.std.specs.Prelude.{None, Some, Option}
 use Rattle.std.proofs.lemmas.Bool.{leb-false, leb-true, lt-leb, true≢false}
 use Rattle.desk_units.specs.declared.money.Grains.{Grains}
 use Rattle.day_orders.specs.declared.orders.Batch.{Batch}
 use Rattle.desk_data.specs.declared.broken.Broken.{Broken}
 use Rattle.plan_moves.specs.declared.moves.Move.{Move}
-use Rattle.desk_data.specs.Situation.{Situation, schedule}
+use Rattle.desk_data.specs.Situation.{Situation, schedule, with_batch}
+use Rattle.desk_data.proofs.BatchLaws.{with_batch-parts, with_batch-progress}
 use Rattle.desk_data.specs.PlanRows.{PlanRows}
 use Rattle.desk_rules.specs.Least.{least}
 use Rattle.desk_rules.specs.Cost.{cost, grains}
@@ -20,7 +21,7 @@ use Rattle.desk_model.specs.declared.fallbacks.Fallback.{Fallback}
 use Rattle.desk_model.specs.declared.fallbacks.Fallback.TheVariants as fallen
 use Rattle.desk_model.specs.Fallback.{fallback, shifted, grounded, chosen_or, last_choice, rows_of}
 use Rattle.desk_model.specs.Steps.{after_move}
-use Rattle.desk_model.specs.States.{State, opening, with_batch, fallback_on, batch_answer, fallen_state, verdict, move_answer, answer, answered_state, after}
+use Rattle.desk_model.specs.States.{State, opening, fallback_on, batch_answer, fallen_state, verdict, move_answer, answer, answered_state, after}
 use Rattle.desk_model.specs.Histories.{is_batch, is_accepted, is_change}
 use Rattle.desk_model.specs.Promises.{cost_of}
 
@@ -67,7 +68,7 @@ batch_accepted J (fallen.NoPlan item Q) told h = absurd cc
 
 pub batch-not-accepted : (S : State) (B : Batch) (told : Grains) → answer S (event.Batch B) ≡ Accepted told → ⊥
 unfolding answer
-batch-not-accepted S B told h = batch_accepted (with_batch S.inst B) (fallback_on S B) told h
+batch-not-accepted S B told h = batch_accepted (with_batch S.inst S.plan B) (fallback_on S B) told h
 
 batch_priced : (J : Situation) (F : Fallback) (which : Which) (told : Grains) → batch_answer J F ≡ Taken which told → told ≡ grains (cost_of (fallen_state J F))
 batch_priced J (fallen.Chosen w Q) which told h = cc
@@ -76,7 +77,7 @@ batch_priced J (fallen.NoPlan item Q) which told h = absurd cc
 -- the cost that is told of a batch is that of the rows after it
 pub batch-priced : (S : State) (B : Batch) (which : Which) (told : Grains) → answer S (event.Batch B) ≡ Taken which told → told ≡ grains (cost_of (after S (event.Batch B)))
 unfolding answer after
-batch-priced S B which told h = batch_priced (with_batch S.inst B) (fallback_on S B) which told h
+batch-priced S B which told h = batch_priced (with_batch S.inst S.plan B) (fallback_on S B) which told h
 
 batch_published : (J : Situation) (F : Fallback) (which : Which) (told : Grains) → batch_answer J F ≡ Taken which told → (fallen_state J F).broken ≡ None
 batch_published J (fallen.Chosen w Q) which told h = refl
@@ -85,7 +86,7 @@ batch_published J (fallen.NoPlan item Q) which told h = absurd cc
 -- and they are published
 pub batch-published : (S : State) (B : Batch) (which : Which) (told : Grains) → answer S (event.Batch B) ≡ Taken which told → (after S (event.Batch B)).broken ≡ None
 unfolding answer after
-batch-published S B which told h = batch_published (with_batch S.inst B) (fallback_on S B) which told h
+batch-published S B which told h = batch_published (with_batch S.inst S.plan B) (fallback_on S B) which told h
 
 batch_unplanned : (J : Situation) (F : Fallback) (item : Broken) → batch_answer J F ≡ NoPlan item → (fallen_state J F).broken ≡ Some item
 batch_unplanned J (fallen.Chosen which Q) item h = absurd cc
@@ -94,7 +95,7 @@ batch_unplanned J (fallen.NoPlan other Q) item h = let same : other ≡ item = c
 -- the item that is told of a batch is that of the state after it
 pub batch-unplanned : (S : State) (B : Batch) (item : Broken) → answer S (event.Batch B) ≡ NoPlan item → (after S (event.Batch B)).broken ≡ Some item
 unfolding answer after
-batch-unplanned S B item h = batch_unplanned (with_batch S.inst B) (fallback_on S B) item h
+batch-unplanned S B item h = batch_unplanned (with_batch S.inst S.plan B) (fallback_on S B) item h
 
 -- ---- proposals that are refused
 
@@ -190,10 +191,10 @@ fallen_inst : (J : Situation) (F : Fallback) → (fallen_state J F).inst ≡ J
 fallen_inst J (fallen.Chosen which Q) = refl
 fallen_inst J (fallen.NoPlan item Q) = refl
 
--- the orders of a batch are taken behind the others
-pub after-batch-inst : (S : State) (B : Batch) → (after S (event.Batch B)).inst ≡ with_batch S.inst B
+-- the day of a batch is the one with it
+pub after-batch-inst : (S : State) (B : Batch) → (after S (event.Batch B)).inst ≡ with_batch S.inst S.plan B
 unfolding after
-after-batch-inst S B = fallen_inst (with_batch S.inst B) (fallback_on S B)
+after-batch-inst S B = fallen_inst (with_batch S.inst S.plan B) (fallback_on S B)
 
 fallen_plan : (J : Situation) (F : Fallback) → (fallen_state J F).plan ≡ rows_of F
 fallen_plan J (fallen.Chosen which Q) = refl
@@ -202,7 +203,7 @@ fallen_plan J (fallen.NoPlan item Q) = refl
 -- the rows are those that the desk falls back on
 pub after-batch-plan : (S : State) (B : Batch) → (after S (event.Batch B)).plan ≡ rows_of (fallback_on S B)
 unfolding after
-after-batch-plan S B = fallen_plan (with_batch S.inst B) (fallback_on S B)
+after-batch-plan S B = fallen_plan (with_batch S.inst S.plan B) (fallback_on S B)
 
 -- ---- the state after an answer
 
@@ -230,7 +231,7 @@ fallen_told J P = choice_told J P (shifted J P) (grounded J P) (least J P) (leas
 
 pub after-told : (S : State) (e : Event) → IsTold S → IsTold (after S e)
 unfolding after fallback_on
-after-told S (event.Batch B) h = fallen_told (with_batch S.inst B) S.plan
+after-told S (event.Batch B) h = fallen_told (with_batch S.inst S.plan B) S.plan
 after-told S (event.Move m) h = published-told S m (answer S (event.Move m)) refl h
 
 pub opening-told : (I : Situation) → IsTold (opening I)
@@ -252,8 +253,13 @@ after-move-inst S m = published-inst S m (answer S (event.Move m))
 
 -- every event leaves the joined rows
 pub after-parts : (S : State) (e : Event) → (after S e).inst.parts ≡ S.inst.parts
-after-parts S (event.Batch B) = ap (λ (J : Situation). J.parts) (after-batch-inst S B)
+after-parts S (event.Batch B) = ap (λ (J : Situation). J.parts) (after-batch-inst S B) ∙ with_batch-parts S.inst S.plan B
 after-parts S (event.Move m) = ap (λ (J : Situation). J.parts) (after-move-inst S m)
+
+-- and, for now, how far the day has gone on
+pub after-progress : (S : State) (e : Event) → (after S e).inst.progress ≡ S.inst.progress
+after-progress S (event.Batch B) = ap (λ (J : Situation). J.progress) (after-batch-inst S B) ∙ with_batch-progress S.inst S.plan B
+after-progress S (event.Move m) = ap (λ (J : Situation). J.progress) (after-move-inst S m)
 
 pub opening-inst : (I : Situation) → (opening I).inst ≡ I
 unfolding opening

@@ -14,26 +14,21 @@ use Rattle.desk_units.specs.declared.numbers.Leg.{Leg}
 use Rattle.desk_units.specs.declared.numbers.Cabin.{Cabin}
 use Rattle.desk_data.specs.declared.row.Group.{Group}
 use Rattle.desk_data.specs.Situation.{Situation, legs_of, reservations_of, res_at, bound}
-use Rattle.desk_data.specs.PlanRows.{PlanRows, IsGroup, AreGroups, groups_at, path_cmp}
+use Rattle.desk_data.specs.PlanRows.{PlanRows, IsGroup, AreGroups, groups_at, path_cmp, same_path}
 use Rattle.desk_data.specs.Valid.{IsPathOf, AreGroupsOf, IsPlanFor}
+use Rattle.desk_data.proofs.BoundLaws.{bound-fewer}
 use Rattle.desk_rules.specs.Numbers.{numbers, implies}
-use Rattle.desk_rules.specs.Passengers.{is_carried, all_flown, connects}
+use Rattle.desk_rules.specs.Passengers.{all_flown, connects}
+use Rattle.desk_data.specs.Paths.{is_carried}
 use Rattle.desk_rules.specs.Carriage.{each_carried, is_good_path, is_in_time_path, keeps_c13, keeps_c14, keeps_c15}
 use Rattle.desk_rules.proofs.HourLaws.{length-numbers}
 use Rattle.desk_rules.proofs.Tests.{implies-from}
 use Rattle.desk_rules.proofs.CarriageLaws.{is_good_path-holds, is_good_path-from, is_in_time-holds, is_in_time-from, keeps_c13-holds, keeps_c14-holds, keeps_c15-holds}
-use Rattle.desk_model.specs.Rebook.{passengers_on, same_path, count_on, group_of}
+use Rattle.desk_model.specs.Rebook.{passengers_on, count_on, group_of}
 use Rattle.desk_model.specs.Tidy.{is_fit_path, IsFit, stays_carried, groups_after_tidy, after_tidy, AreNoMoreCarried, TidiesReservation}
 use Rattle.desk_model.proofs.PathOrder.{path_same, is_eq-holds, pairs_append}
 use Rattle.desk_model.proofs.RebookLaws.{amount, Ascends, one_group, one_group-all, one_group-pairs}
 use Rattle.desk_model.proofs.GroupPlans.{numbers-at, map_numbers-agree, groups_at-groups}
-
--- ---- the law of bound that Tidy rests on
-
--- where fewer passengers are carried, a path that was bound is bound
-pub bound-fewer : (I : Situation) (r : ℕ) (fewer more : List Group) (path : List (Leg × Cabin)) → AreNoMoreCarried fewer more → bound I r more path ≡ true → bound I r fewer path ≡ true
-unfolding bound
-bound-fewer I r fewer more path less is = is
 
 -- ---- other groups leave what a path's legs say
 

@@ -1,25 +1,26 @@
 -- Tidy, one reservation at a time.
-use Rattle.std.proofs.Common.{◌≡◌, ℕ, ◌+◌, ◌<◌, not, List, [], ◌∷◌, ◌++◌, length, get_or, set, drop, refl, sym, ap, ◌∙◌, add-one, arith}
+use Rattle.std.proofs.Common.{◌≡◌, ℕ, ◌+◌, ◌<◌, ◌&&◌, not, List, [], ◌∷◌, ◌++◌, length, get_or, set, drop, refl, sym, ap, ◌∙◌, add-one, arith}
 use Rattle.std.specs.Prelude.{filter, map}
 use Rattle.std.proofs.lemmas.List.{append-nil, append_assoc, length-map, get_or_at, set_at, drop_all, drop_more, map-append}
 use Rattle.desk_data.specs.declared.row.Group.{Group}
 use Rattle.desk_data.specs.Situation.{Situation, reservations_of, bound}
 use Rattle.desk_data.specs.PlanRows.{PlanRows, groups_at, with_groups}
+use Rattle.desk_data.specs.Paths.{is_carried}
 use Rattle.desk_rules.specs.Numbers.{numbers}
 use Rattle.desk_rules.specs.Passengers.{all_flown, connects}
 use Rattle.desk_rules.specs.Carriage.{is_good_path, is_in_time_path}
 use Rattle.desk_rules.proofs.HourLaws.{length-numbers}
 use Rattle.desk_model.specs.Rebook.{passengers_on, group_of}
-use Rattle.desk_model.specs.Tidy.{is_fit_path, stays_carried, groups_after_tidy, after_tidy}
+use Rattle.desk_model.specs.Tidy.{is_fit_path, groups_after_tidy, after_tidy}
 
 abbrev by_groups : PlanRows → List (List Group) → PlanRows
 by_groups P groups = record P { groups = groups }
 
--- other groups of other reservations leave what becomes of a reservation
+-- other groups of other reservations leave what becomes of a reservation, whose own are the same
 tidy-beside : (I : Situation) (P : PlanRows) (all : List (List Group)) (r : ℕ) → get_or all r [] ≡ groups_at P r → groups_after_tidy I (by_groups P all) r ≡ groups_after_tidy I P r
-unfolding groups_after_tidy is_fit_path is_good_path is_in_time_path all_flown connects bound
+unfolding groups_after_tidy is_fit_path is_good_path is_in_time_path all_flown connects
 tidy-beside I P all r same =
-    ap (λ (groups : List Group). group_of (passengers_on (λ path. not (stays_carried I P r path)) groups) [] ++ filter (λ group. stays_carried I P r group.path) groups) same
+    ap (λ (groups : List Group). group_of (passengers_on (λ path. not (is_carried path && (is_good_path I P r path && is_in_time_path I P r path && bound I r groups path))) groups) [] ++ filter (λ group. is_carried group.path && (is_good_path I P r group.path && is_in_time_path I P r group.path && bound I r groups group.path)) groups) same
 
 -- the plan in which the first n reservations are tidy
 unfoldable pub tidied_to : Situation → ℕ → PlanRows → PlanRows
@@ -36,13 +37,13 @@ tidied_to-at : (I : Situation) (P : PlanRows) (n : ℕ) → n < length P.groups 
 unfolding tidied_to
 tidied_to-at I P n within = ap (λ (rest : List (List Group)). map (groups_after_tidy I P) (numbers n) ++ rest) (drop_more P.groups n [] within)
 
-tidied_to-next : (I : Situation) (P : PlanRows) (n : ℕ) → n < length P.groups → groups_at (tidied_to I n P) n ≡ groups_at P n
+pub tidied_to-next : (I : Situation) (P : PlanRows) (n : ℕ) → n < length P.groups → groups_at (tidied_to I n P) n ≡ groups_at P n
 tidied_to-next I P n within =
     ap (λ (all : List (List Group)). get_or all n []) (tidied_to-at I P n within)
     ∙ get_or_at (map (groups_after_tidy I P) (numbers n)) (groups_at P n) (drop (n + 1) P.groups) [] n (length-front I P n)
 
 -- the groups that a reservation gets are those of the plan at the start
-tidied_to-judges : (I : Situation) (P : PlanRows) (n : ℕ) → n < length P.groups → groups_after_tidy I (tidied_to I n P) n ≡ groups_after_tidy I P n
+pub tidied_to-judges : (I : Situation) (P : PlanRows) (n : ℕ) → n < length P.groups → groups_after_tidy I (tidied_to I n P) n ≡ groups_after_tidy I P n
 unfolding tidied_to
 tidied_to-judges I P n within = tidy-beside I P (map (groups_after_tidy I P) (numbers n) ++ drop n P.groups) n (tidied_to-next I P n within)
 

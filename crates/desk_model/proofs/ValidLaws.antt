@@ -1,18 +1,22 @@
 -- Plans stay plans for their instance.
-use Rattle.std.proofs.Common.{ℕ, Bool, true, false, cond, ◌∙◌}
+use Rattle.std.proofs.Common.{ℕ, ◌<◌, Bool, true, false, cond, ◌∙◌, arith}
 use Rattle.std.proofs.lemmas.List.{length-set}
-use Rattle.std.proofs.lemmas.List.Elements.{All-set}
+use Rattle.std.proofs.lemmas.List.Elements.{All-set, All-get_or}
 use Rattle.desk_data.specs.declared.row.Row.{Row}
 use Rattle.desk_data.specs.declared.row.Row.TheVariants.{Flown, Cancelled}
-use Rattle.desk_data.specs.Situation.{Situation, planes_of}
+use Rattle.desk_data.specs.Situation.{Situation, legs_of, planes_of}
 use Rattle.desk_data.specs.PlanRows.{PlanRows, IsRow, row_at, with_row}
 use Rattle.desk_data.specs.Valid.{IsRowOf, IsPlanFor}
 use Rattle.desk_rules.specs.Rows.{is_row}
 use Rattle.desk_model.specs.Steps.{after_set}
 
-row_is_sound : (planes : ℕ) (row : Row) → IsRowOf planes row → IsRow row
+pub row_is_sound : (planes : ℕ) (row : Row) → IsRowOf planes row → IsRow row
 row_is_sound planes (Flown plane dep) h = h.1
 row_is_sound planes Cancelled h = tt
+
+-- a plan for the instance has a row for each leg
+pub row_of_plan : (I : Situation) (P : PlanRows) (x : ℕ) → x < legs_of I → IsPlanFor I P → IsRowOf (planes_of I) (row_at P x)
+row_of_plan I P x within plan = All-get_or (IsRowOf (planes_of I)) P.rows x Cancelled (let legs = plan.legs in omega (arith, legs, within)) plan.rows
 
 pub with_row-valid : (I : Situation) (P : PlanRows) (x : ℕ) (row : Row) → IsRowOf (planes_of I) row → IsPlanFor I P → IsPlanFor I (with_row P x row)
 with_row-valid I P x row fits h = record {

@@ -2,7 +2,7 @@
 use Rattle.std.specs.Prelude.{◌≡◌, ℕ, ◌+◌, Bool, true, false, not, nat_lt, if◌then◌else◌, List, [], ◌∷◌, ◌++◌, Some, length, take, take_while, reverse, slice_get, count_by, All}
 use Rattle.day_orders.specs.declared.orders.Order.{Order}
 use Rattle.desk_data.specs.Situation.{Situation}
-use Rattle.desk_data.specs.Valid.{IsOrder}
+use Rattle.desk_data.specs.Valid.{IsBatch}
 use Rattle.plan_moves.specs.Fits.{Fits}
 use Rattle.desk_model.specs.declared.answer.Answer.{Answer}
 use Rattle.desk_model.specs.declared.answer.Answer.TheVariants.{Accepted}
@@ -29,9 +29,9 @@ abbrev pub has_room : ℕ → Event → Bool
 has_room n (event.Batch B) = nat_lt n batch_limit
 has_room n (event.Move m) = nat_lt n proposal_limit
 
--- what can be asked of an instance. Only its joined rows are looked at: the orders taken make no difference
+-- what can be asked of a day. Only its joined rows are looked at: the orders taken and how far it has gone on make no difference
 abbrev pub IsAskable : Situation → Event → Type 0
-IsAskable I (event.Batch B) = All (IsOrder I.parts) B.orders
+IsAskable I (event.Batch B) = IsBatch I.parts B
 IsAskable I (event.Move m) = Fits I m
 
 -- each of these events, each with its caller, can be asked
@@ -64,14 +64,14 @@ is_change (event.Batch B) told = true
 is_change (event.Move m) told = is_accepted told
 
 -- the orders that an event brings
-abbrev pub news_of : Event → List Order
-news_of (event.Batch B) = B.orders
-news_of (event.Move m) = []
+abbrev pub orders_in : Event → List Order
+orders_in (event.Batch B) = B.orders
+orders_in (event.Move m) = []
 
 -- the orders of the batches of a history, in the order in which they were taken
 abbrev pub orders_of : List Entry → List Order
 orders_of [] = []
-orders_of (entry ∷ entries) = news_of entry.event ++ orders_of entries
+orders_of (entry ∷ entries) = orders_in entry.event ++ orders_of entries
 
 -- how many entries of a history changed the state
 abbrev pub changes : List Entry → ℕ

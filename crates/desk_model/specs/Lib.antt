@@ -8,5 +8,5 @@ pub mod Steps
 pub mod Fallback
 pub mod States
 pub mod Histories
-pub mod News
+pub mod Batches
 pub mod Promises

@@ -4,7 +4,7 @@ use Rattle.desk_units.specs.declared.money.Grains.{Grains}
 use Rattle.desk_data.specs.declared.broken.Broken.{Broken}
 use Rattle.plan_moves.specs.declared.moves.Move.{Move}
 use Rattle.day_orders.specs.declared.orders.Batch.{Batch}
-use Rattle.desk_data.specs.Situation.{Situation}
+use Rattle.desk_data.specs.Situation.{Situation, with_batch}
 use Rattle.desk_rules.specs.Cost.{cost, grains}
 use Rattle.desk_rules.specs.Words.{IsFeasible, IsLeast}
 use Rattle.desk_model.specs.declared.answer.Answer.{Answer}
@@ -14,8 +14,8 @@ use Rattle.desk_model.specs.Fallback.{grounded, rows_of, rows_named}
 use Rattle.desk_model.specs.declared.answer.Event.TheVariants as event
 use Rattle.desk_model.specs.declared.answer.Entry.{Entry}
 use Rattle.desk_model.specs.Steps.{after_move}
-use Rattle.desk_model.specs.States.{State, opening, with_batch, fallback_on}
-use Rattle.desk_model.specs.News.{TellsOfBatch}
+use Rattle.desk_model.specs.States.{State, opening, fallback_on}
+use Rattle.desk_model.specs.Batches.{TellsOfBatch}
 use Rattle.desk_model.specs.Histories.{state, changes, is_batch, is_accepted, is_change}
 
 -- the state after the first i entries
@@ -38,7 +38,7 @@ pub record Improves (S : State) (m : Move) : Type 0 where
 
 -- a batch and the answer to it, between the state before it and the state after it: its orders are taken behind the others. The answer names the first of the three that is feasible, made of the rows as they stood, under the orders that there are then, or tells the first item that the rows of Ground break. The rows are those that the desk falls back on: those that the name stands for, or where no name is told those of Ground
 pub record IsTakenIn (before : State) (B : Batch) (given : Answer) (behind : State) : Type 0 where
-  pub orders : behind.inst ≡ with_batch before.inst B
+  pub orders : behind.inst ≡ with_batch before.inst before.plan B
   pub told : TellsOfBatch behind.inst before.plan given
   pub rows : behind.plan ≡ rows_of (fallback_on before B)
   pub named : (which : Which) (price : Grains) → given ≡ Taken which price → behind.plan ≡ rows_named behind.inst before.plan which

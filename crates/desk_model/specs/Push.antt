@@ -9,7 +9,7 @@ use Rattle.desk_data.specs.Situation.{Situation, legs_of, leg_at, plane_at, fixe
 use Rattle.desk_data.specs.Hours.{dep_cap, arr_cap}
 use Rattle.desk_data.specs.PlanRows.{PlanRows, row_at, with_row}
 use Rattle.desk_rules.specs.Numbers.{numbers}
-use Rattle.desk_rules.specs.Rotations.{dep, arr, precedes, follows, ground}
+use Rattle.desk_rules.specs.Rotations.{dep, arr, precedes, follows, ground_time}
 use Rattle.desk_rules.specs.Rules.{meets_span}
 use Rattle.desk_rules.specs.Maintenance.{flies}
 use Rattle.desk_rules.specs.Slots.{hour_of}
@@ -45,7 +45,7 @@ leg_before I P x = find (λ w. follows I P w x) (numbers (legs_of I))
 -- when aircraft p is ready for leg x: once the leg before it has arrived and the ground time is over; from the start where there is none
 abbrev pub ready_moment : Situation → PlanRows → ℕ → ℕ → Option ℕ → ℕ
 ready_moment I Q p x None = 0
-ready_moment I Q p x (Some w) = arr I Q w + ground I p w x
+ready_moment I Q p x (Some w) = arr I Q w + ground_time I p w x
 
 -- ---- whether leg x of aircraft p can depart at moment t
 
@@ -150,7 +150,7 @@ pub record IsPushed (I : Situation) (P : PlanRows) (p : ℕ) (after : Option Leg
 -- leg x of aircraft p may depart at moment t
 pub record MayDepart (I : Situation) (P Q : PlanRows) (p x t : ℕ) : Type 0 where
   -- the leg before it, of those at the step's start, has arrived as it stands now, and the ground time is over
-  pub ready : (w : ℕ) → w < legs_of I → Follows I P w x → arr I Q w + ground I p w x ≤ t
+  pub ready : (w : ℕ) → w < legs_of I → Follows I P w x → arr I Q w + ground_time I p w x ≤ t
   -- it is within the leg's own time
   pub earliest : earliest I x ≤ t
   pub latest : t ≤ latest I x

@@ -1,18 +1,14 @@
 -- Rebook: some passengers of a reservation go from one path to another.
 use Rattle.std.specs.Prelude.{◌≡◌, ℕ, ◌+◌, ◌-◌, min, Bool, ◌==◌, if◌then◌else◌, List, [], ◌∷◌, ◌++◌, filter, sum_by}
-use Rattle.std.specs.Ordering.{is_lt, is_eq, is_gt}
+use Rattle.std.specs.Ordering.{is_lt, is_gt}
 use Rattle.desk_units.specs.declared.numbers.Leg.{Leg}
 use Rattle.desk_units.specs.declared.numbers.Cabin.{Cabin}
 use Rattle.desk_data.specs.declared.row.Group.{Group}
-use Rattle.desk_data.specs.PlanRows.{PlanRows, groups_at, with_groups, path_cmp}
+use Rattle.desk_data.specs.PlanRows.{PlanRows, groups_at, with_groups, path_cmp, same_path}
 
 -- the passengers of some groups whose path passes a test
 abbrev pub passengers_on : (List (Leg × Cabin) → Bool) → List Group → ℕ
 passengers_on test groups = sum_by (λ group. if test group.path then group.count else 0) groups
-
--- whether two paths are one
-abbrev pub same_path : List (Leg × Cabin) → List (Leg × Cabin) → Bool
-same_path a b = is_eq (path_cmp a b)
 
 -- the passengers on one path
 abbrev pub count_on : List (Leg × Cabin) → List Group → ℕ

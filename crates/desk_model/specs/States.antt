@@ -1,9 +1,9 @@
 -- The state of the desk, and what it answers to an event.
-use Rattle.std.specs.Prelude.{ℕ, ◌++◌, nat_le, if◌then◌else◌, Option, Some, None}
+use Rattle.std.specs.Prelude.{ℕ, nat_le, if◌then◌else◌, Option, Some, None}
 use Rattle.day_orders.specs.declared.orders.Batch.{Batch}
 use Rattle.desk_data.specs.declared.broken.Broken.{Broken}
 use Rattle.plan_moves.specs.declared.moves.Move.{Move}
-use Rattle.desk_data.specs.Situation.{Situation, schedule}
+use Rattle.desk_data.specs.Situation.{Situation, with_batch, schedule}
 use Rattle.desk_data.specs.PlanRows.{PlanRows}
 use Rattle.desk_rules.specs.Least.{least}
 use Rattle.desk_rules.specs.Cost.{cost, grains}
@@ -26,15 +26,11 @@ pub record State : Type 0 where
 unfoldable pub opening : Situation → State
 opening I = record { inst = I; plan = schedule I; broken = least I (schedule I) }
 
--- ---- news
+-- ---- batches
 
--- the instance with the orders of a batch behind those taken before
-abbrev pub with_batch : Situation → Batch → Situation
-with_batch I B = record I { orders = I.orders ++ B.orders }
-
--- what the desk falls back on when the batch arrives: it is made of the rows as they stand, under the orders that there are then
+-- what the desk falls back on when the batch arrives: it is made of the rows as they stand, on the day as it is then
 unfoldable pub fallback_on : State → Batch → Fallback
-fallback_on S B = fallback (with_batch S.inst B) S.plan
+fallback_on S B = fallback (with_batch S.inst S.plan B) S.plan
 
 -- the answer to a batch: the name of the plan that is chosen, and its cost under the new orders; or where there is no plan the item
 abbrev pub batch_answer : Situation → Fallback → Answer
@@ -61,7 +57,7 @@ move_answer S m None =
     verdict (least S.inst moved_plan) (cost S.inst S.plan) (cost S.inst moved_plan)
 
 unfoldable pub answer : State → Event → Answer
-answer S (event.Batch B) = batch_answer (with_batch S.inst B) (fallback_on S B)
+answer S (event.Batch B) = batch_answer (with_batch S.inst S.plan B) (fallback_on S B)
 answer S (event.Move m) = move_answer S m S.broken
 
 -- an accepted move is published, and every other answer leaves the state
@@ -70,5 +66,5 @@ answered_state S m (Accepted cost) = record { inst = S.inst; plan = after_move S
 answered_state S m other = S
 
 unfoldable pub after : State → Event → State
-after S (event.Batch B) = fallen_state (with_batch S.inst B) (fallback_on S B)
+after S (event.Batch B) = fallen_state (with_batch S.inst S.plan B) (fallback_on S B)
 after S (event.Move m) = answered_state S m (answer S (event.Move m))

@@ -6,7 +6,7 @@ use Rattle.desk_data.specs.declared.row.Group.{Group}
 use Rattle.desk_data.specs.Situation.{Situation, reservations_of, bound}
 use Rattle.desk_data.specs.PlanRows.{PlanRows, groups_at}
 use Rattle.desk_rules.specs.Numbers.{numbers}
-use Rattle.desk_rules.specs.Passengers.{is_carried}
+use Rattle.desk_data.specs.Paths.{is_carried}
 use Rattle.desk_rules.specs.Carriage.{is_good_path, is_in_time_path}
 use Rattle.desk_rules.specs.Words.{IsFlown, TakesThere, ArrivesInTime, MeetsC13, MeetsC14, MeetsC15}
 use Rattle.desk_model.specs.Rebook.{passengers_on, count_on, group_of}

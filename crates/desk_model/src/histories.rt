@@ -9,7 +9,7 @@ ghost use Rattle.desk_model.specs.declared.answer.Entry.{Entry as Recorded};
 ghost use Rattle.desk_model.specs.declared.answer.Event.{Event as Asked};
 ghost use Rattle.desk_model.specs.States.{opening};
 ghost use Rattle.desk_model.specs.Histories.{AreAskable, IsAskable, IsLegal, orders_of, run, state};
-ghost use Rattle.desk_model.specs.News.{HasPlanRows};
+ghost use Rattle.desk_model.specs.Batches.{HasPlanRows};
 ghost use Rattle.desk_model.specs.Promises.{KeepsPromises, state_at};
 
 /// In a legal history from the opening of an instance each published plan meets all rules, and each
@@ -36,14 +36,17 @@ pub fn a_state_has_a_plan_exactly_where_its_rows_are_feasible()
     ensures unplanned { (I : Situation) (h : Items Recorded) (item : Broken) → (state (opening I) h).broken ≡ Some item ↔ IsLeast (state (opening I) h).inst (state (opening I) h).plan item }
 {}
 
-/// The instance of a state is that of the opening with the orders of all batches, in the order in
-/// which they were taken.
+/// The rows of a state's day are those of the opening, and so are the orders, with those of all batches
+/// behind them in the order in which they were taken. For now each state's day has gone on no further
+/// than the opening's.
 pub fn a_states_orders_are_those_of_its_batches()
-    ensures { (I : Situation) (h : Items Recorded) → (state (opening I) h).inst ≡ record I { orders = I.orders ++ orders_of h } }
+    ensures rows { (I : Situation) (h : Items Recorded) → (state (opening I) h).inst.parts ≡ I.parts }
+    ensures orders { (I : Situation) (h : Items Recorded) → (state (opening I) h).inst.orders ≡ I.orders ++ orders_of h }
+    ensures progress { (I : Situation) (h : Items Recorded) → (state (opening I) h).inst.progress ≡ I.progress }
 {}
 
-/// What can be asked depends on the joined rows alone, and on none of the orders taken. So what can
-/// be asked at the opening can be asked at each state.
+/// What can be asked depends on the joined rows alone: on none of the orders taken, and not on how far
+/// the day has gone on. So what can be asked at the opening can be asked at each state.
 pub fn orders_make_no_difference_to_what_can_be_asked()
     ensures rows { (I J : Situation) (e : Asked) → I.parts ≡ J.parts → IsAskable I e → IsAskable J e }
     ensures states { (I : Situation) (h : Items Recorded) (e : Asked) → IsAskable (state (opening I) h).inst e ↔ IsAskable I e }

@@ -3,8 +3,8 @@
 //! The definitions stand in `specs/`: `Steps`, what a move makes of a plan; `States`, what the desk
 //! answers to an event, and the state after it; `Fallback`, what it falls back on when a batch of
 //! disruptions arrives; `Histories`, lists of entries and which of them are legal; `Promises`, what
-//! holds of each legal history; `News`, which orders decide and what is answered to a batch. What a
-//! plan has to meet and what it costs stands in `desk_rules`, on which this crate stands.
+//! holds of each legal history; `Batches`, what is answered to a batch. What a plan has to meet and
+//! what it costs stands in `desk_rules`, and which orders decide in `desk_data`.
 //!
 //! The code here is the types that the definitions speak of (`Event`, `Answer`, `Entry`, `Fallback`),
 //! and laws: each is a public function with an empty body, whose contract is the law.
@@ -13,12 +13,13 @@
 #![tactic(auto)]
 
 mod answer;
+mod batches;
 mod fallbacks;
 mod histories;
-mod news;
 mod steps;
 
 pub use answer::{Answer, Entry, Event};
+pub use batches::{a_batch_is_answered_by_the_first_that_is_feasible, later_orders_decide};
 pub use desk_data::{Batch, Broken, Grains};
 pub use fallbacks::{
     Fallback, Which, a_ground_plan_flies_no_movable_leg,
@@ -33,7 +34,6 @@ pub use histories::{
     orders_make_no_difference_to_what_can_be_asked, runs_are_legal,
     the_rows_of_each_state_are_a_plan_for_its_instance,
 };
-pub use news::{a_batch_is_answered_by_the_first_that_is_feasible, later_orders_decide};
 pub use plan_moves::Move;
 pub use steps::{
     a_path_stays_bound_where_fewer_are_carried, a_push_places_each_leg_first,

@@ -1,10 +1,8 @@
--- Legs that are placed, one at a time, and how many they are.
-use Rattle.std.proofs.Common.{◌≡◌, ℕ, ◌+◌, ◌<◌, ◌≤◌, inl, inr, Bool, true, ◌&&◌, not, List, [], ◌∷◌, length, get_or, take, sym, ap, ◌∙◌, arith, length-append}
+-- How many legs are placed. That they are placed one at a time stands in plan_push.
+use Rattle.std.proofs.Common.{◌≡◌, ℕ, ◌+◌, ◌≤◌, inl, inr, Bool, true, ◌&&◌, not, List, [], ◌∷◌, length, ap, arith, length-append}
 use Rattle.std.specs.Prelude.{Option, filter, fold, map}
 use Rattle.std.proofs.lemmas.Bool.{cases_Bool}
 use Rattle.std.proofs.lemmas.List.{length-map}
-use Rattle.std.proofs.lemmas.List.Folds.{fold-map}
-use Rattle.std.proofs.lemmas.List.Sums.{fold_more}
 use Rattle.desk_units.specs.declared.numbers.Leg.{Leg}
 use Rattle.desk_data.specs.Situation.{Situation, legs_of, fixed}
 use Rattle.desk_data.specs.PlanRows.{PlanRows}
@@ -13,7 +11,7 @@ use Rattle.desk_rules.specs.Rotations.{precedes}
 use Rattle.desk_rules.specs.Maintenance.{flies}
 use Rattle.desk_rules.proofs.HourLaws.{length-numbers}
 use Rattle.desk_rules.proofs.RotationLaws.{precedes-holds}
-use Rattle.desk_model.specs.Push.{with_leg, rotation, comes_behind, pushed_legs, after_placing, after_push}
+use Rattle.desk_model.specs.Push.{with_leg, rotation, comes_behind, pushed_legs}
 use Rattle.desk_model.proofs.RotationOrder.{precedes-itself, precedes-trans}
 use Rattle.plan_push.specs.declared.pushed.Placing.{Placing}
 
@@ -69,21 +67,6 @@ pub length-pushed_legs : (I : Situation) (P : PlanRows) (p : ℕ) (after : Optio
 unfolding pushed_legs
 length-pushed_legs I P p after =
     omega (arith, length-filter-le (λ x. not (fixed I x) && comes_behind P after x) (rotation I P p), length-rotation I P p)
-
--- ---- the legs, one at a time
-
--- the plan once some legs are placed
-abbrev pub placed_all : Situation → PlanRows → ℕ → List Placing → PlanRows
-placed_all I P p all = fold (λ Q placing. after_placing I P p Q placing.leg.0) P all
-
--- one leg more of a list
-pub placed_all-more : (I : Situation) (P : PlanRows) (p : ℕ) (all : List Placing) (i : ℕ) (d : Placing) → i < length all → after_placing I P p (placed_all I P p (take i all)) (get_or all i d).leg.0 ≡ placed_all I P p (take (i + 1) all)
-placed_all-more I P p all i d within = sym (fold_more (λ Q placing. after_placing I P p Q placing.leg.0) P all i d within)
-
-pub placed_all-is : (I : Situation) (P : PlanRows) (p : ℕ) (after : Option Leg) (all : List Placing) → map (λ placing. placing.leg.0) all ≡ pushed_legs I P p after → placed_all I P p all ≡ after_push I P p after
-unfolding after_push
-placed_all-is I P p after all is =
-    sym (fold-map (after_placing I P p) (λ (placing : Placing). placing.leg.0) P all) ∙ ap (fold (after_placing I P p) P) is
 
 pub length-placings : (I : Situation) (P : PlanRows) (p : ℕ) (after : Option Leg) (all : List Placing) → map (λ placing. placing.leg.0) all ≡ pushed_legs I P p after → length all ≤ legs_of I
 length-placings I P p after all is =

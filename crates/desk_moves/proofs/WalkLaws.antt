@@ -16,7 +16,7 @@ use Rattle.desk_data.specs.Booked.{booked_path}
 use Rattle.desk_data.specs.PlanRows.{PlanRows, groups_at, with_groups}
 use Rattle.desk_data.specs.Valid.{IsPlanFor}
 use Rattle.desk_rules.specs.Numbers.{numbers, implies}
-use Rattle.desk_rules.specs.Passengers.{is_carried}
+use Rattle.desk_data.specs.Paths.{is_carried}
 use Rattle.desk_rules.specs.Carriage.{each_carried, is_good_path, is_in_time_path, keeps_c13, keeps_c14, keeps_c15}
 use Rattle.desk_rules.proofs.HourLaws.{length-numbers}
 use Rattle.leg_users.specs.Users.{is_booked_on}
@@ -25,7 +25,8 @@ use Rattle.desk_model.specs.Tidy.{is_fit_path, groups_after_tidy, after_tidy}
 use Rattle.desk_model.specs.Refill.{has_leg, is_refilled, after_refilling, after_refill}
 use Rattle.desk_model.proofs.GroupPlans.{numbers-at, with_groups-own}
 use Rattle.plan_groups.proofs.TidyCalls.{tidy-keeps}
-use Rattle.desk_moves.proofs.GroupLaws.{tidied_to, tidied_to-none, tidied_to-next, tidied_to-judges, tidied_to-more, tidied_to-all, refilled_to, refilled_to-none, refilled_to-more, refilled_to-all}
+use Rattle.desk_model.proofs.TidyParts.{tidied_to, tidied_to-none, tidied_to-next, tidied_to-judges, tidied_to-more, tidied_to-all}
+use Rattle.desk_moves.proofs.GroupLaws.{refilled_to, refilled_to-none, refilled_to-more, refilled_to-all}
 
 -- ---- a walk over the numbers that pass a test, where those that fail it change nothing
 

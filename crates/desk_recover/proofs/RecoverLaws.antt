@@ -1,46 +1,37 @@
 -- Batches are taken one after another, each with its descent.
-use Rattle.std.proofs.Common.{◌≡◌, ℕ, ◌+◌, ◌<◌, ◌≤◌, true, false, Bool, List, [], ◌∷◌, ◌++◌, length, get_or, drop, refl, sym, ap, subst, ◌∙◌, arith, add-one, suc, length-append}
-use Rattle.std.specs.Prelude.{Option, Some, None}
+use Rattle.std.proofs.Common.{◌≡◌, ℕ, ◌+◌, ◌<◌, ◌≤◌, List, [], ◌∷◌, ◌++◌, length, get_or, drop, refl, sym, ap, subst, ◌∙◌, arith, add-one, suc, length-append}
+use Rattle.std.specs.Prelude.{Option}
 use Rattle.std.proofs.lemmas.Bool.{lt-ltb}
 use Rattle.std.proofs.Math.Seq.{drop-cons}
 use Rattle.std.proofs.Math.ListN.{drop_of_length-le}
 use Rattle.day_orders.specs.declared.orders.Batch.{Batch}
 use Rattle.desk_data.specs.Situation.{Situation}
-use Rattle.desk_data.specs.declared.broken.Broken.{Broken}
 use Rattle.desk_model.specs.declared.answer.Event.TheVariants as event
 use Rattle.desk_model.specs.declared.answer.Entry.{Entry}
-use Rattle.desk_model.specs.States.{State, opening}
+use Rattle.desk_model.specs.States.{opening}
 use Rattle.desk_model.specs.Histories.{state, proposal_limit, batch_limit, entry_of}
 use Rattle.desk_core.specs.Recorded.{Recorded, state_of, with_entry}
-use Rattle.near_moves.specs.Descent.{is_spent, descent, recovery_behind, recovery}
+use Rattle.near_moves.specs.Descent.{descent, recovery_behind, recovery}
 use Rattle.near_moves.proofs.DescentLaws.{descent-length}
-use Rattle.desk_descent.specs.declared.descent.Ended.{Ended}
 use Rattle.desk_descent.specs.Ending.{ending, after_descent}
-use Rattle.desk_tasks.specs.declared.ended.SearchEnd.{SearchEnd}
+use Rattle.near_moves.specs.declared.ended.SearchEnd.{SearchEnd}
 use Rattle.desk_runs.specs.declared.ending.Ending.{Ending}
 use Rattle.desk_runs.specs.Commands.{history_files}
 use Rattle.desk_runs.specs.Outcome.{Outcome}
 use Rattle.desk_runs.specs.Runs.{World}
 use Rattle.desk_runs.specs.Finishing.{Completes}
-use Rattle.desk_tasks.specs.Play.{history_outcome}
-use Rattle.desk_tasks.specs.Recover.{recovery_on, recovered_history, end_by, search_end, told_alone, recovered, tried}
-use Rattle.desk_recover.specs.Recovered.{searched, IsRecoveredBook}
-
--- how the end of a descent is told is how the search ended
-ending_told : (b : Option Broken) (spent : Bool) (most : ℕ) (S : State) (h : List Entry) → S.broken ≡ b → is_spent most h ≡ spent → searched (ending most S h) ≡ end_by b spent
-unfolding ending
-ending_told None true most S h is so = rw (is, so) refl
-ending_told None false most S h is so = rw (is, so) refl
-ending_told (Some item) spent most S h is so = rw is refl
+use Rattle.desk_tasks.specs.Play.{search_told, history_outcome}
+use Rattle.desk_tasks.specs.Recover.{recovery_on, recovered_history, search_end, told_alone, recovered, tried}
+use Rattle.desk_recover.specs.Recovered.{IsRecoveredBook}
 
 -- the batches that are left make of the book's journal the recovery of all; and where one was taken, its search ended so
-pub record Continues (I : Situation) (moves : ℕ) (B : Recorded) (ended : Ended) (i : ℕ) (left batches : List Batch) : Type 0 where
+pub record Continues (I : Situation) (moves : ℕ) (B : Recorded) (ended : Option SearchEnd) (i : ℕ) (left batches : List Batch) : Type 0 where
   pub same : B.opening ≡ I
   pub rest : recovery_behind moves (opening I) B.journal left ≡ recovery moves (opening I) batches
   pub few : length B.journal ≤ proposal_limit + i
   pub told : 1 ≤ i → ended ≡ ending moves (state_of B) B.journal
 
-pub continues-start : (I : Situation) (moves : ℕ) (B : Recorded) (ended : Ended) (batches : List Batch) → B ≡ record { opening = I; journal = [] } → Continues I moves B ended 0 (drop 0 batches) batches
+pub continues-start : (I : Situation) (moves : ℕ) (B : Recorded) (ended : Option SearchEnd) (batches : List Batch) → B ≡ record { opening = I; journal = [] } → Continues I moves B ended 0 (drop 0 batches) batches
 continues-start I moves B ended batches is =
     let one : Recorded = record { opening = I; journal = [] } in
     subst (λ (D : Recorded). Continues I moves D ended 0 (drop 0 batches) batches) (sym is)
@@ -59,7 +50,7 @@ behind_is I moves B C D batch same lt taken down =
     down ∙ ap (after_descent moves) (taken ∙ taken_in B batch lt)
     ∙ ap (λ (J : Situation). let E : Recorded = record { opening = J; journal = behind J moves B.journal batch } in E) same
 
-pub continues-next : (I : Situation) (moves : ℕ) (B C D : Recorded) (was now : Ended) (batch : Batch) (i : ℕ) (batches : List Batch) → i < length batches → length batches ≤ 1001 → batch ≡ get_or batches i batch
+pub continues-next : (I : Situation) (moves : ℕ) (B C D : Recorded) (was now : Option SearchEnd) (batch : Batch) (i : ℕ) (batches : List Batch) → i < length batches → length batches ≤ 1001 → batch ≡ get_or batches i batch
     → C ≡ with_entry B 0 (event.Batch batch) → D ≡ after_descent moves C → now ≡ ending moves (state_of D) D.journal
     → Continues I moves B was i (drop i batches) batches → Continues I moves D now (i + 1) (drop (i + 1) batches) batches
 unfolding recovery_behind
@@ -81,30 +72,28 @@ continues-next I moves B C D was now batch i batches lt most at taken down told 
       told = λ some. told;
     }
 
-pub continues-end : (I : Situation) (moves : ℕ) (B : Recorded) (ended : Ended) (search : Option SearchEnd) (i : ℕ) (batches : List Batch) → 1 ≤ length batches → length batches ≤ i → search ≡ searched ended → Continues I moves B ended i (drop i batches) batches → IsRecoveredBook I batches moves B search
-unfolding recovery_behind search_end
-continues-end I moves B ended search i batches some le is h =
+pub continues-end : (I : Situation) (moves : ℕ) (B : Recorded) (search : Option SearchEnd) (i : ℕ) (batches : List Batch) → 1 ≤ length batches → length batches ≤ i → Continues I moves B search i (drop i batches) batches → IsRecoveredBook I batches moves B search
+unfolding recovery_behind search_end ending
+continues-end I moves B search i batches some le h =
     let left : drop i batches ≡ [] = drop_of_length-le batches le in
     let journal : B.journal ≡ recovery moves (opening I) batches = ap (λ (bs : List Batch). recovery_behind moves (opening I) B.journal bs) (sym left) ∙ h.rest in
     let made = λ (J : Situation) (j : List Entry). let E : Recorded = record { opening = J; journal = j } in E in
     let book : B ≡ made I (recovery moves (opening I) batches) = ap (λ (J : Situation). made J B.journal) h.same ∙ ap (made I) journal in
     record {
       history = book;
-      ended = is ∙ ap searched (h.told (omega (arith, some, le)))
-          ∙ ap (λ (E : Recorded). searched (ending moves (state_of E) E.journal)) book
-          ∙ ending_told (state (opening I) (recovery moves (opening I) batches)).broken (is_spent moves (recovery moves (opening I) batches)) moves (state (opening I) (recovery moves (opening I) batches)) (recovery moves (opening I) batches) refl refl;
+      ended = h.told (omega (arith, some, le)) ∙ ap (λ (E : Recorded). ending moves (state_of E) E.journal) book;
     }
 
 -- ---- what is written of it
 
-outcome_is : (I : Situation) (batches : List Batch) (moves : ℕ) (B : Recorded) (search : Option SearchEnd) → IsRecoveredBook I batches moves B search → history_outcome B.opening search B.journal ≡ recovered (recovery_on I batches moves)
+outcome_is : (I : Situation) (batches : List Batch) (moves : ℕ) (B : Recorded) (search : Option SearchEnd) → IsRecoveredBook I batches moves B search → history_outcome B.opening (search_told search) B.journal ≡ recovered (recovery_on I batches moves)
 unfolding recovered_history
 outcome_is I batches moves B search h =
-    ap (λ (E : Recorded). history_outcome E.opening search E.journal) h.history
-    ∙ ap (λ (s : Option SearchEnd). history_outcome I s (recovery moves (opening I) batches)) h.ended
+    ap (λ (E : Recorded). history_outcome E.opening (search_told search) E.journal) h.history
+    ∙ ap (λ (s : Option SearchEnd). history_outcome I (search_told s) (recovery moves (opening I) batches)) h.ended
 
-pub recovered-book : (before now : World) (I : Situation) (batches : List Batch) (moves : ℕ) (B : Recorded) (search : Option SearchEnd) (how : Ending) → IsRecoveredBook I batches moves B search → Completes history_files before now (history_outcome B.opening search B.journal) how → Completes history_files before now (recovered (recovery_on I batches moves)) how
+pub recovered-book : (before now : World) (I : Situation) (batches : List Batch) (moves : ℕ) (B : Recorded) (search : Option SearchEnd) (how : Ending) → IsRecoveredBook I batches moves B search → Completes history_files before now (history_outcome B.opening (search_told search) B.journal) how → Completes history_files before now (recovered (recovery_on I batches moves)) how
 recovered-book before now I batches moves B search how is done = subst (λ (o : Outcome). Completes history_files before now o how) (outcome_is I batches moves B search is) done
 
-pub tried-book : (before now : World) (I : Situation) (batches : List Batch) (moves : ℕ) (B : Recorded) (search : Option SearchEnd) (how : Ending) → IsRecoveredBook I batches moves B search → Completes [] before now (told_alone (history_outcome B.opening search B.journal)) how → Completes [] before now (tried (recovery_on I batches moves)) how
+pub tried-book : (before now : World) (I : Situation) (batches : List Batch) (moves : ℕ) (B : Recorded) (search : Option SearchEnd) (how : Ending) → IsRecoveredBook I batches moves B search → Completes [] before now (told_alone (history_outcome B.opening (search_told search) B.journal)) how → Completes [] before now (tried (recovery_on I batches moves)) how
 tried-book before now I batches moves B search how is done = subst (λ (o : Outcome). Completes [] before now (told_alone o) how) (outcome_is I batches moves B search is) done

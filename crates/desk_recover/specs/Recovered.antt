@@ -1,21 +1,12 @@
 -- What taking the batches of a day makes.
-use Rattle.std.specs.Prelude.{◌≡◌, ℕ, List, Option, Some, None}
+use Rattle.std.specs.Prelude.{◌≡◌, ℕ, List, Option}
 use Rattle.day_orders.specs.declared.orders.Batch.{Batch}
 use Rattle.desk_data.specs.Situation.{Situation}
 use Rattle.desk_model.specs.States.{opening}
 use Rattle.desk_core.specs.Recorded.{Recorded}
 use Rattle.near_moves.specs.Descent.{recovery}
-use Rattle.desk_descent.specs.declared.descent.Ended.{Ended}
-use Rattle.desk_descent.specs.declared.descent.Ended.TheVariants as descent_is
-use Rattle.desk_tasks.specs.declared.ended.SearchEnd.{SearchEnd}
-use Rattle.desk_tasks.specs.declared.ended.SearchEnd.TheVariants as ended
+use Rattle.near_moves.specs.declared.ended.SearchEnd.{SearchEnd}
 use Rattle.desk_tasks.specs.Recover.{search_end}
-
--- how the end of a descent is told
-abbrev pub searched : Ended → Option SearchEnd
-searched descent_is.NoPlan = None
-searched descent_is.Quiet = Some ended.Quiet
-searched descent_is.Spent = Some ended.Budget
 
 -- the book has the history of the recovery, and this is how its last search ended
 pub record IsRecoveredBook (I : Situation) (batches : List Batch) (moves : ℕ) (B : Recorded) (search : Option SearchEnd) : Type 0 where

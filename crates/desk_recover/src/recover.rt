@@ -1,8 +1,9 @@
 //! Recovering a day, and writing what came of it.
 
-ghost use Rattle.std.specs.Prelude.{◌≡◌, ◌≤◌, [], length, All};
-ghost use Rattle.desk_data.specs.Valid.{IsOrder};
-ghost use Rattle.desk_runs.specs.Runs.{world};
+ghost use Rattle.std.specs.Prelude.{◌≡◌, ◌≤◌, length, All};
+ghost use Rattle.desk_data.specs.Situation.{fresh_day};
+ghost use Rattle.desk_data.specs.Valid.{IsBatch};
+ghost use Rattle.desk_runs.specs.Runs.{Between};
 ghost use Rattle.desk_runs.specs.Finishing.{Completes};
 ghost use Rattle.desk_tasks.specs.Recover.{recovery_on, recovered, tried};
 ghost use Rattle.desk_tasks.specs.Tasks.{recover, trial, files_for};
@@ -28,12 +29,12 @@ pub fn recover_day<F: Folder, O: Sink>(
     folder: &mut F,
     out: &mut O,
 ) -> Ending
-    requires fresh { inst.orders ≡ [] }
-    requires asked { All (λ batch. All (IsOrder inst.parts) batch.orders) batches.now }
+    requires fresh { inst ≡ fresh_day inst.parts }
+    requires asked { All (IsBatch inst.parts) batches.now }
     requires some { 1 ≤ length batches.now }
     requires few { length batches.now ≤ 1001 }
-    ensures { Completes (files_for (recover (recovery_on inst batches.now moves))) (world (F.outside folder.old) (O.report out.old))
-        (world (F.outside folder.new) (O.report out.new)) (recovered (recovery_on inst batches.now moves)) result }
+    ensures { Between F.outside O.report folder.old out.old folder.new out.new (λ before now.
+        Completes (files_for (recover (recovery_on inst batches.now moves))) before now (recovered (recovery_on inst batches.now moves)) result) }
 {
     match run_batches(alloc, inst, batches, moves) {
         Ok(done) => write_history(alloc, &done.book, done.search, folder, out),
@@ -53,12 +54,12 @@ pub fn try_day<F: Folder, O: Sink>(
     folder: &mut F,
     out: &mut O,
 ) -> Ending
-    requires fresh { inst.orders ≡ [] }
-    requires asked { All (λ batch. All (IsOrder inst.parts) batch.orders) batches.now }
+    requires fresh { inst ≡ fresh_day inst.parts }
+    requires asked { All (IsBatch inst.parts) batches.now }
     requires some { 1 ≤ length batches.now }
     requires few { length batches.now ≤ 1001 }
-    ensures { Completes (files_for (trial (recovery_on inst batches.now moves))) (world (F.outside folder.old) (O.report out.old))
-        (world (F.outside folder.new) (O.report out.new)) (tried (recovery_on inst batches.now moves)) result }
+    ensures { Between F.outside O.report folder.old out.old folder.new out.new (λ before now.
+        Completes (files_for (trial (recovery_on inst batches.now moves))) before now (tried (recovery_on inst batches.now moves)) result) }
 {
     match run_batches(alloc, inst, batches, moves) {
         Ok(done) => report_history(alloc, &done.book, done.search, folder, out),

@@ -1,33 +1,22 @@
 //! Taking the batches of a day, each with its descent.
 
-ghost use Rattle.std.specs.Prelude.{◌≡◌, ◌≤◌, [], length, All, IfOk};
-ghost use Rattle.desk_data.specs.Valid.{IsOrder};
+ghost use Rattle.std.specs.Prelude.{◌≡◌, ◌≤◌, length, All, IfOk};
+ghost use Rattle.desk_data.specs.Situation.{fresh_day};
+ghost use Rattle.desk_data.specs.Valid.{IsBatch};
 ghost use Rattle.desk_tasks.specs.Recover.{search_end};
-ghost use Rattle.desk_recover.specs.Recovered.{searched, IsRecoveredBook};
+ghost use Rattle.desk_recover.specs.Recovered.{IsRecoveredBook};
 ghost use Rattle.desk_core.specs.Recorded.{state_of};
 
 use desk_core::Book;
 use desk_data::{Batch, Instance, NoMem};
-use desk_descent::{Ended, descend};
-use desk_tasks::SearchEnd;
+use desk_descent::{SearchEnd, descend};
 use std::alloc::Global;
 
-/// The book of a day that was recovered, and how its last search ended, where there is a plan.
+/// The book of a day that was recovered, and why its last search ended, where there is a plan.
 #[derive(Drop)]
 pub(crate) struct Recovered {
     pub book: Book,
     pub search: Option<SearchEnd>,
-}
-
-// How a descent is told to have ended.
-fn search_of(ended: Ended) -> Option<SearchEnd>
-    ensures { result ≡ searched ended }
-{
-    match ended {
-        Ended::NoPlan => None,
-        Ended::Spent => Some(SearchEnd::Budget),
-        Ended::Quiet => Some(SearchEnd::Quiet),
-    }
 }
 
 /// The book of an instance after these batches, of which each is taken and then followed by a descent of at
@@ -38,20 +27,17 @@ pub(crate) fn run_batches(
     batches: &[Batch],
     moves: u32,
 ) -> Result<Recovered, NoMem>
-    requires fresh { inst.orders ≡ [] }
-    requires asked { All (λ batch. All (IsOrder inst.parts) batch.orders) batches.now }
+    requires fresh { inst ≡ fresh_day inst.parts }
+    requires asked { All (IsBatch inst.parts) batches.now }
     requires some { 1 ≤ length batches.now }
     requires few { length batches.now ≤ 1001 }
     ensures { IfOk result (λ recovered. IsRecoveredBook inst batches.now moves recovered.book recovered.search) }
 {
     let mut book = Book::open(alloc, inst)?;
-    let mut ended = Ended::NoPlan;
+    let mut search = None;
     for batch in batches {
         book.intake(alloc, 0, batch)?;
-        ended = descend(alloc, &mut book, moves)?;
+        search = descend(alloc, &mut book, moves)?;
     }
-    Ok(Recovered {
-        book,
-        search: search_of(ended),
-    })
+    Ok(Recovered { book, search })
 }

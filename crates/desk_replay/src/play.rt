@@ -1,8 +1,9 @@
 //! Taking the events of a story, and writing what came of them.
 
-ghost use Rattle.std.specs.Prelude.{◌≡◌, []};
+ghost use Rattle.std.specs.Prelude.{◌≡◌};
+ghost use Rattle.desk_data.specs.Situation.{fresh_day};
 ghost use Rattle.desk_model.specs.Histories.{AreAskable};
-ghost use Rattle.desk_runs.specs.Runs.{world};
+ghost use Rattle.desk_runs.specs.Runs.{Between};
 ghost use Rattle.desk_runs.specs.Finishing.{Completes};
 ghost use Rattle.desk_tasks.specs.Play.{story_on, played};
 ghost use Rattle.desk_tasks.specs.Tasks.{play, files_for};
@@ -27,10 +28,10 @@ pub fn play_events<F: Folder, O: Sink>(
     folder: &mut F,
     out: &mut O,
 ) -> Ending
-    requires fresh { inst.orders ≡ [] }
+    requires fresh { inst ≡ fresh_day inst.parts }
     requires asked { AreAskable inst events.now }
-    ensures { Completes (files_for (play (story_on inst events.now))) (world (F.outside folder.old) (O.report out.old))
-        (world (F.outside folder.new) (O.report out.new)) (played (story_on inst events.now)) result }
+    ensures { Between F.outside O.report folder.old out.old folder.new out.new (λ before now.
+        Completes (files_for (play (story_on inst events.now))) before now (played (story_on inst events.now)) result) }
 {
     match run_events(alloc, inst, events) {
         Ok(book) => write_history(alloc, &book, None, folder, out),

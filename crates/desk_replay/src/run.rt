@@ -1,6 +1,7 @@
 //! Taking the events of a story.
 
 ghost use Rattle.std.specs.Prelude.{◌≡◌, [], IfOk, OnOk};
+ghost use Rattle.desk_data.specs.Situation.{fresh_day};
 ghost use Rattle.desk_model.specs.States.{opening};
 ghost use Rattle.desk_model.specs.Histories.{IsAskable, AreAskable, run};
 ghost use Rattle.desk_core.specs.Recorded.{with_entry};
@@ -33,7 +34,7 @@ pub(crate) fn run_events(
     inst: Instance,
     events: &[(u32, Event)],
 ) -> Result<Book, NoMem>
-    requires fresh { inst.orders ≡ [] }
+    requires fresh { inst ≡ fresh_day inst.parts }
     requires asked { AreAskable inst events.now }
     ensures { IfOk result (λ book. book ≡ record { opening = inst; journal = run (opening inst) events.now }) }
 {

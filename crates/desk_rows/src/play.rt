@@ -8,13 +8,50 @@ use desk_top::desk_main;
 use std::alloc::{AllocError, Global};
 
 // The calls of the next run that are to fail, and the bytes that its sink takes.
-#[derive(Drop)]
 struct Faults {
     place: bool,
     next: Vec<u64>,
     put: Vec<u64>,
     report: Vec<u64>,
     room: usize,
+}
+
+// In one call, so that whoever lets the faults go does not prove anew that each list of them may go.
+impl Drop for Faults {
+    fn drop(self) {
+        let Faults {
+            place: _,
+            next: _,
+            put: _,
+            report: _,
+            room: _,
+        } = self;
+    }
+}
+
+impl Faults {
+    // A folder with these texts, and an empty sink, whose calls fail so.
+    fn outside(self, alloc: Global, inputs: Texts) -> (MemFolder, ReportSink) {
+        let Faults {
+            place,
+            next,
+            put,
+            report,
+            room,
+        } = self;
+        let mut folder = MemFolder::new(inputs, next, put);
+        if place {
+            folder.fail_place();
+        }
+        let sink = ReportSink {
+            bytes: Vec::new(alloc),
+            room,
+            fail: report,
+            calls: 0,
+            faults: 0,
+        };
+        (folder, sink)
+    }
 }
 
 fn no_faults(alloc: Global) -> Faults {
@@ -28,7 +65,6 @@ fn no_faults(alloc: Global) -> Faults {
 }
 
 /// A transcript that is played.
-#[derive(Drop)]
 struct Player {
     alloc: Global,
     /// the texts with which each run begins
@@ -42,6 +78,22 @@ struct Player {
     written: Texts,
     runs: u64,
     played: Vec<u8>,
+}
+
+/// In one call, so that whoever lets a player go does not prove anew that each part of it may go.
+impl Drop for Player {
+    fn drop(self) {
+        let Player {
+            alloc: _,
+            day: _,
+            changed: _,
+            faults: _,
+            sizes: _,
+            written: _,
+            runs: _,
+            played: _,
+        } = self;
+    }
 }
 
 /// Plays a transcript over a day, and answers it with what came.
@@ -62,7 +114,7 @@ pub(crate) fn play(alloc: Global, day: Texts, transcript: &str) -> Result<Vec<u8
     if player.runs == 0 {
         player.push("nothing was run\n")?;
     }
-    Ok(player.played)
+    Ok(player.end())
 }
 
 // The words of a run; `''` is one of no bytes.
@@ -76,6 +128,21 @@ fn words_of(alloc: Global, text: &str) -> Result<Vec<String>, AllocError> {
 }
 
 impl Player {
+    // What came of all that was played.
+    fn end(self) -> Vec<u8> {
+        let Player {
+            alloc: _,
+            day: _,
+            changed: _,
+            faults: _,
+            sizes: _,
+            written: _,
+            runs: _,
+            played,
+        } = self;
+        played
+    }
+
     fn push(&mut self, text: &str) -> Result<(), AllocError> {
         self.played.extend_from_slice(text.as_bytes())
     }
@@ -166,17 +233,7 @@ impl Player {
         let mut inputs = std::mem::replace(&mut self.changed, Vec::new(alloc));
         add_all(&mut inputs, self.day.as_slice())?;
         let faults = std::mem::replace(&mut self.faults, no_faults(alloc));
-        let mut folder = MemFolder::new(inputs, faults.next, faults.put);
-        if faults.place {
-            folder.fail_place();
-        }
-        let mut sink = ReportSink {
-            bytes: Vec::new(alloc),
-            room: faults.room,
-            fail: faults.report,
-            calls: 0,
-            faults: 0,
-        };
+        let (mut folder, mut sink) = faults.outside(alloc, inputs);
         let status = desk_main(alloc, words.as_slice(), &mut folder, &mut sink, &FreeGate);
         self.runs = self.runs.saturating_add(1);
         self.tell(status, sink.bytes.as_slice(), &folder)

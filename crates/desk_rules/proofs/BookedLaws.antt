@@ -15,7 +15,7 @@ use Rattle.desk_data.specs.Paths.{no_pair}
 use Rattle.desk_data.specs.Booked.{booked_path, higher_haul, highest_haul, haul_of, higher_cabin, highest_cabin, reference_of}
 use Rattle.desk_rules.specs.Passengers.{takes}
 use Rattle.desk_rules.specs.Words.{HasLeg, IsHaulIn, IsCabinIn, IsHighestHaul, IsHighestCabin}
-use Rattle.desk_rules.proofs.CarriageLaws.{same_pair-holds}
+use Rattle.desk_data.proofs.BoundLaws.{same_pair-holds}
 
 -- ---- the highest haul
 

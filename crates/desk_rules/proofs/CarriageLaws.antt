@@ -1,30 +1,27 @@
 -- The rules of passengers: C12, C13, C14 and C15.
-use Rattle.std.proofs.Common.{◌≡◌, ℕ, ◌+◌, ◌-◌, ◌<◌, ◌≤◌, ◌⊎◌, inl, inr, Bool, true, ◌&&◌, eqb, leb, List, [], ◌∷◌, length, take, drop, refl, sym, ap, ◌∙◌, arith}
+use Rattle.std.proofs.Common.{◌≡◌, ℕ, ◌+◌, ◌-◌, ◌<◌, ◌≤◌, ◌⊎◌, inl, inr, Bool, true, ◌&&◌, eqb, leb, List, [], ◌∷◌, length, refl, sym, ap, ◌∙◌, arith}
 use Rattle.std.specs.Prelude.{Option, None, Some, All}
-use Rattle.std.specs.Bool.{Decides}
-use Rattle.std.specs.List.{AllByRecursion, list_all, starts_with}
+use Rattle.std.specs.List.{AllByRecursion, list_all}
 use Rattle.std.proofs.lemmas.Bool.{and_parts, and_from, cases_Bool, cond-true, cond-false, true≢false, eqb-true, eq-eqb, leb-true, le-leb}
 use Rattle.std.proofs.lemmas.List.Elements.{All-from_recursion, recursion_from_All}
-use Rattle.std.proofs.lemmas.Slice.Eq.{starts_is}
 use Rattle.desk_units.specs.declared.numbers.Leg.{Leg}
 use Rattle.desk_units.specs.declared.numbers.Cabin.{Cabin}
 use Rattle.desk_units.specs.declared.numbers.Cabin.TheVariants as cabin
 use Rattle.desk_units.specs.declared.numbers.Haul.{Haul}
 use Rattle.desk_units.specs.declared.numbers.Haul.TheVariants as haul
 use Rattle.desk_units.specs.declared.numbers.Plane.{Plane}
-use Rattle.desk_units.specs.Ranks.{cabin_rank}
 use Rattle.desk_data.specs.declared.row.Row.{Row}
 use Rattle.desk_data.specs.declared.row.Row.TheVariants.{Flown, Cancelled}
 use Rattle.desk_data.specs.declared.row.Group.{Group}
-use Rattle.desk_data.specs.Situation.{Situation, leg_at, plane_at, begun, same_pair, bound}
+use Rattle.desk_data.specs.Situation.{Situation, leg_at, plane_at, bound}
 use Rattle.desk_data.specs.PlanRows.{PlanRows, row_at, groups_at}
 use Rattle.desk_rules.specs.Numbers.{implies}
 use Rattle.desk_rules.specs.Rotations.{dep, arr, is_leg}
-use Rattle.desk_data.specs.Paths.{leg_in, first_leg, last_leg}
-use Rattle.desk_data.specs.Booked.{booked_path, origin_of, dest_of, booked_departure, booked_arrival, haul_of}
-use Rattle.desk_rules.specs.Passengers.{aboard, seats_in, is_carried, is_flown, all_flown, share_plane, connection, reaches, connects, arrival_of, longest_delay}
+use Rattle.desk_data.specs.Paths.{leg_in, first_leg, last_leg, is_carried}
+use Rattle.desk_data.specs.Booked.{origin_of, dest_of, booked_departure, booked_arrival, haul_of}
+use Rattle.desk_rules.specs.Passengers.{aboard, seats_in, is_flown, all_flown, share_plane, connection, reaches, connects, arrival_of, longest_delay}
 use Rattle.desk_rules.specs.Carriage.{has_seats, keeps_c12, each_carried, is_good_path, keeps_c13, is_in_time_path, keeps_c14, keeps_c15}
-use Rattle.desk_rules.specs.Words.{IsFlown, StaysAboard, GoesOn, TakesThere, EachCarried, ArrivesInTime, BeginsAsBegun, MeetsC12, MeetsC13, MeetsC14, MeetsC15}
+use Rattle.desk_rules.specs.Words.{IsFlown, StaysAboard, GoesOn, TakesThere, EachCarried, ArrivesInTime, IsBound, MeetsC12, MeetsC13, MeetsC14, MeetsC15}
 use Rattle.desk_rules.proofs.Tests.{each_below-holds, each_below-from, implies-holds, implies-from}
 
 -- ---- C12
@@ -268,51 +265,10 @@ keeps_c14-from I P r h = each_carried-from P r (is_in_time_path I P r) (IsInTime
 
 -- ---- C15
 
-rank-same : (a b : Cabin) → cabin_rank a ≡ cabin_rank b → a ≡ b
-rank-same cabin.F cabin.F h = refl
-rank-same cabin.F cabin.B h = absurd (omega arith)
-rank-same cabin.F cabin.E h = absurd (omega arith)
-rank-same cabin.B cabin.F h = absurd (omega arith)
-rank-same cabin.B cabin.B h = refl
-rank-same cabin.B cabin.E h = absurd (omega arith)
-rank-same cabin.E cabin.F h = absurd (omega arith)
-rank-same cabin.E cabin.B h = absurd (omega arith)
-rank-same cabin.E cabin.E h = refl
-
-pub same_pair-holds : (a b : Leg × Cabin) → same_pair a b ≡ true → a ≡ b
-same_pair-holds a b h =
-    let parts = and_parts (eqb a.0.0 b.0.0) (eqb (cabin_rank a.1) (cabin_rank b.1)) h in
-    ap (λ (k : ℕ). let pair : Leg × Cabin = (record { 0 = k }, a.1) in pair) (eqb-true a.0.0 b.0.0 parts.0)
-    ∙ ap (λ (c : Cabin). let pair : Leg × Cabin = (b.0, c) in pair) (rank-same a.1 b.1 (eqb-true (cabin_rank a.1) (cabin_rank b.1) parts.1))
-
-same_pair-from : (a b : Leg × Cabin) → a ≡ b → same_pair a b ≡ true
-same_pair-from a b is =
-    and_from (eqb a.0.0 b.0.0) (eqb (cabin_rank a.1) (cabin_rank b.1))
-    (eq-eqb a.0.0 b.0.0 (ap (λ (pair : Leg × Cabin). pair.0.0) is))
-    (eq-eqb (cabin_rank a.1) (cabin_rank b.1) (ap (λ (pair : Leg × Cabin). cabin_rank pair.1) is))
-
-pub same_pair-Decides : (a b : Leg × Cabin) → Decides (same_pair a b) (a ≡ b)
-same_pair-Decides a b = (same_pair-holds a b, same_pair-from a b)
-
-pub bound-holds : (I : Situation) (r : ℕ) (groups : List Group) (path : List (Leg × Cabin)) → bound I r groups path ≡ true → BeginsAsBegun I r path
-unfolding bound
-bound-holds I r groups path h =
-    let begun_legs = take (begun I r) (booked_path I r) in
-    record {
-      rest = drop (length begun_legs) path;
-      whole = (starts_is same_pair-Decides path begun_legs (starts_with same_pair path begun_legs) refl).0 h;
-    }
-
-pub bound-from : (I : Situation) (r : ℕ) (groups : List Group) (path : List (Leg × Cabin)) → BeginsAsBegun I r path → bound I r groups path ≡ true
-unfolding bound
-bound-from I r groups path h =
-    let begun_legs = take (begun I r) (booked_path I r) in
-    (starts_is same_pair-Decides path begun_legs (starts_with same_pair path begun_legs) refl).1 h.rest h.whole
-
 pub keeps_c15-holds : (I : Situation) (P : PlanRows) (r : ℕ) → keeps_c15 I P r ≡ true → MeetsC15 I P r
 unfolding keeps_c15
-keeps_c15-holds I P r h = each_carried-holds P r (bound I r (groups_at P r)) (BeginsAsBegun I r) (bound-holds I r (groups_at P r)) h
+keeps_c15-holds I P r h = each_carried-holds P r (bound I r (groups_at P r)) (IsBound I r (groups_at P r)) (λ path is. is) h
 
 pub keeps_c15-from : (I : Situation) (P : PlanRows) (r : ℕ) → MeetsC15 I P r → keeps_c15 I P r ≡ true
 unfolding keeps_c15
-keeps_c15-from I P r h = each_carried-from P r (bound I r (groups_at P r)) (BeginsAsBegun I r) (bound-from I r (groups_at P r)) h
+keeps_c15-from I P r h = each_carried-from P r (bound I r (groups_at P r)) (IsBound I r (groups_at P r)) (λ path is. is) h

@@ -24,15 +24,15 @@ use Rattle.desk_data.specs.declared.info.PositionInfo.{PositionInfo}
 use Rattle.desk_data.specs.declared.row.Row.{Row}
 use Rattle.desk_data.specs.declared.row.Row.TheVariants.{Flown, Cancelled}
 use Rattle.desk_data.specs.declared.row.Group.{Group}
-use Rattle.desk_data.specs.Situation.{Situation, legs_of, planes_of, airports_of, reservations_of, leg_at, plane_at, res_at, no_leg, no_plane, no_res}
+use Rattle.desk_data.specs.Situation.{Situation, legs_of, planes_of, airports_of, reservations_of, leg_at, plane_at, res_at, no_plane, no_res}
 use Rattle.desk_data.specs.PlanRows.{PlanRows, IsGroup, AreGroups, row_at, groups_at}
-use Rattle.desk_data.specs.Valid.{IsValid, IsLeg, IsPlane, IsReservation, IsPosition, IsPlanFor}
+use Rattle.desk_data.specs.Valid.{IsValid, IsPlane, IsReservation, IsPosition, IsPlanFor}
 use Rattle.desk_rules.specs.Numbers.{numbers}
-use Rattle.desk_data.specs.Paths.{last_leg}
+use Rattle.desk_data.specs.Paths.{last_leg, is_carried}
 use Rattle.desk_data.specs.Booked.{haul_of, reference_of}
-use Rattle.desk_rules.specs.Passengers.{is_carried, minutes_late}
+use Rattle.desk_rules.specs.Passengers.{minutes_late}
 use Rattle.desk_rules.specs.Cost.{rows_of, weight, by_hour, by_item, operating_of, operating, operating_cost, over_groups, arrives, delay, delay_cost, cancellation, cancellation_cost, downgrade_on, downgrade, downgrade_cost, legal_uncarried, legal_late, legal, legal_cost, at_hand, missing_aircraft, position_cost, cost}
-use Rattle.desk_rules.proofs.HourLaws.{length-numbers, arr-lt}
+use Rattle.desk_rules.proofs.HourLaws.{length-numbers, arr-lt, block_le}
 
 -- ---- the numbers of the tariff are in their ranges
 
@@ -40,14 +40,6 @@ pub weight-le : (I : Situation) (of : Term) → IsValid I → weight I of ≤ 99
 weight-le I of valid = weight_of-le (rows_of I) valid.parts.tariff.each of
 
 -- ---- the numbers of a day are in their ranges
-
-block_le : (I : Situation) (x : ℕ) → IsValid I → (leg_at I x).block ≤ 2880
-unfolding no_leg
-block_le I x valid =
-    elim (cases_lt x (legs_of I)) [
-      | inl within ↦ (All-get_or (IsLeg (airports_of I) (planes_of I) (legs_of I)) I.parts.legs x no_leg within valid.parts.legs).block
-      | inr past ↦ rw (get_or_past I.parts.legs x no_leg past) (omega arith)
-    ]
 
 hourly_le : (I : Situation) (p : ℕ) → IsValid I → IsPrice (plane_at I p).hourly.0
 unfolding no_plane

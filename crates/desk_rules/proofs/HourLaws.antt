@@ -17,7 +17,7 @@ pub length-numbers : (n : ℕ) → length (numbers n) ≡ n
 length-numbers zero = refl
 length-numbers (suc n) = length-append (numbers n) (n ∷ []) ∙ ap (λ (k : ℕ). k + 1) (length-numbers n) ∙ (let e : n + 1 ≡ suc n = omega arith in e)
 
-block_le : (I : Situation) (x : ℕ) → IsValid I → (leg_at I x).block ≤ 2880
+pub block_le : (I : Situation) (x : ℕ) → IsValid I → (leg_at I x).block ≤ 2880
 unfolding no_leg
 block_le I x valid =
     elim (cases_lt x (legs_of I)) [

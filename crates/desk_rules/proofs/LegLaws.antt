@@ -12,7 +12,7 @@ use Rattle.desk_data.specs.declared.row.Row.TheVariants.{Flown, Cancelled}
 use Rattle.desk_data.specs.Situation.{Situation, leg_at, plane_at, fixed, ordered_off, earliest, latest, due, spans}
 use Rattle.desk_data.specs.PlanRows.{PlanRows, row_at}
 use Rattle.desk_rules.specs.Rows.{is_row}
-use Rattle.desk_rules.specs.Rules.{has_due_row, departs_in_time, has_family, is_in_range, is_in_service, meets_span, keeps_c1, keeps_c2, keeps_c3, keeps_c4, keeps_c7}
+use Rattle.desk_rules.specs.Rules.{c1_due, c2_in_time, c3_family, c4_range, c7_service, meets_span, keeps_c1, keeps_c2, keeps_c3, keeps_c4, keeps_c7}
 use Rattle.desk_rules.specs.Words.{Flies, MeetsSpan, MeetsC1, MeetsC2, MeetsC3, MeetsC4, MeetsC7}
 
 -- ---- C1
@@ -30,60 +30,60 @@ pub is_row-from : (r : Row) → is_row r r ≡ true
 is_row-from (Flown p d) = and_from (eqb p.0 p.0) (eqb d.0 d.0) (eq-eqb p.0 p.0 refl) (eq-eqb d.0 d.0 refl)
 is_row-from Cancelled = refl
 
-has_due_row-holds : (asked : Option Row) (row other : Row) → has_due_row asked row ≡ true → asked ≡ Some other → row ≡ other
-has_due_row-holds None row other h is = absurd cc
-has_due_row-holds (Some r) row other h is = is_row-holds r row h ∙ (let same : r ≡ other = cc in same)
+c1_due-holds : (asked : Option Row) (row other : Row) → c1_due asked row ≡ true → asked ≡ Some other → row ≡ other
+c1_due-holds None row other h is = absurd cc
+c1_due-holds (Some r) row other h is = is_row-holds r row h ∙ (let same : r ≡ other = cc in same)
 
-has_due_row-from : (asked : Option Row) (row : Row) → ((other : Row) → asked ≡ Some other → row ≡ other) → has_due_row asked row ≡ true
-has_due_row-from None row h = refl
-has_due_row-from (Some r) row h = subst (λ (s : Row). is_row r s ≡ true) (sym (h r refl)) (is_row-from r)
+c1_due-from : (asked : Option Row) (row : Row) → ((other : Row) → asked ≡ Some other → row ≡ other) → c1_due asked row ≡ true
+c1_due-from None row h = refl
+c1_due-from (Some r) row h = subst (λ (s : Row). is_row r s ≡ true) (sym (h r refl)) (is_row-from r)
 
 pub keeps_c1-holds : (I : Situation) (P : PlanRows) (x : ℕ) → keeps_c1 I P x ≡ true → MeetsC1 I P x
 unfolding keeps_c1
-keeps_c1-holds I P x h row is = has_due_row-holds (due I x) (row_at P x) row h is
+keeps_c1-holds I P x h row is = c1_due-holds (due I x) (row_at P x) row h is
 
 pub keeps_c1-from : (I : Situation) (P : PlanRows) (x : ℕ) → MeetsC1 I P x → keeps_c1 I P x ≡ true
 unfolding keeps_c1
-keeps_c1-from I P x h = has_due_row-from (due I x) (row_at P x) h
+keeps_c1-from I P x h = c1_due-from (due I x) (row_at P x) h
 
 -- ---- C2
 
-departs_in_time-holds : (I : Situation) (P : PlanRows) (x p d : ℕ) → Flies P x p d → departs_in_time I x (row_at P x) ≡ true → (ordered_off I x ≡ false) × (earliest I x ≤ d) × (d ≤ latest I x)
-departs_in_time-holds I P x p d flown h =
+c2_in_time-holds : (I : Situation) (P : PlanRows) (x p d : ℕ) → Flies P x p d → c2_in_time I x (row_at P x) ≡ true → (ordered_off I x ≡ false) × (earliest I x ≤ d) × (d ≤ latest I x)
+c2_in_time-holds I P x p d flown h =
     let here : (not (ordered_off I x) && leb (earliest I x) d && leb d (latest I x)) ≡ true = rw flown at h in
     let outer = and_parts (not (ordered_off I x) && leb (earliest I x) d) (leb d (latest I x)) here in
     let inner = and_parts (not (ordered_off I x)) (leb (earliest I x) d) outer.0 in
     (not-true (ordered_off I x) inner.0, leb-true (earliest I x) d inner.1, leb-true d (latest I x) outer.1)
 
-departs_in_time-from : (I : Situation) (x : ℕ) (r : Row) → ((p d : ℕ) → r ≡ Flown (record { 0 = p }) (record { 0 = d }) → (ordered_off I x ≡ false) × (earliest I x ≤ d) × (d ≤ latest I x)) → departs_in_time I x r ≡ true
-departs_in_time-from I x (Flown p d) h =
+c2_in_time-from : (I : Situation) (x : ℕ) (r : Row) → ((p d : ℕ) → r ≡ Flown (record { 0 = p }) (record { 0 = d }) → (ordered_off I x ≡ false) × (earliest I x ≤ d) × (d ≤ latest I x)) → c2_in_time I x r ≡ true
+c2_in_time-from I x (Flown p d) h =
     let facts = h p.0 d.0 refl in
     and_from (not (ordered_off I x) && leb (earliest I x) d.0) (leb d.0 (latest I x))
     (and_from (not (ordered_off I x)) (leb (earliest I x) d.0) (not_from_false (ordered_off I x) facts.0) (le-leb (earliest I x) d.0 facts.1))
     (le-leb d.0 (latest I x) facts.2)
-departs_in_time-from I x Cancelled h = refl
+c2_in_time-from I x Cancelled h = refl
 
 pub keeps_c2-holds : (I : Situation) (P : PlanRows) (x : ℕ) → keeps_c2 I P x ≡ true → MeetsC2 I P x
 unfolding keeps_c2
 keeps_c2-holds I P x h movable p d flown =
-    elim (or_cases (fixed I x) (departs_in_time I x (row_at P x)) h) [
+    elim (or_cases (fixed I x) (c2_in_time I x (row_at P x)) h) [
       | inl stays ↦ absurd (true≢false (sym stays ∙ movable))
-      | inr in_time ↦ departs_in_time-holds I P x p d flown in_time
+      | inr in_time ↦ c2_in_time-holds I P x p d flown in_time
     ]
 
 pub keeps_c2-from : (I : Situation) (P : PlanRows) (x : ℕ) → MeetsC2 I P x → keeps_c2 I P x ≡ true
 unfolding keeps_c2
 keeps_c2-from I P x h =
     elim (cases_Bool (fixed I x)) [
-      | inl stays ↦ or_left (fixed I x) (departs_in_time I x (row_at P x)) stays
-      | inr movable ↦ or_right (fixed I x) (departs_in_time I x (row_at P x)) (departs_in_time-from I x (row_at P x) (h movable))
+      | inl stays ↦ or_left (fixed I x) (c2_in_time I x (row_at P x)) stays
+      | inr movable ↦ or_right (fixed I x) (c2_in_time I x (row_at P x)) (c2_in_time-from I x (row_at P x) (h movable))
     ]
 
 -- ---- C3
 
-has_family-from : (I : Situation) (x : ℕ) (r : Row) → ((p d : ℕ) → r ≡ Flown (record { 0 = p }) (record { 0 = d }) → (plane_at I p).family ≡ (plane_at I (leg_at I x).plane.0).family) → has_family I x r ≡ true
-has_family-from I x (Flown p d) h = (bytes_eq-Decides (plane_at I p.0).family (plane_at I (leg_at I x).plane.0).family).1 (h p.0 d.0 refl)
-has_family-from I x Cancelled h = refl
+c3_family-from : (I : Situation) (x : ℕ) (r : Row) → ((p d : ℕ) → r ≡ Flown (record { 0 = p }) (record { 0 = d }) → (plane_at I p).family ≡ (plane_at I (leg_at I x).plane.0).family) → c3_family I x r ≡ true
+c3_family-from I x (Flown p d) h = (bytes_eq-Decides (plane_at I p.0).family (plane_at I (leg_at I x).plane.0).family).1 (h p.0 d.0 refl)
+c3_family-from I x Cancelled h = refl
 
 pub keeps_c3-holds : (I : Situation) (P : PlanRows) (x : ℕ) → keeps_c3 I P x ≡ true → MeetsC3 I P x
 unfolding keeps_c3
@@ -93,13 +93,13 @@ keeps_c3-holds I P x h p d flown =
 
 pub keeps_c3-from : (I : Situation) (P : PlanRows) (x : ℕ) → MeetsC3 I P x → keeps_c3 I P x ≡ true
 unfolding keeps_c3
-keeps_c3-from I P x h = has_family-from I x (row_at P x) h
+keeps_c3-from I P x h = c3_family-from I x (row_at P x) h
 
 -- ---- C4
 
-is_in_range-from : (I : Situation) (x : ℕ) (r : Row) → ((p d : ℕ) → r ≡ Flown (record { 0 = p }) (record { 0 = d }) → (leg_at I x).distance ≤ (plane_at I p).range) → is_in_range I x r ≡ true
-is_in_range-from I x (Flown p d) h = le-leb (leg_at I x).distance (plane_at I p.0).range (h p.0 d.0 refl)
-is_in_range-from I x Cancelled h = refl
+c4_range-from : (I : Situation) (x : ℕ) (r : Row) → ((p d : ℕ) → r ≡ Flown (record { 0 = p }) (record { 0 = d }) → (leg_at I x).distance ≤ (plane_at I p).range) → c4_range I x r ≡ true
+c4_range-from I x (Flown p d) h = le-leb (leg_at I x).distance (plane_at I p.0).range (h p.0 d.0 refl)
+c4_range-from I x Cancelled h = refl
 
 pub keeps_c4-holds : (I : Situation) (P : PlanRows) (x : ℕ) → keeps_c4 I P x ≡ true → MeetsC4 I P x
 unfolding keeps_c4
@@ -109,7 +109,7 @@ keeps_c4-holds I P x h p d flown =
 
 pub keeps_c4-from : (I : Situation) (P : PlanRows) (x : ℕ) → MeetsC4 I P x → keeps_c4 I P x ≡ true
 unfolding keeps_c4
-keeps_c4-from I P x h = is_in_range-from I x (row_at P x) h
+keeps_c4-from I P x h = c4_range-from I x (row_at P x) h
 
 -- ---- spans, and C7
 
@@ -142,14 +142,14 @@ all_free I x d (span ∷ all) h =
     (false_from_ne_true (meets I x d span) (λ met. h.0 (meets_span-holds I x d span.0 span.1 met)))
     (all_free I x d all h.1)
 
-is_in_service-from : (I : Situation) (x : ℕ) (r : Row) → ((p d : ℕ) → r ≡ Flown (record { 0 = p }) (record { 0 = d }) → (plane_at I p).surface ≡ false → AllByRecursion (IsFree I x d) (spans I p)) → is_in_service I x r ≡ true
-is_in_service-from I x (Flown p d) h =
+c7_service-from : (I : Situation) (x : ℕ) (r : Row) → ((p d : ℕ) → r ≡ Flown (record { 0 = p }) (record { 0 = d }) → (plane_at I p).surface ≡ false → AllByRecursion (IsFree I x d) (spans I p)) → c7_service I x r ≡ true
+c7_service-from I x (Flown p d) h =
     elim (cases_Bool (plane_at I p.0).surface) [
       | inl ground ↦ or_left (plane_at I p.0).surface (not (list_any (meets I x d.0) (spans I p.0))) ground
       | inr air ↦ or_right (plane_at I p.0).surface (not (list_any (meets I x d.0) (spans I p.0)))
           (not_from_false (list_any (meets I x d.0) (spans I p.0)) (all_free I x d.0 (spans I p.0) (h p.0 d.0 refl air)))
     ]
-is_in_service-from I x Cancelled h = refl
+c7_service-from I x Cancelled h = refl
 
 pub keeps_c7-holds : (I : Situation) (P : PlanRows) (x : ℕ) → keeps_c7 I P x ≡ true → MeetsC7 I P x
 unfolding keeps_c7
@@ -162,4 +162,4 @@ keeps_c7-holds I P x h p d flown air =
 
 pub keeps_c7-from : (I : Situation) (P : PlanRows) (x : ℕ) → MeetsC7 I P x → keeps_c7 I P x ≡ true
 unfolding keeps_c7
-keeps_c7-from I P x h = is_in_service-from I x (row_at P x) (λ p d flown air. recursion_from_All (IsFree I x d) (spans I p) (h p d flown air))
+keeps_c7-from I P x h = c7_service-from I x (row_at P x) (λ p d flown air. recursion_from_All (IsFree I x d) (spans I p) (h p d flown air))

@@ -7,9 +7,9 @@ use Rattle.desk_data.specs.declared.row.Row.TheVariants.{Flown, Cancelled}
 use Rattle.desk_data.specs.Situation.{Situation, legs_of, leg_at, plane_at}
 use Rattle.desk_data.specs.PlanRows.{PlanRows, row_at}
 use Rattle.desk_rules.specs.Numbers.{each_below, none_below, implies}
-use Rattle.desk_rules.specs.Rotations.{is_earlier, comes_before, precedes, follows, is_first, arr, ground}
-use Rattle.desk_rules.specs.Rules.{leaves_right, has_ground_time, keeps_c5, keeps_c6}
-use Rattle.desk_rules.specs.Words.{Flies, Precedes, Follows, IsFirst, MeetsC5, LeavesRight, MeetsC6}
+use Rattle.desk_rules.specs.Rotations.{is_earlier, comes_before, precedes, follows, is_first, arr, ground_time}
+use Rattle.desk_rules.specs.Rules.{c5_location, c6_ground_time, keeps_c5, keeps_c6}
+use Rattle.desk_rules.specs.Words.{Flies, Precedes, Follows, IsFirst, MeetsC5, KeepsLocation, MeetsC6}
 use Rattle.desk_rules.proofs.Tests.{each_below-holds, each_below-from, none_below-holds, none_below-from, implies-holds, implies-from}
 
 -- ---- the order on an aircraft
@@ -80,14 +80,14 @@ leaves_origin I P y p = implies (is_first I P y) (eqb (leg_at I y).origin.0 (pla
 abbrev leaves_where_arrived : Situation → PlanRows → ℕ → ℕ → Bool
 leaves_where_arrived I P y x = implies (follows I P x y) (eqb (leg_at I y).origin.0 (leg_at I x).dest.0)
 
-leaves_right-holds : (I : Situation) (P : PlanRows) (y p d : ℕ) → Flies P y p d → (plane_at I p).surface ≡ false → leaves_right I P y (row_at P y) ≡ true → LeavesRight I P y p
-leaves_right-holds I P y p d flown air h =
+c5_location-holds : (I : Situation) (P : PlanRows) (y p d : ℕ) → Flies P y p d → (plane_at I p).surface ≡ false → c5_location I P y (row_at P y) ≡ true → KeepsLocation I P y p
+c5_location-holds I P y p d flown air h =
     let here : ((plane_at I p).surface || (leaves_origin I P y p && each_below (legs_of I) (leaves_where_arrived I P y))) ≡ true = rw flown at h in
     elim (or_cases (plane_at I p).surface (leaves_origin I P y p && each_below (legs_of I) (leaves_where_arrived I P y)) here) [
       | inl ground ↦ absurd (true≢false (sym ground ∙ air))
       | inr both ↦
           let parts = and_parts (leaves_origin I P y p) (each_below (legs_of I) (leaves_where_arrived I P y)) both in
-          let made : LeavesRight I P y p = record {
+          let made : KeepsLocation I P y p = record {
             first = λ first. eqb-true (leg_at I y).origin.0 (plane_at I p).origin.0
                 (implies-holds (is_first I P y) (eqb (leg_at I y).origin.0 (plane_at I p).origin.0) parts.0 (is_first-from I P y first));
             follower = λ x lt next. eqb-true (leg_at I y).origin.0 (leg_at I x).dest.0
@@ -96,8 +96,8 @@ leaves_right-holds I P y p d flown air h =
           } in made
     ]
 
-leaves_right-from : (I : Situation) (P : PlanRows) (y : ℕ) (r : Row) → ((p d : ℕ) → r ≡ Flown (record { 0 = p }) (record { 0 = d }) → (plane_at I p).surface ≡ false → LeavesRight I P y p) → leaves_right I P y r ≡ true
-leaves_right-from I P y (Flown p d) h =
+c5_location-from : (I : Situation) (P : PlanRows) (y : ℕ) (r : Row) → ((p d : ℕ) → r ≡ Flown (record { 0 = p }) (record { 0 = d }) → (plane_at I p).surface ≡ false → KeepsLocation I P y p) → c5_location I P y r ≡ true
+c5_location-from I P y (Flown p d) h =
     elim (cases_Bool (plane_at I p.0).surface) [
       | inl ground ↦ or_left (plane_at I p.0).surface (leaves_origin I P y p.0 && each_below (legs_of I) (leaves_where_arrived I P y)) ground
       | inr air ↦
@@ -108,46 +108,46 @@ leaves_right-from I P y (Flown p d) h =
           (each_below-from (legs_of I) (leaves_where_arrived I P y) (λ x lt.
           implies-from (follows I P x y) (eqb (leg_at I y).origin.0 (leg_at I x).dest.0) (λ next. eq-eqb (leg_at I y).origin.0 (leg_at I x).dest.0 (facts.follower x lt (follows-holds I P x y next))))))
     ]
-leaves_right-from I P y Cancelled h = refl
+c5_location-from I P y Cancelled h = refl
 
 pub keeps_c5-holds : (I : Situation) (P : PlanRows) (y : ℕ) → keeps_c5 I P y ≡ true → MeetsC5 I P y
 unfolding keeps_c5
-keeps_c5-holds I P y h p d flown air = leaves_right-holds I P y p d flown air h
+keeps_c5-holds I P y h p d flown air = c5_location-holds I P y p d flown air h
 
 pub keeps_c5-from : (I : Situation) (P : PlanRows) (y : ℕ) → MeetsC5 I P y → keeps_c5 I P y ≡ true
 unfolding keeps_c5
-keeps_c5-from I P y h = leaves_right-from I P y (row_at P y) h
+keeps_c5-from I P y h = c5_location-from I P y (row_at P y) h
 
 -- ---- C6
 
 abbrev departs_after : Situation → PlanRows → ℕ → ℕ → ℕ → ℕ → Bool
-departs_after I P y p d x = implies (follows I P x y) (leb (arr I P x + ground I p x y) d)
+departs_after I P y p d x = implies (follows I P x y) (leb (arr I P x + ground_time I p x y) d)
 
-has_ground_time-holds : (I : Situation) (P : PlanRows) (y p d : ℕ) → Flies P y p d → (plane_at I p).surface ≡ false → has_ground_time I P y (row_at P y) ≡ true → (x : ℕ) → x < legs_of I → Follows I P x y → arr I P x + ground I p x y ≤ d
-has_ground_time-holds I P y p d flown air h x lt next =
+c6_ground_time-holds : (I : Situation) (P : PlanRows) (y p d : ℕ) → Flies P y p d → (plane_at I p).surface ≡ false → c6_ground_time I P y (row_at P y) ≡ true → (x : ℕ) → x < legs_of I → Follows I P x y → arr I P x + ground_time I p x y ≤ d
+c6_ground_time-holds I P y p d flown air h x lt next =
     let here : ((plane_at I p).surface || each_below (legs_of I) (departs_after I P y p d)) ≡ true = rw flown at h in
     elim (or_cases (plane_at I p).surface (each_below (legs_of I) (departs_after I P y p d)) here) [
       | inl ground ↦ absurd (true≢false (sym ground ∙ air))
-      | inr each ↦ leb-true (arr I P x + ground I p x y) d
-          (implies-holds (follows I P x y) (leb (arr I P x + ground I p x y) d)
+      | inr each ↦ leb-true (arr I P x + ground_time I p x y) d
+          (implies-holds (follows I P x y) (leb (arr I P x + ground_time I p x y) d)
           (each_below-holds (legs_of I) (departs_after I P y p d) each x lt) (follows-from I P x y next))
     ]
 
-has_ground_time-from : (I : Situation) (P : PlanRows) (y : ℕ) (r : Row) → ((p d : ℕ) → r ≡ Flown (record { 0 = p }) (record { 0 = d }) → (plane_at I p).surface ≡ false → (x : ℕ) → x < legs_of I → Follows I P x y → arr I P x + ground I p x y ≤ d) → has_ground_time I P y r ≡ true
-has_ground_time-from I P y (Flown p d) h =
+c6_ground_time-from : (I : Situation) (P : PlanRows) (y : ℕ) (r : Row) → ((p d : ℕ) → r ≡ Flown (record { 0 = p }) (record { 0 = d }) → (plane_at I p).surface ≡ false → (x : ℕ) → x < legs_of I → Follows I P x y → arr I P x + ground_time I p x y ≤ d) → c6_ground_time I P y r ≡ true
+c6_ground_time-from I P y (Flown p d) h =
     elim (cases_Bool (plane_at I p.0).surface) [
       | inl ground ↦ or_left (plane_at I p.0).surface (each_below (legs_of I) (departs_after I P y p.0 d.0)) ground
       | inr air ↦ or_right (plane_at I p.0).surface (each_below (legs_of I) (departs_after I P y p.0 d.0))
           (each_below-from (legs_of I) (departs_after I P y p.0 d.0) (λ x lt.
-          implies-from (follows I P x y) (leb (arr I P x + ground I p.0 x y) d.0)
-          (λ next. le-leb (arr I P x + ground I p.0 x y) d.0 (h p.0 d.0 refl air x lt (follows-holds I P x y next)))))
+          implies-from (follows I P x y) (leb (arr I P x + ground_time I p.0 x y) d.0)
+          (λ next. le-leb (arr I P x + ground_time I p.0 x y) d.0 (h p.0 d.0 refl air x lt (follows-holds I P x y next)))))
     ]
-has_ground_time-from I P y Cancelled h = refl
+c6_ground_time-from I P y Cancelled h = refl
 
 pub keeps_c6-holds : (I : Situation) (P : PlanRows) (y : ℕ) → keeps_c6 I P y ≡ true → MeetsC6 I P y
 unfolding keeps_c6
-keeps_c6-holds I P y h p d flown air x lt next = has_ground_time-holds I P y p d flown air h x lt next
+keeps_c6-holds I P y h p d flown air x lt next = c6_ground_time-holds I P y p d flown air h x lt next
 
 pub keeps_c6-from : (I : Situation) (P : PlanRows) (y : ℕ) → MeetsC6 I P y → keeps_c6 I P y ≡ true
 unfolding keeps_c6
-keeps_c6-from I P y h = has_ground_time-from I P y (row_at P y) h
+keeps_c6-from I P y h = c6_ground_time-from I P y (row_at P y) h

@@ -9,9 +9,9 @@ use Rattle.desk_data.specs.Situation.{Situation, leg_at, plane_at, bound}
 use Rattle.desk_data.specs.PlanRows.{PlanRows, row_at, groups_at}
 use Rattle.desk_rules.specs.Rotations.{dep}
 use Rattle.desk_rules.specs.Numbers.{implies}
-use Rattle.desk_data.specs.Paths.{first_leg, last_leg}
+use Rattle.desk_data.specs.Paths.{first_leg, last_leg, is_carried}
 use Rattle.desk_data.specs.Booked.{origin_of, dest_of, booked_departure, booked_arrival, haul_of}
-use Rattle.desk_rules.specs.Passengers.{aboard, seats_in, is_carried, all_flown, connects, arrival_of, longest_delay}
+use Rattle.desk_rules.specs.Passengers.{aboard, seats_in, all_flown, connects, arrival_of, longest_delay}
 
 -- C12: the passengers of a flown leg in a cabin have seats
 abbrev pub has_seats : Situation → PlanRows → ℕ → Cabin → Row → Bool
@@ -44,6 +44,6 @@ is_in_time_path I P r path = implies (all_flown P path) (nat_le (arrival_of I P 
 unfoldable pub keeps_c14 : Situation → PlanRows → ℕ → Bool
 keeps_c14 I P r = each_carried P r (is_in_time_path I P r)
 
--- C15: a carried path begins with the legs of the scheduled path that have begun
+-- C15: a carried path is bound to what has begun, beside the groups of its reservation
 unfoldable pub keeps_c15 : Situation → PlanRows → ℕ → Bool
 keeps_c15 I P r = each_carried P r (bound I r (groups_at P r))

@@ -19,7 +19,8 @@ use Rattle.desk_data.specs.PlanRows.{PlanRows, row_at, groups_at}
 use Rattle.desk_rules.specs.Numbers.{numbers}
 use Rattle.desk_rules.specs.Maintenance.{is_left_at}
 use Rattle.desk_data.specs.Booked.{haul_of, reference_of}
-use Rattle.desk_rules.specs.Passengers.{is_carried, all_flown, minutes_late}
+use Rattle.desk_rules.specs.Passengers.{all_flown, minutes_late}
+use Rattle.desk_data.specs.Paths.{is_carried}
 
 -- a sum of money
 abbrev pub grains : ℕ → Grains

@@ -1,5 +1,5 @@
 -- Passengers: the seats that they take, and the paths that they are on. What they booked is told in desk_data.
-use Rattle.std.specs.Prelude.{ℕ, ◌+◌, ◌-◌, Bool, true, false, ◌&&◌, ◌==◌, nat_le, if◌then◌else◌, List, [], ◌∷◌, length, sum_by}
+use Rattle.std.specs.Prelude.{ℕ, ◌+◌, ◌-◌, Bool, true, false, ◌&&◌, ◌==◌, nat_le, if◌then◌else◌, List, length, sum_by}
 use Rattle.std.specs.List.{list_all, list_any}
 use Rattle.desk_units.specs.declared.numbers.Leg.{Leg}
 use Rattle.desk_units.specs.declared.numbers.Cabin.{Cabin}
@@ -17,11 +17,6 @@ use Rattle.desk_data.specs.Situation.{Situation, leg_at}
 use Rattle.desk_data.specs.PlanRows.{PlanRows, row_at}
 use Rattle.desk_rules.specs.Numbers.{each_below}
 use Rattle.desk_rules.specs.Rotations.{dep, arr, is_leg}
-
--- the empty path means that passengers are not carried
-abbrev pub is_carried : List (Leg × Cabin) → Bool
-is_carried [] = false
-is_carried (pair ∷ path) = true
 
 -- ---- seats
 
@@ -58,9 +53,13 @@ share_plane (Flown plane dep) (Flown other later) = plane.0 == other.0
 share_plane (Flown plane dep) Cancelled = false
 share_plane Cancelled row = false
 
+-- the minutes that passengers need to change from one aircraft to another
+abbrev pub connection_minutes : ℕ
+connection_minutes = 30
+
 -- the minutes that passengers need from leg x to leg y: none where x is the previous leg of y and one aircraft flies both
 abbrev pub connection : Situation → PlanRows → ℕ → ℕ → ℕ
-connection I P x y = if is_leg x (leg_at I y).prev && share_plane (row_at P x) (row_at P y) then 0 else 30
+connection I P x y = if is_leg x (leg_at I y).prev && share_plane (row_at P x) (row_at P y) then 0 else connection_minutes
 
 -- whether passengers of leg x can go on with leg y: it leaves where x arrived, and late enough
 abbrev pub reaches : Situation → PlanRows → ℕ → ℕ → Bool

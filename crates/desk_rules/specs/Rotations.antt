@@ -46,5 +46,5 @@ is_leg x None = false
 is_leg x (Some leg) = leg.0 == x
 
 -- the ground time of aircraft p between leg x and leg y: shorter where x is the previous leg of y
-abbrev pub ground : Situation → ℕ → ℕ → ℕ → ℕ
-ground I p x y = if is_leg x (leg_at I y).prev then (plane_at I p).transit else (plane_at I p).turn
+abbrev pub ground_time : Situation → ℕ → ℕ → ℕ → ℕ
+ground_time I p x y = if is_leg x (leg_at I y).prev then (plane_at I p).transit else (plane_at I p).turn

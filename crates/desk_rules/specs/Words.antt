@@ -7,7 +7,7 @@
 --   d, dep, later  departures, at  a moment: minutes     h  an hour: a moment divided by 60, rounded down
 --   c  a cabin                                           i  a place in a path, from 0
 -- Numbers of legs and the like are from 0 to one less than there are. A pair of a path is a leg and a cabin.
-use Rattle.std.specs.Prelude.{◌≡◌, ℕ, ◌+◌, ◌*◌, ◌<◌, ◌≤◌, ◌⊎◌, false, List, [], ◌∷◌, ◌++◌, length, take, All, Some, slice_index_or}
+use Rattle.std.specs.Prelude.{◌≡◌, ℕ, ◌+◌, ◌*◌, ◌<◌, ◌≤◌, ◌⊎◌, true, false, List, [], ◌∷◌, ◌++◌, length, All, Some, slice_index_or}
 use Rattle.desk_units.specs.declared.numbers.Leg.{Leg}
 use Rattle.desk_units.specs.declared.numbers.Cabin.{Cabin}
 use Rattle.desk_units.specs.declared.numbers.Haul.{Haul}
@@ -16,17 +16,18 @@ use Rattle.desk_units.specs.declared.numbers.Minute.{Minute}
 use Rattle.desk_units.specs.Ranks.{cabin_rank, haul_rank}
 use Rattle.desk_data.specs.declared.row.Row.{Row}
 use Rattle.desk_data.specs.declared.row.Row.TheVariants.{Flown}
+use Rattle.desk_data.specs.declared.row.Group.{Group}
 use Rattle.desk_data.specs.declared.info.Maint.{Maint}
 use Rattle.desk_data.specs.declared.broken.Broken.{Broken}
 use Rattle.desk_data.specs.declared.broken.Broken.TheVariants.{C1, C2, C3, C4, C5, C6, C7, C8, C9, C10, C11, C12, C13, C14, C15}
-use Rattle.desk_data.specs.Situation.{Situation, legs_of, planes_of, airports_of, reservations_of, leg_at, plane_at, fixed, ordered_off, earliest, latest, due, spans, begun}
+use Rattle.desk_data.specs.Situation.{Situation, legs_of, planes_of, airports_of, reservations_of, leg_at, plane_at, fixed, ordered_off, earliest, latest, due, spans, bound}
 use Rattle.desk_data.specs.Hours.{dep_cap, arr_cap}
 use Rattle.desk_data.specs.PlanRows.{PlanRows, row_at, groups_at}
-use Rattle.desk_rules.specs.Rotations.{dep, arr, ground}
+use Rattle.desk_rules.specs.Rotations.{dep, arr, ground_time}
 use Rattle.desk_rules.specs.Maintenance.{minutes_before}
 use Rattle.desk_rules.specs.Slots.{departures, arrivals}
 use Rattle.desk_data.specs.Paths.{no_pair, leg_in, first_leg, last_leg}
-use Rattle.desk_data.specs.Booked.{booked_path, origin_of, dest_of, booked_departure, booked_arrival, haul_of}
+use Rattle.desk_data.specs.Booked.{origin_of, dest_of, booked_departure, booked_arrival, haul_of}
 use Rattle.desk_rules.specs.Passengers.{aboard, seats_in, arrival_of}
 use Rattle.desk_rules.specs.Least.{items, all_hours}
 
@@ -70,16 +71,16 @@ MeetsC4 I P x = (p d : ℕ) → Flies P x p d → (leg_at I x).distance ≤ (pla
 
 -- C5: the first leg of an aircraft leaves the aircraft's origin
 -- and each follower leaves where the leg before it arrived
-pub record LeavesRight (I : Situation) (P : PlanRows) (y p : ℕ) : Type 0 where
+pub record KeepsLocation (I : Situation) (P : PlanRows) (y p : ℕ) : Type 0 where
   pub first : IsFirst I P y → (leg_at I y).origin.0 ≡ (plane_at I p).origin.0
   pub follower : (x : ℕ) → x < legs_of I → Follows I P x y → (leg_at I y).origin.0 ≡ (leg_at I x).dest.0
 
 abbrev pub MeetsC5 : Situation → PlanRows → ℕ → Type 0
-MeetsC5 I P y = (p d : ℕ) → Flies P y p d → (plane_at I p).surface ≡ false → LeavesRight I P y p
+MeetsC5 I P y = (p d : ℕ) → Flies P y p d → (plane_at I p).surface ≡ false → KeepsLocation I P y p
 
 -- C6: a follower departs no earlier than the leg before it arrived and the ground time is over
 abbrev pub MeetsC6 : Situation → PlanRows → ℕ → Type 0
-MeetsC6 I P y = (p d : ℕ) → Flies P y p d → (plane_at I p).surface ≡ false → (x : ℕ) → x < legs_of I → Follows I P x y → arr I P x + ground I p x y ≤ d
+MeetsC6 I P y = (p d : ℕ) → Flies P y p d → (plane_at I p).surface ≡ false → (x : ℕ) → x < legs_of I → Follows I P x y → arr I P x + ground_time I p x y ≤ d
 
 -- leg x, departing at d, meets a span: it departs before the span's end, and the span starts before it arrives
 pub record MeetsSpan (I : Situation) (x d : ℕ) (from to : Minute) : Type 0 where
@@ -201,14 +202,13 @@ pub record ArrivesInTime (I : Situation) (P : PlanRows) (r : ℕ) (path : List (
 abbrev pub MeetsC14 : Situation → PlanRows → ℕ → Type 0
 MeetsC14 I P r = EachCarried P r (λ path. All (λ pair. IsFlown P pair.0.0) path → ArrivesInTime I P r path)
 
--- a path is the legs of the booked path that have begun, in their cabins, and a rest
-pub record BeginsAsBegun (I : Situation) (r : ℕ) (path : List (Leg × Cabin)) : Type 0 where
-  pub rest : List (Leg × Cabin)
-  pub whole : path ≡ take (begun I r) (booked_path I r) ++ rest
+-- a path is bound to what the passengers of its reservation have begun, beside these groups: it begins with it, as the law `paths_are_bound_to_what_has_begun` of desk_data says
+abbrev pub IsBound : Situation → ℕ → List Group → List (Leg × Cabin) → Type 0
+IsBound I r groups path = bound I r groups path ≡ true
 
--- C15: a carried path begins with the legs of the booked path that have begun
+-- C15: a carried path is bound to what has begun, beside the groups of its reservation
 abbrev pub MeetsC15 : Situation → PlanRows → ℕ → Type 0
-MeetsC15 I P r = EachCarried P r (BeginsAsBegun I r)
+MeetsC15 I P r = EachCarried P r (IsBound I r (groups_at P r))
 
 -- what an item asks
 abbrev pub Meets : Situation → PlanRows → Broken → Type 0

@@ -18,6 +18,7 @@ use Rattle.desk_runs.specs.Reading.{IsUnread, ReadsAmong, StopsAt, StandsFirst}
 use Rattle.desk_runs.specs.Outcome.{Texts, Outcome}
 use Rattle.desk_runs.specs.Runs.{World, world, Meaning, IsUntold, IsWritten, Stops, Finishes, Does, HasCause, IsUnplaced, AreNamed, AreRead, IsReadWhole, IsSilent, Obeys, EndsBy, TellsEnd, Runs}
 use Rattle.desk_runs.specs.Finishing.{Leaves, Completes}
+use Rattle.desk_runs.specs.Works.{Meanings, IsUnbegun, IsFair, AtSomeWork}
 
 -- ---- what a command is asked to do, where its directories are named already, and where they are to be named
 
@@ -320,4 +321,25 @@ runs-placed M c dirs before placed now sink sink' code ok names only run = recor
   answer = run.answer;
   line = run.line;
   status = run.status;
+}
+
+-- ---- the work of a run
+
+unbegun_from : (before mid now : Outside) (sink sink' : SinkSide) → SameWritten before mid → IsUnbegun (world mid sink) (world now sink') → IsUnbegun (world before sink) (world now sink')
+unbegun_from before mid now sink sink' same h = record { written = λ f. h.written f ∙ same f; how = h.how; line = h.line }
+
+fair_placed : {Rows Task Work : Type 0} (M : Meanings Rows Task Work) (c : Command) (dirs : Directories) (before placed now : Outside) (sink sink' : SinkSide) (work : Work) → PlacesOnly before placed → IsFair M (Some (here c)) (world placed sink) (world now sink') work → IsFair M (Some (at c dirs)) (world before sink) (world now sink') work
+fair_placed M c dirs before placed now sink sink' work only fair x tells t told = elim (fair x (tells_placed (files_read c) before placed x only tells) t told) [
+  | inl unbegun ↦ inl (unbegun_from before placed now sink sink' only.written unbegun)
+  | inr work ↦ inr work
+]
+
+-- a run with its work, from the world before its directories were named
+pub works-placed : {Rows Task Work : Type 0} (M : Meanings Rows Task Work) (c : Command) (dirs : Directories) (before placed now : Outside) (sink sink' : SinkSide) (code : ℕ) (ok : Unit {0}) → Names before.directories placed.directories dirs (let r : Result (Unit {0}) FolderFault = Ok ok in r) → PlacesOnly before placed
+    → AtSomeWork M (Some (here c)) (world placed sink) (world now sink') (λ m. Runs m (Some (here c)) (world placed sink) (world now sink') code)
+    → AtSomeWork M (Some (at c dirs)) (world before sink) (world now sink') (λ m. Runs m (Some (at c dirs)) (world before sink) (world now sink') code)
+works-placed M c dirs before placed now sink sink' code ok names only run = record {
+  work = run.work;
+  fair = fair_placed M c dirs before placed now sink sink' run.work only run.fair;
+  holds = runs-placed (M.at run.work) c dirs before placed now sink sink' code ok names only run.holds;
 }

@@ -13,7 +13,6 @@ use Rattle.desk_folder.specs.Calls.{AppendsPrefix, Rose}
 use Rattle.folder_io.specs.Texts.{PutsReport}
 use Rattle.folder_io.specs.Outputs.{is_among, IsUnput}
 use Rattle.folder_io.proofs.PutAll.{keeps-same, appends-nothing, begins-whole, ArePut-less, ArePut-none, ArePut-either}
-use Rattle.desk_words.specs.declared.asked.Command.{Command}
 use Rattle.desk_runs.specs.declared.refusal.Refusal.{Refusal}
 use Rattle.desk_runs.specs.declared.ending.Ending.{Ending}
 use Rattle.desk_runs.specs.declared.ending.Ending.TheVariants as ending
@@ -21,7 +20,7 @@ use Rattle.desk_runs.specs.Commands.{Ask, files_read, files_written, reads, writ
 use Rattle.desk_runs.specs.Inputs.{Inputs, Tells}
 use Rattle.desk_runs.specs.Reading.{IsUnread, StopsAt}
 use Rattle.desk_runs.specs.Outcome.{Texts, fault_text, status_of}
-use Rattle.desk_runs.specs.Runs.{World, Meaning, AreNamed, IsUntold, IsWritten, Stops, StopsIn, StopsInReport, IsTold, Does, AreRead, IsUntouched, Obeys, EndsBy, Runs, status_after}
+use Rattle.desk_runs.specs.Runs.{World, Meaning, AreNamed, IsPlaced, IsUntold, IsWritten, Stops, StopsIn, StopsInReport, IsTold, Does, AreRead, IsUntouched, Obeys, EndsBy, Runs, status_after}
 use Rattle.desk_runs.specs.Causes.{IsDoneAt}
 use Rattle.desk_runs.specs.Standing.{texts_by, finished_texts, AreBegun, AreWhole, IsRefusedSo, IsToldLast, IsNamedAt, IsUnnamed}
 use Rattle.desk_runs.proofs.CausesLaw.{status_cases, cause_after, caused-by}
@@ -254,13 +253,21 @@ named_by dirs before mid ending.ReportFault code e at h = h
 named_by dirs before mid ending.PlaceFault code e at h = absurd (not_named code 4 e (inl refl) at)
 named_by dirs before mid ending.Memory code e at h = absurd (not_named code 6 e (inr refl) at)
 
-pub named-of : {Rows Task : Type 0} (M : Meaning Rows Task) (c : Command) (dirs : Directories) (before now : World) (code : ℕ) → Runs M (Some (record { command = c; place = Some dirs })) before now code → IsNamedAt code → IfSome before.folder.directories (λ was. now.folder.directories ≡ Some dirs)
-named-of M c dirs before now code run at =
+-- the directories that are asked for, by what is known of them
+placed_as : (place other : Option Directories) (before mid : World) (how : Ending) → place ≡ other → IsPlaced place before mid how → IsPlaced other before mid how
+placed_as place other before mid how is h = subst (λ (o : Option Directories). IsPlaced o before mid how) is h
+
+pub named-of : {Rows Task : Type 0} (M : Meaning Rows Task) (a : Ask) (dirs : Directories) (before now : World) (code : ℕ) → Runs M (Some a) before now code → a.place ≡ Some dirs → IsNamedAt code → IfSome before.folder.directories (λ was. now.folder.directories ≡ Some dirs)
+named-of M a dirs before now code run place at =
+    let mid : World = record { folder = now.folder; sink = run.sink } in
     elim (status_cases run.how run.answer code run.status) [
-      | inl e ↦ named_by dirs before (record { folder = now.folder; sink = run.sink }) run.how code e at run.ends.placed
+      | inl e ↦ named_by dirs before mid run.how code e at (placed_as a.place (Some dirs) before mid run.how place run.ends.placed)
       | inr e ↦ absurd (not_named code 6 e (inr refl) at)
     ]
 
 -- where no directories are to be named, none are, and no naming failed
-pub unnamed-of : {Rows Task : Type 0} (M : Meaning Rows Task) (c : Command) (before now : World) (code : ℕ) → Runs M (Some (record { command = c; place = None })) before now code → IsUnnamed before now
-unnamed-of M c before now code run = record { directories = run.ends.placed.directories; faults = run.ends.placed.faults }
+pub unnamed-of : {Rows Task : Type 0} (M : Meaning Rows Task) (a : Ask) (before now : World) (code : ℕ) → Runs M (Some a) before now code → a.place ≡ None → IsUnnamed before now
+unnamed-of M a before now code run place =
+    let mid : World = record { folder = now.folder; sink = run.sink } in
+    let none : IsPlaced None before mid run.how = placed_as a.place None before mid run.how place run.ends.placed in
+    record { directories = none.directories; faults = none.faults }

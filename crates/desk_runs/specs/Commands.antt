@@ -1,5 +1,5 @@
 -- The files that each command reads and writes, and what is asked of the desk.
-use Rattle.std.specs.Prelude.{◌≤◌, ℕ, List, [], ◌∷◌, ◌++◌, Option, Some, None}
+use Rattle.std.specs.Prelude.{◌≡◌, ◌≤◌, ℕ, false, List, [], ◌∷◌, ◌++◌, Option, Some, None}
 use Rattle.std.specs.Option.{option_map}
 use Rattle.desk_folder.specs.declared.files.File.{File}
 use Rattle.desk_folder.specs.declared.files.File.TheVariants as file
@@ -12,7 +12,7 @@ use Rattle.desk_words.specs.Commands.{Asking, command}
 -- the files that a command reads, in file order
 abbrev pub files_read : Command → List File
 files_read command_is.Replay = day_files ++ file.Journal ∷ []
-files_read (command_is.Recover moves) = day_files
+files_read (command_is.Recover workers moves live) = day_files
 files_read command_is.Check = day_files ++ plan_files
 files_read (command_is.Gen seed size) = []
 files_read (command_is.Trial seed size) = []
@@ -24,7 +24,7 @@ history_files = file.SolRotations ∷ file.SolItineraries ∷ file.Journal ∷ [
 -- the files that a command may write, in the order in which it writes them
 abbrev pub files_written : Command → List File
 files_written command_is.Replay = history_files
-files_written (command_is.Recover moves) = history_files
+files_written (command_is.Recover workers moves live) = history_files
 files_written command_is.Check = []
 files_written (command_is.Gen seed size) = day_files
 files_written (command_is.Trial seed size) = []
@@ -54,10 +54,11 @@ abbrev pub writes : Option Ask → List File
 writes None = []
 writes (Some a) = files_written a.command
 
--- the numbers of a command that has any: a seed of at most nine digits and a size from 1 to 40, or 1 to 100,000 accepted moves
+-- what a command may ask for: a seed of at most nine digits and a size from 1 to 40; or 1 to 100,000 accepted moves of a search
+-- without workers, which no batch interrupts
 abbrev pub IsCommand : Command → Type 0
 IsCommand command_is.Replay = Unit {0}
-IsCommand (command_is.Recover moves) = (1 ≤ moves) × (moves ≤ 100000)
+IsCommand (command_is.Recover workers moves live) = (workers ≡ 0) × (1 ≤ moves) × (moves ≤ 100000) × (live ≡ false)
 IsCommand command_is.Check = Unit {0}
 IsCommand (command_is.Gen seed size) = (seed ≤ 999999999) × (1 ≤ size) × (size ≤ 40)
 IsCommand (command_is.Trial seed size) = (seed ≤ 999999999) × (1 ≤ size) × (size ≤ 40)

@@ -5,5 +5,7 @@ pub mod Reading
 pub mod Runs
 pub mod Causes
 pub mod Standing
+pub mod Works
+pub mod Promised
 pub mod Writing
 pub mod Finishing

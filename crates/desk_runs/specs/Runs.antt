@@ -34,6 +34,10 @@ pub record World : Type 0 where
 abbrev pub world : Outside → SinkSide → World
 world folder sink = record { folder = folder; sink = sink }
 
+-- this holds of the world before a call and after it, as the folder and the sink of the call tell it
+abbrev pub Between : {F O : Type 0} → (F → Outside) → (O → SinkSide) → F → O → F → O → (World → World → Type 0) → Type 0
+Between outside report folder out folder' out' Holds = Holds (world (outside folder) (report out)) (world (outside folder') (report out'))
+
 -- no file has got a byte, and nothing is reported
 pub record IsUntold (before now : World) : Type 0 where
   pub written : (f : File) → now.folder.written f ≡ before.folder.written f

@@ -2,7 +2,7 @@
 
 ghost use Rattle.std.specs.Prelude.{◌≡◌, IsTrue};
 ghost use Rattle.folder_io.specs.Outputs.{are_different, files_of};
-ghost use Rattle.desk_runs.specs.Runs.{world};
+ghost use Rattle.desk_runs.specs.Runs.{Between};
 ghost use Rattle.desk_runs.specs.Writing.{as_texts, PutsOutputs};
 
 use crate::ending::Ending;
@@ -32,8 +32,8 @@ pub fn put_outputs<F: Folder, O: Sink>(
     texts: &OutputTexts,
 ) -> Result<(), Ending>
     requires { IsTrue (are_different (files_of (as_texts texts.now).files)) }
-    ensures { PutsOutputs (world (F.outside folder.old) (O.report out.old))
-        (world (F.outside folder.new) (O.report out.new)) (as_texts texts.now) result }
+    ensures { Between F.outside O.report folder.old out.old folder.new out.new
+        (λ before now. PutsOutputs before now (as_texts texts.now) result) }
 {
     match put_texts(alloc, folder, texts.files.as_slice()) {
         Ok(()) => {}

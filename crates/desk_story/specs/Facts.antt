@@ -1,9 +1,10 @@
 -- What holds of the rows that were read, and of the task.
-use Rattle.std.specs.Prelude.{◌≡◌, []}
+use Rattle.std.specs.Prelude.{◌≡◌}
 use Rattle.build_tables.specs.Facts.{AreFileRows}
 use Rattle.journal_rows.specs.Facts.{AreRows}
 use Rattle.desk_model.specs.Histories.{AreAskable}
 use Rattle.desk_story.specs.declared.rows.InputRows.{InputRows}
+use Rattle.desk_data.specs.Situation.{fresh_day}
 use Rattle.desk_data.specs.Valid.{IsPlanFor}
 use Rattle.desk_gen.specs.Generated.{IsSize}
 use Rattle.desk_story.specs.declared.story.InputStory.{InputStory}
@@ -30,18 +31,18 @@ pub record AreInputRows (rows : InputRows) : Type 0 where
 abbrev pub as_story : InputStory → Story
 as_story s = record { day = s.inst; events = s.events.items }
 
--- the day has no orders yet, and each event can be asked on it
+-- the day is the one before any batch, and each event can be asked on it
 pub record CanBeRun (s : InputStory) : Type 0 where
-  pub fresh : s.inst.orders ≡ []
+  pub fresh : s.inst ≡ fresh_day s.inst.parts
   pub asked : AreAskable s.inst s.events.items
 
 -- the recovery, wherever it lies in memory
 abbrev pub as_recovery : InputRecovery → Recovery
 as_recovery r = record { day = r.inst; batches = r.batches; moves = r.moves }
 
--- the day has no orders yet, and its batches can arrive on it
+-- the day is the one before any batch, and its batches can arrive on it
 pub record CanRecover (r : InputRecovery) : Type 0 where
-  pub fresh : r.inst.orders ≡ []
+  pub fresh : r.inst ≡ fresh_day r.inst.parts
   pub sound : IsRecoverable (as_recovery r)
 
 -- the plan that is judged, wherever it lies in memory

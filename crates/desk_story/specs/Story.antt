@@ -1,5 +1,5 @@
 -- What the input files of a command say: the task that they set, or the first refusal.
-use Rattle.std.specs.Prelude.{ℕ, List, [], ◌∷◌, length, Option, Some, None, Result, Ok, Err, nat_lt, if◌then◌else◌}
+use Rattle.std.specs.Prelude.{ℕ, false, List, [], ◌∷◌, length, Option, Some, None, Result, Ok, Err, nat_lt, if◌then◌else◌}
 use Rattle.desk_folder.specs.declared.files.File.{File}
 use Rattle.desk_folder.specs.declared.files.File.TheVariants as file
 use Rattle.folder_io.specs.Outputs.{FileText}
@@ -28,7 +28,7 @@ use Rattle.sol_join.specs.Solution.{solution_of}
 use Rattle.desk_runs.specs.declared.refusal.Refusal.{Refusal}
 use Rattle.desk_words.specs.declared.asked.Command.{Command}
 use Rattle.desk_words.specs.declared.asked.Command.TheVariants as command_is
-use Rattle.desk_words.specs.declared.choice.Choice.TheVariants.{Moves}
+use Rattle.desk_words.specs.declared.choice.NumberOption.TheVariants.{Moves}
 use Rattle.desk_words.specs.Commands.{default_of}
 use Rattle.desk_gen.specs.Generated.{text_of}
 use Rattle.desk_runs.specs.Inputs.{Inputs}
@@ -187,12 +187,12 @@ recovery_of_rows moves rows = do
   built ← or_refused not_joined (built_of rows.files)
   Ok (record { day = built.inst; batches = built.batches; moves = moves })
 
--- to judge: the files are joined, and then those of the plan; it is judged under the orders of all batches
+-- to judge: the files are joined, and then those of the plan; the batches are added by it, and it is judged under the orders of all of them
 unfoldable pub judged_of_rows : Rows → Result Judged Refusal
 judged_of_rows rows = do
   built ← or_refused not_joined (built_of rows.files)
   plan ← or_refused not_joined (solution_of built.inst rows.plan_rotations rows.plan_itineraries)
-  Ok (record { day = with_batches built.inst built.batches; plan = plan })
+  Ok (record { day = with_batches built.inst plan built.batches; plan = plan })
 
 -- how many moves are accepted at most where the words don't say it
 abbrev pub usual_moves : ℕ
@@ -200,14 +200,14 @@ usual_moves = default_of Moves
 
 -- to try: the files of a day that is made up are read and joined as those of a folder would be, to be recovered so
 unfoldable pub trial_of : ℕ → ℕ → Result Recovery Refusal
-trial_of seed size = rows_of (command_is.Recover usual_moves) (text_of seed size) >>= recovery_of_rows usual_moves
+trial_of seed size = rows_of (command_is.Recover 0 usual_moves false) (text_of seed size) >>= recovery_of_rows usual_moves
 
 -- by the command; what is generated is asked by the words alone
 unfoldable pub task_of_rows : Command → Rows → Result Task Refusal
 task_of_rows command_is.Replay rows = do
   story ← story_of_rows rows
   Ok (play story)
-task_of_rows (command_is.Recover moves) rows = do
+task_of_rows (command_is.Recover workers moves live) rows = do
   recovery ← recovery_of_rows moves rows
   Ok (recover recovery)
 task_of_rows command_is.Check rows = do

@@ -1,7 +1,7 @@
 //! The day and the plan that the input files tell.
 
 ghost use Rattle.std.specs.Prelude.{◌≡◌, All, IfOk, IfErr};
-ghost use Rattle.desk_data.specs.Valid.{IsOrder, IsPlanFor};
+ghost use Rattle.desk_data.specs.Valid.{IsBatch, IsPlanFor};
 ghost use Rattle.desk_tasks.specs.Judge.{with_batches};
 ghost use Rattle.desk_story.specs.Story.{judged_of_rows};
 ghost use Rattle.desk_story.specs.Reading.{GivesRead, NeedsNoFault};
@@ -17,24 +17,30 @@ use std::alloc::Global;
 /// A day, and a plan on it that is to be judged.
 #[derive(Drop)]
 pub struct InputPlan {
-    /// The joined day, with the orders of all batches.
+    /// The joined day, with all batches.
     pub inst: Instance,
     /// It has a row for each leg, and all passengers.
     pub plan: Plan,
 }
 
-// The day with the orders of these batches, one after another.
-fn with_batches(alloc: Global, mut inst: Instance, batches: &[Batch]) -> Result<Instance, NoMem>
-    requires { All (λ batch. All (IsOrder inst.parts) batch.orders) batches.now }
-    ensures { IfOk result (λ day. day ≡ with_batches inst batches.now) }
+/// The day with these batches, one after another, by the plan that is to be judged.
+fn with_batches(
+    alloc: Global,
+    mut inst: Instance,
+    plan: &Plan,
+    batches: &[Batch],
+) -> Result<Instance, NoMem>
+    requires plan { IsPlanFor inst plan.now }
+    requires batches { All (IsBatch inst.parts) batches.now }
+    ensures { IfOk result (λ day. day ≡ with_batches inst plan.now batches.now) }
 {
     for batch in batches {
-        inst.add(alloc, batch)?;
+        inst.add(alloc, plan, batch)?;
     }
     Ok(inst)
 }
 
-/// Joins the rows, and then those of the plan.
+/// Joins the rows, and then those of the plan, by which the batches are added.
 #[tactic(auto, unfolding(crate::specs::Story::judged_of_rows))]
 pub(crate) fn joined_plan(alloc: Global, rows: &InputRows) -> Result<InputPlan, StoryFault>
     requires { AreInputRows rows.now }
@@ -47,7 +53,7 @@ pub(crate) fn joined_plan(alloc: Global, rows: &InputRows) -> Result<InputPlan, 
     let itineraries = rows.plan_itineraries.as_slice();
     let plan = read_solution(alloc, &built.inst, rotations, itineraries)?;
     let Built { inst, batches } = built;
-    match with_batches(alloc, inst, batches.0.as_slice()) {
+    match with_batches(alloc, inst, &plan, batches.0.as_slice()) {
         Ok(inst) => Ok(InputPlan { inst, plan }),
         Err(_) => Err(StoryFault::Memory),
     }

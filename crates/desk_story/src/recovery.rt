@@ -22,7 +22,7 @@ use std::alloc::Global;
 /// A day that is to be recovered.
 #[derive(Drop)]
 pub struct InputRecovery {
-    /// The joined day, with no orders yet.
+    /// The joined day, before any batch.
     pub inst: Instance,
     /// The batches that arrive on it in their order, 1 to 1,001.
     pub batches: List<Batch>,

@@ -16,7 +16,7 @@ use std::alloc::Global;
 /// A day, and the events that are taken on it, each with its caller.
 #[derive(Drop)]
 pub struct InputStory {
-    /// The joined day, with no orders yet.
+    /// The joined day, before any batch.
     pub inst: Instance,
     /// The recorded events in their order, batches with their orders and moves, each with its caller
     /// from 0 to 64.

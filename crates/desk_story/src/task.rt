@@ -52,7 +52,7 @@ fn joined_task(alloc: Global, command: &Command, rows: &InputRows) -> Result<Inp
             let story = joined_story(alloc, rows)?;
             Ok(InputTask::Play(story))
         }
-        Command::Recover { moves } => {
+        Command::Recover { moves, .. } => {
             let recovery = joined_recovery(alloc, rows, *moves)?;
             Ok(InputTask::Recover(recovery))
         }

@@ -1,21 +1,19 @@
 -- The files that the texts of a task are put into.
 use Rattle.std.proofs.Common.{◌≡◌, ℕ, List, refl}
-use Rattle.std.specs.Prelude.{Option}
 use Rattle.folder_io.specs.Outputs.{files_of}
 use Rattle.desk_data.specs.Situation.{Situation}
 use Rattle.desk_model.specs.declared.answer.Entry.{Entry}
 use Rattle.desk_gen.specs.Generated.{generated}
 use Rattle.desk_runs.specs.Commands.{history_files}
-use Rattle.desk_tasks.specs.declared.ended.SearchEnd.{SearchEnd}
-use Rattle.desk_tasks.specs.Play.{Story, history_outcome, played}
+use Rattle.desk_tasks.specs.Play.{Story, Remarks, history_outcome, played}
 use Rattle.desk_tasks.specs.Recover.{Recovery, told_alone, recovered, tried}
 use Rattle.desk_tasks.specs.Judge.{Judged, verdict, judged}
 use Rattle.desk_tasks.specs.Generate.{generation}
 use Rattle.desk_tasks.specs.Tasks.{Task, play, recover, trial, judge, generate, outcome, files_for}
 
-pub history-files : (I : Situation) (search : Option SearchEnd) (h : List Entry) → files_of (history_outcome I search h).texts.files ≡ history_files
+pub history-files : (I : Situation) (remarks : Remarks) (h : List Entry) → files_of (history_outcome I remarks h).texts.files ≡ history_files
 unfolding history_outcome
-history-files I search h = refl
+history-files I remarks h = refl
 
 pub played-files : (s : Story) → files_of (played s).texts.files ≡ files_for (play s)
 unfolding history_outcome

@@ -20,8 +20,7 @@ use Rattle.desk_runs.specs.Runs.{World, IsWritten}
 use Rattle.near_moves.specs.Descent.{recovery}
 use Rattle.near_moves.proofs.LegalLaws.{recovery-legal}
 use Rattle.near_moves.proofs.RecoveryLaws.{recovery-all_wait, recovery-along, recovery-batches}
-use Rattle.desk_tasks.specs.declared.ended.SearchEnd.{SearchEnd}
-use Rattle.desk_tasks.specs.Play.{Story, history, planned_rotations, planned_itineraries, report_text, history_outcome, played}
+use Rattle.desk_tasks.specs.Play.{Story, history, Remarks, search_told, planned_rotations, planned_itineraries, report_text, history_outcome, played}
 use Rattle.desk_tasks.specs.Recover.{Recovery, recovered_history, search_end, told_alone, recovered, tried}
 use Rattle.desk_tasks.specs.Tasks.{IsRunnable, IsRecoverable}
 use Rattle.desk_tasks.specs.Headline.{TellsHistory, Headline, HasHeadline, Recovers, HasRecovered, HasTried}
@@ -65,14 +64,15 @@ behind_rotations I h = itineraries_of I h ∷ behind_itineraries I h
 abbrev files_are : Situation → List Entry → List FileText
 files_are I h = rotations_of I h ∷ behind_rotations I h
 
-texts_are : (I : Situation) (search : Option SearchEnd) (h : List Entry) → (history_outcome I search h).texts ≡ record { files = files_are I h; report = report_text I search h }
+texts_are : (I : Situation) (remarks : Remarks) (h : List Entry) → (history_outcome I remarks h).texts ≡ record { files = files_are I h; report = report_text I remarks h }
 unfolding history_outcome
-texts_are I search h = refl
+texts_are I remarks h = refl
 
-tells : (before now : World) (I : Situation) (search : Option SearchEnd) (h : List Entry) → IsWritten before now (history_outcome I search h).texts → TellsHistory before now I search h
-tells before now I search h w =
-    let Reported : Type 0 = Appends before.sink.written now.sink.written (report_text I search h) in
-    let whole : ArePut (λ f. ⊥) Reported (files_are I h) before.folder now.folder = subst (λ (t : Texts). IsWritten before now t) (texts_are I search h) w in
+-- whoever has written all that a history comes to tells it
+pub tells : (before now : World) (I : Situation) (remarks : Remarks) (h : List Entry) → IsWritten before now (history_outcome I remarks h).texts → TellsHistory before now I remarks h
+tells before now I remarks h w =
+    let Reported : Type 0 = Appends before.sink.written now.sink.written (report_text I remarks h) in
+    let whole : ArePut (λ f. ⊥) Reported (files_are I h) before.folder now.folder = subst (λ (t : Texts). IsWritten before now t) (texts_are I remarks h) w in
     let rotations : HasAll (rotations_of I h) before.folder now.folder = whole-first Reported (rotations_of I h) (behind_rotations I h) before.folder now.folder whole in
     let behind : ArePut (λ f. ⊥) Reported (behind_rotations I h) before.folder now.folder = whole-rest Reported (rotations_of I h) (behind_rotations I h) before.folder now.folder whole in
     let itineraries : HasAll (itineraries_of I h) before.folder now.folder = whole-first Reported (itineraries_of I h) (behind_itineraries I h) before.folder now.folder behind in
@@ -106,7 +106,7 @@ has-headline before now s runs w = record {
     events = history_is s;
     legal = story_legal s runs;
     promises = promises s.day (history s) (story_legal s runs);
-    written = tells before now s.day None (history s) w;
+    written = tells before now s.day (search_told None) (history s) w;
   };
 }
 
@@ -136,10 +136,10 @@ pub has-recovered : (before now : World) (r : Recovery) → IsRecoverable r → 
 has-recovered before now r can w = record {
   history = recovered_history r;
   recovers = recovers r can;
-  written = tells before now r.day (search_end r.day r.moves (recovered_history r)) (recovered_history r) w;
+  written = tells before now r.day (search_told (search_end r.day r.moves (recovered_history r))) (recovered_history r) w;
 }
 
-tried_report : (before now : World) (r : Recovery) → IsWritten before now (tried r).texts → Appends before.sink.written now.sink.written (report_text r.day (search_end r.day r.moves (recovered_history r)) (recovered_history r))
+tried_report : (before now : World) (r : Recovery) → IsWritten before now (tried r).texts → Appends before.sink.written now.sink.written (report_text r.day (search_told (search_end r.day r.moves (recovered_history r))) (recovered_history r))
 unfolding told_alone history_outcome
 tried_report before now r w = w
 

@@ -9,11 +9,11 @@ use Rattle.desk_model.specs.declared.answer.Event.TheVariants as event
 use Rattle.desk_model.specs.declared.answer.Entry.{Entry}
 use Rattle.desk_model.specs.States.{State, opening}
 use Rattle.desk_model.specs.Histories.{state, entry_of}
-use Rattle.near_moves.specs.Descent.{IsQuiet, is_spent, next_proposal, descent, recovery_behind}
+use Rattle.near_moves.specs.Descent.{IsQuiet, end_by, is_spent, next_proposal, descent, recovery_behind}
 use Rattle.near_moves.proofs.DescentLaws.{next-quiet, descent-ends}
-use Rattle.desk_tasks.specs.declared.ended.SearchEnd.{SearchEnd}
-use Rattle.desk_tasks.specs.declared.ended.SearchEnd.TheVariants as ended
-use Rattle.desk_tasks.specs.Recover.{end_by, search_end, IsSearchEnd}
+use Rattle.near_moves.specs.declared.ended.SearchEnd.{SearchEnd}
+use Rattle.near_moves.specs.declared.ended.SearchEnd.TheVariants as ended
+use Rattle.desk_tasks.specs.Recover.{search_end, IsSearchEnd}
 
 -- ---- the last search
 

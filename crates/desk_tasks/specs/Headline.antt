@@ -1,5 +1,5 @@
 -- The promise of the desk.
-use Rattle.std.specs.Prelude.{◌≡◌, ℕ, List, Option, None, IsSome}
+use Rattle.std.specs.Prelude.{◌≡◌, ℕ, List, None, IsSome}
 use Rattle.std.specs.Io.KnownBytes.{Appends, Keeps}
 use Rattle.desk_folder.specs.declared.files.File.TheVariants as file
 use Rattle.desk_data.specs.Situation.{Situation}
@@ -13,15 +13,15 @@ use Rattle.journal_text.specs.Lines.{journal_text}
 use Rattle.sol_text.specs.Rotations.{rotations_text}
 use Rattle.sol_text.specs.Itineraries.{itineraries_text}
 use Rattle.desk_runs.specs.Runs.{World}
-use Rattle.desk_tasks.specs.declared.ended.SearchEnd.{SearchEnd}
-use Rattle.desk_tasks.specs.Play.{Story, report_text}
+use Rattle.desk_tasks.specs.Play.{Story, Remarks, search_told, report_text}
 use Rattle.desk_tasks.specs.Recover.{Recovery, search_end, IsSearchEnd}
 
--- what is written of a history, with the end of its search where it has one
-pub record TellsHistory (before now : World) (I : Situation) (search : Option SearchEnd) (h : List Entry) : Type 0 where
-  -- journal.csv is the journal of the history, and the report tells its batches, its changes and the cost of the last plan
+-- what is written of a history, with the remarks of its report
+pub record TellsHistory (before now : World) (I : Situation) (remarks : Remarks) (h : List Entry) : Type 0 where
+  -- journal.csv is the journal of the history, and the report tells its batches, its changes and the cost of the last plan, with
+  -- the remarks
   pub journal : Appends (before.folder.written file.Journal) (now.folder.written file.Journal) (journal_text I h)
-  pub reported : Appends before.sink.written now.sink.written (report_text I search h)
+  pub reported : Appends before.sink.written now.sink.written (report_text I remarks h)
   -- sol_rotations.csv and sol_itineraries.csv are those of the last plan, and are written only where there is one
   pub rotations : (state (opening I) h).broken ≡ None →
       Appends (before.folder.written file.SolRotations) (now.folder.written file.SolRotations)
@@ -43,7 +43,7 @@ pub record Headline (before now : World) (s : Story) (h : List Entry) : Type 0 w
   -- each stored cost is the cost of the rows under these, between two batches costs only fall, and a proposal to a published
   -- plan is accepted exactly where the moved plan is feasible and cheaper
   pub promises : KeepsPromises s.day h
-  pub written : TellsHistory before now s.day None h
+  pub written : TellsHistory before now s.day (search_told None) h
 
 -- there is such a history
 pub record HasHeadline (before now : World) (s : Story) : Type 0 where
@@ -74,10 +74,10 @@ pub record Recovers (r : Recovery) (h : List Entry) : Type 0 where
 pub record HasRecovered (before now : World) (r : Recovery) : Type 0 where
   pub history : List Entry
   pub recovers : Recovers r history
-  pub written : TellsHistory before now r.day (search_end r.day r.moves history) history
+  pub written : TellsHistory before now r.day (search_told (search_end r.day r.moves history)) history
 
 -- or behind what was reported, where nothing else was written
 pub record HasTried (before now : World) (r : Recovery) : Type 0 where
   pub history : List Entry
   pub recovers : Recovers r history
-  pub reported : Appends before.sink.written now.sink.written (report_text r.day (search_end r.day r.moves history) history)
+  pub reported : Appends before.sink.written now.sink.written (report_text r.day (search_told (search_end r.day r.moves history)) history)

@@ -1,26 +1,25 @@
 -- Judging a plan: what it breaks, and what it costs.
 use Rattle.std.specs.Prelude.{ℕ, List, [], ◌∷◌, ◌++◌, Option, Some, None, codes, decimal}
-use Rattle.desk_data.specs.Situation.{Situation}
+use Rattle.desk_data.specs.Situation.{Situation, with_batch}
 use Rattle.desk_data.specs.PlanRows.{PlanRows}
 use Rattle.desk_data.specs.declared.broken.Broken.{Broken}
 use Rattle.day_orders.specs.declared.orders.Batch.{Batch}
 use Rattle.desk_rules.specs.Least.{least}
 use Rattle.desk_rules.specs.Cost.{cost}
-use Rattle.desk_model.specs.States.{with_batch}
 use Rattle.journal_text.specs.Items.{broken_text}
 use Rattle.desk_runs.specs.declared.ending.Ending.{Ending}
 use Rattle.desk_runs.specs.declared.ending.Ending.TheVariants as ending
 use Rattle.desk_runs.specs.Outcome.{line, Outcome}
 
--- a day with its orders, and a plan on it
+-- a day with its batches, and a plan on it
 pub record Judged : Type 0 where
   pub day : Situation
   pub plan : PlanRows
 
--- a day with the orders of these batches, one after another
-abbrev pub with_batches : Situation → List Batch → Situation
-with_batches I [] = I
-with_batches I (B ∷ batches) = with_batches (with_batch I B) batches
+-- a day with these batches, one after another, by one plan
+abbrev pub with_batches : Situation → PlanRows → List Batch → Situation
+with_batches I P [] = I
+with_batches I P (B ∷ batches) = with_batches (with_batch I P B) P batches
 
 -- the first item that is broken, or that none is
 abbrev pub verdict_text : Situation → Option Broken → List ℕ

@@ -18,8 +18,8 @@ use Rattle.sol_text.specs.Itineraries.{itineraries_text}
 use Rattle.desk_runs.specs.declared.ending.Ending.{Ending}
 use Rattle.desk_runs.specs.declared.ending.Ending.TheVariants as ending
 use Rattle.desk_runs.specs.Outcome.{line, Outcome}
-use Rattle.desk_tasks.specs.declared.ended.SearchEnd.{SearchEnd}
-use Rattle.desk_tasks.specs.declared.ended.SearchEnd.TheVariants as ended
+use Rattle.near_moves.specs.declared.ended.SearchEnd.{SearchEnd}
+use Rattle.near_moves.specs.declared.ended.SearchEnd.TheVariants as ended
 
 -- a day, and the events that are taken on it in order, each with its caller
 pub record Story : Type 0 where
@@ -59,15 +59,26 @@ end_lines I h =
     let S = state (opening I) h in
     line (codes "changes " ++ decimal (changes h)) ++ line (cost_or_broken S.inst (cost_of S) S.broken)
 
--- why the search behind the last batch ended, where there was one
+-- what a report tells besides what its history tells: lines before those of the batches, why the search behind the last batch ended,
+-- where there was one, and lines before the number of changes
+pub record Remarks : Type 0 where
+  pub head : List ℕ
+  pub search : Option SearchEnd
+  pub extra : List ℕ
+
+-- why the search ended, and no line more
+abbrev pub search_told : Option SearchEnd → Remarks
+search_told search = record { head = []; search = search; extra = [] }
+
+-- the line that tells why the search ended
 abbrev pub search_line : Option SearchEnd → List ℕ
 search_line None = []
 search_line (Some ended.Budget) = line (codes "ended budget")
 search_line (Some ended.Quiet) = line (codes "ended quiet")
 
--- the report of a history: what was answered to each batch, and how it ended
-unfoldable pub report_text : Situation → Option SearchEnd → List Entry → List ℕ
-report_text I search h = batch_lines I h ++ search_line search ++ end_lines I h
+-- the report of a history: what was answered to each batch, and how it ended, with the remarks where they stand
+unfoldable pub report_text : Situation → Remarks → List Entry → List ℕ
+report_text I remarks h = remarks.head ++ batch_lines I h ++ search_line remarks.search ++ (remarks.extra ++ end_lines I h)
 
 -- the rotations and the itineraries of a state's plan; where there is no plan, none
 abbrev pub planned_rotations : State → Option Broken → List ℕ
@@ -83,21 +94,21 @@ abbrev pub plan_status : Option Broken → ℕ
 plan_status None = 0
 plan_status (Some item) = 1
 
--- what a history comes to, with the end of its search where it has one
-unfoldable pub history_outcome : Situation → Option SearchEnd → List Entry → Outcome
-history_outcome I search h =
+-- what a history comes to, with the remarks of its report
+unfoldable pub history_outcome : Situation → Remarks → List Entry → Outcome
+history_outcome I remarks h =
     let S = state (opening I) h in
     record {
       status = plan_status S.broken;
       texts = record {
         files = (file.SolRotations, planned_rotations S S.broken) ∷ (file.SolItineraries, planned_itineraries S S.broken) ∷ (file.Journal, journal_text I h) ∷ [];
-        report = report_text I search h;
+        report = report_text I remarks h;
       };
     }
 
 -- what a story comes to that is played
 abbrev pub played : Story → Outcome
-played s = history_outcome s.day None (history s)
+played s = history_outcome s.day (search_told None) (history s)
 
 -- how a run ends that wrote it, by what its last plan breaks
 abbrev pub played_end : Option Broken → Ending

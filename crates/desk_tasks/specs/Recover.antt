@@ -1,16 +1,15 @@
 -- Recovering a day: its batches arrive one after another, behind each the desk searches for a cheaper plan, and what that comes to is written.
-use Rattle.std.specs.Prelude.{◌≡◌, ◌↔◌, ℕ, Bool, true, false, List, [], Option, Some, None, IsSome}
+use Rattle.std.specs.Prelude.{◌≡◌, ◌↔◌, ℕ, true, false, List, [], Option, Some, None, IsSome}
 use Rattle.day_orders.specs.declared.orders.Batch.{Batch}
 use Rattle.desk_data.specs.Situation.{Situation}
-use Rattle.desk_data.specs.declared.broken.Broken.{Broken}
 use Rattle.desk_model.specs.declared.answer.Entry.{Entry}
 use Rattle.desk_model.specs.States.{opening}
 use Rattle.desk_model.specs.Histories.{state}
-use Rattle.near_moves.specs.Descent.{IsQuiet, is_spent, recovery}
+use Rattle.near_moves.specs.Descent.{IsQuiet, end_by, is_spent, recovery}
 use Rattle.desk_runs.specs.Outcome.{Outcome}
-use Rattle.desk_tasks.specs.declared.ended.SearchEnd.{SearchEnd}
-use Rattle.desk_tasks.specs.declared.ended.SearchEnd.TheVariants as ended
-use Rattle.desk_tasks.specs.Play.{history_outcome}
+use Rattle.near_moves.specs.declared.ended.SearchEnd.{SearchEnd}
+use Rattle.near_moves.specs.declared.ended.SearchEnd.TheVariants as ended
+use Rattle.desk_tasks.specs.Play.{search_told, history_outcome}
 
 -- a day, the batches that arrive on it in order, and how many proposals may be accepted behind each
 pub record Recovery : Type 0 where
@@ -26,17 +25,12 @@ unfoldable pub recovered_history : Recovery → List Entry
 recovered_history r = recovery r.moves (opening r.day) r.batches
 
 -- why the last search ended, where there is a plan at the end: the history is spent, or no move near the plan is better
-abbrev pub end_by : Option Broken → Bool → Option SearchEnd
-end_by None true = Some ended.Budget
-end_by None false = Some ended.Quiet
-end_by (Some item) spent = None
-
 unfoldable pub search_end : Situation → ℕ → List Entry → Option SearchEnd
 search_end I most h = end_by (state (opening I) h).broken (is_spent most h)
 
 -- what a recovery comes to
 abbrev pub recovered : Recovery → Outcome
-recovered r = history_outcome r.day (search_end r.day r.moves (recovered_history r)) (recovered_history r)
+recovered r = history_outcome r.day (search_told (search_end r.day r.moves (recovered_history r))) (recovered_history r)
 
 -- the same status and report, and no files
 unfoldable pub told_alone : Outcome → Outcome

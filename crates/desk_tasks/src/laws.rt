@@ -3,7 +3,8 @@
 ghost use Rattle.desk_runs.specs.Runs.{World, IsWritten};
 ghost use Rattle.desk_tasks.specs.Play.{Story, played};
 ghost use Rattle.desk_tasks.specs.Recover.{Recovery, recovered, tried};
-ghost use Rattle.desk_tasks.specs.Tasks.{IsRunnable, IsRecoverable};
+ghost use Rattle.std.specs.Prelude.{◌≡◌};
+ghost use Rattle.desk_tasks.specs.Tasks.{Task, Work, IsWorkOf, outcome, outcome_at, IsRunnable, IsRecoverable};
 ghost use Rattle.desk_tasks.specs.Headline.{HasHeadline, HasRecovered, HasTried};
 
 /// Whoever has written all that a story comes to, whose events can be asked on its day, keeps the
@@ -21,4 +22,10 @@ pub fn recoveries_carry_the_headline()
         IsWritten before now (recovered r).texts → HasRecovered before now r }
     ensures tried { (before : World) → (now : World) → (r : Recovery) → IsRecoverable r →
         IsWritten before now (tried r).texts → HasTried before now r }
+{}
+
+/// A run of any task has one work, and at it the task comes to its outcome and to nothing else.
+pub fn tasks_come_to_one_outcome()
+    ensures work { (task : Task) → (work : Work) → (other : Work) → IsWorkOf task work → IsWorkOf task other → work ≡ other }
+    ensures outcome { (task : Task) → (work : Work) → IsWorkOf task work → outcome_at work task ≡ outcome task }
 {}

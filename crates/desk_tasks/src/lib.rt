@@ -3,16 +3,18 @@
 //! A task is what the input of a command asks for, once it is accepted: to play a story, to recover a day or to
 //! try that, to judge a plan, or to generate a day. The definitions give the `outcome` of each: its status, the
 //! texts of files, in the order in which they are written, and the report. Another command is a task more, or a
-//! use of one of these.
+//! use of one of these. Where what a task comes to depends on what its run made or found, that is its `Work`; of
+//! these tasks there is none, so each has one outcome.
 //!
-//! The code is `SearchEnd`, why a search ended, and the headline of the desk as laws, public functions with
+//! The code is the headline of the desk as laws, public functions with
 //! empty bodies: a story that was played, and all of whose texts are written, has written the journal of a
 //! legal history of its events, in which each published plan meets the rules, and the last plan of it; and a
 //! day that was recovered has written the same of the history in which a descent follows each batch.
 #![tactic(auto)]
 
-mod ended;
 mod laws;
 
-pub use ended::SearchEnd;
-pub use laws::{played_stories_carry_the_headline, recoveries_carry_the_headline};
+pub use laws::{
+    played_stories_carry_the_headline, recoveries_carry_the_headline, tasks_come_to_one_outcome,
+};
+pub use near_moves::SearchEnd;

@@ -1,6 +1,8 @@
--- How days, times and moments are written.
-use Rattle.std.specs.Prelude.{ℕ, ◌+◌, ◌-◌, ◌/◌, ◌%◌, List, [], ◌∷◌, ◌++◌, sum, take, count_by, codes, nat_le}
+-- How days, times, moments, cabins and directions are written.
+use Rattle.std.specs.Prelude.{ℕ, ◌+◌, ◌-◌, ◌/◌, ◌%◌, Bool, true, false, List, [], ◌∷◌, ◌++◌, sum, take, count_by, codes, nat_le}
 use Rattle.std.specs.List.{range_with_len}
+use Rattle.desk_units.specs.declared.numbers.Cabin.{Cabin}
+use Rattle.desk_units.specs.declared.numbers.Cabin.TheVariants as cabin
 use Rattle.desk_text.specs.Days.{is_leap, month_lengths, days_before}
 
 -- how many of the first `many` periods have passed on day n: each ends where the next one starts
@@ -46,3 +48,14 @@ time_text minute = two_digits (minute / 60) ++ codes ":" ++ two_digits (minute %
 -- dd/mm/yy HH:MM
 abbrev pub moment_text : ℕ → List ℕ
 moment_text at = date_text (at / 1440) ++ codes " " ++ time_text (at % 1440)
+
+-- the letter of a cabin
+abbrev pub cabin_text : Cabin → List ℕ
+cabin_text cabin.F = codes "F"
+cabin_text cabin.B = codes "B"
+cabin_text cabin.E = codes "E"
+
+-- the direction of a reservation: A for the way out, R for the way back
+abbrev pub direction_text : Bool → List ℕ
+direction_text false = codes "A"
+direction_text true = codes "R"

@@ -35,7 +35,7 @@ pub use reading::{Lines, are_text};
 pub use rows::{Grammar, read_rows};
 pub use text::lines;
 pub use texts::{
-    date_text, moment_text, push_all, push_date, push_moment, push_number, two_digits,
-    written_days_read_back,
+    cabin_letter, date_text, direction_letter, moment_text, push_all, push_date, push_moment,
+    push_number, time_text, two_digits, written_days_read_back,
 };
 pub use values::{cabin, date, haul, inbound, name, number, price, seats, time, weight};

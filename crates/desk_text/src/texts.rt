@@ -1,12 +1,12 @@
-//! What days, moments and numbers are written as.
+//! What days, moments, numbers, cabins and directions are written as.
 
 ghost use Rattle.std.specs.Prelude.{◌≡◌, ℕ, ◌<◌, ◌++◌, decimal, OnOk, OnErr, Some};
 ghost use Rattle.std.specs.List.{flat_map};
 ghost use Rattle.desk_text.specs.Days.{day_of};
-ghost use Rattle.desk_text.specs.Texts.{year_of, month_of, day_in_month, two_digits, date_text, time_text, moment_text};
+ghost use Rattle.desk_text.specs.Texts.{year_of, month_of, day_in_month, two_digits, date_text, time_text, moment_text, cabin_text, direction_text};
 
 use crate::days::date_of;
-use desk_units::{Minute, NoMem};
+use desk_units::{Cabin, Minute, NoMem};
 use itoa::Buffer;
 
 /// A number below 100 in two digits.
@@ -33,9 +33,9 @@ pub fn date_text(day: u32) -> [u8; 8]
     ]
 }
 
-/// The text of a minute of the day.
+/// The text of a minute of the day: `HH:MM`.
 #[tactic(auto, unfolding(crate::specs::Texts::time_text))]
-fn time_text(minute: u32) -> [u8; 5]
+pub fn time_text(minute: u32) -> [u8; 5]
     requires { minute < 1440 }
     ensures { result ≡ time_text minute }
 {
@@ -54,6 +54,24 @@ pub fn moment_text(at: Minute) -> [u8; 14]
     text[..8].copy_from_slice(&date_text(at.0 / 1_440));
     text[9..].copy_from_slice(&time_text(at.0 % 1_440));
     text
+}
+
+/// The letter of a cabin.
+pub fn cabin_letter(cabin: Cabin) -> [u8; 1]
+    ensures { result ≡ cabin_text cabin }
+{
+    match cabin {
+        Cabin::F => *b"F",
+        Cabin::B => *b"B",
+        Cabin::E => *b"E",
+    }
+}
+
+/// The letter of a direction: `A` for the way out, `R` for the way back.
+pub fn direction_letter(inbound: bool) -> [u8; 1]
+    ensures { result ≡ direction_text inbound }
+{
+    if inbound { *b"R" } else { *b"A" }
 }
 
 /// Adds a day, counted from 2000-01-01 and below 36,525, as `dd/mm/yy`. Where memory runs out, the

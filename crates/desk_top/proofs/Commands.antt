@@ -1,5 +1,5 @@
 -- What each command did, once it was done.
-use Rattle.std.proofs.Common.{◌≡◌, ◌≢◌, ℕ, List, refl, sym, ap, subst, ◌∙◌}
+use Rattle.std.proofs.Common.{◌≡◌, ◌≢◌, ℕ, false, List, refl, sym, ap, subst, ◌∙◌}
 use Rattle.std.specs.Prelude.{Option, Some, None, Result, Ok, Err}
 use Rattle.std.specs.Io.KnownBytes.{Appends}
 use Rattle.std.specs.Option.{option_map}
@@ -13,34 +13,31 @@ use Rattle.desk_words.specs.declared.asked.Command.{Command}
 use Rattle.desk_words.specs.declared.asked.Command.TheVariants as command_is
 use Rattle.desk_words.specs.Commands.{Asking}
 use Rattle.desk_runs.specs.declared.refusal.Refusal.{Refusal}
-use Rattle.desk_runs.specs.Commands.{asks, asked_here}
-use Rattle.desk_runs.specs.Inputs.{Inputs}
+use Rattle.desk_runs.specs.Commands.{asks, asked_here, files_read}
+use Rattle.desk_runs.specs.Inputs.{Inputs, Tells}
+use Rattle.desk_runs.specs.Causes.{IsDoneAt}
 use Rattle.desk_runs.specs.Runs.{World, IsWritten}
 use Rattle.desk_runs.proofs.CausesLaw.{usage-only}
 use Rattle.desk_text.specs.Rows.{◌>>=◌}
 use Rattle.near_moves.specs.Descent.{recovery}
 use Rattle.desk_gen.specs.Generated.{text_of}
-use Rattle.desk_tasks.specs.declared.ended.SearchEnd.{SearchEnd}
-use Rattle.desk_tasks.specs.Play.{Story, history_outcome, plan_status}
+use Rattle.desk_tasks.specs.Play.{Story, Remarks, search_told, history_outcome, plan_status}
 use Rattle.desk_tasks.specs.Recover.{Recovery, recovered_history, search_end, recovered, told_alone, tried}
 use Rattle.desk_tasks.specs.Judge.{Judged, verdict, verdict_report, rule_status, judged}
 use Rattle.desk_tasks.specs.Generate.{generation}
-use Rattle.desk_tasks.specs.Tasks.{Task, play, recover, trial, judge, generate, outcome}
+use Rattle.desk_tasks.specs.Tasks.{Task, play, recover, trial, judge, generate, Work, nothing, outcome, IsSound}
 use Rattle.desk_tasks.proofs.HeadlineLaw.{has-headline, has-recovered, has-tried}
 use Rattle.desk_story.specs.Story.{Rows, rows_of, usual_moves, story_of_rows, recovery_of_rows, trial_of, judged_of_rows, task_of_rows, task_of}
-use Rattle.desk_top.specs.Desk.{meaning, Runs, IsDone, IsReplayed, IsRecovered, IsTried, IsChecked, IsGenerated}
+use Rattle.desk_top.specs.Desk.{meaning_at, RunsWith, IsDone, RunsAsPromised, IsReplayed, IsRecovered, IsTried, IsChecked, IsGenerated}
 
 -- ---- what is asked
 
-pub nothing-asked : (o : Option Asking) → option_map asks o ≡ None → o ≡ None
-nothing-asked None e = refl
-nothing-asked (Some a) e = absurd cc
+-- where a run was done of what words ask for, it was done with its work
+pub done-by : (o : Option Asking) (asked : Asking) (before now : World) (x : Inputs) (code : ℕ) → (kept : RunsAsPromised (option_map asks o) before now code) → o ≡ Some asked → Tells (files_read asked.0) before.folder x → IsDoneAt code → IsDone kept.work asked.0 before now x code
+done-by o asked before now x code kept is tells done = kept.holds.means.done (asks asked) (ap (λ (o : Option Asking). option_map asks o) is) x tells done
 
-pub asked-run : (o : Option Asking) (asked : Asking) (before now : World) (code : ℕ) → o ≡ Some asked → Runs (option_map asks o) before now code → Runs (Some (asks asked)) before now code
-asked-run o asked before now code is run = subst (λ (o : Option Asking). Runs (option_map asks o) before now code) is run
-
-pub here-no-usage : (c : Command) (before now : World) (code : ℕ) → Runs (asked_here c) before now code → code ≢ 2
-here-no-usage c before now code run two = let none : asked_here c ≡ None = usage-only meaning (asked_here c) before now code run two in absurd cc
+pub here-no-usage : (c : Command) (before now : World) (code : ℕ) → RunsWith nothing (asked_here c) before now code → code ≢ 2
+here-no-usage c before now code run two = let none : asked_here c ≡ None = usage-only (meaning_at nothing) (asked_here c) before now code run two in absurd cc
 
 -- ---- which task a command is set
 
@@ -68,7 +65,7 @@ unfolding task_of_rows
 replay_rows (Ok rows) t e = played_task (story_of_rows rows) t e
 replay_rows (Err r) t e = absurd cc
 
-recover_rows : (moves : ℕ) (read : Read) (t : Task) → (read >>= task_of_rows (command_is.Recover moves)) ≡ Ok t → (r : Recovery) × (t ≡ recover r)
+recover_rows : (moves : ℕ) (read : Read) (t : Task) → (read >>= task_of_rows (command_is.Recover 0 moves false)) ≡ Ok t → (r : Recovery) × (t ≡ recover r)
 unfolding task_of_rows
 recover_rows moves (Ok rows) t e = let held = recover_task (recovery_of_rows moves rows) t e in (held.0, held.1)
 recover_rows moves (Err r) t e = absurd cc
@@ -92,23 +89,23 @@ replay_task : (x : Inputs) (t : Task) → task_of command_is.Replay x ≡ Ok t �
 unfolding task_of
 replay_task x t e = replay_rows (rows_of command_is.Replay x) t e
 
-recovery_task : (moves : ℕ) (x : Inputs) (t : Task) → task_of (command_is.Recover moves) x ≡ Ok t → (r : Recovery) × (t ≡ recover r)
+recovery_task : (moves : ℕ) (x : Inputs) (t : Task) → task_of (command_is.Recover 0 moves false) x ≡ Ok t → (r : Recovery) × (t ≡ recover r)
 unfolding task_of
-recovery_task moves x t e = recover_rows moves (rows_of (command_is.Recover moves) x) t e
+recovery_task moves x t e = recover_rows moves (rows_of (command_is.Recover 0 moves false) x) t e
 
 tried_task : (seed size : ℕ) (x : Inputs) (t : Task) → task_of (command_is.Trial seed size) x ≡ Ok t → (r : Recovery) × (t ≡ trial r) × (trial_of seed size ≡ Ok r)
 unfolding task_of
 tried_task seed size x t e = trial_rows seed size (rows_of (command_is.Trial seed size) x) t e
 
 -- a trial asks for what `recover` asks for of the texts
-asked_rows : (moves : ℕ) (read : Read) (r : Recovery) → (read >>= recovery_of_rows moves) ≡ Ok r → (read >>= task_of_rows (command_is.Recover moves)) ≡ Ok (recover r)
+asked_rows : (moves : ℕ) (read : Read) (r : Recovery) → (read >>= recovery_of_rows moves) ≡ Ok r → (read >>= task_of_rows (command_is.Recover 0 moves false)) ≡ Ok (recover r)
 unfolding task_of_rows
 asked_rows moves (Ok rows) r e = ap (λ (made : Result Recovery Refusal). made >>= (λ recovery. let r : Result Task Refusal = Ok (recover recovery) in r)) e
 asked_rows moves (Err why) r e = absurd cc
 
-asked_as_recover : (seed size : ℕ) (r : Recovery) → trial_of seed size ≡ Ok r → task_of (command_is.Recover usual_moves) (text_of seed size) ≡ Ok (recover r)
+asked_as_recover : (seed size : ℕ) (r : Recovery) → trial_of seed size ≡ Ok r → task_of (command_is.Recover 0 usual_moves false) (text_of seed size) ≡ Ok (recover r)
 unfolding task_of trial_of
-asked_as_recover seed size r e = asked_rows usual_moves (rows_of (command_is.Recover usual_moves) (text_of seed size)) r e
+asked_as_recover seed size r e = asked_rows usual_moves (rows_of (command_is.Recover 0 usual_moves false) (text_of seed size)) r e
 
 check_task : (x : Inputs) (t : Task) → task_of command_is.Check x ≡ Ok t → (j : Judged) × (t ≡ judge j)
 unfolding task_of
@@ -119,8 +116,8 @@ unfolding task_of
 gen_task seed size x t e = gen_rows seed size (rows_of (command_is.Gen seed size) x) t e
 
 -- a task that is another one
-done_as : (c : Command) (before now : World) (x : Inputs) (code : ℕ) (t : Task) (done : IsDone c before now x code) → done.task ≡ t → (task_of c x ≡ Ok t) × (code ≡ (outcome t).status) × IsWritten before now (outcome t).texts
-done_as c before now x code t done is = (
+done_as : (work : Work) (c : Command) (before now : World) (x : Inputs) (code : ℕ) (t : Task) (done : IsDone work c before now x code) → done.task ≡ t → (task_of c x ≡ Ok t) × (code ≡ (outcome t).status) × IsWritten before now (outcome t).texts
+done_as work c before now x code t done is = (
   subst (λ (t : Task). task_of c x ≡ Ok t) is done.told,
   subst (λ (t : Task). code ≡ (outcome t).status) is done.status,
   subst (λ (t : Task). IsWritten before now (outcome t).texts) is done.written,
@@ -128,41 +125,41 @@ done_as c before now x code t done is = (
 
 -- ---- replay
 
-pub replayed : (before now : World) (x : Inputs) (code : ℕ) → IsDone command_is.Replay before now x code → IsReplayed before now x
-replayed before now x code done =
+pub replayed : (work : Work) (before now : World) (x : Inputs) (code : ℕ) → IsDone work command_is.Replay before now x code → IsReplayed before now x
+replayed work before now x code done =
     let story = replay_task x done.task done.told in
-    let parts = done_as command_is.Replay before now x code (play story.0) done story.1 in
-    let held = has-headline before now story.0 (subst meaning.IsSound story.1 done.sound) parts.2 in
+    let parts = done_as work command_is.Replay before now x code (play story.0) done story.1 in
+    let held = has-headline before now story.0 (subst IsSound story.1 done.sound.0) parts.2 in
     record { story = story.0; told = parts.0; history = held.history; headline = held.headline }
 
 -- ---- recover and trial
 
-history_status : (I : Situation) (search : Option SearchEnd) (h : List Entry) → (history_outcome I search h).status ≡ plan_status (state (opening I) h).broken
+history_status : (I : Situation) (remarks : Remarks) (h : List Entry) → (history_outcome I remarks h).status ≡ plan_status (state (opening I) h).broken
 unfolding history_outcome
-history_status I search h = refl
+history_status I remarks h = refl
 
 recovered_status : (r : Recovery) (h : List Entry) → h ≡ recovery r.moves (opening r.day) r.batches → (recovered r).status ≡ plan_status (state (opening r.day) h).broken
 unfolding recovered_history
 recovered_status r h is =
-    history_status r.day (search_end r.day r.moves (recovery r.moves (opening r.day) r.batches)) (recovery r.moves (opening r.day) r.batches)
+    history_status r.day (search_told (search_end r.day r.moves (recovery r.moves (opening r.day) r.batches))) (recovery r.moves (opening r.day) r.batches)
     ∙ ap (λ (g : List Entry). plan_status (state (opening r.day) g).broken) (sym is)
 
 tried_status : (r : Recovery) → (tried r).status ≡ (recovered r).status
 unfolding told_alone
 tried_status r = refl
 
-pub recovered-day : (before now : World) (moves : ℕ) (x : Inputs) (code : ℕ) → IsDone (command_is.Recover moves) before now x code → IsRecovered before now moves x code
-recovered-day before now moves x code done =
+pub recovered-day : (work : Work) (before now : World) (moves : ℕ) (x : Inputs) (code : ℕ) → IsDone work (command_is.Recover 0 moves false) before now x code → IsRecovered before now moves x code
+recovered-day work before now moves x code done =
     let r = recovery_task moves x done.task done.told in
-    let parts = done_as (command_is.Recover moves) before now x code (recover r.0) done r.1 in
-    let held = has-recovered before now r.0 (subst meaning.IsSound r.1 done.sound) parts.2 in
+    let parts = done_as work (command_is.Recover 0 moves false) before now x code (recover r.0) done r.1 in
+    let held = has-recovered before now r.0 (subst IsSound r.1 done.sound.0) parts.2 in
     record { recovery = r.0; told = parts.0; history = held.history; status = parts.1 ∙ recovered_status r.0 held.history held.recovers.exact; recovers = held.recovers; written = held.written }
 
-pub tried-day : (before now : World) (seed size : ℕ) (x : Inputs) (code : ℕ) → IsDone (command_is.Trial seed size) before now x code → IsTried before now seed size code
-tried-day before now seed size x code done =
+pub tried-day : (work : Work) (before now : World) (seed size : ℕ) (x : Inputs) (code : ℕ) → IsDone work (command_is.Trial seed size) before now x code → IsTried before now seed size code
+tried-day work before now seed size x code done =
     let r = tried_task seed size x done.task done.told in
-    let parts = done_as (command_is.Trial seed size) before now x code (trial r.0) done r.1 in
-    let held = has-tried before now r.0 (subst meaning.IsSound r.1 done.sound) parts.2 in
+    let parts = done_as work (command_is.Trial seed size) before now x code (trial r.0) done r.1 in
+    let held = has-tried before now r.0 (subst IsSound r.1 done.sound.0) parts.2 in
     record { recovery = r.0; told = asked_as_recover seed size r.0 r.2; history = held.history; status = parts.1 ∙ tried_status r.0 ∙ recovered_status r.0 held.history held.recovers.exact; recovers = held.recovers; reported = held.reported }
 
 -- ---- check
@@ -175,10 +172,10 @@ verdict_reported : (before now : World) (j : Judged) → IsWritten before now (j
 unfolding verdict
 verdict_reported before now j h = h
 
-pub checked : (before now : World) (x : Inputs) (code : ℕ) → IsDone command_is.Check before now x code → IsChecked before now x code
-checked before now x code done =
+pub checked : (work : Work) (before now : World) (x : Inputs) (code : ℕ) → IsDone work command_is.Check before now x code → IsChecked before now x code
+checked work before now x code done =
     let j = check_task x done.task done.told in
-    let parts = done_as command_is.Check before now x code (judge j.0) done j.1 in
+    let parts = done_as work command_is.Check before now x code (judge j.0) done j.1 in
     record { judged = j.0; told = parts.0; status = parts.1 ∙ verdict_status j.0; reported = verdict_reported before now j.0 parts.2 }
 
 -- ---- gen
@@ -187,7 +184,7 @@ generated_status : (seed size : ℕ) → (generation seed size).status ≡ 0
 unfolding generation
 generated_status seed size = refl
 
-pub generated : (before now : World) (seed size : ℕ) (x : Inputs) (code : ℕ) → IsDone (command_is.Gen seed size) before now x code → IsGenerated before now seed size code
-generated before now seed size x code done =
-    let parts = done_as (command_is.Gen seed size) before now x code (generate seed size) done (gen_task seed size x done.task done.told) in
+pub generated : (work : Work) (before now : World) (seed size : ℕ) (x : Inputs) (code : ℕ) → IsDone work (command_is.Gen seed size) before now x code → IsGenerated before now seed size code
+generated work before now seed size x code done =
+    let parts = done_as work (command_is.Gen seed size) before now x code (generate seed size) done (gen_task seed size x done.task done.told) in
     record { status = parts.1 ∙ generated_status seed size; written = parts.2 }

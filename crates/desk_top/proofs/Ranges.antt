@@ -1,13 +1,13 @@
 -- The numbers of the words are in their ranges.
-use Rattle.std.proofs.Common.{◌≡◌, ℕ, ◌≤◌, Bool, true, false, ◌&&◌, if◌then◌else◌, List, [], ◌∷◌, sym, subst, inl, inr, arith}
+use Rattle.std.proofs.Common.{◌≡◌, ℕ, ◌≤◌, Bool, true, false, ◌&&◌, if◌then◌else◌, List, [], ◌∷◌, refl, sym, subst, inl, inr, arith}
 use Rattle.std.specs.Prelude.{Option, Some, None, IfSome, nat_le, bytes_eq, codes}
 use Rattle.std.proofs.lemmas.Bool.{cases_Bool, leb-true}
 use Rattle.desk_folder.specs.Outside.{Directories}
 use Rattle.desk_text.specs.Fields.{◌>>=◌, only_if, digits_of, number_from}
 use Rattle.desk_words.specs.declared.asked.Command.{Command}
 use Rattle.desk_words.specs.declared.asked.Command.TheVariants as command_is
-use Rattle.desk_words.specs.declared.choice.Choice.{Choice}
-use Rattle.desk_words.specs.declared.choice.Choice.TheVariants as choice_is
+use Rattle.desk_words.specs.declared.choice.NumberOption.{NumberOption}
+use Rattle.desk_words.specs.declared.choice.NumberOption.TheVariants as choice_is
 use Rattle.desk_words.specs.Arguments.{Argument, arguments, places}
 use Rattle.desk_words.specs.Commands.{Asking, least_of, most_of, value_in, value_of, no_day_options, no_search_options, input_and_output, output_alone, no_directory, plain, searching, recovering, making, generating, sampling, trying, command_by, command}
 use Rattle.desk_runs.specs.Commands.{IsCommand}
@@ -33,7 +33,7 @@ number_within : (low high : ℕ) (bytes : List ℕ) → IfSome (number_from low 
 unfolding number_from
 number_within low high bytes = only_within low high (digits_of 9 bytes)
 
-value_within : (choice : Choice) (texts : List (List ℕ)) → IfSome (value_in choice texts) (Within (least_of choice) (most_of choice))
+value_within : (choice : NumberOption) (texts : List (List ℕ)) → IfSome (value_in choice texts) (Within (least_of choice) (most_of choice))
 value_within choice_is.Seed [] = (omega arith, omega arith)
 value_within choice_is.Size [] = (omega arith, omega arith)
 value_within choice_is.Workers [] = (omega arith, omega arith)
@@ -59,14 +59,14 @@ if_range : (test : Bool) (o : Option Asking) → InRange o → InRange (if test 
 if_range true o h = h
 if_range false o h = tt
 
-searching_in : (workers moves : Option ℕ) (dirs : Option Directories) → IfSome moves (Within 1 100000) → InRange (workers >>= (λ workers. moves >>= (λ moves. dirs >>= (λ dirs. Some (command_is.Recover moves, Some dirs)))))
-searching_in None moves dirs a = tt
-searching_in (Some workers) None dirs a = tt
-searching_in (Some workers) (Some moves) dirs a = with_dirs (command_is.Recover moves) dirs a
+searching_in : (workers moves : Option ℕ) (dirs : Option Directories) → IfSome workers (Within 0 0) → IfSome moves (Within 1 100000) → InRange (workers >>= (λ workers. moves >>= (λ moves. dirs >>= (λ dirs. Some (command_is.Recover workers moves false, Some dirs)))))
+searching_in None moves dirs w a = tt
+searching_in (Some workers) None dirs w a = tt
+searching_in (Some workers) (Some moves) dirs w a = with_dirs (command_is.Recover workers moves false) dirs (omega (arith, w.1), a.0, a.1, refl)
 
 recovering_range : (list : List Argument) → InRange (recovering list)
 unfolding searching
-recovering_range list = if_range (no_day_options list) _ (searching_in (value_of choice_is.Workers list) (value_of choice_is.Moves list) (input_and_output (places list)) (value_within choice_is.Moves _))
+recovering_range list = if_range (no_day_options list) _ (searching_in (value_of choice_is.Workers list) (value_of choice_is.Moves list) (input_and_output (places list)) (value_within choice_is.Workers _) (value_within choice_is.Moves _))
 
 making_in : (seed size : Option ℕ) (dirs : Option Directories) → IfSome seed (Within 0 999999999) → IfSome size (Within 1 40) → InRange (seed >>= (λ seed. size >>= (λ size. dirs >>= (λ dirs. Some (command_is.Gen seed size, Some dirs)))))
 making_in None size dirs a b = tt

@@ -1,6 +1,7 @@
 -- The files of a generated day are written.
 use Rattle.std.proofs.Common.{◌≡◌, ℕ, true, List, refl, ap, ◌∙◌}
 use Rattle.std.specs.Prelude.{codes}
+use Rattle.std.specs.Fmt.{digits}
 use Rattle.folder_io.specs.Outputs.{FileText, files_of, are_different}
 use Rattle.desk_folder.specs.Files.{day_files}
 use Rattle.desk_gen.specs.Generated.{generated}
@@ -20,7 +21,7 @@ abbrev pub made : List FileText → List ℕ → Texts
 made files report = record { files = files; report = report }
 
 pub made-is : (seed size : ℕ) (files : List FileText) (report : List ℕ) → files ≡ generated seed size → report ≡ codes "written 13\n" → made files report ≡ (generation seed size).texts
-unfolding generation
+unfolding generation digits
 made-is seed size files report is told = ap (λ (fs : List FileText). made fs report) is ∙ ap (λ (r : List ℕ). made (generated seed size) r) told
 
 pub made-differ : (seed size : ℕ) (files : List FileText) → files ≡ generated seed size → are_different (files_of files) ≡ true

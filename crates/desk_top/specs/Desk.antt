@@ -1,5 +1,5 @@
 -- What is said of a run of the desk, where its inputs mean what the files' grammars and their join say.
-use Rattle.std.specs.Prelude.{◌≡◌, ℕ, List, Option, Ok}
+use Rattle.std.specs.Prelude.{◌≡◌, ℕ, false, List, Option, Ok}
 use Rattle.std.specs.Io.KnownBytes.{Appends}
 use Rattle.desk_model.specs.declared.answer.Entry.{Entry}
 use Rattle.desk_model.specs.States.{opening}
@@ -11,49 +11,49 @@ use Rattle.desk_words.specs.declared.asked.Command.TheVariants as command_is
 use Rattle.desk_runs.specs.declared.ending.Ending.{Ending}
 use Rattle.desk_runs.specs.Commands.{Ask}
 use Rattle.desk_runs.specs.Inputs.{Inputs}
-use Rattle.desk_runs.specs.Outcome.{Texts}
 use Rattle.desk_runs.specs.Runs.{World, Meaning, IsWritten}
 use Rattle.desk_runs.specs.Runs as runs
 use Rattle.desk_runs.specs.Causes as causes
-use Rattle.desk_runs.specs.Standing as standing
-use Rattle.desk_tasks.specs.Play.{Story, report_text, plan_status}
+use Rattle.desk_runs.specs.Promised as promised
+use Rattle.desk_runs.specs.Works.{Meanings, AtSomeWork}
+use Rattle.desk_tasks.specs.Play.{Story, search_told, report_text, plan_status}
 use Rattle.desk_tasks.specs.Recover.{Recovery, search_end}
 use Rattle.desk_tasks.specs.Judge.{Judged, verdict_report, rule_status}
 use Rattle.desk_tasks.specs.Generate.{generation}
-use Rattle.desk_tasks.specs.Tasks.{Task, play, recover, judge, outcome, IsSound}
+use Rattle.desk_tasks.specs.Tasks.{Task, play, recover, judge, Work, IsWorkOf, outcome_at, IsSoundAt}
 use Rattle.desk_tasks.specs.Headline.{TellsHistory, Headline, Recovers}
 use Rattle.desk_gen.specs.Generated.{text_of}
 use Rattle.desk_story.specs.Story.{Rows, rows_of, usual_moves, task_of}
 
--- what inputs say to a command: the rows of all its files, or the first refusal by a grammar; and the task, or the first refusal
-abbrev pub meaning : Meaning Rows Task
-meaning = record { rows = rows_of; task = task_of; outcome = outcome; IsSound = IsSound }
+-- what inputs say to a command: the rows of all its files, or the first refusal by a grammar; and the task, or the first refusal; and
+-- what that comes to, where a run has this work
+abbrev pub meaning_at : Work → Meaning Rows Task
+meaning_at work = record { rows = rows_of; task = task_of; outcome = outcome_at work; IsSound = IsSoundAt work }
 
--- ---- each of these with that meaning
+-- the same at each work
+abbrev pub meanings : Meanings Rows Task Work
+meanings = record { at = meaning_at; IsWorkOf = IsWorkOf }
 
-abbrev pub Obeys : Ask → World → World → Ending → Type 0
-Obeys a before now how = runs.Obeys meaning a before now how
+-- ---- what is said of a run, with that meaning
+
+-- a command that is obeyed with this work
+abbrev pub Obeys : Work → Ask → World → World → Ending → Type 0
+Obeys work a before now how = runs.Obeys (meaning_at work) a before now how
+
+-- a run with this work, and a run with some work
+abbrev pub RunsWith : Work → Option Ask → World → World → ℕ → Type 0
+RunsWith work ask before now code = runs.Runs (meaning_at work) ask before now code
 
 abbrev pub Runs : Option Ask → World → World → ℕ → Type 0
-Runs ask before now code = runs.Runs meaning ask before now code
+Runs ask before now code = AtSomeWork meanings ask before now (λ M. runs.Runs M ask before now code)
 
-abbrev pub IsDone : Command → World → World → Inputs → ℕ → Type 0
-IsDone c before now x code = causes.IsDone meaning c before now x code
+-- a run that was done, with this work
+abbrev pub IsDone : Work → Command → World → World → Inputs → ℕ → Type 0
+IsDone work c before now x code = causes.IsDone (meaning_at work) c before now x code
 
-abbrev pub IsRefused : Command → World → World → Inputs → Type 0
-IsRefused c before now x = causes.IsRefused meaning c before now x
-
-abbrev pub IsReadable : Command → World → World → Inputs → Type 0
-IsReadable c before now x = causes.IsReadable meaning c before now x
-
-abbrev pub Answers : Command → Inputs → ℕ → Type 0
-Answers c x code = causes.Answers meaning c x code
-
-abbrev pub finished_texts : Option Ask → Inputs → Texts
-finished_texts ask x = standing.finished_texts meaning ask x
-
-abbrev pub IsToldLast : Option Ask → World → World → Inputs → ℕ → Type 0
-IsToldLast ask before now x code = standing.IsToldLast meaning ask before now x code
+-- a run has one work, and with it keeps all that is promised of each command
+abbrev pub RunsAsPromised : Option Ask → World → World → ℕ → Type 0
+RunsAsPromised ask before now code = promised.RunsAsPromised meanings ask before now code
 
 -- ---- what each command did, once it was done
 
@@ -68,20 +68,20 @@ pub record IsReplayed (before now : World) (x : Inputs) : Type 0 where
 -- and else 0
 pub record IsRecovered (before now : World) (moves : ℕ) (x : Inputs) (code : ℕ) : Type 0 where
   pub recovery : Recovery
-  pub told : task_of (command_is.Recover moves) x ≡ Ok (recover recovery)
+  pub told : task_of (command_is.Recover 0 moves false) x ≡ Ok (recover recovery)
   pub history : List Entry
   pub status : code ≡ plan_status (state (opening recovery.day) history).broken
   pub recovers : Recovers recovery history
-  pub written : TellsHistory before now recovery.day (search_end recovery.day recovery.moves history) history
+  pub written : TellsHistory before now recovery.day (search_told (search_end recovery.day recovery.moves history)) history
 
 -- `trial`: the same of the texts of a day that is made up, read as `recover` reads them with its usual options, and reported alone
 pub record IsTried (before now : World) (seed size : ℕ) (code : ℕ) : Type 0 where
   pub recovery : Recovery
-  pub told : task_of (command_is.Recover usual_moves) (text_of seed size) ≡ Ok (recover recovery)
+  pub told : task_of (command_is.Recover 0 usual_moves false) (text_of seed size) ≡ Ok (recover recovery)
   pub history : List Entry
   pub status : code ≡ plan_status (state (opening recovery.day) history).broken
   pub recovers : Recovers recovery history
-  pub reported : Appends before.sink.written now.sink.written (report_text recovery.day (search_end recovery.day recovery.moves history) history)
+  pub reported : Appends before.sink.written now.sink.written (report_text recovery.day (search_told (search_end recovery.day recovery.moves history)) history)
 
 -- `check`: the inputs tell a day and a plan; the status is 7 where the plan breaks a rule and else 0, and the report tells the
 -- first item that is broken, or that none is, and the cost of the plan under the orders of all batches

@@ -3,7 +3,7 @@
 ghost use Rattle.desk_folder.specs.Files.{day_files};
 ghost use Rattle.desk_gen.specs.Generated.{IsSize};
 ghost use Rattle.desk_tasks.specs.Generate.{generation};
-ghost use Rattle.desk_runs.specs.Runs.{world};
+ghost use Rattle.desk_runs.specs.Runs.{Between};
 ghost use Rattle.desk_runs.specs.Finishing.{Completes};
 
 use desk_folder::{Folder, Sink};
@@ -23,8 +23,8 @@ pub(crate) fn write_day<F: Folder, O: Sink>(
     out: &mut O,
 ) -> Ending
     requires { IsSize size }
-    ensures { Completes day_files (world (F.outside folder.old) (O.report out.old))
-        (world (F.outside folder.new) (O.report out.new)) (generation seed size) result }
+    ensures { Between F.outside O.report folder.old out.old folder.new out.new
+        (λ before now. Completes day_files before now (generation seed size) result) }
 {
     let files = match generate(alloc, seed, size) {
         Ok(files) => files,

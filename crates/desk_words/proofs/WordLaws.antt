@@ -4,37 +4,37 @@ use Rattle.std.proofs.lemmas.List.{append_assoc, append-nil}
 use Rattle.desk_text.specs.Fields.{◌>>=◌, number_from}
 use Rattle.desk_words.specs.declared.asked.Command.{Command}
 use Rattle.desk_words.specs.declared.asked.Command.TheVariants.{Replay, Check}
-use Rattle.desk_words.specs.declared.choice.Choice.{Choice}
-use Rattle.desk_words.specs.declared.choice.Choice.TheVariants.{Seed, Size, Workers, Moves}
+use Rattle.desk_words.specs.declared.choice.NumberOption.{NumberOption}
+use Rattle.desk_words.specs.declared.choice.NumberOption.TheVariants.{Seed, Size, Workers, Moves}
 use Rattle.desk_words.specs.declared.read.Expected.{Expected}
 use Rattle.desk_words.specs.declared.read.Expected.TheVariants as expected
 use Rattle.desk_words.specs.Arguments.{Argument, Place, Setting, is_directory, choice_of, setting_of, before, named_or, set_before, only_places, arguments_behind, arguments, places, values, choice_number}
 use Rattle.desk_words.specs.Commands.{Asking, default_of, least_of, most_of, value_in, value_of, is_nothing, is_unset, no_day_options, no_search_options, input_and_output, plain, searching, recovering, making, generating, sampling, trying, command_by, command}
-use Rattle.desk_words.specs.Read.{Kept, nothing, one_more, with_place, with_setting, with_argument, with_all, kept_behind, by_choice, next_is, arguments_by, of_any, of_word, value, with_value, unset, no_day_set, no_search_set, number_kept, plain_kept, recovering_kept, generating_kept, trying_kept, asked_kept}
+use Rattle.desk_words.specs.Read.{WordsRead, nothing, one_more, with_place, with_setting, with_argument, with_all, kept_behind, by_choice, next_is, arguments_by, of_any, of_word, value, with_value, unset, no_day_set, no_search_set, number_kept, plain_kept, recovering_kept, generating_kept, trying_kept, asked_kept}
 
-nowhere : {X : Type 0} (more : Option X) (f : X → Option Kept) → ((x : X) → f x ≡ None) → (more >>= f) ≡ None
+nowhere : {X : Type 0} (more : Option X) (f : X → Option WordsRead) → ((x : X) → f x ≡ None) → (more >>= f) ≡ None
 nowhere None f none = refl
 nowhere (Some x) f none = none x
 
 -- an argument before others is kept, and then the others
-pub kept_before : (kept : Kept) (argument : Argument) (others : Option (List Argument)) → kept_behind kept (before argument others) ≡ (with_argument kept argument >>= λ more. kept_behind more others)
+pub kept_before : (kept : WordsRead) (argument : Argument) (others : Option (List Argument)) → kept_behind kept (before argument others) ≡ (with_argument kept argument >>= λ more. kept_behind more others)
 unfolding with_all
 kept_before kept argument (Some list) = refl
 kept_before kept argument None = sym (nowhere (with_argument kept argument) (λ more. kept_behind more None) (λ more. refl))
 
 -- what is kept of the words behind one
-abbrev go_on : List (List ℕ) → Expected × Kept → Option Kept
+abbrev go_on : List (List ℕ) → Expected × WordsRead → Option WordsRead
 go_on words next = kept_behind next.1 (arguments_by next.0 words)
 
-bind_twice : (more : Option Kept) (next : Expected) (f : Expected × Kept → Option Kept) → ((more >>= next_is next) >>= f) ≡ (more >>= λ kept. f (next, kept))
+bind_twice : (more : Option WordsRead) (next : Expected) (f : Expected × WordsRead → Option WordsRead) → ((more >>= next_is next) >>= f) ≡ (more >>= λ kept. f (next, kept))
 bind_twice None next f = refl
 bind_twice (Some kept) next f = refl
 
-kept_any : (kept : Kept) (word : List ℕ) (words : List (List ℕ)) → kept_behind kept (arguments_behind None (word ∷ words)) ≡ (of_any kept word >>= go_on words)
+kept_any : (kept : WordsRead) (word : List ℕ) (words : List (List ℕ)) → kept_behind kept (arguments_behind None (word ∷ words)) ≡ (of_any kept word >>= go_on words)
 unfolding of_any arguments_behind
 kept_any kept word words = by_tests (is_directory word) (bytes_eq word (codes "--")) (choice_of word) (setting_of word)
   where
-    by_tests : (place dashes : Bool) (choice : Option Choice) (set : Option (Choice × List ℕ)) →
+    by_tests : (place dashes : Bool) (choice : Option NumberOption) (set : Option (NumberOption × List ℕ)) →
         kept_behind kept (if place then before (Place word) (arguments_behind None words) else (
         if dashes then only_places words else
         named_or choice (λ c. arguments_behind (Some c) words) (set_before set (arguments_behind None words))))
@@ -48,7 +48,7 @@ kept_any kept word words = by_tests (is_directory word) (bytes_eq word (codes "-
     by_tests false false None (Some s) = kept_before kept (Setting s.0 s.1) (arguments_behind None words) ∙ sym (bind_twice (with_setting kept s.0 s.1) expected.Any (go_on words))
 
 -- what words say is what the first of them says, and then the others
-pub kept_word : (mode : Expected) (kept : Kept) (word : List ℕ) (words : List (List ℕ)) → kept_behind kept (arguments_by mode (word ∷ words)) ≡ (of_word mode kept word >>= go_on words)
+pub kept_word : (mode : Expected) (kept : WordsRead) (word : List ℕ) (words : List (List ℕ)) → kept_behind kept (arguments_by mode (word ∷ words)) ≡ (of_word mode kept word >>= go_on words)
 unfolding of_word arguments_behind only_places
 kept_word expected.Any kept word words = kept_any kept word words
 kept_word (expected.Value choice) kept word words = kept_before kept (Setting choice word) (arguments_behind None words) ∙ sym (bind_twice (with_setting kept choice word) expected.Any (go_on words))
@@ -68,7 +68,7 @@ put_if : (hit : Bool) (text : List ℕ) (x y z : List (List ℕ)) → x ≡ y ++
 put_if true text x y z e = ap (λ (l : List (List ℕ)). text ∷ l) e
 put_if false text x y z e = e
 
-values-append : (choice : Choice) (a b : List Argument) → values choice (a ++ b) ≡ values choice a ++ values choice b
+values-append : (choice : NumberOption) (a b : List Argument) → values choice (a ++ b) ≡ values choice a ++ values choice b
 unfolding values
 values-append choice [] b = refl
 values-append choice (Place word ∷ a) b = values-append choice a b
@@ -76,15 +76,15 @@ values-append choice (Setting other text ∷ a) b =
     put_if (eqb (choice_number other) (choice_number choice)) text (values choice (a ++ b)) (values choice a) (values choice b) (values-append choice a b)
 
 -- what the texts of an option's values say: nothing, or the number of the only one
-abbrev value_read : Choice → List (List ℕ) → Option (Option ℕ)
+abbrev value_read : NumberOption → List (List ℕ) → Option (Option ℕ)
 value_read choice [] = Some None
 value_read choice (text ∷ []) = number_from (least_of choice) (most_of choice) text >>= λ n. Some (Some n)
 value_read choice (text ∷ other ∷ others) = None
 
 -- this is kept of the arguments so far
-record Says (done : List Argument) (kept : Kept) : Type 0 where
+record Says (done : List Argument) (kept : WordsRead) : Type 0 where
   told : places done ≡ kept.places
-  set : (choice : Choice) → value_read choice (values choice done) ≡ Some (value kept.values choice)
+  set : (choice : NumberOption) → value_read choice (values choice done) ≡ Some (value kept.values choice)
 
 some_of : {X : Type 0} (x y : X) → Some x ≡ Some y → x ≡ y
 some_of x y e = cc
@@ -93,7 +93,7 @@ none_some : {X Y : Type 0} (x : X) → None ≡ Some x → Y
 none_some x e = absurd (cc e)
 
 -- an option that was read is set where its value is kept
-unset_read : (choice : Choice) (texts : List (List ℕ)) (value : Option ℕ) → value_read choice texts ≡ Some value → is_nothing texts ≡ unset value
+unset_read : (choice : NumberOption) (texts : List (List ℕ)) (value : Option ℕ) → value_read choice texts ≡ Some value → is_nothing texts ≡ unset value
 unset_read choice [] value e = ap unset (some_of None value e)
 unset_read choice (text ∷ []) value e = of_number (number_from (least_of choice) (most_of choice) text) value e
   where
@@ -103,7 +103,7 @@ unset_read choice (text ∷ []) value e = of_number (number_from (least_of choic
 unset_read choice (text ∷ other ∷ others) value e = none_some value e
 
 -- and its number is the one that is kept, or its default
-value_kept : (choice : Choice) (texts : List (List ℕ)) (value : Option ℕ) → value_read choice texts ≡ Some value → value_in choice texts ≡ Some (unwrap_or value (default_of choice))
+value_kept : (choice : NumberOption) (texts : List (List ℕ)) (value : Option ℕ) → value_read choice texts ≡ Some value → value_in choice texts ≡ Some (unwrap_or value (default_of choice))
 value_kept choice [] value e = ap (λ v. Some (unwrap_or v (default_of choice))) (some_of None value e)
 value_kept choice (text ∷ []) value e = of_number (number_from (least_of choice) (most_of choice) text) value e
   where
@@ -112,28 +112,28 @@ value_kept choice (text ∷ []) value e = of_number (number_from (least_of choic
     of_number (Some k) value e = ap (λ v. Some (unwrap_or v (default_of choice))) (some_of (Some k) value e)
 value_kept choice (text ∷ other ∷ others) value e = none_some value e
 
-day_says : (done : List Argument) (kept : Kept) → Says done kept → no_day_options done ≡ no_day_set kept.values
+day_says : (done : List Argument) (kept : WordsRead) → Says done kept → no_day_options done ≡ no_day_set kept.values
 day_says done kept h = rw (unset_read Seed (values Seed done) kept.values.seed (h.set Seed), unset_read Size (values Size done) kept.values.size (h.set Size)) refl
 
-search_says : (done : List Argument) (kept : Kept) → Says done kept → no_search_options done ≡ no_search_set kept.values
+search_says : (done : List Argument) (kept : WordsRead) → Says done kept → no_search_options done ≡ no_search_set kept.values
 search_says done kept h = rw (unset_read Workers (values Workers done) kept.values.workers (h.set Workers), unset_read Moves (values Moves done) kept.values.moves (h.set Moves)) refl
 
-number_says : (choice : Choice) (done : List Argument) (kept : Kept) → Says done kept → value_of choice done ≡ Some (number_kept choice kept)
+number_says : (choice : NumberOption) (done : List Argument) (kept : WordsRead) → Says done kept → value_of choice done ≡ Some (number_kept choice kept)
 number_says choice done kept h = value_kept choice (values choice done) (value kept.values choice) (h.set choice)
 
-plain_says : (command : Command) (done : List Argument) (kept : Kept) → Says done kept → plain command done ≡ plain_kept command kept
+plain_says : (command : Command) (done : List Argument) (kept : WordsRead) → Says done kept → plain command done ≡ plain_kept command kept
 unfolding plain plain_kept
 plain_says command done kept h = rw (day_says done kept h, search_says done kept h, h.told) refl
 
-recovering_says : (done : List Argument) (kept : Kept) → Says done kept → recovering done ≡ recovering_kept kept
+recovering_says : (done : List Argument) (kept : WordsRead) → Says done kept → recovering done ≡ recovering_kept kept
 unfolding searching recovering_kept
 recovering_says done kept h = rw (day_says done kept h, number_says Workers done kept h, number_says Moves done kept h, h.told) refl
 
-generating_says : (done : List Argument) (kept : Kept) → Says done kept → generating done ≡ generating_kept kept
+generating_says : (done : List Argument) (kept : WordsRead) → Says done kept → generating done ≡ generating_kept kept
 unfolding making generating_kept
 generating_says done kept h = rw (search_says done kept h, number_says Seed done kept h, number_says Size done kept h, h.told) refl
 
-trying_says : (done : List Argument) (kept : Kept) → Says done kept → trying done ≡ trying_kept kept
+trying_says : (done : List Argument) (kept : WordsRead) → Says done kept → trying done ≡ trying_kept kept
 unfolding sampling trying_kept
 trying_says done kept h = rw (search_says done kept h, number_says Seed done kept h, number_says Size done kept h, h.told) refl
 
@@ -141,7 +141,7 @@ if_same : {X : Type 0} (test : Bool) (a b c d : X) → a ≡ b → c ≡ d → (
 if_same true a b c d e f = e
 if_same false a b c d e f = f
 
-says_all : (word : List ℕ) (done : List Argument) (kept : Kept) → Says done kept → command_by word done ≡ asked_kept word kept
+says_all : (word : List ℕ) (done : List Argument) (kept : WordsRead) → Says done kept → command_by word done ≡ asked_kept word kept
 says_all word done kept h =
     if_same (bytes_eq word (codes "replay")) (plain Replay done) (plain_kept Replay kept) _ _ (plain_says Replay done kept h)
     (if_same (bytes_eq word (codes "recover")) (recovering done) (recovering_kept kept) _ _ (recovering_says done kept h)
@@ -152,9 +152,9 @@ says_all word done kept h =
 -- arguments that no command takes: too many directories, or an option that is set wrongly
 data Fails (list : List Argument) : Type 0 where
   many : (a b c : List ℕ) (others : List (List ℕ)) → places list ≡ a ∷ b ∷ c ∷ others → Fails list
-  wrong : (choice : Choice) → value_in choice (values choice list) ≡ None → Fails list
+  wrong : (choice : NumberOption) → value_in choice (values choice list) ≡ None → Fails list
 
-unset_wrong : (choice : Choice) (texts : List (List ℕ)) → value_in choice texts ≡ None → is_nothing texts ≡ false
+unset_wrong : (choice : NumberOption) (texts : List (List ℕ)) → value_in choice texts ≡ None → is_nothing texts ≡ false
 unset_wrong choice [] e = none_some (default_of choice) (sym e)
 unset_wrong choice (text ∷ texts) e = refl
 
@@ -171,18 +171,18 @@ and_false true b e = e
 and_false false b e = refl
 
 -- whether an option is one of a day that is made up
-abbrev IsOfDay : Choice → Type 0
+abbrev IsOfDay : NumberOption → Type 0
 IsOfDay Seed = Unit {0}
 IsOfDay Size = Unit {0}
 IsOfDay other = ⊥
 
-day_wrong : (choice : Choice) (list : List Argument) → value_in choice (values choice list) ≡ None → IsOfDay choice → no_day_options list ≡ false
+day_wrong : (choice : NumberOption) (list : List Argument) → value_in choice (values choice list) ≡ None → IsOfDay choice → no_day_options list ≡ false
 day_wrong Seed list e of = rw (unset_wrong Seed (values Seed list) e) refl
 day_wrong Size list e of = and_false (is_unset Seed list) (is_unset Size list) (unset_wrong Size (values Size list) e)
 day_wrong Workers list e of = absurd of
 day_wrong Moves list e of = absurd of
 
-search_wrong : (choice : Choice) (list : List Argument) → value_in choice (values choice list) ≡ None → (IsOfDay choice → ⊥) → no_search_options list ≡ false
+search_wrong : (choice : NumberOption) (list : List Argument) → value_in choice (values choice list) ≡ None → (IsOfDay choice → ⊥) → no_search_options list ≡ false
 search_wrong Seed list e of = absurd (of tt)
 search_wrong Size list e of = absurd (of tt)
 search_wrong Workers list e of = rw (unset_wrong Workers (values Workers list) e) refl
@@ -235,17 +235,17 @@ fails_all word list h =
     (if_none (bytes_eq word (codes "trial")) (trying list) None (trying_fails list h) refl))))
 
 -- an argument more is kept, or it fails whatever stands behind it
-data Step (done : List Argument) (kept : Kept) (argument : Argument) : Type 0 where
-  goes : (more : Kept) → with_argument kept argument ≡ Some more → Says (done ++ argument ∷ []) more → Step done kept argument
+data Step (done : List Argument) (kept : WordsRead) (argument : Argument) : Type 0 where
+  goes : (more : WordsRead) → with_argument kept argument ≡ Some more → Says (done ++ argument ∷ []) more → Step done kept argument
   stops : with_argument kept argument ≡ None → ((list : List Argument) → Fails (done ++ argument ∷ list)) → Step done kept argument
 
 -- a directory changes no option
-no_value : (choice : Choice) (done : List Argument) (word : List ℕ) (value : Option ℕ) → value_read choice (values choice done) ≡ Some value → value_read choice (values choice (done ++ Place word ∷ [])) ≡ Some value
+no_value : (choice : NumberOption) (done : List Argument) (word : List ℕ) (value : Option ℕ) → value_read choice (values choice done) ≡ Some value → value_read choice (values choice (done ++ Place word ∷ [])) ≡ Some value
 unfolding values
 no_value choice done word value e =
     ap (value_read choice) (values-append choice done (Place word ∷ []) ∙ append-nil (values choice done)) ∙ e
 
-place_goes : (done : List Argument) (kept : Kept) (word : List ℕ) (more : List (List ℕ)) → Says done kept → one_more kept.places word ≡ Some more → kept.places ++ word ∷ [] ≡ more → Step done kept (Place word)
+place_goes : (done : List Argument) (kept : WordsRead) (word : List ℕ) (more : List (List ℕ)) → Says done kept → one_more kept.places word ≡ Some more → kept.places ++ word ∷ [] ≡ more → Step done kept (Place word)
 unfolding with_place places
 place_goes done kept word more h e is = goes (record { places = more; values = kept.values })
     (rw e refl)
@@ -254,11 +254,11 @@ place_goes done kept word more h e is = goes (record { places = more; values = k
       set = λ choice. no_value choice done word (value kept.values choice) (h.set choice);
     })
 
-places_behind : (done : List Argument) (kept : Kept) (word : List ℕ) (told : List (List ℕ)) (list : List Argument) → Says done kept → kept.places ≡ told → places (done ++ Place word ∷ list) ≡ told ++ word ∷ places list
+places_behind : (done : List Argument) (kept : WordsRead) (word : List ℕ) (told : List (List ℕ)) (list : List Argument) → Says done kept → kept.places ≡ told → places (done ++ Place word ∷ list) ≡ told ++ word ∷ places list
 unfolding places
 places_behind done kept word told list h e = places-append done (Place word ∷ list) ∙ ap (λ p. p ++ word ∷ places list) (h.told ∙ e)
 
-place_step : (done : List Argument) (kept : Kept) (word : List ℕ) (told : List (List ℕ)) → kept.places ≡ told → Says done kept → Step done kept (Place word)
+place_step : (done : List Argument) (kept : WordsRead) (word : List ℕ) (told : List (List ℕ)) → kept.places ≡ told → Says done kept → Step done kept (Place word)
 unfolding with_place
 place_step done kept word [] e h = place_goes done kept word (word ∷ []) h (ap (λ p. one_more p word) e) (ap (λ p. p ++ word ∷ []) e)
 place_step done kept word (first ∷ []) e h = place_goes done kept word (first ∷ word ∷ []) h (ap (λ p. one_more p word) e) (ap (λ p. p ++ word ∷ []) e)
@@ -267,7 +267,7 @@ place_step done kept word (first ∷ second ∷ []) e h = stops (rw e refl)
 place_step done kept word (first ∷ second ∷ third ∷ others) e h = stops (rw e refl)
     (λ list. many first second third (others ++ word ∷ places list) (places_behind done kept word (first ∷ second ∷ third ∷ others) list h e))
 
-twice : (choice : Choice) (texts : List (List ℕ)) (value : ℕ) (text : List ℕ) (others : List (List ℕ)) → value_read choice texts ≡ Some (Some value) → value_in choice (texts ++ text ∷ others) ≡ None
+twice : (choice : NumberOption) (texts : List (List ℕ)) (value : ℕ) (text : List ℕ) (others : List (List ℕ)) → value_read choice texts ≡ Some (Some value) → value_in choice (texts ++ text ∷ others) ≡ None
 twice choice [] value text others e = absurd (none_value value (some_of None (Some value) e))
   where
     none_value : (value : ℕ) → None ≡ Some value → ⊥
@@ -275,7 +275,7 @@ twice choice [] value text others e = absurd (none_value value (some_of None (So
 twice choice (first ∷ []) value text others e = refl
 twice choice (first ∷ second ∷ more) value text others e = refl
 
-not_yet : (choice : Choice) (texts : List (List ℕ)) → value_read choice texts ≡ Some None → texts ≡ []
+not_yet : (choice : NumberOption) (texts : List (List ℕ)) → value_read choice texts ≡ Some None → texts ≡ []
 not_yet choice [] e = refl
 not_yet choice (text ∷ []) e = of_number (number_from (least_of choice) (most_of choice) text) e
   where
@@ -284,43 +284,43 @@ not_yet choice (text ∷ []) e = of_number (number_from (least_of choice) (most_
     of_number (Some k) e = none_some k (sym (some_of (Some k) None e))
 not_yet choice (text ∷ other ∷ others) e = none_some None e
 
-no_number : (choice : Choice) (text : List ℕ) (others : List (List ℕ)) → number_from (least_of choice) (most_of choice) text ≡ None → value_in choice (text ∷ others) ≡ None
+no_number : (choice : NumberOption) (text : List ℕ) (others : List (List ℕ)) → number_from (least_of choice) (most_of choice) text ≡ None → value_in choice (text ∷ others) ≡ None
 no_number choice text [] e = e
 no_number choice text (other ∷ others) e = refl
 
 -- the texts of an option behind its setting, and of another one
-own_values : (choice : Choice) (done : List Argument) (text : List ℕ) (list : List Argument) → values choice (done ++ Setting choice text ∷ list) ≡ values choice done ++ text ∷ values choice list
+own_values : (choice : NumberOption) (done : List Argument) (text : List ℕ) (list : List Argument) → values choice (done ++ Setting choice text ∷ list) ≡ values choice done ++ text ∷ values choice list
 unfolding values
 own_values Seed done text list = values-append Seed done (Setting Seed text ∷ list)
 own_values Size done text list = values-append Size done (Setting Size text ∷ list)
 own_values Workers done text list = values-append Workers done (Setting Workers text ∷ list)
 own_values Moves done text list = values-append Moves done (Setting Moves text ∷ list)
 
-other_values : (choice other : Choice) (done : List Argument) (text : List ℕ) → values choice (Setting other text ∷ []) ≡ [] → values choice (done ++ Setting other text ∷ []) ≡ values choice done
+other_values : (choice other : NumberOption) (done : List Argument) (text : List ℕ) → values choice (Setting other text ∷ []) ≡ [] → values choice (done ++ Setting other text ∷ []) ≡ values choice done
 other_values choice other done text none = values-append choice done (Setting other text ∷ []) ∙ ap (λ (t : List (List ℕ)). values choice done ++ t) none ∙ append-nil (values choice done)
 
-told_set : (choice : Choice) (done : List Argument) (text : List ℕ) → places (done ++ Setting choice text ∷ []) ≡ places done
+told_set : (choice : NumberOption) (done : List Argument) (text : List ℕ) → places (done ++ Setting choice text ∷ []) ≡ places done
 unfolding places
 told_set choice done text = places-append done (Setting choice text ∷ []) ∙ append-nil (places done)
 
 -- an option that was set fails where it is set again
-again : (choice : Choice) (done : List Argument) (text : List ℕ) (value : ℕ) → value_read choice (values choice done) ≡ Some (Some value) → (list : List Argument) → Fails (done ++ Setting choice text ∷ list)
+again : (choice : NumberOption) (done : List Argument) (text : List ℕ) (value : ℕ) → value_read choice (values choice done) ≡ Some (Some value) → (list : List Argument) → Fails (done ++ Setting choice text ∷ list)
 again choice done text value e list =
     wrong choice (ap (value_in choice) (own_values choice done text list) ∙ twice choice (values choice done) value text (values choice list) e)
 
 -- and one that was not, where its text is no number in its range
-unread : (choice : Choice) (done : List Argument) (text : List ℕ) → value_read choice (values choice done) ≡ Some None → number_from (least_of choice) (most_of choice) text ≡ None → (list : List Argument) → Fails (done ++ Setting choice text ∷ list)
+unread : (choice : NumberOption) (done : List Argument) (text : List ℕ) → value_read choice (values choice done) ≡ Some None → number_from (least_of choice) (most_of choice) text ≡ None → (list : List Argument) → Fails (done ++ Setting choice text ∷ list)
 unread choice done text e none list =
     wrong choice (ap (value_in choice) (own_values choice done text list ∙ ap (λ t. t ++ text ∷ values choice list) (not_yet choice (values choice done) e)) ∙ no_number choice text (values choice list) none)
 
 -- else it has that number
-read_first : (choice : Choice) (done : List Argument) (text : List ℕ) (n : ℕ) → value_read choice (values choice done) ≡ Some None → number_from (least_of choice) (most_of choice) text ≡ Some n → value_read choice (values choice (done ++ Setting choice text ∷ [])) ≡ Some (Some n)
+read_first : (choice : NumberOption) (done : List Argument) (text : List ℕ) (n : ℕ) → value_read choice (values choice done) ≡ Some None → number_from (least_of choice) (most_of choice) text ≡ Some n → value_read choice (values choice (done ++ Setting choice text ∷ [])) ≡ Some (Some n)
 unfolding values
 read_first choice done text n e some =
     ap (value_read choice) (own_values choice done text [] ∙ ap (λ t. t ++ text ∷ []) (not_yet choice (values choice done) e)) ∙ ap (λ m. m >>= λ k. Some (Some k)) some
 
 -- what is kept behind a setting: of that option its number, of the others what was kept
-set_more : (choice other : Choice) (done : List Argument) (kept : Kept) (text : List ℕ) (n : ℕ) → Says done kept → value_read other (values other (done ++ Setting other text ∷ [])) ≡ Some (Some n) → value_read choice (values choice (done ++ Setting other text ∷ [])) ≡ Some (value (with_value kept.values other n) choice)
+set_more : (choice other : NumberOption) (done : List Argument) (kept : WordsRead) (text : List ℕ) (n : ℕ) → Says done kept → value_read other (values other (done ++ Setting other text ∷ [])) ≡ Some (Some n) → value_read choice (values choice (done ++ Setting other text ∷ [])) ≡ Some (value (with_value kept.values other n) choice)
 unfolding values
 set_more Seed Seed done kept text n h is = is
 set_more Size Size done kept text n h is = is
@@ -339,7 +339,7 @@ set_more Moves Seed done kept text n h is = ap (value_read Moves) (other_values 
 set_more Moves Size done kept text n h is = ap (value_read Moves) (other_values Moves Size done text refl) ∙ h.set Moves
 set_more Moves Workers done kept text n h is = ap (value_read Moves) (other_values Moves Workers done text refl) ∙ h.set Moves
 
-set_step : (choice : Choice) (done : List Argument) (kept : Kept) (text : List ℕ) (was number : Option ℕ) → value kept.values choice ≡ was → number_from (least_of choice) (most_of choice) text ≡ number → Says done kept → Step done kept (Setting choice text)
+set_step : (choice : NumberOption) (done : List Argument) (kept : WordsRead) (text : List ℕ) (was number : Option ℕ) → value kept.values choice ≡ was → number_from (least_of choice) (most_of choice) text ≡ number → Says done kept → Step done kept (Setting choice text)
 unfolding with_setting
 set_step choice done kept text (Some value) number e is h = stops (rw e refl) (again choice done text value (h.set choice ∙ ap Some e))
 set_step choice done kept text None None e is h = stops (rw (e, is) refl) (unread choice done text (h.set choice ∙ ap Some e) is)
@@ -348,11 +348,11 @@ set_step choice done kept text None (Some n) e is h = goes (record { places = ke
   set = λ other. set_more other choice done kept text n h (read_first choice done text n (h.set choice ∙ ap Some e) is);
 })
 
-step_of : (done : List Argument) (kept : Kept) (argument : Argument) → Says done kept → Step done kept argument
+step_of : (done : List Argument) (kept : WordsRead) (argument : Argument) → Says done kept → Step done kept argument
 step_of done kept (Place word) h = place_step done kept word kept.places refl h
 step_of done kept (Setting choice text) h = set_step choice done kept text (value kept.values choice) (number_from (least_of choice) (most_of choice) text) refl refl h
 
-kept_all : (word : List ℕ) (done list : List Argument) (kept : Kept) → Says done kept → command_by word (done ++ list) ≡ (with_all kept list >>= asked_kept word)
+kept_all : (word : List ℕ) (done list : List Argument) (kept : WordsRead) → Says done kept → command_by word (done ++ list) ≡ (with_all kept list >>= asked_kept word)
 unfolding with_all
 kept_all word done [] kept h = ap (command_by word) (append-nil done) ∙ says_all word done kept h
 kept_all word done (argument ∷ list) kept h = elim (step_of done kept argument h) [
@@ -361,7 +361,7 @@ kept_all word done (argument ∷ list) kept h = elim (step_of done kept argument
   | stops is fails ↦ fails_all word (done ++ argument ∷ list) (fails list) ∙ ap (λ next. (next >>= λ k. with_all k list) >>= asked_kept word) (sym is)
 ]
 
-none_set : (choice : Choice) → Some None ≡ Some (value nothing.values choice)
+none_set : (choice : NumberOption) → Some None ≡ Some (value nothing.values choice)
 none_set Seed = refl
 none_set Size = refl
 none_set Workers = refl
@@ -377,11 +377,11 @@ asked_of_kept word None = refl
 asked_of_kept word (Some list) = kept_all word [] list nothing says_nothing
 
 -- reading stops at a word, or goes on behind it
-pub read_stops : (mode : Expected) (kept : Kept) (word : List ℕ) (words all : List (List ℕ)) → all ≡ word ∷ words → None ≡ of_word mode kept word → None ≡ kept_behind kept (arguments_by mode all)
+pub read_stops : (mode : Expected) (kept : WordsRead) (word : List ℕ) (words all : List (List ℕ)) → all ≡ word ∷ words → None ≡ of_word mode kept word → None ≡ kept_behind kept (arguments_by mode all)
 read_stops mode kept word words all e none =
     ap (λ next. next >>= go_on words) none ∙ sym (kept_word mode kept word words) ∙ ap (λ l. kept_behind kept (arguments_by mode l)) (sym e)
 
-pub read_goes : (mode : Expected) (kept : Kept) (word : List ℕ) (words all : List (List ℕ)) (next : Expected × Kept) (answer : Option Kept) → all ≡ word ∷ words → Some next ≡ of_word mode kept word → answer ≡ kept_behind next.1 (arguments_by next.0 words) → answer ≡ kept_behind kept (arguments_by mode all)
+pub read_goes : (mode : Expected) (kept : WordsRead) (word : List ℕ) (words all : List (List ℕ)) (next : Expected × WordsRead) (answer : Option WordsRead) → all ≡ word ∷ words → Some next ≡ of_word mode kept word → answer ≡ kept_behind next.1 (arguments_by next.0 words) → answer ≡ kept_behind kept (arguments_by mode all)
 read_goes mode kept word words all next answer e some rest =
     rest ∙ ap (λ n. n >>= go_on words) some ∙ sym (kept_word mode kept word words) ∙ ap (λ l. kept_behind kept (arguments_by mode l)) (sym e)
 
@@ -394,10 +394,10 @@ pub no_command : (all : List (List ℕ)) → all ≡ [] → None ≡ command all
 unfolding command
 no_command all e = ap command (sym e)
 
-pub command_stops : (first : Kept) (word : List ℕ) (words all : List (List ℕ)) → all ≡ word ∷ words → first ≡ nothing → None ≡ kept_behind first (arguments words) → None ≡ command all
+pub command_stops : (first : WordsRead) (word : List ℕ) (words all : List (List ℕ)) → all ≡ word ∷ words → first ≡ nothing → None ≡ kept_behind first (arguments words) → None ≡ command all
 command_stops first word words all e start none =
-    ap (λ (kept : Option Kept). kept >>= asked_kept word) (none ∙ ap (λ k. kept_behind k (arguments words)) start) ∙ command_is word words all e
+    ap (λ (kept : Option WordsRead). kept >>= asked_kept word) (none ∙ ap (λ k. kept_behind k (arguments words)) start) ∙ command_is word words all e
 
-pub command_goes : (first : Kept) (word : List ℕ) (words all : List (List ℕ)) (kept : Kept) (answer : Option Asking) → all ≡ word ∷ words → first ≡ nothing → Some kept ≡ kept_behind first (arguments words) → answer ≡ asked_kept word kept → answer ≡ command all
+pub command_goes : (first : WordsRead) (word : List ℕ) (words all : List (List ℕ)) (kept : WordsRead) (answer : Option Asking) → all ≡ word ∷ words → first ≡ nothing → Some kept ≡ kept_behind first (arguments words) → answer ≡ asked_kept word kept → answer ≡ command all
 command_goes first word words all kept answer e start some is =
-    is ∙ ap (λ (k : Option Kept). k >>= asked_kept word) (some ∙ ap (λ k. kept_behind k (arguments words)) start) ∙ command_is word words all e
+    is ∙ ap (λ (k : Option WordsRead). k >>= asked_kept word) (some ∙ ap (λ k. kept_behind k (arguments words)) start) ∙ command_is word words all e

@@ -1,8 +1,8 @@
 -- The words behind a command: directories and options in any order.
 use Rattle.std.specs.Prelude.{ℕ, ◌+◌, Bool, false, not, ◌==◌, if◌then◌else◌, List, [], ◌∷◌, take, drop, position, Option, Some, None, option_map, codes, bytes_eq}
 use Rattle.desk_text.specs.Fields.{◌>>=◌}
-use Rattle.desk_words.specs.declared.choice.Choice.{Choice}
-use Rattle.desk_words.specs.declared.choice.Choice.TheVariants.{Seed, Size, Workers, Moves}
+use Rattle.desk_words.specs.declared.choice.NumberOption.{NumberOption}
+use Rattle.desk_words.specs.declared.choice.NumberOption.TheVariants.{Seed, Size, Workers, Moves}
 
 -- a directory isn't empty and doesn't begin with -
 abbrev pub is_directory : List ℕ → Bool
@@ -12,10 +12,10 @@ is_directory (byte ∷ bytes) = not (byte == 45)
 -- what words say: a directory, or an option with the text of its value
 pub data Argument : Type 0 where
   Place : List ℕ → Argument
-  Setting : Choice → List ℕ → Argument
+  Setting : NumberOption → List ℕ → Argument
 
 -- the option that a word names, whose value is the next word
-abbrev pub choice_of : List ℕ → Option Choice
+abbrev pub choice_of : List ℕ → Option NumberOption
 choice_of word =
     if bytes_eq word (codes "--seed") then Some Seed else (
     if bytes_eq word (codes "--size") then Some Size else (
@@ -23,11 +23,11 @@ choice_of word =
     if bytes_eq word (codes "--moves") then Some Moves else None)))
 
 -- the option that a word names in front of its place `at`, with the text behind that place
-abbrev pub setting_at : List ℕ → ℕ → Option (Choice × List ℕ)
+abbrev pub setting_at : List ℕ → ℕ → Option (NumberOption × List ℕ)
 setting_at word at = option_map (λ choice. (choice, drop (at + 1) word)) (choice_of (take at word))
 
 -- the option that a word sets, with the text of its value behind the first =
-unfoldable pub setting_of : List ℕ → Option (Choice × List ℕ)
+unfoldable pub setting_of : List ℕ → Option (NumberOption × List ℕ)
 setting_of word = position (λ byte. byte == 61) word >>= setting_at word
 
 -- an argument before others
@@ -35,12 +35,12 @@ abbrev pub before : Argument → Option (List Argument) → Option (List Argumen
 before argument others = option_map (λ list. argument ∷ list) others
 
 -- the argument of a word that sets an option, before others; other words are none
-abbrev pub set_before : Option (Choice × List ℕ) → Option (List Argument) → Option (List Argument)
+abbrev pub set_before : Option (NumberOption × List ℕ) → Option (List Argument) → Option (List Argument)
 set_before None others = None
 set_before (Some set) others = before (Setting set.0 set.1) others
 
 -- where a word is the name of an option, what comes of that, else what comes of other words
-abbrev pub named_or : Option Choice → (Choice → Option (List Argument)) → Option (List Argument) → Option (List Argument)
+abbrev pub named_or : Option NumberOption → (NumberOption → Option (List Argument)) → Option (List Argument) → Option (List Argument)
 named_or (Some choice) named other = named choice
 named_or None named other = other
 
@@ -51,7 +51,7 @@ only_places (word ∷ words) = if is_directory word then before (Place word) (on
 
 -- the arguments that words say, or none where some word is none: behind a word -- all are directories; behind the name of an
 -- option, which is told first here, stands its value
-unfoldable pub arguments_behind : Option Choice → List (List ℕ) → Option (List Argument)
+unfoldable pub arguments_behind : Option NumberOption → List (List ℕ) → Option (List Argument)
 arguments_behind None [] = Some []
 arguments_behind (Some choice) [] = None
 arguments_behind (Some choice) (word ∷ words) = before (Setting choice word) (arguments_behind None words)
@@ -70,14 +70,14 @@ places (Place word ∷ others) = word ∷ places others
 places (Setting choice text ∷ others) = places others
 
 -- the number of an option, by which one is told from another
-abbrev pub choice_number : Choice → ℕ
+abbrev pub choice_number : NumberOption → ℕ
 choice_number Seed = 0
 choice_number Size = 1
 choice_number Workers = 2
 choice_number Moves = 3
 
 -- the texts of the values of one option
-unfoldable pub values : Choice → List Argument → List (List ℕ)
+unfoldable pub values : NumberOption → List Argument → List (List ℕ)
 values choice [] = []
 values choice (Place word ∷ others) = values choice others
 values choice (Setting other text ∷ others) =

@@ -4,8 +4,8 @@ use Rattle.desk_folder.specs.Outside.{Directories}
 use Rattle.desk_text.specs.Fields.{◌>>=◌, number_from}
 use Rattle.desk_words.specs.declared.asked.Command.{Command}
 use Rattle.desk_words.specs.declared.asked.Command.TheVariants.{Replay, Recover, Check, Gen, Trial}
-use Rattle.desk_words.specs.declared.choice.Choice.{Choice}
-use Rattle.desk_words.specs.declared.choice.Choice.TheVariants.{Seed, Size, Workers, Moves}
+use Rattle.desk_words.specs.declared.choice.NumberOption.{NumberOption}
+use Rattle.desk_words.specs.declared.choice.NumberOption.TheVariants.{Seed, Size, Workers, Moves}
 use Rattle.desk_words.specs.Arguments.{Argument, arguments, places, values}
 
 -- a command, and the directories that are to be named for it, where it has any
@@ -16,31 +16,31 @@ abbrev pub directories : List ℕ → List ℕ → Directories
 directories input output = record { input = input; output = output }
 
 -- what an option is where it isn't set, and the least and the greatest number that it can be: there are no workers yet
-abbrev pub default_of : Choice → ℕ
+abbrev pub default_of : NumberOption → ℕ
 default_of Seed = 1
 default_of Size = 1
 default_of Workers = 0
 default_of Moves = 1000
 
-abbrev pub least_of : Choice → ℕ
+abbrev pub least_of : NumberOption → ℕ
 least_of Seed = 0
 least_of Size = 1
 least_of Workers = 0
 least_of Moves = 1
 
-abbrev pub most_of : Choice → ℕ
+abbrev pub most_of : NumberOption → ℕ
 most_of Seed = 999999999
 most_of Size = 40
 most_of Workers = 0
 most_of Moves = 100000
 
 -- an option stands at most once, and its value is 1 to 9 digits that spell a number in its range
-abbrev pub value_in : Choice → List (List ℕ) → Option ℕ
+abbrev pub value_in : NumberOption → List (List ℕ) → Option ℕ
 value_in choice [] = Some (default_of choice)
 value_in choice (text ∷ []) = number_from (least_of choice) (most_of choice) text
 value_in choice texts = None
 
-abbrev pub value_of : Choice → List Argument → Option ℕ
+abbrev pub value_of : NumberOption → List Argument → Option ℕ
 value_of choice arguments = value_in choice (values choice arguments)
 
 -- an option that a command doesn't take stands nowhere
@@ -48,7 +48,7 @@ abbrev pub is_nothing : List (List ℕ) → Bool
 is_nothing [] = true
 is_nothing texts = false
 
-abbrev pub is_unset : Choice → List Argument → Bool
+abbrev pub is_unset : NumberOption → List Argument → Bool
 is_unset choice arguments = is_nothing (values choice arguments)
 
 -- the options of a day that is made up, and those of a search
@@ -86,7 +86,7 @@ searching arguments = do
   workers ← value_of Workers arguments
   moves ← value_of Moves arguments
   dirs ← input_and_output (places arguments)
-  Some (Recover moves, Some dirs)
+  Some (Recover workers moves false, Some dirs)
 
 abbrev pub recovering : List Argument → Option Asking
 recovering arguments = if no_day_options arguments then searching arguments else None

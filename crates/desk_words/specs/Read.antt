@@ -3,8 +3,8 @@ use Rattle.std.specs.Prelude.{ℕ, Bool, true, false, ◌&&◌, if◌then◌else
 use Rattle.desk_text.specs.Fields.{◌>>=◌, number_from}
 use Rattle.desk_words.specs.declared.asked.Command.{Command}
 use Rattle.desk_words.specs.declared.asked.Command.TheVariants.{Replay, Recover, Check, Gen, Trial}
-use Rattle.desk_words.specs.declared.choice.Choice.{Choice}
-use Rattle.desk_words.specs.declared.choice.Choice.TheVariants.{Seed, Size, Workers, Moves}
+use Rattle.desk_words.specs.declared.choice.NumberOption.{NumberOption}
+use Rattle.desk_words.specs.declared.choice.NumberOption.TheVariants.{Seed, Size, Workers, Moves}
 use Rattle.desk_words.specs.declared.read.Places.{Places}
 use Rattle.desk_words.specs.declared.read.Places.TheVariants.{Nothing, One, Two}
 use Rattle.desk_words.specs.declared.read.Read.{Read}
@@ -15,7 +15,7 @@ use Rattle.desk_words.specs.Arguments.{Argument, Place, Setting, is_directory, c
 use Rattle.desk_words.specs.Commands.{Asking, default_of, least_of, most_of, input_and_output, output_alone, no_directory}
 
 -- what is kept
-pub record Kept : Type 0 where
+pub record WordsRead : Type 0 where
   pub places : List (List ℕ)
   pub values : Values
 
@@ -24,21 +24,21 @@ place_list Nothing = []
 place_list (One first) = first.now ∷ []
 place_list (Two first second) = first.now ∷ second.now ∷ []
 
-abbrev pub kept_of : Read → Kept
+abbrev pub kept_of : Read → WordsRead
 kept_of read = record { places = place_list read.places; values = read.values }
 
-abbrev pub nothing : Kept
+abbrev pub nothing : WordsRead
 nothing = record { places = []; values = record { seed = None; size = None; workers = None; moves = None } }
 
 -- the number of an option, where it is set
-abbrev pub value : Values → Choice → Option ℕ
+abbrev pub value : Values → NumberOption → Option ℕ
 value set Seed = set.seed
 value set Size = set.size
 value set Workers = set.workers
 value set Moves = set.moves
 
 -- the numbers with that of one option more
-abbrev pub with_value : Values → Choice → ℕ → Values
+abbrev pub with_value : Values → NumberOption → ℕ → Values
 with_value set Seed n = record set { seed = Some n }
 with_value set Size n = record set { size = Some n }
 with_value set Workers n = record set { workers = Some n }
@@ -50,39 +50,39 @@ one_more [] word = Some (word ∷ [])
 one_more (first ∷ []) word = Some (first ∷ word ∷ [])
 one_more words word = None
 
-unfoldable pub with_place : Kept → List ℕ → Option Kept
+unfoldable pub with_place : WordsRead → List ℕ → Option WordsRead
 with_place kept word = do
   places ← one_more kept.places word
   Some (record { places = places; values = kept.values })
 
 -- the number of an option that has none yet
-abbrev pub first_value : Choice → Option ℕ → List ℕ → Option ℕ
+abbrev pub first_value : NumberOption → Option ℕ → List ℕ → Option ℕ
 first_value choice None text = number_from (least_of choice) (most_of choice) text
 first_value choice (Some value) text = None
 
-unfoldable pub with_setting : Kept → Choice → List ℕ → Option Kept
+unfoldable pub with_setting : WordsRead → NumberOption → List ℕ → Option WordsRead
 with_setting kept choice text = do
   number ← first_value choice (value kept.values choice) text
   Some (record { places = kept.places; values = with_value kept.values choice number })
 
 -- what is kept behind one argument more, and behind some
-abbrev pub with_argument : Kept → Argument → Option Kept
+abbrev pub with_argument : WordsRead → Argument → Option WordsRead
 with_argument kept (Place word) = with_place kept word
 with_argument kept (Setting choice text) = with_setting kept choice text
 
-unfoldable pub with_all : Kept → List Argument → Option Kept
+unfoldable pub with_all : WordsRead → List Argument → Option WordsRead
 with_all kept [] = Some kept
 with_all kept (argument ∷ others) = do
   more ← with_argument kept argument
   with_all more others
 
 -- what is kept behind the arguments of some words, where they have arguments
-abbrev pub kept_behind : Kept → Option (List Argument) → Option Kept
+abbrev pub kept_behind : WordsRead → Option (List Argument) → Option WordsRead
 kept_behind kept None = None
 kept_behind kept (Some arguments) = with_all kept arguments
 
 -- what comes of an option, or else of none
-abbrev pub by_choice : Option Choice → (Choice → Option (Expected × Kept)) → Option (Expected × Kept) → Option (Expected × Kept)
+abbrev pub by_choice : Option NumberOption → (NumberOption → Option (Expected × WordsRead)) → Option (Expected × WordsRead) → Option (Expected × WordsRead)
 by_choice (Some choice) named other = named choice
 by_choice None named other = other
 
@@ -93,22 +93,22 @@ arguments_by (expected.Value choice) words = arguments_behind (Some choice) word
 arguments_by expected.Place words = only_places words
 
 -- what the next word may be, and what is kept
-abbrev pub after : Expected × Read → Expected × Kept
+abbrev pub after : Expected × Read → Expected × WordsRead
 after pair = (pair.0, kept_of pair.1)
 
 -- what the next word may be, where so much is kept
-abbrev pub next_is : Expected → Kept → Option (Expected × Kept)
+abbrev pub next_is : Expected → WordsRead → Option (Expected × WordsRead)
 next_is mode kept = Some (mode, kept)
 
 -- behind one word
-unfoldable pub of_any : Kept → List ℕ → Option (Expected × Kept)
+unfoldable pub of_any : WordsRead → List ℕ → Option (Expected × WordsRead)
 of_any kept word =
     if is_directory word then (with_place kept word >>= next_is expected.Any) else (
     if bytes_eq word (codes "--") then next_is expected.Place kept else
     by_choice (choice_of word) (λ choice. next_is (expected.Value choice) kept)
     (setting_of word >>= λ set. with_setting kept set.0 set.1 >>= next_is expected.Any))
 
-unfoldable pub of_word : Expected → Kept → List ℕ → Option (Expected × Kept)
+unfoldable pub of_word : Expected → WordsRead → List ℕ → Option (Expected × WordsRead)
 of_word expected.Any kept word = of_any kept word
 of_word (expected.Value choice) kept word = with_setting kept choice word >>= next_is expected.Any
 of_word expected.Place kept word = if is_directory word then (with_place kept word >>= next_is expected.Place) else None
@@ -125,34 +125,34 @@ abbrev pub no_search_set : Values → Bool
 no_search_set set = unset set.workers && unset set.moves
 
 -- what a command's word makes of what was kept
-unfoldable pub plain_kept : Command → Kept → Option Asking
+unfoldable pub plain_kept : Command → WordsRead → Option Asking
 plain_kept command kept =
     if no_day_set kept.values && no_search_set kept.values
     then (input_and_output kept.places >>= λ dirs. Some (command, Some dirs))
     else None
 
-abbrev pub number_kept : Choice → Kept → ℕ
+abbrev pub number_kept : NumberOption → WordsRead → ℕ
 number_kept choice kept = unwrap_or (value kept.values choice) (default_of choice)
 
-unfoldable pub recovering_kept : Kept → Option Asking
+unfoldable pub recovering_kept : WordsRead → Option Asking
 recovering_kept kept =
     if no_day_set kept.values
-    then (input_and_output kept.places >>= λ dirs. Some (Recover (number_kept Moves kept), Some dirs))
+    then (input_and_output kept.places >>= λ dirs. Some (Recover (number_kept Workers kept) (number_kept Moves kept) false, Some dirs))
     else None
 
-unfoldable pub generating_kept : Kept → Option Asking
+unfoldable pub generating_kept : WordsRead → Option Asking
 generating_kept kept =
     if no_search_set kept.values
     then (output_alone kept.places >>= λ dirs. Some (Gen (number_kept Seed kept) (number_kept Size kept), Some dirs))
     else None
 
-unfoldable pub trying_kept : Kept → Option Asking
+unfoldable pub trying_kept : WordsRead → Option Asking
 trying_kept kept =
     if no_search_set kept.values
     then (no_directory kept.places >>= λ none. Some (Trial (number_kept Seed kept) (number_kept Size kept), None))
     else None
 
-abbrev pub asked_kept : List ℕ → Kept → Option Asking
+abbrev pub asked_kept : List ℕ → WordsRead → Option Asking
 asked_kept word kept =
     if bytes_eq word (codes "replay") then plain_kept Replay kept else (
     if bytes_eq word (codes "recover") then recovering_kept kept else (

@@ -5,15 +5,27 @@
 pub enum Command {
     /// to take the events of a journal in order
     Replay,
-    /// to take the batches of a day, and to search for a cheaper plan behind each, with at most so many
-    /// accepted moves, 1 to 100,000
-    Recover { moves: u32 },
+    /// to take the batches of a day, and to search for a cheaper plan behind each
+    Recover {
+        /// how many workers search beside one another; with 0, which no words exceed yet, the desk searches alone
+        workers: u32,
+        /// how many moves are accepted at most behind each batch, 1 to 100,000
+        moves: u32,
+        /// whether batches arrive while the search goes on; no words say so yet
+        live: bool,
+    },
     /// to check the files of a plan
     Check,
     /// to make up a day by a seed, 0 to 999,999,999, and a size, 1 to 40
-    Gen { seed: u32, size: u32 },
+    Gen {
+        seed: u32,
+        size: u32,
+    },
     /// to make up such a day, and to recover it without a file
-    Trial { seed: u32, size: u32 },
+    Trial {
+        seed: u32,
+        size: u32,
+    },
 }
 
 /// The directories of a command.

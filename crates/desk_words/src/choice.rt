@@ -6,7 +6,7 @@ ghost use Rattle.desk_words.specs.Arguments.{choice_of, setting_of};
 
 /// An option.
 #[derive(Clone, Copy, Debug, PartialEq, Eq)]
-pub enum Choice {
+pub enum NumberOption {
     Seed,
     Size,
     Workers,
@@ -14,17 +14,17 @@ pub enum Choice {
 }
 
 // The option that a word names, whose value is the next word.
-pub(crate) fn choice_of(word: &[u8]) -> Option<Choice>
+pub(crate) fn choice_of(word: &[u8]) -> Option<NumberOption>
     ensures { result ≡ choice_of word.now }
 {
     if word == b"--seed".as_slice() {
-        Some(Choice::Seed)
+        Some(NumberOption::Seed)
     } else if word == b"--size".as_slice() {
-        Some(Choice::Size)
+        Some(NumberOption::Size)
     } else if word == b"--workers".as_slice() {
-        Some(Choice::Workers)
+        Some(NumberOption::Workers)
     } else if word == b"--moves".as_slice() {
-        Some(Choice::Moves)
+        Some(NumberOption::Moves)
     } else {
         None
     }
@@ -40,7 +40,7 @@ fn first_equals(word: &[u8]) -> Option<usize>
 
 // The option that a word sets, with the text of its value behind `=`.
 #[tactic(auto, unfolding(crate::specs::Arguments::setting_of))]
-pub(crate) fn setting_of(word: &[u8]) -> Option<(Choice, &[u8])>
+pub(crate) fn setting_of(word: &[u8]) -> Option<(NumberOption, &[u8])>
     ensures { option_map (λ set. (set.0, set.1.now)) result ≡ setting_of word.now }
 {
     let at = first_equals(word)?;

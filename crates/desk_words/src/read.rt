@@ -6,7 +6,7 @@ ghost use Rattle.std.specs.Option.{option_map};
 ghost use Rattle.desk_words.specs.Arguments.{is_directory};
 ghost use Rattle.desk_words.specs.Read.{kept_of, nothing, with_place, value, with_value, first_value, with_setting, kept_behind, arguments_by, after, of_any, of_word};
 
-use crate::choice::{Choice, choice_of, setting_of};
+use crate::choice::{NumberOption, choice_of, setting_of};
 use desk_text::number;
 
 /// The directories that were read.
@@ -34,36 +34,36 @@ pub struct Values {
 }
 
 // The number of an option, where it is set.
-fn value(values: Values, choice: Choice) -> Option<u32>
+fn value(values: Values, choice: NumberOption) -> Option<u32>
     ensures { result ≡ value values choice }
 {
     match choice {
-        Choice::Seed => values.seed,
-        Choice::Size => values.size,
-        Choice::Workers => values.workers,
-        Choice::Moves => values.moves,
+        NumberOption::Seed => values.seed,
+        NumberOption::Size => values.size,
+        NumberOption::Workers => values.workers,
+        NumberOption::Moves => values.moves,
     }
 }
 
 // The numbers with that of one option more.
-fn with_value(values: Values, choice: Choice, number: u32) -> Values
+fn with_value(values: Values, choice: NumberOption, number: u32) -> Values
     ensures { result ≡ with_value values choice number }
 {
     let number = Some(number);
     match choice {
-        Choice::Seed => Values {
+        NumberOption::Seed => Values {
             seed: number,
             ..values
         },
-        Choice::Size => Values {
+        NumberOption::Size => Values {
             size: number,
             ..values
         },
-        Choice::Workers => Values {
+        NumberOption::Workers => Values {
             workers: number,
             ..values
         },
-        Choice::Moves => Values {
+        NumberOption::Moves => Values {
             moves: number,
             ..values
         },
@@ -109,23 +109,23 @@ fn with_place<'a>(read: Read<'a>, word: &'a str) -> Option<Read<'a>>
 }
 
 // The number of an option that has none yet.
-fn first_value(choice: Choice, value: Option<u32>, text: &[u8]) -> Option<u32>
+fn first_value(choice: NumberOption, value: Option<u32>, text: &[u8]) -> Option<u32>
     ensures { result ≡ first_value choice value text.now }
 {
     match value {
         Some(_) => None,
         None => match choice {
-            Choice::Seed => number(text, 0, 999_999_999).ok(),
-            Choice::Size => number(text, 1, 40).ok(),
-            Choice::Workers => number(text, 0, 0).ok(),
-            Choice::Moves => number(text, 1, 100_000).ok(),
+            NumberOption::Seed => number(text, 0, 999_999_999).ok(),
+            NumberOption::Size => number(text, 1, 40).ok(),
+            NumberOption::Workers => number(text, 0, 0).ok(),
+            NumberOption::Moves => number(text, 1, 100_000).ok(),
         },
     }
 }
 
 // An option that is set.
 #[tactic(auto, unfolding(crate::specs::Read::with_setting))]
-fn with_setting<'a>(read: Read<'a>, choice: Choice, text: &[u8]) -> Option<Read<'a>>
+fn with_setting<'a>(read: Read<'a>, choice: NumberOption, text: &[u8]) -> Option<Read<'a>>
     ensures { option_map kept_of result ≡ with_setting (kept_of read.entry) choice text.now }
 {
     let number = first_value(choice, value(read.values, choice), text)?;
@@ -139,7 +139,7 @@ pub enum Expected {
     /// a directory, an option or `--`
     Any,
     /// the value of this option
-    Value(Choice),
+    Value(NumberOption),
     /// a directory
     Place,
 }

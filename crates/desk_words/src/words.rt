@@ -3,7 +3,7 @@
 ghost use Rattle.std.specs.Prelude.{◌≡◌, map};
 ghost use Rattle.std.specs.String.{string_bytes};
 ghost use Rattle.std.specs.Option.{option_map};
-ghost use Rattle.desk_words.specs.declared.choice.Choice.TheVariants as choice;
+ghost use Rattle.desk_words.specs.declared.choice.NumberOption.TheVariants as choice;
 ghost use Rattle.desk_words.specs.Commands.{Asking, command, default_of};
 ghost use Rattle.desk_words.specs.Asked.{asking};
 ghost use Rattle.desk_words.specs.Read.{kept_of, no_day_set, no_search_set, plain_kept, recovering_kept, generating_kept, trying_kept, asked_kept};
@@ -89,7 +89,9 @@ fn recovering<'a>(read: Read<'a>) -> Option<Asked<'a>>
     match read.places {
         Places::Two(input, output) => Some(Asked {
             command: Command::Recover {
+                workers: read.values.workers.unwrap_or(0),
                 moves: read.values.moves.unwrap_or(USUAL_MOVES),
+                live: false,
             },
             directories: Some(Directories { input, output }),
         }),

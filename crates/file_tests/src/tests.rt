@@ -1,8 +1,5 @@
-//! Tests of what no clause says, one module a library, each over its public calls alone.
+//! The tests, by what they ask.
 
 mod folder;
-mod journal;
 mod loops;
-mod passengers;
-mod tariff;
 mod text;

@@ -9,7 +9,7 @@ use Rattle.desk_units.specs.declared.numbers.Airport.{Airport}
 use Rattle.desk_data.specs.Situation.{Situation, leg_at, bound}
 use Rattle.desk_data.specs.Paths.{no_pair, leg_in, last_leg}
 use Rattle.desk_data.specs.Booked.{booked_path, dest_of, booked_arrival, haul_of}
-use Rattle.desk_data.specs.PlanRows.{PlanRows, row_at, groups_at}
+use Rattle.desk_data.specs.PlanRows.{PlanRows, row_at, groups_at, same_path}
 use Rattle.desk_rules.specs.Rotations.{dep, arr}
 use Rattle.desk_rules.specs.Passengers.{is_flown, all_flown, arrival_of, longest_delay}
 use Rattle.desk_rules.specs.Carriage.{is_good_path, is_in_time_path}
@@ -17,7 +17,6 @@ use Rattle.desk_rules.specs.Words.{IsFlown, TakesThere, GoesOn}
 use Rattle.desk_rules.proofs.Tests.{implies-holds}
 use Rattle.desk_rules.proofs.CarriageLaws.{is_good_path-holds, all_flown-from}
 use Rattle.desk_model.specs.Tidy.{is_fit_path}
-use Rattle.desk_model.specs.Rebook.{same_path}
 use Rattle.near_moves.specs.Places.{leg}
 use Rattle.near_moves.specs.Routes.{is_route, stem}
 use Rattle.near_moves.specs.RouteParts.{is_other_route}

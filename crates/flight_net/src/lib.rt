@@ -14,7 +14,6 @@
 
 mod doubles;
 mod flights;
-mod paths;
 mod routes_of;
 mod singles;
 mod sought;
@@ -22,5 +21,4 @@ mod start;
 mod tried;
 
 pub use flights::{Flight, FlightNet};
-pub use paths::same_path;
 pub use routes_of::routes;

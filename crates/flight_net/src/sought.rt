@@ -1,19 +1,17 @@
 //! The legs that passengers may take from an airport, by departure.
 
-ghost use Rattle.std.specs.Prelude.{◌≡◌, ◌<◌, ◌||◌, ◌&&◌, ◌==◌, nat_lt, IfOk, All, filter, map, length};
+ghost use Rattle.std.specs.Prelude.{◌≡◌, ◌<◌, ◌||◌, ◌&&◌, ◌==◌, nat_lt, IfOk, All, filter, map};
 ghost use Rattle.std.specs.List.Sorted.{IsSorted};
-ghost use Rattle.desk_data.specs.PlanRows.{row_at};
 ghost use Rattle.desk_data.specs.Situation.{legs_of};
 ghost use Rattle.desk_data.specs.Valid.{IsPlanFor};
 ghost use Rattle.desk_rules.specs.Numbers.{numbers};
-ghost use Rattle.desk_rules.specs.Passengers.{is_flown};
 ghost use Rattle.flight_net.specs.Flights.{IsNetOf, flight_cmp};
 ghost use Rattle.flight_net.specs.Sought.{IsWindow, goes_to, is_sought, leaves_before};
 
 use crate::flights::{Flight, FlightNet};
-use desk_data::{Airport, Instance, Leg, NoMem, Row};
+use desk_data::{Airport, Instance, Leg, NoMem};
 use plan_pages::Pages;
-use plan_reads::{arrival, departure};
+use plan_reads::{arrival, departure, is_flown};
 use std::alloc::Global;
 
 /// Which legs are sought: flown from an airport, to another where one is named, departing no earlier
@@ -96,22 +94,11 @@ fn is_sought(inst: &Instance, plan: &Pages, sought: &Sought, leg: Leg) -> bool
     requires leg { leg.0 < legs_of inst.now }
     ensures { result ≡ is_sought inst.now plan.now sought.now leg.0 }
 {
-    is_flown(plan, leg)
+    is_flown(plan.read_row(leg))
         && inst.leg(leg).origin.0 == sought.from.0
         && goes_to(inst.leg(leg).dest, sought.to)
         && sought.earliest <= departure(plan, leg)
         && arrival(inst, plan, leg) < sought.until
-}
-
-/// Whether a leg is flown.
-fn is_flown(plan: &Pages, leg: Leg) -> bool
-    requires { leg.0 < length plan.now.rows }
-    ensures { result ≡ is_flown (row_at plan.now leg.0) }
-{
-    match plan.read_row(leg) {
-        Row::Flown { .. } => true,
-        Row::Cancelled => false,
-    }
 }
 
 /// Whether an airport is the one that is named, if any is.

@@ -1,15 +1,14 @@
 //! Where and when passengers may go on behind what they have begun.
 
 ghost use Rattle.std.specs.Prelude.{◌≡◌, ◌<◌, ◌≤◌, length};
-ghost use Rattle.desk_rules.specs.Passengers.{longest_delay};
 ghost use Rattle.desk_data.specs.Situation.{legs_of, reservations_of};
 ghost use Rattle.desk_data.specs.Valid.{IsPathOf, IsPlanFor};
 ghost use Rattle.near_moves.specs.Routes.{stem};
 ghost use Rattle.flight_net.specs.Start.{due_before, place_behind, ready_behind};
 
-use desk_data::{Airport, Cabin, Haul, Instance, Leg, Res};
+use desk_data::{Airport, Cabin, Instance, Leg, Res};
 use plan_pages::Pages;
-use plan_reads::arrival;
+use plan_reads::{arrival, longest_delay};
 
 /// What passengers of a reservation have begun: the legs of their scheduled path that are scheduled before
 /// the window.
@@ -52,15 +51,4 @@ pub(crate) fn due_before(inst: &Instance, res: Res) -> u32
 {
     let booked = inst.booked(res);
     booked.arrival.0 + longest_delay(booked.haul) + 1
-}
-
-/// The minutes after its booked arrival by which a reservation may arrive, by its haul.
-fn longest_delay(haul: Haul) -> u32
-    ensures delay { result ≡ longest_delay haul }
-    ensures limit { result ≤ 2160 }
-{
-    match haul {
-        Haul::D | Haul::C => 1_080,
-        Haul::I => 2_160,
-    }
 }

@@ -8,9 +8,8 @@ ghost use Rattle.desk_model.specs.Tidy.{is_fit_path};
 ghost use Rattle.near_moves.specs.Routes.{is_route, stem};
 ghost use Rattle.flight_net.specs.Tried.{others};
 
-use crate::paths::same_path;
 use crate::start::stem;
-use desk_data::{Cabin, Instance, Leg, List, NoMem, Path, Res};
+use desk_data::{Cabin, Instance, Leg, List, NoMem, Path, Res, same_path};
 use plan_pages::Pages;
 use plan_reads::{is_carried, is_good_path, is_in_time_path};
 use std::alloc::Global;

@@ -1,5 +1,5 @@
 -- What a group costs by the end of its path.
-use Rattle.std.proofs.Common.{◌≡◌, ℕ, ◌+◌, ◌-◌, ◌*◌, ◌^◌, ◌<◌, ◌≤◌, inl, inr, Bool, true, false, ◌&&◌, List, refl, sym, ap, ◌∙◌, arith}
+use Rattle.std.proofs.Common.{◌≡◌, ℕ, ◌+◌, ◌*◌, ◌<◌, ◌≤◌, inl, inr, true, false, List, refl, sym, ap, ◌∙◌, arith}
 use Rattle.std.specs.Prelude.{Option, None, Some}
 use Rattle.std.proofs.Math.Nat.{mul-le-mul, mul-le-mul_left}
 use Rattle.std.proofs.lemmas.Bool.{cases_Bool}
@@ -11,15 +11,16 @@ use Rattle.desk_units.specs.declared.tariff.Term.TheVariants as term
 use Rattle.tariff_prices.specs.Prices.{delay_price, cancel_price, care_price, compensation_price, uncarried_care, uncarried_compensation}
 use Rattle.tariff_prices.proofs.PriceLaws.{delay_price-le, cancel_price-le, care_price-le, compensation_price-le, uncarried_care-le, uncarried_compensation-le}
 use Rattle.desk_data.specs.declared.row.Group.{Group}
-use Rattle.desk_data.specs.Booked.{haul_of, reference_of, booked_arrival}
+use Rattle.desk_data.specs.Booked.{haul_of, reference_of}
 use Rattle.desk_data.specs.Situation.{Situation, legs_of, reservations_of, res_at, no_res}
 use Rattle.desk_data.specs.PlanRows.{PlanRows}
 use Rattle.desk_data.specs.Valid.{IsValid, IsReservation}
-use Rattle.desk_rules.specs.Passengers.{is_carried, all_flown, minutes_late, arrival_of}
-use Rattle.desk_rules.specs.Cost.{rows_of, weight, arrives, downgrade, legal_late, legal_uncarried}
+use Rattle.desk_rules.specs.Passengers.{all_flown, minutes_late, arrival_of}
+use Rattle.desk_data.specs.Paths.{is_carried}
+use Rattle.desk_rules.specs.Cost.{rows_of, weight, downgrade, legal_late, legal_uncarried}
 use Rattle.desk_rules.proofs.CostLaws.{item_most, delay_most, downgrade_most, weight-le, by_hour-le, by_item-le, downgrade-le}
 use Rattle.full_cost.specs.Counted.{IsGroupOf}
-use Rattle.full_cost.specs.Amounts.{delay_late, arriving, ended_cost, group_cost, path_end, cancellation_uncarried}
+use Rattle.full_cost.specs.Amounts.{delay_late, arriving, path_cost, group_cost, path_end, cancellation_uncarried}
 use Rattle.full_cost.proofs.GroupLaws.{uncarried_is, stopped_is, arrived_is}
 
 -- a path that arrives, and one that does not
@@ -34,22 +35,22 @@ end_nowhere I P path stopped = elim (cases_Bool (is_carried path)) [
   | inr left ↦ rw left refl
 ]
 
-carried_cost : (I : Situation) (r : ℕ) (group : Group) (end : Option Minute) → is_carried group.path ≡ true → ended_cost I r group end ≡ downgrade I r group + arriving I r group.count end
-unfolding ended_cost
+carried_cost : (I : Situation) (r : ℕ) (group : Group) (end : Option Minute) → is_carried group.path ≡ true → path_cost I r group end ≡ downgrade I r group + arriving I r group.count end
+unfolding path_cost
 carried_cost I r group end carried = rw carried refl
 
 -- a group costs what it costs by the end of its path
-pub ended_is : (I : Situation) (P : PlanRows) (r : ℕ) (group : Group) → ended_cost I r group (path_end I P group.path) ≡ group_cost I P r group
-unfolding ended_cost minutes_late
+pub ended_is : (I : Situation) (P : PlanRows) (r : ℕ) (group : Group) → path_cost I r group (path_end I P group.path) ≡ group_cost I P r group
+unfolding path_cost minutes_late
 ended_is I P r group = elim (cases_Bool (is_carried group.path)) [
   | inr left ↦ rw left (sym (uncarried_is I P r group left))
   | inl carried ↦ elim (cases_Bool (all_flown P group.path)) [
     | inl flown ↦
-        ap (ended_cost I r group) (end_there I P group.path carried flown)
+        ap (path_cost I r group) (end_there I P group.path carried flown)
         ∙ carried_cost I r group (Some (record { 0 = arrival_of I P group.path })) carried
         ∙ omega (arith, arrived_is I P r group carried flown)
     | inr stopped ↦
-        ap (ended_cost I r group) (end_nowhere I P group.path stopped)
+        ap (path_cost I r group) (end_nowhere I P group.path stopped)
         ∙ carried_cost I r group None carried
         ∙ omega (arith, stopped_is I P r group carried stopped)
   ]

@@ -12,7 +12,8 @@ use Rattle.desk_data.specs.Situation.{Situation, legs_of, reservations_of}
 use Rattle.desk_data.specs.PlanRows.{PlanRows, IsGroup, AreGroups, groups_at}
 use Rattle.desk_data.specs.Valid.{IsValid, IsPathOf, IsPlanFor}
 use Rattle.desk_rules.specs.Numbers.{numbers}
-use Rattle.desk_rules.specs.Passengers.{is_carried, all_flown, minutes_late}
+use Rattle.desk_rules.specs.Passengers.{all_flown, minutes_late}
+use Rattle.desk_data.specs.Paths.{is_carried}
 use Rattle.desk_rules.specs.Cost.{delay, cancellation, downgrade, legal, legal_late, legal_uncarried}
 use Rattle.desk_rules.proofs.CostLaws.{delay_most, item_most, downgrade_most, legal_most, IsAtMost, count-le, delay-le, cancellation-le, downgrade-le, legal-le, reservation-le, reservations-le as all-le}
 use Rattle.full_cost.specs.Counted.{IsGroupOf}

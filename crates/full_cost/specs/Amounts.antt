@@ -10,7 +10,8 @@ use Rattle.desk_data.specs.declared.row.Group.{Group}
 use Rattle.desk_data.specs.Situation.{Situation}
 use Rattle.desk_data.specs.PlanRows.{PlanRows, groups_at}
 use Rattle.desk_data.specs.Booked.{haul_of, reference_of, booked_arrival}
-use Rattle.desk_rules.specs.Passengers.{is_carried, arrival_of}
+use Rattle.desk_rules.specs.Passengers.{arrival_of}
+use Rattle.desk_data.specs.Paths.{is_carried}
 use Rattle.full_cost.specs.Counted.{group_on}
 use Rattle.desk_rules.specs.Cost.{rows_of, weight, by_hour, by_item, arrives, delay, cancellation, downgrade, legal, legal_late, legal_uncarried}
 
@@ -49,7 +50,7 @@ arriving I r count None = 0
 arriving I r count (Some at) = delay_late I r (at.0 - booked_arrival I r) count + legal_late I r (at.0 - booked_arrival I r) count
 
 -- what a group of reservation r costs whose path ends so: this is all that hangs on the rows of a plan
-unfoldable pub ended_cost : Situation → ℕ → Group → Option Minute → ℕ
-ended_cost I r group end =
+unfoldable pub path_cost : Situation → ℕ → Group → Option Minute → ℕ
+path_cost I r group end =
     if is_carried group.path then downgrade I r group + arriving I r group.count end
     else cancellation_uncarried I r group.count + legal_uncarried I r group.count

@@ -5,7 +5,7 @@ ghost use Rattle.desk_data.specs.Booked.{booked_arrival};
 ghost use Rattle.desk_data.specs.Situation.{legs_of, reservations_of};
 ghost use Rattle.desk_data.specs.Valid.{IsPathOf, IsPlanFor};
 ghost use Rattle.desk_rules.specs.Cost.{grains};
-ghost use Rattle.full_cost.specs.Amounts.{IsEnd, arriving, ended_cost, path_end};
+ghost use Rattle.full_cost.specs.Amounts.{IsEnd, arriving, path_cost, path_end};
 ghost use Rattle.full_cost.specs.Counted.{IsGroupOf, group_on};
 ghost use Rattle.full_cost.specs.Weighed.{AreWeights};
 
@@ -20,7 +20,7 @@ use plan_reads::{ReadPlan, all_flown, arrival, is_carried};
 /// What some passengers of a reservation cost on a path that arrives at a moment below 52,502,880, or,
 /// with `None`, of which a leg is cancelled. On the empty path nobody is carried, and the moment plays no
 /// part. No row of a plan is read.
-pub fn ended_cost(
+pub fn path_cost(
     inst: &Instance,
     res: Res,
     path: &[(Leg, Cabin)],
@@ -30,7 +30,7 @@ pub fn ended_cost(
     requires res { res.0 < reservations_of inst.now }
     requires group { IsGroupOf inst.now (group_on path.now count) }
     requires end { IsEnd end }
-    ensures { result ≡ grains (ended_cost inst.now res.0 (group_on path.now count) end) }
+    ensures { result ≡ grains (path_cost inst.now res.0 (group_on path.now count) end) }
 {
     cost_by_end(inst, weights_of(inst), res, path, count, end)
 }
@@ -38,7 +38,7 @@ pub fn ended_cost(
 /// The same, with the weights that were looked up. Those who are not carried cost their cancellation and
 /// what is owed to them. Those who are cost their downgrades and, where all their legs are flown, their
 /// delay and what is owed for it.
-#[tactic(auto, unfolding(crate::specs::Amounts::ended_cost))]
+#[tactic(auto, unfolding(crate::specs::Amounts::path_cost))]
 pub(crate) fn cost_by_end(
     inst: &Instance,
     weights: Weights,
@@ -51,7 +51,7 @@ pub(crate) fn cost_by_end(
     requires res { res.0 < reservations_of inst.now }
     requires group { IsGroupOf inst.now (group_on path.now count) }
     requires end { IsEnd end }
-    ensures { result ≡ grains (ended_cost inst.now res.0 (group_on path.now count) end) }
+    ensures { result ≡ grains (path_cost inst.now res.0 (group_on path.now count) end) }
 {
     let _rows = inst.parts();
     if is_carried(path) {

@@ -19,7 +19,7 @@ use Rattle.desk_data.specs.declared.row.Row.TheVariants as row
 use Rattle.plan_moves.specs.declared.moves.Step.{Step}
 use Rattle.plan_moves.specs.declared.moves.Step.TheVariants.{Set, Push, Swap, Rebook, Tidy, Refill}
 use Rattle.desk_data.specs.Situation.{Situation, legs_of, planes_of, reservations_of}
-use Rattle.desk_data.specs.Valid.{IsOrder, IsRowOf}
+use Rattle.desk_data.specs.Valid.{IsBatch, IsRowOf}
 use Rattle.plan_moves.specs.Fits.{IsPathIn, StepFits}
 use Rattle.desk_model.specs.declared.answer.Event.{Event}
 use Rattle.desk_model.specs.declared.answer.Event.TheVariants as event
@@ -187,9 +187,9 @@ joined_fits I named asked facts h =
 
 -- ---- batches
 
--- the orders of each batch are of the day
-abbrev pub AreOrders : Situation → List Batch → Type 0
-AreOrders I batches = All (λ batch. All (IsOrder I.parts) batch.orders) batches
+-- the day can take each batch
+abbrev pub AreBatches : Situation → List Batch → Type 0
+AreBatches I batches = All (IsBatch I.parts) batches
 
 there_by : (b : Bool) (o : Option Batch) (batch : Batch) → (let given : Result Batch Cause = cond b (ok_or o cause.Batch) (Err cause.Batch) in given) ≡ Ok batch → o ≡ Some batch
 there_by true o batch h = known o cause.Batch batch h
@@ -199,15 +199,15 @@ there : (batches : List Batch) (due number : ℕ) (batch : Batch) → batch_of b
 unfolding batch_of
 there batches due number batch h = there_by (number == due) (slice_get batches number) batch h
 
-told_fits : (I : Situation) (batches : List Batch) (due number : ℕ) (asked : Event) → AreOrders I batches → told_batch batches due number ≡ Ok asked → IsAskable I asked
+told_fits : (I : Situation) (batches : List Batch) (due number : ℕ) (asked : Event) → AreBatches I batches → told_batch batches due number ≡ Ok asked → IsAskable I asked
 unfolding told_batch
 told_fits I batches due number asked orders h =
     let batch = bound (batch_of batches due number) (λ batch. Ok (event.Batch batch)) asked h in
     let is = there batches due number batch.0 batch.1 in
     let same = get_or_from_slice_get batches number batch.0 batch.0 is in
-    subst (IsAskable I) (same_Ok (event.Batch batch.0) asked batch.2) (subst (λ (b : Batch). All (IsOrder I.parts) b.orders) same (orders number batch.0 (slice_get_within batches number batch.0 is)))
+    subst (IsAskable I) (same_Ok (event.Batch batch.0) asked batch.2) (subst (IsBatch I.parts) same (orders number batch.0 (slice_get_within batches number batch.0 is)))
 
-event_fits : (I : Situation) (batches : List Batch) (due : ℕ) (e : NamedEvent) (asked : Event) → AreOrders I batches → IsNamedEvent e → event_of I batches due e ≡ Ok asked → IsAskable I asked
+event_fits : (I : Situation) (batches : List Batch) (due : ℕ) (e : NamedEvent) (asked : Event) → AreBatches I batches → IsNamedEvent e → event_of I batches due e ≡ Ok asked → IsAskable I asked
 event_fits I batches due (named_event.Batch number) asked orders facts h = told_fits I batches due number asked orders h
 event_fits I batches due (named_event.Move steps) asked orders facts h = joined_fits I steps asked facts h
 
@@ -221,14 +221,14 @@ at_line-Ok : (line : ℕ) (r : Result Event Cause) (e : Event) → at_line line 
 at_line-Ok line (Ok x) e h = ap Ok (same_Ok x e h)
 at_line-Ok line (Err why) e h = absurd cc
 
-row_asks : (I : Situation) (batches : List Batch) → AreOrders I batches → (before : List JournalRow) (r : JournalRow) (asked : ℕ × Event) → IsJournalRow r → asked_of I batches before r ≡ Ok asked → CanBeAsked I asked
+row_asks : (I : Situation) (batches : List Batch) → AreBatches I batches → (before : List JournalRow) (r : JournalRow) (asked : ℕ × Event) → IsJournalRow r → asked_of I batches before r ≡ Ok asked → CanBeAsked I asked
 unfolding asked_of
 row_asks I batches orders before r asked facts h =
     let given = event_of I batches (batches_in before) r.event in
     let e = bound (at_line r.line given) (λ e. Ok (r.caller, e)) asked h in
     subst (CanBeAsked I) (same_Ok (r.caller, e.0) asked e.2) (event_fits I batches (batches_in before) r.event e.0 orders facts.event (at_line-Ok r.line given e.0 e.1), facts.caller)
 
-all_fit : (built : Built) (rows : List JournalRow) (events : List (ℕ × Event)) → AreOrders built.inst built.batches → AreRows rows → events_of built rows ≡ Ok events → All (CanBeAsked built.inst) events
+all_fit : (built : Built) (rows : List JournalRow) (events : List (ℕ × Event)) → AreBatches built.inst built.batches → AreRows rows → events_of built rows ≡ Ok events → All (CanBeAsked built.inst) events
 unfolding events_of
 all_fit built rows events orders facts h =
     All-from_recursion (CanBeAsked built.inst) events (all_behind-All (asked_of built.inst built.batches) IsJournalRow (CanBeAsked built.inst) (row_asks built.inst built.batches orders) [] rows events (recursion_from_All IsJournalRow rows facts) h)
@@ -241,10 +241,10 @@ events_give built J batches rows result view same all h =
     subst (λ (bs : List Batch). JoinGives view result (all_behind (asked_of built.inst bs) [] rows)) all
     (subst (λ (K : Situation). JoinGives view result (all_behind (asked_of K batches) [] rows)) same h)
 
-pub all_asked : {Answer : Type 0} (built : Built) (rows : List JournalRow) (result : Result Answer BuildFault) (view : Answer → List (ℕ × Event)) → AreOrders built.inst built.batches → AreRows rows → JoinGives view result (events_of built rows) → IfOk result (λ v. AreAskable built.inst (view v))
+pub all_asked : {Answer : Type 0} (built : Built) (rows : List JournalRow) (result : Result Answer BuildFault) (view : Answer → List (ℕ × Event)) → AreBatches built.inst built.batches → AreRows rows → JoinGives view result (events_of built rows) → IfOk result (λ v. AreAskable built.inst (view v))
 all_asked built rows (Ok v) view orders facts h = λ k d below. (all_fit built rows (view v) orders facts h k d below).0
 all_asked built rows (Err fault) view orders facts h = tt
 
-pub all_callers : {Answer : Type 0} (built : Built) (rows : List JournalRow) (result : Result Answer BuildFault) (view : Answer → List (ℕ × Event)) → AreOrders built.inst built.batches → AreRows rows → JoinGives view result (events_of built rows) → IfOk result (λ v. All (λ asked. asked.0 ≤ 64) (view v))
+pub all_callers : {Answer : Type 0} (built : Built) (rows : List JournalRow) (result : Result Answer BuildFault) (view : Answer → List (ℕ × Event)) → AreBatches built.inst built.batches → AreRows rows → JoinGives view result (events_of built rows) → IfOk result (λ v. All (λ asked. asked.0 ≤ 64) (view v))
 all_callers built rows (Ok v) view orders facts h = λ k d below. (all_fit built rows (view v) orders facts h k d below).1
 all_callers built rows (Err fault) view orders facts h = tt

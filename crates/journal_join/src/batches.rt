@@ -1,13 +1,12 @@
 //! The batches that a journal tells of.
 
-ghost use Rattle.std.specs.Prelude.{◌≡◌, ◌+◌, ◌<◌, ◌^◌, Ok, Err, IfOk, MatchResult, if◌then◌else◌};
+ghost use Rattle.std.specs.Prelude.{◌≡◌, ◌+◌, ◌<◌, ◌^◌, Ok, Err, MatchResult, if◌then◌else◌};
 ghost use Rattle.desk_text.specs.Rows.{GivesRow};
 ghost use Rattle.journal_join.specs.Join.{batch_of, is_batch, told_batch};
 
 use desk_data::Batch;
 use desk_model::Event;
 use desk_text::RowFault;
-use desk_units::{List, NoMem};
 use file_rows::Cause;
 use journal_rows::NamedEvent;
 use std::alloc::Global;
@@ -24,14 +23,6 @@ fn batch_of(batches: &[Batch], due: usize, number: u32) -> Result<&Batch, Cause>
     }
 }
 
-/// An equal batch.
-fn copied(alloc: Global, batch: &Batch) -> Result<Batch, NoMem>
-    ensures { IfOk result (λ copy. copy ≡ batch.now) }
-{
-    let orders = List(Vec::from_slice(alloc, batch.orders.as_slice())?);
-    Ok(Batch { orders })
-}
-
 /// The event of the batch of a number, where it is the one that is due.
 #[tactic(auto, unfolding(crate::specs::Join::told_batch))]
 pub(crate) fn told_batch(
@@ -43,7 +34,7 @@ pub(crate) fn told_batch(
     ensures { GivesRow result (told_batch batches.now due number) }
 {
     let batch = batch_of(batches, due, number)?;
-    Ok(Event::Batch(copied(alloc, batch)?))
+    Ok(Event::Batch(batch.copy(alloc)?))
 }
 
 /// The number of the batch that is due behind an event, by the one that was due at it.

@@ -1,7 +1,7 @@
 //! The rows of a journal, joined.
 
 ghost use Rattle.std.specs.Prelude.{◌≡◌, ◌≤◌, [], All, IfOk};
-ghost use Rattle.desk_data.specs.Valid.{IsOrder};
+ghost use Rattle.desk_data.specs.Valid.{IsBatch};
 ghost use Rattle.desk_model.specs.Histories.{AreAskable};
 ghost use Rattle.desk_text.specs.Rows.{GivesRow};
 ghost use Rattle.journal_rows.specs.Facts.{AreRows};
@@ -91,7 +91,7 @@ pub fn join_journal(
     rows: &[JournalRow],
 ) -> Result<Vec<(u32, Event)>, BuildFault>
     requires rows { AreRows rows.now }
-    requires batches { All (λ batch. All (IsOrder built.now.inst.parts) batch.orders) built.now.batches }
+    requires batches { All (IsBatch built.now.inst.parts) built.now.batches }
     ensures exact { JoinGives (λ v. v.items) result (events_of built.now rows.now) }
     ensures asked { IfOk result (λ v. AreAskable built.now.inst v.items) }
     ensures callers { IfOk result (λ v. All (λ asked. asked.0 ≤ 64) v.items) }

@@ -35,7 +35,7 @@ take_done (x ∷ done) more = ap (λ es. x ∷ es) (take_done done more)
 -- ---- batches among rows
 
 named_batch : (I : Situation) (number : ℕ) (e : Event) → is_named_batch (named_event I number e) ≡ is_batch e
-named_batch I number (event.Batch news) = refl
+named_batch I number (event.Batch batch) = refl
 named_batch I number (event.Move m) = refl
 
 -- as many rows as entries are batches
@@ -55,9 +55,9 @@ count_rows I h k (e ∷ es) =
 -- ---- events
 
 module _ (I : Situation) (distinct : AreDistinct I.parts) (feed : List Batch) where
-  event_joined : (due number : ℕ) (e : Event) → number ≡ due → ((news : Batch) → e ≡ event.Batch news → slice_get feed number ≡ Some news) → IsAskable I e → event_of I feed due (named_event I number e) ≡ Ok e
+  event_joined : (due number : ℕ) (e : Event) → number ≡ due → ((batch : Batch) → e ≡ event.Batch batch → slice_get feed number ≡ Some batch) → IsAskable I e → event_of I feed due (named_event I number e) ≡ Ok e
   unfolding told_batch batch_of
-  event_joined due number (event.Batch news) same order asked = rw (eq-eqb number due same, order news refl) refl
+  event_joined due number (event.Batch batch) same order asked = rw (eq-eqb number due same, order batch refl) refl
   event_joined due number (event.Move m) same order asked = move_back I distinct m asked
 
   module _ (h : List Entry) (legal : IsLegal (opening I) h) (order : TakesInOrder feed h) where
@@ -80,7 +80,7 @@ module _ (I : Situation) (distinct : AreDistinct I.parts) (feed : List Batch) wh
         let same : batches (take i h) ≡ batches_in (rows 0 done) = ap batches before ∙ sym (count_rows I h 0 done) in
         let S = state (opening I) (take i h) in
         let can = askable-parts S.inst I e.event (state-parts (opening I) (take i h)) (legal i e at).asked in
-        let joined = event_joined (batches_in (rows 0 done)) (batches (take i h)) e.event same (λ news is. order i e news at is) can in
+        let joined = event_joined (batches_in (rows 0 done)) (batches (take i h)) e.event same (λ batch is. order i e batch at is) can in
         rw joined refl
 
     behind_back : (done more : List Entry) → done ++ more ≡ h → all_behind (asked_of I feed) (rows 0 done) (rows (length done) more) ≡ Ok (map asked more)

@@ -64,7 +64,7 @@ decimal_plain n lt = rw (digits_plain (decimal n) (decimal_digits n lt).digits) 
 
 kind_plain : (e : Event) → quoted (kind_text e) ≡ kind_text e
 unfolding quoted kind_text
-kind_plain (event.Batch news) = refl
+kind_plain (event.Batch batch) = refl
 kind_plain (event.Move m) = refl
 
 -- ---- records

@@ -26,7 +26,7 @@ use Rattle.journal_laws.proofs.QuotedBack.{placed_fields, HaveCallers, records_o
 
 -- an event whose text can be read, a batch having this number
 abbrev pub EventReads : Situation → ℕ → Event → Type 0
-EventReads I number (event.Batch news) = number ≤ 1000
+EventReads I number (event.Batch batch) = number ≤ 1000
 EventReads I number (event.Move m) = (1 ≤ length m.steps) × AllByRecursion (StepFits I) m.steps
 
 pub record EntryReads (I : Situation) (number : ℕ) (entry : Entry) : Type 0 where
@@ -40,19 +40,19 @@ AllRead I h placed = AllByRecursion (λ p. EntryReads I (batches (take p.0 h)) p
 module _ (I : Situation) (ok : IsReadable I) where
   detail_printed : (number : ℕ) (e : Event) → EventReads I number e → list_all is_printed (detail_text I number e) ≡ true
   unfolding detail_text move_text
-  detail_printed number (event.Batch news) h = seen_printed (decimal number) (decimal_seen number (omega (arith, h)))
+  detail_printed number (event.Batch batch) h = seen_printed (decimal number) (decimal_seen number (omega (arith, h)))
   detail_printed number (event.Move m) h = (move_reads I ok m.steps h.0 h.1).spelled.printed
 
   event_back : (number : ℕ) (e : Event) → EventReads I number e → event_of (kind_text e) (detail_text I number e) ≡ Ok (named_event I number e)
   unfolding event_of batch_of move_of kind_text detail_text move_text
-  event_back number (event.Batch news) h = rw (number_back 0 1000 number (omega arith) h (omega arith)) refl
+  event_back number (event.Batch batch) h = rw (number_back 0 1000 number (omega arith) h (omega arith)) refl
   event_back number (event.Move m) h =
       let move = move_reads I ok m.steps h.0 h.1 in
       rw (move.spelled.ends, move.read) refl
 
   kind_printed : (e : Event) → list_all is_printed (kind_text e) ≡ true
   unfolding kind_text
-  kind_printed (event.Batch news) = refl
+  kind_printed (event.Batch batch) = refl
   kind_printed (event.Move m) = refl
 
   -- the fields of a line are read as the row
@@ -93,8 +93,8 @@ all_placed P n (x ∷ xs) each =
 
 module _ (I : Situation) (feed : List Batch) (h : List Entry) (legal : IsLegal (opening I) h) (order : TakesInOrder feed h) (few : length feed ≤ 1001) where
   event_reads : (i : ℕ) (entry : Entry) (e : Event) → slice_get h i ≡ Some entry → entry.event ≡ e → IsAskable I e → EventReads I (batches (take i h)) e
-  event_reads i entry (event.Batch news) at is asked =
-      let there = slice_get_within feed (batches (take i h)) news (order i entry news at is) in
+  event_reads i entry (event.Batch batch) at is asked =
+      let there = slice_get_within feed (batches (take i h)) batch (order i entry batch at is) in
       omega (arith, there)
   event_reads i entry (event.Move m) at is asked = (asked.some, recursion_from_All (StepFits I) m.steps asked.each)
 

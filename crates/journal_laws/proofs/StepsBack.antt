@@ -19,7 +19,7 @@ use Rattle.desk_data.specs.Valid.{IsRowOf}
 use Rattle.plan_moves.specs.declared.moves.Step.{Step}
 use Rattle.plan_moves.specs.declared.moves.Step.TheVariants as step
 use Rattle.plan_moves.specs.Fits.{StepFits, IsPathIn}
-use Rattle.desk_text.specs.Texts.{date_text, time_text, moment_text}
+use Rattle.desk_text.specs.Texts.{date_text, time_text, moment_text, cabin_text, direction_text}
 use Rattle.desk_text.specs.Seen.{is_seen}
 use Rattle.desk_text.specs.Fields.{name_of, date_of, number_of, cabin_of, inbound_of}
 use Rattle.desk_text.specs.Moments.{minute_of}
@@ -33,7 +33,7 @@ use Rattle.journal_rows.specs.Tokens.{TokenReaders, Reading, token, flown_of, be
 use Rattle.journal_rows.specs.Steps.{leg_at as read_leg, moment_at as read_moment, row_from, row_at as read_row, after_from, seat_at as read_seat, seats_at, path_at as read_path, step_from, step_at as read_step, steps_of}
 use Rattle.journal_rows.proofs.StepLemmas.{no_steps, first_step}
 use Rattle.journal_file.specs.Journal.{full_tokens}
-use Rattle.journal_text.specs.Items.{leg_text, row_text, cabin_text, seat_text, path_text, direction_text, reservation_text}
+use Rattle.journal_text.specs.Items.{leg_text, row_text, seat_text, path_text, reservation_text}
 use Rattle.journal_text.specs.Lines.{after_text, step_text}
 use Rattle.journal_laws.specs.Named.{named_leg, named_row, named_after, named_seat, named_path, named_res, named_step}
 use Rattle.token_laws.proofs.Spelled.{number_back, date_back, time_back, decimal_some, decimal_seen, date_some, date_seen, time_some, time_seen}

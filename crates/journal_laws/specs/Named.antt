@@ -61,7 +61,7 @@ named_step I (step.Refill leg) = named.Refill (named_leg I leg.0)
 
 -- an event, a batch having this number
 abbrev pub named_event : Situation → ℕ → Event → NamedEvent
-named_event I number (event.Batch news) = events.Batch number
+named_event I number (event.Batch batch) = events.Batch number
 named_event I number (event.Move m) = events.Move (map (named_step I) m.steps)
 
 -- ---- the rows of a journal
@@ -88,7 +88,7 @@ fields_at I number entry = decimal entry.caller ∷ kind_text entry.event ∷ de
 
 -- the history's batches are the first ones of these, in their order
 abbrev pub TakesInOrder : List Batch → List Entry → Type 0
-TakesInOrder feed h = (i : ℕ) (entry : Entry) (news : Batch) → slice_get h i ≡ Some entry → entry.event ≡ event.Batch news → slice_get feed (batches (take i h)) ≡ Some news
+TakesInOrder feed h = (i : ℕ) (entry : Entry) (batch : Batch) → slice_get h i ≡ Some entry → entry.event ≡ event.Batch batch → slice_get feed (batches (take i h)) ≡ Some batch
 
 -- a history that was legal from the opening of a day, with callers that there may be, batches taken in their order, and a text that is not too long
 pub record CanBeReadBack (I : Situation) (feed : List Batch) (h : List Entry) : Type 0 where

@@ -1,14 +1,13 @@
 //! What a journal is written as is read again.
 
-ghost use Rattle.std.specs.Prelude.{◌≡◌, ℕ, ◌<◌, ◌^◌, Ok, Option, None, List as Items, map};
+ghost use Rattle.std.specs.Prelude.{◌≡◌, ℕ, ◌<◌, ◌^◌, Ok, None, List as Items, map};
 ghost use Rattle.csv.specs.Writing.{default_writer, row_text};
 ghost use Rattle.desk_build.specs.declared.joining.Built.{Built as Joined};
 ghost use Rattle.desk_data.specs.Situation.{Situation};
 ghost use Rattle.desk_model.specs.declared.answer.Entry.{Entry as Recorded};
 ghost use Rattle.desk_model.specs.States.{opening};
 ghost use Rattle.desk_model.specs.Histories.{IsLegal, run};
-ghost use Rattle.desk_tasks.specs.declared.ended.SearchEnd.{SearchEnd};
-ghost use Rattle.desk_tasks.specs.Play.{story_on, played, history_outcome};
+ghost use Rattle.desk_tasks.specs.Play.{story_on, played, Remarks, search_told, history_outcome};
 ghost use Rattle.journal_file.specs.Journal.{journal_rows_of};
 ghost use Rattle.journal_join.specs.Join.{events_of};
 ghost use Rattle.journal_text.specs.Lines.{journal_text, line_text};
@@ -24,12 +23,12 @@ pub fn lines_are_records()
 /// 268,435,456 bytes: the text is read as the rows of its entries, and these are joined to its events, each
 /// with its caller. The day is valid, has names of 1 to 32 bytes, and at most 1,001 batches. The run of a
 /// legal history's events is the history; so whoever replays a written journal gets what came of its
-/// history: the same status, files and report, and of a history that searches made, which the report of a
-/// recovery tells the end of, the same status and files.
+/// history: the same status, files and report, and of a history whose report has remarks, as that of a recovery
+/// has on how its last search ended, the same files.
 pub fn written_journals_read_back()
     ensures rows { (built : Joined) (h : Items Recorded) → CanBeReadBack built.inst built.batches h → journal_rows_of (journal_text built.inst h) ≡ Ok (rows_of_history built.inst h) }
     ensures events { (built : Joined) (h : Items Recorded) → CanBeReadBack built.inst built.batches h → events_of built (rows_of_history built.inst h) ≡ Ok (map asked h) }
     ensures run { (I : Situation) (h : Items Recorded) → IsLegal (opening I) h → run (opening I) (map asked h) ≡ h }
-    ensures replayed { (I : Situation) (h : Items Recorded) → IsLegal (opening I) h → played (story_on I (map asked h)) ≡ history_outcome I None h }
-    ensures searched { (I : Situation) (search : Option SearchEnd) (h : Items Recorded) → IsLegal (opening I) h → (played (story_on I (map asked h))).texts.files ≡ (history_outcome I search h).texts.files }
+    ensures replayed { (I : Situation) (h : Items Recorded) → IsLegal (opening I) h → played (story_on I (map asked h)) ≡ history_outcome I (search_told None) h }
+    ensures searched { (I : Situation) (remarks : Remarks) (h : Items Recorded) → IsLegal (opening I) h → (played (story_on I (map asked h))).texts.files ≡ (history_outcome I remarks h).texts.files }
 {}

@@ -69,7 +69,7 @@ pub enum NamedStep {
 /// What a caller tells or asks for.
 #[derive(Debug, Drop)]
 pub enum NamedEvent {
-    /// News of disruptions: the batch of orders with this number, 0 to 1,000.
+    /// Disruptions become known: the batch of orders with this number, 0 to 1,000.
     Batch { number: u32 },
     /// A move of these steps, any number of them.
     Move { steps: List<NamedStep> },

@@ -1,9 +1,8 @@
--- Texts name what there is by the rows of a day alone: the orders taken make no difference to them.
+-- Texts name what there is by the rows of a day alone: the orders taken and how far it has gone on make no difference to them.
 use Rattle.std.proofs.Common.{◌≡◌, ℕ, List, ◌++◌, refl, ap, subst}
 use Rattle.std.specs.Prelude.{Option, None, Some, codes}
 use Rattle.std.specs.List.{flat_map, join_by, enumerate_from}
 use Rattle.std.proofs.Math.Path.{fun_ext}
-use Rattle.day_orders.specs.declared.orders.Order.{Order}
 use Rattle.desk_units.specs.declared.numbers.Leg.{Leg}
 use Rattle.desk_units.specs.declared.numbers.Cabin.{Cabin}
 use Rattle.desk_data.specs.declared.parts.Parts.{Parts}
@@ -23,11 +22,11 @@ use Rattle.desk_model.specs.declared.answer.Entry.{Entry}
 use Rattle.journal_text.specs.Items.{leg_text, row_text, hour_text, seat_text, path_text, reservation_text, broken_text}
 use Rattle.journal_text.specs.Lines.{after_text, step_text, move_text, detail_text, answer_text, line_text, journal_text}
 
--- the day of these rows with these orders
-abbrev day : Parts → List Order → Situation
-day P orders = record { parts = P; orders = orders }
+-- the day of these rows that is else as another
+abbrev day : Parts → Situation → Situation
+day P I = record I { parts = P }
 
-module _ (P : Parts) (a b : List Order) where
+module _ (P : Parts) (a b : Situation) where
   leg_same : (x : ℕ) → leg_text (day P a) x ≡ leg_text (day P b) x
   unfolding leg_text
   leg_same x = refl
@@ -108,7 +107,7 @@ module _ (P : Parts) (a b : List Order) where
   journal_same h = ap (λ (text : ℕ × Entry → List ℕ). flat_map text (enumerate_from 0 h)) (fun_ext (λ placed. line_same _ placed.1))
 
 pub journal-same : (I J : Situation) → I.parts ≡ J.parts → (h : List Entry) → journal_text I h ≡ journal_text J h
-journal-same I J same h = subst (λ (P : Parts). journal_text I h ≡ journal_text (day P J.orders) h) same (journal_same I.parts I.orders J.orders h)
+journal-same I J same h = subst (λ (P : Parts). journal_text I h ≡ journal_text (day P J) h) same (journal_same I.parts I J h)
 
 pub answer-same : (I J : Situation) → I.parts ≡ J.parts → (told : Answer) → answer_text I told ≡ answer_text J told
-answer-same I J same told = subst (λ (P : Parts). answer_text I told ≡ answer_text (day P J.orders) told) same (answer_same I.parts I.orders J.orders told)
+answer-same I J same told = subst (λ (P : Parts). answer_text I told ≡ answer_text (day P J) told) same (answer_same I.parts I J told)

@@ -15,11 +15,13 @@ use Rattle.desk_data.specs.declared.broken.Broken.{Broken}
 use Rattle.desk_data.specs.declared.broken.Broken.TheVariants.{C1, C2, C3, C4, C5, C6, C7, C8, C9, C10, C11, C12, C13, C14, C15}
 use Rattle.desk_data.specs.declared.parts.Parts.{Parts}
 use Rattle.plan_moves.specs.declared.moves.Move.{Move}
-use Rattle.desk_data.specs.Situation.{Situation, legs_of, planes_of, airports_of, reservations_of}
+use Rattle.desk_data.specs.Situation.{Situation, legs_of, planes_of, airports_of, reservations_of, with_batch}
+use Rattle.desk_data.proofs.BatchLaws.{with_batch-parts}
 use Rattle.desk_data.specs.PlanRows.{PlanRows}
 use Rattle.desk_rules.specs.Numbers.{numbers}
 use Rattle.desk_rules.specs.Least.{breaks, leg, plane, airport, res, all_hours, each_leg, each_plane, each_hour, each_cabin, each_res, rotation_items, slot_items, pax_items, items, least}
 use Rattle.desk_rules.specs.Cost.{cost, grains}
+use Rattle.desk_rules.proofs.OrderLaws.{each_append}
 use Rattle.desk_model.specs.declared.answer.Answer.{Answer}
 use Rattle.desk_model.specs.declared.answer.Answer.TheVariants.{Taken, Accepted, Breaks, Dearer, NoPlan, Full}
 use Rattle.desk_model.specs.declared.answer.Event.{Event}
@@ -30,7 +32,7 @@ use Rattle.desk_model.specs.declared.fallbacks.Which.TheVariants as which
 use Rattle.desk_model.specs.declared.fallbacks.Fallback.{Fallback}
 use Rattle.desk_model.specs.Fallback.{chosen_or, fallback, grounded, last_choice, shifted}
 use Rattle.desk_model.specs.Steps.{after_move}
-use Rattle.desk_model.specs.States.{State, opening, verdict, move_answer, with_batch, batch_answer, answer, fallback_on}
+use Rattle.desk_model.specs.States.{State, opening, verdict, move_answer, batch_answer, answer, fallback_on}
 use Rattle.desk_model.specs.Histories.{state, IsAskable, Stands, IsLegal}
 use Rattle.desk_model.proofs.StateLaws.{IsTold, opening-told}
 use Rattle.desk_model.proofs.HistoryLaws.{state-told, state-parts, askable-parts}
@@ -38,15 +40,11 @@ use Rattle.journal_text.specs.Told.{Names, AnswerNames, EventNames, CanBeTold}
 
 -- ---- the items of an instance
 
-all_joined : {X : Type 0} (P : X → Type 0) (xs ys : List X) → AllByRecursion P xs → AllByRecursion P ys → AllByRecursion P (xs ++ ys)
-all_joined P [] ys a b = b
-all_joined P (x ∷ xs) ys a b = (a.0, all_joined P xs ys a.1 b)
-
 all_of_numbers : {X : Type 0} (P : X → Type 0) (f : ℕ → X) (n : ℕ) → ((k : ℕ) → k < n → P (f k)) → AllByRecursion P (map f (numbers n))
 all_of_numbers P f zero h = tt
 all_of_numbers P f (suc n) h =
     subst (AllByRecursion P) (sym (map-append f (numbers n) (n ∷ [])))
-    (all_joined P (map f (numbers n)) (f n ∷ []) (all_of_numbers P f n (λ k lt. h k (omega arith))) (h n (omega arith), tt))
+    (each_append P (map f (numbers n)) (f n ∷ []) (all_of_numbers P f n (λ k lt. h k (omega arith))) (h n (omega arith), tt))
 
 found_one : {X : Type 0} (P : X → Type 0) (p : X → Bool) (x y : X) (ys : List X) (b : Bool) → cond b (Some y) (find p ys) ≡ Some x → P y → (find p ys ≡ Some x → P x) → P x
 found_one P p x y ys true h here more = let same : y ≡ x = cc in subst P same here
@@ -61,7 +59,7 @@ all_of_lists : {X : Type 0} (P : X → Type 0) (f : ℕ → List X) (n : ℕ) �
 all_of_lists P f zero h = tt
 all_of_lists P f (suc n) h =
     subst (AllByRecursion P) (sym (flat_map-append f (numbers n) (n ∷ [])))
-    (all_joined P (flat_map f (numbers n)) (f n ++ []) (all_of_lists P f n (λ k lt. h k (omega arith))) (all_joined P (f n) [] (h n (omega arith)) tt))
+    (each_append P (flat_map f (numbers n)) (f n ++ []) (all_of_lists P f n (λ k lt. h k (omega arith))) (each_append P (f n) [] (h n (omega arith)) tt))
 
 legs_name : (I : Situation) (item : Leg → Broken) → ((x : ℕ) → x < legs_of I → Names I (item (leg x))) → AllByRecursion (Names I) (each_leg I item)
 legs_name I item h = all_of_numbers (Names I) (λ x. item (leg x)) (legs_of I) h
@@ -91,19 +89,19 @@ rotation_items_name : (I : Situation) → AllByRecursion (Names I) (rotation_ite
 unfolding rotation_items
 rotation_items_name I =
     let c1 = legs_name I C1 (λ x lt. lt) in
-    let c2 = all_joined (Names I) (each_leg I C1) (each_leg I C2) c1 (legs_name I C2 (λ x lt. lt)) in
-    let c3 = all_joined (Names I) _ (each_leg I C3) c2 (legs_name I C3 (λ x lt. lt)) in
-    let c4 = all_joined (Names I) _ (each_leg I C4) c3 (legs_name I C4 (λ x lt. lt)) in
-    let c5 = all_joined (Names I) _ (each_leg I C5) c4 (legs_name I C5 (λ x lt. lt)) in
-    let c6 = all_joined (Names I) _ (each_leg I C6) c5 (legs_name I C6 (λ x lt. lt)) in
-    let c7 = all_joined (Names I) _ (each_leg I C7) c6 (legs_name I C7 (λ x lt. lt)) in
-    let c8 = all_joined (Names I) _ (each_plane I C8) c7 (planes_name I C8 (λ p lt. lt)) in
-    all_joined (Names I) _ (each_plane I C9) c8 (planes_name I C9 (λ p lt. lt))
+    let c2 = each_append (Names I) (each_leg I C1) (each_leg I C2) c1 (legs_name I C2 (λ x lt. lt)) in
+    let c3 = each_append (Names I) _ (each_leg I C3) c2 (legs_name I C3 (λ x lt. lt)) in
+    let c4 = each_append (Names I) _ (each_leg I C4) c3 (legs_name I C4 (λ x lt. lt)) in
+    let c5 = each_append (Names I) _ (each_leg I C5) c4 (legs_name I C5 (λ x lt. lt)) in
+    let c6 = each_append (Names I) _ (each_leg I C6) c5 (legs_name I C6 (λ x lt. lt)) in
+    let c7 = each_append (Names I) _ (each_leg I C7) c6 (legs_name I C7 (λ x lt. lt)) in
+    let c8 = each_append (Names I) _ (each_plane I C8) c7 (planes_name I C8 (λ p lt. lt)) in
+    each_append (Names I) _ (each_plane I C9) c8 (planes_name I C9 (λ p lt. lt))
 
 slot_items_name : (I : Situation) → AllByRecursion (Names I) (slot_items I)
 unfolding slot_items
 slot_items_name I =
-    all_joined (Names I) (each_hour I C10) (each_hour I C11)
+    each_append (Names I) (each_hour I C10) (each_hour I C11)
     (hours_name I C10 (λ a h lt before. (lt, within_years h before)))
     (hours_name I C11 (λ a h lt before. (lt, within_years h before)))
 
@@ -111,25 +109,25 @@ pax_items_name : (I : Situation) → AllByRecursion (Names I) (pax_items I)
 unfolding pax_items
 pax_items_name I =
     let c12 = cabins_name I C12 (λ x c lt. lt) in
-    let c13 = all_joined (Names I) (each_cabin I C12) (each_res I C13) c12 (reservations_name I C13 (λ r lt. lt)) in
-    let c14 = all_joined (Names I) _ (each_res I C14) c13 (reservations_name I C14 (λ r lt. lt)) in
-    all_joined (Names I) _ (each_res I C15) c14 (reservations_name I C15 (λ r lt. lt))
+    let c13 = each_append (Names I) (each_cabin I C12) (each_res I C13) c12 (reservations_name I C13 (λ r lt. lt)) in
+    let c14 = each_append (Names I) _ (each_res I C14) c13 (reservations_name I C14 (λ r lt. lt)) in
+    each_append (Names I) _ (each_res I C15) c14 (reservations_name I C15 (λ r lt. lt))
 
 items_name : (I : Situation) → AllByRecursion (Names I) (items I)
 unfolding items
 items_name I =
-    let slots = all_joined (Names I) (rotation_items I) (slot_items I) (rotation_items_name I) (slot_items_name I) in
-    all_joined (Names I) (rotation_items I ++ slot_items I) (pax_items I) slots (pax_items_name I)
+    let slots = each_append (Names I) (rotation_items I) (slot_items I) (rotation_items_name I) (slot_items_name I) in
+    each_append (Names I) (rotation_items I ++ slot_items I) (pax_items I) slots (pax_items_name I)
 
 -- the first broken item names what there is
 pub least-names : (I : Situation) (P : PlanRows) (item : Broken) → least I P ≡ Some item → Names I item
 unfolding least
 least-names I P item h = found_among (Names I) (breaks I P) (items I) item (items_name I) h
 
--- ---- orders name nothing
+-- ---- orders and progress name nothing
 
 module _ (I J : Situation) (same : J.parts ≡ I.parts) where
-  -- what an item names under some orders is there under any others
+  -- what an item names of a day is there on any day of the same rows
   item_under : (item : Broken) → Names J item → Names I item
   item_under (C1 leg) h = subst (λ (p : Parts). leg.0 < length p.legs) same h
   item_under (C2 leg) h = subst (λ (p : Parts). leg.0 < length p.legs) same h
@@ -184,16 +182,16 @@ fallen_names J P =
 
 answer_names : (S : State) (e : Event) → IsTold S → AnswerNames S.inst (answer S e)
 unfolding answer fallback_on
-answer_names S (event.Batch news) told =
-    let J = with_batch S.inst news in
-    answer_under S.inst J refl (batch_answer J (fallback J S.plan)) (fallen_names J S.plan)
+answer_names S (event.Batch batch) told =
+    let J = with_batch S.inst S.plan batch in
+    answer_under S.inst J (with_batch-parts S.inst S.plan batch) (batch_answer J (fallback J S.plan)) (fallen_names J S.plan)
 answer_names S (event.Move m) told = proposed_names S m S.broken refl told
 
 -- ---- histories
 
 -- the steps of a move that can be asked have numbers in range
 event_names : (I : Situation) (e : Event) → IsAskable I e → EventNames I e
-event_names I (event.Batch news) asked = tt
+event_names I (event.Batch batch) asked = tt
 event_names I (event.Move m) asked = asked.each
 
 stands_told : (I J : Situation) → I.parts ≡ J.parts → (before : List Entry) (entry : Entry) → Stands (opening I) before entry → CanBeTold J entry

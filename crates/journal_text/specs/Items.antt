@@ -1,15 +1,14 @@
 -- The texts of legs, rows, paths and broken items. What is out of range has an empty name.
-use Rattle.std.specs.Prelude.{ℕ, ◌/◌, ◌%◌, Bool, true, false, List, length, ◌++◌, codes, decimal}
+use Rattle.std.specs.Prelude.{ℕ, ◌/◌, ◌%◌, List, length, ◌++◌, codes, decimal}
 use Rattle.std.specs.List.{flat_map}
 use Rattle.desk_units.specs.declared.numbers.Leg.{Leg}
 use Rattle.desk_units.specs.declared.numbers.Cabin.{Cabin}
-use Rattle.desk_units.specs.declared.numbers.Cabin.TheVariants as cabin
 use Rattle.desk_data.specs.declared.row.Row.{Row}
 use Rattle.desk_data.specs.declared.row.Row.TheVariants.{Flown, Cancelled}
 use Rattle.desk_data.specs.declared.broken.Broken.{Broken}
 use Rattle.desk_data.specs.declared.broken.Broken.TheVariants.{C1, C2, C3, C4, C5, C6, C7, C8, C9, C10, C11, C12, C13, C14, C15}
 use Rattle.desk_data.specs.Situation.{Situation, leg_at, plane_at, airport_at, res_at}
-use Rattle.desk_text.specs.Texts.{date_text, moment_text, two_digits}
+use Rattle.desk_text.specs.Texts.{date_text, moment_text, two_digits, cabin_text, direction_text}
 
 -- FLIGHT DATE of a leg
 unfoldable pub leg_text : Situation → ℕ → List ℕ
@@ -24,11 +23,6 @@ row_text I Cancelled = codes "-"
 unfoldable pub hour_text : Situation → ℕ → ℕ → List ℕ
 hour_text I airport hour = (airport_at I airport).name ++ codes " " ++ date_text (hour / 24) ++ codes " " ++ two_digits (hour % 24)
 
-abbrev pub cabin_text : Cabin → List ℕ
-cabin_text cabin.F = codes "F"
-cabin_text cabin.B = codes "B"
-cabin_text cabin.E = codes "E"
-
 -- FLIGHT DATE CABIN of a leg that passengers take, and their cabin
 unfoldable pub seat_text : Situation → Leg × Cabin → List ℕ
 seat_text I pair = leg_text I pair.0.0 ++ codes " " ++ cabin_text pair.1
@@ -36,11 +30,6 @@ seat_text I pair = leg_text I pair.0.0 ++ codes " " ++ cabin_text pair.1
 -- a path: its number of legs, then each of them, behind a space
 unfoldable pub path_text : Situation → List (Leg × Cabin) → List ℕ
 path_text I path = decimal (length path) ++ flat_map (λ pair. codes " " ++ seat_text I pair) path
-
--- A for the way out, R for the way back
-abbrev pub direction_text : Bool → List ℕ
-direction_text false = codes "A"
-direction_text true = codes "R"
 
 -- RESERVATION TYPE of a reservation
 unfoldable pub reservation_text : Situation → ℕ → List ℕ

@@ -3,11 +3,12 @@
 ghost use Rattle.std.specs.Prelude.{◌≡◌, ◌<◌, ◌++◌, OnOk, OnErr, codes};
 ghost use Rattle.desk_data.specs.Situation.{legs_of, planes_of, airports_of, reservations_of, plane_at};
 ghost use Rattle.desk_data.specs.Valid.{IsRowOf};
-ghost use Rattle.journal_text.specs.Items.{leg_text, row_text, hour_text, cabin_text, direction_text, reservation_text, broken_text};
+ghost use Rattle.journal_text.specs.Items.{leg_text, row_text, hour_text, reservation_text, broken_text};
+ghost use Rattle.desk_text.specs.Texts.{cabin_text};
 ghost use Rattle.journal_text.specs.Told.{Names};
 
 use desk_data::{Airport, Broken, Cabin, Instance, Leg, NoMem, Plane, Res, Row};
-use desk_text::{date_text, moment_text, push_all, two_digits};
+use desk_text::{cabin_letter, date_text, direction_letter, moment_text, push_all, two_digits};
 
 /// Adds the rule that is broken and what breaks it, as `C2 FLIGHT DATE`, `C9 AIRCRAFT`,
 /// `C10 AIRPORT DATE HH`, `C12 FLIGHT DATE CABIN` or `C13 RESERVATION TYPE`. The hour has two
@@ -86,16 +87,6 @@ pub(crate) fn push_cabin(
     )
 }
 
-fn cabin_letter(cabin: Cabin) -> [u8; 1]
-    ensures { result ≡ cabin_text cabin }
-{
-    match cabin {
-        Cabin::F => *b"F",
-        Cabin::B => *b"B",
-        Cabin::E => *b"E",
-    }
-}
-
 /// Adds a word and an aircraft.
 pub(crate) fn push_plane(
     text: &mut Vec<u8>,
@@ -155,12 +146,6 @@ pub(crate) fn push_reservation(
             &direction_letter(info.inbound),
         ],
     )
-}
-
-fn direction_letter(inbound: bool) -> [u8; 1]
-    ensures { result ≡ direction_text inbound }
-{
-    if inbound { *b"R" } else { *b"A" }
 }
 
 /// Adds the row of a leg.

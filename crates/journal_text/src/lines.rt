@@ -4,7 +4,7 @@ ghost use Rattle.std.specs.Prelude.{◌≡◌, ◌++◌, OnOk, IfOk, All, List a
 ghost use Rattle.desk_data.specs.Situation.{Situation};
 ghost use Rattle.desk_model.specs.declared.answer.Entry.{Entry as Recorded};
 ghost use Rattle.desk_model.specs.States.{opening};
-ghost use Rattle.desk_model.specs.Histories.{IsLegal, is_batch};
+ghost use Rattle.desk_model.specs.Histories.{IsLegal};
 ghost use Rattle.journal_text.specs.Lines.{detail_text, kind_text, line_text, journal_text};
 ghost use Rattle.journal_text.specs.Told.{CanBeTold, EventNames};
 
@@ -28,7 +28,7 @@ pub fn journal_text(alloc: Global, inst: &Instance, entries: &[Entry]) -> Result
     let mut batches = 0;
     for entry in entries {
         push_line(&mut text, &mut field, inst, batches, entry)?;
-        if is_batch(&entry.event) {
+        if entry.event.is_batch() {
             batches += 1;
         }
     }
@@ -51,16 +51,6 @@ pub fn journal_line(
     let mut field = Vec::new(alloc);
     push_line(&mut text, &mut field, inst, number as usize, entry)?;
     Ok(text)
-}
-
-/// Whether an event is a batch.
-fn is_batch(event: &Event) -> bool
-    ensures { result ≡ is_batch event.now }
-{
-    match event {
-        Event::Batch(_) => true,
-        Event::Move(_) => false,
-    }
 }
 
 /// Adds the line of an entry; a batch has this number. The fields that may need quotes are made in

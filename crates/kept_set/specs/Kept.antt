@@ -5,7 +5,7 @@ use Rattle.std.specs.declared.cmp.Ordering.{Ordering}
 use Rattle.std.specs.declared.cmp.Ordering.TheVariants.{Less, Equal, Greater}
 
 -- the items, and how many there is room for
-pub record Kept (K : Type 0) : Type 0 where
+pub record OrderedItems (K : Type 0) : Type 0 where
   pub items : List K
   pub room : ℕ
 

@@ -16,9 +16,9 @@ pub struct KeptSet<K: Ord> {
 
 impl<K: Ord> Model for KeptSet<K> {
     ghost use Rattle.std.specs.Vec.{vec_capacity};
-    ghost use Rattle.kept_set.specs.Kept.{Kept, AreRising};
+    ghost use Rattle.kept_set.specs.Kept.{OrderedItems, AreRising};
 
-    ghost Value = { Kept K };
+    ghost Value = { OrderedItems K };
 
     ghost view = { λ i. record { items = i.items.items; room = vec_capacity i.items } };
 

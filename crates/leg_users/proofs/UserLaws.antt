@@ -26,7 +26,7 @@ use Rattle.desk_rules.proofs.HourLaws.{length-numbers}
 use Rattle.desk_model.proofs.GroupPlans.{numbers-at}
 use Rattle.desk_model.proofs.RotationOrder.{Contains-filter}
 use Rattle.kept_set.proofs.ListLaws.{IsStrict, same_ordered}
-use Rattle.kept_set.specs.Kept.{Kept, AreSet, AreRising, IsExact}
+use Rattle.kept_set.specs.Kept.{OrderedItems, AreSet, AreRising, IsExact}
 use Rattle.plan_reads.proofs.OrderLaws.{not_both, same_tests}
 use Rattle.leg_users.specs.Users.{HasUsers, has_leg, has_user, is_booked_on, users_at, uses, with_user, without_user}
 
@@ -201,30 +201,30 @@ groups_more new now old groups k r d lt so more x s =
 -- ---- the lists that are kept
 
 -- what stands at a leg
-pub kept_at : (ls : List (Kept Res)) (now : List (List Res)) (x : ℕ) (kept : Kept Res) → map (λ k. k.items) ls ≡ now → x < length now → kept ≡ get_or ls x kept → users_at now x ≡ kept.items
+pub kept_at : (ls : List (OrderedItems Res)) (now : List (List Res)) (x : ℕ) (kept : OrderedItems Res) → map (λ k. k.items) ls ≡ now → x < length now → kept ≡ get_or ls x kept → users_at now x ≡ kept.items
 kept_at ls now x kept view within is =
-    let len : length ls ≡ length now = sym (length-map ls (λ (k : Kept Res). k.items)) ∙ ap (λ (legs : List (List Res)). length legs) view in
+    let len : length ls ≡ length now = sym (length-map ls (λ (k : OrderedItems Res). k.items)) ∙ ap (λ (legs : List (List Res)). length legs) view in
     ap (λ (legs : List (List Res)). users_at legs x) (sym view)
-    ∙ get_or-map (λ (k : Kept Res). k.items) ls x kept [] (omega (arith, within, len))
-    ∙ ap (λ (k : Kept Res). k.items) (sym is)
+    ∙ get_or-map (λ (k : OrderedItems Res). k.items) ls x kept [] (omega (arith, within, len))
+    ∙ ap (λ (k : OrderedItems Res). k.items) (sym is)
 
-pub kept_more : (ls : List (Kept Res)) (now : List (List Res)) (x : ℕ) (kept new : Kept Res) (item : Res) → map (λ k. k.items) ls ≡ now → x < length now → kept ≡ get_or ls x kept → AreSet kept.items new.items item true → has_user (map (λ k. k.items) (set ls x new)) ≡ with_user x item.0 (has_user now)
+pub kept_more : (ls : List (OrderedItems Res)) (now : List (List Res)) (x : ℕ) (kept new : OrderedItems Res) (item : Res) → map (λ k. k.items) ls ≡ now → x < length now → kept ≡ get_or ls x kept → AreSet kept.items new.items item true → has_user (map (λ k. k.items) (set ls x new)) ≡ with_user x item.0 (has_user now)
 kept_more ls now x kept new item view within is put =
-    ap has_user (map-set (λ (k : Kept Res). k.items) ls x new ∙ ap (λ (legs : List (List Res)). set legs x new.items) view)
+    ap has_user (map-set (λ (k : OrderedItems Res). k.items) ls x new ∙ ap (λ (legs : List (List Res)). set legs x new.items) view)
     ∙ user_more now x new.items item within (subst (λ (xs : List Res). AreSet xs new.items item true) (sym (kept_at ls now x kept view within is)) put)
 
-pub kept_less : (ls : List (Kept Res)) (now : List (List Res)) (x : ℕ) (kept new : Kept Res) (item : Res) → map (λ k. k.items) ls ≡ now → x < length now → kept ≡ get_or ls x kept → AreSet kept.items new.items item false → has_user (map (λ k. k.items) (set ls x new)) ≡ without_user x item.0 (has_user now)
+pub kept_less : (ls : List (OrderedItems Res)) (now : List (List Res)) (x : ℕ) (kept new : OrderedItems Res) (item : Res) → map (λ k. k.items) ls ≡ now → x < length now → kept ≡ get_or ls x kept → AreSet kept.items new.items item false → has_user (map (λ k. k.items) (set ls x new)) ≡ without_user x item.0 (has_user now)
 kept_less ls now x kept new item view within is took =
-    ap has_user (map-set (λ (k : Kept Res). k.items) ls x new ∙ ap (λ (legs : List (List Res)). set legs x new.items) view)
+    ap has_user (map-set (λ (k : OrderedItems Res). k.items) ls x new ∙ ap (λ (legs : List (List Res)). set legs x new.items) view)
     ∙ user_less now x new.items item within (subst (λ (xs : List Res). AreSet xs new.items item false) (sym (kept_at ls now x kept view within is)) took)
 
 -- a list with the same items changes nothing
-pub kept_same : (ls : List (Kept Res)) (now : List (List Res)) (x : ℕ) (kept new : Kept Res) → map (λ k. k.items) ls ≡ now → kept ≡ get_or ls x kept → new.items ≡ kept.items → map (λ k. k.items) (set ls x new) ≡ now
+pub kept_same : (ls : List (OrderedItems Res)) (now : List (List Res)) (x : ℕ) (kept new : OrderedItems Res) → map (λ k. k.items) ls ≡ now → kept ≡ get_or ls x kept → new.items ≡ kept.items → map (λ k. k.items) (set ls x new) ≡ now
 kept_same ls now x kept new view is same =
-    map-set_same (λ (k : Kept Res). k.items) ls x new kept (same ∙ ap (λ (k : Kept Res). k.items) is) ∙ view
+    map-set_same (λ (k : OrderedItems Res). k.items) ls x new kept (same ∙ ap (λ (k : OrderedItems Res). k.items) is) ∙ view
 
 -- whether a reservation is kept for a leg
-pub kept_told : (ls : List (Kept Res)) (now : List (List Res)) (x : ℕ) (kept : Kept Res) (item : Res) (told : Bool) → map (λ k. k.items) ls ≡ now → x < length now → kept ≡ get_or ls x kept → IsTrue told ↔ Contains kept.items item → has_user now x item.0 ≡ told
+pub kept_told : (ls : List (OrderedItems Res)) (now : List (List Res)) (x : ℕ) (kept : OrderedItems Res) (item : Res) (told : Bool) → map (λ k. k.items) ls ≡ now → x < length now → kept ≡ get_or ls x kept → IsTrue told ↔ Contains kept.items item → has_user now x item.0 ≡ told
 kept_told ls now x kept item told view within is tells =
     ap (λ (xs : List Res). among xs item.0) (kept_at ls now x kept view within is) ∙ told_among kept.items item told tells
 

@@ -26,7 +26,7 @@ use Rattle.near_moves.specs.Words.{IsFrom}
 use Rattle.near_moves.proofs.ListLaws.{contains_cases, contains_head, contains_tail, contains_none, contains_filter, filter_contains, All_from_contains, for_none, for_some, same_ordered}
 use Rattle.near_moves.proofs.FromLaws.{from-ordered, from-holds, from-each}
 use Rattle.near_moves.proofs.UnitLaws.{row_flown}
-use Rattle.near_legs.specs.Tables.{IsInverse, AreBehind, from_next}
+use Rattle.near_legs.specs.LegTables.{IsInverse, AreBehind, from_next}
 
 -- ---- for each leg the one that has it before it
 

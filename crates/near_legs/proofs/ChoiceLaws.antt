@@ -25,7 +25,7 @@ use Rattle.near_moves.specs.Near.{move_of, step_in_time}
 use Rattle.near_legs.specs.declared.lists.By.TheVariants.{AirportPair}
 use Rattle.near_legs.specs.declared.choice.Choice.{Choice}
 use Rattle.near_legs.specs.declared.choice.Choice.TheVariants.{Depart, Exchange, Drop, Alone, Both}
-use Rattle.near_legs.specs.Tables.{is_number, is_listed, pair_number, AreListed}
+use Rattle.near_legs.specs.LegTables.{is_number, is_listed, pair_number, AreListed}
 use Rattle.near_legs.specs.Choices.{IsFlownLeg, IsChoice, steps_of, run_step, is_back_in_time, later_choice}
 use Rattle.near_legs.proofs.RunLaws.{all_taken}
 

@@ -35,7 +35,7 @@ use Rattle.near_moves.proofs.MomentLaws.{moments-hold, moments-each, moments-ord
 use Rattle.near_moves.proofs.UnitLaws.{family-holds}
 use Rattle.near_legs.specs.declared.lists.By.{By}
 use Rattle.near_legs.specs.declared.lists.By.TheVariants.{Aircraft}
-use Rattle.near_legs.specs.Tables.{is_number, place, count_of, is_listed, AreListed, AreFamilies}
+use Rattle.near_legs.specs.LegTables.{is_number, place, count_of, is_listed, AreListed, AreFamilies}
 
 -- ---- one leg more
 

@@ -14,7 +14,7 @@ use Rattle.desk_data.specs.PlanRows.{PlanRows}
 use Rattle.near_moves.specs.Places.{legs_from, run, is_run}
 use Rattle.near_moves.specs.LegMoves.{run_end, comes_round}
 use Rattle.near_moves.proofs.ListLaws.{for_some}
-use Rattle.near_legs.specs.Tables.{AreBehind, from_next}
+use Rattle.near_legs.specs.LegTables.{AreBehind, from_next}
 use Rattle.near_legs.specs.Choices.{IsFlownLeg}
 
 -- ---- legs that are taken one behind another

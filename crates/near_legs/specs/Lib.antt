@@ -1,3 +1,3 @@
-pub mod Tables
+pub mod LegTables
 pub mod Choices
 pub mod Walk

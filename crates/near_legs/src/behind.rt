@@ -3,7 +3,7 @@
 ghost use Rattle.std.specs.Prelude.{◌≡◌, ℕ, ◌<◌, ◌≤◌, None, IfOk, length, slice_index_or};
 ghost use Rattle.std.specs.Option.{ForSome};
 ghost use Rattle.desk_data.specs.Valid.{IsPlanFor};
-ghost use Rattle.near_legs.specs.Tables.{AreBehind, IsInverse};
+ghost use Rattle.near_legs.specs.LegTables.{AreBehind, IsInverse};
 
 use desk_data::{Instance, Leg, NoMem};
 use plan_pages::Pages;
@@ -20,8 +20,7 @@ pub(crate) fn legs_behind(
     requires { IsPlanFor inst.now plan.now }
     ensures { IfOk result (λ behind. AreBehind inst.now plan.now behind.items) }
 {
-    let _few = inst.legs();
-    let before = legs_before(alloc, plan.plan().rows())?;
+    let before = legs_before(alloc, plan, inst.legs())?;
     inverse(alloc, before.as_slice())
 }
 

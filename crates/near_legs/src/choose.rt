@@ -6,12 +6,12 @@ ghost use Rattle.desk_data.specs.Valid.{IsPlanFor};
 ghost use Rattle.near_moves.specs.LegMoves.{droppings, exchanges, restorings, retimings};
 ghost use Rattle.near_moves.specs.Near.{unit_steps};
 ghost use Rattle.near_legs.specs.Choices.{IsChoice, IsFlownLeg, IsLegUnit, is_back_in_time, later_choice, steps_of, unit_of};
-ghost use Rattle.near_legs.specs.Tables.{AreLists};
+ghost use Rattle.near_legs.specs.LegTables.{AreLists};
 
 use crate::choice::Choice;
 use crate::moments::moments;
 use crate::runs::{comes_round, run};
-use crate::tables::Tables;
+use crate::tables::LegTables;
 use crate::unit::LegUnit;
 use desk_data::{Instance, Leg, Minute, NoMem, Plane};
 use plan_pages::Pages;
@@ -23,7 +23,7 @@ pub(crate) fn choices(
     alloc: Global,
     inst: &Instance,
     plan: &Pages,
-    tables: &Tables,
+    tables: &LegTables,
     unit: LegUnit,
 ) -> Result<Vec<Choice>, NoMem>
     requires plan { IsPlanFor inst.now plan.now }
@@ -84,7 +84,7 @@ fn exchanges(
     alloc: Global,
     inst: &Instance,
     plan: &Pages,
-    tables: &Tables,
+    tables: &LegTables,
     first: Plane,
     second: Plane,
 ) -> Result<Vec<Choice>, NoMem>
@@ -112,7 +112,7 @@ fn drops(
     alloc: Global,
     inst: &Instance,
     plan: &Pages,
-    tables: &Tables,
+    tables: &LegTables,
     leg: Leg,
 ) -> Result<Vec<Choice>, NoMem>
     requires lists { AreLists inst.now plan.now tables.now }
@@ -136,7 +136,7 @@ fn restorings(
     alloc: Global,
     inst: &Instance,
     plan: &Pages,
-    tables: &Tables,
+    tables: &LegTables,
     leg: Leg,
     plane: Plane,
 ) -> Result<Vec<Choice>, NoMem>

@@ -5,7 +5,7 @@ ghost use Rattle.std.specs.Option.{ForSome};
 ghost use Rattle.desk_data.specs.Situation.{plane_at, planes_of};
 ghost use Rattle.desk_rules.specs.Numbers.{numbers};
 ghost use Rattle.near_moves.specs.Places.{family_of};
-ghost use Rattle.near_legs.specs.Tables.{AreFamilies};
+ghost use Rattle.near_legs.specs.LegTables.{AreFamilies};
 
 use desk_data::{Instance, NoMem, Plane};
 use std::alloc::Global;

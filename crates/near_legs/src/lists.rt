@@ -5,12 +5,12 @@ ghost use Rattle.std.specs.Option.{ForSome};
 ghost use Rattle.desk_data.specs.Situation.{legs_of};
 ghost use Rattle.desk_data.specs.PlanRows.{row_at};
 ghost use Rattle.desk_data.specs.Valid.{IsPlanFor};
-ghost use Rattle.desk_rules.specs.Passengers.{is_flown};
 ghost use Rattle.near_moves.specs.Places.{is_movable_flown, is_restorable};
-ghost use Rattle.near_legs.specs.Tables.{AreListed, count_of, pair_number, place};
+ghost use Rattle.near_legs.specs.LegTables.{AreListed, count_of, pair_number, place};
 
 use desk_data::{Airport, Instance, Leg, NoMem, Row};
 use plan_pages::Pages;
+use plan_reads::is_flown;
 use std::alloc::Global;
 
 /// By what legs are listed.
@@ -150,15 +150,6 @@ pub(crate) fn is_restorable(inst: &Instance, plan: &Pages, leg: Leg) -> bool
     ensures { result ≡ is_restorable inst.now plan.now leg.0 }
 {
     !inst.fixed(leg) && !is_flown(plan.read_row(leg)) && !inst.ordered_off(leg)
-}
-
-fn is_flown(row: Row) -> bool
-    ensures { result ≡ is_flown row }
-{
-    match row {
-        Row::Flown { .. } => true,
-        Row::Cancelled => false,
-    }
 }
 
 /// Adds a leg to those under a number.

@@ -5,13 +5,13 @@ ghost use Rattle.std.specs.List.{list_all};
 ghost use Rattle.desk_data.specs.Valid.{IsPlanFor};
 ghost use Rattle.near_moves.specs.Near.{move_of, row_in_time, step_in_time, unit_moves};
 ghost use Rattle.near_legs.specs.Choices.{IsLegUnit, unit_of};
-ghost use Rattle.near_legs.specs.Tables.{AreLists};
+ghost use Rattle.near_legs.specs.LegTables.{AreLists};
 
 use crate::choose::choices;
 use crate::steps::steps_of;
-use crate::tables::Tables;
+use crate::tables::LegTables;
 use crate::unit::LegUnit;
-use desk_data::{Instance, List, NoMem, Row};
+use desk_data::{DEPARTURES_END, Instance, List, NoMem, Row};
 use plan_moves::{Move, Step};
 use plan_pages::Pages;
 use std::alloc::Global;
@@ -22,7 +22,7 @@ pub(crate) fn moves_of(
     alloc: Global,
     inst: &Instance,
     plan: &Pages,
-    tables: &Tables,
+    tables: &LegTables,
     unit: LegUnit,
 ) -> Result<Vec<Move>, NoMem>
     requires plan { IsPlanFor inst.now plan.now }
@@ -62,7 +62,7 @@ fn step_in_time(step: &Step) -> bool
 {
     match step {
         Step::Set { was, new, .. } => row_in_time(was) && row_in_time(new),
-        Step::Swap { at, .. } => at.0 < 52_500_000,
+        Step::Swap { at, .. } => at.0 < DEPARTURES_END,
         Step::Push { .. } | Step::Rebook { .. } | Step::Tidy | Step::Refill { .. } => true,
     }
 }
@@ -71,7 +71,7 @@ fn row_in_time(row: &Row) -> bool
     ensures { result ≡ row_in_time row.now }
 {
     match row {
-        Row::Flown { dep, .. } => dep.0 < 52_500_000,
+        Row::Flown { dep, .. } => dep.0 < DEPARTURES_END,
         Row::Cancelled => true,
     }
 }

@@ -5,9 +5,9 @@ ghost use Rattle.desk_data.specs.Situation.{planes_of};
 ghost use Rattle.desk_data.specs.Valid.{IsPlanFor};
 ghost use Rattle.desk_rules.specs.Rotations.{dep};
 ghost use Rattle.near_moves.specs.LegMoves.{exchange_moments};
-ghost use Rattle.near_legs.specs.Tables.{AreLists};
+ghost use Rattle.near_legs.specs.LegTables.{AreLists};
 
-use crate::tables::Tables;
+use crate::tables::LegTables;
 use desk_data::{Instance, Leg, NoMem, Plane};
 use plan_pages::Pages;
 use plan_reads::departure;
@@ -19,7 +19,7 @@ pub(crate) fn moments(
     alloc: Global,
     inst: &Instance,
     plan: &Pages,
-    tables: &Tables,
+    tables: &LegTables,
     first: Plane,
     second: Plane,
 ) -> Result<Vec<u32>, NoMem>

@@ -9,40 +9,40 @@ ghost use Rattle.near_moves.specs.Places.{family_of, flier, is_movable_flown, is
 ghost use Rattle.near_moves.specs.Units.{restored, swapped};
 ghost use Rattle.near_moves.specs.LegMoves.{later_of_family, run_lengths};
 ghost use Rattle.near_legs.specs.Choices.{AreInRange, IsFlownLeg, IsHandedOf, IsLegUnit, unit_of};
-ghost use Rattle.near_legs.specs.Tables.{AreFamilies, AreLists};
+ghost use Rattle.near_legs.specs.LegTables.{AreFamilies, AreLists};
 ghost use Rattle.near_legs.specs.Walk.{handed_of_run, owned, owners};
 
-use crate::family::Family;
 use crate::lists::{is_movable_flown, is_restorable};
+use crate::neighbourhood::Neighbourhood;
 use crate::runs::{is_run, run};
-use crate::tables::Tables;
+use crate::tables::LegTables;
 use crate::unit::LegUnit;
 use desk_data::{Instance, Leg, NoMem, Plane, Row};
 use plan_pages::Pages;
 use std::alloc::Global;
 
-/// The units of an owner in a family, in their order. The only error is out of memory.
+/// The units of an owner of a neighbourhood, in their order. The only error is out of memory.
 pub(crate) fn owned(
     alloc: Global,
     inst: &Instance,
     plan: &Pages,
-    tables: &Tables,
-    family: Family,
+    tables: &LegTables,
+    neighbourhood: Neighbourhood,
     owner: u32,
 ) -> Result<Vec<LegUnit>, NoMem>
     requires plan { IsPlanFor inst.now plan.now }
     requires lists { AreLists inst.now plan.now tables.now }
-    requires owner { owner < owners inst.now family }
-    ensures units { IfOk result (λ units. map unit_of units.items ≡ owned inst.now plan.now family owner) }
+    requires owner { owner < owners inst.now neighbourhood }
+    ensures units { IfOk result (λ units. map unit_of units.items ≡ owned inst.now plan.now neighbourhood owner) }
     ensures sound { IfOk result (λ units. All (IsLegUnit inst.now plan.now) units.items) }
 {
     let leg = Leg(owner);
-    match family {
-        Family::Retimed => one_if_flown(alloc, inst, plan, leg, LegUnit::Retimed { leg }),
-        Family::Swapped => swaps(alloc, inst, tables, Plane(owner)),
-        Family::Dropped => one_if_flown(alloc, inst, plan, leg, LegUnit::Dropped { leg }),
-        Family::Restored => restorings(alloc, inst, plan, tables, leg),
-        Family::Handed => handings(alloc, inst, plan, tables, leg),
+    match neighbourhood {
+        Neighbourhood::Retimed => one_if_flown(alloc, inst, plan, leg, LegUnit::Retimed { leg }),
+        Neighbourhood::Swapped => swaps(alloc, inst, tables, Plane(owner)),
+        Neighbourhood::Dropped => one_if_flown(alloc, inst, plan, leg, LegUnit::Dropped { leg }),
+        Neighbourhood::Restored => restored_by(alloc, inst, plan, tables, leg),
+        Neighbourhood::Handed => handings(alloc, inst, plan, tables, leg),
     }
 }
 
@@ -69,7 +69,7 @@ fn one_if_flown(
 fn swaps(
     alloc: Global,
     inst: &Instance,
-    tables: &Tables,
+    tables: &LegTables,
     plane: Plane,
 ) -> Result<Vec<LegUnit>, NoMem>
     requires families { AreFamilies inst.now tables.now.families }
@@ -100,11 +100,11 @@ fn later_pairs(alloc: Global, plane: Plane, others: &[Plane]) -> Result<Vec<LegU
 }
 
 /// A leg that may be restored is flown by each aircraft of its scheduled aircraft's family.
-fn restorings(
+fn restored_by(
     alloc: Global,
     inst: &Instance,
     plan: &Pages,
-    tables: &Tables,
+    tables: &LegTables,
     leg: Leg,
 ) -> Result<Vec<LegUnit>, NoMem>
     requires plan { IsPlanFor inst.now plan.now }
@@ -135,13 +135,13 @@ fn handings(
     alloc: Global,
     inst: &Instance,
     plan: &Pages,
-    tables: &Tables,
+    tables: &LegTables,
     leg: Leg,
 ) -> Result<Vec<LegUnit>, NoMem>
     requires plan { IsPlanFor inst.now plan.now }
     requires lists { AreLists inst.now plan.now tables.now }
     requires leg { leg.0 < legs_of inst.now }
-    ensures units { IfOk result (λ units. map unit_of units.items ≡ owned inst.now plan.now Family.Handed leg.0) }
+    ensures units { IfOk result (λ units. map unit_of units.items ≡ owned inst.now plan.now Neighbourhood.Handed leg.0) }
     ensures sound { IfOk result (λ units. All (IsLegUnit inst.now plan.now) units.items) }
 {
     if !is_movable_flown(inst, plan, leg) {
@@ -155,7 +155,7 @@ fn handed_runs(
     alloc: Global,
     inst: &Instance,
     plan: &Pages,
-    tables: &Tables,
+    tables: &LegTables,
     leg: Leg,
 ) -> Result<Vec<LegUnit>, NoMem>
     requires plan { IsPlanFor inst.now plan.now }

@@ -7,9 +7,9 @@ ghost use Rattle.desk_data.specs.Valid.{IsPlanFor};
 ghost use Rattle.near_moves.specs.LegMoves.{comes_round};
 ghost use Rattle.near_moves.specs.Places.{is_run, run};
 ghost use Rattle.near_legs.specs.Choices.{IsFlownLeg};
-ghost use Rattle.near_legs.specs.Tables.{AreLists};
+ghost use Rattle.near_legs.specs.LegTables.{AreLists};
 
-use crate::tables::Tables;
+use crate::tables::LegTables;
 use desk_data::{Instance, Leg, NoMem};
 use plan_pages::Pages;
 use std::alloc::Global;
@@ -19,7 +19,7 @@ pub(crate) fn run(
     alloc: Global,
     inst: &Instance,
     plan: &Pages,
-    tables: &Tables,
+    tables: &LegTables,
     leg: Leg,
     count: u32,
 ) -> Result<Vec<Leg>, NoMem>
@@ -66,7 +66,7 @@ fn are_movable(inst: &Instance, legs: &[Leg]) -> bool
 pub(crate) fn comes_round(
     inst: &Instance,
     plan: &Pages,
-    tables: &Tables,
+    tables: &LegTables,
     leg: Leg,
     legs: &[Leg],
     count: u32,

@@ -6,11 +6,11 @@ ghost use Rattle.desk_data.specs.Valid.{IsPlanFor};
 ghost use Rattle.near_moves.specs.LegMoves.{back_departure, dropping, exchange, handing, restoring_alone, restoring_both, retiming};
 ghost use Rattle.near_moves.specs.Places.{flier};
 ghost use Rattle.near_legs.specs.Choices.{IsChoice, IsFlownLeg, run_step, steps_of};
-ghost use Rattle.near_legs.specs.Tables.{AreLists};
+ghost use Rattle.near_legs.specs.LegTables.{AreLists};
 
 use crate::choice::Choice;
 use crate::runs::run;
-use crate::tables::Tables;
+use crate::tables::LegTables;
 use desk_data::{Instance, Leg, Minute, NoMem, Plane, Row};
 use plan_moves::Step;
 use plan_pages::Pages;
@@ -22,7 +22,7 @@ pub(crate) fn steps_of(
     alloc: Global,
     inst: &Instance,
     plan: &Pages,
-    tables: &Tables,
+    tables: &LegTables,
     choice: Choice,
 ) -> Result<Vec<Step>, NoMem>
     requires plan { IsPlanFor inst.now plan.now }
@@ -73,7 +73,7 @@ fn dropping(
     alloc: Global,
     inst: &Instance,
     plan: &Pages,
-    tables: &Tables,
+    tables: &LegTables,
     leg: Leg,
     count: u32,
 ) -> Result<Vec<Step>, NoMem>
@@ -153,7 +153,7 @@ fn handing(
     alloc: Global,
     inst: &Instance,
     plan: &Pages,
-    tables: &Tables,
+    tables: &LegTables,
     leg: Leg,
     count: u32,
     plane: Plane,

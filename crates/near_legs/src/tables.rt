@@ -2,7 +2,7 @@
 
 ghost use Rattle.std.specs.Prelude.{◌≡◌, ◌<◌, None, [], IfOk, length, slice_index_or};
 ghost use Rattle.desk_data.specs.Valid.{IsPlanFor};
-ghost use Rattle.near_legs.specs.Tables.{AreLists, pair_number};
+ghost use Rattle.near_legs.specs.LegTables.{AreLists, pair_number};
 
 use crate::behind::legs_behind;
 use crate::families::families;
@@ -13,26 +13,37 @@ use std::alloc::Global;
 use std::marker::Model;
 
 /// What is looked up again and again, of a plan.
-#[derive(Drop)]
-pub(crate) struct Tables {
+pub(crate) struct LegTables {
     behind: Vec<Option<Leg>>,
     families: Vec<Vec<Plane>>,
     flown: Vec<Vec<Leg>>,
     cancelled: Vec<Vec<Leg>>,
 }
 
-impl Model for Tables {
+/// Taken apart in one place, so that whoever lets go of tables does not do it part by part.
+impl Drop for LegTables {
+    fn drop(self) {
+        let LegTables {
+            behind: _,
+            families: _,
+            flown: _,
+            cancelled: _,
+        } = self;
+    }
+}
+
+impl Model for LegTables {
     ghost use Rattle.std.specs.Prelude.{map};
-    ghost use Rattle.near_legs.specs.Tables.{Lists};
+    ghost use Rattle.near_legs.specs.LegTables.{Lists};
 
     ghost Value = { Lists };
 
     ghost view = { λ t. record { behind = t.behind.items; families = map (λ l. l.items) t.families.items; flown = map (λ l. l.items) t.flown.items; cancelled = map (λ l. l.items) t.cancelled.items } };
 }
 
-impl Tables {
+impl LegTables {
     /// Those of a plan. The only error is out of memory.
-    pub(crate) fn of(alloc: Global, inst: &Instance, plan: &Pages) -> Result<Tables, NoMem>
+    pub(crate) fn of(alloc: Global, inst: &Instance, plan: &Pages) -> Result<LegTables, NoMem>
         requires { IsPlanFor inst.now plan.now }
         ensures { IfOk result (AreLists inst.now plan.now) }
     {
@@ -40,7 +51,7 @@ impl Tables {
         let families = families(alloc, inst)?;
         let flown = lists(alloc, inst, plan, By::Aircraft)?;
         let cancelled = lists(alloc, inst, plan, By::AirportPair)?;
-        Ok(Tables {
+        Ok(LegTables {
             behind,
             families,
             flown,

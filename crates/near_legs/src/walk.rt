@@ -4,12 +4,12 @@ ghost use Rattle.std.specs.Prelude.{◌≡◌, ◌<◌, ◌≤◌, ◌↔◌, �
 ghost use Rattle.desk_data.specs.Valid.{IsPlanFor};
 ghost use Rattle.near_moves.specs.Near.{leg_units, of_shard, unit_moves};
 ghost use Rattle.near_legs.specs.Choices.{IsLegUnit, unit_of};
-ghost use Rattle.near_legs.specs.Walk.{IsNextUnit, IsUnitWalk, at_next_family, is_at_end, owned_in, owners, places_left, units_left};
+ghost use Rattle.near_legs.specs.Walk.{IsNextUnit, IsUnitWalk, at_next_neighbourhood, is_at_end, owned_in, owners, places_left, units_left};
 
-use crate::family::Family;
 use crate::made::moves_of;
+use crate::neighbourhood::Neighbourhood;
 use crate::own::owned;
-use crate::tables::Tables;
+use crate::tables::LegTables;
 use crate::unit::LegUnit;
 use desk_data::{Instance, NoMem};
 use plan_moves::Move;
@@ -18,15 +18,15 @@ use std::alloc::Global;
 use std::marker::Model;
 
 /// A walk over the units of legs and aircraft near a plan, in one shard of them. It holds the units of one
-/// owner, an aircraft or a leg. Contracts see it as what it has worked out of the plan, the shard, the family
+/// owner, an aircraft or a leg. Contracts see it as what it has worked out of the plan, the shard, the neighbourhood
 /// and the owner that come next, and the units at hand. The instance and the plan stay the same as long as
 /// one walks.
 #[derive(Drop)]
 pub struct LegUnits {
-    tables: Tables,
+    tables: LegTables,
     shard: u32,
     shards: u32,
-    family: Family,
+    neighbourhood: Neighbourhood,
     /// The next owner.
     owner: u32,
     /// The units of the owner before it that are still to be given, the last first.
@@ -39,7 +39,7 @@ impl Model for LegUnits {
 
     ghost Value = { UnitWalk };
 
-    ghost view = { λ u. record { lists = u.tables; shard = u.shard; shards = u.shards; family = u.family; owner = u.owner; at_hand = reverse u.at_hand.items } };
+    ghost view = { λ u. record { lists = u.tables; shard = u.shard; shards = u.shards; neighbourhood = u.neighbourhood; owner = u.owner; at_hand = reverse u.at_hand.items } };
 }
 
 impl LegUnits {
@@ -57,12 +57,12 @@ impl LegUnits {
         ensures walk { IfOk result (IsUnitWalk inst.now plan.now) }
         ensures left { IfOk result (λ units. units_left inst.now plan.now units ≡ of_shard shard shards (leg_units inst.now plan.now)) }
     {
-        let tables = Tables::of(alloc, inst, plan)?;
+        let tables = LegTables::of(alloc, inst, plan)?;
         Ok(LegUnits {
             tables,
             shard,
             shards,
-            family: Family::Retimed,
+            neighbourhood: Neighbourhood::Retimed,
             owner: 0,
             at_hand: Vec::new(alloc),
         })
@@ -148,18 +148,18 @@ impl LegUnits {
     fn is_at_end(&self, inst: &Instance) -> bool
         ensures { result ≡ is_at_end inst.now self.now }
     {
-        self.is_behind_owners(inst) && self.family.next().is_none()
+        self.is_behind_owners(inst) && self.neighbourhood.next().is_none()
     }
 
-    /// Whether no owner of the family is left.
+    /// Whether no owner of the neighbourhood is left.
     fn is_behind_owners(&self, inst: &Instance) -> bool
-        ensures behind { result ≡ nat_le (owners inst.now self.now.family) self.now.owner }
-        ensures limit { owners inst.now self.now.family ≤ 20000 }
+        ensures behind { result ≡ nat_le (owners inst.now self.now.neighbourhood) self.now.owner }
+        ensures limit { owners inst.now self.now.neighbourhood ≤ 20000 }
     {
-        self.family.owners(inst) <= self.owner
+        self.neighbourhood.owners(inst) <= self.owner
     }
 
-    /// Goes on to the next family, or takes the units of the next owner. No unit is at hand.
+    /// Goes on to the next neighbourhood, or takes the units of the next owner. No unit is at hand.
     fn take_owner(&mut self, alloc: Global, inst: &Instance, plan: &Pages) -> Result<(), NoMem>
         requires plan { IsPlanFor inst.now plan.now }
         requires walk { IsUnitWalk inst.now plan.now self.old }
@@ -170,7 +170,7 @@ impl LegUnits {
         ensures nearer { OnOk result (places_left self.new < places_left self.old) }
     {
         if self.is_behind_owners(inst) {
-            self.take_family();
+            self.take_neighbourhood();
             return Ok(());
         }
         let mut units = self.owned(alloc, inst, plan)?;
@@ -180,12 +180,12 @@ impl LegUnits {
         Ok(())
     }
 
-    /// Goes on to the first owner of the next family, if there is one.
-    fn take_family(&mut self)
-        ensures { self.new ≡ at_next_family self.old }
+    /// Goes on to the first owner of the next neighbourhood, if there is one.
+    fn take_neighbourhood(&mut self)
+        ensures { self.new ≡ at_next_neighbourhood self.old }
     {
-        if let Some(family) = self.family.next() {
-            self.family = family;
+        if let Some(neighbourhood) = self.neighbourhood.next() {
+            self.neighbourhood = neighbourhood;
             self.owner = 0;
         }
     }
@@ -194,13 +194,20 @@ impl LegUnits {
     fn owned(&self, alloc: Global, inst: &Instance, plan: &Pages) -> Result<Vec<LegUnit>, NoMem>
         requires plan { IsPlanFor inst.now plan.now }
         requires walk { IsUnitWalk inst.now plan.now self.now }
-        requires owner { self.now.owner < owners inst.now self.now.family }
-        ensures units { IfOk result (λ units. map unit_of units.items ≡ owned_in inst.now plan.now self.now.shard self.now.shards self.now.family self.now.owner) }
+        requires owner { self.now.owner < owners inst.now self.now.neighbourhood }
+        ensures units { IfOk result (λ units. map unit_of units.items ≡ owned_in inst.now plan.now self.now.shard self.now.shards self.now.neighbourhood self.now.owner) }
         ensures sound { IfOk result (λ units. All (IsLegUnit inst.now plan.now) units.items) }
     {
         if self.owner % self.shards != self.shard {
             return Ok(Vec::new(alloc));
         }
-        owned(alloc, inst, plan, &self.tables, self.family, self.owner)
+        owned(
+            alloc,
+            inst,
+            plan,
+            &self.tables,
+            self.neighbourhood,
+            self.owner,
+        )
     }
 }

@@ -17,7 +17,7 @@ use Rattle.desk_rules.specs.Numbers.{numbers}
 use Rattle.desk_model.proofs.PathOrder.{pairs_nil}
 use Rattle.near_moves.specs.Routes.{routes}
 use Rattle.near_moves.specs.PassengerMoves.{aims, portions}
-use Rattle.near_moves.specs.FamilyWords.{IsPortion, IsAim}
+use Rattle.near_moves.specs.NeighbourhoodWords.{IsPortion, IsAim}
 use Rattle.near_moves.proofs.ListLaws.{contains_cases, contains_head, contains_tail, contains_none, contains_filter, filter_contains, All_from_contains}
 use Rattle.near_moves.proofs.RouteLaws.{has-routes, routes-has}
 

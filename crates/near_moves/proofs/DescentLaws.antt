@@ -1,10 +1,10 @@
 -- What a proposal that is found is, and what descents make of histories.
 use Rattle.std.proofs.Common.{◌≡◌, ℕ, zero, suc, ◌+◌, ◌<◌, ◌≤◌, ◌⊎◌, inl, inr, Bool, true, false, cond, leb, ltb, List, [], ◌∷◌, ◌++◌, length, refl, sym, ap, subst, ◌∙◌, arith, append_assoc, length-append}
-use Rattle.std.specs.Prelude.{Option, None, Some, not, ◌&&◌, is_none, filter, slice_get, count_by, take_while, reverse}
+use Rattle.std.specs.Prelude.{Option, None, Some, not, ◌&&◌, is_none, filter, slice_get, count_by}
 use Rattle.std.specs.List.{find, AllByRecursion}
 use Rattle.std.proofs.lemmas.Bool.{cases_Bool, leb-true, leb-false, le-leb, lt-ltb, le-ltb, or_parts, or_left, true≢false}
-use Rattle.std.proofs.lemmas.List.{append-nil, reverse-append}
-use Rattle.std.proofs.lemmas.List.Sums.{sum_by-cons, take_while-cons}
+use Rattle.std.proofs.lemmas.List.{append-nil}
+use Rattle.std.proofs.lemmas.List.Sums.{sum_by-cons}
 use Rattle.day_orders.specs.declared.orders.Batch.{Batch}
 use Rattle.plan_moves.specs.declared.moves.Move.{Move}
 use Rattle.desk_data.specs.declared.broken.Broken.{Broken}
@@ -14,9 +14,9 @@ use Rattle.desk_model.specs.declared.answer.Event.TheVariants as event
 use Rattle.desk_model.specs.declared.answer.Entry.{Entry}
 use Rattle.desk_model.specs.Steps.{after_move}
 use Rattle.desk_model.specs.States.{State, verdict, move_answer, answer}
-use Rattle.desk_model.specs.Histories.{state, proposal_limit, is_batch, is_accepted, since_batch, accepted_since_batch, entry_of}
+use Rattle.desk_model.specs.Histories.{state, proposal_limit, is_accepted, since_batch, accepted_since_batch, entry_of}
 use Rattle.desk_model.proofs.StateLaws.{accepted-told, after-accepted}
-use Rattle.desk_model.proofs.HistoryLaws.{state-append}
+use Rattle.desk_model.proofs.HistoryLaws.{state-append, since_is}
 use Rattle.near_moves.specs.Near.{near}
 use Rattle.near_moves.specs.Descent.{is_better, IsQuiet, is_spent, next_proposal, with_proposal, descent_of, descent}
 use Rattle.near_moves.specs.Descents.{IsDescentStep, AllAlong, Descends}
@@ -177,11 +177,6 @@ step-state most S h m next =
     state-append S h (step_entry S h m ∷ []) ∙ after-accepted T m told.0 told.1
 
 -- one more was accepted
-since_is : (h : List Entry) (entry : Entry) → since_batch (h ++ entry ∷ []) ≡ cond (not (is_batch entry.event)) (entry ∷ since_batch h) []
-since_is h entry =
-    ap (take_while (λ (e : Entry). not (is_batch e.event))) (reverse-append h (entry ∷ []))
-    ∙ take_while-cons (λ (e : Entry). not (is_batch e.event)) entry (reverse h)
-
 pub step-since : (most : ℕ) (S : State) (h : List Entry) (m : Move) → IsNext most S h m → accepted_since_batch (h ++ step_entry S h m ∷ []) ≡ accepted_since_batch h + 1
 step-since most S h m next =
     let entry = step_entry S h m in

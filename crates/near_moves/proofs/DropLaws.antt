@@ -1,10 +1,10 @@
 -- Which legs are dropped together.
-use Rattle.std.proofs.Common.{◌≡◌, ℕ, zero, suc, ◌-◌, ◌<◌, ◌≤◌, ◌⊎◌, inl, inr, Bool, true, ◌||◌, eqb, List, length, get_or, map, refl, sym, ap, subst, ◌∙◌, arith}
+use Rattle.std.proofs.Common.{◌≡◌, ℕ, ◌-◌, ◌<◌, ◌≤◌, ◌⊎◌, inl, inr, Bool, true, ◌||◌, eqb, List, length, get_or, map, sym, ap, subst, ◌∙◌, arith}
 use Rattle.std.specs.Prelude.{Some, filter, slice_get}
 use Rattle.std.specs.List.{Contains}
 use Rattle.std.proofs.lemmas.Bool.{and_parts, and_from, eq-eqb, eqb-true}
 use Rattle.std.proofs.lemmas.List.{length-take, get_or-take, get_or_default}
-use Rattle.std.proofs.lemmas.List.Elements.{All-contains, All-from_recursion, Contains-get_or}
+use Rattle.std.proofs.lemmas.List.Elements.{Contains-get_or}
 use Rattle.std.proofs.lemmas.Option.{slice_get-get_or, get_or_from_slice_get}
 use Rattle.desk_data.specs.Situation.{Situation, legs_of, leg_at}
 use Rattle.desk_data.specs.PlanRows.{PlanRows}
@@ -17,21 +17,7 @@ use Rattle.near_moves.specs.Words.{IsFrom}
 use Rattle.near_moves.specs.DropWords.{IsLastLeg, DropsRun, IsDropping}
 use Rattle.near_moves.proofs.ListLaws.{contains_filter, filter_contains, contains_map, map_contains}
 use Rattle.near_moves.proofs.FromLaws.{or_cases, or_left, or_right, from-holds, from-each, from-ordered, run-holds, run-from}
-
--- ---- how long a run may be
-
-lengths-limits : (k : ℕ) → Contains run_lengths k → (1 ≤ k) × (k ≤ 4)
-lengths-limits k has =
-    All-contains (λ n. (1 ≤ n) × (n ≤ 4)) run_lengths k
-    (All-from_recursion (λ (n : ℕ). (1 ≤ n) × (n ≤ 4)) run_lengths ((omega arith, omega arith), ((omega arith, omega arith), ((omega arith, omega arith), ((omega arith, omega arith), tt))))) has
-
-lengths-all : (k : ℕ) → 1 ≤ k → k ≤ 4 → Contains run_lengths k
-lengths-all zero some most = absurd (omega (arith, some))
-lengths-all (suc zero) some most = (0, (let lt : 0 < length run_lengths = omega arith in lt), refl)
-lengths-all (suc (suc zero)) some most = (1, (let lt : 1 < length run_lengths = omega arith in lt), refl)
-lengths-all (suc (suc (suc zero))) some most = (2, (let lt : 2 < length run_lengths = omega arith in lt), refl)
-lengths-all (suc (suc (suc (suc zero)))) some most = (3, (let lt : 3 < length run_lengths = omega arith in lt), refl)
-lengths-all (suc (suc (suc (suc (suc k))))) some most = absurd (omega (arith, most))
+use Rattle.near_moves.proofs.UnitLaws.{lengths_hold, lengths_each}
 
 -- ---- the last leg of a run
 
@@ -123,11 +109,11 @@ round-from I P x k is =
 pub runs-hold : (I : Situation) (P : PlanRows) (x k : ℕ) → Contains (filter (comes_round I P x) run_lengths) k → DropsRun I P x k
 runs-hold I P x k has =
     let parts = filter_contains (comes_round I P x) run_lengths k has in
-    let limits = lengths-limits k parts.0 in
+    let limits = lengths_hold k parts.0 in
     round-holds I P x k limits.0 limits.1 parts.1
 
 pub runs-each : (I : Situation) (P : PlanRows) (x k : ℕ) → DropsRun I P x k → Contains (filter (comes_round I P x) run_lengths) k
-runs-each I P x k is = contains_filter (comes_round I P x) run_lengths k (lengths-all k is.some is.most) (round-from I P x k is)
+runs-each I P x k is = contains_filter (comes_round I P x) run_lengths k (lengths_each k is.some is.most) (round-from I P x k is)
 
 pub drops-hold : (I : Situation) (P : PlanRows) (x : ℕ) (steps : List Step) → Contains (droppings I P x) steps → IsDropping I P x steps
 unfolding droppings

@@ -16,7 +16,7 @@ use Rattle.near_moves.specs.Units.{Unit_, retimed, dropped, restored, rebooked}
 use Rattle.near_moves.specs.LegMoves.{retimed_units, swapped_units, dropped_units, restored_units, handed_units}
 use Rattle.near_moves.specs.PassengerMoves.{rebooked_units}
 use Rattle.near_moves.specs.Near.{leg_units, units}
-use Rattle.near_moves.specs.FamilyWords.{IsMovableLeg, MayFlyAgain, HasPassengers, IsUnit, retimes, swaps, drops, restores, hands, rebooks}
+use Rattle.near_moves.specs.NeighbourhoodWords.{IsMovableLeg, MayFlyAgain, HasPassengers, IsUnit, retimes, swaps, drops, restores, hands, rebooks}
 use Rattle.near_moves.proofs.ListLaws.{contains_filter, filter_contains, contains_map, map_contains, contains_flat_map, flat_map_contains, numbers_each, numbers_within}
 use Rattle.near_moves.proofs.UnitLaws.{family-holds, family-each, swaps-hold, swaps-each, hands-hold, hands-each, row_flown}
 

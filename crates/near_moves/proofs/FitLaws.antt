@@ -23,7 +23,7 @@ use Rattle.near_moves.specs.Near.{unit_steps, unit_moves, move_of, row_in_time, 
 use Rattle.std.proofs.lemmas.List.Sums.{AllPass-from_list_all}
 use Rattle.near_moves.proofs.ListLaws.{All_from_contains, for_none, for_some, numbers_below}
 use Rattle.near_moves.proofs.FromLaws.{from-holds}
-use Rattle.near_moves.proofs.MomentLaws.{row_of_plan}
+use Rattle.desk_model.proofs.ValidLaws.{row_of_plan}
 
 -- ---- what fits once its departures are in time
 
@@ -99,7 +99,7 @@ run-within I P x k = All-take (λ y. y < legs_of I) k (legs_from I P x) (All_fro
 run-short : (I : Situation) (P : PlanRows) (x k : ℕ) → length (run I P x k) ≤ k
 run-short I P x k = omega (arith, length-take k (legs_from I P x))
 
--- ---- family by family
+-- ---- neighbourhood by neighbourhood
 
 retiming-range : (I : Situation) (P : PlanRows) (x t : ℕ) → x < legs_of I → IsPlanFor I P → is_flown (row_at P x) ≡ true → AreInRange I (retiming P x t)
 retiming-range I P x t within plan flown =

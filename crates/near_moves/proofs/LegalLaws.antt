@@ -11,14 +11,14 @@ use Rattle.plan_moves.specs.declared.moves.Move.{Move}
 use Rattle.plan_moves.specs.Fits.{Fits}
 use Rattle.desk_data.specs.Situation.{Situation}
 use Rattle.desk_data.specs.PlanRows.{PlanRows}
-use Rattle.desk_data.specs.Valid.{IsOrder, IsValid, IsPlanFor}
+use Rattle.desk_data.specs.Valid.{IsBatch, IsValid, IsPlanFor}
 use Rattle.desk_model.specs.declared.answer.Event.TheVariants as event
 use Rattle.desk_model.specs.declared.answer.Entry.{Entry}
 use Rattle.desk_model.specs.States.{opening}
 use Rattle.desk_model.specs.Histories.{state, proposal_limit, batch_limit, Stands, IsLegal, entry_of}
-use Rattle.desk_model.specs.News.{HasPlanRows}
+use Rattle.desk_model.specs.Batches.{HasPlanRows}
 use Rattle.desk_model.proofs.HistoryLaws.{legal-append, legal-nil}
-use Rattle.desk_model.proofs.NewsLaws.{plans_of_history, askable_along}
+use Rattle.desk_model.proofs.StatePlans.{plans_of_history, askable_along}
 use Rattle.near_moves.specs.PassengerMoves.{rebooked_units}
 use Rattle.near_moves.specs.Near.{leg_units, units, unit_moves, moves_of, near}
 use Rattle.near_moves.specs.Descent.{is_better, next_proposal, with_proposal, descent_of, descent, recovery_behind, recovery}
@@ -69,30 +69,26 @@ descent_legal (suc n) most I h valid legal =
 pub descent-legal : (most : ℕ) (I : Situation) (h : List Entry) → IsValid I → IsLegal (opening I) h → IsLegal (opening I) (descent most (opening I) h)
 descent-legal most I h valid legal = descent_legal most most I h valid legal
 
--- the orders of a batch can be taken by an instance
-abbrev pub AreOrders : Situation → Batch → Type 0
-AreOrders I B = All (IsOrder I.parts) B.orders
-
-batch_legal : (I : Situation) (h : List Entry) (B : Batch) → length h < batch_limit → AreOrders I B → IsLegal (opening I) h → IsLegal (opening I) (h ++ entry_of (state (opening I) h) 0 (event.Batch B) ∷ [])
-batch_legal I h B few orders legal =
+batch_legal : (I : Situation) (h : List Entry) (B : Batch) → length h < batch_limit → IsBatch I.parts B → IsLegal (opening I) h → IsLegal (opening I) (h ++ entry_of (state (opening I) h) 0 (event.Batch B) ∷ [])
+batch_legal I h B few batch legal =
     let entry = entry_of (state (opening I) h) 0 (event.Batch B) in
     let stands : Stands (opening I) h entry = record {
       room = lt-ltb (length h) batch_limit few;
-      asked = (askable_along I h (event.Batch B)).1 orders;
+      asked = (askable_along I h (event.Batch B)).1 batch;
       told = refl;
     } in
     legal-append (opening I) h entry legal stands
 
-recovery_legal : (most b : ℕ) (I : Situation) (h : List Entry) (batches : List Batch) → IsValid I → AllByRecursion (AreOrders I) batches → IsLegal (opening I) h → length h ≤ b → proposal_limit ≤ b → b + length batches ≤ batch_limit → IsLegal (opening I) (recovery_behind most (opening I) h batches)
+recovery_legal : (most b : ℕ) (I : Situation) (h : List Entry) (batches : List Batch) → IsValid I → AllByRecursion (IsBatch I.parts) batches → IsLegal (opening I) h → length h ≤ b → proposal_limit ≤ b → b + length batches ≤ batch_limit → IsLegal (opening I) (recovery_behind most (opening I) h batches)
 unfolding recovery_behind
-recovery_legal most b I h [] valid orders legal le limit room = legal
-recovery_legal most b I h (B ∷ batches) valid orders legal le limit room =
+recovery_legal most b I h [] valid taken legal le limit room = legal
+recovery_legal most b I h (B ∷ batches) valid taken legal le limit room =
     let g = h ++ entry_of (state (opening I) h) 0 (event.Batch B) ∷ [] in
     let one = length-append h (entry_of (state (opening I) h) 0 (event.Batch B) ∷ []) in
-    let more = batch_legal I h B (omega (arith, le, room)) orders.0 legal in
+    let more = batch_legal I h B (omega (arith, le, room)) taken.0 legal in
     let long = descent-length most most (b + 1) (opening I) g (omega (arith, one, le)) (omega (arith, limit)) in
-    recovery_legal most (b + 1) I (descent most (opening I) g) batches valid orders.1 (descent-legal most I g valid more) long (omega (arith, limit)) (omega (arith, room))
+    recovery_legal most (b + 1) I (descent most (opening I) g) batches valid taken.1 (descent-legal most I g valid more) long (omega (arith, limit)) (omega (arith, room))
 
-pub recovery-legal : (most : ℕ) (I : Situation) (batches : List Batch) → IsValid I → All (AreOrders I) batches → length batches ≤ 100000 → IsLegal (opening I) (recovery most (opening I) batches)
-recovery-legal most I batches valid orders few =
-    recovery_legal most 900000 I [] batches valid (recursion_from_All (AreOrders I) batches orders) (legal-nil (opening I)) (omega arith) (omega arith) (omega arith)
+pub recovery-legal : (most : ℕ) (I : Situation) (batches : List Batch) → IsValid I → All (IsBatch I.parts) batches → length batches ≤ 100000 → IsLegal (opening I) (recovery most (opening I) batches)
+recovery-legal most I batches valid taken few =
+    recovery_legal most 900000 I [] batches valid (recursion_from_All (IsBatch I.parts) batches taken) (legal-nil (opening I)) (omega arith) (omega arith) (omega arith)

@@ -1,12 +1,10 @@
 -- The moments from which on two aircraft exchange their legs.
-use Rattle.std.proofs.Common.{◌≡◌, ℕ, ◌<◌, ◌⊎◌, inl, inr, true, ◌&&◌, ◌||◌, not, eqb, refl, sym, ap, subst, arith}
+use Rattle.std.proofs.Common.{◌≡◌, ℕ, ◌<◌, ◌⊎◌, inl, inr, true, ◌&&◌, ◌||◌, not, eqb, refl, sym, ap, subst}
 use Rattle.std.specs.List.{AllPairs, Contains}
 use Rattle.std.proofs.lemmas.Bool.{and_parts, and_from, eq-eqb, eqb-true, not-true}
-use Rattle.std.proofs.lemmas.List.Elements.{All-get_or}
 use Rattle.std.proofs.lemmas.List.Kept.{AllPairs-filter}
-use Rattle.desk_data.specs.declared.row.Row.TheVariants.{Cancelled}
 use Rattle.desk_data.specs.Situation.{Situation, legs_of, planes_of, fixed}
-use Rattle.desk_data.specs.PlanRows.{PlanRows, row_at}
+use Rattle.desk_data.specs.PlanRows.{PlanRows}
 use Rattle.desk_data.specs.Valid.{IsRowOf, IsPlanFor}
 use Rattle.desk_rules.specs.Numbers.{numbers}
 use Rattle.desk_rules.specs.Rotations.{dep}
@@ -17,13 +15,11 @@ use Rattle.near_moves.specs.LegMoves.{departs_at, departures_end, exchange_momen
 use Rattle.near_moves.specs.Words.{DepartsOneAt}
 use Rattle.near_moves.proofs.ListLaws.{contains_filter, filter_contains, any_holds, any_from, numbers_each, numbers_within, numbers_ordered}
 use Rattle.near_moves.proofs.FromLaws.{or_cases, or_left, or_right}
+use Rattle.desk_model.proofs.ValidLaws.{row_of_plan}
 
 pub departures_end-is : departures_end ≡ 52500000
 unfolding departures_end
 departures_end-is = refl
-
-pub row_of_plan : (I : Situation) (P : PlanRows) (x : ℕ) → x < legs_of I → IsPlanFor I P → IsRowOf (planes_of I) (row_at P x)
-row_of_plan I P x within plan = All-get_or (IsRowOf (planes_of I)) P.rows x Cancelled (let legs = plan.legs in omega (arith, legs, within)) plan.rows
 
 -- the aircraft and the departure of a leg that is flown are in range
 pub flown_in_range : (I : Situation) (P : PlanRows) (x p d : ℕ) → x < legs_of I → IsPlanFor I P → Flies P x p d → (p < planes_of I) × (d < 52500000)

@@ -14,14 +14,14 @@ use Rattle.desk_units.specs.declared.numbers.Res.{Res}
 use Rattle.desk_data.specs.declared.row.Group.{Group}
 use Rattle.desk_data.specs.Situation.{Situation, legs_of, reservations_of, res_at, no_res, begun}
 use Rattle.desk_data.specs.Booked.{booked_path}
-use Rattle.desk_data.specs.PlanRows.{PlanRows, groups_at, path_cmp, AreGroups, IsGroup}
+use Rattle.desk_data.specs.PlanRows.{PlanRows, groups_at, path_cmp, AreGroups, IsGroup, same_path}
 use Rattle.desk_data.specs.Valid.{IsValid, IsPlanFor, IsPathOf, IsReservation}
 use Rattle.desk_rules.specs.Numbers.{numbers}
 use Rattle.plan_moves.specs.declared.moves.Step.{Step}
 use Rattle.plan_moves.specs.declared.moves.Step.TheVariants.{Rebook}
 use Rattle.plan_moves.specs.declared.moves.Move.{Move}
 use Rattle.plan_moves.specs.Fits.{Fits, StepFits, IsPathIn}
-use Rattle.desk_model.specs.Rebook.{count_on, same_path}
+use Rattle.desk_model.specs.Rebook.{count_on}
 use Rattle.desk_model.proofs.PathOrder.{pairs_head, pairs_tail, path_before}
 use Rattle.near_moves.specs.Units.{Unit_, rebooked}
 use Rattle.near_moves.specs.Places.{leg}

@@ -12,11 +12,10 @@ use Rattle.desk_units.specs.declared.numbers.Cabin.TheVariants as cabin
 use Rattle.desk_units.specs.Ranks.{cabin_rank}
 use Rattle.desk_data.specs.Situation.{Situation, legs_of}
 use Rattle.desk_data.specs.Booked.{booked_path}
-use Rattle.desk_data.specs.PlanRows.{PlanRows, path_cmp}
+use Rattle.desk_data.specs.PlanRows.{PlanRows, path_cmp, same_path}
 use Rattle.desk_rules.specs.Numbers.{numbers}
-use Rattle.desk_rules.specs.Passengers.{is_carried}
-use Rattle.desk_rules.proofs.CarriageLaws.{same_pair-Decides}
-use Rattle.desk_model.specs.Rebook.{same_path}
+use Rattle.desk_data.specs.Paths.{is_carried}
+use Rattle.desk_data.proofs.BoundLaws.{rank-same}
 use Rattle.desk_model.specs.Tidy.{is_fit_path}
 use Rattle.std.specs.Ordering.{is_eq}
 use Rattle.desk_model.proofs.PathOrder.{path_same, path_itself, is_eq-holds}
@@ -179,11 +178,6 @@ record IsDouble (I : Situation) (path : List (Leg × Cabin)) : Type 0 where
   one_cabin : first.1 ≡ second.1
   is : path ≡ first ∷ second ∷ []
 
-same_cabin : (a b : Cabin) → cabin_rank a ≡ cabin_rank b → a ≡ b
-same_cabin a b h =
-    ap (λ (z : Leg × Cabin). z.1)
-    ((same_pair-Decides (leg 0, a) (leg 0, b)).0 (and_from (eqb 0 0) (eqb (cabin_rank a) (cabin_rank b)) refl (eq-eqb (cabin_rank a) (cabin_rank b) h)))
-
 has-doubles_from : (I : Situation) (a : Leg × Cabin) (path : List (Leg × Cabin)) → Contains (doubles_from I a) path → (b : Leg × Cabin) × Contains (all_pairs I) b × (cabin_rank a.1 ≡ cabin_rank b.1) × (path ≡ a ∷ b ∷ [])
 has-doubles_from I a path has =
     let at = map_contains (double a) (filter (in_cabin_of a) (all_pairs I)) path has in
@@ -199,7 +193,7 @@ has-doubles I path has =
       second = second.0;
       among = first.there;
       within = second.1;
-      one_cabin = same_cabin first.from.1 second.0.1 second.2;
+      one_cabin = rank-same first.from.1 second.0.1 second.2;
       is = second.3;
     }
 

@@ -8,7 +8,7 @@ use Rattle.desk_units.specs.declared.numbers.Leg.{Leg}
 use Rattle.desk_units.specs.declared.numbers.Cabin.{Cabin}
 use Rattle.desk_data.specs.declared.row.Row.{Row}
 use Rattle.desk_data.specs.Situation.{Situation, legs_of, leg_at, earliest, fixed, ordered_off}
-use Rattle.desk_data.specs.PlanRows.{PlanRows, row_at, groups_at}
+use Rattle.desk_data.specs.PlanRows.{PlanRows, row_at, groups_at, same_path}
 use Rattle.desk_data.specs.Valid.{IsPlanFor}
 use Rattle.plan_moves.specs.declared.moves.Step.{Step}
 use Rattle.plan_moves.specs.declared.moves.Step.TheVariants.{Set, Push, Tidy, Refill}
@@ -17,7 +17,7 @@ use Rattle.desk_rules.specs.Rotations.{dep}
 use Rattle.desk_rules.specs.Words.{Flies}
 use Rattle.desk_rules.specs.Passengers.{is_flown}
 use Rattle.desk_rules.proofs.MaintenanceLaws.{dep-is}
-use Rattle.desk_model.specs.Rebook.{count_on, same_path}
+use Rattle.desk_model.specs.Rebook.{count_on}
 use Rattle.desk_model.proofs.RotationOrder.{flown_once}
 use Rattle.near_moves.specs.Places.{leg, plane, flier, flown_row, is_restorable, legs_from, run}
 use Rattle.near_moves.specs.LegMoves.{other_departures, retiming, retimings, exchange_moments, exchange, exchanges, handing_step, handing, restoring_alone, restoring_both, brings_back, restorings}

@@ -133,7 +133,7 @@ pub row_flown : (row : Row) → is_flown row ≡ true → IsRowFlown row
 row_flown (Flown plane dep) h = record { plane = plane.0; dep = dep.0; is = refl }
 row_flown Cancelled h = absurd (true≢false (sym h))
 
-lengths_hold : (k : ℕ) → Contains run_lengths k → (1 ≤ k) × (k ≤ 4)
+pub lengths_hold : (k : ℕ) → Contains run_lengths k → (1 ≤ k) × (k ≤ 4)
 lengths_hold k has =
     All-contains (λ n. (1 ≤ n) × (n ≤ 4)) run_lengths k
     (All-from_recursion (λ (n : ℕ). (1 ≤ n) × (n ≤ 4)) run_lengths ((omega arith, omega arith), ((omega arith, omega arith), ((omega arith, omega arith), ((omega arith, omega arith), tt))))) has
@@ -152,7 +152,7 @@ four k some most =
       ]
     ]
 
-lengths_each : (k : ℕ) → 1 ≤ k → k ≤ 4 → Contains run_lengths k
+pub lengths_each : (k : ℕ) → 1 ≤ k → k ≤ 4 → Contains run_lengths k
 lengths_each k some most = (k - 1, (let lt : k - 1 < length run_lengths = omega (arith, some, most) in lt), four k some most)
 
 not_eqb : (a b : ℕ) → not (eqb a b) ≡ true → a ≢ b

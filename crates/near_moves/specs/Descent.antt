@@ -1,5 +1,5 @@
 -- Descending from a plan: as long as a move near it makes it feasible and cheaper, the first such move is proposed.
-use Rattle.std.specs.Prelude.{◌≡◌, ℕ, zero, suc, Bool, not, ◌&&◌, ◌||◌, nat_lt, nat_le, if◌then◌else◌, Option, Some, None, is_none, List, [], ◌∷◌, ◌++◌, length, find, filter}
+use Rattle.std.specs.Prelude.{◌≡◌, ℕ, zero, suc, Bool, true, false, not, ◌&&◌, ◌||◌, nat_lt, nat_le, if◌then◌else◌, Option, Some, None, is_none, List, [], ◌∷◌, ◌++◌, length, find, filter}
 use Rattle.plan_moves.specs.declared.moves.Move.{Move}
 use Rattle.day_orders.specs.declared.orders.Batch.{Batch}
 use Rattle.desk_data.specs.Situation.{Situation}
@@ -11,6 +11,9 @@ use Rattle.desk_model.specs.declared.answer.Entry.{Entry}
 use Rattle.desk_model.specs.Steps.{after_move}
 use Rattle.desk_model.specs.States.{State}
 use Rattle.desk_model.specs.Histories.{state, proposal_limit, accepted_since_batch, entry_of}
+use Rattle.desk_data.specs.declared.broken.Broken.{Broken}
+use Rattle.near_moves.specs.declared.ended.SearchEnd.{SearchEnd}
+use Rattle.near_moves.specs.declared.ended.SearchEnd.TheVariants.{Budget, Quiet}
 use Rattle.near_moves.specs.Near.{near, shard}
 
 -- whether the moved plan breaks no rule and costs less
@@ -24,7 +27,7 @@ better I P = filter (is_better I P) (near I P)
 abbrev pub first_better : Situation → PlanRows → ℕ → ℕ → Option Move
 first_better I P s n = find (is_better I P) (shard I P s n)
 
--- there is a plan, and no move near it is better
+-- there is a plan, and no move near it is better: a local optimum
 pub record IsQuiet (S : State) : Type 0 where
   pub planned : S.broken ≡ None
   pub none : better S.inst S.plan ≡ []
@@ -32,6 +35,12 @@ pub record IsQuiet (S : State) : Type 0 where
 -- no proposal more is made behind a history in which so many were accepted since the last batch, or whose journal takes no more
 unfoldable pub is_spent : ℕ → List Entry → Bool
 is_spent most h = nat_le most (accepted_since_batch h) || nat_le proposal_limit (length h)
+
+-- why no move more is proposed, where there is a plan: the history is spent, or no move near the plan is better
+abbrev pub end_by : Option Broken → Bool → Option SearchEnd
+end_by None true = Some Budget
+end_by None false = Some Quiet
+end_by (Some item) spent = None
 
 -- what is proposed behind a history: the first better move near the plan, where there is a plan and the history is not spent
 unfoldable pub next_proposal : ℕ → State → List Entry → Option Move

@@ -1,4 +1,4 @@
--- Moves of legs and aircraft, in five families: legs are retimed, exchanged, dropped, restored and handed on. A move's steps are listed as they are taken.
+-- Moves of legs and aircraft, in five neighbourhoods: legs are retimed (N1), exchanged (N2), dropped (N3), restored (N4) and handed on (N5). A move's steps are listed as they are taken.
 use Rattle.std.specs.Prelude.{ℕ, ◌+◌, ◌-◌, max, Bool, ◌&&◌, ◌||◌, not, nat_lt, nat_le, ◌==◌, if◌then◌else◌, Some, None, List, [], ◌∷◌, ◌++◌, length, map, filter, slice_index_or}
 use Rattle.std.specs.List.{flat_map, list_any}
 use Rattle.desk_data.specs.declared.row.Row.TheVariants.{Cancelled}
@@ -12,13 +12,17 @@ use Rattle.desk_rules.specs.Maintenance.{flies}
 use Rattle.near_moves.specs.Places.{leg, plane, minute, flier, flown_row, is_movable_flown, is_restorable, family_of, legs_from, run, is_run}
 use Rattle.near_moves.specs.Units.{Unit_, retimed, swapped, dropped, restored, handed}
 
--- ---- retimed: a leg departs at another time
+-- ---- N1, retimed: a leg departs at another time
 
--- when leg x may go: at its earliest departure where it departs later than that; then 15, 30, 60, 120 and 240 minutes later than it departs
+-- by how many minutes a leg may depart later
+abbrev pub retiming_delays : List ℕ
+retiming_delays = 15 ∷ 30 ∷ 60 ∷ 120 ∷ 240 ∷ []
+
+-- when leg x may go: at its earliest departure where it departs later than that; then so many minutes later than it departs
 abbrev pub other_departures : Situation → PlanRows → ℕ → List ℕ
 other_departures I P x =
     (if nat_lt (earliest I x) (dep P x) then earliest I x ∷ [] else [])
-    ++ map (λ later. dep P x + later) (15 ∷ 30 ∷ 60 ∷ 120 ∷ 240 ∷ [])
+    ++ map (λ later. dep P x + later) retiming_delays
 
 -- its row is set, its aircraft's legs behind it are pushed, and then a Tidy and a Refill of it
 abbrev pub retiming : PlanRows → ℕ → ℕ → List Step
@@ -33,7 +37,7 @@ retimings I P x = map (retiming P x) (other_departures I P x)
 unfoldable pub retimed_units : Situation → PlanRows → List Unit_
 retimed_units I P = map retimed (filter (is_movable_flown I P) (numbers (legs_of I)))
 
--- ---- swapped: two aircraft exchange their legs from a moment on
+-- ---- N2, swapped: two aircraft exchange their legs from a moment on
 
 -- whether a movable leg of one of the two aircraft departs at moment t
 abbrev pub departs_at : Situation → PlanRows → ℕ → ℕ → ℕ → Bool
@@ -61,7 +65,7 @@ later_of_family I p = filter (λ q. nat_lt p q) (family_of I p)
 unfoldable pub swapped_units : Situation → List Unit_
 swapped_units I = flat_map (λ p. map (swapped p) (later_of_family I p)) (filter (λ p. not (plane_at I p).surface) (numbers (planes_of I)))
 
--- ---- dropped: legs are cancelled, so that the aircraft is again where it was
+-- ---- N3, dropped: legs are cancelled, so that the aircraft is again where it was
 
 -- the last of the k legs from leg x on
 abbrev pub run_end : Situation → PlanRows → ℕ → ℕ → ℕ
@@ -90,7 +94,7 @@ droppings I P x = map (dropping I P x) (filter (comes_round I P x) run_lengths)
 unfoldable pub dropped_units : Situation → PlanRows → List Unit_
 dropped_units I P = map dropped (filter (is_movable_flown I P) (numbers (legs_of I)))
 
--- ---- restored: a cancelled leg is flown again, alone or with one that brings its aircraft back
+-- ---- N4, restored: a cancelled leg is flown again, alone or with one that brings its aircraft back
 
 -- leg x is flown by aircraft p from its earliest departure on
 abbrev pub restoring_step : Situation → ℕ → ℕ → Step
@@ -99,14 +103,18 @@ restoring_step I x p = Set (leg x) Cancelled (flown_row p (earliest I x))
 abbrev pub restoring_alone : Situation → ℕ → ℕ → List Step
 restoring_alone I x p = restoring_step I x p ∷ Push (plane p) (Some (leg x)) ∷ Tidy ∷ Refill (leg x) ∷ []
 
--- whether leg y may be flown again too: it leads back, and is scheduled to depart from the scheduled arrival of leg x on, at most 1,440 minutes later
+-- a leg that brings the aircraft back is scheduled to depart at most so many minutes behind the arrival: a day
+abbrev pub back_within : ℕ
+back_within = 1440
+
+-- whether leg y may be flown again too: it leads back, and is scheduled to depart from the scheduled arrival of leg x on, at most a day later
 unfoldable pub brings_back : Situation → PlanRows → ℕ → ℕ → Bool
 brings_back I P x y =
     let there = leg_at I x in
     let back = leg_at I y in
     is_restorable I P y
     && ((back.origin.0 == there.dest.0) && (back.dest.0 == there.origin.0)
-    && (nat_le (there.sched.0 + there.block) back.sched.0 && nat_le back.sched.0 (there.sched.0 + there.block + 1440)))
+    && (nat_le (there.sched.0 + there.block) back.sched.0 && nat_le back.sched.0 (there.sched.0 + there.block + back_within)))
 
 -- leg y departs at its earliest departure, or once aircraft p has turned round behind leg x, whichever is later
 abbrev pub back_departure : Situation → ℕ → ℕ → ℕ → ℕ
@@ -123,7 +131,7 @@ restorings I P x p = restoring_alone I x p ∷ map (restoring_both I x p) (filte
 unfoldable pub restored_units : Situation → PlanRows → List Unit_
 restored_units I P = flat_map (λ x. map (restored x) (family_of I (leg_at I x).plane.0)) (filter (is_restorable I P) (numbers (legs_of I)))
 
--- ---- handed: a run goes to another aircraft of the family
+-- ---- N5, handed: a run goes to another aircraft of the family
 
 -- leg y goes to aircraft q at its time
 abbrev pub handing_step : PlanRows → ℕ → ℕ → Step

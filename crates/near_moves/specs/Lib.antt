@@ -11,5 +11,5 @@ pub mod Descents
 pub mod RouteWords
 pub mod RouteParts
 pub mod DropWords
-pub mod FamilyWords
+pub mod NeighbourhoodWords
 pub mod StepWords

@@ -12,7 +12,7 @@ use Rattle.near_moves.specs.Units.{Unit_, retimed, swapped, dropped, restored, h
 use Rattle.near_moves.specs.LegMoves.{retimings, retimed_units, exchanges, swapped_units, droppings, dropped_units, restorings, restored_units, handing, handed_units}
 use Rattle.near_moves.specs.PassengerMoves.{rebookings, rebooked_units}
 
--- the units of the five families of legs and aircraft, and of the family of passengers
+-- the units of the five neighbourhoods of legs and aircraft, N1 to N5, and of all six
 unfoldable pub leg_units : Situation → PlanRows → List Unit_
 leg_units I P = retimed_units I P ++ swapped_units I ++ dropped_units I P ++ restored_units I P ++ handed_units I P
 

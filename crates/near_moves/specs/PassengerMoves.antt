@@ -1,15 +1,15 @@
--- Moves of passengers, the sixth family: they are rebooked.
+-- N6, moves of passengers: they are rebooked.
 use Rattle.std.specs.Prelude.{ℕ, ◌^◌, not, nat_lt, List, [], ◌∷◌, ◌++◌, map, filter, reverse}
 use Rattle.std.specs.List.{flat_map}
 use Rattle.desk_units.specs.declared.numbers.Leg.{Leg}
 use Rattle.desk_units.specs.declared.numbers.Cabin.{Cabin}
 use Rattle.desk_units.specs.declared.numbers.Res.{Res}
 use Rattle.desk_data.specs.Situation.{Situation, reservations_of}
-use Rattle.desk_data.specs.PlanRows.{PlanRows, groups_at}
+use Rattle.desk_data.specs.PlanRows.{PlanRows, groups_at, same_path}
 use Rattle.plan_moves.specs.declared.moves.Step.{Step}
 use Rattle.plan_moves.specs.declared.moves.Step.TheVariants.{Rebook}
 use Rattle.desk_rules.specs.Numbers.{numbers}
-use Rattle.desk_model.specs.Rebook.{count_on, same_path}
+use Rattle.desk_model.specs.Rebook.{count_on}
 use Rattle.near_moves.specs.Units.{Unit_, rebooked}
 use Rattle.near_moves.specs.Routes.{routes}
 

@@ -4,8 +4,7 @@ use Rattle.desk_units.specs.declared.numbers.Leg.{Leg}
 use Rattle.desk_units.specs.declared.numbers.Cabin.{Cabin}
 use Rattle.desk_data.specs.Situation.{Situation}
 use Rattle.desk_data.specs.Booked.{booked_path}
-use Rattle.desk_data.specs.PlanRows.{PlanRows}
-use Rattle.desk_model.specs.Rebook.{same_path}
+use Rattle.desk_data.specs.PlanRows.{PlanRows, same_path}
 use Rattle.near_moves.specs.Routes.{all_pairs, all_doubles, stem, is_route}
 
 -- the paths that are tried behind the scheduled path

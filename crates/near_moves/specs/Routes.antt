@@ -7,10 +7,9 @@ use Rattle.desk_units.specs.declared.numbers.Cabin.TheVariants.{F, B, E}
 use Rattle.desk_units.specs.Ranks.{cabin_rank}
 use Rattle.desk_data.specs.Situation.{Situation, legs_of, begun}
 use Rattle.desk_data.specs.Booked.{booked_path}
-use Rattle.desk_data.specs.PlanRows.{PlanRows}
+use Rattle.desk_data.specs.PlanRows.{PlanRows, same_path}
 use Rattle.desk_rules.specs.Numbers.{numbers}
-use Rattle.desk_rules.specs.Passengers.{is_carried}
-use Rattle.desk_model.specs.Rebook.{same_path}
+use Rattle.desk_data.specs.Paths.{is_carried}
 use Rattle.desk_model.specs.Tidy.{is_fit_path}
 use Rattle.near_moves.specs.Places.{leg}
 

@@ -11,7 +11,7 @@ use Rattle.desk_rules.specs.Rotations.{dep}
 use Rattle.desk_model.specs.Rebook.{count_on}
 use Rattle.near_moves.specs.Places.{leg, plane, minute, flown_row, run}
 use Rattle.near_moves.specs.Words.{DepartsOneAt}
-use Rattle.near_moves.specs.FamilyWords.{IsAim, IsPortion}
+use Rattle.near_moves.specs.NeighbourhoodWords.{IsAim, IsPortion}
 
 -- a leg that departs at moment d may depart at its earliest departure instead, where that is before d, or 15, 30, 60, 120 or 240 minutes later
 pub data IsOtherDeparture (I : Situation) (x d t : ℕ) : Type 0 where

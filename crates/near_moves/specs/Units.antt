@@ -5,17 +5,17 @@ use Rattle.desk_units.specs.declared.numbers.Cabin.{Cabin}
 
 -- what the moves of a unit are made of
 pub data Unit_ : Type 0 where
-  -- a leg departs at another time
+  -- N1: a leg departs at another time
   retimed : ℕ → Unit_
-  -- two aircraft exchange their legs
+  -- N2: two aircraft exchange their legs
   swapped : ℕ → ℕ → Unit_
-  -- legs from this one on are cancelled
+  -- N3: legs from this one on are cancelled
   dropped : ℕ → Unit_
-  -- a cancelled leg is flown again, by this aircraft
+  -- N4: a cancelled leg is flown again, by this aircraft
   restored : ℕ → ℕ → Unit_
-  -- so many legs from this one on go to another aircraft
+  -- N5: so many legs from this one on go to another aircraft
   handed : ℕ → ℕ → ℕ → Unit_
-  -- passengers of a reservation leave this path
+  -- N6: passengers of a reservation leave this path
   rebooked : ℕ → List (Leg × Cabin) → Unit_
 
 -- the number of the leg, the aircraft or the reservation to which the moves of a unit belong

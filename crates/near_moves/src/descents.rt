@@ -8,7 +8,7 @@ ghost use Rattle.plan_moves.specs.Fits.{Fits};
 ghost use Rattle.desk_data.specs.Situation.{Situation};
 ghost use Rattle.desk_data.specs.PlanRows.{PlanRows};
 ghost use Rattle.desk_data.specs.declared.broken.Broken.{Broken};
-ghost use Rattle.desk_data.specs.Valid.{IsOrder, IsPlanFor, IsValid};
+ghost use Rattle.desk_data.specs.Valid.{IsBatch, IsPlanFor, IsValid};
 ghost use Rattle.desk_model.specs.declared.answer.Entry.{Entry as Recorded};
 ghost use Rattle.desk_model.specs.declared.answer.Event.TheVariants as event;
 ghost use Rattle.desk_model.specs.States.{State, opening, answer};
@@ -66,5 +66,5 @@ pub fn a_recovery_takes_the_batches_and_descends_behind_each()
 pub fn descents_and_recoveries_are_legal()
     ensures fit { (I : Situation) (P : PlanRows) → IsValid I → IsPlanFor I P → All (Fits I) (near I P) }
     ensures descent { (most : ℕ) (I : Situation) (h : Items Recorded) → IsValid I → IsLegal (opening I) h → IsLegal (opening I) (descent most (opening I) h) }
-    ensures recovery { (most : ℕ) (I : Situation) (batches : Items Batch) → IsValid I → All (λ B. All (IsOrder I.parts) B.orders) batches → length batches ≤ 100000 → IsLegal (opening I) (recovery most (opening I) batches) }
+    ensures recovery { (most : ℕ) (I : Situation) (batches : Items Batch) → IsValid I → All (IsBatch I.parts) batches → length batches ≤ 100000 → IsLegal (opening I) (recovery most (opening I) batches) }
 {}

@@ -4,9 +4,9 @@ use Rattle.std.specs.List.{flat_map}
 use Rattle.desk_units.specs.declared.numbers.Leg.{Leg}
 use Rattle.desk_units.specs.declared.numbers.Cabin.{Cabin}
 use Rattle.desk_data.specs.Situation.{Situation, reservations_of}
-use Rattle.desk_data.specs.PlanRows.{PlanRows, groups_at}
+use Rattle.desk_data.specs.PlanRows.{PlanRows, groups_at, same_path}
 use Rattle.plan_moves.specs.declared.moves.Move.{Move}
-use Rattle.desk_model.specs.Rebook.{count_on, same_path}
+use Rattle.desk_model.specs.Rebook.{count_on}
 use Rattle.flight_net.specs.Flights.{IsNetOf}
 use Rattle.near_moves.specs.Units.{Unit_}
 use Rattle.near_moves.specs.PassengerMoves.{aims, portions, rebooking}

@@ -19,11 +19,21 @@ use std::alloc::Global;
 
 /// The moves of passengers near a plan that are left: of the reservations of a shard, in their order. It
 /// holds the routes of one reservation at most.
-#[derive(Drop)]
 pub struct PaxMoves {
     pub(crate) net: FlightNet,
     pub(crate) units: PaxUnits,
     pub(crate) unit: Option<PaxUnit>,
+}
+
+/// Taken apart in one place, so that whoever lets go of moves does not do it part by part.
+impl Drop for PaxMoves {
+    fn drop(self) {
+        let PaxMoves {
+            net: _,
+            units: _,
+            unit: _,
+        } = self;
+    }
 }
 
 impl PaxMoves {

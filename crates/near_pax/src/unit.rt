@@ -1,10 +1,9 @@
 //! The moves that take passengers off a path.
 
 ghost use Rattle.std.specs.Prelude.{◌≡◌, ◌<◌, ◌≤◌, IfOk, IfErr, OnErr, filter, length, not};
-ghost use Rattle.desk_data.specs.PlanRows.{groups_at};
+ghost use Rattle.desk_data.specs.PlanRows.{groups_at, same_path};
 ghost use Rattle.desk_data.specs.Situation.{reservations_of};
 ghost use Rattle.desk_data.specs.Valid.{IsPlanFor};
-ghost use Rattle.desk_model.specs.Rebook.{same_path};
 ghost use Rattle.flight_net.specs.Flights.{IsNetOf};
 ghost use Rattle.near_moves.specs.Near.{move_of, unit_moves};
 ghost use Rattle.near_moves.specs.PassengerMoves.{rebooking};
@@ -12,8 +11,8 @@ ghost use Rattle.near_pax.specs.Units.{path_at, unit_at};
 ghost use Rattle.near_pax.specs.Left.{Gives, IsMade, IsUnit, left_of_unit, left_of_made, other_aims};
 
 use crate::counts::portions;
-use desk_data::{Cabin, Instance, Leg, List, NoMem, Path, Res};
-use flight_net::{FlightNet, same_path};
+use desk_data::{Cabin, Instance, Leg, List, NoMem, Path, Res, same_path};
+use flight_net::FlightNet;
 use plan_moves::{Move, Step};
 use plan_pages::Pages;
 use std::alloc::Global;

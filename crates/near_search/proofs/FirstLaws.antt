@@ -14,14 +14,13 @@ use Rattle.plan_moves.specs.declared.moves.Move.{Move}
 use Rattle.plan_moves.specs.declared.moves.Step.{Step}
 use Rattle.plan_moves.specs.declared.moves.Step.TheVariants.{Rebook}
 use Rattle.desk_data.specs.Situation.{Situation}
-use Rattle.desk_data.specs.PlanRows.{PlanRows, groups_at}
+use Rattle.desk_data.specs.PlanRows.{PlanRows, groups_at, same_path}
 use Rattle.desk_rules.specs.Least.{least}
 use Rattle.desk_rules.specs.Cost.{cost}
 use Rattle.desk_model.specs.Rebook.{count_on}
 use Rattle.desk_model.specs.Steps.{after_step, after_steps, after_move}
 use Rattle.full_cost.specs.Amounts.{passenger_cost}
 use Rattle.near_moves.specs.PassengerMoves.{aims, portions, rebooking, rebookings}
-use Rattle.desk_model.specs.Rebook.{same_path}
 use Rattle.near_moves.specs.Units.{rebooked}
 use Rattle.near_moves.specs.Near.{leg_units, units, unit_steps, unit_moves, moves_of, of_shard, shard, move_of, step_in_time}
 use Rattle.near_moves.specs.PassengerMoves.{rebooked_units}

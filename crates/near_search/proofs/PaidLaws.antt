@@ -12,11 +12,11 @@ use Rattle.desk_units.specs.Ranks.{cabin_rank}
 use Rattle.desk_data.specs.Booked.{reference_of}
 use Rattle.desk_data.specs.declared.row.Group.{Group}
 use Rattle.desk_data.specs.Situation.{Situation, reservations_of}
-use Rattle.desk_data.specs.PlanRows.{PlanRows, groups_at, with_groups, path_cmp}
+use Rattle.desk_data.specs.PlanRows.{PlanRows, groups_at, with_groups, path_cmp, same_path}
 use Rattle.desk_rules.specs.Numbers.{numbers}
 use Rattle.desk_rules.specs.Passengers.{all_flown, minutes_late}
 use Rattle.desk_rules.specs.Cost.{arrives, delay, delay_cost, cancellation, cancellation_cost, downgrade_on, downgrade_cost, legal, legal_cost, operating_cost, missing_aircraft, position_cost, cost}
-use Rattle.desk_model.specs.Rebook.{same_path, count_on, is_before, is_behind, group_of, with_count, with_fewer, with_more, groups_after_rebook, after_rebook}
+use Rattle.desk_model.specs.Rebook.{count_on, is_before, is_behind, group_of, with_count, with_fewer, with_more, groups_after_rebook, after_rebook}
 use Rattle.desk_model.proofs.PathOrder.{by_order, path_same}
 use Rattle.desk_model.proofs.RebookLaws.{amount}
 use Rattle.desk_model.proofs.GroupPlans.{with_groups-same, with_groups-other}

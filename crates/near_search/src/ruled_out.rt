@@ -46,7 +46,7 @@ fn costs_no_less(eval: &Evaluator, res: Res, path: &Path, to: &Path) -> bool
     requires to { IsPathIn (legs_of eval.now.inst) to.now }
     ensures { result ≡ nat_le (passenger_cost eval.now.inst eval.now.rows res.0 path.now) (passenger_cost eval.now.inst eval.now.rows res.0 to.now) }
 {
-    let (inst, plan) = (eval.instance(), eval.plan().plan());
+    let (inst, plan) = (eval.instance(), eval.plan());
     let now = passenger_cost(inst, plan, res, path.as_slice());
     let would = passenger_cost(inst, plan, res, to.as_slice());
     now.0 <= would.0
@@ -61,5 +61,5 @@ pub(crate) fn costs_nothing(eval: &Evaluator, res: Res, place: usize) -> bool
 {
     let (inst, plan) = (eval.instance(), eval.plan());
     let path = plan.groups(res)[place].path.as_slice();
-    passenger_cost(inst, plan.plan(), res, path).0 == 0
+    passenger_cost(inst, plan, res, path).0 == 0
 }

@@ -5,9 +5,9 @@ use Rattle.desk_units.specs.declared.numbers.Cabin.{Cabin}
 use Rattle.desk_data.specs.declared.row.Group.{Group}
 use Rattle.plan_moves.specs.Fits.{IsPathIn}
 use Rattle.desk_data.specs.Situation.{Situation, legs_of, reservations_of, res_at}
-use Rattle.desk_data.specs.PlanRows.{PlanRows, groups_at, with_groups}
+use Rattle.desk_data.specs.PlanRows.{PlanRows, groups_at, with_groups, same_path}
 use Rattle.desk_data.specs.Valid.{IsPlanFor}
-use Rattle.desk_model.specs.Rebook.{count_on, with_count, with_fewer, same_path, groups_after_rebook, after_rebook}
+use Rattle.desk_model.specs.Rebook.{count_on, with_count, with_fewer, groups_after_rebook, after_rebook}
 use Rattle.desk_model.proofs.PathOrder.{path_same, is_eq-holds}
 use Rattle.desk_model.proofs.RebookLaws.{groups_after_rebook-groups, groups_after_rebook-of, groups_after_rebook-none}
 use Rattle.desk_model.proofs.GroupPlans.{groups_at-groups, with_groups-own, after_rebook-same}

@@ -13,7 +13,7 @@ use Rattle.desk_data.specs.Situation.{Situation, reservations_of}
 use Rattle.desk_data.specs.PlanRows.{PlanRows, IsGroup, groups_at, path_cmp}
 use Rattle.desk_data.specs.Valid.{IsPlanFor}
 use Rattle.desk_rules.specs.Numbers.{implies}
-use Rattle.desk_rules.specs.Passengers.{is_carried}
+use Rattle.desk_data.specs.Paths.{is_carried}
 use Rattle.desk_rules.specs.Carriage.{each_carried}
 use Rattle.desk_model.specs.Rebook.{group_of}
 use Rattle.desk_model.specs.Tidy.{is_fit_path, stays_carried, groups_after_tidy, after_tidy}

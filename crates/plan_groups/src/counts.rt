@@ -7,8 +7,7 @@ ghost use Rattle.desk_data.specs.Valid.{IsPlanFor};
 ghost use Rattle.desk_model.specs.Rebook.{count_on};
 ghost use Rattle.plan_groups.specs.Made.{AreWhole, everyone};
 
-use crate::order::same_path;
-use desk_data::{Cabin, Group, Instance, Leg, Res};
+use desk_data::{Cabin, Group, Instance, Leg, Res, same_path};
 use plan_reads::ReadPlan;
 
 /// The groups of a reservation in a plan, of at most 1,000 passengers together.

@@ -4,7 +4,7 @@ ghost use Rattle.std.specs.Prelude.{◌≡◌, ◌<◌, ◌≤◌, length};
 ghost use Rattle.desk_data.specs.Situation.{legs_of, reservations_of};
 ghost use Rattle.desk_data.specs.Valid.{IsPathOf, IsPlanFor};
 ghost use Rattle.desk_rules.specs.Numbers.{implies};
-ghost use Rattle.desk_rules.specs.Passengers.{is_carried};
+ghost use Rattle.desk_data.specs.Paths.{is_carried};
 ghost use Rattle.desk_model.specs.Tidy.{is_fit_path, stays_carried};
 
 use desk_data::{Instance, Path, Res};

@@ -3,16 +3,15 @@
 ghost use Rattle.std.specs.Prelude.{◌≡◌, ◌<◌, ◌≤◌, ◌==◌, ◌||◌, IfOk, is_none, min};
 ghost use Rattle.std.specs.Option.{ForSome};
 ghost use Rattle.plan_moves.specs.Fits.{IsPathIn};
-ghost use Rattle.desk_data.specs.PlanRows.{groups_at, with_groups};
+ghost use Rattle.desk_data.specs.PlanRows.{groups_at, with_groups, same_path};
 ghost use Rattle.desk_data.specs.Situation.{legs_of, reservations_of};
 ghost use Rattle.desk_data.specs.Valid.{IsPlanFor};
-ghost use Rattle.desk_model.specs.Rebook.{after_rebook, count_on, groups_after_rebook, same_path};
+ghost use Rattle.desk_model.specs.Rebook.{after_rebook, count_on, groups_after_rebook};
 ghost use Rattle.plan_groups.specs.Made.{AreWhole, everyone, groups_or};
 
 use crate::counts::{count_on, groups_of};
 use crate::made::with_count;
-use crate::order::same_path;
-use desk_data::{Cabin, Group, Instance, Leg, NoMem, Res};
+use desk_data::{Cabin, Group, Instance, Leg, NoMem, Res, same_path};
 use plan_reads::ReadPlan;
 use std::alloc::Global;
 

@@ -6,7 +6,7 @@ ghost use Rattle.desk_data.specs.Situation.{legs_of};
 ghost use Rattle.desk_data.specs.Valid.{IsPathOf, IsRowOf};
 ghost use Rattle.plan_moves.specs.Fits.{Fits, IsPathIn, StepFits};
 
-use desk_data::{Cabin, Instance, Leg, List, Minute, NoMem, Path, Plane, Res, Row};
+use desk_data::{Cabin, DEPARTURES_END, Instance, Leg, List, Minute, NoMem, Path, Plane, Res, Row};
 use std::alloc::Global;
 
 /// One step of a move. Where it finds nothing to do, it leaves the plan as it is.
@@ -111,7 +111,7 @@ fn row_fits(planes: u32, row: &Row) -> bool
     ensures { IsTrue result ↔ IsRowOf planes row.now }
 {
     match row {
-        Row::Flown { plane, dep } => plane.0 < planes && dep.0 < 52_500_000,
+        Row::Flown { plane, dep } => plane.0 < planes && dep.0 < DEPARTURES_END,
         Row::Cancelled => true,
     }
 }
@@ -158,7 +158,7 @@ fn step_fits(inst: &Instance, step: &Step) -> bool
         }
         Step::Push { plane, after } => plane.0 < planes && after_fits(legs, after),
         Step::Swap { first, second, at } => {
-            first.0 < planes && second.0 < planes && at.0 < 52_500_000
+            first.0 < planes && second.0 < planes && at.0 < DEPARTURES_END
         }
         Step::Rebook {
             res,

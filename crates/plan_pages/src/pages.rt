@@ -2,8 +2,10 @@
 
 ghost use Rattle.std.specs.Prelude.{◌≡◌, ◌+◌, ◌<◌, length, IfOk, OnOk, OnErr};
 ghost use Rattle.desk_data.specs.PlanRows.{IsRow, AreGroups, IsSound, row_at, groups_at, with_row, with_groups};
+ghost use Rattle.plan_pages.specs.Pages.{with_page, IsPageOf};
 
-use desk_data::{Group, Leg, NoMem, Plan, Res, Row, Steps};
+use crate::page::{Page, What};
+use desk_data::{Group, Leg, List, NoMem, Plan, Res, Row, Steps};
 use plan_reads::ReadPlan;
 use std::alloc::Global;
 use std::marker::Model;
@@ -34,6 +36,13 @@ impl Pages {
         Ok(Pages { plan })
     }
 
+    /// The pages of a plan that is handed in, and not copied. The only error is out of memory.
+    pub fn from_plan(_alloc: Global, plan: Plan) -> Result<Pages, NoMem>
+        ensures { IfOk result (λ pages. pages ≡ plan) }
+    {
+        Ok(Pages { plan })
+    }
+
     /// Equal pages, which may be the same ones in memory. The only error is out of memory.
     pub fn share(&self, alloc: Global) -> Result<Pages, NoMem>
         ensures { IfOk result (λ shared. shared ≡ self.now) }
@@ -47,13 +56,6 @@ impl Pages {
         ensures { IfOk result (λ plan. plan ≡ self.now) }
     {
         self.plan.copy(alloc)
-    }
-
-    /// The plan itself, for what reads a `Plan`.
-    pub fn plan(&self) -> &Plan
-        ensures { result.now ≡ self.now }
-    {
-        &self.plan
     }
 
     /// The row of a leg. Counts one step.
@@ -84,49 +86,60 @@ impl Pages {
         self.plan.groups(res)
     }
 
-    /// Gives a leg another row. All else stays. After an error nothing has changed.
-    pub fn replace_row(&mut self, _alloc: Global, leg: Leg, row: Row) -> Result<(), NoMem>
+    /// Gives a leg another row, and hands out what stood, for `put_back`. All else stays. The only error is out
+    /// of memory, and after it nothing has changed.
+    #[tactic(auto, unfolding(crate::specs::Pages::with_page, crate::specs::Pages::IsPageOf))]
+    pub fn replace_row(&mut self, _alloc: Global, leg: Leg, row: Row) -> Result<Page, NoMem>
         requires leg { leg.0 < length self.old.rows }
         requires row { IsRow row }
         ensures ok { OnOk result (self.new ≡ with_row self.old leg.0 row) }
+        ensures back { IfOk result (λ page. with_page self.new page ≡ self.old) }
+        ensures place { IfOk result (λ page. IsPageOf self.new page) }
         ensures err { OnErr result (self.new ≡ self.old) }
     {
+        let had = self.plan.read_row(leg);
         self.plan.put_row(leg, row);
-        Ok(())
+        Ok(Page {
+            what: What::Row { leg, row: had },
+        })
     }
 
-    /// Gives a reservation other groups. All else stays. After an error nothing has changed.
+    /// Gives a reservation other groups, and hands out what stood, for `put_back`. All else stays. The only
+    /// error is out of memory, and after it nothing has changed but that the groups are given up.
+    #[tactic(auto, unfolding(crate::specs::Pages::with_page, crate::specs::Pages::IsPageOf))]
     pub fn replace_groups(
         &mut self,
         _alloc: Global,
         res: Res,
         groups: Vec<Group>,
-    ) -> Result<(), NoMem>
+    ) -> Result<Page, NoMem>
         requires res { res.0 < length self.old.groups }
         requires groups { AreGroups groups.items }
         ensures ok { OnOk result (self.new ≡ with_groups self.old res.0 groups.items) }
+        ensures back { IfOk result (λ page. with_page self.new page ≡ self.old) }
+        ensures place { IfOk result (λ page. IsPageOf self.new page) }
         ensures err { OnErr result (self.new ≡ self.old) }
     {
-        self.plan.put_groups(res, groups);
-        Ok(())
+        let mut had = groups;
+        self.plan.swap_groups(res, &mut had);
+        Ok(Page {
+            what: What::Groups {
+                res,
+                groups: List(had),
+            },
+        })
     }
 
-    /// Gives a leg back the row of before, which takes no memory. All else stays.
-    pub fn put_back_row(&mut self, leg: Leg, row: Row)
-        requires leg { leg.0 < length self.old.rows }
-        requires row { IsRow row }
-        ensures { self.new ≡ with_row self.old leg.0 row }
+    /// Puts back what stood before a change, in the plan as it stood right behind that. It takes no memory.
+    #[tactic(auto, unfolding(crate::specs::Pages::with_page, crate::specs::Pages::IsPageOf))]
+    pub fn put_back(&mut self, page: Page)
+        requires { IsPageOf self.old page }
+        ensures { self.new ≡ with_page self.old page }
     {
-        self.plan.put_row(leg, row);
-    }
-
-    /// Gives a reservation back the groups of before, which takes no memory. All else stays.
-    pub fn put_back_groups(&mut self, res: Res, groups: Vec<Group>)
-        requires res { res.0 < length self.old.groups }
-        requires groups { AreGroups groups.items }
-        ensures { self.new ≡ with_groups self.old res.0 groups.items }
-    {
-        self.plan.put_groups(res, groups);
+        match page.what {
+            What::Row { leg, row } => self.plan.put_row(leg, row),
+            What::Groups { res, groups } => self.plan.put_groups(res, groups.0),
+        }
     }
 }
 

@@ -6,13 +6,12 @@ use Rattle.std.proofs.Math.Path.{fun_ext}
 use Rattle.std.proofs.lemmas.Bool.{true≢false}
 use Rattle.std.proofs.lemmas.Bool.Decides.{nat_tests}
 use Rattle.std.proofs.lemmas.List.{get_or-set_same, get_or-set_other, get_or-replicate, length-replicate, length-set, map_push, append-nil}
-use Rattle.std.proofs.lemmas.List.Elements.{All-get_or, All-weaker, All-filter, filter-append, recursion_from_All}
+use Rattle.std.proofs.lemmas.List.Elements.{All-weaker, All-filter, filter-append, recursion_from_All}
 use Rattle.desk_units.specs.declared.numbers.Leg.{Leg}
 use Rattle.desk_data.specs.declared.row.Row.{Row}
 use Rattle.desk_data.specs.declared.row.Row.TheVariants.{Flown, Cancelled}
 use Rattle.desk_data.specs.Situation.{Situation, legs_of, planes_of, fixed}
 use Rattle.desk_data.specs.PlanRows.{PlanRows, row_at, with_row}
-use Rattle.desk_data.specs.Valid.{IsRowOf, IsPlanFor}
 use Rattle.desk_rules.specs.Numbers.{numbers}
 use Rattle.desk_rules.specs.Maintenance.{is_flown_by, flies}
 use Rattle.desk_rules.proofs.MaintenanceLaws.{flies-holds}
@@ -27,9 +26,6 @@ below_cases : (i n : ℕ) → (i < n) ⊎ (n ≤ i)
 below_cases i n = grind arith
 
 -- ---- one leg more
-
-pub row_of_plan : (I : Situation) (Q : PlanRows) (x : ℕ) → x < legs_of I → IsPlanFor I Q → IsRowOf (planes_of I) (row_at Q x)
-row_of_plan I Q x within plan = All-get_or (IsRowOf (planes_of I)) Q.rows x Cancelled (let legs = plan.legs in omega (arith, legs, within)) plan.rows
 
 last_flown : (Q : PlanRows) (p n : ℕ) → filter (flies Q p) (numbers (n + 1)) ≡ filter (flies Q p) (numbers n) ++ filter (flies Q p) (n ∷ [])
 last_flown Q p n = rw add-one (filter-append (flies Q p) (numbers n) (n ∷ []))

@@ -1,4 +1,4 @@
--- The sorted turns of an aircraft are its legs in their order.
+-- The sorted rotation legs of an aircraft are its legs in their order.
 use Rattle.std.proofs.Common.{◌≡◌, ℕ, zero, suc, ◌<◌, ◌⊎◌, inl, inr, true, false, eqb, List, [], ◌∷◌, ◌++◌, length, get_or, map, refl, sym, ap, subst, ◌∙◌, arith, is_lt, nat_cmp}
 use Rattle.std.specs.Prelude.{filter}
 use Rattle.std.specs.List.{All, AllPairs, Contains, IsDistinct}
@@ -27,7 +27,7 @@ use Rattle.desk_rules.proofs.MaintenanceLaws.{flies-holds}
 use Rattle.plan_reads.proofs.OrderLaws.{in_order}
 use Rattle.desk_model.specs.Push.{rotation}
 use Rattle.desk_model.proofs.RotationOrder.{Contains-filter, rotation-ordered, rotation-flown, rotation-each}
-use Rattle.plan_push.specs.declared.turns.Turn.{Turn}
+use Rattle.plan_reads.specs.declared.rotation_leg.RotationLeg.{RotationLeg}
 use Rattle.plan_push.specs.Flown.{flown_legs}
 use Rattle.plan_push.specs.Turns.{turn}
 use Rattle.plan_push.proofs.AgreeLaws.{same_ordered}
@@ -68,16 +68,16 @@ flown-apart P p (suc n) =
       | inr gone ↦ subst (IsDistinct eqb) (sym (parts ∙ rw gone (append-nil (flown P p n)))) (flown-apart P p n)
     ]
 
--- ---- their turns
+-- ---- their rotation legs
 
-abbrev turns : PlanRows → ℕ → ℕ → List Turn
+abbrev turns : PlanRows → ℕ → ℕ → List RotationLeg
 turns P p n = map (turn P) (flown P p n)
 
-abbrev pub leg_of : Turn → ℕ
+abbrev pub leg_of : RotationLeg → ℕ
 leg_of t = t.leg.0
 
--- t is the turn of one of the first n legs, which aircraft p flies
-record IsTurn (P : PlanRows) (p n : ℕ) (t : Turn) : Type 0 where
+-- t is the rotation leg of one of the first n legs, which aircraft p flies
+record IsTurn (P : PlanRows) (p n : ℕ) (t : RotationLeg) : Type 0 where
   within : t.leg.0 < n
   flown : flies P p t.leg.0 ≡ true
   departs : t.dep.0 ≡ dep P t.leg.0
@@ -93,7 +93,7 @@ turns-legs P p n = map-map leg_of (turn P) (flown P p n) ∙ map-id (flown P p n
 
 -- ---- sorted
 
-abbrev turn_cmp : Turn → Turn → Ordering
+abbrev turn_cmp : RotationLeg → RotationLeg → Ordering
 turn_cmp s t = ordering_then (nat_cmp s.dep.0 t.dep.0) (nat_cmp s.leg.0 t.leg.0)
 
 turn_total : IsTotalOrder turn_cmp
@@ -105,14 +105,14 @@ ordered_so p x d y e h apart = grind (arith, nat_tests)
 precedes_at : (P : PlanRows) (p x d y e : ℕ) → Flies P x p d → Flies P y p e → in_order p x d p y e ≡ true → precedes P x y ≡ true
 precedes_at P p x d y e first second h = rw (first, second) h
 
--- the turn at a place, and else a turn of nothing
-abbrev no_turn : Turn
+-- the rotation leg at a place, and else a rotation leg of nothing
+abbrev no_turn : RotationLeg
 no_turn = record { dep = record { 0 = 0 }; leg = record { 0 = 0 } }
 
-abbrev turn_in : List Turn → ℕ → Turn
+abbrev turn_in : List RotationLeg → ℕ → RotationLeg
 turn_in ts k = get_or ts k no_turn
 
-rising : (P : PlanRows) (p n : ℕ) (ts : List Turn) → All (IsTurn P p n) ts → IsSorted turn_cmp ts → IsDistinct eqb (map leg_of ts) → (i j : ℕ) → i < j → j < length ts → Precedes P (turn_in ts i).leg.0 (turn_in ts j).leg.0
+rising : (P : PlanRows) (p n : ℕ) (ts : List RotationLeg) → All (IsTurn P p n) ts → IsSorted turn_cmp ts → IsDistinct eqb (map leg_of ts) → (i j : ℕ) → i < j → j < length ts → Precedes P (turn_in ts i).leg.0 (turn_in ts j).leg.0
 rising P p n ts sound up apart i j less within =
     let s = turn_in ts i in
     let t = turn_in ts j in
@@ -129,13 +129,13 @@ rising P p n ts sound up apart i j less within =
     (subst (λ (k : ℕ). eqb k (get_or (map leg_of ts) j 0) ≡ false) (get_or-map leg_of ts i no_turn 0 in_i) (apart_from_distinct eqb (map leg_of ts) i j 0 apart less long)) in
     precedes-holds P x y (precedes_at P p x (dep P x) y (dep P y) (flies-holds P p x of_s.flown) (flies-holds P p y of_t.flown) (ordered_so p x (dep P x) y (dep P y) cmp other))
 
--- the turns of all legs of the aircraft, sorted
-record AreSorted (P : PlanRows) (p n : ℕ) (ts : List Turn) : Type 0 where
+-- the rotation legs of all legs of the aircraft, sorted
+record AreSorted (P : PlanRows) (p n : ℕ) (ts : List RotationLeg) : Type 0 where
   sound : All (IsTurn P p n) ts
   ordered : AllPairs (Precedes P) (map leg_of ts)
   each : (x : ℕ) → x < n → flies P p x ≡ true → Contains (map leg_of ts) x
 
-sorted : (P : PlanRows) (p n : ℕ) (made ts : List Turn) → made ≡ turns P p n → IsPermutation made ts → IsSorted turn_cmp ts → AreSorted P p n ts
+sorted : (P : PlanRows) (p n : ℕ) (made ts : List RotationLeg) → made ≡ turns P p n → IsPermutation made ts → IsSorted turn_cmp ts → AreSorted P p n ts
 sorted P p n made ts is shuffled up =
     let moved : IsPermutation (turns P p n) ts = subst (λ xs. IsPermutation xs ts) is shuffled in
     let legs : IsPermutation (flown P p n) (map leg_of ts) = subst (λ (xs : List ℕ). IsPermutation xs (map leg_of ts)) (turns-legs P p n) (IsPermutation-map leg_of (turns P p n) ts moved) in
@@ -150,7 +150,7 @@ sorted P p n made ts is shuffled up =
       each = λ x lt here. Contains-permutation (flown P p n) (map leg_of ts) x legs (Contains-filter (flies P p) (numbers n) x (numbers-each n x lt) here);
     }
 
-rotation-sorted : (I : Situation) (P : PlanRows) (p : ℕ) (made ts : List Turn) → made ≡ turns P p (legs_of I) → IsPermutation made ts → IsSorted turn_cmp ts → map leg_of ts ≡ rotation I P p
+rotation-sorted : (I : Situation) (P : PlanRows) (p : ℕ) (made ts : List RotationLeg) → made ≡ turns P p (legs_of I) → IsPermutation made ts → IsSorted turn_cmp ts → map leg_of ts ≡ rotation I P p
 rotation-sorted I P p made ts is shuffled up =
     let own = sorted P p (legs_of I) made ts is shuffled up in
     same_ordered P (map leg_of ts) (rotation I P p) own.ordered (rotation-ordered I P p)
@@ -161,13 +161,13 @@ rotation-sorted I P p made ts is shuffled up =
     let here = All-contains (λ x. (x < legs_of I) × (flies P p x ≡ true)) (rotation I P p) z (rotation-flown I P p) has in
     own.each z here.0 here.1)
 
-pub sorted-rotation : (I : Situation) (P : PlanRows) (p : ℕ) (legs : List Leg) (made ts : List Turn) → map (λ (leg : Leg). leg.0) legs ≡ flown_legs I P p → made ≡ map (λ (leg : Leg). turn P leg.0) legs → IsPermutation made ts → IsSorted turn_cmp ts → map leg_of ts ≡ rotation I P p
+pub sorted-rotation : (I : Situation) (P : PlanRows) (p : ℕ) (legs : List Leg) (made ts : List RotationLeg) → map (λ (leg : Leg). leg.0) legs ≡ flown_legs I P p → made ≡ map (λ (leg : Leg). turn P leg.0) legs → IsPermutation made ts → IsSorted turn_cmp ts → map leg_of ts ≡ rotation I P p
 sorted-rotation I P p legs made ts are is =
     rotation-sorted I P p made ts (is ∙ sym (map-map (turn P) (λ (leg : Leg). leg.0) legs) ∙ ap (map (turn P)) are)
 
-pub sorted-within : (P : PlanRows) (n : ℕ) (legs : List Leg) (made ts : List Turn) → All (λ (leg : Leg). leg.0 < n) legs → made ≡ map (λ (leg : Leg). turn P leg.0) legs → IsPermutation made ts → All (λ (t : Turn). t.leg.0 < n) ts
+pub sorted-within : (P : PlanRows) (n : ℕ) (legs : List Leg) (made ts : List RotationLeg) → All (λ (leg : Leg). leg.0 < n) legs → made ≡ map (λ (leg : Leg). turn P leg.0) legs → IsPermutation made ts → All (λ (t : RotationLeg). t.leg.0 < n) ts
 sorted-within P n legs made ts within is shuffled =
-    All-permutation (λ (t : Turn). t.leg.0 < n) made ts shuffled (subst (All (λ (t : Turn). t.leg.0 < n)) (sym is) (All-map (λ (t : Turn). t.leg.0 < n) (λ (leg : Leg). turn P leg.0) legs within))
+    All-permutation (λ (t : RotationLeg). t.leg.0 < n) made ts shuffled (subst (All (λ (t : RotationLeg). t.leg.0 < n)) (sym is) (All-map (λ (t : RotationLeg). t.leg.0 < n) (λ (leg : Leg). turn P leg.0) legs within))
 
 -- the legs of an aircraft are legs of the day
 pub flown-within : (I : Situation) (P : PlanRows) (p : ℕ) (legs : List Leg) → map (λ (leg : Leg). leg.0) legs ≡ flown_legs I P p → All (λ (leg : Leg). leg.0 < legs_of I) legs

@@ -2,8 +2,8 @@
 use Rattle.std.specs.Prelude.{ℕ}
 use Rattle.desk_data.specs.PlanRows.{PlanRows}
 use Rattle.desk_rules.specs.Rotations.{dep}
-use Rattle.plan_push.specs.declared.turns.Turn.{Turn}
+use Rattle.plan_reads.specs.declared.rotation_leg.RotationLeg.{RotationLeg}
 
--- the turn of leg x
-abbrev pub turn : PlanRows → ℕ → Turn
+-- the rotation leg of leg x
+abbrev pub turn : PlanRows → ℕ → RotationLeg
 turn P x = record { dep = record { 0 = dep P x }; leg = record { 0 = x } }

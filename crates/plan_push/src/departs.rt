@@ -1,11 +1,10 @@
 //! The first moment at which a leg can depart.
 
-ghost use Rattle.std.specs.Prelude.{◌≡◌, ◌<◌, ◌≤◌, IfSome, max};
+ghost use Rattle.std.specs.Prelude.{◌≡◌, ◌<◌, IfSome, max};
 ghost use Rattle.std.specs.Option.{ForSome, option_map};
 ghost use Rattle.desk_data.specs.Situation.{earliest, latest, legs_of, planes_of};
 ghost use Rattle.desk_data.specs.PlanRows.{PlanRows};
 ghost use Rattle.desk_data.specs.Valid.{IsPlanFor};
-ghost use Rattle.desk_rules.specs.Rotations.{ground};
 ghost use Rattle.desk_model.specs.Choices.{first_within};
 ghost use Rattle.desk_model.specs.Push.{can_depart, first_departure, ready_moment};
 ghost use Rattle.plan_push.specs.Placings.{AreLegs, IsPlacing};
@@ -14,7 +13,7 @@ use crate::pushed::Placing;
 use crate::ruled_out::ruled_out_until;
 use desk_data::{Instance, Leg, Minute, Plane};
 use hour_counts::KnowsHours;
-use plan_reads::{ReadPlan, arrival};
+use plan_reads::{ReadPlan, arrival, ground_time};
 
 /// The first moment at which a leg can depart when it is placed in the plan as it stands, in minutes
 /// since 2000-01-01, below 52,500,000: not before its earliest departure, nor before the leg that was before it at the step's
@@ -88,21 +87,5 @@ fn ready_moment<P: ReadPlan>(
     match before {
         Some(earlier) => arrival(inst, plan, earlier) + ground_time(inst, plane, earlier, leg),
         None => 0,
-    }
-}
-
-/// The ground time of an aircraft between two legs, at most 2,880 minutes: its transit time where
-/// the first is the previous leg of the second, else its turn-round time.
-fn ground_time(inst: &Instance, plane: Plane, earlier: Leg, leg: Leg) -> u32
-    requires plane { plane.0 < planes_of inst.now }
-    requires leg { leg.0 < legs_of inst.now }
-    ensures time { result ≡ ground inst.now plane.0 earlier.0 leg.0 }
-    ensures limit { result ≤ 2880 }
-{
-    let flying = inst.plane(plane);
-    if inst.leg(leg).prev == Some(earlier) {
-        flying.transit
-    } else {
-        flying.turn
     }
 }

@@ -6,7 +6,7 @@ ghost use Rattle.desk_data.specs.Valid.{IsPlanFor};
 ghost use Rattle.desk_model.specs.Push.{rotation};
 ghost use Rattle.plan_push.specs.Flown.{AreFlown, AreFlownOfFirst};
 
-use crate::turns::{legs_of, sorted_turns};
+use crate::rotation_legs::{legs_of, sorted_turns};
 use desk_data::{Instance, Leg, NoMem, Plane, Row};
 use plan_reads::ReadPlan;
 use std::alloc::Global;

@@ -27,8 +27,8 @@ mod departs;
 mod flown;
 mod pushed;
 mod room;
+mod rotation_legs;
 mod ruled_out;
-mod turns;
 
 pub use departs::first_departure;
 pub use flown::FlownLegs;

@@ -10,7 +10,7 @@ ghost use Rattle.plan_push.specs.RuledOut.{HoldsOrIsRuledOut, end_of_maintenance
 use crate::room::{Movement, has_room};
 use desk_data::{Instance, Leg, Maint, Minute, Plane};
 use hour_counts::KnowsHours;
-use plan_reads::ReadPlan;
+use plan_reads::{ReadPlan, meets_span};
 
 /// `None` where a leg can depart at a moment, which is no later than the latest departure of any leg.
 /// Else a later moment: it can depart at none before that.
@@ -76,7 +76,7 @@ fn first_met_span(
     spans
         .iter()
         .copied()
-        .find(|span| meets(departs, arrives, span.0, span.1))
+        .find(|span| meets_span(departs, arrives, span.0, span.1))
 }
 
 /// The end of the maintenance, if a flight meets it.
@@ -84,17 +84,9 @@ fn end_of_maintenance(maint: Option<Maint>, departs: u32, arrives: u32) -> Optio
     ensures { result ≡ end_of_maintenance maint departs arrives }
 {
     match maint {
-        Some(maint) if meets(departs, arrives, maint.from, maint.to) => Some(maint.to),
+        Some(maint) if meets_span(departs, arrives, maint.from, maint.to) => Some(maint.to),
         _ => None,
     }
-}
-
-/// Whether a flight meets a span: it departs before the span's end, and the span starts before the
-/// flight arrives.
-fn meets(departs: u32, arrives: u32, from: Minute, to: Minute) -> bool
-    ensures { result ≡ meets_span departs arrives from to }
-{
-    departs < to.0 && from.0 < arrives
 }
 
 /// The same as `ruled_out_until` of the airports alone: the next hour of departure, or the moment from

@@ -1,4 +1,5 @@
 pub mod BeforeLaws
+pub mod AfterLegLaws
 pub mod LastLaws
 pub mod OrderLaws
 pub mod PathLaws

@@ -1,4 +1,4 @@
--- Turns are in a strict order: by aircraft, then by departure, then by leg.
+-- Rotation legs are in a strict order: by aircraft, then by departure, then by leg.
 use Rattle.std.proofs.Common.{◌⊎◌, refl, sym, ◌∙◌, ◌≡◌, ℕ, Bool, true, false, ◌&&◌, ◌||◌, eqb, ltb, arith, is_lt, nat_cmp}
 use Rattle.std.specs.Ordering.{ordering_then}
 use Rattle.std.specs.declared.cmp.Ordering.{Ordering}
@@ -46,7 +46,7 @@ order-from_ahead p x d q y e h same = grind (arith, nat_tests)
 pub ahead-irreflexive : (p x d : ℕ) → is_ahead p x d p x d ≡ false
 ahead-irreflexive p x d = grind (arith, nat_tests)
 
--- a turn ahead of one that is ahead of a turn of its aircraft: all three are of that aircraft
+-- a rotation leg ahead of one that is ahead of a rotation leg of its aircraft: all three are of that aircraft
 pub between : (p x d q y e r z f : ℕ) → is_ahead p x d q y e ≡ true → is_ahead q y e r z f ≡ true → eqb p r ≡ true → eqb q r ≡ true
 between p x d q y e r z f h k same = grind (arith, nat_tests)
 

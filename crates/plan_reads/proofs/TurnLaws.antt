@@ -1,4 +1,4 @@
--- What the sorted turns say of the leg before a leg.
+-- What the sorted rotation legs say of the leg before a leg.
 use Rattle.std.proofs.Common.{◌≡◌, ◌≢◌, ℕ, zero, suc, ◌+◌, ◌-◌, ◌<◌, ◌⊎◌, inl, inr, Bool, true, false, ◌&&◌, eqb, ltb, List, [], ◌∷◌, ◌++◌, length, get_or, set, refl, sym, ap, ◌∙◌, subst, arith, is_lt, add-one}
 use Rattle.std.specs.Prelude.{Option, None}
 use Rattle.std.specs.List.{All, Contains, filter_map}
@@ -21,7 +21,7 @@ use Rattle.desk_data.specs.declared.row.Row.{Row}
 use Rattle.desk_data.specs.declared.row.Row.TheVariants.{Flown, Cancelled}
 use Rattle.desk_rules.specs.Numbers.{numbers}
 use Rattle.desk_rules.specs.Rotations.{is_earlier}
-use Rattle.plan_reads.specs.declared.order.Turn.{Turn}
+use Rattle.plan_reads.specs.declared.order.FlownLeg.{FlownLeg}
 use Rattle.plan_reads.specs.Before.{precedes_in, IsNearest, IsLegBefore, AreBefore}
 use Rattle.plan_reads.specs.Order.{turn_of, turns, turn_at, no_turn, neighbour}
 use Rattle.plan_reads.proofs.OrderLaws.{not_both, turns_cmp, is_ahead, in_order, ahead-from_cmp, ahead-asymmetric, ahead-from_order, order-from_ahead, ahead-irreflexive, between}
@@ -33,13 +33,13 @@ row_in rows x = get_or rows x Cancelled
 pub turns-more : (rows : List Row) (n : ℕ) → turns rows (suc n) ≡ turns rows n ++ filter_map (λ x. turn_of x (row_in rows x)) (n ∷ [])
 turns-more rows n = filter_map-append (λ x. turn_of x (row_in rows x)) (numbers n) (n ∷ [])
 
--- t is the turn of one of the first n legs
-pub record IsTurn (rows : List Row) (n : ℕ) (t : Turn) : Type 0 where
-  pub within : t.leg.0 < n
-  pub row : row_in rows t.leg.0 ≡ Flown t.plane t.dep
+-- t is the rotation leg of one of the first n legs
+pub record IsTurn (rows : List Row) (n : ℕ) (t : FlownLeg) : Type 0 where
+  pub within : t.at.leg.0 < n
+  pub row : row_in rows t.at.leg.0 ≡ Flown t.plane t.at.dep
 
-abbrev last_turn : ℕ → Row → List Turn
-last_turn n (Flown plane dep) = (let t : Turn = record { plane = plane; dep = dep; leg = record { 0 = n } } in t) ∷ []
+abbrev last_turn : ℕ → Row → List FlownLeg
+last_turn n (Flown plane dep) = (let t : FlownLeg = record { plane = plane; at = record { dep = dep; leg = record { 0 = n } } } in t) ∷ []
 last_turn n Cancelled = []
 
 last_turn-is : (rows : List Row) (n : ℕ) (row : Row) → row_in rows n ≡ row → filter_map (λ x. turn_of x (row_in rows x)) (n ∷ []) ≡ last_turn n row
@@ -48,7 +48,7 @@ last_turn-is rows n Cancelled e = rw e refl
 
 one_turn : (rows : List Row) (n : ℕ) (row : Row) → row_in rows n ≡ row → All (IsTurn rows (suc n)) (last_turn n row)
 one_turn rows n (Flown plane dep) e =
-    All-cons (IsTurn rows (suc n)) (record { plane = plane; dep = dep; leg = record { 0 = n } }) [] (record { within = omega arith; row = e }) (All-nil (IsTurn rows (suc n)))
+    All-cons (IsTurn rows (suc n)) (record { plane = plane; at = record { dep = dep; leg = record { 0 = n } } }) [] (record { within = omega arith; row = e }) (All-nil (IsTurn rows (suc n)))
 one_turn rows n Cancelled e = All-nil (IsTurn rows (suc n))
 
 pub turns-sound : (rows : List Row) (n : ℕ) → All (IsTurn rows n) (turns rows n)
@@ -59,21 +59,21 @@ turns-sound rows (suc n) =
     (All-weaker (IsTurn rows n) (IsTurn rows (suc n)) (λ t h. record { within = omega (arith, h.within); row = h.row }) (turns rows n) (turns-sound rows n))
     (one_turn rows n (row_in rows n) refl))
 
--- each flown leg has its turn
-one_whole : (n : ℕ) (row : Row) (plane : Plane) (dep : Minute) → row ≡ Flown plane dep → Contains (last_turn n row) (record { plane = plane; dep = dep; leg = record { 0 = n } })
+-- each flown leg has its rotation leg
+one_whole : (n : ℕ) (row : Row) (plane : Plane) (dep : Minute) → row ≡ Flown plane dep → Contains (last_turn n row) (record { plane = plane; at = record { dep = dep; leg = record { 0 = n } } })
 one_whole n row plane dep h =
-    let t : Turn = record { plane = plane; dep = dep; leg = record { 0 = n } } in
+    let t : FlownLeg = record { plane = plane; at = record { dep = dep; leg = record { 0 = n } } } in
     subst (λ r. Contains (last_turn n r) t) (sym h) (0, omega arith, refl)
 
-last_is : (rows : List Row) (n : ℕ) (t : Turn) → t.leg.0 ≡ n → row_in rows t.leg.0 ≡ Flown t.plane t.dep → Contains (last_turn n (row_in rows n)) t
+last_is : (rows : List Row) (n : ℕ) (t : FlownLeg) → t.at.leg.0 ≡ n → row_in rows t.at.leg.0 ≡ Flown t.plane t.at.dep → Contains (last_turn n (row_in rows n)) t
 last_is rows n t same h =
-    subst (λ (k : ℕ). Contains (last_turn n (row_in rows n)) (record { plane = t.plane; dep = t.dep; leg = record { 0 = k } })) (sym same)
-    (one_whole n (row_in rows n) t.plane t.dep (ap (row_in rows) (sym same) ∙ h))
+    subst (λ (k : ℕ). Contains (last_turn n (row_in rows n)) (record { plane = t.plane; at = record { dep = t.at.dep; leg = record { 0 = k } } })) (sym same)
+    (one_whole n (row_in rows n) t.plane t.at.dep (ap (row_in rows) (sym same) ∙ h))
 
-pub turns-whole : (rows : List Row) (n : ℕ) (t : Turn) → IsTurn rows n t → Contains (turns rows n) t
+pub turns-whole : (rows : List Row) (n : ℕ) (t : FlownLeg) → IsTurn rows n t → Contains (turns rows n) t
 turns-whole rows zero t h = absurd (omega (arith, h.within))
 turns-whole rows (suc n) t h =
-    let cases : (t.leg.0 < n) ⊎ (t.leg.0 ≡ n) = grind (arith, h.within) in
+    let cases : (t.at.leg.0 < n) ⊎ (t.at.leg.0 ≡ n) = grind (arith, h.within) in
     subst (λ ts. Contains ts t) (sym (turns-more rows n ∙ ap (λ ts. turns rows n ++ ts) (last_turn-is rows n (row_in rows n) refl)))
     (elim cases [
       | inl less ↦ Contains-append_left (turns rows n) (last_turn n (row_in rows n)) t (turns-whole rows n t (record { within = less; row = h.row }))
@@ -81,25 +81,25 @@ turns-whole rows (suc n) t h =
           (last_is rows n t same h.row)
     ])
 
--- no two turns are of one leg
-abbrev same_leg : Turn → Turn → Bool
-same_leg s t = eqb s.leg.0 t.leg.0
+-- no two rotation legs are of one leg
+abbrev same_leg : FlownLeg → FlownLeg → Bool
+same_leg s t = eqb s.at.leg.0 t.at.leg.0
 
 same_leg_equiv : IsEquivalence same_leg
-same_leg_equiv = on_equiv (λ t. t.leg.0) nat_eq_equiv
+same_leg_equiv = on_equiv (λ t. t.at.leg.0) nat_eq_equiv
 
 not_below : (n x : ℕ) → x < n → eqb n x ≡ false
 not_below n x h = grind (arith, nat_tests)
 
-apart_from_last : (rows : List Row) (n : ℕ) (plane : Plane) (dep : Minute) → All (λ t. same_leg (record { plane = plane; dep = dep; leg = record { 0 = n } }) t ≡ false) (turns rows n)
+apart_from_last : (rows : List Row) (n : ℕ) (plane : Plane) (dep : Minute) → All (λ t. same_leg (record { plane = plane; at = record { dep = dep; leg = record { 0 = n } } }) t ≡ false) (turns rows n)
 apart_from_last rows n plane dep =
-    All-weaker (IsTurn rows n) (λ t. same_leg (record { plane = plane; dep = dep; leg = record { 0 = n } }) t ≡ false)
-    (λ t h. not_below n t.leg.0 h.within) (turns rows n) (turns-sound rows n)
+    All-weaker (IsTurn rows n) (λ t. same_leg (record { plane = plane; at = record { dep = dep; leg = record { 0 = n } } }) t ≡ false)
+    (λ t h. not_below n t.at.leg.0 h.within) (turns rows n) (turns-sound rows n)
 
 one_apart : (rows : List Row) (n : ℕ) (row : Row) → IsDistinct same_leg (turns rows n) → IsDistinct same_leg (turns rows n ++ last_turn n row)
 one_apart rows n (Flown plane dep) h =
-    IsDistinct-push same_leg_equiv (turns rows n) (record { plane = plane; dep = dep; leg = record { 0 = n } }) h
-    (list_any_none (same_leg (record { plane = plane; dep = dep; leg = record { 0 = n } })) (turns rows n) (apart_from_last rows n plane dep))
+    IsDistinct-push same_leg_equiv (turns rows n) (record { plane = plane; at = record { dep = dep; leg = record { 0 = n } } }) h
+    (list_any_none (same_leg (record { plane = plane; at = record { dep = dep; leg = record { 0 = n } } })) (turns rows n) (apart_from_last rows n plane dep))
 one_apart rows n Cancelled h = subst (IsDistinct same_leg) (sym (append-nil (turns rows n))) h
 
 pub turns-apart : (rows : List Row) (n : ℕ) → IsDistinct same_leg (turns rows n)
@@ -109,24 +109,28 @@ turns-apart rows (suc n) =
     subst (IsDistinct same_leg) (sym (turns-more rows n ∙ ap (λ ts. turns rows n ++ ts) (last_turn-is rows n (row_in rows n) refl)))
     (one_apart rows n (row_in rows n) (turns-apart rows n))
 
--- ---- the turns, sorted
+-- where the rows are n, those of the first n legs are all
+pub turns_of_all : (rows : List Row) (n : ℕ) (made : List FlownLeg) → length rows ≡ n → made ≡ turns rows n → made ≡ turns rows (length rows)
+turns_of_all rows n made few is = is ∙ ap (turns rows) (sym few)
 
-abbrev pub turn_cmp : Turn → Turn → Ordering
-turn_cmp s t = turns_cmp s.plane.0 s.leg.0 s.dep.0 t.plane.0 t.leg.0 t.dep.0
+-- ---- the rotation legs, sorted
+
+abbrev pub turn_cmp : FlownLeg → FlownLeg → Ordering
+turn_cmp s t = turns_cmp s.plane.0 s.at.leg.0 s.at.dep.0 t.plane.0 t.at.leg.0 t.at.dep.0
 
 turn_total : IsTotalOrder turn_cmp
-turn_total = then_total (on_total (λ t. t.plane.0) nat_cmp_total) (then_total (on_total (λ t. t.dep.0) nat_cmp_total) (on_total (λ t. t.leg.0) nat_cmp_total))
+turn_total = then_total (on_total (λ t. t.plane.0) nat_cmp_total) (then_total (on_total (λ t. t.at.dep.0) nat_cmp_total) (on_total (λ t. t.at.leg.0) nat_cmp_total))
 
-abbrev ahead : Turn → Turn → Bool
-ahead s t = is_ahead s.plane.0 s.leg.0 s.dep.0 t.plane.0 t.leg.0 t.dep.0
+abbrev ahead : FlownLeg → FlownLeg → Bool
+ahead s t = is_ahead s.plane.0 s.at.leg.0 s.at.dep.0 t.plane.0 t.at.leg.0 t.at.dep.0
 
--- the turns of the first n legs, each once, in strictly ascending order
-pub record IsTurnOrder (rows : List Row) (n : ℕ) (ts : List Turn) : Type 0 where
+-- the rotation legs of the first n legs, each once, in strictly ascending order
+pub record IsTurnOrder (rows : List Row) (n : ℕ) (ts : List FlownLeg) : Type 0 where
   pub sound : All (IsTurn rows n) ts
-  pub whole : (t : Turn) → IsTurn rows n t → Contains ts t
+  pub whole : (t : FlownLeg) → IsTurn rows n t → Contains ts t
   pub rising : (i j : ℕ) → i < j → j < length ts → ahead (turn_at ts i) (turn_at ts j) ≡ true
 
-pub sorted_turns : (rows : List Row) (n : ℕ) (made ts : List Turn) → made ≡ turns rows n → IsPermutation made ts → IsSorted turn_cmp ts → IsTurnOrder rows n ts
+pub sorted_turns : (rows : List Row) (n : ℕ) (made ts : List FlownLeg) → made ≡ turns rows n → IsPermutation made ts → IsSorted turn_cmp ts → IsTurnOrder rows n ts
 sorted_turns rows n made ts is shuffled up =
     let moved : IsPermutation (turns rows n) ts = subst (λ xs. IsPermutation xs ts) is shuffled in
     let apart = IsDistinct-IsPermutation same_leg same_leg_equiv.symm (turns rows n) ts moved (turns-apart rows n) in
@@ -136,13 +140,13 @@ sorted_turns rows n made ts is shuffled up =
       rising = λ i j lt within.
           let s = turn_at ts i in
           let t = turn_at ts j in
-          ahead-from_cmp s.plane.0 s.leg.0 s.dep.0 t.plane.0 t.leg.0 t.dep.0
+          ahead-from_cmp s.plane.0 s.at.leg.0 s.at.dep.0 t.plane.0 t.at.leg.0 t.at.dep.0
           (sorted_far (λ s t. is_lt (turn_cmp s t)) (ranks_by turn_total (λ t. t)) ts up i j no_turn (omega arith) within)
           (apart_from_distinct same_leg ts i j no_turn apart lt within);
     }
 
--- of two places the turn at the one is not ahead of that at the other unless it stands to the left
-pub left_of : (rows : List Row) (n : ℕ) (ts : List Turn) (i j : ℕ) → IsTurnOrder rows n ts → i < length ts → j < length ts → ahead (turn_at ts i) (turn_at ts j) ≡ true → i < j
+-- of two places the rotation leg at the one is not ahead of that at the other unless it stands to the left
+pub left_of : (rows : List Row) (n : ℕ) (ts : List FlownLeg) (i j : ℕ) → IsTurnOrder rows n ts → i < length ts → j < length ts → ahead (turn_at ts i) (turn_at ts j) ≡ true → i < j
 left_of rows n ts i j h a b first =
     let cases : (i < j) ⊎ ((i ≡ j) ⊎ (j < i)) = grind arith in
     let s = turn_at ts i in
@@ -150,24 +154,24 @@ left_of rows n ts i j h a b first =
     elim cases [
       | inl less ↦ less
       | inr more ↦ elim more [
-        | inl same ↦ absurd (not_both (ahead s s) (subst (λ k. ahead s (turn_at ts k) ≡ true) (sym same) first) (ahead-irreflexive s.plane.0 s.leg.0 s.dep.0))
-        | inr less ↦ absurd (not_both (ahead s t) first (ahead-asymmetric t.plane.0 t.leg.0 t.dep.0 s.plane.0 s.leg.0 s.dep.0 (h.rising j i less a)))
+        | inl same ↦ absurd (not_both (ahead s s) (subst (λ k. ahead s (turn_at ts k) ≡ true) (sym same) first) (ahead-irreflexive s.plane.0 s.at.leg.0 s.at.dep.0))
+        | inr less ↦ absurd (not_both (ahead s t) first (ahead-asymmetric t.plane.0 t.at.leg.0 t.at.dep.0 s.plane.0 s.at.leg.0 s.at.dep.0 (h.rising j i less a)))
       ]
     ]
 
 -- a leg that comes before the leg at place k stands at a place to the left of it
-pub record IsLeft (ts : List Turn) (k x : ℕ) : Type 0 where
+pub record IsLeft (ts : List FlownLeg) (k x : ℕ) : Type 0 where
   pub place : ℕ
   pub left : place < k
-  pub is : (turn_at ts place).leg.0 ≡ x
+  pub is : (turn_at ts place).at.leg.0 ≡ x
   pub plane : (turn_at ts place).plane.0 ≡ (turn_at ts k).plane.0
 
--- the test of two legs at their turns
-at_turns : (rows : List Row) (n : ℕ) (s t : Turn) → IsTurn rows n s → IsTurn rows n t → precedes_in rows s.leg.0 t.leg.0 ≡ in_order s.plane.0 s.leg.0 s.dep.0 t.plane.0 t.leg.0 t.dep.0
+-- the test of two legs at their rotation legs
+at_turns : (rows : List Row) (n : ℕ) (s t : FlownLeg) → IsTurn rows n s → IsTurn rows n t → precedes_in rows s.at.leg.0 t.at.leg.0 ≡ in_order s.plane.0 s.at.leg.0 s.at.dep.0 t.plane.0 t.at.leg.0 t.at.dep.0
 at_turns rows n s t a b = rw (a.row, b.row) refl
 
-flown_turn : (rows : List Row) (n x y : ℕ) (row : Row) → row_in rows x ≡ row → x < n → precedes_in rows x y ≡ true → (t : Turn) × IsTurn rows n t × (t.leg.0 ≡ x)
-flown_turn rows n x y (Flown plane dep) e lt before = (record { plane = plane; dep = dep; leg = record { 0 = x } }, record { within = lt; row = e }, refl)
+flown_turn : (rows : List Row) (n x y : ℕ) (row : Row) → row_in rows x ≡ row → x < n → precedes_in rows x y ≡ true → (t : FlownLeg) × IsTurn rows n t × (t.at.leg.0 ≡ x)
+flown_turn rows n x y (Flown plane dep) e lt before = (record { plane = plane; at = record { dep = dep; leg = record { 0 = x } } }, record { within = lt; row = e }, refl)
 flown_turn rows n x y Cancelled e lt before = absurd (true≢false (sym before ∙ rw e refl))
 
 first_true : (a b : Bool) → (a && b) ≡ true → a ≡ true
@@ -179,36 +183,36 @@ equal_numbers a b h = grind (arith, nat_tests)
 equal_test : (a b : ℕ) → a ≡ b → eqb a b ≡ true
 equal_test a b h = grind (arith, nat_tests)
 
-pub before_is_left : (rows : List Row) (n : ℕ) (ts : List Turn) (k x : ℕ) → IsTurnOrder rows n ts → k < length ts → x < n → precedes_in rows x (turn_at ts k).leg.0 ≡ true → IsLeft ts k x
+pub before_is_left : (rows : List Row) (n : ℕ) (ts : List FlownLeg) (k x : ℕ) → IsTurnOrder rows n ts → k < length ts → x < n → precedes_in rows x (turn_at ts k).at.leg.0 ≡ true → IsLeft ts k x
 before_is_left rows n ts k x h lt within before =
-    let flown = flown_turn rows n x (turn_at ts k).leg.0 (row_in rows x) refl within before in
+    let flown = flown_turn rows n x (turn_at ts k).at.leg.0 (row_in rows x) refl within before in
     let at = h.whole flown.0 flown.1 in
     let j = at.0 in
     let here : turn_at ts j ≡ flown.0 = get_or_default ts j no_turn flown.0 at.1 ∙ at.2 in
-    let leg : (turn_at ts j).leg.0 ≡ x = ap (λ (t : Turn). t.leg.0) here ∙ flown.2 in
+    let leg : (turn_at ts j).at.leg.0 ≡ x = ap (λ (t : FlownLeg). t.at.leg.0) here ∙ flown.2 in
     let s = turn_at ts j in
     let t = turn_at ts k in
-    let order : in_order s.plane.0 s.leg.0 s.dep.0 t.plane.0 t.leg.0 t.dep.0 ≡ true =
-    sym (at_turns rows n s t (h.sound j no_turn at.1) (h.sound k no_turn lt)) ∙ subst (λ (y : ℕ). precedes_in rows y t.leg.0 ≡ true) (sym leg) before in
+    let order : in_order s.plane.0 s.at.leg.0 s.at.dep.0 t.plane.0 t.at.leg.0 t.at.dep.0 ≡ true =
+    sym (at_turns rows n s t (h.sound j no_turn at.1) (h.sound k no_turn lt)) ∙ subst (λ (y : ℕ). precedes_in rows y t.at.leg.0 ≡ true) (sym leg) before in
     record {
       place = j;
-      left = left_of rows n ts j k h at.1 lt (ahead-from_order s.plane.0 s.leg.0 s.dep.0 t.plane.0 t.leg.0 t.dep.0 order);
+      left = left_of rows n ts j k h at.1 lt (ahead-from_order s.plane.0 s.at.leg.0 s.at.dep.0 t.plane.0 t.at.leg.0 t.at.dep.0 order);
       is = leg;
-      plane = equal_numbers s.plane.0 t.plane.0 (first_true (eqb s.plane.0 t.plane.0) (is_earlier s.leg.0 s.dep.0 t.leg.0 t.dep.0) order);
+      plane = equal_numbers s.plane.0 t.plane.0 (first_true (eqb s.plane.0 t.plane.0) (is_earlier s.at.leg.0 s.at.dep.0 t.at.leg.0 t.at.dep.0) order);
     }
 
--- the turns of two places of one aircraft, by place
-rising_before : (rows : List Row) (n : ℕ) (ts : List Turn) (i k : ℕ) → IsTurnOrder rows n ts → i < k → k < length ts → eqb (turn_at ts i).plane.0 (turn_at ts k).plane.0 ≡ true → precedes_in rows (turn_at ts i).leg.0 (turn_at ts k).leg.0 ≡ true
+-- the rotation legs of two places of one aircraft, by place
+rising_before : (rows : List Row) (n : ℕ) (ts : List FlownLeg) (i k : ℕ) → IsTurnOrder rows n ts → i < k → k < length ts → eqb (turn_at ts i).plane.0 (turn_at ts k).plane.0 ≡ true → precedes_in rows (turn_at ts i).at.leg.0 (turn_at ts k).at.leg.0 ≡ true
 rising_before rows n ts i k h less lt same =
     let s = turn_at ts i in
     let t = turn_at ts k in
     at_turns rows n s t (h.sound i no_turn (omega arith)) (h.sound k no_turn lt)
-    ∙ order-from_ahead s.plane.0 s.leg.0 s.dep.0 t.plane.0 t.leg.0 t.dep.0 (h.rising i k less lt) same
+    ∙ order-from_ahead s.plane.0 s.at.leg.0 s.at.dep.0 t.plane.0 t.at.leg.0 t.at.dep.0 (h.rising i k less lt) same
 
--- where the turn to the left is of another aircraft, no leg comes before
-no_neighbour : (rows : List Row) (n : ℕ) (ts : List Turn) (k : ℕ) → IsTurnOrder rows n ts → k < length ts → (0 < k → eqb (turn_at ts (k - 1)).plane.0 (turn_at ts k).plane.0 ≡ false) → (x : ℕ) → x < n → precedes_in rows x (turn_at ts k).leg.0 ≡ false
+-- where the rotation leg to the left is of another aircraft, no leg comes before
+no_neighbour : (rows : List Row) (n : ℕ) (ts : List FlownLeg) (k : ℕ) → IsTurnOrder rows n ts → k < length ts → (0 < k → eqb (turn_at ts (k - 1)).plane.0 (turn_at ts k).plane.0 ≡ false) → (x : ℕ) → x < n → precedes_in rows x (turn_at ts k).at.leg.0 ≡ false
 no_neighbour rows n ts k h lt other x within =
-    elim (cases_Bool (precedes_in rows x (turn_at ts k).leg.0)) [
+    elim (cases_Bool (precedes_in rows x (turn_at ts k).at.leg.0)) [
       | inr none ↦ none
       | inl before ↦
           let at = before_is_left rows n ts k x h lt within before in
@@ -220,30 +224,30 @@ no_neighbour rows n ts k h lt other x within =
           let t = turn_at ts k in
           absurd (not_both (eqb s.plane.0 t.plane.0)
           (elim cases [
-            | inl less ↦ between r.plane.0 r.leg.0 r.dep.0 s.plane.0 s.leg.0 s.dep.0 t.plane.0 t.leg.0 t.dep.0
+            | inl less ↦ between r.plane.0 r.at.leg.0 r.at.dep.0 s.plane.0 s.at.leg.0 s.at.dep.0 t.plane.0 t.at.leg.0 t.at.dep.0
                 (h.rising j (k - 1) less (omega arith)) (h.rising (k - 1) k (omega (arith, at.left)) lt) (equal_test r.plane.0 t.plane.0 at.plane)
             | inr same ↦ subst (λ (i : ℕ). eqb (turn_at ts i).plane.0 t.plane.0 ≡ true) same (equal_test r.plane.0 t.plane.0 at.plane)
           ])
           apart)
     ]
 
--- no leg comes between the turn to the left and the turn at place k
-none_between : (rows : List Row) (n : ℕ) (ts : List Turn) (k z : ℕ) → IsTurnOrder rows n ts → k < length ts → 0 < k → IsLeft ts k z → z < n → precedes_in rows (turn_at ts (k - 1)).leg.0 z ≡ false
+-- no leg comes between the rotation leg to the left and the rotation leg at place k
+none_between : (rows : List Row) (n : ℕ) (ts : List FlownLeg) (k z : ℕ) → IsTurnOrder rows n ts → k < length ts → 0 < k → IsLeft ts k z → z < n → precedes_in rows (turn_at ts (k - 1)).at.leg.0 z ≡ false
 none_between rows n ts k z h lt some at within =
-    elim (cases_Bool (precedes_in rows (turn_at ts (k - 1)).leg.0 z)) [
+    elim (cases_Bool (precedes_in rows (turn_at ts (k - 1)).at.leg.0 z)) [
       | inr none ↦ none
       | inl before ↦
           let s = turn_at ts (k - 1) in
           let t = turn_at ts at.place in
-          let order : in_order s.plane.0 s.leg.0 s.dep.0 t.plane.0 t.leg.0 t.dep.0 ≡ true =
+          let order : in_order s.plane.0 s.at.leg.0 s.at.dep.0 t.plane.0 t.at.leg.0 t.at.dep.0 ≡ true =
           sym (at_turns rows n s t (h.sound (k - 1) no_turn (omega arith)) (h.sound at.place no_turn (omega (arith, at.left))))
-          ∙ subst (λ (y : ℕ). precedes_in rows s.leg.0 y ≡ true) (sym at.is) before in
-          let left = left_of rows n ts (k - 1) at.place h (omega arith) (omega (arith, at.left)) (ahead-from_order s.plane.0 s.leg.0 s.dep.0 t.plane.0 t.leg.0 t.dep.0 order) in
+          ∙ subst (λ (y : ℕ). precedes_in rows s.at.leg.0 y ≡ true) (sym at.is) before in
+          let left = left_of rows n ts (k - 1) at.place h (omega arith) (omega (arith, at.left)) (ahead-from_order s.plane.0 s.at.leg.0 s.at.dep.0 t.plane.0 t.at.leg.0 t.at.dep.0 order) in
           absurd (omega (arith, left, at.left))
     ]
 
 -- where it is of the same aircraft, its leg is the leg before
-left_nearest : (rows : List Row) (n : ℕ) (ts : List Turn) (k : ℕ) → IsTurnOrder rows n ts → k < length ts → 0 < k → eqb (turn_at ts (k - 1)).plane.0 (turn_at ts k).plane.0 ≡ true → IsNearest rows n (turn_at ts k).leg.0 (turn_at ts (k - 1)).leg.0
+left_nearest : (rows : List Row) (n : ℕ) (ts : List FlownLeg) (k : ℕ) → IsTurnOrder rows n ts → k < length ts → 0 < k → eqb (turn_at ts (k - 1)).plane.0 (turn_at ts k).plane.0 ≡ true → IsNearest rows n (turn_at ts k).at.leg.0 (turn_at ts (k - 1)).at.leg.0
 left_nearest rows n ts k h lt some same = record {
   within = (h.sound (k - 1) no_turn (omega arith)).within;
   before = rising_before rows n ts (k - 1) k h (omega arith) lt same;
@@ -256,7 +260,7 @@ is_below a b h = grind (arith, nat_tests)
 other_plane : (k : ℕ) (same : Bool) → 0 < k → (ltb 0 k && same) ≡ false → same ≡ false
 other_plane k same less none = grind (arith, nat_tests)
 
-pub neighbour_last : (rows : List Row) (n : ℕ) (ts : List Turn) (k : ℕ) → IsTurnOrder rows n ts → k < length ts → IsLegBefore rows n (turn_at ts k).leg.0 (neighbour ts k)
+pub neighbour_last : (rows : List Row) (n : ℕ) (ts : List FlownLeg) (k : ℕ) → IsTurnOrder rows n ts → k < length ts → IsLegBefore rows n (turn_at ts k).at.leg.0 (neighbour ts k)
 neighbour_last rows n ts k h lt =
     let some = ltb 0 k in
     let same = eqb (turn_at ts (k - 1)).plane.0 (turn_at ts k).plane.0 in
@@ -269,7 +273,7 @@ neighbour_last rows n ts k h lt =
 
 -- ---- one more row
 
-pub turns-flown : (rows : List Row) (n : ℕ) (plane : Plane) (dep : Minute) (d : Row) → n < length rows → get_or rows n d ≡ Flown plane dep → turns rows (n + 1) ≡ turns rows n ++ (let t : Turn = record { plane = plane; dep = dep; leg = record { 0 = n } } in t) ∷ []
+pub turns-flown : (rows : List Row) (n : ℕ) (plane : Plane) (dep : Minute) (d : Row) → n < length rows → get_or rows n d ≡ Flown plane dep → turns rows (n + 1) ≡ turns rows n ++ (let t : FlownLeg = record { plane = plane; at = record { dep = dep; leg = record { 0 = n } } } in t) ∷ []
 turns-flown rows n plane dep d lt e =
     rw add-one (turns-more rows n ∙ ap (λ ts. turns rows n ++ ts) (last_turn-is rows n (Flown plane dep) (get_or_default rows n Cancelled d lt ∙ e)))
 
@@ -283,12 +287,12 @@ turns-other rows n d lt none =
     ∙ ap (λ ts. turns rows n ++ ts) (last_turn-is rows n (row_in rows n) refl ∙ not_flown n (row_in rows n) (λ plane dep e. none plane dep (get_or_default rows n d Cancelled lt ∙ e)))
     ∙ append-nil (turns rows n))
 
--- ---- one more turn
+-- ---- one more rotation leg
 
-abbrev leg_in : List Turn → ℕ → ℕ
-leg_in ts k = (turn_at ts k).leg.0
+abbrev leg_in : List FlownLeg → ℕ → ℕ
+leg_in ts k = (turn_at ts k).at.leg.0
 
-other_place : (ts : List Turn) (j k : ℕ) → j < k + 1 → eqb (leg_in ts j) (leg_in ts k) ≡ false → j < k
+other_place : (ts : List FlownLeg) (j k : ℕ) → j < k + 1 → eqb (leg_in ts j) (leg_in ts k) ≡ false → j < k
 other_place ts j k within apart =
     let cases : (j < k) ⊎ (j ≡ k) = grind arith in
     elim cases [
@@ -299,7 +303,7 @@ other_place ts j k within apart =
 unequal_numbers : (a b : ℕ) → eqb a b ≡ false → a ≢ b
 unequal_numbers a b h same = not_both (eqb a b) (equal_test a b same) h
 
-pub link_right : (rows : List Row) (n : ℕ) (ts : List Turn) (k : ℕ) (before : List (Option Leg)) → IsTurnOrder rows n ts → k < length ts → length before ≡ n → ((j : ℕ) → j < k → IsLegBefore rows n (leg_in ts j) (get_or before (leg_in ts j) None)) → (j : ℕ) → j < k + 1 → IsLegBefore rows n (leg_in ts j) (get_or (set before (leg_in ts k) (neighbour ts k)) (leg_in ts j) None)
+pub link_right : (rows : List Row) (n : ℕ) (ts : List FlownLeg) (k : ℕ) (before : List (Option Leg)) → IsTurnOrder rows n ts → k < length ts → length before ≡ n → ((j : ℕ) → j < k → IsLegBefore rows n (leg_in ts j) (get_or before (leg_in ts j) None)) → (j : ℕ) → j < k + 1 → IsLegBefore rows n (leg_in ts j) (get_or (set before (leg_in ts k) (neighbour ts k)) (leg_in ts j) None)
 link_right rows n ts k before h lt legs right j within =
     let last = neighbour ts k in
     let room : leg_in ts k < length before = omega (arith, (h.sound k no_turn lt).within) in
@@ -315,27 +319,27 @@ link_right rows n ts k before h lt legs right j within =
 flown_not_cancelled : (plane : Plane) (dep : Minute) → Flown plane dep ≡ Cancelled → ⊥
 flown_not_cancelled plane dep h = cc
 
-pub link_blank : (rows : List Row) (n : ℕ) (ts : List Turn) (k : ℕ) (before : List (Option Leg)) → IsTurnOrder rows n ts → k < length ts → (y : ℕ) → row_in rows y ≡ Cancelled → get_or before y None ≡ None → get_or (set before (leg_in ts k) (neighbour ts k)) y None ≡ None
+pub link_blank : (rows : List Row) (n : ℕ) (ts : List FlownLeg) (k : ℕ) (before : List (Option Leg)) → IsTurnOrder rows n ts → k < length ts → (y : ℕ) → row_in rows y ≡ Cancelled → get_or before y None ≡ None → get_or (set before (leg_in ts k) (neighbour ts k)) y None ≡ None
 link_blank rows n ts k before h lt y off blank =
-    let other : y ≢ leg_in ts k = λ same. flown_not_cancelled (turn_at ts k).plane (turn_at ts k).dep (sym (h.sound k no_turn lt).row ∙ ap (row_in rows) (sym same) ∙ off) in
+    let other : y ≢ leg_in ts k = λ same. flown_not_cancelled (turn_at ts k).plane (turn_at ts k).at.dep (sym (h.sound k no_turn lt).row ∙ ap (row_in rows) (sym same) ∙ off) in
     get_or-set_other before (leg_in ts k) y (neighbour ts k) None other ∙ blank
 
--- ---- all turns
+-- ---- all rotation legs
 
 none_before : (rows : List Row) (x y : ℕ) (row : Row) → row_in rows x ≡ row → row_in rows y ≡ Cancelled → precedes_in rows x y ≡ false
 none_before rows x y (Flown plane dep) e off = rw (e, off) refl
 none_before rows x y Cancelled e off = rw e refl
 
-linked_at : (rows : List Row) (ts : List Turn) (before : List (Option Leg)) → IsTurnOrder rows (length rows) ts → ((j : ℕ) → j < length ts → IsLegBefore rows (length rows) (leg_in ts j) (get_or before (leg_in ts j) None)) → ((y : ℕ) → y < length rows → row_in rows y ≡ Cancelled → get_or before y None ≡ None) → (y : ℕ) → y < length rows → (row : Row) → row_in rows y ≡ row → IsLegBefore rows (length rows) y (get_or before y None)
+linked_at : (rows : List Row) (ts : List FlownLeg) (before : List (Option Leg)) → IsTurnOrder rows (length rows) ts → ((j : ℕ) → j < length ts → IsLegBefore rows (length rows) (leg_in ts j) (get_or before (leg_in ts j) None)) → ((y : ℕ) → y < length rows → row_in rows y ≡ Cancelled → get_or before y None ≡ None) → (y : ℕ) → y < length rows → (row : Row) → row_in rows y ≡ row → IsLegBefore rows (length rows) y (get_or before y None)
 linked_at rows ts before h right blank y within (Flown plane dep) e =
-    let t : Turn = record { plane = plane; dep = dep; leg = record { 0 = y } } in
+    let t : FlownLeg = record { plane = plane; at = record { dep = dep; leg = record { 0 = y } } } in
     let at = h.whole t (record { within = within; row = e }) in
-    let leg : leg_in ts at.0 ≡ y = ap (λ (t : Turn). t.leg.0) (get_or_default ts at.0 no_turn t at.1 ∙ at.2) in
+    let leg : leg_in ts at.0 ≡ y = ap (λ (t : FlownLeg). t.at.leg.0) (get_or_default ts at.0 no_turn t at.1 ∙ at.2) in
     subst (λ (x : ℕ). IsLegBefore rows (length rows) x (get_or before x None)) leg (right at.0 at.1)
 linked_at rows ts before h right blank y within Cancelled e =
     rw (blank y within e) (λ x lt. none_before rows x y (row_in rows x) refl e)
 
-pub linked : (rows : List Row) (ts : List Turn) (before : List (Option Leg)) → IsTurnOrder rows (length rows) ts → length before ≡ length rows → ((j : ℕ) → j < length ts → IsLegBefore rows (length rows) (leg_in ts j) (get_or before (leg_in ts j) None)) → ((y : ℕ) → y < length rows → row_in rows y ≡ Cancelled → get_or before y None ≡ None) → AreBefore rows before
+pub linked : (rows : List Row) (ts : List FlownLeg) (before : List (Option Leg)) → IsTurnOrder rows (length rows) ts → length before ≡ length rows → ((j : ℕ) → j < length ts → IsLegBefore rows (length rows) (leg_in ts j) (get_or before (leg_in ts j) None)) → ((y : ℕ) → y < length rows → row_in rows y ≡ Cancelled → get_or before y None ≡ None) → AreBefore rows before
 linked rows ts before h legs right blank = record {
   legs = legs;
   each = λ y within. linked_at rows ts before h right blank y within (row_in rows y) refl;

@@ -1,3 +1,4 @@
 pub mod Before
 pub mod Order
 pub mod Last
+pub mod AfterLeg

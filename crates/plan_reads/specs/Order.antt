@@ -5,26 +5,26 @@ use Rattle.desk_data.specs.declared.row.Row.{Row}
 use Rattle.desk_data.specs.declared.row.Row.TheVariants.{Flown, Cancelled}
 use Rattle.desk_units.specs.declared.numbers.Leg.{Leg}
 use Rattle.desk_rules.specs.Numbers.{numbers}
-use Rattle.plan_reads.specs.declared.order.Turn.{Turn}
+use Rattle.plan_reads.specs.declared.order.FlownLeg.{FlownLeg}
 
--- the turn of leg x, if its row is flown
-abbrev pub turn_of : ℕ → Row → Option Turn
-turn_of x (Flown plane dep) = Some (record { plane = plane; dep = dep; leg = record { 0 = x } })
+-- the rotation leg of leg x, if its row is flown
+abbrev pub turn_of : ℕ → Row → Option FlownLeg
+turn_of x (Flown plane dep) = Some (record { plane = plane; at = record { dep = dep; leg = record { 0 = x } } })
 turn_of x Cancelled = None
 
--- the turns of the first n legs of these rows, by leg
-abbrev pub turns : List Row → ℕ → List Turn
+-- the rotation legs of the first n legs of these rows, by leg
+abbrev pub turns : List Row → ℕ → List FlownLeg
 turns rows n = filter_map (λ x. turn_of x (slice_index_or rows x Cancelled)) (numbers n)
 
--- a turn of nothing
-abbrev pub no_turn : Turn
-no_turn = record { plane = record { 0 = 0 }; dep = record { 0 = 0 }; leg = record { 0 = 0 } }
+-- a rotation leg of nothing
+abbrev pub no_turn : FlownLeg
+no_turn = record { plane = record { 0 = 0 }; at = record { dep = record { 0 = 0 }; leg = record { 0 = 0 } } }
 
--- the turn at place k
-abbrev pub turn_at : List Turn → ℕ → Turn
+-- the rotation leg at place k
+abbrev pub turn_at : List FlownLeg → ℕ → FlownLeg
 turn_at ts k = slice_index_or ts k no_turn
 
 -- the leg at the place before place k, if one aircraft flies both
-abbrev pub neighbour : List Turn → ℕ → Option Leg
+abbrev pub neighbour : List FlownLeg → ℕ → Option Leg
 neighbour ts k =
-    if nat_lt 0 k && ((turn_at ts (k - 1)).plane.0 == (turn_at ts k).plane.0) then Some (turn_at ts (k - 1)).leg else None
+    if nat_lt 0 k && ((turn_at ts (k - 1)).plane.0 == (turn_at ts k).plane.0) then Some (turn_at ts (k - 1)).at.leg else None

@@ -1,11 +1,15 @@
 //! How a plan is read: what its rows say of an aircraft's legs in their order, and of the paths that
 //! passengers are on.
 //!
-//!     let before = legs_before(alloc, plan.rows())?;     // for each leg the one before it, if any
+//!     let before = legs_before(alloc, &plan, legs)?;     // for each leg the one before it, if any
 //!     put_lasts(&at, &inst, &plan, &mut lasts);          // for each aircraft its last leg before a moment
 //!     let airport = stand_of(&inst, plane, last);        // where that leaves it
 //!     let leaves = departure(&plan, leg);                // in minutes since 2000-01-01
 //!     is_good_path(&inst, &plan, res, path)              // whether a path keeps C13
+//!     c4_range(&inst, leg, row)                          // whether a leg with a row keeps C4
+//!
+//! What a rule asks of one leg and its row stands here once, by the rule's number: whoever judges a leg,
+//! from scratch or as plans change, asks it with the row at hand.
 //!
 //! Paths are read through `ReadPlan`, a small trait with a plan's rows and groups, so that whatever has
 //! these is read alike. The rules, the cost, and later steps and the search ask here.
@@ -15,6 +19,7 @@
 //! other calls walk over what they are asked about. It stands on `desk_data` and `desk_rules`.
 #![tactic(auto)]
 
+mod after_leg;
 mod connection;
 mod last;
 mod laws;
@@ -22,9 +27,12 @@ mod legs;
 mod order;
 mod paths;
 mod reads;
+mod rotation_leg;
+mod row_rules;
 mod rules;
 mod stand;
 
+pub use after_leg::{c5_location, c6_ground_time, ground_time, stand_after, with_departure};
 pub use connection::connects;
 pub use last::{Moments, put_lasts};
 pub use laws::{
@@ -32,7 +40,9 @@ pub use laws::{
 };
 pub use legs::{arrival, departure};
 pub use order::legs_before;
-pub use paths::{all_flown, has_leg, is_carried};
+pub use paths::{all_flown, has_leg, is_carried, is_flown};
 pub use reads::ReadPlan;
-pub use rules::{is_good_path, is_in_time_path};
+pub use rotation_leg::RotationLeg;
+pub use row_rules::{c1_due, c2_in_time, c3_family, c4_range, c7_service, meets_span};
+pub use rules::{is_good_path, is_in_time_path, longest_delay};
 pub use stand::stand_of;

@@ -2,7 +2,8 @@
 
 ghost use Rattle.std.specs.Prelude.{◌≡◌, ◌<◌, ◌≤◌, IsTrue, length};
 ghost use Rattle.desk_data.specs.Valid.{IsPathOf};
-ghost use Rattle.desk_rules.specs.Passengers.{all_flown, is_carried, is_flown, takes};
+ghost use Rattle.desk_rules.specs.Passengers.{all_flown, is_flown, takes};
+ghost use Rattle.desk_data.specs.Paths.{is_carried};
 
 use crate::reads::ReadPlan;
 use desk_data::{Cabin, Leg, Row};
@@ -32,7 +33,8 @@ pub fn all_flown<P: ReadPlan>(plan: &P, path: &[(Leg, Cabin)]) -> bool
     path.iter().all(|pair| is_flown(plan.read_row(pair.0)))
 }
 
-fn is_flown(row: Row) -> bool
+/// Whether a row is flown.
+pub fn is_flown(row: Row) -> bool
     ensures { result ≡ is_flown row }
 {
     match row {

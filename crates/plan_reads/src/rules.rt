@@ -54,8 +54,8 @@ pub fn is_in_time_path<P: ReadPlan>(
         || arrival(inst, plan, last) <= booked.arrival.0 + longest_delay(booked.haul)
 }
 
-/// The minutes after its booked arrival by which a reservation may arrive, by its haul.
-fn longest_delay(haul: Haul) -> u32
+/// The minutes after its booked arrival by which a reservation may arrive, by its haul, as C14 says.
+pub fn longest_delay(haul: Haul) -> u32
     ensures delay { result ≡ longest_delay haul }
     ensures limit { result ≤ 2160 }
 {

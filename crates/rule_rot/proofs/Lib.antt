@@ -1,3 +1,2 @@
-pub mod BeforeLaws
 pub mod RuleLaws
 pub mod UpkeepLaws

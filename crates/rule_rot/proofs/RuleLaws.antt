@@ -9,7 +9,7 @@ use Rattle.desk_data.specs.Situation.{Situation}
 use Rattle.desk_data.specs.PlanRows.{PlanRows}
 use Rattle.desk_rules.specs.Least.{breaks, rotation_items}
 use Rattle.rule_rot.specs.declared.rule.Rule.{Rule}
-use Rattle.rule_rot.specs.declared.rule.Rule.TheVariants.{C1Due, C2InTime, C3Family, C4Reach, C5Location, C6GroundTime, C7Service, C8Maintenance, C9Minutes}
+use Rattle.rule_rot.specs.declared.rule.Rule.TheVariants.{C1Due, C2InTime, C3Family, C4Range, C5Location, C6GroundTime, C7Service, C8Maintenance, C9Minutes}
 use Rattle.rule_rot.specs.Items.{keeps, item, items_of}
 
 -- an item is broken where its leg or aircraft does not keep the rule
@@ -18,7 +18,7 @@ unfolding breaks
 breaks-keeps I P C1Due n = refl
 breaks-keeps I P C2InTime n = refl
 breaks-keeps I P C3Family n = refl
-breaks-keeps I P C4Reach n = refl
+breaks-keeps I P C4Range n = refl
 breaks-keeps I P C5Location n = refl
 breaks-keeps I P C6GroundTime n = refl
 breaks-keeps I P C7Service n = refl
@@ -32,6 +32,6 @@ next_rule {R = R} p items rules i rule lt =
     ap (λ (rest : List R). find p (flat_map items rest)) e ∙ find-append p (items (get_or rules i rule)) (flat_map items (drop (i + 1) rules))
 
 -- the items of the nine rules are those of rotations
-pub all_items : (I : Situation) → flat_map (items_of I) (C1Due ∷ C2InTime ∷ C3Family ∷ C4Reach ∷ C5Location ∷ C6GroundTime ∷ C7Service ∷ C8Maintenance ∷ C9Minutes ∷ []) ≡ rotation_items I
+pub all_items : (I : Situation) → flat_map (items_of I) (C1Due ∷ C2InTime ∷ C3Family ∷ C4Range ∷ C5Location ∷ C6GroundTime ∷ C7Service ∷ C8Maintenance ∷ C9Minutes ∷ []) ≡ rotation_items I
 unfolding rotation_items
 all_items I = simp (append_assoc, append-nil)

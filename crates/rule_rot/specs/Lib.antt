@@ -1,3 +1,2 @@
-pub mod Before
 pub mod Upkeep
 pub mod Items

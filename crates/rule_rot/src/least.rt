@@ -24,15 +24,13 @@ pub fn least_rot(alloc: Global, inst: &Instance, plan: &Plan) -> Result<Option<B
     requires { IsPlanFor inst.now plan.now }
     ensures { IfOk result (λ item. item ≡ least_rot inst.now plan.now) }
 {
-    // a plan has a row for each leg, and there are at most 20,000
-    prove!(plan.rows().len() == inst.legs() as usize);
-    let before = legs_before(alloc, plan.rows())?;
+    let before = legs_before(alloc, plan, inst.legs())?;
     let upkeeps = upkeeps_of(alloc, inst, plan)?;
     let rules = [
         Rule::C1Due,
         Rule::C2InTime,
         Rule::C3Family,
-        Rule::C4Reach,
+        Rule::C4Range,
         Rule::C5Location,
         Rule::C6GroundTime,
         Rule::C7Service,

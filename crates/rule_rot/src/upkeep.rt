@@ -6,9 +6,8 @@ ghost use Rattle.desk_data.specs.Valid.{IsPlanFor};
 ghost use Rattle.desk_rules.specs.Maintenance.{flies};
 ghost use Rattle.rule_rot.specs.Upkeep.{AreUpkeeps, IsUpkeep, blank, start_of};
 
-use crate::c7_service::meets;
 use desk_data::{Instance, Leg, Maint, Minute, NoMem, Plan, Plane, Row};
-use plan_reads::{Moments, departure, put_lasts};
+use plan_reads::{Moments, departure, meets_span, put_lasts};
 use std::alloc::Global;
 
 /// What some legs say of an aircraft's maintenance, and the last of all its legs before it.
@@ -121,7 +120,7 @@ fn with_leg(
     let is_before = departs < maint.from.0;
     Upkeep {
         stops: so_far.stops && is_before,
-        free: so_far.free && !meets(departs, departs + block, maint.from, maint.to),
+        free: so_far.free && !meets_span(departs, departs + block, maint.from, maint.to),
         last: so_far.last,
         minutes: if is_before {
             so_far.minutes + block

@@ -13,7 +13,7 @@ use Rattle.file_rows.specs.declared.cause.Cause.TheVariants as causes
 use Rattle.file_rows.specs.declared.passengers.LegRow.{LegRow}
 use Rattle.desk_text.specs.Fields.{inbound_of, cabin_of}
 use Rattle.desk_text.specs.Lines.{is_last}
-use Rattle.desk_text.specs.Texts.{date_text}
+use Rattle.desk_text.specs.Texts.{date_text, cabin_text, direction_text}
 use Rattle.desk_data.specs.declared.info.ResInfo.{ResInfo}
 use Rattle.desk_data.specs.declared.row.Group.{Group}
 use Rattle.desk_data.specs.PlanRows.{PlanRows}
@@ -22,7 +22,7 @@ use Rattle.desk_data.specs.Valid.{IsSeen}
 use Rattle.read_pax.specs.Itineraries.{leg_of, legs_of as seats_of, before_all}
 use Rattle.sol_rows.specs.declared.rows.PlannedGroup.{PlannedGroup}
 use Rattle.sol_rows.specs.Groups.{whole_groups, planned_group, itinerary_rows}
-use Rattle.sol_text.specs.Itineraries.{cabin_text, direction_text, seat_text, group_line, group_lines, itineraries_text}
+use Rattle.sol_text.specs.Itineraries.{seat_text, group_line, group_lines, itineraries_text}
 use Rattle.token_laws.proofs.Spelled.{name_back, date_back, number_back}
 use Rattle.sol_laws.proofs.TextLemmas.{IsField, seen_from, spaced, after_space, fields_of_spaced, spaced_line, Reads, numbered, text_reads}
 use Rattle.sol_laws.proofs.ValueLemmas.{date_field, number_field}

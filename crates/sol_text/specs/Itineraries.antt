@@ -1,25 +1,13 @@
 -- The file of a plan's itineraries.
-use Rattle.std.specs.Prelude.{ℕ, Bool, true, false, List, ◌++◌, codes, decimal}
+use Rattle.std.specs.Prelude.{ℕ, List, ◌++◌, codes, decimal}
 use Rattle.std.specs.List.{flat_map, zip}
 use Rattle.desk_units.specs.declared.numbers.Leg.{Leg}
 use Rattle.desk_units.specs.declared.numbers.Cabin.{Cabin}
-use Rattle.desk_units.specs.declared.numbers.Cabin.TheVariants as cabin
 use Rattle.desk_data.specs.declared.info.ResInfo.{ResInfo}
 use Rattle.desk_data.specs.declared.row.Group.{Group}
 use Rattle.desk_data.specs.Situation.{Situation, leg_at}
 use Rattle.desk_data.specs.PlanRows.{PlanRows}
-use Rattle.desk_text.specs.Texts.{date_text}
-
--- the letter of a cabin
-abbrev pub cabin_text : Cabin → List ℕ
-cabin_text cabin.F = codes "F"
-cabin_text cabin.B = codes "B"
-cabin_text cabin.E = codes "E"
-
--- A for the way out, R for the way back
-abbrev pub direction_text : Bool → List ℕ
-direction_text false = codes "A"
-direction_text true = codes "R"
+use Rattle.desk_text.specs.Texts.{date_text, cabin_text, direction_text}
 
 -- a leg of a path with its cabin, behind a space: FLIGHT DATE CABIN
 unfoldable pub seat_text : Situation → Leg × Cabin → List ℕ

@@ -4,10 +4,11 @@ ghost use Rattle.std.specs.Prelude.{◌≡◌, ◌<◌, ◌++◌, All, IfOk, OnO
 ghost use Rattle.std.specs.List.{flat_map};
 ghost use Rattle.desk_data.specs.Situation.{legs_of};
 ghost use Rattle.desk_data.specs.Valid.{IsPlanFor, IsPathOf};
-ghost use Rattle.sol_text.specs.Itineraries.{cabin_text, direction_text, seat_text, group_line, group_lines, itineraries_text};
+ghost use Rattle.sol_text.specs.Itineraries.{seat_text, group_line, group_lines, itineraries_text};
+ghost use Rattle.desk_text.specs.Texts.{direction_text};
 
 use desk_data::{Cabin, Group, Instance, Leg, NoMem, Res, ResInfo};
-use desk_text::{date_text, push_all, push_number};
+use desk_text::{cabin_letter, date_text, direction_letter, push_all, push_number};
 use plan_pages::Pages;
 use std::alloc::Global;
 
@@ -97,20 +98,4 @@ fn push_seat(text: &mut Vec<u8>, inst: &Instance, leg: Leg, cabin: Cabin) -> Res
         text,
         &[b" ", info.flight.as_slice(), b" ", &date, b" ", &cabin],
     )
-}
-
-fn cabin_letter(cabin: Cabin) -> [u8; 1]
-    ensures { result ≡ cabin_text cabin }
-{
-    match cabin {
-        Cabin::F => *b"F",
-        Cabin::B => *b"B",
-        Cabin::E => *b"E",
-    }
-}
-
-fn direction_letter(inbound: bool) -> [u8; 1]
-    ensures { result ≡ direction_text inbound }
-{
-    if inbound { *b"R" } else { *b"A" }
 }

@@ -11,7 +11,7 @@ use Rattle.std.proofs.lemmas.Option.{same_Some, none-some}
 use Rattle.tariff_prices.specs.declared.purpose.Step.{Step}
 use Rattle.tariff_prices.specs.Rows.{IsPrice}
 use Rattle.tariff_prices.specs.Prices.{is_owed_at, owed_at}
-use Rattle.tariff_prices.specs.Tables.{AreApart, AreSteps}
+use Rattle.tariff_prices.specs.PriceTables.{AreApart, AreSteps}
 use Rattle.tariff_prices.proofs.RateLemmas.{IsStep}
 
 -- the greatest threshold that a delay reaches

@@ -10,7 +10,7 @@ use Rattle.desk_units.specs.Ranks.{haul_rank}
 use Rattle.tariff_prices.specs.Purposes.{rate_of, same_ladder, same_purpose}
 use Rattle.tariff_prices.specs.Rows.{same_family, same_rate, same_key}
 use Rattle.tariff_prices.specs.Prices.{step_for, step_on, steps_by}
-use Rattle.tariff_prices.specs.Tables.{AreApart}
+use Rattle.tariff_prices.specs.PriceTables.{AreApart}
 use Rattle.tariff_prices.specs.declared.purpose.Rate.{Rate}
 use Rattle.tariff_prices.specs.declared.purpose.Ladder.{Ladder}
 use Rattle.tariff_prices.specs.declared.purpose.Ladder.TheVariants as ladder

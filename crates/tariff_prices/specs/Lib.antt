@@ -1,4 +1,4 @@
 pub mod Purposes
 pub mod Rows
 pub mod Prices
-pub mod Tables
+pub mod PriceTables

@@ -1,7 +1,7 @@
 //! Tables by haul, by cabin and by term.
 
 ghost use Rattle.std.specs.Prelude.{◌≡◌};
-ghost use Rattle.tariff_prices.specs.Tables.{at_cabin, at_haul, at_term};
+ghost use Rattle.tariff_prices.specs.PriceTables.{at_cabin, at_haul, at_term};
 
 use desk_units::{Cabin, Haul, Term};
 
@@ -33,6 +33,7 @@ pub struct ByTerm<T> {
 }
 
 impl<T> ByCabin<T> {
+    /// That of a cabin.
     pub fn at(&self, cabin: Cabin) -> &T
         ensures { result.now ≡ at_cabin self.now cabin }
     {
@@ -45,6 +46,7 @@ impl<T> ByCabin<T> {
 }
 
 impl<T> ByHaul<T> {
+    /// That of a haul.
     pub fn at(&self, haul: Haul) -> &T
         ensures { result.now ≡ at_haul self.now haul }
     {
@@ -57,6 +59,7 @@ impl<T> ByHaul<T> {
 }
 
 impl<T> ByTerm<T> {
+    /// That of a cost term.
     pub fn at(&self, term: Term) -> &T
         ensures { result.now ≡ at_term self.now term }
     {

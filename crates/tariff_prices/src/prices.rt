@@ -3,11 +3,11 @@
 ghost use Rattle.std.specs.Prelude.{◌≡◌, ◌≤◌, List, IfOk, All};
 ghost use Rattle.tariff_prices.specs.Rows.{AreTariffRows, IsPrice};
 ghost use Rattle.tariff_prices.specs.Prices.{weight_of, delay_price, cancel_price, downgrade_price, position_price, uncarried_care, uncarried_compensation, owed_at, care_price, compensation_price};
-ghost use Rattle.tariff_prices.specs.Tables.{AreSteps};
+ghost use Rattle.tariff_prices.specs.PriceTables.{AreSteps};
 ghost use Rattle.tariff_prices.specs.declared.purpose.Step.{Step};
 
 use crate::purpose::Step;
-use crate::tables::Tables;
+use crate::tables::PriceTables;
 use desk_units::{Cabin, Haul, NoMem, Price, Tariff, TariffRow, Term, Weight};
 use std::alloc::Global;
 use std::marker::Model;
@@ -16,14 +16,14 @@ use std::marker::Model;
 #[derive(Debug, Drop)]
 pub struct Prices {
     rows: Vec<TariffRow>,
-    tables: Tables,
+    tables: PriceTables,
 }
 
 impl Model for Prices {
     ghost use Rattle.std.specs.Prelude.{List as Items};
     ghost use Rattle.desk_units.specs.declared.tariff.TariffRow.{TariffRow as Priced};
     ghost use Rattle.tariff_prices.specs.Rows.{AreTariffRows};
-    ghost use Rattle.tariff_prices.specs.Tables.{AreTables};
+    ghost use Rattle.tariff_prices.specs.PriceTables.{AreTables};
 
     ghost Value = { Items Priced };
 
@@ -33,13 +33,13 @@ impl Model for Prices {
 }
 
 impl Prices {
-    /// The prices of a tariff.
+    /// The prices of a tariff. The only error is out of memory.
     pub fn of(alloc: Global, tariff: &Tariff) -> Result<Prices, NoMem>
         requires { AreTariffRows tariff.now.rows }
         ensures { IfOk result (λ prices. prices ≡ tariff.now.rows) }
     {
         let rows = Vec::from_slice(alloc, tariff.rows.as_slice())?;
-        let tables = Tables::of(alloc, tariff.rows.as_slice())?;
+        let tables = PriceTables::of(alloc, tariff.rows.as_slice())?;
         Ok(Prices { rows, tables })
     }
 

@@ -6,7 +6,7 @@ ghost use Rattle.desk_units.specs.declared.numbers.Haul.{Haul};
 ghost use Rattle.desk_units.specs.declared.tariff.Term.{Term};
 ghost use Rattle.tariff_prices.specs.Rows.{IsTariffRow, AreTariffRows, IsPrice};
 ghost use Rattle.tariff_prices.specs.Prices.{first_rate, amount_for, weight_of, price_by, steps_by};
-ghost use Rattle.tariff_prices.specs.Tables.{at_cabin, at_haul, at_term, IsWeightOf, IsPriceOf, AreStepsOf, AreTables};
+ghost use Rattle.tariff_prices.specs.PriceTables.{at_cabin, at_haul, at_term, IsWeightOf, IsPriceOf, AreStepsOf, AreTables};
 
 use crate::by::{ByCabin, ByHaul, ByTerm};
 use crate::purpose::{Ladder, Purpose, Rate, Step, same_purpose};
@@ -14,8 +14,8 @@ use desk_units::{Cabin, Haul, NoMem, Price, TariffRow, Term, Weight};
 use std::alloc::Global;
 
 /// The tables of a tariff.
-#[derive(Debug, Drop)]
-pub struct Tables {
+#[derive(Debug)]
+pub struct PriceTables {
     pub weights: ByTerm<Weight>,
     pub delays: ByHaul<ByCabin<Price>>,
     pub cancels: ByHaul<ByCabin<Price>>,
@@ -27,6 +27,23 @@ pub struct Tables {
     /// The steps of each haul, from the least threshold on.
     pub care: ByHaul<Vec<Step>>,
     pub compensation: ByHaul<Vec<Step>>,
+}
+
+/// In one call, so that whoever lets them go does not prove anew that each part of them may go.
+impl Drop for PriceTables {
+    fn drop(self) {
+        let PriceTables {
+            weights: _,
+            delays: _,
+            cancels: _,
+            downgrades: _,
+            position: _,
+            uncarried_care: _,
+            uncarried_compensation: _,
+            care: _,
+            compensation: _,
+        } = self;
+    }
 }
 
 /// The first rate of the rows that is for this.
@@ -225,13 +242,13 @@ fn compensation(alloc: Global, rows: &[TariffRow]) -> Result<ByHaul<Vec<Step>>, 
     })
 }
 
-impl Tables {
-    /// The tables of these rows.
-    pub fn of(alloc: Global, rows: &[TariffRow]) -> Result<Tables, NoMem>
+impl PriceTables {
+    /// The tables of these rows. The only error is out of memory.
+    pub fn of(alloc: Global, rows: &[TariffRow]) -> Result<PriceTables, NoMem>
         requires { AreTariffRows rows.now }
         ensures { IfOk result (λ tables. AreTables rows.now tables) }
     {
-        Ok(Tables {
+        Ok(PriceTables {
             weights: weights(rows),
             delays: delays(rows),
             cancels: cancels(rows),

@@ -7,8 +7,8 @@ ghost use Rattle.turn_book.specs.Names.{without};
 ghost use Rattle.turn_book.specs.Places.{AreApart, merge};
 ghost use Rattle.turn_book.specs.Knowing.{IsSound, AreNested, longer, opened, split_left, split_right, joined};
 
-use crate::kept::Kept;
 use crate::law::{Cut, Tell};
+use crate::shared_book::SharedBook;
 use crate::turn::{Pass, Turn};
 use atomic_table::{Refused, Table};
 use desk_units::NoMem;
@@ -16,7 +16,7 @@ use std::alloc::Global;
 use std::snapshot::Snapshot;
 use std::sync::Wait;
 
-impl<B: Kept> Pass<B> {
+impl<B: SharedBook> Pass<B> {
     ghost use Rattle.turn_book.specs.Passes.{seen};
 
     /// The length of the history that the pass has seen.
@@ -27,7 +27,7 @@ impl<B: Kept> Pass<B> {
     }
 }
 
-impl<B: Kept> Turn<B> {
+impl<B: SharedBook> Turn<B> {
     ghost use Rattle.turn_book.specs.Passes.{first_book, known, seen, made, name, names, out, tags, IsPassOf, Called, Looked};
 
     /// Opens a turn on a book. The pass has seen the book's journal, and no other is out. Where there is
@@ -86,6 +86,7 @@ impl<B: Kept> Turn<B> {
     }
 
     /// The entries from place `n` on, once it is this pass's turn. The pass has then seen them.
+    /// The only error is out of memory.
     pub fn look<R: Wait>(
         &self,
         rt: &R,

@@ -6,8 +6,8 @@ ghost use Rattle.turn_book.specs.Histories.{IsLegal, listed, placed};
 ghost use Rattle.turn_book.specs.Knowing.{view, IsSound};
 ghost use Rattle.turn_book.specs.Passes.{Called, Looked};
 
-use crate::kept::Kept;
 use crate::law::{Added, Count, Give, Read, Take};
+use crate::shared_book::SharedBook;
 use crate::turn::Turn;
 use crate::view::View;
 use atomic_table::Seat;
@@ -17,7 +17,7 @@ use std::marker::Brand;
 use std::sync::Wait;
 use std::thread::yield_now;
 
-impl<B: Kept> Turn<B> {
+impl<B: SharedBook> Turn<B> {
     ghost use Rattle.turn_book.specs.Seats.{IsSeatOf, IsAtRest, IsSameSeat};
 
     /// Takes the turn, and tries until it has it.

@@ -1,6 +1,6 @@
 //! The rule of a turn's table, and what each kind of step tells the thread that makes it.
 
-use crate::kept::Kept;
+use crate::shared_book::SharedBook;
 use crate::view::View;
 use atomic_table::{Join, Play, Split, TableRule};
 use std::marker::{Brand, PhantomData};
@@ -12,7 +12,7 @@ pub struct Law<B> {
     of: PhantomData<B>,
 }
 
-impl<B: Kept> TableRule<Option<B>, View<B::Opening, B::Item>, Snapshot<B>> for Law<B> {
+impl<B: SharedBook> TableRule<Option<B>, View<B::Opening, B::Item>, Snapshot<B>> for Law<B> {
     ghost use Rattle.turn_book.specs.Rule.{TurnRule};
     ghost use Rattle.turn_book.specs.Knowing.{opened};
     ghost use Rattle.turn_book.specs.Histories.{IsLegal};
@@ -36,7 +36,7 @@ pub struct Read<B> {
     of: PhantomData<B>,
 }
 
-impl<B: Kept> Play<Option<B>, View<B::Opening, B::Item>> for Read<B> {
+impl<B: SharedBook> Play<Option<B>, View<B::Opening, B::Item>> for Read<B> {
     ghost use Rattle.turn_book.specs.Rule.{reads_front};
     ghost use Rattle.turn_book.specs.Histories.{IsLegal};
 
@@ -100,7 +100,7 @@ pub struct Tell<B> {
     of: PhantomData<B>,
 }
 
-impl<B: Kept> Play<Option<B>, View<B::Opening, B::Item>> for Tell<B> {
+impl<B: SharedBook> Play<Option<B>, View<B::Opening, B::Item>> for Tell<B> {
     ghost use Rattle.turn_book.specs.Rule.{tells_rule};
     ghost use Rattle.turn_book.specs.Histories.{IsLegal};
 

@@ -4,7 +4,7 @@ ghost use Rattle.std.specs.Prelude.{◌≡◌, ◌+◌, ◌≤◌, ◌*◌, ◌^
 
 use desk_units::NoMem;
 use std::alloc::Global;
-use turn_book::Kept;
+use turn_book::SharedBook;
 
 /// Numbers, as many as there is room for.
 #[derive(Drop)]
@@ -37,7 +37,7 @@ impl Sums {
     }
 }
 
-impl Kept for Sums {
+impl SharedBook for Sums {
     type Opening = u32;
 
     type Ask = u16;

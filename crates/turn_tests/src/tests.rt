@@ -9,7 +9,7 @@ use crate::threads::{Told, ask_and_look, ask_hundred, ask_two_books};
 use desk_units::NoMem;
 use std::test::Fail;
 use std::thread::join;
-use turn_book::{Kept, Pass, Turn};
+use turn_book::{Pass, SharedBook, Turn};
 
 /// The sum of the numbers up to a place, that of the place included.
 fn sum_up_to(numbers: &[u16], place: u32) -> u64 {

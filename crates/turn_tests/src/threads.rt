@@ -9,7 +9,7 @@ use desk_units::NoMem;
 use std::alloc::Global;
 use std::sync::Wait;
 use std::thread::{Threads, join};
-use turn_book::{Kept, Pass, Turn};
+use turn_book::{Pass, SharedBook, Turn};
 
 /// What a call was told: the number that it asked for, its place, and the sum there.
 #[derive(Clone, Copy)]

@@ -3,8 +3,9 @@
 ghost use Rattle.std.specs.Prelude.{◌≡◌, ◌<◌, IfOk, OnOk};
 ghost use Rattle.desk_data.specs.Situation.{legs_of, planes_of};
 ghost use Rattle.desk_data.specs.Valid.{IsPlanFor, IsRowOf};
-ghost use Rattle.board_tests.specs.Boards.{HasBoard};
+ghost use Rattle.board_tests.specs.Boards.{AreSomeBoards, HasBoards};
 
+use board_kit::{Board, Both};
 use board_rot::RotBoard;
 use board_slots::SlotBoard;
 use desk_data::{Airport, Broken, Instance, Leg, Row, Steps};
@@ -18,18 +19,14 @@ use std::test::Fail;
 /// A plan on pages, and what is kept of it.
 pub(super) struct Boards {
     pub pages: Pages,
-    pub rotations: RotBoard,
-    pub slots: SlotBoard,
+    /// That of its rotations, and that of its slots.
+    pub both: Both<RotBoard, SlotBoard>,
 }
 
 /// In one call, so that whoever lets the boards go does not prove anew that each part of them may go.
 impl Drop for Boards {
     fn drop(self) {
-        let Boards {
-            pages: _,
-            rotations: _,
-            slots: _,
-        } = self;
+        let Boards { pages: _, both: _ } = self;
     }
 }
 
@@ -40,13 +37,15 @@ pub(super) type Said = (Option<Broken>, Option<Broken>, u32);
 /// The boards of the schedule.
 pub(super) fn boards_of(alloc: Global, inst: &Instance) -> Result<Boards, Fail>
     ensures plan { IfOk result (λ boards. IsPlanFor inst.now boards.pages) }
-    ensures board { IfOk result (λ boards. HasBoard inst.now boards.pages boards.rotations) }
+    ensures boards { IfOk result (λ boards. HasBoards inst.now boards.pages boards.both) }
 {
     let plan = inst.schedule(alloc)?;
+    let first = RotBoard::open(alloc, inst, &plan)?;
+    let second = SlotBoard::open(alloc, inst, &plan)?;
+    let pages = Pages::of(alloc, &plan)?;
     Ok(Boards {
-        rotations: RotBoard::open(alloc, inst, &plan)?,
-        slots: SlotBoard::open(alloc, inst, &plan)?,
-        pages: Pages::of(alloc, &plan)?,
+        pages,
+        both: Both { first, second },
     })
 }
 
@@ -55,16 +54,17 @@ pub(super) fn said(alloc: Global, inst: &Instance, boards: &Boards) -> Result<Sa
     requires legs { legs_of inst.now ≡ 3 }
     requires plan { IsPlanFor inst.now boards.now.pages }
 {
-    let said = (boards.rotations.least(), boards.slots.least());
-    let plan = boards.pages.plan();
-    let rot = least_rot(alloc, inst, plan)?;
-    let slot = least_slots(alloc, inst, plan)?;
+    let said = (boards.both.first.least(), boards.both.second.least());
+    let plan = boards.pages.to_plan(alloc)?;
+    let rot = least_rot(alloc, inst, &plan)?;
+    let slot = least_slots(alloc, inst, &plan)?;
     if said != (rot, slot) {
         return Err(Fail::new("the boards and the rules differ"));
     }
     let row = boards.pages.read_row(Leg(1));
     let beside = boards
-        .slots
+        .both
+        .second
         .departures_beside(inst, Leg(1), row, Airport(0), 8);
     Ok((rot, slot, beside))
 }
@@ -83,20 +83,17 @@ pub(super) fn changed<L: Ledger>(
     requires leg { leg.0 < 3 }
     requires row { IsRowOf 3 row }
     requires plan { IsPlanFor inst.now boards.old.pages }
-    requires board { HasBoard inst.now boards.old.pages boards.old.rotations }
+    requires boards { HasBoards inst.now boards.old.pages boards.old.both }
     ensures plan { OnOk result (IsPlanFor inst.now boards.new.pages) }
-    ensures board { OnOk result (HasBoard inst.now boards.new.pages boards.new.rotations) }
+    ensures boards { OnOk result (HasBoards inst.now boards.new.pages boards.new.both) }
 {
-    if boards.rotations.depth() > 9 || boards.slots.depth() > 9 {
+    if boards.both.depth() > 9 {
         return Err(Fail::new("more than ten changes"));
     }
     boards
-        .slots
+        .both
         .set_row(alloc, inst, &boards.pages, leg, row, steps)?;
-    boards
-        .rotations
-        .set_row(alloc, inst, &boards.pages, leg, row, steps)?;
-    boards.pages.replace_row(alloc, leg, row)?;
+    let _had = boards.pages.replace_row(alloc, leg, row)?;
     said(alloc, inst, boards)
 }
 
@@ -113,13 +110,14 @@ pub(super) fn back(
     requires leg { leg.0 < 3 }
     requires had { IsRowOf 3 had }
     requires plan { IsPlanFor inst.now boards.old.pages }
-    ensures { OnOk result (IsPlanFor inst.now boards.new.pages) }
+    requires boards { AreSomeBoards inst.now boards.old.both }
+    ensures plan { OnOk result (IsPlanFor inst.now boards.new.pages) }
+    ensures boards { OnOk result (AreSomeBoards inst.now boards.new.both) }
 {
-    if boards.rotations.depth() == 0 || boards.slots.depth() == 0 {
+    if boards.both.depth() == 0 {
         return Err(Fail::new("no change to take back"));
     }
-    boards.slots.back();
-    boards.rotations.back();
-    boards.pages.put_back_row(leg, had);
+    boards.both.back();
+    let _had = boards.pages.replace_row(alloc, leg, had)?;
     said(alloc, inst, boards)
 }

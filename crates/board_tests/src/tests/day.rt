@@ -109,12 +109,14 @@ pub(super) fn small_day(alloc: Global) -> Result<Instance, Fail>
     }
     let mut inst = Instance::of(alloc, parts)?;
     let batch = Batch {
+        at: None,
         orders: List(vec![in alloc; takes(8, 1), takes(10, 0)]?),
     };
     if !can_add(&inst, &batch) {
         return Err(Fail::new("an order is out of range"));
     }
-    inst.add(alloc, &batch)?;
+    let plan = inst.schedule(alloc)?;
+    inst.add(alloc, &plan, &batch)?;
     if inst.legs() != 3 || inst.planes() != 3 {
         return Err(Fail::new("not three legs and three aircraft"));
     }

@@ -3,7 +3,7 @@
 ghost use Rattle.std.specs.Prelude.{◌≡◌, ◌<◌, OnOk};
 ghost use Rattle.desk_data.specs.Situation.{legs_of, planes_of};
 ghost use Rattle.desk_data.specs.Valid.{IsPlanFor};
-ghost use Rattle.board_tests.specs.Boards.{HasBoard};
+ghost use Rattle.board_tests.specs.Boards.{AreSomeBoards, HasBoards};
 
 use super::boards::{Boards, Said, back, boards_of, changed, said};
 use super::day::{flown, small_day};
@@ -28,8 +28,9 @@ fn there<L: Ledger>(
     requires legs { legs_of inst.now ≡ 3 }
     requires planes { planes_of inst.now ≡ 3 }
     requires plan { IsPlanFor inst.now boards.old.pages }
-    requires board { HasBoard inst.now boards.old.pages boards.old.rotations }
-    ensures { OnOk result (IsPlanFor inst.now boards.new.pages) }
+    requires boards { HasBoards inst.now boards.old.pages boards.old.both }
+    ensures plan { OnOk result (IsPlanFor inst.now boards.new.pages) }
+    ensures boards { OnOk result (AreSomeBoards inst.now boards.new.both) }
 {
     let mut steps = Steps::<L>::new(blank);
     let at_first = said(alloc, inst, boards)?;
@@ -45,6 +46,7 @@ fn back_again(alloc: Global, inst: &Instance, boards: &mut Boards) -> Result<[Sa
     requires legs { legs_of inst.now ≡ 3 }
     requires planes { planes_of inst.now ≡ 3 }
     requires plan { IsPlanFor inst.now boards.old.pages }
+    requires boards { AreSomeBoards inst.now boards.old.both }
 {
     let once = back(alloc, inst, boards, Leg(0), flown(0, 480))?;
     let twice = back(alloc, inst, boards, Leg(2), flown(1, 700))?;

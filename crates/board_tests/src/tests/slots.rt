@@ -3,7 +3,7 @@
 ghost use Rattle.std.specs.Prelude.{◌≡◌, ◌<◌};
 ghost use Rattle.desk_data.specs.Situation.{legs_of, planes_of};
 ghost use Rattle.desk_data.specs.Valid.{IsPlanFor};
-ghost use Rattle.board_tests.specs.Boards.{HasBoard};
+ghost use Rattle.board_tests.specs.Boards.{HasBoards};
 
 use super::boards::{Boards, Said, back, boards_of, changed, said};
 use super::day::{flown, small_day};
@@ -27,7 +27,7 @@ fn there_and_back<L: Ledger>(
     requires legs { legs_of inst.now ≡ 3 }
     requires planes { planes_of inst.now ≡ 3 }
     requires plan { IsPlanFor inst.now boards.old.pages }
-    requires board { HasBoard inst.now boards.old.pages boards.old.rotations }
+    requires boards { HasBoards inst.now boards.old.pages boards.old.both }
 {
     let mut steps = Steps::<L>::new(blank);
     let at_first = said(alloc, inst, boards)?;

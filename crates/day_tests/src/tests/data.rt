@@ -1,12 +1,11 @@
-//! A small day, and what is asked of it.
+//! A small day at the ends of its ranges, and which rows make a day.
 
-use super::days::{airport_of, flown, instance_of, leg_of, name_of, plane_of, set};
+use super::days::{airport_of, leg_of, name_of, no_rows, plane_of};
 use day_checks::are_parts;
 use desk_data::{
-    Airport, AirportInfo, Cabin, Cap, Leg, LegInfo, List, Minute, Parts, Path, PlaneInfo, Price,
-    ResInfo, Row, Seats, Tariff, TariffRow,
+    Airport, AirportInfo, Cabin, Cap, Leg, LegInfo, List, Parts, Path, PlaneInfo, Price, ResInfo,
+    Seats, TariffRow,
 };
-use plan_moves::{Move, fits};
 use std::alloc::Global;
 use std::test::Fail;
 
@@ -26,7 +25,7 @@ pub(super) struct Sample {
     rows: usize,
 }
 
-const USUAL: Sample = Sample {
+pub(super) const USUAL: Sample = Sample {
     plane: b"P2",
     flight: b"F2",
     sched: 52_480_000,
@@ -58,21 +57,19 @@ fn edge_plane(name: &[u8]) -> Result<PlaneInfo, Fail> {
     Ok(PlaneInfo {
         seats: Seats { f: 0, b: 0, e: 999 },
         range: 100_000,
-        hourly: Price(9_999_999_999_999),
         turn: 2_880,
         transit: 0,
         origin: Airport(1),
-        ..plane_of(name)?
+        ..plane_of(name, 9_999_999_999_999)?
     })
 }
 
 fn edge_leg(flight: &[u8], sched: u32, block: u32) -> Result<LegInfo, Fail> {
     Ok(LegInfo {
         day: 36_524,
-        dest: Airport(1),
         block,
         distance: 100_000,
-        ..leg_of(flight, sched, 1)?
+        ..leg_of(flight, (0, 1), sched, 1)?
     })
 }
 
@@ -90,29 +87,36 @@ fn reservation_of(alloc: Global, sample: &Sample) -> Result<ResInfo, Fail> {
     })
 }
 
-fn tariff_of(alloc: Global, sample: &Sample) -> Result<Tariff, Fail> {
-    let mut rows = Vec::new(alloc);
+/// Adds the rows of a sample.
+fn add_sample(alloc: Global, parts: &mut Parts, sample: &Sample) -> Result<(), Fail> {
+    parts.airports.0.push(edge_airport(alloc, b"AAA")?)?;
+    parts.airports.0.push(edge_airport(alloc, b"BBB")?)?;
+    parts.planes.0.push(edge_plane(b"P1")?)?;
+    parts.planes.0.push(edge_plane(sample.plane)?)?;
+    parts.legs.0.push(edge_leg(b"F1", 0, 1)?)?;
+    parts
+        .legs
+        .0
+        .push(edge_leg(sample.flight, sample.sched, sample.block)?)?;
+    parts.res.0.push(reservation_of(alloc, sample)?)?;
     for _ in 0..sample.rows {
-        rows.push(TariffRow::Position { price: Price(500) })?;
+        let price = Price(500);
+        parts.tariff.rows.0.push(TariffRow::Position { price })?;
     }
-    Ok(Tariff { rows: List(rows) })
+    Ok(())
 }
 
 /// The day of a sample.
 pub(super) fn sample_parts(alloc: Global, sample: &Sample) -> Result<Parts, Fail> {
-    Ok(Parts {
-        airports: List(vec![in alloc; edge_airport(alloc, b"AAA")?, edge_airport(alloc, b"BBB")?]?),
-        planes: List(vec![in alloc; edge_plane(b"P1")?, edge_plane(sample.plane)?]?),
-        legs: List(vec![in alloc;
-            edge_leg(b"F1", 0, 1)?,
-            edge_leg(sample.flight, sample.sched, sample.block)?,
-        ]?),
-        res: List(vec![in alloc; reservation_of(alloc, sample)?]?),
-        from: Minute(0),
-        to: Minute(52_595_999),
-        positions: List(Vec::new(alloc)),
-        tariff: tariff_of(alloc, sample)?,
-    })
+    let mut parts = no_rows(alloc, 52_595_999);
+    add_sample(alloc, &mut parts, sample)?;
+    Ok(parts)
+}
+
+/// Whether the rows of a sample make a day.
+fn makes_a_day(alloc: Global, sample: &Sample) -> Result<bool, Fail> {
+    let parts = sample_parts(alloc, sample)?;
+    Ok(are_parts(alloc, &parts)?)
 }
 
 const RANGES: [(Sample, bool); 17] = [
@@ -186,51 +190,7 @@ const RANGES: [(Sample, bool); 17] = [
 #[test]
 fn ranges_have_edges(rt: HostRuntime) -> Result<(), Fail> {
     for (sample, valid) in RANGES.iter() {
-        let parts = sample_parts(rt.alloc(), sample)?;
-        assert_eq!(rt; are_parts(rt.alloc(), &parts)?, *valid, "{sample:?}");
-    }
-    Ok(())
-}
-
-#[test]
-fn plans_follow_the_schedule(rt: HostRuntime) -> Result<(), Fail> {
-    let inst = instance_of(rt.alloc(), sample_parts(rt.alloc(), &USUAL)?)?;
-    let mut plan = inst.schedule(rt.alloc())?;
-    let scheduled = flown(1, 52_480_000);
-    assert_eq!(rt; plan.rows().len(), 2);
-    assert_eq!(rt; plan.read_row(Leg(1)), scheduled);
-    assert_eq!(rt; inst.copy(rt.alloc())?.prices().position(), Price(500));
-    let kept = plan.copy(rt.alloc())?;
-    plan.put_row(Leg(1), Row::Cancelled);
-    assert_eq!(rt; plan.read_row(Leg(1)), Row::Cancelled);
-    assert_eq!(rt; kept.read_row(Leg(1)), scheduled);
-    Ok(())
-}
-
-#[test]
-fn moves_have_edges(rt: HostRuntime) -> Result<(), Fail> {
-    let inst = instance_of(rt.alloc(), sample_parts(rt.alloc(), &USUAL)?)?;
-    // how many steps, of which leg, to which departure, by which aircraft
-    let table = [
-        (0, 0, 0, 0, false),
-        (1, 1, 52_499_999, 1, true),
-        (16, 0, 0, 0, true),
-        (17, 0, 0, 0, false),
-        (1, 2, 0, 0, false),
-        (1, 0, 52_500_000, 0, false),
-        (1, 0, 0, 2, false),
-    ];
-    for (count, leg, dep, plane, expected) in table.iter() {
-        let mut steps = Vec::new(rt.alloc());
-        for _ in 0..*count {
-            steps.push(set(*leg, Row::Cancelled, flown(*plane, *dep)))?;
-        }
-        let asked = Move { steps: List(steps) };
-        assert_eq!(rt;
-            fits(&inst, &asked),
-            *expected,
-            "{count} {leg} {dep} {plane}"
-        );
+        assert_eq!(rt; makes_a_day(rt.alloc(), sample)?, *valid, "{sample:?}");
     }
     Ok(())
 }

@@ -92,7 +92,7 @@ fn sample(alloc: Global) -> Result<Tariff, Fail> {
     Ok(Tariff { rows: List(rows) })
 }
 
-#[derive(Clone, Copy, Debug)]
+#[derive(Clone, Copy)]
 enum Look {
     Weight(Term),
     Delay(Haul, Cabin),
@@ -169,8 +169,9 @@ fn prices_are_looked_up(rt: HostRuntime) -> Result<(), Fail> {
     let tariff = sample(rt.alloc())?;
     assert!(rt; are_tariff_rows(tariff.rows.as_slice()));
     let prices = Prices::of(rt.alloc(), &tariff)?;
-    for (look, want) in LOOKS {
-        assert_eq!(rt; found(&prices, look), want, "{look:?}");
+    for at in 0..LOOKS.len() {
+        let (look, want) = LOOKS[at];
+        assert_eq!(rt; found(&prices, look), want, "row {at}");
     }
     Ok(())
 }
@@ -253,9 +254,10 @@ fn pairs_with_thresholds() -> [Pair; 5] {
 }
 
 fn expect_told(rt: &impl Abort, pairs: &[Pair]) {
-    for (a, b, same, tariff) in pairs {
-        assert_eq!(rt; same_key(a, b), *same, "{a:?} {b:?}");
-        assert_eq!(rt; are_tariff_rows(&[*a, *b]), *tariff, "{a:?} {b:?}");
+    for at in 0..pairs.len() {
+        let (a, b, same, tariff) = pairs[at];
+        assert_eq!(rt; same_key(&a, &b), same, "row {at}");
+        assert_eq!(rt; are_tariff_rows(&[a, b]), tariff, "row {at}");
     }
 }
 

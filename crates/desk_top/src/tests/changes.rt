@@ -33,8 +33,8 @@ fn said(eval: &Evaluator) -> Said {
 /// What the rules and the prices say of the plan from scratch.
 fn said_anew(alloc: Global, eval: &Evaluator) -> Result<Said, NoMem> {
     let inst = eval.instance();
-    let plan = eval.plan();
-    Ok((full_check(alloc, inst, plan.plan())?, full_cost(inst, plan)))
+    let plan = eval.plan().to_plan(alloc)?;
+    Ok((full_check(alloc, inst, &plan)?, full_cost(inst, &plan)))
 }
 
 /// The scheduled row of a leg, one minute later.

@@ -106,6 +106,45 @@ fn a_folder_in_memory_fails_the_next_naming(rt: HostRuntime) -> Result<(), Fail>
     Ok(())
 }
 
+/// What a folder is asked in turn: reads of files, pieces to put, and which files are settled.
+#[derive(Clone, Copy)]
+struct Asked<'a> {
+    reads: &'a [(File, Result<&'a str, FolderFault>)],
+    puts: &'a [(File, &'a str, Result<usize, FolderFault>)],
+    settles: &'a [(File, bool)],
+}
+
+const NOTHING: Asked<'static> = Asked {
+    reads: &[],
+    puts: &[],
+    settles: &[],
+};
+
+/// A folder whose outputs are three files.
+fn folder_of(rt: HostRuntime, input: &str, output: &str) -> Result<HostFolder<HostRuntime>, Fail> {
+    let outputs = [File::SolRotations, File::SolItineraries, File::Journal];
+    let mut folder = HostFolder::new(rt, rt.alloc()).with_outputs(&outputs);
+    folder.place(rt.alloc(), input, output)?;
+    Ok(folder)
+}
+
+/// Asks such a folder of the host, which is gone then.
+fn ask(
+    rt: &impl Abort,
+    host: HostRuntime,
+    between: (&str, &str),
+    asked: &Asked<'_>,
+) -> Result<(), Fail> {
+    let alloc = host.alloc();
+    let mut folder = folder_of(host, between.0, between.1)?;
+    reads(rt, alloc, &mut folder, asked.reads);
+    puts(rt, alloc, &mut folder, asked.puts);
+    for (file, is_settled) in asked.settles {
+        assert_eq!(rt; folder.settle(alloc, *file), *is_settled, "{file}");
+    }
+    Ok(())
+}
+
 #[test]
 fn the_host_reads_what_it_wrote(rt: HostRuntime) -> Result<(), Fail> {
     let (outer, inner) = ("folder_of_a_test", "folder_of_a_test/out");
@@ -125,15 +164,18 @@ fn the_host_reads_what_it_wrote(rt: HostRuntime) -> Result<(), Fail> {
     let journal = [(File::Journal, Ok("b\nc\n"))];
     let second = [(File::Journal, "d\n", Ok(2))];
     let emptied = [(File::SolRotations, Ok("")), (File::Journal, Ok("d\n"))];
-    for (input, before, after) in [
+    for (input, reads, puts) in [
         (outer, [].as_slice(), first.as_slice()),
         (outer, written.as_slice(), [].as_slice()),
         (inner, journal.as_slice(), second.as_slice()),
         (inner, emptied.as_slice(), [].as_slice()),
     ] {
-        let mut folder = folder_of(rt, input, inner)?;
-        reads(&rt, rt.alloc(), &mut folder, before);
-        puts(&rt, rt.alloc(), &mut folder, after);
+        let asked = Asked {
+            reads,
+            puts,
+            ..NOTHING
+        };
+        ask(&rt, rt, (input, inner), &asked)?;
     }
     fs::remove_dir_all(&rt, outer)?;
     Ok(())
@@ -153,7 +195,7 @@ fn old_files<R: Files + Alloc<A = Global>>(
     Ok(())
 }
 
-/// Each row is a file of a directory and its text, none where there is no such file.
+/// Each row is a file of a directory and its text, none where there is no such file. The directory is gone then.
 fn holds<R: Abort + Files + Alloc<A = Global>>(
     rt: &R,
     directory: &str,
@@ -164,15 +206,8 @@ fn holds<R: Abort + Files + Alloc<A = Global>>(
         let text = fs::read_to_string(rt, path.as_str()).ok();
         assert_eq!(rt; text.as_deref(), *want, "{file}");
     }
+    fs::remove_dir_all(rt, directory)?;
     Ok(())
-}
-
-/// A folder whose outputs are three files.
-fn folder_of(rt: HostRuntime, input: &str, output: &str) -> Result<HostFolder<HostRuntime>, Fail> {
-    let outputs = [File::SolRotations, File::SolItineraries, File::Journal];
-    let mut folder = HostFolder::new(rt, rt.alloc()).with_outputs(&outputs);
-    folder.place(rt.alloc(), input, output)?;
-    Ok(folder)
 }
 
 #[test]
@@ -183,22 +218,18 @@ fn the_first_put_empties_the_outputs_of_an_earlier_run(rt: HostRuntime) -> Resul
         directory,
         &[File::SolRotations, File::Journal, File::Position],
     )?;
-    let mut folder = folder_of(rt, "other", directory)?;
-    puts(
-        &rt,
-        rt.alloc(),
-        &mut folder,
-        &[(File::SolRotations, "a\n", Ok(2))],
-    );
+    let asked = Asked {
+        puts: &[(File::SolRotations, "a\n", Ok(2))],
+        ..NOTHING
+    };
+    ask(&rt, rt, ("other", directory), &asked)?;
     let after = [
         (File::SolRotations, Some("a\n")),
         (File::SolItineraries, None),
         (File::Journal, Some("")),
         (File::Position, Some("old\n")),
     ];
-    holds(&rt, directory, &after)?;
-    fs::remove_dir_all(&rt, directory)?;
-    Ok(())
+    holds(&rt, directory, &after)
 }
 
 #[test]
@@ -209,15 +240,16 @@ fn a_run_that_writes_nothing_is_settled(rt: HostRuntime) -> Result<(), Fail> {
         directory,
         &[File::SolRotations, File::Journal, File::Position],
     )?;
-    let mut folder = folder_of(rt, "other", directory)?;
-    for file in [
-        File::SolRotations,
-        File::SolItineraries,
-        File::Journal,
-        File::Position,
-    ] {
-        assert!(rt; folder.settle(rt.alloc(), file), "{file}");
-    }
+    let asked = Asked {
+        settles: &[
+            (File::SolRotations, true),
+            (File::SolItineraries, true),
+            (File::Journal, true),
+            (File::Position, true),
+        ],
+        ..NOTHING
+    };
+    ask(&rt, rt, ("other", directory), &asked)?;
     let after = [
         (File::SolRotations, Some("")),
         (File::SolItineraries, None),
@@ -225,9 +257,11 @@ fn a_run_that_writes_nothing_is_settled(rt: HostRuntime) -> Result<(), Fail> {
         (File::Position, Some("old\n")),
     ];
     holds(&rt, directory, &after)?;
-    fs::remove_dir_all(&rt, directory)?;
-    let mut folder = folder_of(rt, "other", directory)?;
-    assert!(rt; folder.settle(rt.alloc(), File::SolRotations));
+    let asked = Asked {
+        settles: &[(File::SolRotations, true)],
+        ..NOTHING
+    };
+    ask(&rt, rt, ("other", directory), &asked)?;
     assert!(rt; fs::metadata(&rt, directory).is_err());
     Ok(())
 }
@@ -237,52 +271,37 @@ fn an_output_that_cannot_be_emptied_fails_no_other(rt: HostRuntime) -> Result<()
     let directory = "not_emptied";
     old_files(&rt, directory, &[File::Journal])?;
     fs::create_dir_all(&rt, "not_emptied/sol_itineraries.csv")?;
-    let mut folder = folder_of(rt, "other", directory)?;
-    let rows = [
-        (File::SolRotations, "a\n", Ok(2)),
-        (File::SolItineraries, "b\n", Err(Failed)),
-    ];
-    puts(&rt, rt.alloc(), &mut folder, &rows);
-    for (file, is_settled) in [
-        (File::SolRotations, true),
-        (File::SolItineraries, false),
-        (File::Journal, true),
-    ] {
-        assert_eq!(rt; folder.settle(rt.alloc(), file), is_settled, "{file}");
-    }
-    holds(
-        &rt,
-        directory,
-        &[(File::SolRotations, Some("a\n")), (File::Journal, Some(""))],
-    )?;
-    fs::remove_dir_all(&rt, directory)?;
-    Ok(())
+    let asked = Asked {
+        puts: &[
+            (File::SolRotations, "a\n", Ok(2)),
+            (File::SolItineraries, "b\n", Err(Failed)),
+        ],
+        settles: &[
+            (File::SolRotations, true),
+            (File::SolItineraries, false),
+            (File::Journal, true),
+        ],
+        ..NOTHING
+    };
+    ask(&rt, rt, ("other", directory), &asked)?;
+    let after = [(File::SolRotations, Some("a\n")), (File::Journal, Some(""))];
+    holds(&rt, directory, &after)
 }
 
 #[test]
 fn an_output_that_was_read_is_not_emptied(rt: HostRuntime) -> Result<(), Fail> {
     let directory = "read_before";
     old_files(&rt, directory, &[File::SolRotations, File::Journal])?;
-    let mut folder = folder_of(rt, directory, directory)?;
-    reads(
-        &rt,
-        rt.alloc(),
-        &mut folder,
-        &[(File::Journal, Ok("old\n"))],
-    );
-    puts(
-        &rt,
-        rt.alloc(),
-        &mut folder,
-        &[(File::SolItineraries, "b\n", Ok(2))],
-    );
-    assert!(rt; folder.settle(rt.alloc(), File::Journal));
+    let asked = Asked {
+        reads: &[(File::Journal, Ok("old\n"))],
+        puts: &[(File::SolItineraries, "b\n", Ok(2))],
+        settles: &[(File::Journal, true)],
+    };
+    ask(&rt, rt, (directory, directory), &asked)?;
     let after = [
         (File::SolRotations, Some("")),
         (File::SolItineraries, Some("b\n")),
         (File::Journal, Some("old\n")),
     ];
-    holds(&rt, directory, &after)?;
-    fs::remove_dir_all(&rt, directory)?;
-    Ok(())
+    holds(&rt, directory, &after)
 }

@@ -4,5 +4,5 @@ use Rattle.build_day.proofs.batches.batches_of.Goals as goal
 pub returns-clause-few : goal.returns-clause-few
 returns-clause-few c = rw c.in_ok-batches.ensures (few_batches c.args.tables.now.files.now c.requires.fit.few)
 
-pub returns-clause-orders : goal.returns-clause-orders
-returns-clause-orders c = rw c.in_ok-batches.ensures (batches_good c.args.tables.now.files.now c.requires.rows c.requires.fit)
+pub returns-clause-batches : goal.returns-clause-batches
+returns-clause-batches c = rw c.in_ok-batches.ensures (batches_good c.args.tables.now.files.now c.requires.rows c.requires.fit)

@@ -1,6 +1,6 @@
 use Rattle.std.proofs.Common.{◌≡◌, subst, sym, ap, ◌∙◌, List, arith}
 use Rattle.std.proofs.lemmas.Grind.{common_steps}
-use Rattle.day_orders.specs.declared.hours.Change.{Change}
+use Rattle.day_orders.specs.declared.hours.CapChange.{CapChange}
 use Rattle.day_orders.specs.KeptLists.{AreInOrder, kept_cap}
 use Rattle.day_orders.proofs.ChangeLemmas.{IsCut, spanned, spanned_in_order, spanned_caps}
 use Rattle.day_orders.proofs.hours.with_cap.Goals as goal
@@ -23,4 +23,4 @@ returns-clause-caps c =
     let cut : IsCut xs start stop c.args.first c.args.behind
     = record { up = c.requires.up; before = c.count_before-start.ensures.front; from = c.count_before-start.ensures.rest; until = c.count_up_to-end.ensures.front; after = c.count_up_to-end.ensures.rest } in
     let made : c.extend_from_slice.new.self.items ≡ spanned xs start stop c.args.first c.args.behind c.args.cap = grind (arith, common_steps) in
-    λ h. ap (λ (l : List Change). kept_cap l h) made ∙ spanned_caps xs start stop c.args.first c.args.behind c.args.cap cut h
+    λ h. ap (λ (l : List CapChange). kept_cap l h) made ∙ spanned_caps xs start stop c.args.first c.args.behind c.args.cap cut h

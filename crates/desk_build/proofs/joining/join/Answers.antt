@@ -17,4 +17,4 @@ pub returns-clause-exact : goal.returns-clause-exact
 returns-clause-exact c = built_of-is c.args.tables.now.files.now _ (sym c.first_refusal.ensures.exact ∙ c.in_default.is) (λ i. record { inst = c.in_ok-inst.ensures i; batches = c.in_ok-batches.ensures.exact i })
 
 pub returns-clause-batches : goal.returns-clause-batches
-returns-clause-batches c = rw (ap (λ (day : Situation). day.parts) c.in_ok-inst.ensures) c.in_ok-batches.ensures.orders
+returns-clause-batches c = rw (ap (λ (day : Situation). day.parts) c.in_ok-inst.ensures) c.in_ok-batches.ensures.batches

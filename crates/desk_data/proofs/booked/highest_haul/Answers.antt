@@ -2,14 +2,14 @@ use Rattle.std.proofs.Common.{◌≡◌, ◌+◌, ◌≤◌, drop, length, get_o
 use Rattle.desk_units.specs.declared.numbers.Leg.{Leg}
 use Rattle.desk_units.specs.declared.numbers.Cabin.{Cabin}
 use Rattle.desk_units.specs.declared.numbers.Cabin.TheVariants as cabin
-use Rattle.desk_data.specs.Situation.{leg_at}
-use Rattle.desk_data.specs.Booked.{higher_haul, highest_haul, without_orders}
+use Rattle.desk_data.specs.Situation.{fresh_day, leg_at}
+use Rattle.desk_data.specs.Booked.{higher_haul, highest_haul}
 use Rattle.desk_data.proofs.HighestLaws.{haul_more, haul_all}
 use Rattle.desk_data.proofs.booked.highest_haul.Goals as goal
 
 pub loop-leg-preserved : goal.loop-leg-preserved
 loop-leg-preserved c =
-    let I = without_orders c.args.parts.now in
+    let I = fresh_day c.args.parts.now in
     let path = c.args.path.now in
     let i = c.loop-leg.leg-index in
     let none : Leg × Cabin = (record { 0 = 0 }, cabin.F) in
@@ -19,4 +19,4 @@ loop-leg-preserved c =
 pub returns : goal.returns
 returns c =
     let all : length c.args.path.now ≤ c.loop-leg.leg-index = omega arith in
-    sym (haul_all (without_orders c.args.parts.now) c.args.path.now c.loop-leg.leg-index c.loop-leg.highest all) ∙ c.loop-leg.invariant
+    sym (haul_all (fresh_day c.args.parts.now) c.args.path.now c.loop-leg.leg-index c.loop-leg.highest all) ∙ c.loop-leg.invariant

@@ -1,7 +1,8 @@
 use Rattle.std.proofs.Common.{◌≡◌, drop}
-use Rattle.desk_data.specs.Booked.{higher_haul, highest_haul, without_orders}
+use Rattle.desk_data.specs.Booked.{higher_haul, highest_haul}
+use Rattle.desk_data.specs.Situation.{fresh_day}
 use Rattle.desk_data.proofs.booked.highest_haul.Given as goal
 
 -- with the legs behind, the highest so far is the highest of all
 abbrev pub invariant-loop-leg : goal.invariant-loop-leg
-invariant-loop-leg l = higher_haul l.highest (highest_haul (without_orders l.parts) (drop l.leg-index l.path)) ≡ highest_haul (without_orders l.parts) l.path
+invariant-loop-leg l = higher_haul l.highest (highest_haul (fresh_day l.parts) (drop l.leg-index l.path)) ≡ highest_haul (fresh_day l.parts) l.path

@@ -1,14 +1,13 @@
-use Rattle.std.proofs.Common.{◌≡◌, sym, ap, ◌∙◌, subst, false}
-use Rattle.std.specs.Prelude.{Option, None, IfOk}
+use Rattle.std.proofs.Common.{◌≡◌, sym, ◌∙◌, false}
+use Rattle.std.specs.Prelude.{Option, None}
 use Rattle.std.specs.Option.{ForSome}
 use Rattle.plan_moves.specs.declared.moves.Move.{Move}
 use Rattle.plan_moves.specs.Fits.{Fits}
-use Rattle.desk_eval.specs.Evaluated.{Evaluated}
 use Rattle.desk_core.specs.Recorded.{state_of}
-use Rattle.near_moves.specs.Descent.{is_spent, first_better}
+use Rattle.near_moves.specs.Descent.{is_spent}
 use Rattle.near_moves.proofs.DescentLaws.{next-spent}
 use Rattle.desk_model.specs.States.{opening}
-use Rattle.desk_descent.specs.Follows.{next_of}
+use Rattle.desk_descent.specs.Steps.{IsFirstBetter, next_of}
 use Rattle.desk_descent.proofs.DescendLaws.{first-next, found-fits, unplanned, planned, if-ok}
 use Rattle.desk_descent.proofs.step.proposal.Goals as goal
 use Rattle.desk_descent.proofs.step.proposal.Goals.{then-is_some-via-then-is_some, then-is_some-via-else-is_some+then-is_spent}
@@ -26,13 +25,11 @@ returns-clause-ok c =
     let B = c.args.book.now in
     let had : (state_of B).broken ≡ None = planned B c.broken.result c.broken.ensures (sym c.is_some.ensures ∙ c.if-is_some.false) in
     let unspent : is_spent c.args.most B.journal ≡ false = sym c.is_spent.ensures ∙ c.if-is_spent.false in
-    let is : first_better c.args.eval.now.inst c.args.eval.now.rows 0 1 ≡ next_of c.args.most B =
-    ap (λ (E : Evaluated). first_better E.inst E.rows 0 1) c.requires ∙ first-next c.args.most B had unspent in
-    subst (λ (n : Option Move). IfOk c.first_better.result (λ x. x ≡ n)) is c.first_better.ensures.ok
+    if-ok c.search.result (IsFirstBetter (state_of B).inst (state_of B).plan) (λ (found : Option Move). found ≡ next_of c.args.most B)
+    (λ found is. is.first ∙ first-next c.args.most B had unspent) c.search.ensures.found
 
 pub returns-clause-fits : goal.returns-clause-fits
 returns-clause-fits c =
     let B = c.args.book.now in
-    let at : IfOk c.first_better.result (λ found. ForSome found (Fits (state_of B).inst)) =
-    subst (λ (E : Evaluated). IfOk c.first_better.result (λ found. ForSome found (Fits E.inst))) c.requires c.first_better.ensures.fits in
-    if-ok c.first_better.result (λ (found : Option Move). ForSome found (Fits (state_of B).inst)) (λ (found : Option Move). ForSome found (Fits B.opening)) (found-fits B) at
+    if-ok c.search.result (IsFirstBetter (state_of B).inst (state_of B).plan) (λ (found : Option Move). ForSome found (Fits B.opening))
+    (λ found is. found-fits B found is.fits) c.search.ensures.found

@@ -1,8 +1,7 @@
 use Rattle.std.proofs.Common.{sym, subst}
 use Rattle.desk_data.specs.Situation.{planes_of}
 use Rattle.desk_data.specs.Valid.{IsPlanFor, IsRowOf}
-use Rattle.desk_model.proofs.ValidLaws.{with_row-valid}
-use Rattle.desk_fallback.proofs.RowParts.{row_of_plan}
+use Rattle.desk_model.proofs.ValidLaws.{row_of_plan, with_row-valid}
 use Rattle.desk_fallback.proofs.StopLaws.{row_after_stop-valid}
 use Rattle.desk_fallback.proofs.cancel.stop_leg.Goals as goal
 

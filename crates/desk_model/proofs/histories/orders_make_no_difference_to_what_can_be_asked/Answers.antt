@@ -1,5 +1,5 @@
 use Rattle.desk_model.proofs.HistoryLaws.{askable-parts}
-use Rattle.desk_model.proofs.NewsLaws.{askable_along}
+use Rattle.desk_model.proofs.StatePlans.{askable_along}
 use Rattle.desk_model.proofs.histories.orders_make_no_difference_to_what_can_be_asked.Goals as goal
 
 pub returns : goal.returns

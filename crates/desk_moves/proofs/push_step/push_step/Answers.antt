@@ -9,7 +9,8 @@ use Rattle.desk_model.specs.Push.{after_placing, rotation}
 use Rattle.plan_push.specs.declared.pushed.Placing.{Placing}
 use Rattle.plan_push.specs.Placings.{AreLegs, IsPlacing}
 use Rattle.desk_moves.proofs.BackLaws.{after-itself, after-more, after-then}
-use Rattle.desk_moves.proofs.PushLaws.{placed_all, placed_all-more, placed_all-is, length-placings}
+use Rattle.plan_push.proofs.PlacedLaws.{placed_all, placed_all-more, placed_all-is}
+use Rattle.desk_moves.proofs.PushLaws.{length-placings}
 use Rattle.desk_moves.proofs.push_step.push_step.Goals as goal
 
 -- what is read where there is no placing

@@ -1,6 +1,6 @@
 use Rattle.std.proofs.Common.{◌≡◌, take}
 use Rattle.desk_moves.specs.Back.{IsAfter}
-use Rattle.desk_moves.proofs.PushLaws.{placed_all}
+use Rattle.plan_push.proofs.PlacedLaws.{placed_all}
 use Rattle.desk_moves.proofs.push_step.push_step.Given as goal
 
 abbrev pub invariant-loop-placing : goal.invariant-loop-placing

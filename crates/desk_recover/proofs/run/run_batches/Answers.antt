@@ -1,7 +1,5 @@
 use Rattle.std.proofs.Common.{sym, subst}
-use Rattle.std.specs.Prelude.{All}
-use Rattle.day_orders.specs.declared.orders.Batch.{Batch}
-use Rattle.desk_data.specs.Valid.{IsOrder}
+use Rattle.desk_data.specs.Valid.{IsBatch}
 use Rattle.desk_recover.proofs.RecoverLaws.{continues-start, continues-next, continues-end}
 use Rattle.desk_recover.proofs.run.run_batches.Goals as goal
 
@@ -11,14 +9,14 @@ loop-batch-init c = continues-start c.args.inst c.args.moves c.in_ok-book.book _
 pub intake-requires : goal.intake-requires
 intake-requires c =
     rw c.loop-batch.invariant.same
-    (subst (λ (batch : Batch). All (IsOrder c.args.inst.parts) batch.orders) (sym c.batch-item.is)
+    (subst (IsBatch c.args.inst.parts) (sym c.batch-item.is)
     (c.requires.asked c.loop-batch.batch-index c.batch-item.result c.loop-batch-test.true))
 
 pub loop-batch-preserved : goal.loop-batch-preserved
 loop-batch-preserved c =
-    continues-next c.args.inst c.args.moves c.loop-batch.book c.intake.new.self c.descend.new.book c.loop-batch.ended c.in_ok-ended.ended c.batch-item.result c.loop-batch.batch-index c.args.batches.now
-    c.loop-batch-test.true c.requires.few c.batch-item.is c.in_ok-intake.ensures.after c.in_ok-ended.ensures.ok c.in_ok-ended.ensures.ended c.loop-batch.invariant
+    continues-next c.args.inst c.args.moves c.loop-batch.book c.intake.new.self c.descend.new.book c.loop-batch.search c.in_ok-search.search c.batch-item.result c.loop-batch.batch-index c.args.batches.now
+    c.loop-batch-test.true c.requires.few c.batch-item.is c.in_ok-intake.ensures.after c.in_ok-search.ensures.ok c.in_ok-search.ensures.ended c.loop-batch.invariant
 
 pub returns : goal.returns
-returns c = continues-end c.args.inst c.args.moves c.loop-batch.book c.loop-batch.ended c.search_of.result c.loop-batch.batch-index c.args.batches.now
-    c.requires.some c.loop-batch-test.false c.search_of.ensures c.loop-batch.invariant
+returns c = continues-end c.args.inst c.args.moves c.loop-batch.book c.loop-batch.search c.loop-batch.batch-index c.args.batches.now
+    c.requires.some c.loop-batch-test.false c.loop-batch.invariant

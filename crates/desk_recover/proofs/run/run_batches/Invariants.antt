@@ -3,4 +3,4 @@ use Rattle.desk_recover.proofs.RecoverLaws.{Continues}
 use Rattle.desk_recover.proofs.run.run_batches.Given as goal
 
 abbrev pub invariant-loop-batch : goal.invariant-loop-batch
-invariant-loop-batch l = Continues l.fn.inst l.fn.moves l.book l.ended l.batch-index (drop l.batch-index l.batches) l.batches
+invariant-loop-batch l = Continues l.fn.inst l.fn.moves l.book l.search l.batch-index (drop l.batch-index l.batches) l.batches

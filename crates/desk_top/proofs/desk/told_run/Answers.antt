@@ -21,4 +21,4 @@ returns-in-Ok g c =
     (g.F.Folder.outside c.args.folder.now) (g.F.Folder.outside c.place.new.self) (g.F.Folder.outside c.run_plain-in-Ok.new.folder)
     (g.O.Sink.report c.args.out.now) (g.O.Sink.report c.run_plain-in-Ok.new.out) c.run_plain-in-Ok.result c.in-Ok.field-0
     (asked-with these c.in-Some.asked.command (Some dirs) (option_map named c.in-Some.asked.directories) (ap (option_map named) c.in-Some-directories.is) c.in-Some.ensures)
-    c.in-Ok.ensures.names c.place.ensures.others c.run_plain-in-Ok.ensures.runs
+    c.in-Ok.ensures.names c.place.ensures.others c.run_plain-in-Ok.ensures.promise

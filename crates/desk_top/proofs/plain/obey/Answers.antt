@@ -2,6 +2,7 @@ use Rattle.std.proofs.Common.{sym, subst}
 use Rattle.desk_runs.specs.declared.ending.Ending.{Ending}
 use Rattle.desk_runs.specs.Runs.{world}
 use Rattle.desk_runs.proofs.Composed.{here}
+use Rattle.desk_tasks.specs.Tasks.{nothing}
 use Rattle.desk_top.specs.Desk.{Obeys}
 use Rattle.desk_top.proofs.Obeyed.{obeyed-fault, obeyed-task}
 use Rattle.desk_top.proofs.plain.obey.Goals as goal
@@ -10,7 +11,7 @@ pub returns-in-Err : goal.returns-in-Err
 returns-in-Err g c =
     let outside = g.F.Folder.outside in
     let sink = g.O.Sink.report c.args.out.now in
-    subst (λ (how : Ending). Obeys (here c.args.command.now) (world (outside c.args.folder.now) sink) (world (outside c.read_task.new.folder) sink) how) (sym c.from.ensures)
+    subst (λ (how : Ending). Obeys nothing (here c.args.command.now) (world (outside c.args.folder.now) sink) (world (outside c.read_task.new.folder) sink) how) (sym c.from.ensures)
     (obeyed-fault c.args.command.now (outside c.args.folder.now) (outside c.read_task.new.folder) sink c.in-Err.fault
     c.read_task.ensures.only c.read_task.ensures.in_order c.in-Err.ensures.stops c.in-Err.ensures.cause c.in-Err.ensures.exact)
 

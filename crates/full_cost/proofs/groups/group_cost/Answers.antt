@@ -1,7 +1,7 @@
 use Rattle.std.proofs.Common.{ap, ◌∙◌}
 use Rattle.desk_rules.specs.Cost.{grains}
 use Rattle.full_cost.specs.Counted.{group_on}
-use Rattle.full_cost.specs.Amounts.{ended_cost}
+use Rattle.full_cost.specs.Amounts.{path_cost}
 use Rattle.full_cost.proofs.EndLaws.{ended_is}
 use Rattle.full_cost.proofs.groups.group_cost.Goals as goal
 
@@ -9,4 +9,4 @@ pub returns : goal.returns
 returns g c =
     let group = group_on c.args.path.now c.args.count in
     c.cost_by_end.ensures
-    ∙ ap grains (ap (ended_cost c.args.inst.now c.args.res.0 group) c.path_end.ensures.end ∙ ended_is c.args.inst.now (g.P.ReadPlan.plan_of c.args.plan.now) c.args.res.0 group)
+    ∙ ap grains (ap (path_cost c.args.inst.now c.args.res.0 group) c.path_end.ensures.end ∙ ended_is c.args.inst.now (g.P.ReadPlan.plan_of c.args.plan.now) c.args.res.0 group)

@@ -1,4 +1,4 @@
-use Rattle.near_legs.specs.Tables.{IsInverse}
+use Rattle.near_legs.specs.LegTables.{IsInverse}
 use Rattle.near_legs.proofs.behind.inverse.Given as goal
 
 abbrev pub invariant-loop-y : goal.invariant-loop-y

@@ -1,8 +1,7 @@
-use Rattle.std.proofs.Common.{◌≡◌, length, sym, ap, subst, ◌∙◌}
+use Rattle.std.proofs.Common.{length, sym, subst}
 use Rattle.std.proofs.lemmas.Result.{IfOk-weaker}
-use Rattle.desk_data.specs.PlanRows.{PlanRows}
 use Rattle.plan_reads.specs.Before.{AreBefore}
-use Rattle.near_legs.specs.Tables.{IsInverse, AreBehind}
+use Rattle.near_legs.specs.LegTables.{IsInverse, AreBehind}
 use Rattle.near_legs.proofs.BehindLaws.{behind-are}
 use Rattle.near_legs.proofs.behind.legs_behind.Goals as goal
 
@@ -11,7 +10,6 @@ returns c =
     let I = c.args.inst.now in
     let P = c.args.plan.now in
     let before = c.as_slice.result.now in
-    let rows : c.rows.result.now ≡ P.rows = c.rows.ensures.rows ∙ ap (λ (q : PlanRows). q.rows) c.plan.ensures in
-    let are : AreBefore P.rows before = subst (λ r. AreBefore r before) rows (subst (AreBefore c.rows.result.now) (sym c.as_slice.ensures.value) c.in_ok-before.ensures) in
+    let are : AreBefore P.rows before = subst (AreBefore P.rows) (sym c.as_slice.ensures.value) c.in_ok-before.ensures in
     IfOk-weaker c.inverse.result (λ b. IsInverse (length before) before b.items) (λ b. AreBehind I P b.items)
     (λ b is. behind-are I P before b.items c.requires are is) c.inverse.ensures

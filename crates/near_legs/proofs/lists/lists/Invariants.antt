@@ -1,5 +1,5 @@
 use Rattle.std.proofs.Common.{map}
-use Rattle.near_legs.specs.Tables.{AreListed}
+use Rattle.near_legs.specs.LegTables.{AreListed}
 use Rattle.near_legs.proofs.lists.lists.Given as goal
 
 abbrev pub invariant-loop-x : goal.invariant-loop-x

@@ -1,6 +1,6 @@
 use Rattle.std.proofs.Common.{◌+◌, ◌<◌, map, refl, sym, subst}
 use Rattle.std.proofs.lemmas.Result.{on_ok_weaker}
-use Rattle.near_legs.specs.Tables.{AreListed, count_of}
+use Rattle.near_legs.specs.LegTables.{AreListed, count_of}
 use Rattle.near_legs.proofs.ListsLaws.{lists_more, lists_same}
 use Rattle.near_legs.proofs.lists.take_leg.Goals as goal
 

@@ -7,7 +7,7 @@ use Rattle.desk_data.specs.Situation.{legs_of}
 use Rattle.desk_rules.specs.Numbers.{numbers}
 use Rattle.desk_rules.specs.Rotations.{dep}
 use Rattle.near_legs.specs.declared.lists.By.TheVariants.{Aircraft}
-use Rattle.near_legs.specs.Tables.{is_listed}
+use Rattle.near_legs.specs.LegTables.{is_listed}
 use Rattle.near_legs.proofs.ListsLaws.{flown-within, moments-are}
 use Rattle.near_legs.proofs.moments.moments.Goals as goal
 

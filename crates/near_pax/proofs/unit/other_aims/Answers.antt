@@ -2,7 +2,7 @@ use Rattle.std.proofs.Common.{◌≡◌, Bool, not, List, [], ◌∷◌, ◌++�
 use Rattle.std.specs.Prelude.{filter, IfOk}
 use Rattle.desk_units.specs.declared.numbers.Leg.{Leg}
 use Rattle.desk_units.specs.declared.numbers.Cabin.{Cabin}
-use Rattle.desk_model.specs.Rebook.{same_path}
+use Rattle.desk_data.specs.PlanRows.{same_path}
 use Rattle.near_moves.specs.PassengerMoves.{aims}
 use Rattle.near_pax.proofs.unit.other_aims.Goals as goal
 

@@ -1,5 +1,5 @@
 use Rattle.std.proofs.Common.{arith}
-use Rattle.desk_model.specs.Rebook.{same_path}
+use Rattle.desk_data.specs.PlanRows.{same_path}
 use Rattle.plan_groups.proofs.CountLaws.{room_more}
 use Rattle.plan_groups.proofs.counts.count_on.Goals as goal
 

@@ -5,7 +5,7 @@ use Rattle.desk_model.specs.Rebook.{count_on, with_count}
 use Rattle.plan_groups.specs.Made.{everyone}
 use Rattle.plan_groups.proofs.CountLaws.{fewer-everyone, among-everyone}
 use Rattle.plan_groups.proofs.RebookCalls.{rebooked_is}
-use Rattle.desk_model.specs.Rebook.{same_path}
+use Rattle.desk_data.specs.PlanRows.{same_path}
 use Rattle.plan_groups.proofs.rebook.rebooked.Goals as goal
 
 pub count_on-requires-2 : goal.count_on-requires-2

@@ -5,7 +5,8 @@ use Rattle.desk_data.specs.Situation.{planes_of}
 use Rattle.desk_data.specs.Valid.{IsRowOf}
 use Rattle.desk_rules.specs.Maintenance.{is_flown_by, flies}
 use Rattle.plan_push.specs.Flown.{AreFlownOfFirst}
-use Rattle.plan_push.proofs.FlownLaws.{row_of_plan, flown_more, cancelled_more}
+use Rattle.desk_model.proofs.ValidLaws.{row_of_plan}
+use Rattle.plan_push.proofs.FlownLaws.{flown_more, cancelled_more}
 use Rattle.plan_push.proofs.flown.take_leg.Goals as goal
 
 pub returns-in-Flown : goal.returns-in-Flown

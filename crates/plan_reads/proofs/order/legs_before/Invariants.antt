@@ -6,8 +6,8 @@ use Rattle.plan_reads.specs.Order.{turn_at}
 use Rattle.plan_reads.proofs.order.legs_before.Given as goal
 
 abbrev pub invariant-loop-k : goal.invariant-loop-k
-invariant-loop-k l = record {
-  legs : length l.before.items ≡ length l.rows;
-  right : (j : ℕ) → j < l.k → IsLegBefore l.rows (length l.rows) (turn_at l.flown.items j).leg.0 (get_or l.before.items (turn_at l.flown.items j).leg.0 None);
-  blank : (y : ℕ) → y < length l.rows → get_or l.rows y Cancelled ≡ Cancelled → get_or l.before.items y None ≡ None;
-}
+invariant-loop-k g l = (let rows = (g.P.ReadPlan.plan_of l.plan).rows in record {
+  legs : length l.before.items ≡ length rows;
+  right : (j : ℕ) → j < l.k → IsLegBefore rows (length rows) (turn_at l.flown.items j).at.leg.0 (get_or l.before.items (turn_at l.flown.items j).at.leg.0 None);
+  blank : (y : ℕ) → y < length rows → get_or rows y Cancelled ≡ Cancelled → get_or l.before.items y None ≡ None;
+})

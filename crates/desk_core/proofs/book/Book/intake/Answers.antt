@@ -1,6 +1,5 @@
 use Rattle.std.proofs.Common.{◌<◌, length, arith}
-use Rattle.std.specs.List.{All}
-use Rattle.desk_data.specs.Valid.{IsOrder}
+use Rattle.desk_data.specs.Valid.{IsBatch}
 use Rattle.desk_model.specs.Histories.{batch_limit}
 use Rattle.desk_core.proofs.KeptLaws.{kept_taken}
 use Rattle.desk_core.proofs.book.Book.intake.Goals as goal
@@ -9,6 +8,6 @@ pub invariant_of-self-2 : goal.invariant_of-self-2
 invariant_of-self-2 c =
     let b = c.self.inside in
     let few : length b.journal.items < batch_limit = omega arith in
-    let orders : All (IsOrder b.eval.inst.parts) c.args.batch.now.orders = rw (← c.self.view_is) at c.requires in
-    rw (c.in_ok-push.ensures.items, c.reserve.ensures.items, c.in_ok-copied_batch.ensures)
-    (kept_taken b.eval c.in_ok-eval.field-0.eval b.changes b.accepted b.journal.items c.args.caller c.args.batch.now c.in_ok-eval.field-0.answer c.self.invariant few orders c.in_ok-eval.ensures)
+    let batch : IsBatch b.eval.inst.parts c.args.batch.now = rw (← c.self.view_is) at c.requires in
+    rw (c.in_ok-push.ensures.items, c.reserve.ensures.items, c.in_ok-copy.ensures)
+    (kept_taken b.eval c.in_ok-eval.field-0.eval b.changes b.accepted b.journal.items c.args.caller c.args.batch.now c.in_ok-eval.field-0.answer c.self.invariant few batch c.in_ok-eval.ensures)

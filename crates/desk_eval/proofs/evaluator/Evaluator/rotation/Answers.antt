@@ -4,7 +4,7 @@ use Rattle.desk_eval.proofs.evaluator.Evaluator.rotation.Goals as goal
 pub rotation-requires : goal.rotation-requires
 rotation-requires c =
     let within = rw (← c.self.view_is) at c.requires in
-    let planes = c.self.invariant.0.boards.rot.now.planes in
+    let planes = c.self.invariant.0.boards.first.first.now.planes in
     omega (arith, within, planes)
 
 pub returns-clause-order : goal.returns-clause-order

@@ -18,7 +18,7 @@ pub load-requires : goal.load-requires
 load-requires g c = (
   c.join_seat.ensures.0 ∙ c.requires.of.0.0,
   search rules,
-  tells_allowed _ _ _ _ (legal_beginning g.B.Kept.may_ask g.B.Kept.answers) _ _ _ (λ e. let from = sym (ap (λ m. m.0.from) c.join_seat.ensures.2) ∙ e in absurd (cc (from, c.requires.of.0.1))),
+  tells_allowed _ _ _ _ (legal_beginning g.B.SharedBook.may_ask g.B.SharedBook.answers) _ _ _ (λ e. let from = sym (ap (λ m. m.0.from) c.join_seat.ensures.2) ∙ e in absurd (cc (from, c.requires.of.0.1))),
 )
 
 pub returns-then-pass-count-clause-apart : goal.returns-then-pass-count-clause-apart
@@ -29,10 +29,10 @@ returns-else-pass-count-clause-apart g c = subst (λ m. AreApart m.0.tags.left_m
 
 pub returns-then-pass-count-clause-legal : goal.returns-then-pass-count-clause-legal
 returns-then-pass-count-clause-legal g c =
-    let o = g.B.Kept.opening c.args.self.now.table.shared.key.value in
-    subst (λ m. IsLegal g.B.Kept.may_ask g.B.Kept.answers o m.0.seen) (sym c.load.ensures.2.after) (c.load.ensures.2.lawful o (ap (λ m. m.0.from) c.join_seat.ensures.2 ∙ c.requires.of.0.1))
+    let o = g.B.SharedBook.opening c.args.self.now.table.shared.key.value in
+    subst (λ m. IsLegal g.B.SharedBook.may_ask g.B.SharedBook.answers o m.0.seen) (sym c.load.ensures.2.after) (c.load.ensures.2.lawful o (ap (λ m. m.0.from) c.join_seat.ensures.2 ∙ c.requires.of.0.1))
 
 pub returns-else-pass-count-clause-legal : goal.returns-else-pass-count-clause-legal
 returns-else-pass-count-clause-legal g c =
-    let o = g.B.Kept.opening c.args.self.now.table.shared.key.value in
-    subst (λ m. IsLegal g.B.Kept.may_ask g.B.Kept.answers o m.0.seen) (sym c.load.ensures.2.after) (c.load.ensures.2.lawful o (ap (λ m. m.0.from) c.join_seat.ensures.2 ∙ c.requires.of.0.1))
+    let o = g.B.SharedBook.opening c.args.self.now.table.shared.key.value in
+    subst (λ m. IsLegal g.B.SharedBook.may_ask g.B.SharedBook.answers o m.0.seen) (sym c.load.ensures.2.after) (c.load.ensures.2.lawful o (ap (λ m. m.0.from) c.join_seat.ensures.2 ∙ c.requires.of.0.1))

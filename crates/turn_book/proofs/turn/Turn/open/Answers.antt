@@ -8,9 +8,9 @@ use Rattle.turn_book.proofs.turn.Turn.open.Goals as goal
 
 pub new-requires : goal.new-requires
 new-requires g c =
-    let legal = IsLegal g.B.Kept.may_ask g.B.Kept.answers in
-    let journal = g.B.Kept.journal in
-    let start = g.B.Kept.opening in
+    let legal = IsLegal g.B.SharedBook.may_ask g.B.SharedBook.answers in
+    let journal = g.B.SharedBook.journal in
+    let start = g.B.SharedBook.opening in
     let f = opens start journal legal c.args.book c.entries-count.ensures.legal in
     let items = c.push_reserved.ensures.items ∙ ap (λ (l : List (Option g.row.B.Denot)). l ++ Some c.args.book ∷ []) c.in-Ok.ensures.items in
     let count = c.from.ensures ∙ c.entries-count.ensures.count in

@@ -26,4 +26,4 @@ returns-clause-err g c = IfErr-weaker c.serve-reply.result _ _
 pub returns-clause-legal : goal.returns-clause-legal
 returns-clause-legal g c =
     let from = some_same _ _ (sym c.begin-book.ensures.from ∙ (ap (λ m. m.0.from) c.take.ensures.took ∙ c.requires.of.1)) in
-    subst (λ (y : g.row.B-Opening.Denot × _). IsLegal g.B.Kept.may_ask g.B.Kept.answers y.0 y.1) (λ i. ((c.serve-reply.ensures.opening ∙ from) i, sym (ap (λ m. m.0.seen) c.finish-count.ensures.rests) i)) c.finish-count.ensures.legal
+    subst (λ (y : g.row.B-Opening.Denot × _). IsLegal g.B.SharedBook.may_ask g.B.SharedBook.answers y.0 y.1) (λ i. ((c.serve-reply.ensures.opening ∙ from) i, sym (ap (λ m. m.0.seen) c.finish-count.ensures.rests) i)) c.finish-count.ensures.legal

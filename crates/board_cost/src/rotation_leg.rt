@@ -1,0 +1,75 @@
+//! The rotation legs of aircraft before the window's end.
+
+ghost use Rattle.std.specs.Prelude.{◌≡◌, ◌<◌};
+ghost use Rattle.desk_data.specs.Situation.{legs_of, planes_of};
+ghost use Rattle.desk_data.specs.Valid.{IsRowOf};
+ghost use Rattle.board_cost.specs.Turns.{placed_of};
+ghost use Rattle.board_cost.specs.Board.{HasPlace};
+
+use crate::paths::RowChange;
+use desk_data::{Airport, Instance, Leg, Minute, Plane, Row};
+
+/// A flown leg, as it stands in the order of its aircraft: by departure, then by leg.
+#[derive(Clone, Copy, Debug, PartialEq, Eq, PartialOrd, Ord)]
+pub(crate) struct ArrivingLeg {
+    /// When it departs.
+    pub dep: Minute,
+    /// Which leg it is.
+    pub leg: Leg,
+    /// Where it arrives.
+    pub dest: Airport,
+}
+
+/// A rotation leg, and the aircraft that flies it.
+#[derive(Clone, Copy, Debug)]
+pub(crate) struct Placed {
+    pub plane: Plane,
+    pub turn: ArrivingLeg,
+}
+
+/// The rotation leg of a row of a leg, and its aircraft, if the leg is flown and departs before the window's
+/// end.
+pub(crate) fn placed_of(inst: &Instance, leg: Leg, row: Row) -> Option<Placed>
+    requires leg { leg.0 < legs_of inst.now }
+    requires row { IsRowOf (planes_of inst.now) row }
+    ensures placed { result ≡ placed_of inst.now leg.0 row }
+    ensures place { HasPlace (planes_of inst.now) result }
+{
+    let end = inst.window().1;
+    match row {
+        Row::Flown { plane, dep } => {
+            if end.0 <= dep.0 {
+                return None;
+            }
+            let dest = inst.leg(leg).dest;
+            Some(Placed {
+                plane,
+                turn: ArrivingLeg { dep, leg, dest },
+            })
+        }
+        Row::Cancelled => None,
+    }
+}
+
+/// The rotation legs that a change takes from an aircraft, and gives to one.
+#[derive(Clone, Copy)]
+pub(crate) struct Turns {
+    pub gone: Option<Placed>,
+    pub come: Option<Placed>,
+}
+
+/// The rotation legs of a change.
+pub(crate) fn rotation_legs_of(inst: &Instance, change: RowChange) -> Turns
+    requires leg { change.leg.0 < legs_of inst.now }
+    requires old { IsRowOf (planes_of inst.now) change.old }
+    requires new { IsRowOf (planes_of inst.now) change.new }
+    ensures gone { result.gone ≡ placed_of inst.now change.leg.0 change.old }
+    ensures come { result.come ≡ placed_of inst.now change.leg.0 change.new }
+    ensures gone_place { HasPlace (planes_of inst.now) result.gone }
+    ensures come_place { HasPlace (planes_of inst.now) result.come }
+{
+    Turns {
+        gone: placed_of(inst, change.leg, change.old),
+        come: placed_of(inst, change.leg, change.new),
+    }
+}

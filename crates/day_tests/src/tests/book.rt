@@ -1,0 +1,182 @@
+//! The usual moves, made of the plan of a book and answered by it, and what the book keeps of them.
+
+ghost use Rattle.std.specs.Prelude.{IfOk};
+ghost use Rattle.std.specs.Option.{ForSome};
+ghost use Rattle.plan_moves.specs.Fits.{Fits};
+
+use super::days::{LATER, NOWHERE, OFF, Way, flown, path_of, priced_day};
+use desk_core::Book;
+use desk_data::{Leg, Minute, Plane, Res, Row};
+use desk_model::{Answer, Event};
+use desk_moves::{cancel, delay, rebook, reroute, swap};
+use plan_moves::{Move, Step, fits};
+use plan_reads::departure;
+use std::alloc::Global;
+use std::test::Fail;
+
+/// A usual move, by what it is made of.
+#[derive(Clone, Copy)]
+enum Asked {
+    /// A leg, and how many minutes later it departs.
+    Delay(Leg, u32),
+    Cancel(Leg),
+    Swap(Plane, Plane, Minute),
+    Reroute(Leg, Plane),
+    /// Of a reservation, the path that so many leave, and the one that they take.
+    Rebook(Res, Way, Way, u32),
+}
+
+/// The move at the plan of a book, unless it does not fit.
+fn move_of(alloc: Global, book: &Book, asked: Asked) -> Result<Option<Move>, Fail>
+    ensures { IfOk result (λ made. ForSome made (Fits book.now.opening)) }
+{
+    let inst = book.instance();
+    let plan = book.eval().plan();
+    let made = match asked {
+        Asked::Delay(leg, minutes) => {
+            if leg.0 >= inst.legs() || minutes > 60 || departure(plan, leg) > 52_000_000 {
+                return Ok(None);
+            }
+            delay(alloc, inst, plan, leg, minutes)?
+        }
+        Asked::Cancel(leg) => {
+            if leg.0 >= inst.legs() {
+                return Ok(None);
+            }
+            cancel(alloc, inst, plan, leg)?
+        }
+        Asked::Swap(first, second, at) => swap(alloc, first, second, at)?,
+        Asked::Reroute(leg, plane) => {
+            if leg.0 >= inst.legs() || plane.0 >= inst.planes() {
+                return Ok(None);
+            }
+            reroute(alloc, inst, plan, leg, plane)?
+        }
+        Asked::Rebook(res, from, to, count) => {
+            let from = path_of(alloc, from)?;
+            let to = path_of(alloc, to)?;
+            rebook(alloc, res, &from, &to, count)?
+        }
+    };
+    if !fits(inst, &made) {
+        return Ok(None);
+    }
+    Ok(Some(made))
+}
+
+/// What a book answers to a usual move, unless it does not fit.
+fn answered(alloc: Global, book: &mut Book, asked: Asked) -> Result<Option<Answer>, Fail> {
+    match move_of(alloc, book, asked)? {
+        Some(m) => Ok(Some(book.propose(alloc, 1, &m)?)),
+        None => Ok(None),
+    }
+}
+
+/// An answer in plain values: its word, what the plan cost and what it would cost; of an accepted move both
+/// are what it costs then.
+type Told = (&'static str, u128, u128);
+
+fn told(answer: Option<Answer>) -> Told {
+    match answer {
+        Some(Answer::Accepted { cost }) => ("accepted", cost.0, cost.0),
+        Some(Answer::Dearer { now, would }) => ("dearer", now.0, would.0),
+        Some(_) => ("other", 0, 0),
+        None => ("does not fit", 0, 0),
+    }
+}
+
+/// The rows of the three legs, unless there are others.
+fn rows_of(book: &Book) -> Option<[Row; 3]> {
+    if book.instance().legs() != 3 {
+        return None;
+    }
+    let plan = book.eval().plan();
+    Some([
+        plan.read_row(Leg(0)),
+        plan.read_row(Leg(1)),
+        plan.read_row(Leg(2)),
+    ])
+}
+
+/// Who proposed the last of five entries, what was answered, and the leg whose row was to change, with its
+/// rows before and behind; `None` where the entries from the fifth one on are others than that.
+type Last = Option<(u32, Told, (Leg, Row, Row))>;
+
+fn last_of(alloc: Global, book: &Book) -> Result<Last, Fail> {
+    if book.entries() != 5 {
+        return Ok(None);
+    }
+    let later = book.since(alloc, 4)?;
+    let [entry] = later.as_slice() else {
+        return Ok(None);
+    };
+    let Event::Move(asked) = &entry.event else {
+        return Ok(None);
+    };
+    let [Step::Set { leg, was, new }, Step::Tidy] = asked.steps.as_slice() else {
+        return Ok(None);
+    };
+    let answer = told(Some(entry.answer));
+    Ok(Some((entry.caller, answer, (*leg, *was, *new))))
+}
+
+/// The usual moves, one after the other.
+const ASKED: [Asked; 5] = [
+    Asked::Delay(Leg(0), 10),
+    Asked::Swap(Plane(0), Plane(1), Minute(0)),
+    Asked::Reroute(Leg(2), Plane(1)),
+    Asked::Rebook(Res(1), LATER, NOWHERE, 2),
+    Asked::Cancel(Leg(2)),
+];
+
+/// What a book answers to them.
+fn answers_of(alloc: Global, book: &mut Book) -> Result<Vec<Told>, Fail> {
+    let mut answers = Vec::new(alloc);
+    for asked in ASKED.iter() {
+        answers.push(told(answered(alloc, book, *asked)?))?;
+    }
+    Ok(answers)
+}
+
+/// What a book answers to the usual moves, how many entries and changes it has then, and what it keeps.
+type Heard = (Vec<Told>, (u32, u32), Option<[Row; 3]>, Last);
+
+fn heard_of(alloc: Global, book: &mut Book) -> Result<Heard, Fail> {
+    let answers = answers_of(alloc, book)?;
+    let last = last_of(alloc, book)?;
+    Ok((
+        answers,
+        (book.entries(), book.changes()),
+        rows_of(book),
+        last,
+    ))
+}
+
+/// The same of the book of the priced day, which lives no longer than this call.
+fn heard(alloc: Global) -> Result<Heard, Fail> {
+    let mut book = Book::open(alloc, priced_day(alloc)?)?;
+    heard_of(alloc, &mut book)
+}
+
+#[test]
+fn usual_moves_are_answered(rt: HostRuntime) -> Result<(), Fail> {
+    let (answers, counts, rows, last) = heard(rt.alloc())?;
+    let expected = [
+        // two passengers are 10 minutes late; the second leg departs at 580
+        ("dearer", 150_000_000_000, 162_000_000_000),
+        // the dearer aircraft has one leg, and no longer two
+        ("accepted", 120_000_000_000, 120_000_000_000),
+        // it has none
+        ("accepted", 90_000_000_000, 90_000_000_000),
+        // two passengers are not carried
+        ("dearer", 90_000_000_000, 91_200_000_000),
+        // all three are not, and two legs are flown
+        ("accepted", 61_800_000_000, 61_800_000_000),
+    ];
+    assert_eq!(rt; answers.as_slice(), expected.as_slice());
+    assert_eq!(rt; counts, (5, 3));
+    assert!(rt; rows == Some([flown(1, 480), flown(1, 570), OFF]));
+    let off = (1, expected[4], (Leg(2), flown(1, 700), OFF));
+    assert!(rt; last == Some(off));
+    Ok(())
+}

@@ -1,0 +1,44 @@
+//! What holds of every day: how far departures reach, which rows are due, what paths are bound to, and what
+//! a batch leaves as it was.
+
+ghost use Rattle.std.specs.Prelude.{◌≡◌, ◌↔◌, ℕ, ◌<◌, ◌≤◌, true, List, Some, is_some};
+ghost use Rattle.day_orders.specs.declared.orders.Batch.{Batch as Orders};
+ghost use Rattle.desk_units.specs.declared.numbers.Cabin.{Cabin};
+ghost use Rattle.desk_units.specs.declared.numbers.Leg.{Leg};
+ghost use Rattle.desk_data.specs.declared.parts.Parts.{Parts};
+ghost use Rattle.desk_data.specs.declared.row.Group.{Group};
+ghost use Rattle.desk_data.specs.declared.row.Row.{Row};
+ghost use Rattle.desk_data.specs.Begun.{BeginsAsBegun};
+ghost use Rattle.desk_data.specs.PlanRows.{PlanRows};
+ghost use Rattle.desk_data.specs.Situation.{Situation, fresh_day, with_batch, legs_of, planes_of, fixed, earliest, latest, due, bound};
+ghost use Rattle.desk_data.specs.Valid.{AreParts, IsBatch, IsPlanFor, IsRowOf, IsValid};
+
+/// The earliest departure of a leg of a valid day is at most minute 52,482,880, and its latest at most
+/// 52,485,760.
+pub fn departures_are_in_time()
+    ensures earliest { (I : Situation) (x : ℕ) → IsValid I → earliest I x ≤ 52482880 }
+    ensures latest { (I : Situation) (x : ℕ) → IsValid I → latest I x ≤ 52485760 }
+{}
+
+/// A leg has a row that is due just where it is fixed. Of a valid day that row is flown by one of its aircraft
+/// and departs before minute 52,500,000, or it is cancelled.
+pub fn fixed_legs_have_rows_due()
+    ensures fixed { (I : Situation) (x : ℕ) → is_some (due I x) ≡ fixed I x }
+    ensures ranges { (I : Situation) (x : ℕ) → IsValid I → x < legs_of I → (row : Row) → due I x ≡ Some row → IsRowOf (planes_of I) row }
+{}
+
+/// What a path of a reservation is bound to: it begins with the legs of the booked path that have begun, in
+/// their cabins. The groups of the reservation play no part yet.
+pub fn paths_are_bound_to_what_has_begun()
+    ensures begins { (I : Situation) (r : ℕ) (groups : List Group) (path : List (Leg × Cabin)) → bound I r groups path ≡ true ↔ BeginsAsBegun I r path }
+    ensures groups { (I : Situation) (r : ℕ) (groups others : List Group) (path : List (Leg × Cabin)) → bound I r groups path ≡ bound I r others path }
+{}
+
+/// The day of valid rows before any batch is valid, and so is a valid day with a batch whose orders are about
+/// its legs, aircraft and airports. Its rows stay, and a plan for it stays one.
+pub fn batches_keep_days_valid()
+    ensures fresh { (parts : Parts) → AreParts parts → IsValid (fresh_day parts) }
+    ensures valid { (I : Situation) (P : PlanRows) (B : Orders) → IsValid I → IsPlanFor I P → IsBatch I.parts B → IsValid (with_batch I P B) }
+    ensures parts { (I : Situation) (P : PlanRows) (B : Orders) → (with_batch I P B).parts ≡ I.parts }
+    ensures plan { (I : Situation) (P Q : PlanRows) (B : Orders) → IsPlanFor I Q → IsPlanFor (with_batch I P B) Q }
+{}

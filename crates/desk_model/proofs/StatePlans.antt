@@ -1,0 +1,112 @@
+-- Which plans histories have.
+use Rattle.std.proofs.Common.{◌≡◌, ◌↔◌, ℕ, zero, suc, ◌+◌, ◌<◌, ◌≤◌, ◌⊎◌, inl, inr, List, ◌++◌, length, take, sym, ap, subst, ◌∙◌, arith}
+use Rattle.std.specs.Prelude.{None, Some}
+use Rattle.std.proofs.lemmas.List.{take_all}
+use Rattle.day_orders.specs.declared.orders.Batch.{Batch}
+use Rattle.desk_data.specs.declared.broken.Broken.{Broken}
+use Rattle.plan_moves.specs.declared.moves.Move.{Move}
+use Rattle.plan_moves.specs.Fits.{Fits}
+use Rattle.desk_data.specs.Situation.{Situation, with_batch}
+use Rattle.desk_data.specs.Valid.{IsBatch, IsValid, IsPlanFor}
+use Rattle.desk_data.proofs.BatchLaws.{with_batch-valid, with_batch-plan}
+use Rattle.desk_data.proofs.ScheduleLemmas.{plan_for_schedule}
+use Rattle.desk_rules.specs.Words.{IsFeasible, IsLeast}
+use Rattle.desk_rules.proofs.LeastLaws.{feasible-holds, feasible-from, least-holds}
+use Rattle.desk_model.specs.declared.answer.Answer.{Answer}
+use Rattle.desk_model.specs.declared.answer.Answer.TheVariants.{Taken, Accepted, Breaks, Dearer, NoPlan, Full}
+use Rattle.desk_model.specs.declared.answer.Event.{Event}
+use Rattle.desk_model.specs.declared.answer.Event.TheVariants as event
+use Rattle.desk_model.specs.declared.answer.Entry.{Entry}
+use Rattle.desk_model.specs.Fallback.{rows_of}
+use Rattle.desk_model.specs.States.{State, opening, fallback_on, answer, answered_state, after}
+use Rattle.desk_model.specs.Histories.{state, IsAskable, IsLegal, orders_of}
+use Rattle.desk_model.specs.Promises.{state_at}
+use Rattle.desk_model.specs.Batches.{HasPlanRows}
+use Rattle.desk_model.proofs.MoveLaws.{after_move-valid}
+use Rattle.desk_model.proofs.FallbackLaws.{fallback-valid}
+use Rattle.desk_model.proofs.StateLaws.{after-batch-inst, after-batch-plan, opening-told, opening-inst, opening-plan}
+use Rattle.desk_model.proofs.BatchLaws.{least-from}
+use Rattle.desk_model.proofs.HistoryLaws.{state-told, state-parts, state-orders, state-progress, state-next, entry_at, askable-parts}
+
+-- ---- a plan, exactly where the rows are feasible
+
+pub planned : (I : Situation) (h : List Entry) → (state (opening I) h).broken ≡ None ↔ IsFeasible (state (opening I) h).inst (state (opening I) h).plan
+planned I h =
+    let told = state-told (opening I) h (opening-told I) in
+    ((λ none. feasible-holds _ _ (sym told ∙ none)), (λ feasible. told ∙ feasible-from _ _ feasible))
+
+pub unplanned : (I : Situation) (h : List Entry) (item : Broken) → (state (opening I) h).broken ≡ Some item ↔ IsLeast (state (opening I) h).inst (state (opening I) h).plan item
+unplanned I h item =
+    let told = state-told (opening I) h (opening-told I) in
+    ((λ some. least-holds _ _ item (sym told ∙ some)), (λ first. told ∙ least-from _ _ item first))
+
+-- ---- the instance of a state
+
+-- its rows and how far it has gone on are those of the day at the opening; its orders have those of the batches behind them
+pub rows_of_state : (I : Situation) (h : List Entry) → (state (opening I) h).inst.parts ≡ I.parts
+rows_of_state I h = state-parts (opening I) h ∙ ap (λ (J : Situation). J.parts) (opening-inst I)
+
+pub orders_of_state : (I : Situation) (h : List Entry) → (state (opening I) h).inst.orders ≡ I.orders ++ orders_of h
+orders_of_state I h = state-orders (opening I) h ∙ ap (λ (J : Situation). J.orders ++ orders_of h) (opening-inst I)
+
+pub progress_of_state : (I : Situation) (h : List Entry) → (state (opening I) h).inst.progress ≡ I.progress
+progress_of_state I h = state-progress (opening I) h ∙ ap (λ (J : Situation). J.progress) (opening-inst I)
+
+pub askable_along : (I : Situation) (h : List Entry) (e : Event) → IsAskable (state (opening I) h).inst e ↔ IsAskable I e
+askable_along I h e =
+    let same = rows_of_state I h in
+    (askable-parts (state (opening I) h).inst I e same, askable-parts I (state (opening I) h).inst e (sym same))
+
+-- ---- plans for instances
+
+published_plan : (S : State) (m : Move) (a : Answer) → Fits S.inst m → HasPlanRows S → HasPlanRows (answered_state S m a)
+published_plan S m (Accepted told) fits h = record { inst = h.inst; plan = after_move-valid S.inst S.plan m h.inst fits h.plan }
+published_plan S m (Taken which told) fits h = h
+published_plan S m (Breaks item) fits h = h
+published_plan S m (Dearer now would) fits h = h
+published_plan S m (NoPlan item) fits h = h
+published_plan S m (Full entries) fits h = h
+
+moved_plan : (S : State) (m : Move) → Fits S.inst m → HasPlanRows S → HasPlanRows (after S (event.Move m))
+unfolding after
+moved_plan S m fits h = published_plan S m (answer S (event.Move m)) fits h
+
+plan_fallen : (S : State) (B : Batch) → IsValid (with_batch S.inst S.plan B) → IsPlanFor (with_batch S.inst S.plan B) S.plan → IsPlanFor (with_batch S.inst S.plan B) (rows_of (fallback_on S B))
+unfolding fallback_on
+plan_fallen S B valid plan = fallback-valid (with_batch S.inst S.plan B) S.plan valid plan
+
+taken_plan : (S : State) (B : Batch) → IsBatch S.inst.parts B → HasPlanRows S → HasPlanRows (after S (event.Batch B))
+taken_plan S B batch h =
+    let valid = with_batch-valid S.inst S.plan B h.inst h.plan batch in
+    record {
+      inst = subst IsValid (sym (after-batch-inst S B)) valid;
+      plan = rw (after-batch-inst S B, after-batch-plan S B) (plan_fallen S B valid (with_batch-plan S.inst S.plan S.plan B h.plan));
+    }
+
+after_plan : (S : State) (e : Event) → IsAskable S.inst e → HasPlanRows S → HasPlanRows (after S e)
+after_plan S (event.Batch B) asked h = taken_plan S B asked h
+after_plan S (event.Move m) asked h = moved_plan S m asked h
+
+opening_plan : (I : Situation) → IsValid I → HasPlanRows (opening I)
+opening_plan I valid = record {
+  inst = subst IsValid (sym (opening-inst I)) valid;
+  plan = rw (opening-inst I, opening-plan I) (plan_for_schedule I valid);
+}
+
+plans_along : (S : State) (h : List Entry) (i : ℕ) → IsLegal S h → HasPlanRows S → HasPlanRows (state S (take i h))
+plans_along S h zero legal first = first
+plans_along S h (suc i) legal first =
+    let rest = plans_along S h i legal first in
+    let cases : (i < length h) ⊎ (length h ≤ i) = grind arith in
+    elim cases [
+      | inl within ↦
+          let at = entry_at h i within in
+          let next : HasPlanRows (state S (take (i + 1) h)) = subst HasPlanRows (sym (state-next S h i at.0 at.1)) (after_plan (state S (take i h)) at.0.event (legal i at.0 at.1).asked rest) in
+          subst (λ (j : ℕ). HasPlanRows (state S (take j h))) (let e : i + 1 ≡ suc i = omega arith in e) next
+      | inr past ↦
+          let here : take (suc i) h ≡ take i h = take_all (suc i) h (omega (arith, past)) ∙ sym (take_all i h past) in
+          subst (λ (t : List Entry). HasPlanRows (state S t)) (sym here) rest
+    ]
+
+pub plans_of_history : (I : Situation) (h : List Entry) → IsValid I → IsLegal (opening I) h → (i : ℕ) → HasPlanRows (state_at I h i)
+plans_of_history I h valid legal i = plans_along (opening I) h i legal (opening_plan I valid)

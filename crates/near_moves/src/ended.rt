@@ -1,0 +1,10 @@
+//! Why a search ended.
+
+/// Why no move more is proposed behind a batch where there is a plan.
+#[derive(Clone, Copy, Debug, PartialEq, Eq)]
+pub enum SearchEnd {
+    /// As many proposals were accepted as may be, or the journal takes no more of them.
+    Budget,
+    /// No move near the plan makes it feasible and cheaper.
+    Quiet,
+}
