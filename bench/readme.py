@@ -1,12 +1,13 @@
 #!/usr/bin/env python3
-"""Compares the examples of README.md with the runs of them that are checked.
+"""Compares the examples of README.md and docs/EXAMPLES.md with the runs of them that are checked.
 
     bench/readme.py          in any folder
 
 The case `the_example_of_the_readme` of crates/desk_rows has the files of examples/day and a transcript of what the desk
 gives for them, and `the_disrupted_example_of_the_readme` those of examples/disrupted. The cases of REPORTS are the examples of a day
-that is made up, whose files are too long for the page. It names each file that differs, and each line of an answer, or of a report,
-that README.md does not show as a line of its own, and ends with 1; where there is none it ends with 0.
+that is made up, whose files are too long for a page. It names each file that differs; each line of an answer, or of a report,
+that docs/EXAMPLES.md does not show as a line of its own; and each line that README.md shows and no run gives. It ends with 1 where it
+names anything, and else with 0.
 """
 
 import re
@@ -19,6 +20,7 @@ EXAMPLES = {"day": "the_example_of_the_readme", "disrupted": "the_disrupted_exam
 REPORTS = ("a_generated_day", "a_generated_day_is_recovered", "the_news_of_a_generated_day_breaks_its_schedule")
 FILE = re.compile(r"\w+\.csv:( \d+ bytes)?")
 TRANSCRIPT = "transcript"
+INDENT = "    "
 
 
 def texts_of(folder):
@@ -31,13 +33,20 @@ def lines_of(case):
     return (CASES / case / TRANSCRIPT).read_text(encoding="utf-8").split("\n")
 
 
+def shown_on(page):
+    """The lines that a page shows as they are, without the words of commands."""
+    lines = (TOP / page).read_text(encoding="utf-8").split("\n")
+    shown = [line[len(INDENT):] for line in lines if line.startswith(INDENT)]
+    return [line for line in shown if not line.startswith("./desk ")]
+
+
 def is_answer(line):
     """Whether a line of the transcript is one that the desk prints or writes."""
     return bool(line) and not line.startswith(("#", "$ ", "status ")) and not FILE.fullmatch(line)
 
 
 def reports_in(lines):
-    """The lines that the desk prints: those behind a status, up to the first file, empty line or command."""
+    """The lines that the desk prints: those after a status, up to the first file, empty line or command."""
     reports, is_report = [], False
     for line in lines:
         is_report = is_report and is_answer(line)
@@ -54,10 +63,9 @@ def files_that_differ(name, case):
 
 
 def compare(what, answers, faults):
-    """Prints the faults of an example and of the answers that README.md does not show; how many there are."""
-    shown = set((TOP / "README.md").read_text(encoding="utf-8").split("\n"))
-    answers = list(dict.fromkeys(answers))
-    faults = faults + [f"README.md does not show: {line}" for line in answers if "    " + line not in shown]
+    """Prints the faults of an example and of the answers that docs/EXAMPLES.md does not show; how many there are."""
+    shown = shown_on("docs/EXAMPLES.md")
+    faults = faults + [f"docs/EXAMPLES.md does not show: {line}" for line in answers if line not in shown]
     for fault in faults:
         print(fault)
     print(f"{len(answers)} lines of {what}, {len(faults)} faults")
@@ -65,12 +73,21 @@ def compare(what, answers, faults):
 
 
 def main():
-    others = 0
+    others, given = 0, []
     for name, case in EXAMPLES.items():
-        others += compare(f"examples/{name}", filter(is_answer, lines_of(case)), files_that_differ(name, case))
+        answers = list(dict.fromkeys(filter(is_answer, lines_of(case))))
+        others += compare(f"examples/{name}", answers, files_that_differ(name, case))
+        given += answers
     for case in REPORTS:
-        others += compare(case, reports_in(lines_of(case)), [])
-    return 1 if others else 0
+        answers = list(dict.fromkeys(reports_in(lines_of(case))))
+        others += compare(case, answers, [])
+        given += answers
+    shown = shown_on("README.md")
+    strange = [line for line in shown if line not in given]
+    for line in strange:
+        print(f"no run gives what README.md shows: {line}")
+    print(f"{len(shown)} lines of README.md, {len(strange)} faults")
+    return 1 if others or strange or not shown else 0
 
 
 if __name__ == "__main__":
