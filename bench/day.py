@@ -9,9 +9,9 @@ but for the airports and the tariff, so that half the distances are of half the 
 flies 20 legs there and back between two airports. The day, one of half its rows and one of no rows are
 run with a journal whose one line names a leg that is not there, so that a run ends when all is read and
 joined; and the first two with an empty journal, so that the schedule is checked and written too; and
-with one of moves of one step, each of which is applied, judged, refused and taken back. The day of no rows tells the
+with one of moves of one step, each of which is applied, judged, refused and taken back. The day of no rows shows the
 start of the program apart. The schedule that the whole day writes is read
-again and judged by `check`, under all news. Then the whole day is run with a journal
+again and judged by `check`, under all disruptions. Then the whole day is run with a journal
 of each of some usual moves, asked again and again. Last the whole day and
 half of it take a batch: each 50th leg is half an hour late, each 100th aircraft is out of service for an hour, and
 each 50th airport is closed for one, so that the schedule does not stand, and the desk shifts. The desk runs on one

@@ -4,13 +4,13 @@
 Usage: bench/near.py [--shards N] COMMAND FOLDER ..
 
 Each FOLDER has the 13 files of a day, and a journal.csv whose events are taken first. COMMAND is called with a folder, a
-shard and the number of shards behind its words. It prints the moves of that shard near the plan that is then left, in their
+shard and the number of shards after its words. It prints the moves of that shard near the plan that is then left, in their
 order, each as a line of the journal by caller 0 up to its answer: `0,move,STEPS`. The desk's are those that LegMoves and
 PaxMoves give, one after another. They are made and compared by a program that stands in this script, since it has no place in
 the gate. It is proved and built in a folder of its own, over the libraries of this repository as `./prove` leaves them, which
 takes some minutes, and kept in bench/out until a source is newer.
 
-The whole list is compared, and each of N shards, 3 where it is left out. The first line that differs is told of each folder and
+The whole list is compared, and each of N shards, 3 where it is left out. The first line that differs is printed of each folder and
 shard, and the status is 1 where there is one.
 """
 import glob
@@ -33,10 +33,10 @@ STANDS_ON = (
 PROGRAM = {
     "src/main.rt": r"""//! Compares the moves near plans with lists of them, or counts them.
 //!
-//! Standard input has cases, one behind the other. A case has a line with a word, a shard, the number of
+//! Standard input has cases, one after the other. A case has a line with a word, a shard, the number of
 //! shards and the number of its files; and these: a line each with the file's name and how many bytes it has,
-//! and these bytes. Behind the word `compare` the last file is `list`, the lines of the moves near the plan
-//! behind the events of the day: what is printed is how many there are, or the first that differs. Behind
+//! and these bytes. After the word `compare` the last file is `list`, the lines of the moves near the plan
+//! after the events of the day: what is printed is how many there are, or the first that differs. After
 //! `count` it is how many moves there are, and how long it took to walk through them.
 #![tactic(auto)]
 
@@ -73,7 +73,7 @@ fn bad() -> io::Error {
     io::Error::from(ErrorKind::InvalidData)
 }
 
-// The first line of some bytes, and what is behind it.
+// The first line of some bytes, and what follows it.
 fn cut_line(bytes: &[u8]) -> Option<(&str, &[u8])> {
     let end = bytes.iter().position(|byte| *byte == b'\n')?;
     let (line, rest) = bytes.split_at(end);
@@ -89,13 +89,13 @@ fn file_of(name: &str) -> Option<File> {
     None
 }
 
-// A number up to a blank, and what is behind that.
+// A number up to a blank, and what follows that.
 fn cut_number(text: &str) -> Option<(u32, &str)> {
     let (number, rest) = text.split_once(' ')?;
     Some((number.parse().ok()?, rest))
 }
 
-// The line of a file, its bytes, and what is behind them.
+// The line of a file, its bytes, and what follows them.
 fn cut_file(bytes: &[u8]) -> Option<(&str, &[u8], &[u8])> {
     let (line, behind) = cut_line(bytes)?;
     let (name, size) = line.split_once(' ')?;
@@ -112,7 +112,7 @@ fn cut_head(line: &str) -> Option<(bool, u32, u32, u32)> {
     Some((what == "compare", shard, shards, line.parse().ok()?))
 }
 
-// The next case, and what is behind it.
+// The next case, and what follows it.
 fn cut_case(alloc: Global, bytes: &[u8]) -> io::Result<(Case, &[u8])> {
     let (line, mut rest) = cut_line(bytes).ok_or(bad())?;
     let (compares, shard, shards, count) = cut_head(line).ok_or(bad())?;
@@ -156,7 +156,7 @@ fn take_event(alloc: Global, book: &mut Book, caller: u32, event: &Event) -> io:
     }
 }
 
-// The book of a day behind these events.
+// The book of a day after these events.
 fn run_events(alloc: Global, inst: Instance, events: &[(u32, Event)]) -> io::Result<Book>
     requires fresh { inst.orders ≡ [] }
     requires asked { AreAskable inst events.now }
@@ -198,7 +198,7 @@ fn tell_move(alloc: Global, out: &mut Vec<u8>, inst: &Instance, m: Move, compare
     push_move(alloc, out, inst, m)
 }
 
-// How many moves of legs there are; they are told where they are to be compared.
+// How many moves of legs there are; they are printed where they are to be compared.
 fn walk_legs(alloc: Global, out: &mut Vec<u8>, inst: &Instance, plan: &Pages, case: &Case) -> io::Result<u64>
     requires plan { IsPlanFor inst.now plan.now }
     requires shard { case.now.shard < case.now.shards }

@@ -17,7 +17,7 @@ from pathlib import Path
 TOP = Path(__file__).resolve().parent.parent
 CASES = TOP / "crates" / "desk_rows" / "data"
 EXAMPLES = {"day": "the_example_of_the_readme", "disrupted": "the_disrupted_example_of_the_readme"}
-REPORTS = ("a_generated_day", "a_generated_day_is_recovered", "the_news_of_a_generated_day_breaks_its_schedule")
+REPORTS = ("a_generated_day", "a_generated_day_is_recovered", "the_disruptions_of_a_generated_day_break_its_schedule")
 FILE = re.compile(r"\w+\.csv:( \d+ bytes)?")
 TRANSCRIPT = "transcript"
 INDENT = "    "

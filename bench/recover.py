@@ -5,8 +5,8 @@ Usage: bench/recover.py [--sizes 1,2,3] [--seeds 5] [--moves N] [--runs 3] [--wa
 
 OTHER is a command that takes the words of the desk. `recover` runs on days of some sizes, each of some seeds from 1 on, with the
 built desk and with OTHER beside it: how many moves were accepted, the time of each size, how it grows, and whether OTHER wrote the
-same. A time is of the processor, and the shortest of some runs, so that other work beside it tells little. With --moves at most so
-many moves are accepted behind each batch. Then the moves near the schedule of a day of a size, 40 where it is left out, are made one
+same. A time is of the processor, and the shortest of some runs, so that other work beside it counts for little. With --moves at most so
+many moves are accepted after each batch. Then the moves near the schedule of a day of a size, 40 where it is left out, are made one
 after another and not applied, by the program of bench/near.py; with 0 that is left out.
 
 The status is 1 where OTHER gave something else.

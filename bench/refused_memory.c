@@ -1,5 +1,5 @@
 /* Refuses one allocation of a program: REFUSE=N refuses the Nth call of malloc or realloc, counted
- * from 1. REFUSE=0 refuses none, and tells the number of calls on standard error at the end. Built as
+ * from 1. REFUSE=0 refuses none, and prints the number of calls on standard error at the end. Built as
  * a shared object and put before the C library by LD_PRELOAD; see refused_memory.py. */
 #define _GNU_SOURCE
 #include <dlfcn.h>

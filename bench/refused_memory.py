@@ -1,6 +1,7 @@
 #!/usr/bin/env python3
-"""Refuses each allocation of seven runs of the built desk over the disrupted sample day in turn, over the host's
-folder by the program, and over the folder in memory by its test, where that is built.
+"""Refuses each allocation of eleven runs of the built desk in turn, seven replays, a recovery and a check of the
+disrupted sample day, a made-up day and a refused command, over the host's folder by the program, and over
+the folder in memory by its test, where that is built.
 
 Each run must end with status 6 or with its own status, and with its own status it must write what it
 writes where nothing is refused. With status 6 the output files are whole up to one, which has a front
@@ -30,7 +31,14 @@ RUNS = (
     (ROTATIONS.split("\n", 1)[1], ""),
     (ROTATIONS, "0,batch,0\n0,batch,1\n"),
 )
-OUTPUTS = ("sol_rotations.csv", "sol_itineraries.csv", "journal.csv")
+# the other commands, over that day; {out} is empty before a run, and {plan} has the plan of its replay
+COMMANDS = ("recover {day} {out}", "check {day} {plan}", "gen {out}", "gen {out} --size 41")
+# all files that a run may write, in file order
+OUTPUTS = (
+    "config.csv", "flights.csv", "rotations.csv", "aircraft.csv", "airports.csv", "dist.csv", "itineraries.csv",
+    "position.csv", "alt_flights.csv", "alt_aircraft.csv", "alt_airports.csv", "tariff.csv", "feed.csv",
+    "sol_rotations.csv", "sol_itineraries.csv", "journal.csv",
+)
 
 
 def text_of(path):
@@ -41,9 +49,9 @@ def text_of(path):
         return ""
 
 
-def run(shim, day, out, refuse):
+def run(shim, words, out, refuse):
     env = {**os.environ, "LD_PRELOAD": shim, "REFUSE": str(refuse)}
-    done = subprocess.run([PROGRAM, "replay", day, out], capture_output=True, text=True, env=env)
+    done = subprocess.run([PROGRAM] + words, capture_output=True, text=True, env=env)
     written = tuple(text_of(os.path.join(out, name)) for name in OUTPUTS)
     for name in OUTPUTS:
         if os.path.exists(os.path.join(out, name)):
@@ -52,7 +60,7 @@ def run(shim, day, out, refuse):
 
 
 def is_story(written, report, whole, whole_report):
-    """Whole up to one, a front of that one, and nothing behind it."""
+    """Whole up to one, a front of that one, and nothing after it."""
     texts = list(zip(written + (report,), whole + (whole_report,)))
     open_still = True
     for has, wants in texts:
@@ -75,6 +83,38 @@ def refuse_in_test(shim):
     return calls, sum(status_of(refuse).returncode != 0 for refuse in range(1, calls + 1))
 
 
+def refuse_in_run(shim, words, out):
+    """How many allocations of a run were refused, in how many of them it ended with 6, and in how many wrongly."""
+    status, report, written, calls = run(shim, words, out, 0)
+    six, wrong = 0, 0
+    for refuse in range(1, int(calls) + 1):
+        got, told, has, _ = run(shim, words, out, refuse)
+        six += got == 6
+        front = told[:-len("memory\n")] if told.endswith("memory\n") else told
+        if got == status:
+            good = told == report and has == written
+        else:
+            good = got == 6 and is_story(has, front, written, report)
+        if not good:
+            wrong += 1
+            print("%s, refused %d: status %d, report %r" % (words[0], refuse, got, told))
+    return int(calls), six, wrong
+
+
+def runs_in(folder, out):
+    """The words of each run."""
+    for rotations, journal in RUNS:
+        day = shutil.copytree(DAY, tempfile.mkdtemp(dir=folder), dirs_exist_ok=True)
+        for name, text in (("rotations.csv", rotations), ("journal.csv", journal)):
+            with open(os.path.join(day, name), "w") as file:
+                file.write(text)
+        yield ["replay", day, out]
+    plan = os.path.join(folder, "plan")
+    subprocess.run([PROGRAM, "replay", DAY, plan], capture_output=True, check=True)
+    for words in COMMANDS:
+        yield words.format(day=DAY, out=out, plan=plan).split()
+
+
 def main():
     with tempfile.TemporaryDirectory() as folder:
         shim = os.path.join(folder, "refused.so")
@@ -82,24 +122,10 @@ def main():
                         os.path.join(HERE, "refused_memory.c"), "-ldl"], check=True)
         out = os.path.join(folder, "out")
         tried, six, wrong = 0, 0, 0
-        for rotations, journal in RUNS:
-            day = shutil.copytree(DAY, tempfile.mkdtemp(dir=folder), dirs_exist_ok=True)
-            for name, text in (("rotations.csv", rotations), ("journal.csv", journal)):
-                with open(os.path.join(day, name), "w") as file:
-                    file.write(text)
-            status, report, written, calls = run(shim, day, out, 0)
-            for refuse in range(1, int(calls) + 1):
-                got, told, has, _ = run(shim, day, out, refuse)
-                tried += 1
-                six += got == 6
-                front = told[:-len("memory\n")] if told.endswith("memory\n") else told
-                if got == status:
-                    good = told == report and has == written
-                else:
-                    good = got == 6 and is_story(has, front, written, report)
-                if not good:
-                    wrong += 1
-                    print("refused %d: status %d, report %r" % (refuse, got, told))
+        for words in runs_in(folder, out):
+            more = refuse_in_run(shim, words, out)
+            print("%s: %d allocations refused, %d runs ended with 6, %d wrong" % (words[0], *more))
+            tried, six, wrong = tried + more[0], six + more[1], wrong + more[2]
         print("%d allocations refused: %d runs ended with 6, %d as if none was refused, %d wrong"
               % (tried, six, tried - six - wrong, wrong))
         calls, failed = refuse_in_test(shim)

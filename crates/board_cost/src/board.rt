@@ -1,23 +1,22 @@
 //! The board.
 
-ghost use Rattle.std.specs.Prelude.{◌≡◌, ◌+◌, ◌*◌, ◌<◌, ◌≤◌, List as Items, ◌∷◌, ◌++◌, [], length, OnOk, IfOk};
+ghost use Rattle.std.specs.Prelude.{◌≡◌, ◌+◌, ◌*◌, ◌<◌, ◌≤◌, List as Items, ◌∷◌, ◌++◌, [], length, OnOk, OnErr, IfOk};
 ghost use Rattle.std.specs.Vec.{vec_capacity};
-ghost use Rattle.desk_data.specs.PlanRows.{PlanRows, AreGroups, groups_at, with_groups};
-ghost use Rattle.desk_data.specs.Situation.{Situation, legs_of, reservations_of, res_at};
-ghost use Rattle.desk_data.specs.Valid.{AreGroupsOf, IsPlanFor};
+ghost use Rattle.desk_data.specs.PlanRows.{PlanRows, AreGroups, groups_at, with_groups, with_row};
+ghost use Rattle.desk_data.specs.Situation.{Situation, legs_of, planes_of, reservations_of, res_at};
+ghost use Rattle.desk_data.specs.Valid.{AreGroupsOf, IsPlanFor, IsRowOf};
 ghost use Rattle.desk_rules.specs.Cost.{cost, grains};
-ghost use Rattle.leg_users.specs.Users.{users};
+ghost use Rattle.leg_users.specs.Users.{HasUsers, has_user, users};
+ghost use Rattle.board_kit.specs.Boards.{CanGoBack, IsChanged, IsDepth, IsForgotten, IsReady, IsTakenBack, IsUnchanged};
 ghost use Rattle.board_cost.specs.Board.{HasFewEdits, HasPlace, HasRoomFor, IsBoardOf, IsRoomierFleet};
 
 use crate::balance::Balance;
-use crate::change::{Added, CostChange};
+use crate::change::CostChange;
 use crate::fleet::Fleet;
 use crate::passengers::groups_cost;
 use crate::paths::RowChange;
-use crate::rotation_leg::{Turns, rotation_legs_of};
+use crate::rotation_leg::{RotationLegs, rotation_legs_of};
 use crate::row::change_row;
-use crate::users::{add_users, take_users};
-use board_kit::Board;
 use desk_data::{Grains, Group, Instance, Leg, NoMem, Res, Row, Steps};
 use full_cost::full_cost;
 use leg_users::LegUsers;
@@ -27,12 +26,12 @@ use std::alloc::Global;
 use std::marker::Model;
 use std::sync::ledger::Ledger;
 
-/// What a plan costs, kept while it changes place by place. The board keeps its past, so that changes are
-/// taken back. It holds neither the instance nor the plan: contracts say of which it is the board.
+/// What a plan costs, kept up to date while it changes place by place. The board keeps its past, so that changes are
+/// taken back. It holds neither the instance nor the plan: contracts say of which it is the board. Who uses
+/// a leg it does not keep: whoever changes the leg's row lends it the list.
 #[derive(Debug)]
 pub struct CostBoard {
     total: Grains,
-    users: LegUsers,
     fleet: Fleet,
     /// The changes since the past was last empty.
     past: Vec<CostChange>,
@@ -43,7 +42,6 @@ impl Drop for CostBoard {
     fn drop(self) {
         let CostBoard {
             total: _,
-            users: _,
             fleet: _,
             past: _,
         } = self;
@@ -56,9 +54,9 @@ impl Model for CostBoard {
 
     ghost Value = { Board };
 
-    ghost view = { λ b. record { total = b.total; users = b.users; fleet = b.fleet; past = reverse b.past.items } };
+    ghost view = { λ b. record { total = b.total; fleet = b.fleet; past = reverse b.past.items } };
 
-    ghost invariant = { λ b. IsLogged (length b.users) b.fleet.rotations b.past.items };
+    ghost invariant = { λ b. IsLogged b.fleet.rotations b.past.items };
 }
 
 impl CostBoard {
@@ -68,11 +66,9 @@ impl CostBoard {
         requires { IsPlanFor inst.now (P.plan_of plan.now) }
         ensures { IfOk result (λ board. IsBoardOf inst.now (P.plan_of plan.now) [] board) }
     {
-        let users = LegUsers::open(alloc, inst, plan)?;
         let fleet = Fleet::open(alloc, inst, plan)?;
         Ok(CostBoard {
             total: full_cost(inst, plan),
-            users,
             fleet,
             past: Vec::new(alloc),
         })
@@ -86,122 +82,126 @@ impl CostBoard {
     }
 }
 
-impl Board for CostBoard {
-    ghost use Rattle.std.specs.Prelude.{◌+◌, ◌*◌, length};
-    ghost use Rattle.desk_data.specs.PlanRows.{groups_at};
-    ghost use Rattle.leg_users.specs.Users.{users};
-    ghost use Rattle.board_cost.specs.Board.{IsBoardOf};
-
-    ghost is_board_of = { IsBoardOf };
-
-    /// A change of a row reads at most 8 rows, and 10 for each group of passengers that has the leg in its path.
-    ghost row_reads = { λ P x. 8 + 10 * users P x };
-
-    /// A change of groups reads at most 10 rows for each group, before and after.
-    ghost group_reads = { λ P r groups. 10 * (length (groups_at P r) + length groups) };
-
-    /// The length of the past.
-    fn depth(&self) -> u32 {
+impl CostBoard {
+    /// How many changes can be taken back: the length of the past, at most 2,000,000,000.
+    pub fn depth(&self) -> u32
+        ensures limit { result ≤ 2000000000 }
+        ensures plans { IsDepth IsBoardOf result self.now }
+    {
         self.past.len() as u32
     }
 
-    /// Changes the total by what the leg, its aircraft and those who use it cost more or less.
-    fn set_row<L: Ledger>(
+    /// Gives a leg another row: the total changes by what the leg, its aircraft and those who use it cost
+    /// more or less. The plan is that of the board, before the change, and the users are those kept for it. Reads
+    /// at most 8 rows, and 10 for each group of passengers that has the leg in its path. The past, which has
+    /// fewer than 2,000,000,000 changes, grows by one. After an error, which is out of memory, the board is
+    /// still that of the plan.
+    pub fn set_row<L: Ledger>(
         &mut self,
-        alloc: Global,
         inst: &Instance,
         plan: &Pages,
+        kept: &LegUsers,
         leg: Leg,
         row: Row,
         steps: &mut Steps<L>,
-    ) -> Result<(), NoMem> {
+    ) -> Result<(), NoMem>
+        requires plan { IsPlanFor inst.now plan.now }
+        requires leg { leg.0 < legs_of inst.now }
+        requires row { IsRowOf (planes_of inst.now) row }
+        requires legs { length kept.now ≡ legs_of inst.now }
+        requires users { HasUsers plan.now (has_user kept.now) }
+        requires ready { IsReady (IsBoardOf inst.now plan.now) self.old }
+        ensures ok { OnOk result (IsChanged IsBoardOf inst.now plan.now (with_row plan.now leg.0 row) self.old self.new) }
+        ensures err { OnErr result (IsUnchanged IsBoardOf inst.now plan.now self.old self.new) }
+        ensures reads { steps.new ≤ steps.old + 8 + 10 * users plan.now leg.0 }
+    {
         let old = plan.row(leg, steps);
         let change = RowChange { leg, old, new: row };
-        let turns = rotation_legs_of(inst, change);
-        make_ready(&mut self.past, &mut self.fleet, turns)?;
+        let rotation_legs = rotation_legs_of(inst, change);
+        make_ready(&mut self.past, &mut self.fleet, rotation_legs)?;
         let total = self.total;
-        let (users, fleet) = (&self.users, &mut self.fleet);
-        self.total = change_row(inst, plan, change, turns, total, users, fleet, steps);
-        let Turns { gone, come } = turns;
-        let added = Added::none(alloc, Res(0));
-        push_change(
-            &mut self.past,
-            CostChange {
-                total,
-                gone,
-                come,
-                added,
-            },
-        );
+        let fleet = &mut self.fleet;
+        self.total = change_row(inst, plan, change, rotation_legs, total, kept, fleet, steps);
+        let RotationLegs { gone, come } = rotation_legs;
+        push_change(&mut self.past, CostChange { total, gone, come });
         Ok(())
     }
 
-    /// Changes the total by what the groups cost more or less, and keeps their legs' users.
-    fn set_groups<L: Ledger>(
+    /// Gives a reservation other groups: the total changes by what they cost more or less. The plan is that
+    /// of the board, before the change. Reads at most 10 rows for each group, before and after. The past,
+    /// which has fewer than 2,000,000,000 changes, grows by one. After an error, which is out of memory, the
+    /// board is still that of the plan.
+    pub fn set_groups<L: Ledger>(
         &mut self,
-        alloc: Global,
         inst: &Instance,
         plan: &Pages,
         res: Res,
         groups: &[Group],
         steps: &mut Steps<L>,
-    ) -> Result<(), NoMem> {
+    ) -> Result<(), NoMem>
+        requires plan { IsPlanFor inst.now plan.now }
+        requires res { res.0 < reservations_of inst.now }
+        requires groups { AreGroups groups.now }
+        requires passengers { AreGroupsOf (legs_of inst.now) (res_at inst.now res.0).count groups.now }
+        requires ready { IsReady (IsBoardOf inst.now plan.now) self.old }
+        ensures ok { OnOk result (IsChanged IsBoardOf inst.now plan.now (with_groups plan.now res.0 groups.now) self.old self.new) }
+        ensures err { OnErr result (IsUnchanged IsBoardOf inst.now plan.now self.old self.new) }
+        ensures reads { steps.new ≤ steps.old + 10 * (length (groups_at plan.now res.0) + length groups.now) }
+    {
         self.past.reserve(1)?;
         let total = self.total;
-        let now = change_groups(inst, plan, res, groups, total, steps);
-        let mut added = Added::none(alloc, res);
-        match add_users(&mut self.users, &mut added, groups) {
-            Ok(()) => {
-                self.total = now;
-                push_change(
-                    &mut self.past,
-                    CostChange {
-                        total,
-                        gone: None,
-                        come: None,
-                        added,
-                    },
-                );
-                Ok(())
-            }
-            Err(error) => {
-                take_users(&mut self.users, &added);
-                Err(error)
-            }
-        }
+        self.total = change_groups(inst, plan, res, groups, total, steps);
+        push_change(
+            &mut self.past,
+            CostChange {
+                total,
+                gone: None,
+                come: None,
+            },
+        );
+        Ok(())
     }
 
-    /// Puts the total of before back, with the rotation legs and the users of the last change.
-    fn back(&mut self) {
+    /// Takes the last change back: the total of before it and its rotation legs. The past is not empty. It
+    /// takes no memory.
+    pub fn back(&mut self)
+        requires { CanGoBack IsBoardOf self.old }
+        ensures { IsTakenBack IsBoardOf self.old self.new }
+    {
         if let Some(change) = self.past.pop() {
             self.fleet.undo(change.come, false);
             self.fleet.undo(change.gone, true);
-            take_users(&mut self.users, &change.added);
             self.total = change.total;
         }
     }
 
-    /// Empties the past; the total stays.
-    fn forget(&mut self) {
+    /// Empties the past; the total stays. It takes no memory.
+    pub fn forget(&mut self)
+        ensures { IsForgotten IsBoardOf self.old self.new }
+    {
         self.past.clear();
         self.fleet.forget();
     }
 }
 
 /// Makes room for a change, and for its rotation legs. The only error is out of memory; nothing else changes.
-fn make_ready(past: &mut Vec<CostChange>, fleet: &mut Fleet, turns: Turns) -> Result<(), NoMem>
-    requires gone { HasPlace (length fleet.old.rotations) turns.gone }
-    requires come { HasPlace (length fleet.old.rotations) turns.come }
+fn make_ready(
+    past: &mut Vec<CostChange>,
+    fleet: &mut Fleet,
+    rotation_legs: RotationLegs,
+) -> Result<(), NoMem>
+    requires gone { HasPlace (length fleet.old.rotations) rotation_legs.gone }
+    requires come { HasPlace (length fleet.old.rotations) rotation_legs.come }
     requires few { HasFewEdits 4000000000 fleet.old.rotations }
     ensures past { past.new.items ≡ past.old.items }
     ensures fleet { IsRoomierFleet fleet.old fleet.new }
     ensures room { OnOk result (length past.new.items < vec_capacity past.new) }
-    ensures gone { OnOk result (HasRoomFor 4 fleet.new.rotations turns.gone) }
-    ensures come { OnOk result (HasRoomFor 4 fleet.new.rotations turns.come) }
+    ensures gone { OnOk result (HasRoomFor 4 fleet.new.rotations rotation_legs.gone) }
+    ensures come { OnOk result (HasRoomFor 4 fleet.new.rotations rotation_legs.come) }
 {
     past.reserve(1)?;
-    fleet.make_room(turns.gone)?;
-    fleet.make_room(turns.come)?;
+    fleet.make_room(rotation_legs.gone)?;
+    fleet.make_room(rotation_legs.come)?;
     Ok(())
 }
 

@@ -3,7 +3,7 @@
 ghost use Rattle.std.specs.Prelude.{◌≡◌, ◌<◌};
 ghost use Rattle.desk_data.specs.Situation.{legs_of, planes_of};
 ghost use Rattle.desk_data.specs.Valid.{IsRowOf};
-ghost use Rattle.board_cost.specs.Turns.{placed_of};
+ghost use Rattle.board_cost.specs.RotationLegs.{placed_of};
 ghost use Rattle.board_cost.specs.Board.{HasPlace};
 
 use crate::paths::RowChange;
@@ -24,7 +24,7 @@ pub(crate) struct ArrivingLeg {
 #[derive(Clone, Copy, Debug)]
 pub(crate) struct Placed {
     pub plane: Plane,
-    pub turn: ArrivingLeg,
+    pub rotation_leg: ArrivingLeg,
 }
 
 /// The rotation leg of a row of a leg, and its aircraft, if the leg is flown and departs before the window's
@@ -44,7 +44,7 @@ pub(crate) fn placed_of(inst: &Instance, leg: Leg, row: Row) -> Option<Placed>
             let dest = inst.leg(leg).dest;
             Some(Placed {
                 plane,
-                turn: ArrivingLeg { dep, leg, dest },
+                rotation_leg: ArrivingLeg { dep, leg, dest },
             })
         }
         Row::Cancelled => None,
@@ -53,13 +53,13 @@ pub(crate) fn placed_of(inst: &Instance, leg: Leg, row: Row) -> Option<Placed>
 
 /// The rotation legs that a change takes from an aircraft, and gives to one.
 #[derive(Clone, Copy)]
-pub(crate) struct Turns {
+pub(crate) struct RotationLegs {
     pub gone: Option<Placed>,
     pub come: Option<Placed>,
 }
 
 /// The rotation legs of a change.
-pub(crate) fn rotation_legs_of(inst: &Instance, change: RowChange) -> Turns
+pub(crate) fn rotation_legs_of(inst: &Instance, change: RowChange) -> RotationLegs
     requires leg { change.leg.0 < legs_of inst.now }
     requires old { IsRowOf (planes_of inst.now) change.old }
     requires new { IsRowOf (planes_of inst.now) change.new }
@@ -68,7 +68,7 @@ pub(crate) fn rotation_legs_of(inst: &Instance, change: RowChange) -> Turns
     ensures gone_place { HasPlace (planes_of inst.now) result.gone }
     ensures come_place { HasPlace (planes_of inst.now) result.come }
 {
-    Turns {
+    RotationLegs {
         gone: placed_of(inst, change.leg, change.old),
         come: placed_of(inst, change.leg, change.new),
     }

@@ -28,7 +28,7 @@ find-least R p (z ∷ xs) x asym order in_xs here least =
           (elim (contains-cons z x xs in_xs) [
             | inl same ↦ absurd cc
             | inr behind ↦ behind
-          ]) here (λ y in_behind. least y (contains-behind z y xs in_behind)))
+          ]) here (λ y in_after. least y (contains-behind z y xs in_after)))
     ]
 
 none_kept : {X : Type 0} (y : X) → Contains [] y → ⊥

@@ -10,7 +10,7 @@ use Rattle.std.proofs.lemmas.List.{length-map, get_or-map, get_or_default}
 use Rattle.desk_units.specs.declared.numbers.Cabin.TheVariants.{F, B, E}
 use Rattle.desk_data.specs.declared.broken.Broken.{Broken}
 use Rattle.desk_data.specs.declared.broken.Broken.TheVariants.{C1, C2, C3, C4, C5, C6, C7, C8, C9, C10, C11, C12, C13, C14, C15}
-use Rattle.desk_rules.specs.Order.{rule_of, named_by, part_of, IsLess, IsToldBefore}
+use Rattle.desk_rules.specs.Order.{rule_of, named_by, part_of, IsLess, IsReportedBefore}
 use Rattle.kept_set.specs.Kept.{AreSet, AreRising, IsExact}
 use Rattle.board_items.specs.declared.key.ItemKey.{ItemKey}
 use Rattle.board_items.specs.Items.{AreThose, AreKeys, key_of, item_of}
@@ -86,11 +86,11 @@ less_numbers a b c d e f h = grind (arith, nat_tests)
 asym_numbers : (a b c d e f : ℕ) → (a < d) ⊎ ((a ≡ d) × IsLess b c e f) → (d < a) ⊎ ((d ≡ a) × IsLess e f b c) → ⊥
 asym_numbers a b c d e f low high = grind arith
 
-pub told-asym : (a b : Broken) → IsToldBefore a b → IsToldBefore b a → ⊥
+pub told-asym : (a b : Broken) → IsReportedBefore a b → IsReportedBefore b a → ⊥
 told-asym a b low high = asym_numbers (rule_of a) (named_by a) (part_of a) (rule_of b) (named_by b) (part_of b) low high
 
-abbrev told_by : ItemKey → ItemKey → Type 0
-told_by a b = (a.rule < b.rule) ⊎ ((a.rule ≡ b.rule) × IsLess a.named a.part b.named b.part)
+abbrev reported_by : ItemKey → ItemKey → Type 0
+reported_by a b = (a.rule < b.rule) ⊎ ((a.rule ≡ b.rule) × IsLess a.named a.part b.named b.part)
 
 -- ---- items by their keys
 
@@ -133,20 +133,20 @@ items_set old new item is_in are set =
           (λ is. holds old y ((set.others (key_of y) apart).0 (held new y are_new is)), λ is. holds new y ((set.others (key_of y) apart).1 (held old y are is)));
     }
 
-told_so : (a b : ItemKey) → key_of (item_of a) ≡ a → key_of (item_of b) ≡ b → keys.cmp-value.it a b ≡ Less → IsToldBefore (item_of a) (item_of b)
-told_so a b first second less =
-    let told : told_by a b = less_numbers a.rule a.named a.part b.rule b.named b.part less in
-    subst (told_by (key_of (item_of a))) (sym second) (subst (λ (k : ItemKey). told_by k b) (sym first) told)
+reported_so : (a b : ItemKey) → key_of (item_of a) ≡ a → key_of (item_of b) ≡ b → keys.cmp-value.it a b ≡ Less → IsReportedBefore (item_of a) (item_of b)
+reported_so a b first second less =
+    let told : reported_by a b = less_numbers a.rule a.named a.part b.rule b.named b.part less in
+    subst (reported_by (key_of (item_of a))) (sym second) (subst (λ (k : ItemKey). reported_by k b) (sym first) told)
 
--- the items of rising keys are in the order in which they are told
-pub items_rise : (ks : List ItemKey) → AreKeys ks → AreRising keys.cmp-value.it ks → AllPairs IsToldBefore (map item_of ks)
+-- the items of rising keys are in the order in which they are reported
+pub items_rise : (ks : List ItemKey) → AreKeys ks → AreRising keys.cmp-value.it ks → AllPairs IsReportedBefore (map item_of ks)
 items_rise ks are rising i j d lt within =
     let len = length-map ks item_of in
     let k = key_of d in
     let low : i < length ks = omega (arith, lt, within, len) in
     let high : j < length ks = omega (arith, within, len) in
     rw (get_or-map item_of ks i k d low, get_or-map item_of ks j k d high)
-    (told_so (get_or ks i k) (get_or ks j k) (are (get_or ks i k) (i, low, get_or_default ks i (get_or ks i k) k low)) (are (get_or ks j k) (j, high, get_or_default ks j (get_or ks j k) k high)) (rising i j k lt high))
+    (reported_so (get_or ks i k) (get_or ks j k) (are (get_or ks i k) (i, low, get_or_default ks i (get_or ks i k) k low)) (are (get_or ks j k) (j, high, get_or_default ks j (get_or ks j k) k high)) (rising i j k lt high))
 
 -- ---- a test that changes at one item
 

@@ -9,7 +9,7 @@ pub use Rattle.kept_set.proofs.ListLaws.{none_in}
 use Rattle.kept_set.proofs.ListLaws.{contains-cons, contains-first, pairs-behind}
 use Rattle.desk_data.specs.Situation.{Situation}
 use Rattle.desk_rules.specs.Numbers.{numbers}
-use Rattle.desk_rules.specs.Order.{IsToldBefore}
+use Rattle.desk_rules.specs.Order.{IsReportedBefore}
 use Rattle.desk_rules.specs.Least.{rotation_items, slot_items, pax_items, items}
 use Rattle.desk_rules.proofs.OrderLaws.{items-ascend}
 
@@ -62,14 +62,14 @@ pub pairs_left : {X : Type 0} (R : X → X → Type 0) (xs ys : List X) → AllP
 pairs_left R xs ys pairs i j d lt within =
     rw (sym (get_or_append_left xs ys d i (omega arith)), sym (get_or_append_left xs ys d j within)) (pairs i j d lt (omega (arith, length-append xs ys)))
 
-pub rotations_ascend : (I : Situation) → AllPairs IsToldBefore (rotation_items I)
+pub rotations_ascend : (I : Situation) → AllPairs IsReportedBefore (rotation_items I)
 unfolding items
-rotations_ascend I = pairs_left IsToldBefore (rotation_items I) (slot_items I) (pairs_left IsToldBefore (rotation_items I ++ slot_items I) (pax_items I) (items-ascend I))
+rotations_ascend I = pairs_left IsReportedBefore (rotation_items I) (slot_items I) (pairs_left IsReportedBefore (rotation_items I ++ slot_items I) (pax_items I) (items-ascend I))
 
-pub slots_ascend : (I : Situation) → AllPairs IsToldBefore (slot_items I)
+pub slots_ascend : (I : Situation) → AllPairs IsReportedBefore (slot_items I)
 unfolding items
-slots_ascend I = pairs_right IsToldBefore (rotation_items I) (slot_items I) (pairs_left IsToldBefore (rotation_items I ++ slot_items I) (pax_items I) (items-ascend I))
+slots_ascend I = pairs_right IsReportedBefore (rotation_items I) (slot_items I) (pairs_left IsReportedBefore (rotation_items I ++ slot_items I) (pax_items I) (items-ascend I))
 
-pub passengers_ascend : (I : Situation) → AllPairs IsToldBefore (pax_items I)
+pub passengers_ascend : (I : Situation) → AllPairs IsReportedBefore (pax_items I)
 unfolding items
-passengers_ascend I = pairs_right IsToldBefore (rotation_items I ++ slot_items I) (pax_items I) (items-ascend I)
+passengers_ascend I = pairs_right IsReportedBefore (rotation_items I ++ slot_items I) (pax_items I) (items-ascend I)

@@ -1,4 +1,4 @@
--- Items that a plan breaks, kept in the order in which they are told.
+-- Items that a plan breaks, kept in the order in which they are reported.
 use Rattle.std.specs.Prelude.{◌≡◌, ℕ, Bool, IsTrue, ◌↔◌, ◌==◌, if◌then◌else◌, List}
 use Rattle.std.specs.List.{Contains}
 use Rattle.desk_units.specs.declared.numbers.Cabin.{Cabin}
@@ -13,7 +13,7 @@ use Rattle.board_items.specs.declared.key.ItemKey.{ItemKey}
 abbrev pub AreThose : {X : Type 0} → (X → Bool) → List X → List X → Type 0
 AreThose {X} test all kept = (y : X) → Contains kept y ↔ (Contains all y × IsTrue (test y))
 
--- ---- an item by three numbers, in whose order items are told
+-- ---- an item by three numbers, in whose order items are reported
 
 -- the numbers of an item
 abbrev pub key_of : Broken → ItemKey

@@ -3,7 +3,7 @@
 ghost use Rattle.std.specs.Prelude.{◌≡◌, ◌+◌, ◌<◌, ◌≤◌, Bool, List as Items, [], find, length, OnOk, IsTrue, ◌↔◌};
 ghost use Rattle.std.specs.List.{AllPairs, Contains, HoldsAt};
 ghost use Rattle.desk_data.specs.declared.broken.Broken.{Broken as Item};
-ghost use Rattle.desk_rules.specs.Order.{IsToldBefore};
+ghost use Rattle.desk_rules.specs.Order.{IsReportedBefore};
 ghost use Rattle.kept_set.specs.Kept.{AreSet};
 ghost use Rattle.board_items.specs.Items.{AreThose};
 
@@ -13,7 +13,7 @@ use kept_set::KeptSet;
 use std::alloc::Global;
 use std::marker::Model;
 
-/// Items in the order in which they are told, none twice. Contracts see them, and how many there is
+/// Items in the order in which they are reported, none twice. Contracts see them, and how many there is
 /// room for.
 #[derive(Debug, Drop)]
 pub struct BrokenItems {
@@ -54,10 +54,10 @@ impl BrokenItems {
         Ok(())
     }
 
-    /// The first item in the order in which they are told. Where the items are those of a list in this
+    /// The first item in the order in which they are reported. Where the items are those of a list in this
     /// order that pass a test, it is the first of the list that does.
     pub fn first(&self) -> Option<Broken>
-        ensures { (test : Item → Bool) (all : Items Item) → AllPairs IsToldBefore all → AreThose test all self.now.items → result ≡ find test all }
+        ensures { (test : Item → Bool) (all : Items Item) → AllPairs IsReportedBefore all → AreThose test all self.now.items → result ≡ find test all }
     {
         match self.keys.first() {
             Some(key) => Some(item_of(key)),
@@ -72,7 +72,7 @@ impl BrokenItems {
         self.keys.items().len()
     }
 
-    /// The item at a place, in the order in which they are told.
+    /// The item at a place, in the order in which they are reported.
     pub fn at(&self, place: usize) -> Broken
         requires { place < length self.now.items }
         ensures { HoldsAt (λ item. item ≡ result) self.now.items place }

@@ -1,4 +1,4 @@
-//! An item by three numbers, in whose order items are told.
+//! An item by three numbers, in whose order items are reported.
 
 ghost use Rattle.std.specs.Prelude.{◌≡◌};
 ghost use Rattle.board_items.specs.Items.{cabin_of, item_of, key_of};

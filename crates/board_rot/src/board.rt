@@ -6,10 +6,10 @@ ghost use Rattle.desk_model.specs.Push.{rotation};
 ghost use Rattle.desk_data.specs.Situation.{Situation};
 ghost use Rattle.desk_data.specs.PlanRows.{PlanRows};
 ghost use Rattle.desk_data.specs.Valid.{IsPlanFor};
-ghost use Rattle.board_rot.specs.Boards.{IsBoardOf, IsTurnOf, leg_of, planes_on};
+ghost use Rattle.board_rot.specs.Boards.{IsBoardOf, FliesRotationLeg, leg_of, planes_on};
 
 use crate::change::replace;
-use crate::make::make_sheet;
+use crate::make::make_summary;
 use crate::undo_log::UndoLog;
 use board_kit::Board;
 use desk_data::{Broken, Group, Instance, Leg, NoMem, Plane, Res, Row, Steps};
@@ -19,13 +19,13 @@ use std::alloc::Global;
 use std::marker::Model;
 use std::sync::ledger::Ledger;
 
-/// The legs of each aircraft in their order, and what a plan breaks of C1 to C9, kept while it changes
+/// The legs of each aircraft in their order, and what a plan breaks of C1 to C9, kept up to date while it changes
 /// place by place. The board keeps its past, so that changes are taken back. It holds neither the
 /// instance nor the plan: contracts say of which it is the board.
 #[derive(Debug)]
 pub struct RotBoard {
     log: UndoLog,
-    /// For each change how many edits of the sheet there were before it.
+    /// For each change how many edits of the summary there were before it.
     savepoints: Vec<usize>,
 }
 
@@ -57,9 +57,9 @@ impl RotBoard {
         requires { IsPlanFor inst.now (P.plan_of plan.now) }
         ensures { IfOk result (λ board. IsBoardOf inst.now (P.plan_of plan.now) [] board) }
     {
-        let sheet = make_sheet(alloc, inst, plan)?;
+        let summary = make_summary(alloc, inst, plan)?;
         Ok(RotBoard {
-            log: sheet,
+            log: summary,
             savepoints: Vec::new(alloc),
         })
     }
@@ -77,9 +77,9 @@ impl RotBoard {
     pub fn rotation_legs(&self, plane: Plane) -> &[RotationLeg]
         requires { plane.0 < planes_on self.now }
         ensures legs { (I : Situation) (P : PlanRows) (Ps : Items PlanRows) → IsPlanFor I P → IsBoardOf I P Ps self.now → map leg_of result.now ≡ rotation I P plane.0 }
-        ensures rows { (I : Situation) (P : PlanRows) (Ps : Items PlanRows) → IsPlanFor I P → IsBoardOf I P Ps self.now → All (IsTurnOf I P plane) result.now }
+        ensures rows { (I : Situation) (P : PlanRows) (Ps : Items PlanRows) → IsPlanFor I P → IsBoardOf I P Ps self.now → All (FliesRotationLeg I P plane) result.now }
     {
-        self.log.turns(plane)
+        self.log.rotation_legs(plane)
     }
 }
 

@@ -1,10 +1,11 @@
-//! A sheet, and the log of its edits.
+//! A summary, and the log of its edits.
 
-ghost use Rattle.std.specs.Prelude.{◌≡◌, ◌+◌, ◌-◌, ◌<◌, ◌≤◌, [], length, if◌then◌else◌, replicate, slice_index_or, ℕ, OnOk, OnErr, IfOk};
+ghost use Rattle.std.specs.Prelude.{◌≡◌, ◌+◌, ◌-◌, ◌<◌, ◌≤◌, [], length, if◌then◌else◌, replicate, slice_index_or, ℕ, OnOk, OnErr, IfOk, IfSome, IsNone};
 ghost use Rattle.board_rot.specs.declared.edit.Edit.TheVariants.{OfLeg, OfItem};
-ghost use Rattle.board_rot.specs.Sheets.{LedTo, blank, with_edit, back_to, same_item, turned, marked};
-ghost use Rattle.board_rot.specs.Kept.{seen, has_turn, has_item, no_turns};
-ghost use Rattle.board_rot.specs.Meaning.{IsOrder, IsLeftOf, IsRightOf, sheet_of};
+ghost use Rattle.board_rot.specs.Summaries.{LedTo, blank, with_edit, back_to, same_item, turned, marked};
+ghost use Rattle.board_rot.specs.Kept.{seen, has_rotation_leg, has_item, no_rotation_legs};
+ghost use Rattle.board_rot.specs.Meaning.{AreInOrder, IsLeftOf, IsRightOf, summary_of};
+ghost use Rattle.board_rot.specs.Changes.{IsMoved};
 ghost use Rattle.desk_data.specs.Situation.{Situation};
 ghost use Rattle.desk_data.specs.PlanRows.{PlanRows};
 ghost use Rattle.desk_rules.specs.Least.{least_rot};
@@ -13,6 +14,7 @@ use crate::edit::Edit;
 use crate::rotation::Rotation;
 use board_items::BrokenItems;
 use desk_data::{Broken, NoMem, Plane};
+use kept_set::Neighbours;
 use plan_reads::RotationLeg;
 use std::alloc::Global;
 use std::marker::Model;
@@ -25,7 +27,7 @@ pub(crate) struct UndoLog {
     edits: Vec<Edit>,
 }
 
-/// In one call, so that whoever lets a sheet go does not prove anew that each part of it may go.
+/// In one call, so that whoever lets a summary go does not prove anew that each part of it may go.
 impl Drop for UndoLog {
     fn drop(self) {
         let UndoLog {
@@ -47,10 +49,10 @@ impl Model for UndoLog {
 }
 
 impl UndoLog {
-    /// A sheet for so many aircraft, of which none flies, and on which nothing is broken. The only error is
+    /// A summary for so many aircraft, of which none flies, and on which nothing is broken. The only error is
     /// out of memory.
     pub(crate) fn blank(alloc: Global, planes: u32) -> Result<UndoLog, NoMem>
-        ensures { IfOk result (λ made. seen made ≡ record { sheet = blank; planes = planes; edits = [] }) }
+        ensures { IfOk result (λ made. seen made ≡ record { summary = blank; planes = planes; edits = [] }) }
     {
         let rotations = no_rotations(alloc, planes)?;
         Ok(UndoLog {
@@ -68,15 +70,15 @@ impl UndoLog {
     }
 
     /// Has an aircraft fly a rotation leg where it does not, and else not. After an error, which is out of
-    /// memory, the sheet is as before.
-    pub(crate) fn toggle(&mut self, plane: Plane, turn: RotationLeg) -> Result<(), NoMem>
+    /// memory, the summary is as before.
+    pub(crate) fn toggle(&mut self, plane: Plane, rotation_leg: RotationLeg) -> Result<(), NoMem>
         requires { plane.0 < (seen self.old).planes }
-        ensures ok { OnOk result (seen self.new ≡ with_edit (OfLeg plane turn) (seen self.old)) }
+        ensures ok { OnOk result (seen self.new ≡ with_edit (OfLeg plane rotation_leg) (seen self.old)) }
         ensures err { OnErr result (seen self.new ≡ seen self.old) }
     {
         self.broken.reserve(self.edits.len() + 2)?;
-        self.edits.push(Edit::OfLeg(plane, turn))?;
-        match self.rotations[plane.0 as usize].toggle(turn) {
+        self.edits.push(Edit::OfLeg(plane, rotation_leg))?;
+        match self.rotations[plane.0 as usize].toggle(rotation_leg) {
             Ok(()) => Ok(()),
             Err(error) => {
                 let _ = self.edits.pop();
@@ -85,12 +87,39 @@ impl UndoLog {
         }
     }
 
+    /// Has a rotation leg of an aircraft depart at another moment, where it keeps its place: gives the
+    /// rotation legs next to it. `None` where it does not keep it. Then, and after an error, which is out
+    /// of memory, the summary is as before.
+    pub(crate) fn shift(
+        &mut self,
+        plane: Plane,
+        from: RotationLeg,
+        to: RotationLeg,
+    ) -> Result<Option<Neighbours<RotationLeg>>, NoMem>
+        requires { plane.0 < (seen self.old).planes }
+        ensures some { IfOk result (λ moved. IfSome moved (λ around. IsMoved (seen self.old) (seen self.new) plane from to around.after)) }
+        ensures none { IfOk result (λ moved. IsNone moved → seen self.new ≡ seen self.old) }
+        ensures err { OnErr result (seen self.new ≡ seen self.old) }
+    {
+        self.broken.reserve(self.edits.len() + 3)?;
+        self.edits.reserve(2)?;
+        match self.rotations[plane.0 as usize].shift(from, to)? {
+            Some(around) => {
+                // there is room, so they are not refused
+                let _from = self.edits.push(Edit::OfLeg(plane, from));
+                let _to = self.edits.push(Edit::OfLeg(plane, to));
+                Ok(Some(around))
+            }
+            None => Ok(None),
+        }
+    }
+
     /// Has an item among the broken ones, or not among them. After an error, which is out of memory,
-    /// the sheet is as before.
+    /// the summary is as before.
     pub(crate) fn mark(&mut self, item: Broken, is_broken: bool) -> Result<(), NoMem>
         ensures led { LedTo (seen self.old) (seen self.new) }
-        ensures turns { (seen self.new).sheet.turns ≡ (seen self.old).sheet.turns }
-        ensures broken { OnOk result ((seen self.new).sheet.broken ≡ (λ other. if same_item other item then is_broken else (seen self.old).sheet.broken other)) }
+        ensures rotation_legs { (seen self.new).summary.rotation_legs ≡ (seen self.old).summary.rotation_legs }
+        ensures broken { OnOk result ((seen self.new).summary.broken ≡ (λ other. if same_item other item then is_broken else (seen self.old).summary.broken other)) }
     {
         if self.broken.has(item) == is_broken {
             return Ok(());
@@ -104,8 +133,8 @@ impl UndoLog {
     /// The same for each of some items.
     pub(crate) fn mark_all(&mut self, marks: &[(Broken, bool)]) -> Result<(), NoMem>
         ensures led { LedTo (seen self.old) (seen self.new) }
-        ensures turns { (seen self.new).sheet.turns ≡ (seen self.old).sheet.turns }
-        ensures broken { OnOk result ((seen self.new).sheet.broken ≡ marked marks.now (seen self.old).sheet.broken) }
+        ensures rotation_legs { (seen self.new).summary.rotation_legs ≡ (seen self.old).summary.rotation_legs }
+        ensures broken { OnOk result ((seen self.new).summary.broken ≡ marked marks.now (seen self.old).summary.broken) }
     {
         for (item, is_broken) in marks {
             self.mark(*item, *is_broken)?;
@@ -114,33 +143,33 @@ impl UndoLog {
     }
 
     /// The rotation legs of an aircraft, in their order.
-    pub(crate) fn turns(&self, plane: Plane) -> &[RotationLeg]
+    pub(crate) fn rotation_legs(&self, plane: Plane) -> &[RotationLeg]
         requires { plane.0 < (seen self.now).planes }
-        ensures turns { has_turn result.now ≡ (seen self.now).sheet.turns plane.0 }
-        ensures order { IsOrder result.now }
+        ensures rotation_legs { has_rotation_leg result.now ≡ (seen self.now).summary.rotation_legs plane.0 }
+        ensures order { AreInOrder result.now }
     {
-        self.rotations[plane.0 as usize].turns()
+        self.rotations[plane.0 as usize].rotation_legs()
     }
 
     /// The last rotation leg of an aircraft before a rotation leg.
-    pub(crate) fn left_of(&self, plane: Plane, turn: RotationLeg) -> Option<RotationLeg>
+    pub(crate) fn left_of(&self, plane: Plane, rotation_leg: RotationLeg) -> Option<RotationLeg>
         requires { plane.0 < (seen self.now).planes }
-        ensures { IsLeftOf ((seen self.now).sheet.turns plane.0) turn result }
+        ensures { IsLeftOf ((seen self.now).summary.rotation_legs plane.0) rotation_leg result }
     {
-        self.rotations[plane.0 as usize].left_of(turn)
+        self.rotations[plane.0 as usize].left_of(rotation_leg)
     }
 
-    /// The first rotation leg of an aircraft behind a rotation leg.
-    pub(crate) fn right_of(&self, plane: Plane, turn: RotationLeg) -> Option<RotationLeg>
+    /// The first rotation leg of an aircraft after a rotation leg.
+    pub(crate) fn right_of(&self, plane: Plane, rotation_leg: RotationLeg) -> Option<RotationLeg>
         requires { plane.0 < (seen self.now).planes }
-        ensures { IsRightOf ((seen self.now).sheet.turns plane.0) turn result }
+        ensures { IsRightOf ((seen self.now).summary.rotation_legs plane.0) rotation_leg result }
     {
-        self.rotations[plane.0 as usize].right_of(turn)
+        self.rotations[plane.0 as usize].right_of(rotation_leg)
     }
 
-    /// The first broken item, in the order in which items are told.
+    /// The first broken item, in the order in which items are reported.
     pub(crate) fn first_broken(&self) -> Option<Broken>
-        ensures { (I : Situation) (P : PlanRows) → (seen self.now).sheet ≡ sheet_of I P → result ≡ least_rot I P }
+        ensures { (I : Situation) (P : PlanRows) → (seen self.now).summary ≡ summary_of I P → result ≡ least_rot I P }
     {
         self.broken.first()
     }
@@ -152,7 +181,9 @@ impl UndoLog {
     {
         if let Some(edit) = self.edits.pop() {
             match edit {
-                Edit::OfLeg(plane, turn) => self.rotations[plane.0 as usize].turn_back(turn),
+                Edit::OfLeg(plane, rotation_leg) => self.rotations[plane.0 as usize].toggle_back(
+                    rotation_leg,
+                ),
                 Edit::OfItem(item) => toggle(&mut self.broken, item),
             }
         }
@@ -179,7 +210,7 @@ impl UndoLog {
 
 /// Gives up what could be taken back, of each aircraft.
 fn forget_all(rotations: &mut Vec<Rotation>)
-    ensures each { (p : ℕ) → slice_index_or rotations.new.items p no_turns ≡ record (slice_index_or rotations.old.items p no_turns) { edits = 0 } }
+    ensures each { (p : ℕ) → slice_index_or rotations.new.items p no_rotation_legs ≡ record (slice_index_or rotations.old.items p no_rotation_legs) { edits = 0 } }
     ensures length { length rotations.new.items ≡ length rotations.old.items }
 {
     for p in 0..rotations.len() {
@@ -189,7 +220,7 @@ fn forget_all(rotations: &mut Vec<Rotation>)
 
 /// So many aircraft that fly nothing.
 fn no_rotations(alloc: Global, planes: u32) -> Result<Vec<Rotation>, NoMem>
-    ensures { IfOk result (λ made. made.items ≡ replicate planes no_turns) }
+    ensures { IfOk result (λ made. made.items ≡ replicate planes no_rotation_legs) }
 {
     let mut rotations = Vec::with_capacity(alloc, planes as usize)?;
     for _ in 0..planes {

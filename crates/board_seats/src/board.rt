@@ -8,8 +8,8 @@ ghost use Rattle.desk_rules.specs.Carriage.{keeps_c13, keeps_c14, keeps_c15};
 ghost use Rattle.desk_rules.specs.Least.{least_pax};
 ghost use Rattle.desk_rules.specs.Numbers.{numbers};
 ghost use Rattle.desk_rules.specs.Passengers.{aboard};
-ghost use Rattle.leg_users.specs.Users.{users};
-ghost use Rattle.board_seats.specs.Sheets.{LedTo};
+ghost use Rattle.leg_users.specs.Users.{HasUsers, has_user, users};
+ghost use Rattle.board_seats.specs.Summaries.{LedTo};
 ghost use Rattle.board_seats.specs.Kept.{seen};
 ghost use Rattle.board_seats.specs.Board.{IsBoardOf, Stands, StandsAt};
 
@@ -29,20 +29,23 @@ use std::marker::Model;
 use std::sync::ledger::Ledger;
 
 /// The passengers aboard each leg of a plan by cabin, how many groups of each reservation break C13, C14
-/// and C15, and the first item of C12 to C15 that the plan breaks, kept while it changes place by place.
+/// and C15, and the first item of C12 to C15 that the plan breaks, kept up to date while it changes place by place.
 /// The board keeps its past, so that changes are taken back. It holds neither the instance nor the plan:
 /// contracts say of which it is the board.
 #[derive(Debug)]
 pub struct SeatBoard {
     log: UndoLog,
-    /// How many edits the sheet had before each change since the past was last empty.
-    past: Vec<usize>,
+    /// How many edits the summary had before each change since the past was last empty.
+    savepoints: Vec<usize>,
 }
 
 /// In one call, so that whoever lets one go does not prove anew that each part of it may go.
 impl Drop for SeatBoard {
     fn drop(self) {
-        let SeatBoard { log: _, past: _ } = self;
+        let SeatBoard {
+            log: _,
+            savepoints: _,
+        } = self;
     }
 }
 
@@ -52,9 +55,9 @@ impl Model for SeatBoard {
 
     ghost Value = { Board };
 
-    ghost view = { λ b. record { lists = b.log; past = reverse b.past.items } };
+    ghost view = { λ b. record { lists = b.log; savepoints = reverse b.savepoints.items } };
 
-    ghost invariant = { λ b. length b.past.items ≤ 2000000000 };
+    ghost invariant = { λ b. length b.savepoints.items ≤ 2000000000 };
 }
 
 impl SeatBoard {
@@ -65,13 +68,13 @@ impl SeatBoard {
         ensures { IfOk result (λ board. IsBoardOf inst.now (P.plan_of plan.now) [] board) }
     {
         let users = LegUsers::open(alloc, inst, plan)?;
-        let mut sheet = UndoLog::blank(alloc, inst.legs(), inst.reservations(), users)?;
-        enter_all(&mut sheet, inst, plan)?;
-        judge_legs(&mut sheet, inst, plan)?;
-        judge_reservations(&mut sheet, inst, plan)?;
+        let mut summary = UndoLog::blank(alloc, inst.legs(), inst.reservations(), users)?;
+        enter_all(&mut summary, inst, plan)?;
+        judge_legs(&mut summary, inst, plan)?;
+        judge_reservations(&mut summary, inst, plan)?;
         Ok(SeatBoard {
-            log: sheet,
-            past: Vec::new(alloc),
+            log: summary,
+            savepoints: Vec::new(alloc),
         })
     }
 
@@ -89,6 +92,15 @@ impl SeatBoard {
         ensures { (I : Situation) (P : PlanRows) → StandsAt I P self.now → result ≡ aboard P leg.0 cabin }
     {
         seats_in(self.log.taken(leg), cabin)
+    }
+
+    /// The reservations that are kept for each leg, those that use it among them: whoever judges a leg's row
+    /// borrows them.
+    pub fn users(&self) -> &LegUsers
+        ensures legs { (I : Situation) (P : PlanRows) → StandsAt I P self.now → length result.now ≡ legs_of I }
+        ensures users { (I : Situation) (P : PlanRows) → StandsAt I P self.now → HasUsers P (has_user result.now) }
+    {
+        self.log.leg_users()
     }
 
     /// The reservations that break C13, C14 or C15, ascending by number. What is broken is walked over, and
@@ -117,7 +129,7 @@ impl Board for SeatBoard {
 
     /// The length of the past.
     fn depth(&self) -> u32 {
-        self.past.len() as u32
+        self.savepoints.len() as u32
     }
 
     /// Judges the seats of the leg, and the paths of those who use it.
@@ -131,12 +143,12 @@ impl Board for SeatBoard {
         steps: &mut Steps<L>,
     ) -> Result<(), NoMem> {
         let edits = self.log.edits();
-        self.past.push(edits)?;
+        self.savepoints.push(edits)?;
         match with_row(&mut self.log, inst, plan, leg, row, steps) {
             Ok(()) => Ok(()),
             Err(error) => {
                 self.log.undo_to(edits);
-                let _ = self.past.pop();
+                let _ = self.savepoints.pop();
                 Err(error)
             }
         }
@@ -153,12 +165,12 @@ impl Board for SeatBoard {
         steps: &mut Steps<L>,
     ) -> Result<(), NoMem> {
         let edits = self.log.edits();
-        self.past.push(edits)?;
+        self.savepoints.push(edits)?;
         match with_groups(&mut self.log, inst, plan, res, groups, steps) {
             Ok(()) => Ok(()),
             Err(error) => {
                 self.log.undo_to(edits);
-                let _ = self.past.pop();
+                let _ = self.savepoints.pop();
                 Err(error)
             }
         }
@@ -166,7 +178,7 @@ impl Board for SeatBoard {
 
     /// Takes the edits of the last change back.
     fn back(&mut self) {
-        if let Some(edits) = self.past.pop() {
+        if let Some(edits) = self.savepoints.pop() {
             let edits = edits.min(self.log.edits());
             self.log.undo_to(edits);
         }
@@ -175,13 +187,13 @@ impl Board for SeatBoard {
     /// Empties the past and the log of edits; what is known of the plan stays.
     fn forget(&mut self) {
         self.log.forget();
-        self.past.clear();
+        self.savepoints.clear();
     }
 }
 
-/// Gives a leg another row on a sheet.
+/// Gives a leg another row in a summary.
 fn with_row<L: Ledger>(
-    sheet: &mut UndoLog,
+    summary: &mut UndoLog,
     inst: &Instance,
     plan: &Pages,
     leg: Leg,
@@ -189,20 +201,20 @@ fn with_row<L: Ledger>(
     steps: &mut Steps<L>,
 ) -> Result<(), NoMem>
     requires plan { IsPlanFor inst.now plan.now }
-    requires stands { Stands inst.now plan.now (seen sheet.old) }
+    requires stands { Stands inst.now plan.now (seen summary.old) }
     requires leg { leg.0 < legs_of inst.now }
     requires row { IsRowOf (planes_of inst.now) row }
-    ensures led { LedTo (seen sheet.old) (seen sheet.new) }
-    ensures ok { OnOk result (Stands inst.now (with_row plan.now leg.0 row) (seen sheet.new)) }
+    ensures led { LedTo (seen summary.old) (seen summary.new) }
+    ensures ok { OnOk result (Stands inst.now (with_row plan.now leg.0 row) (seen summary.new)) }
     ensures reads { steps.new ≤ steps.old + 8 * users plan.now leg.0 }
 {
-    judge_leg(sheet, inst, leg, row)?;
-    rejudge_users(sheet, inst, plan, leg, row, steps)
+    judge_leg(summary, inst, leg, row)?;
+    rejudge_users(summary, inst, plan, leg, row, steps)
 }
 
-/// Gives a reservation other groups on a sheet.
+/// Gives a reservation other groups in a summary.
 fn with_groups<L: Ledger>(
-    sheet: &mut UndoLog,
+    summary: &mut UndoLog,
     inst: &Instance,
     plan: &Pages,
     res: Res,
@@ -210,12 +222,12 @@ fn with_groups<L: Ledger>(
     steps: &mut Steps<L>,
 ) -> Result<(), NoMem>
     requires plan { IsPlanFor inst.now plan.now }
-    requires stands { Stands inst.now plan.now (seen sheet.old) }
+    requires stands { Stands inst.now plan.now (seen summary.old) }
     requires res { res.0 < reservations_of inst.now }
     requires groups { AreGroups groups.now }
     requires passengers { AreGroupsOf (legs_of inst.now) (res_at inst.now res.0).count groups.now }
-    ensures led { LedTo (seen sheet.old) (seen sheet.new) }
-    ensures ok { OnOk result (Stands inst.now (with_groups plan.now res.0 groups.now) (seen sheet.new)) }
+    ensures led { LedTo (seen summary.old) (seen summary.new) }
+    ensures ok { OnOk result (Stands inst.now (with_groups plan.now res.0 groups.now) (seen summary.new)) }
     ensures reads { steps.new ≤ steps.old + 8 * (length (groups_at plan.now res.0) + length groups.now) }
 {
     // a reservation has at most 1,000 passengers, so its groups can be counted
@@ -223,9 +235,9 @@ fn with_groups<L: Ledger>(
     // and those aboard a leg fit
     let _rows = inst.parts();
     let before = plan.groups(res);
-    enter_groups(sheet, res, groups)?;
-    leave_groups(sheet, before)?;
-    judge_seats(sheet, inst, plan, before, steps)?;
-    let faults = judge_groups(sheet, inst, plan, res, groups, steps)?;
-    judge_faults(sheet, res, faults)
+    enter_groups(summary, res, groups)?;
+    leave_groups(summary, before)?;
+    judge_seats(summary, inst, plan, before, steps)?;
+    let faults = judge_groups(summary, inst, plan, res, groups, steps)?;
+    judge_faults(summary, res, faults)
 }

@@ -1,14 +1,14 @@
-//! A sheet, and the log of its edits.
+//! A summary, and the log of its edits.
 
 ghost use Rattle.std.specs.Prelude.{◌≡◌, ℕ, ◌+◌, ◌-◌, ◌<◌, ◌≤◌, ◌==◌, length, replicate, OnOk, IfOk, All, Bool, List as Items, [], find};
 ghost use Rattle.std.specs.List.{AllPairs, list_any};
 ghost use Rattle.desk_data.specs.declared.broken.Broken.{Broken as Item};
 ghost use Rattle.desk_data.specs.PlanRows.{PlanRows};
-ghost use Rattle.desk_rules.specs.Order.{IsToldBefore};
+ghost use Rattle.desk_rules.specs.Order.{IsReportedBefore};
 ghost use Rattle.board_items.specs.Items.{AreThose};
 ghost use Rattle.leg_users.specs.Users.{HasUsers, has_user, users_at, with_user};
 ghost use Rattle.board_seats.specs.PathFaults.{no_faults};
-ghost use Rattle.board_seats.specs.Sheets.{LedTo, back_to, marked, marked_at, turned_at, with_at};
+ghost use Rattle.board_seats.specs.Summaries.{LedTo, back_to, marked, marked_at, turned_at, with_at};
 ghost use Rattle.board_seats.specs.Kept.{has_item, no_seats, seen};
 ghost use Rattle.board_seats.specs.Named.{names};
 
@@ -58,7 +58,7 @@ impl Model for UndoLog {
 }
 
 impl UndoLog {
-    /// A sheet on which nobody is aboard, no reservation has faults and nothing is broken, with the
+    /// A summary in which nobody is aboard, no reservation has faults and nothing is broken, with the
     /// users of each leg. The only error is out of memory.
     pub(crate) fn blank(
         alloc: Global,
@@ -81,9 +81,9 @@ impl UndoLog {
         })
     }
 
-    /// The first item in the order in which they are told.
+    /// The first item in the order in which they are reported.
     pub(crate) fn first(&self) -> Option<Broken>
-        ensures { (test : Item → Bool) (all : Items Item) → AllPairs IsToldBefore all → AreThose test all self.now.broken → result ≡ find test all }
+        ensures { (test : Item → Bool) (all : Items Item) → AllPairs IsReportedBefore all → AreThose test all self.now.broken → result ≡ find test all }
     {
         self.broken.first()
     }
@@ -105,7 +105,7 @@ impl UndoLog {
     /// The seats that passengers take on a leg.
     pub(crate) fn taken(&self, leg: Leg) -> Seats
         requires { leg.0 < length self.now.taken }
-        ensures { result ≡ (seen self.now).sheet.taken leg.0 }
+        ensures { result ≡ (seen self.now).summary.taken leg.0 }
     {
         self.taken[leg.0 as usize]
     }
@@ -113,7 +113,7 @@ impl UndoLog {
     /// The faults of a reservation.
     pub(crate) fn faults(&self, res: Res) -> PathFaults
         requires { res.0 < length self.now.faults }
-        ensures { result ≡ (seen self.now).sheet.faults res.0 }
+        ensures { result ≡ (seen self.now).summary.faults res.0 }
     {
         self.faults[res.0 as usize]
     }
@@ -128,12 +128,20 @@ impl UndoLog {
         self.users.users(leg)
     }
 
-    /// Has passengers take other seats on a leg. After an error, which is out of memory, the sheet is
+    /// Which reservations may use each leg.
+    pub(crate) fn leg_users(&self) -> &LegUsers
+        ensures users { result.now ≡ self.now.users }
+        ensures legs { length result.now ≡ length self.now.taken }
+    {
+        &self.users
+    }
+
+    /// Has passengers take other seats on a leg. After an error, which is out of memory, the summary is
     /// as before.
     pub(crate) fn put_taken(&mut self, leg: Leg, seats: Seats) -> Result<(), NoMem>
         requires { leg.0 < length self.old.taken }
         ensures led { LedTo (seen self.old) (seen self.new) }
-        ensures taken { OnOk result ((seen self.new).sheet.taken ≡ with_at leg.0 seats (seen self.old).sheet.taken) }
+        ensures taken { OnOk result ((seen self.new).summary.taken ≡ with_at leg.0 seats (seen self.old).summary.taken) }
         ensures faults { self.new.faults ≡ self.old.faults }
         ensures broken { self.new.broken ≡ self.old.broken }
         ensures users { self.new.users ≡ self.old.users }
@@ -145,12 +153,12 @@ impl UndoLog {
         Ok(())
     }
 
-    /// Gives a reservation other faults. After an error, which is out of memory, the sheet is as before.
+    /// Gives a reservation other faults. After an error, which is out of memory, the summary is as before.
     pub(crate) fn put_faults(&mut self, res: Res, faults: PathFaults) -> Result<(), NoMem>
         requires { res.0 < length self.old.faults }
         ensures led { LedTo (seen self.old) (seen self.new) }
         ensures taken { self.new.taken ≡ self.old.taken }
-        ensures faults { OnOk result ((seen self.new).sheet.faults ≡ with_at res.0 faults (seen self.old).sheet.faults) }
+        ensures faults { OnOk result ((seen self.new).summary.faults ≡ with_at res.0 faults (seen self.old).summary.faults) }
         ensures broken { self.new.broken ≡ self.old.broken }
         ensures users { self.new.users ≡ self.old.users }
     {
@@ -162,12 +170,12 @@ impl UndoLog {
     }
 
     /// Has an item among the broken ones, or not among them. After an error, which is out of memory,
-    /// the sheet is as before.
+    /// the summary is as before.
     pub(crate) fn mark(&mut self, item: Broken, is_broken: bool) -> Result<(), NoMem>
         ensures led { LedTo (seen self.old) (seen self.new) }
         ensures taken { self.new.taken ≡ self.old.taken }
         ensures faults { self.new.faults ≡ self.old.faults }
-        ensures broken { OnOk result ((seen self.new).sheet.broken ≡ marked_at item is_broken (seen self.old).sheet.broken) }
+        ensures broken { OnOk result ((seen self.new).summary.broken ≡ marked_at item is_broken (seen self.old).summary.broken) }
         ensures users { self.new.users ≡ self.old.users }
     {
         if self.broken.has(item) == is_broken {
@@ -184,7 +192,7 @@ impl UndoLog {
         ensures led { LedTo (seen self.old) (seen self.new) }
         ensures taken { self.new.taken ≡ self.old.taken }
         ensures faults { self.new.faults ≡ self.old.faults }
-        ensures broken { OnOk result ((seen self.new).sheet.broken ≡ marked marks.now (seen self.old).sheet.broken) }
+        ensures broken { OnOk result ((seen self.new).summary.broken ≡ marked marks.now (seen self.old).summary.broken) }
         ensures users { self.new.users ≡ self.old.users }
     {
         for (item, is_broken) in marks {
@@ -193,7 +201,7 @@ impl UndoLog {
         Ok(())
     }
 
-    /// Has a leg used by a reservation, too. After an error, which is out of memory, the sheet is as
+    /// Has a leg used by a reservation, too. After an error, which is out of memory, the summary is as
     /// before.
     pub(crate) fn add_user(&mut self, leg: Leg, res: Res) -> Result<(), NoMem>
         requires { leg.0 < length self.old.taken }
@@ -201,7 +209,7 @@ impl UndoLog {
         ensures taken { self.new.taken ≡ self.old.taken }
         ensures faults { self.new.faults ≡ self.old.faults }
         ensures broken { self.new.broken ≡ self.old.broken }
-        ensures users { OnOk result ((seen self.new).sheet.users ≡ with_user leg.0 res.0 (seen self.old).sheet.users) }
+        ensures users { OnOk result ((seen self.new).summary.users ≡ with_user leg.0 res.0 (seen self.old).summary.users) }
     {
         self.broken.reserve(self.edits.len() + 2)?;
         self.edits.push(Edit::OfUser(leg, res))?;

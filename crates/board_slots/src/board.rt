@@ -11,9 +11,10 @@ ghost use Rattle.board_slots.specs.Slots.{AreSlots, slots_of};
 ghost use Rattle.board_slots.specs.Board.{IsBoardOf};
 
 use crate::loads::Loads;
-use crate::slot::{Movement, Slot, SlotChange, SlotUse, is_same, slots_of};
+use crate::slot::{SlotChange, SlotUse, is_same, slots_of};
 use board_kit::Board;
 use desk_data::{Airport, Broken, Group, Instance, Leg, NoMem, Res, Row, Steps};
+use hour_counts::{KnowsHours, Movement, Slot};
 use plan_pages::Pages;
 use plan_reads::ReadPlan;
 use std::alloc::Global;
@@ -21,7 +22,7 @@ use std::marker::Model;
 use std::sync::ledger::Ledger;
 
 /// How many legs of a plan depart from each airport in each hour, and arrive there, and the first item
-/// of C10 and C11 that the plan breaks, kept while it changes place by place. The board keeps its past,
+/// of C10 and C11 that the plan breaks, kept up to date while it changes place by place. The board keeps its past,
 /// so that changes are taken back. It holds neither the instance nor the plan: contracts say of which it
 /// is the board.
 #[derive(Debug)]
@@ -139,6 +140,34 @@ impl SlotBoard {
         };
         let own = own_arrival(inst, leg, row, airport, hour);
         self.loads.scheduled_at(slot).saturating_sub(own)
+    }
+}
+
+impl KnowsHours for SlotBoard {
+    ghost use Rattle.board_slots.specs.Board.{IsSomeBoardOf};
+
+    ghost knows = { λ board I Q. IsSomeBoardOf I Q board };
+
+    fn departures_beside(
+        &self,
+        inst: &Instance,
+        leg: Leg,
+        row: Row,
+        airport: Airport,
+        hour: u32,
+    ) -> u32 {
+        SlotBoard::departures_beside(self, inst, leg, row, airport, hour)
+    }
+
+    fn arrivals_beside(
+        &self,
+        inst: &Instance,
+        leg: Leg,
+        row: Row,
+        airport: Airport,
+        hour: u32,
+    ) -> u32 {
+        SlotBoard::arrivals_beside(self, inst, leg, row, airport, hour)
     }
 }
 

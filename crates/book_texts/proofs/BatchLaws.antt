@@ -15,11 +15,11 @@ use Rattle.journal_text.proofs.PartsLaws.{answer-same}
 use Rattle.desk_runs.specs.Outcome.{line}
 use Rattle.desk_tasks.specs.Play.{batch_entries, batch_line, batch_lines}
 
-zip_behind : {A B : Type 0} (xs : List A) (ys : List B) (x : A) (y : B) → length xs ≡ length ys → zip (xs ++ x ∷ []) (ys ++ y ∷ []) ≡ zip xs ys ++ (x, y) ∷ []
-zip_behind [] [] x y e = refl
-zip_behind [] (b ∷ ys) x y e = absurd (omega (arith, e))
-zip_behind (a ∷ xs) [] x y e = absurd (omega (arith, e))
-zip_behind (a ∷ xs) (b ∷ ys) x y e = ap (λ (t : List _). (a, b) ∷ t) (zip_behind xs ys x y (omega (arith, e)))
+zip_after : {A B : Type 0} (xs : List A) (ys : List B) (x : A) (y : B) → length xs ≡ length ys → zip (xs ++ x ∷ []) (ys ++ y ∷ []) ≡ zip xs ys ++ (x, y) ∷ []
+zip_after [] [] x y e = refl
+zip_after [] (b ∷ ys) x y e = absurd (omega (arith, e))
+zip_after (a ∷ xs) [] x y e = absurd (omega (arith, e))
+zip_after (a ∷ xs) (b ∷ ys) x y e = ap (λ (t : List _). (a, b) ∷ t) (zip_after xs ys x y (omega (arith, e)))
 
 -- one batch more
 batches-batch : (h : List Entry) (entry : Entry) → is_batch entry.event ≡ true → batch_entries (h ++ entry ∷ []) ≡ batch_entries h ++ entry ∷ []
@@ -32,7 +32,7 @@ batches-move h entry is = filter-append (λ (e : Entry). is_batch e.event) h (en
 numbered-more : (bs : List Entry) (entry : Entry) → zip (numbers (length (bs ++ entry ∷ []))) (bs ++ entry ∷ []) ≡ zip (numbers (length bs)) bs ++ (length bs, entry) ∷ []
 numbered-more bs entry =
     let n : length (bs ++ entry ∷ []) ≡ suc (length bs) = length-append bs (entry ∷ []) ∙ add-one (length bs) in
-    ap (λ (k : ℕ). zip (numbers k) (bs ++ entry ∷ [])) n ∙ zip_behind (numbers (length bs)) bs (length bs) entry (length-numbers (length bs))
+    ap (λ (k : ℕ). zip (numbers k) (bs ++ entry ∷ [])) n ∙ zip_after (numbers (length bs)) bs (length bs) entry (length-numbers (length bs))
 
 pub lines-batch : (I : Situation) (h : List Entry) (entry : Entry) → is_batch entry.event ≡ true → batch_lines I (h ++ entry ∷ []) ≡ batch_lines I h ++ batch_line I (length (batch_entries h)) entry.answer
 unfolding batch_lines
@@ -49,20 +49,20 @@ lines-move I h entry is =
     let line = λ (numbered : ℕ × Entry). batch_line I numbered.0 numbered.1.answer in
     ap (λ (bs : List Entry). flat_map line (zip (numbers (length bs)) bs)) (batches-move h entry is)
 
--- so many bytes are told of the first entries, and so many batches are among them
-pub record IsTold (I : Situation) (before now : List ℕ) (number i : ℕ) (h : List Entry) : Type 0 where
+-- so many bytes are reported of the first entries, and so many batches are among them
+pub record IsReported (I : Situation) (before now : List ℕ) (number i : ℕ) (h : List Entry) : Type 0 where
   pub text : now ≡ before ++ batch_lines I (take i h)
   pub number_is : number ≡ length (batch_entries (take i h))
   pub small : number ≤ i
 
-pub told-start : (I : Situation) (before : List ℕ) (h : List Entry) → IsTold I before before 0 0 h
+pub told-start : (I : Situation) (before : List ℕ) (h : List Entry) → IsReported I before before 0 0 h
 unfolding batch_lines
 told-start I before h = record { text = sym (append-nil before); number_is = refl; small = omega arith }
 
 one_more : (h : List Entry) (i : ℕ) (entry : Entry) → i < length h → entry ≡ get_or h i entry → take (i + 1) h ≡ take i h ++ entry ∷ []
 one_more h i entry lt at = take_more h i entry lt ∙ ap (λ (e : Entry). take i h ++ e ∷ []) (sym at)
 
-pub told-batch : (I : Situation) (before mid now : List ℕ) (number i : ℕ) (h : List Entry) (entry : Entry) → i < length h → entry ≡ get_or h i entry → is_batch entry.event ≡ true → now ≡ mid ++ batch_line I number entry.answer → IsTold I before mid number i h → IsTold I before now (number + 1) (i + 1) h
+pub told-batch : (I : Situation) (before mid now : List ℕ) (number i : ℕ) (h : List Entry) (entry : Entry) → i < length h → entry ≡ get_or h i entry → is_batch entry.event ≡ true → now ≡ mid ++ batch_line I number entry.answer → IsReported I before mid number i h → IsReported I before now (number + 1) (i + 1) h
 told-batch I before mid now number i h entry lt at is text told =
     let n = told.number_is in
     let more = one_more h i entry lt at in
@@ -77,7 +77,7 @@ told-batch I before mid now number i h entry lt at is text told =
       small = omega (arith, told.small);
     }
 
-pub told-move : (I : Situation) (before now : List ℕ) (number i : ℕ) (h : List Entry) (entry : Entry) → i < length h → entry ≡ get_or h i entry → is_batch entry.event ≡ false → IsTold I before now number i h → IsTold I before now number (i + 1) h
+pub told-move : (I : Situation) (before now : List ℕ) (number i : ℕ) (h : List Entry) (entry : Entry) → i < length h → entry ≡ get_or h i entry → is_batch entry.event ≡ false → IsReported I before now number i h → IsReported I before now number (i + 1) h
 told-move I before now number i h entry lt at is told =
     let more = one_more h i entry lt at in
     record {

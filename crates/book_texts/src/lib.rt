@@ -5,8 +5,8 @@
 //! texts are made before the first is written.
 //!
 //! Proved: what is written is the `history_outcome` of desk_tasks of the book's journal, or a beginning of it,
-//! with the call that failed. It stands on `desk_core`, the crates of texts, `desk_runs` and `desk_tasks`; the
-//! crates that play and recover stand on it.
+//! with the call that failed. It depends on `desk_core`, the crates of texts, `desk_runs` and `desk_tasks`; the
+//! crates that play and recover depend on it.
 #![tactic(auto)]
 
 mod texts;

@@ -3,9 +3,9 @@
 ghost use Rattle.std.specs.Prelude.{◌≡◌, ◌++◌, All, IfOk, OnOk, Option};
 ghost use Rattle.desk_core.specs.Recorded.{state_of};
 ghost use Rattle.journal_text.specs.Lines.{journal_text};
-ghost use Rattle.journal_text.specs.Told.{AnswerNames, CanBeTold};
-ghost use Rattle.desk_tasks.specs.Play.{planned_rotations, planned_itineraries, batch_line, batch_lines, search_line, end_lines, search_told, report_text, history_outcome};
-ghost use Rattle.desk_tasks.specs.Recover.{told_alone};
+ghost use Rattle.journal_text.specs.Writable.{AnswerNames, CanBeWritten};
+ghost use Rattle.desk_tasks.specs.Play.{planned_rotations, planned_itineraries, batch_line, batch_lines, search_line, end_lines, search_remarks, report_text, history_outcome};
+ghost use Rattle.desk_tasks.specs.Recover.{reported_alone};
 ghost use Rattle.desk_runs.specs.Writing.{as_texts};
 
 use desk_core::Book;
@@ -14,7 +14,7 @@ use desk_folder::File;
 use desk_model::{Answer, Entry};
 use desk_runs::OutputTexts;
 use desk_tasks::SearchEnd;
-use journal_text::{journal_text, legal_entries_can_be_told, push_answer, push_broken};
+use journal_text::{journal_text, legal_entries_can_be_written, push_answer, push_broken};
 use sol_text::{itineraries_text, rotations_text};
 use std::alloc::Global;
 
@@ -57,7 +57,7 @@ fn push_batch(
 
 // Adds a line for each batch of these entries, numbered from 0.
 fn push_batches(text: &mut Vec<u8>, inst: &Instance, entries: &[Entry]) -> Result<(), NoMem>
-    requires { All (CanBeTold inst.now) entries.now }
+    requires { All (CanBeWritten inst.now) entries.now }
     ensures { OnOk result (text.new.items ≡ text.old.items ++ batch_lines inst.now entries.now) }
 {
     let mut number = 0;
@@ -94,7 +94,7 @@ fn push_end(text: &mut Vec<u8>, book: &Book) -> Result<(), NoMem>
     }
 }
 
-// Adds how the last search ended, where it is told.
+// Adds how the last search ended, where it is reported.
 fn push_search(text: &mut Vec<u8>, search: Option<SearchEnd>) -> Result<(), NoMem>
     ensures { OnOk result (text.new.items ≡ text.old.items ++ search_line search) }
 {
@@ -110,7 +110,7 @@ fn push_search(text: &mut Vec<u8>, search: Option<SearchEnd>) -> Result<(), NoMe
 // the plan or what is broken.
 #[tactic(auto, unfolding(desk_tasks::specs::Play::report_text))]
 fn report_text(alloc: Global, book: &Book, search: Option<SearchEnd>) -> Result<Vec<u8>, NoMem>
-    ensures { IfOk result (λ text. text.items ≡ report_text book.now.opening (search_told search) book.now.journal) }
+    ensures { IfOk result (λ text. text.items ≡ report_text book.now.opening (search_remarks search) book.now.journal) }
 {
     let mut text = Vec::new(alloc);
     push_batches(&mut text, book.instance(), book.journal())?;
@@ -123,7 +123,7 @@ fn report_text(alloc: Global, book: &Book, search: Option<SearchEnd>) -> Result<
 fn book_journal(alloc: Global, book: &Book) -> Result<Vec<u8>, NoMem>
     ensures { IfOk result (λ text. text.items ≡ journal_text book.now.opening book.now.journal) }
 {
-    legal_entries_can_be_told();
+    legal_entries_can_be_written();
     journal_text(alloc, book.instance(), book.journal())
 }
 
@@ -134,7 +134,7 @@ pub(crate) fn output_texts(
     book: &Book,
     search: Option<SearchEnd>,
 ) -> Result<OutputTexts, NoMem>
-    ensures { IfOk result (λ t. as_texts t ≡ (history_outcome book.now.opening (search_told search) book.now.journal).texts) }
+    ensures { IfOk result (λ t. as_texts t ≡ (history_outcome book.now.opening (search_remarks search) book.now.journal).texts) }
 {
     let mut files = Vec::new(alloc);
     files.push((File::SolRotations, planned_rotations(alloc, book)?))?;
@@ -145,13 +145,13 @@ pub(crate) fn output_texts(
 }
 
 /// The report alone.
-#[tactic(auto, unfolding(desk_tasks::specs::Play::history_outcome, desk_tasks::specs::Recover::told_alone))]
+#[tactic(auto, unfolding(desk_tasks::specs::Play::history_outcome, desk_tasks::specs::Recover::reported_alone))]
 pub(crate) fn report_alone(
     alloc: Global,
     book: &Book,
     search: Option<SearchEnd>,
 ) -> Result<OutputTexts, NoMem>
-    ensures { IfOk result (λ t. as_texts t ≡ (told_alone (history_outcome book.now.opening (search_told search) book.now.journal)).texts) }
+    ensures { IfOk result (λ t. as_texts t ≡ (reported_alone (history_outcome book.now.opening (search_remarks search) book.now.journal)).texts) }
 {
     let files = Vec::new(alloc);
     let report = report_text(alloc, book, search)?;

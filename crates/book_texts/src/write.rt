@@ -4,8 +4,8 @@ ghost use Rattle.std.specs.Prelude.{◌≡◌, []};
 ghost use Rattle.desk_runs.specs.Commands.{history_files};
 ghost use Rattle.desk_runs.specs.Runs.{Between};
 ghost use Rattle.desk_runs.specs.Finishing.{Completes};
-ghost use Rattle.desk_tasks.specs.Play.{search_told, history_outcome, played_end};
-ghost use Rattle.desk_tasks.specs.Recover.{told_alone};
+ghost use Rattle.desk_tasks.specs.Play.{search_remarks, history_outcome, played_end};
+ghost use Rattle.desk_tasks.specs.Recover.{reported_alone};
 
 use crate::texts::{output_texts, report_alone};
 use desk_core::Book;
@@ -26,7 +26,7 @@ fn end_with(broken: Option<Broken>) -> Ending
 }
 
 /// Writes the rotations and the itineraries of the book's plan where it has one, its journal, and the report,
-/// with the end of the last search where one is told.
+/// with the end of the last search where one is reported.
 ///
 /// It ends with `Done` or `NoPlan` when all is written. A write that fails ends it with that fault, and
 /// `Memory` may come at any time: what is written by then is a beginning of the texts, in their order.
@@ -38,7 +38,7 @@ pub fn write_history<F: Folder, O: Sink>(
     out: &mut O,
 ) -> Ending
     ensures { Between F.outside O.report folder.old out.old folder.new out.new (λ before now.
-        Completes history_files before now (history_outcome book.now.opening (search_told search) book.now.journal) result) }
+        Completes history_files before now (history_outcome book.now.opening (search_remarks search) book.now.journal) result) }
 {
     let texts = match output_texts(alloc, book, search) {
         Ok(texts) => texts,
@@ -62,7 +62,7 @@ pub fn report_history<F: Folder, O: Sink>(
     out: &mut O,
 ) -> Ending
     ensures { Between F.outside O.report folder.old out.old folder.new out.new (λ before now.
-        Completes [] before now (told_alone (history_outcome book.now.opening (search_told search) book.now.journal)) result) }
+        Completes [] before now (reported_alone (history_outcome book.now.opening (search_remarks search) book.now.journal)) result) }
 {
     let texts = match report_alone(alloc, book, search) {
         Ok(texts) => texts,

@@ -73,7 +73,7 @@ module _ (x : Files) (feed : List (ℕ × AltRow)) (fed : ℕ × AltRow) where
   same_batches : (n : ℕ) → n ≤ fed.0 → map (batch_at x (feed ++ fed ∷ [])) (range_with_len 0 n) ≡ map (batch_at x feed) (range_with_len 0 n)
   same_batches n few = same_on (batch_at x (feed ++ fed ∷ [])) (batch_at x feed) 0 n (λ k from below. ap batch_with (other_orders k (λ is. absurd (omega (arith, is, below, few)))))
 
--- no row is of a batch behind the last
+-- no row is of a batch after the last
 empty_batch : (x : Files) (feed : List (ℕ × AltRow)) (number k : ℕ) → All (λ fed. fed.0 ≤ number) feed → number < k → orders_in_batch x feed k ≡ []
 empty_batch x [] number k most behind = refl
 empty_batch x (fed ∷ feed) number k most behind =

@@ -1,7 +1,6 @@
 mod BeforeLemmas
 mod FlightLemmas
 mod FoundLemmas
-mod PositionLemmas
 mod ValidPlanes
 mod ValidLegs
 mod ValidPax

@@ -55,7 +55,7 @@ is_plane x row known h = record {
   seats = record { f = h.seats.f; b = h.seats.b; e = h.seats.e };
   range = h.range;
   hourly = h.hourly;
-  turn = h.turn;
+  turnaround = h.turnaround;
   transit = h.transit;
   origin = airport_within x.airports row.origin known.origin;
   maint = is_maint_of x.airports row.maint known.maint h.maint;

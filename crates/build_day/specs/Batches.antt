@@ -39,7 +39,7 @@ opening_orders x = orders_of x x.alt_flights ++ (orders_of x x.alt_aircraft ++ o
 abbrev pub orders_in_batch : Files → List (ℕ × AltRow) → ℕ → List Order
 orders_in_batch x feed k = orders_fed x (filter (λ fed. fed.0 == k) feed)
 
--- a batch of orders; none tells a moment yet
+-- a batch of orders; none gives a moment yet
 abbrev pub batch_with : List Order → Batch
 batch_with orders = record { at = None; orders = orders }
 

@@ -25,8 +25,17 @@ pub(crate) fn leg_at(tables: &NameTables<'_>, flight: &Name, day: u32) -> Leg
     requires { AreFew tables.now.files.now }
     ensures { result ≡ leg_at tables.now.files.now.rotations flight.now day }
 {
-    let place = tables.rotation_place(flight, day).unwrap_or(0);
-    Leg(place as u32)
+    leg_in(tables, tables.rotation_place(flight, day))
+}
+
+/// The number of the leg whose rotation stands at this place, or 0 where there is none.
+pub(crate) fn leg_in(tables: &NameTables<'_>, place: Option<usize>) -> Leg
+    requires few { AreFew tables.now.files.now }
+    requires within { IfSome place (λ k. k < length tables.now.files.now.rotations) }
+    ensures { result ≡ leg_number (unwrap_or place 0) }
+{
+    let _rows = tables.files.rotations.as_slice();
+    Leg(place.unwrap_or(0) as u32)
 }
 
 /// The place of the rotation of a flight that arrives last by this minute, and at most 1,440 minutes

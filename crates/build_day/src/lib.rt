@@ -7,7 +7,7 @@
 //! time is linear in the rows.
 //!
 //! Proved: the day is that of the definition in `specs/Day`, row for row, and its parts are in range, so that
-//! it can be made; the batches are those of the definition in `specs/Batches`, and the day can take each. It stands on `desk_data` and `build_tables`, beside `build_refusals`.
+//! it can be made; the batches are those of the definition in `specs/Batches`, and the day can take each. It depends on `desk_data` and `build_tables`, beside `build_refusals`.
 #![tactic(auto)]
 
 mod airports;

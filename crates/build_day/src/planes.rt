@@ -47,7 +47,7 @@ fn plane_info(tables: &NameTables<'_>, row: &AircraftRow) -> PlaneInfo
         seats: row.seats,
         range: row.range,
         hourly: row.hourly,
-        turn: row.turn,
+        turnaround: row.turnaround,
         transit: row.transit,
         origin: airport_of(tables, &row.origin),
         maint: maint_of(tables, row),

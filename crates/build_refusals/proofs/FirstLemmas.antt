@@ -23,7 +23,7 @@ module _ {Row : Type 0} (cause : ℕ → Row → Option Cause) (line : ℕ → R
       let next : suc n ≡ n + 1 = omega arith in
       drop-cons rows n row below ∙ (λ i. sym is i ∷ drop (next i) rows)
 
-  -- the row at place n, and those behind it
+  -- the row at place n, and those after it
   refused_at : (rows : List Row) (n : ℕ) (row : Row) (o : Option Cause) → n < length rows → row ≡ get_or rows n row → o ≡ cause n row
       → refusal_from cause line n (drop n rows) ≡ option_map_or (λ why. Some (line n row, why)) o (refusal_from cause line (n + 1) (drop (n + 1) rows))
   refused_at rows n row o below is why =

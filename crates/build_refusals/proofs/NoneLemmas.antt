@@ -20,7 +20,7 @@ pub not_in_file : (f : File) (refused : Option (ℕ × Cause)) → in_file f ref
 not_in_file f None e = refl
 not_in_file f (Some r) e = absurd cc
 
--- a test that leads to a cause fails, and what comes behind it gives none
+-- a test that leads to a cause fails, and what comes after it gives none
 pub passed : {A : Type 0} (b : Bool) (why : A) (rest : Option A) → cond b (Some why) rest ≡ None → (b ≡ false) × (rest ≡ None)
 passed true why rest e = absurd cc
 passed false why rest e = (refl, e)

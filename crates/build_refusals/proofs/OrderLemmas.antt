@@ -4,7 +4,7 @@ use Rattle.std.specs.List.{count_by}
 use Rattle.std.proofs.lemmas.Bool.{cases_lt, lt-leb, le-leb, eq-eqb, ne_eqb}
 use Rattle.std.proofs.lemmas.List.Sums.{sum_by_more}
 
--- how many more may come behind one row more
+-- how many more may come after one row more
 pub room_more : {Row : Type 0} (p : Row → Bool) (rows : List Row) (room i left : ℕ) (row : Row) → i < length rows → row ≡ get_or rows i row → left ≡ room - count_by p (take i rows)
     → left - cond (p row) 1 0 ≡ room - count_by p (take (i + 1) rows)
 room_more p rows room i left row below is so_far =

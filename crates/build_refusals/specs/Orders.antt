@@ -22,9 +22,9 @@ is_order (alt.Aircraft line aircraft from to) = true
 is_order (alt.Field line airport from to deps arrs) = true
 is_order (alt.Nothing line) = false
 
--- how many more orders may come behind these rows, where so many may come before them
-abbrev pub room_behind : ℕ → List AltRow → ℕ
-room_behind room rows = room - count_by is_order rows
+-- how many more orders may come after these rows, where so many may come before them
+abbrev pub room_after : ℕ → List AltRow → ℕ
+room_after room rows = room - count_by is_order rows
 
 -- whether the leg, the aircraft or the airport of an order is known
 abbrev pub is_about_known : Files → AltRow → Bool

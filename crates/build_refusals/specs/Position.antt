@@ -11,7 +11,7 @@ use Rattle.build_tables.specs.Names.{airport_place}
 abbrev pub groups_in : ℕ → List PositionRow → ℕ
 groups_in n rows = sum_by (λ row. length row.groups) (take n rows)
 
--- the row that holds the first group too many is past the limit, as those behind it are; an airport that is not there
+-- the row that holds the first group too many is past the limit, as those after it are; an airport that is not there
 unfoldable pub position_cause : Files → ℕ → PositionRow → Option Cause
 position_cause x n row =
     if nat_lt most_groups (groups_in (n + 1) x.position) then Some Limit

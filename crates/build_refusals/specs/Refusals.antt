@@ -15,7 +15,7 @@ use Rattle.build_refusals.specs.Airports.{airport_cause}
 use Rattle.build_refusals.specs.Dist.{dist_cause}
 use Rattle.build_refusals.specs.Itineraries.{itinerary_cause}
 use Rattle.build_refusals.specs.Position.{position_cause}
-use Rattle.build_refusals.specs.Orders.{line_of, room_behind, alt_cause}
+use Rattle.build_refusals.specs.Orders.{line_of, room_after, alt_cause}
 use Rattle.build_refusals.specs.Tariff.{tariff_refusal}
 use Rattle.build_refusals.specs.Feed.{feed_cause}
 
@@ -39,13 +39,13 @@ refusal_of_schedule x =
 
 -- how many orders may come in a file: as many as there may be in all, without those of the files before it
 abbrev pub room_for_aircraft : Files → ℕ
-room_for_aircraft x = room_behind most_orders x.alt_flights
+room_for_aircraft x = room_after most_orders x.alt_flights
 
 abbrev pub room_for_airports : Files → ℕ
-room_for_airports x = room_behind (room_for_aircraft x) x.alt_aircraft
+room_for_airports x = room_after (room_for_aircraft x) x.alt_aircraft
 
 abbrev pub room_for_feed : Files → ℕ
-room_for_feed x = room_behind (room_for_airports x) x.alt_airports
+room_for_feed x = room_after (room_for_airports x) x.alt_airports
 
 -- of the alt files: flights, aircraft and airports
 unfoldable pub refusal_of_alternatives : Files → Option Refusal

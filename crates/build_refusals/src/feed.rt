@@ -6,11 +6,11 @@ ghost use Rattle.build_refusals.specs.First.{first_refusal_in};
 ghost use Rattle.build_refusals.specs.Orders.{line_of};
 ghost use Rattle.build_refusals.specs.Feed.{is_in_turn, fed_cause, feed_cause};
 
-use crate::orders::{line_of, order_cause, room_behind_row};
+use crate::orders::{line_of, order_cause, room_after_row};
 use build_tables::NameTables;
 use file_rows::{AltRow, Cause, MOST_BATCHES};
 
-/// Whether a batch comes in turn behind that of the row before, where there is one.
+/// Whether a batch comes in turn after that of the row before, where there is one.
 fn is_in_turn(before: Option<u32>, number: u32) -> bool
     ensures { result ≡ is_in_turn before number }
 {
@@ -53,7 +53,7 @@ pub(crate) fn feed_refusal(
             return Some((line_of(&fed.1), cause));
         }
         before = Some(fed.0);
-        left = room_behind_row(left, &fed.1);
+        left = room_after_row(left, &fed.1);
     }
     None
 }

@@ -2,7 +2,7 @@
 
 ghost use Rattle.std.specs.Prelude.{◌≡◌, ◌-◌, if◌then◌else◌};
 ghost use Rattle.build_refusals.specs.First.{first_refusal_in};
-ghost use Rattle.build_refusals.specs.Orders.{line_of, is_order, room_behind, is_about_known, has_good_span, order_cause, alt_cause};
+ghost use Rattle.build_refusals.specs.Orders.{line_of, is_order, room_after, is_about_known, has_good_span, order_cause, alt_cause};
 
 use build_tables::NameTables;
 use file_rows::{AltRow, Cause};
@@ -71,8 +71,8 @@ pub(crate) fn order_cause(tables: &NameTables<'_>, full: bool, row: &AltRow) -> 
     }
 }
 
-/// How many more orders may come behind a row, where so many may come before it.
-pub(crate) fn room_behind_row(room: usize, row: &AltRow) -> usize
+/// How many more orders may come after a row, where so many may come before it.
+pub(crate) fn room_after_row(room: usize, row: &AltRow) -> usize
     ensures { result ≡ room - (if is_order row.now then 1 else 0) }
 {
     if is_order(row) {
@@ -82,13 +82,13 @@ pub(crate) fn room_behind_row(room: usize, row: &AltRow) -> usize
     }
 }
 
-/// How many more orders may come behind these rows, where so many may come before them.
-pub(crate) fn room_behind(room: usize, rows: &[AltRow]) -> usize
-    ensures { result ≡ room_behind room rows.now }
+/// How many more orders may come after these rows, where so many may come before them.
+pub(crate) fn room_after(room: usize, rows: &[AltRow]) -> usize
+    ensures { result ≡ room_after room rows.now }
 {
     let mut left = room;
     for row in rows {
-        left = room_behind_row(left, row);
+        left = room_after_row(left, row);
     }
     left
 }
@@ -106,7 +106,7 @@ pub(crate) fn alt_refusal(
         if let Some(cause) = order_cause(tables, left == 0, row) {
             return Some((line_of(row), cause));
         }
-        left = room_behind_row(left, row);
+        left = room_after_row(left, row);
     }
     None
 }

@@ -8,7 +8,8 @@ ghost use Rattle.build_refusals.specs.Refusals.{in_file, refusal_of_schedule, ro
 use crate::config::window_refusal;
 use crate::feed::feed_refusal;
 use crate::first::{Check, Lined, first_refusal_in};
-use crate::orders::{alt_refusal, room_behind};
+use crate::itineraries::itinerary_refusal;
+use crate::orders::{alt_refusal, room_after};
 use crate::position::Positions;
 use crate::tariff::tariff_refusal;
 use build_tables::{Files, NameTables};
@@ -62,21 +63,21 @@ fn refusal_in_schedule(tables: &NameTables<'_>) -> Option<(File, u32, Cause)>
 fn room_for_aircraft(files: &Files) -> usize
     ensures { result ≡ room_for_aircraft files.now }
 {
-    room_behind(MOST_ORDERS, files.alt_flights.as_slice())
+    room_after(MOST_ORDERS, files.alt_flights.as_slice())
 }
 
 /// How many orders may come in alt_airports.csv.
 fn room_for_airports(files: &Files) -> usize
     ensures { result ≡ room_for_airports files.now }
 {
-    room_behind(room_for_aircraft(files), files.alt_aircraft.as_slice())
+    room_after(room_for_aircraft(files), files.alt_aircraft.as_slice())
 }
 
 /// How many orders may come in feed.csv.
 fn room_for_feed(files: &Files) -> usize
     ensures { result ≡ room_for_feed files.now }
 {
-    room_behind(room_for_airports(files), files.alt_airports.as_slice())
+    room_after(room_for_airports(files), files.alt_airports.as_slice())
 }
 
 /// The first refusal in the alt files.
@@ -105,7 +106,7 @@ fn refusal_in_demand(tables: &NameTables<'_>) -> Option<(File, u32, Cause)>
     ensures { result ≡ refusal_of_demand tables.now.files.now }
 {
     let files = tables.files;
-    if let Some(refusal) = in_rows(File::Itineraries, tables, files.itineraries.as_slice()) {
+    if let Some(refusal) = in_file(File::Itineraries, itinerary_refusal(tables)) {
         return Some(refusal);
     }
     let positions = Positions::of(tables);

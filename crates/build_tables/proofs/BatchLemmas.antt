@@ -14,7 +14,7 @@ last_or-push o (y ∷ ys) x = last_or-push (Some y) ys x
 pub rows_more : {Row : Type 0} (rows : List Row) (i : ℕ) (row : Row) → i < length rows → row ≡ get_or rows i row → take (i + 1) rows ≡ take i rows ++ row ∷ []
 rows_more rows i row below is = take_more rows i row below ∙ ap (λ r. take i rows ++ r ∷ []) (sym is)
 
--- behind one row more, the last number is that of this row
+-- after one row more, the last number is that of this row
 pub number_of_next : (feed : List (ℕ × AltRow)) (i : ℕ) (fed : ℕ × AltRow) → i < length feed → fed ≡ get_or feed i fed → number_of_last (take (i + 1) feed) ≡ Some fed.0
 number_of_next feed i fed below is =
     ap number_of_last (rows_more feed i fed below is)

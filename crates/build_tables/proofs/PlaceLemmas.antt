@@ -1,18 +1,22 @@
 -- What stands at the first place that passes a test, and what a table of places keeps.
-use Rattle.std.proofs.Common.{◌≡◌, ℕ, zero, suc, ◌+◌, ◌<◌, ◌≤◌, Bool, true, false, cond, inl, inr, not, eqb, ltb, List, [], ◌∷◌, length, drop, get_or, bytes_eq, Option, Some, None, refl, sym, ap, ◌∙◌, arith, drop-cons}
-use Rattle.std.specs.Prelude.{find, option_map}
+use Rattle.std.proofs.Common.{◌≡◌, ℕ, zero, suc, ◌+◌, ◌<◌, ◌≤◌, Bool, true, false, cond, inl, inr, not, eqb, ltb, List, [], ◌∷◌, length, drop, take, get_or, bytes_eq, subst, Option, Some, None, refl, sym, ap, ◌∙◌, arith, drop-cons}
+use Rattle.std.specs.Prelude.{find, option_map, is_some}
 use Rattle.std.specs.List.{position, position_or_len}
 use Rattle.std.specs.Map.{lookup}
 use Rattle.std.proofs.lemmas.Bool.{ltb-false, lt-ltb, le-ltb, cond-true, cond-false, cases_lt, cases_Bool, and_parts, eqb-true, false≢true}
 use Rattle.std.proofs.lemmas.List.Quantifiers.{position-Some}
+use Rattle.std.specs.List.{list_any}
+use Rattle.std.proofs.lemmas.List.{get_or-take, get_or_default, length-take-le}
+use Rattle.std.proofs.lemmas.List.Folds.{list_any_none}
+use Rattle.std.proofs.lemmas.List.Kept.{AllPairs-cons}
 use Rattle.std.proofs.lemmas.List.Sums.{fails_before_first}
 use Rattle.std.proofs.lemmas.Slice.Eq.{bytes_eq-Decides}
 use Rattle.indexmap.specs.IndexMap.{insert_entry}
 use Rattle.build_tables.specs.contracts.places.KeyPartialEq.TheImpl.{eq-value}
 use Rattle.build_tables.specs.declared.places.Key.{Key as Borrowed}
 use Rattle.build_tables.specs.declared.places.Key.TheVariants as borrowed
-use Rattle.build_tables.specs.Found.{key_behind}
-use Rattle.build_tables.specs.Keys.{Key, by_name, on_day, between, by_reservation, type_number, is_key, key_place}
+use Rattle.build_tables.specs.Found.{key_of_borrowed}
+use Rattle.build_tables.specs.Keys.{Key, by_name, on_day, between, by_reservation, type_number, is_key, AreApart, key_place}
 
 -- the first that passes is at the first place that passes
 find_first : {A : Type 0} (p : A → Bool) (xs : List A) (k : ℕ) (x : A) → k < length xs → x ≡ get_or xs k x → p x ≡ true → ((j : ℕ) → j < k → p (get_or xs j x) ≡ false) → find p xs ≡ Some x
@@ -98,6 +102,30 @@ same_key (by_reservation a n) (by_name b) h = absurd (false≢true h)
 same_key (by_reservation a n) (on_day b m) h = absurd (false≢true h)
 same_key (by_reservation a n) (between b d) h = absurd (false≢true h)
 
+-- a key that differs from another differs from it the other way round
+turned_key : (a b : Key) → is_key a b ≡ false → is_key b a ≡ false
+turned_key a b differs = elim (cases_Bool (is_key b a)) [
+  | inl same ↦ (let is : b ≡ a = same_key b a same in absurd (false≢true (sym differs ∙ (λ j. is_key (sym is j) (is j)) ∙ same)))
+  | inr apart ↦ apart
+]
+
+pub none_is : (o : Option ℕ) → is_some o ≡ false → o ≡ None
+none_is None e = refl
+none_is (Some n) e = absurd (false≢true (sym e))
+
+none_mapped : (f : ℕ → ℕ) (o : Option ℕ) → option_map f o ≡ None → o ≡ None
+none_mapped f None e = refl
+none_mapped f (Some n) e = absurd cc
+
+-- a row of rows that are apart has a key that no row before it has
+pub none_before : {Row : Type 0} (key_of : Row → Key) (rows : List Row) (n : ℕ) (row : Row) → AreApart key_of rows → n < length rows → row ≡ get_or rows n row → list_any (λ before. is_key (key_of row) (key_of before)) (take n rows) ≡ false
+none_before key_of rows n row apart below is = list_any_none (λ before. is_key (key_of row) (key_of before)) (take n rows) (λ j d inside.
+    let front : j < n = omega (arith, inside, length-take-le n rows (omega arith)) in
+    let at : get_or (take n rows) j row ≡ get_or rows j row = get_or-take n rows j row front in
+    let pair : is_key (key_of (get_or rows n row)) (key_of (get_or rows j row)) ≡ false = apart j n row front below in
+    let first : get_or (take n rows) j d ≡ get_or (take n rows) j row = get_or_default (take n rows) j d row inside in
+    ap (λ before. is_key (key_of row) (key_of before)) (first ∙ at) ∙ ap (λ r. is_key (key_of r) (key_of (get_or rows j row))) is ∙ pair)
+
 -- one more row before the others
 module _ {Row : Type 0} (key_of : Row → Key) (rows : List Row) (i : ℕ) (row : Row) (below : i < length rows) (is : row ≡ get_or rows i row) where
   -- the places of the rows from here on, counted from the first row
@@ -109,32 +137,43 @@ module _ {Row : Type 0} (key_of : Row → Key) (rows : List Row) (i : ℕ) (row 
       ∙ counted_on (is_key key (key_of row)) i (position (λ r. is_key key (key_of r)) (drop (suc i) rows))
       ∙ ap (λ (m : ℕ). cond (is_key key (key_of row)) (Some i) (option_map (λ n. i + 1 + n) (key_place key_of (drop m rows) key))) next
 
+  -- where no place is found after a row, its key is that of no row there
+  pub apart_before : AreApart key_of (drop (i + 1) rows) → option_map (λ n. i + 1 + n) (key_place key_of (drop (i + 1) rows) (key_of row)) ≡ None → AreApart key_of (drop i rows)
+  apart_before others none =
+      let next : suc i ≡ i + 1 = omega arith in
+      let rest = drop (i + 1) rows in
+      let list : drop i rows ≡ row ∷ rest = drop-cons rows i row below ∙ (λ j. sym is j ∷ drop (next j) rows) in
+      let past : length rest ≤ position_or_len (λ r. is_key (key_of row) (key_of r)) rest = ltb-false _ _ (not_some _ _ (sym (none_mapped _ _ none))) in
+      subst (AreApart key_of) (sym list) (AllPairs-cons (λ (a b : Row). is_key (key_of b) (key_of a) ≡ false) row rest
+      (λ j d inside. turned_key (key_of row) (key_of (get_or rest j d)) (fails_before_first (λ r. is_key (key_of row) (key_of r)) rest j d (omega (arith, inside, past))))
+      others)
+
 -- two keys are the same as borrowed where they are
-same_key_behind : (a b : Borrowed) → eq-value.it a b ≡ is_key (key_behind a) (key_behind b)
-same_key_behind (borrowed.Named a) (borrowed.Named b) = refl
-same_key_behind (borrowed.Named a) (borrowed.OnDay b m) = refl
-same_key_behind (borrowed.Named a) (borrowed.Between b d) = refl
-same_key_behind (borrowed.Named a) (borrowed.Booked b m) = refl
-same_key_behind (borrowed.OnDay a n) (borrowed.Named b) = refl
-same_key_behind (borrowed.OnDay a n) (borrowed.OnDay b m) = refl
-same_key_behind (borrowed.OnDay a n) (borrowed.Between b d) = refl
-same_key_behind (borrowed.OnDay a n) (borrowed.Booked b m) = refl
-same_key_behind (borrowed.Between a c) (borrowed.Named b) = refl
-same_key_behind (borrowed.Between a c) (borrowed.OnDay b m) = refl
-same_key_behind (borrowed.Between a c) (borrowed.Between b d) = refl
-same_key_behind (borrowed.Between a c) (borrowed.Booked b m) = refl
-same_key_behind (borrowed.Booked a n) (borrowed.Named b) = refl
-same_key_behind (borrowed.Booked a n) (borrowed.OnDay b m) = refl
-same_key_behind (borrowed.Booked a n) (borrowed.Between b d) = refl
-same_key_behind (borrowed.Booked a true) (borrowed.Booked b true) = refl
-same_key_behind (borrowed.Booked a true) (borrowed.Booked b false) = refl
-same_key_behind (borrowed.Booked a false) (borrowed.Booked b true) = refl
-same_key_behind (borrowed.Booked a false) (borrowed.Booked b false) = refl
+same_as_borrowed : (a b : Borrowed) → eq-value.it a b ≡ is_key (key_of_borrowed a) (key_of_borrowed b)
+same_as_borrowed (borrowed.Named a) (borrowed.Named b) = refl
+same_as_borrowed (borrowed.Named a) (borrowed.OnDay b m) = refl
+same_as_borrowed (borrowed.Named a) (borrowed.Between b d) = refl
+same_as_borrowed (borrowed.Named a) (borrowed.Booked b m) = refl
+same_as_borrowed (borrowed.OnDay a n) (borrowed.Named b) = refl
+same_as_borrowed (borrowed.OnDay a n) (borrowed.OnDay b m) = refl
+same_as_borrowed (borrowed.OnDay a n) (borrowed.Between b d) = refl
+same_as_borrowed (borrowed.OnDay a n) (borrowed.Booked b m) = refl
+same_as_borrowed (borrowed.Between a c) (borrowed.Named b) = refl
+same_as_borrowed (borrowed.Between a c) (borrowed.OnDay b m) = refl
+same_as_borrowed (borrowed.Between a c) (borrowed.Between b d) = refl
+same_as_borrowed (borrowed.Between a c) (borrowed.Booked b m) = refl
+same_as_borrowed (borrowed.Booked a n) (borrowed.Named b) = refl
+same_as_borrowed (borrowed.Booked a n) (borrowed.OnDay b m) = refl
+same_as_borrowed (borrowed.Booked a n) (borrowed.Between b d) = refl
+same_as_borrowed (borrowed.Booked a true) (borrowed.Booked b true) = refl
+same_as_borrowed (borrowed.Booked a true) (borrowed.Booked b false) = refl
+same_as_borrowed (borrowed.Booked a false) (borrowed.Booked b true) = refl
+same_as_borrowed (borrowed.Booked a false) (borrowed.Booked b false) = refl
 
-pub lookup_key_behind : {X : Type 0} (k : Borrowed) (es : List (Borrowed × X)) → lookup (eq-value.it k) es ≡ lookup (λ x. is_key (key_behind k) (key_behind x)) es
-lookup_key_behind k es = ap (λ (t : Borrowed → Bool). lookup t es) (λ i x. same_key_behind k x i)
+pub lookup_borrowed : {X : Type 0} (k : Borrowed) (es : List (Borrowed × X)) → lookup (eq-value.it k) es ≡ lookup (λ x. is_key (key_of_borrowed k) (key_of_borrowed x)) es
+lookup_borrowed k es = ap (λ (t : Borrowed → Bool). lookup t es) (λ i x. same_as_borrowed k x i)
 
--- a look-up behind an insertion
+-- a look-up after an insertion
 over : {X : Type 0} (a b : Bool) (x y : X) (o : Option X) → a ≡ b → cond a (Some x) o ≡ cond b (Some x) (cond a (Some y) o)
 over true true x y o same = refl
 over true false x y o same = absurd (false≢true (sym same))
@@ -146,18 +185,18 @@ past true true x y o apart = absurd (apart refl refl)
 past true false x y o apart = refl
 past false b x y o apart = refl
 
-pub lookup_inserted : {X : Type 0} (key : Key) (es : List (Borrowed × X)) (k : Borrowed) (v : X) → lookup (λ x. is_key key (key_behind x)) (insert_entry eq-value.it es k v) ≡ cond (is_key key (key_behind k)) (Some v) (lookup (λ x. is_key key (key_behind x)) es)
+pub lookup_inserted : {X : Type 0} (key : Key) (es : List (Borrowed × X)) (k : Borrowed) (v : X) → lookup (λ x. is_key key (key_of_borrowed x)) (insert_entry eq-value.it es k v) ≡ cond (is_key key (key_of_borrowed k)) (Some v) (lookup (λ x. is_key key (key_of_borrowed x)) es)
 lookup_inserted key [] k v = refl
 lookup_inserted {X} key (e ∷ es) k v =
-    let t = λ (x : Borrowed). is_key key (key_behind x) in
-    let eq_is : eq-value.it k e.0 ≡ is_key (key_behind k) (key_behind e.0) = same_key_behind k e.0 in
+    let t = λ (x : Borrowed). is_key key (key_of_borrowed x) in
+    let eq_is : eq-value.it k e.0 ≡ is_key (key_of_borrowed k) (key_of_borrowed e.0) = same_as_borrowed k e.0 in
     elim (cases_Bool (eq-value.it k e.0)) [
       | inl same ↦ (
-          let keys : key_behind k ≡ key_behind e.0 = same_key (key_behind k) (key_behind e.0) (sym eq_is ∙ same) in
+          let keys : key_of_borrowed k ≡ key_of_borrowed e.0 = same_key (key_of_borrowed k) (key_of_borrowed e.0) (sym eq_is ∙ same) in
           ap (λ b. lookup t (cond b ((e.0, v) ∷ es) (e ∷ insert_entry eq-value.it es k v))) same
           ∙ over (t e.0) (t k) v e.1 (lookup t es) (ap (is_key key) (sym keys)))
       | inr differs ↦ (
-          let apart : t e.0 ≡ true → t k ≡ true → ⊥ = λ first second. false≢true (sym differs ∙ eq_is ∙ ap (λ q. is_key q (key_behind e.0)) (sym (same_key key (key_behind k) second)) ∙ first) in
+          let apart : t e.0 ≡ true → t k ≡ true → ⊥ = λ first second. false≢true (sym differs ∙ eq_is ∙ ap (λ q. is_key q (key_of_borrowed e.0)) (sym (same_key key (key_of_borrowed k) second)) ∙ first) in
           ap (λ b. lookup t (cond b ((e.0, v) ∷ es) (e ∷ insert_entry eq-value.it es k v))) differs
           ∙ ap (cond (t e.0) (Some e.1)) (lookup_inserted key es k v)
           ∙ past (t e.0) (t k) v e.1 (lookup t es) apart)

@@ -60,7 +60,7 @@ IsAboutKnown x (alt.Aircraft line aircraft from to) = IsSome (aircraft_place x.a
 IsAboutKnown x (alt.Field line airport from to deps arrs) = IsSome (airport_place x.airports airport)
 IsAboutKnown x (alt.Nothing line) = Unit {0}
 
--- behind these rows of the feed, a row is of the batch of the last one or of the next batch
+-- after these rows of the feed, a row is of the batch of the last one or of the next batch
 pub record IsInTurn (before : List (ℕ × AltRow)) (fed : ℕ × AltRow) : Type 0 where
   pub least : last_batch before ≤ fed.0
   pub most : fed.0 ≤ last_batch before + 1

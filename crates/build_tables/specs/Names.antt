@@ -1,11 +1,13 @@
 -- What the rows of the files name. A name stands for the first row that has it.
-use Rattle.std.specs.Prelude.{ℕ, List, Bool, ◌&&◌, ◌==◌, find, position, Option, bytes_eq}
+use Rattle.std.specs.Prelude.{ℕ, List, map, Bool, ◌&&◌, ◌==◌, find, position, Option, bytes_eq}
 use Rattle.std.specs.Option.{option_or}
 use Rattle.file_rows.specs.declared.legs.FlightRow.{FlightRow}
 use Rattle.file_rows.specs.declared.legs.RotationRow.{RotationRow}
 use Rattle.file_rows.specs.declared.fleet.AircraftRow.{AircraftRow}
 use Rattle.file_rows.specs.declared.network.AirportRow.{AirportRow}
 use Rattle.file_rows.specs.declared.network.DistRow.{DistRow}
+use Rattle.file_rows.specs.declared.passengers.LegRow.{LegRow}
+use Rattle.file_rows.specs.declared.passengers.ItineraryRow.{ItineraryRow}
 
 -- the flight of this name
 abbrev pub flight_named : List FlightRow → List ℕ → Option FlightRow
@@ -14,6 +16,13 @@ flight_named flights name = find (λ f. bytes_eq name f.flight) flights
 -- the place of the rotation of a flight on a day, counted from 0
 abbrev pub rotation_place : List RotationRow → List ℕ → ℕ → Option ℕ
 rotation_place rotations flight day = position (λ row. bytes_eq flight row.flight && (day == row.day)) rotations
+
+-- the place of the rotation of a leg, and of each leg of a reservation
+abbrev pub leg_place : List RotationRow → LegRow → Option ℕ
+leg_place rotations leg = rotation_place rotations leg.flight leg.day
+
+abbrev pub leg_places : List RotationRow → ItineraryRow → List (Option ℕ)
+leg_places rotations row = map (leg_place rotations) row.legs
 
 -- the place of an airport and of an aircraft, counted from 0
 abbrev pub airport_place : List AirportRow → List ℕ → Option ℕ

@@ -1,9 +1,10 @@
 //! The places of rows, found by the names that they have.
 
-ghost use Rattle.std.specs.Prelude.{◌≡◌, [], ◌∷◌, IfOk};
+ghost use Rattle.std.specs.Prelude.{◌≡◌, true, [], ◌∷◌, IfOk};
 ghost use Rattle.std.specs.Cmp.Rules.{hashing};
 ghost use Rattle.std.proofs.Common.{rules};
-ghost use Rattle.build_tables.specs.Found.{ArePlacesOf, place_in, key_behind};
+ghost use Rattle.build_tables.specs.Keys.{AreApart};
+ghost use Rattle.build_tables.specs.Found.{ArePlacesOf, place_in, key_of_borrowed, hash_input};
 
 use desk_units::{List, Name, NoMem};
 use indexmap::IndexMap;
@@ -34,7 +35,7 @@ impl<'a> Hash for Spelled<'a> {
 }
 
 /// What a row is found by.
-#[derive(Clone, Copy, PartialEq, Eq, Hash)]
+#[derive(Clone, Copy, PartialEq, Eq)]
 pub(crate) enum Key<'a> {
     /// A flight, an aircraft or an airport, by its name.
     Named(Spelled<'a>),
@@ -42,54 +43,95 @@ pub(crate) enum Key<'a> {
     OnDay(Spelled<'a>, u32),
     /// A distance, by the two airports.
     Between(Spelled<'a>, Spelled<'a>),
-    /// A reservation, by its name and whether it is the way back.
+    /// A reservation, by its name and whether it is inbound.
     Booked(Spelled<'a>, bool),
+}
+
+/// The keys of a table are of one kind, so the kind is not hashed.
+impl<'a> Hash for Key<'a> {
+    ghost hash_input = { hash_input };
+
+    ghost respects_eq = { Prim.search (hashing, rules) };
+
+    fn hash<H: Hasher>(&self, state: &mut H) {
+        match self {
+            Key::Named(name) => name.hash(state),
+            Key::OnDay(flight, day) => {
+                flight.hash(state);
+                state.write_u32(*day);
+            }
+            Key::Between(origin, dest) => {
+                origin.hash(state);
+                dest.hash(state);
+            }
+            Key::Booked(name, inbound) => {
+                name.hash(state);
+                inbound.hash(state);
+            }
+        }
+    }
 }
 
 /// A row that is found by a key.
 pub(crate) trait Keyed {
     ghost use Rattle.build_tables.specs.Keys.{Key as RowKey};
-    ghost use Rattle.build_tables.specs.Found.{key_behind};
+    ghost use Rattle.build_tables.specs.Found.{key_of_borrowed};
 
     ghost key_of: { Self → RowKey };
 
     /// Its key.
     fn key(&self) -> Key<'_>
-        ensures { key_behind result ≡ key_of self.now };
+        ensures { key_of_borrowed result ≡ key_of self.now };
 }
 
 /// The places of rows by their keys, counted from 0. A key stands for the first row that has it.
 #[derive(Drop)]
-pub(crate) struct Places<'a> {
+pub(crate) struct RowPlaces<'a> {
     places: IndexMap<Key<'a>, usize>,
+    /// Whether no two rows have one key, which spares those who ask each row whether its key came before.
+    apart: bool,
 }
 
-impl<'a> Places<'a> {
+impl<'a> RowPlaces<'a> {
     /// The place of the first row with this key.
     pub(crate) fn place_of(&self, key: Key<'_>) -> Option<usize>
-        ensures { result ≡ place_in self.now (key_behind key.entry) }
+        ensures { result ≡ place_in self.now (key_of_borrowed key.entry) }
     {
         self.places.get(&key).copied()
+    }
+
+    /// Whether no two rows have one key.
+    pub(crate) fn are_apart(&self) -> bool
+        ensures { result ≡ self.now.apart }
+    {
+        self.apart
     }
 }
 
 /// The places of these rows. They are kept from the last row on, so that of those with one key the
 /// first stays.
-fn places_of<'a, T: Keyed>(alloc: Global, rows: &'a [T]) -> Result<Places<'a>, NoMem>
-    ensures { IfOk result (ArePlacesOf T.key_of rows.now) }
+fn places_of<'a, T: Keyed>(alloc: Global, rows: &'a [T]) -> Result<RowPlaces<'a>, NoMem>
+    ensures places { IfOk result (ArePlacesOf T.key_of rows.now) }
+    ensures apart { IfOk result (λ kept. kept.apart ≡ true → AreApart T.key_of rows.now) }
 {
     let mut places = IndexMap::with_capacity(alloc, rows.len())?;
+    let mut apart = true;
     let mut place = rows.len();
     while place > 0 {
         place -= 1;
-        places.insert(rows[place].key(), place)?;
+        let later = places.insert(rows[place].key(), place)?;
+        apart &= later.is_none();
     }
-    Ok(Places { places })
+    Ok(RowPlaces { places, apart })
 }
 
 /// The places of the rows of a list.
-pub(crate) fn places_in<'a, T: Keyed>(alloc: Global, rows: &'a List<T>) -> Result<Places<'a>, NoMem>
-    ensures { IfOk result (ArePlacesOf T.key_of rows.now) }
+pub(crate) fn places_in<'a, T: Keyed>(
+    alloc: Global,
+    rows: &'a List<T>,
+) -> Result<RowPlaces<'a>, NoMem>
+    ensures places { IfOk result (ArePlacesOf T.key_of rows.now) }
+    ensures apart { IfOk result (λ kept. kept.apart ≡ true → AreApart T.key_of rows.now) }
 {
     places_of(alloc, rows.as_slice())
 }

@@ -1,12 +1,14 @@
 //! The rows of the files, found by their names.
 
-ghost use Rattle.std.specs.Prelude.{◌≡◌, IfOk, option_map, find, position, ◌==◌, ◌&&◌, bytes_eq};
-ghost use Rattle.build_tables.specs.Keys.{by_name, on_day, between, by_reservation, type_number};
+ghost use Rattle.std.specs.Prelude.{◌≡◌, true, IfOk, option_map, find, position, ◌==◌, ◌&&◌, bytes_eq};
+ghost use Rattle.std.specs.List.{flat_map};
+ghost use Rattle.build_tables.specs.Keys.{by_name, on_day, between, by_reservation, type_number, AreApart};
 ghost use Rattle.build_tables.specs.Found.{ArePlacesOf};
-ghost use Rattle.build_tables.specs.Names.{flight_named, rotation_place, airport_place, aircraft_place, is_between, distance_between};
+ghost use Rattle.build_tables.specs.Names.{flight_named, rotation_place, leg_places, airport_place, aircraft_place, is_between, distance_between};
 
 use crate::files::Files;
-use crate::places::{Key, Places, Spelled, places_in};
+use crate::legs::leg_places;
+use crate::places::{Key, RowPlaces, Spelled, places_in};
 use desk_units::{Name, NoMem};
 use file_rows::{DistRow, FlightRow};
 use std::alloc::Global;
@@ -15,18 +17,21 @@ use std::alloc::Global;
 pub struct NameTables<'a> {
     /// The rows.
     pub files: &'a Files,
-    flights: Places<'a>,
-    rotations: Places<'a>,
-    aircraft: Places<'a>,
-    airports: Places<'a>,
-    dist: Places<'a>,
-    itineraries: Places<'a>,
+    flights: RowPlaces<'a>,
+    rotations: RowPlaces<'a>,
+    aircraft: RowPlaces<'a>,
+    airports: RowPlaces<'a>,
+    dist: RowPlaces<'a>,
+    itineraries: RowPlaces<'a>,
+    legs: Vec<Option<usize>>,
     ghost flights_placed: { ArePlacesOf (λ row. by_name row.flight) files.now.flights flights },
     ghost rotations_placed: { ArePlacesOf (λ row. on_day row.flight row.day) files.now.rotations rotations },
     ghost aircraft_placed: { ArePlacesOf (λ row. by_name row.name) files.now.aircraft aircraft },
     ghost airports_placed: { ArePlacesOf (λ row. by_name row.airport) files.now.airports airports },
     ghost dist_placed: { ArePlacesOf (λ row. between row.origin row.dest) files.now.dist dist },
     ghost itineraries_placed: { ArePlacesOf (λ row. by_reservation row.name row.inbound) files.now.itineraries itineraries },
+    ghost itineraries_apart: { itineraries.apart ≡ true → AreApart (λ row. by_reservation row.name row.inbound) files.now.itineraries },
+    ghost legs_placed: { legs.items ≡ flat_map (leg_places files.now.rotations) files.now.itineraries },
 }
 
 /// In one call, so that whoever lets them go does not prove anew that each part of them may go.
@@ -40,33 +45,46 @@ impl<'a> Drop for NameTables<'a> {
             airports: _,
             dist: _,
             itineraries: _,
+            legs: _,
         } = self;
     }
 }
 
-/// The places of flights, rotations and aircraft.
-fn places_of_schedule<'a>(
+/// The places of flights and aircraft.
+fn places_of_fleet<'a>(
     alloc: Global,
     files: &'a Files,
-) -> Result<(Places<'a>, Places<'a>, Places<'a>), NoMem>
+) -> Result<(RowPlaces<'a>, RowPlaces<'a>), NoMem>
     ensures flights { IfOk result (λ places. ArePlacesOf (λ row. by_name row.flight) files.now.flights places.0) }
-    ensures rotations { IfOk result (λ places. ArePlacesOf (λ row. on_day row.flight row.day) files.now.rotations places.1) }
-    ensures aircraft { IfOk result (λ places. ArePlacesOf (λ row. by_name row.name) files.now.aircraft places.2) }
+    ensures aircraft { IfOk result (λ places. ArePlacesOf (λ row. by_name row.name) files.now.aircraft places.1) }
 {
     let flights = places_in(alloc, &files.flights)?;
-    let rotations = places_in(alloc, &files.rotations)?;
     let aircraft = places_in(alloc, &files.aircraft)?;
-    Ok((flights, rotations, aircraft))
+    Ok((flights, aircraft))
+}
+
+/// The places of rotations, and those of the legs of reservations among them.
+fn places_of_legs<'a>(
+    alloc: Global,
+    files: &'a Files,
+) -> Result<(RowPlaces<'a>, Vec<Option<usize>>), NoMem>
+    ensures rotations { IfOk result (λ places. ArePlacesOf (λ row. on_day row.flight row.day) files.now.rotations places.0) }
+    ensures legs { IfOk result (λ places. places.1.items ≡ flat_map (leg_places files.now.rotations) files.now.itineraries) }
+{
+    let rotations = places_in(alloc, &files.rotations)?;
+    let legs = leg_places(alloc, files, &rotations)?;
+    Ok((rotations, legs))
 }
 
 /// The places of airports, distances and reservations.
 fn places_of_network<'a>(
     alloc: Global,
     files: &'a Files,
-) -> Result<(Places<'a>, Places<'a>, Places<'a>), NoMem>
+) -> Result<(RowPlaces<'a>, RowPlaces<'a>, RowPlaces<'a>), NoMem>
     ensures airports { IfOk result (λ places. ArePlacesOf (λ row. by_name row.airport) files.now.airports places.0) }
     ensures dist { IfOk result (λ places. ArePlacesOf (λ row. between row.origin row.dest) files.now.dist places.1) }
     ensures itineraries { IfOk result (λ places. ArePlacesOf (λ row. by_reservation row.name row.inbound) files.now.itineraries places.2) }
+    ensures apart { IfOk result (λ places. places.2.apart ≡ true → AreApart (λ row. by_reservation row.name row.inbound) files.now.itineraries) }
 {
     let airports = places_in(alloc, &files.airports)?;
     let dist = places_in(alloc, &files.dist)?;
@@ -79,7 +97,8 @@ impl<'a> NameTables<'a> {
     pub fn of(alloc: Global, files: &'a Files) -> Result<NameTables<'a>, NoMem>
         ensures { IfOk result (λ tables. tables.files.now ≡ files.now) }
     {
-        let (flights, rotations, aircraft) = places_of_schedule(alloc, files)?;
+        let (flights, aircraft) = places_of_fleet(alloc, files)?;
+        let (rotations, legs) = places_of_legs(alloc, files)?;
         let (airports, dist, itineraries) = places_of_network(alloc, files)?;
         Ok(NameTables {
             files,
@@ -89,6 +108,7 @@ impl<'a> NameTables<'a> {
             airports,
             dist,
             itineraries,
+            legs,
         })
     }
 
@@ -135,6 +155,21 @@ impl<'a> NameTables<'a> {
     {
         self.itineraries
             .place_of(Key::Booked(Spelled::of(name), inbound))
+    }
+
+    /// Whether no two rows are of one reservation.
+    pub fn are_reservations_apart(&self) -> bool
+        ensures { result ≡ true → AreApart (λ row. by_reservation row.name row.inbound) self.now.files.now.itineraries }
+    {
+        self.itineraries.are_apart()
+    }
+
+    /// The place of the rotation of each leg of the reservations, where there is one, in the order of the
+    /// lines and of the legs in a line.
+    pub fn leg_places(&self) -> &[Option<usize>]
+        ensures { result.now ≡ flat_map (leg_places self.now.files.now.rotations) self.now.files.now.itineraries }
+    {
+        self.legs.as_slice()
     }
 
     /// The place of the first row from the one airport to the other.

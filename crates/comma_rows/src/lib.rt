@@ -7,7 +7,7 @@
 //! grammar's to ask: `Columns::are_printed` is the test of a whole record, and `is_field` that of a field.
 //!
 //! Proved: the rows are those that the definition in `specs/` gives of the records of the bytes
-//! (`exact`), with the number and the cause of the first refusal, whatever the grammar. It stands on
+//! (`exact`), with the number and the cause of the first refusal, whatever the grammar. It depends on
 //! `desk_text`.
 #![tactic(auto)]
 

@@ -21,7 +21,7 @@ pub(crate) fn records_of(alloc: Global, bytes: &[u8]) -> Reader<&[u8]>
         .from_reader(alloc, bytes)
 }
 
-/// What an error is told as that stops a reader: out of memory. The only other one is an error of
+/// What an error is reported as that stops a reader: out of memory. The only other one is an error of
 /// the bytes' source, which bytes in memory do not have.
 fn stopped(error: &Error) -> NoMem
     requires { stops_reader (error_kind error.now) ≡ true }
@@ -29,7 +29,7 @@ fn stopped(error: &Error) -> NoMem
     NoMem
 }
 
-/// Reads the next record, and tells whether there was one. It fails only out of memory.
+/// Reads the next record, and says whether there was one. It fails only out of memory.
 pub(crate) fn read_next(reader: &mut Reader<&[u8]>, into: &mut ByteRecord) -> Result<bool, NoMem>
     requires { IsReading reader.old }
     ensures reading { IfOk result (λ found. found ≡ true → IsReading reader.new) }

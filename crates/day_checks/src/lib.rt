@@ -6,7 +6,7 @@
 //!     if are_parts(alloc, &parts)? { let inst = Instance::of(alloc, parts)?; .. }
 //!     if can_add(&inst, &batch) { inst.add(alloc, &plan, &batch)?; }
 //!
-//! Proved: both answer exactly whether the condition holds. No crate of the program stands on it.
+//! Proved: both answer exactly whether the condition holds. No crate of the program depends on it.
 #![tactic(auto)]
 
 mod orders;

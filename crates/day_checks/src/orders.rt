@@ -24,7 +24,7 @@ fn are_orders(parts: &Parts, orders: &[Order]) -> bool
     orders.iter().all(|order| is_order(parts, order))
 }
 
-/// Whether a batch can be taken: it tells no moment, the legs, aircraft and airports of its orders are in
+/// Whether a batch can be taken: it gives no moment, the legs, aircraft and airports of its orders are in
 /// range, and their delays at most 2,880.
 pub fn can_add(inst: &Instance, batch: &Batch) -> bool
     ensures { IsTrue result ↔ IsBatch inst.now.parts batch.now }

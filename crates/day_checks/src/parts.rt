@@ -66,11 +66,11 @@ fn are_plane_names(plane: &PlaneInfo) -> bool
 }
 
 fn are_plane_numbers(plane: &PlaneInfo) -> bool
-    ensures { IsTrue result ↔ ((plane.now.range ≤ 100000) × IsPrice plane.now.hourly.0 × (plane.now.turn ≤ 2880) × (plane.now.transit ≤ 2880)) }
+    ensures { IsTrue result ↔ ((plane.now.range ≤ 100000) × IsPrice plane.now.hourly.0 × (plane.now.turnaround ≤ 2880) × (plane.now.transit ≤ 2880)) }
 {
     plane.range <= 100_000
         && is_price(plane.hourly)
-        && plane.turn <= 2_880
+        && plane.turnaround <= 2_880
         && plane.transit <= 2_880
 }
 

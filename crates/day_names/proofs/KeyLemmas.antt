@@ -7,7 +7,7 @@ use Rattle.std.proofs.lemmas.Slice.Eq.{bytes_eq-Decides}
 use Rattle.day_names.specs.contracts.places.KeyPartialEq.TheImpl.{eq-value}
 use Rattle.day_names.specs.declared.places.Key.{Key as Borrowed}
 use Rattle.day_names.specs.declared.places.Key.TheVariants as borrowed
-use Rattle.day_names.specs.Keys.{Key, named, on_day, booked, same_way, is_key, key_in}
+use Rattle.day_names.specs.Keys.{Key, named, on_day, booked, same_way, is_key, key_in, with_key}
 
 -- what a test finds, it finds of what the elements are seen as
 any_map : {A B : Type 0} (seen : A → B) (test : B → Bool) (xs : List A) → list_any (λ x. test (seen x)) xs ≡ list_any test (map seen xs)
@@ -49,9 +49,6 @@ position_seen k keys = ap (λ (t : Borrowed → Bool). position t keys) (tests_s
 seen_by : {A B : Type 0} (seen : A → B) (b : Bool) (xs : List A) (x : A) → map seen (cond b xs (xs ++ x ∷ [])) ≡ cond b (map seen xs) (map seen xs ++ seen x ∷ [])
 seen_by seen true xs x = refl
 seen_by seen false xs x = map-append seen xs (x ∷ [])
-
-abbrev pub with_key : List Key → Key → List Key
-with_key keys key = cond (list_any (is_key key) keys) keys (keys ++ key ∷ [])
 
 pub seen_with : (keys : List Borrowed) (k : Borrowed) → map key_in (cond (list_any (eq-value.it k) keys) keys (keys ++ k ∷ [])) ≡ with_key (map key_in keys) (key_in k)
 seen_with keys k =

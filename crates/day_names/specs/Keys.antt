@@ -1,5 +1,6 @@
 -- What the rows of a day are found by.
-use Rattle.std.specs.Prelude.{ℕ, Bool, true, false, ◌&&◌, ◌==◌, List, bytes_eq}
+use Rattle.std.specs.Prelude.{ℕ, Bool, true, false, ◌&&◌, ◌==◌, cond, List, [], ◌∷◌, ◌++◌, bytes_eq}
+use Rattle.std.specs.List.{list_any}
 use Rattle.desk_data.specs.declared.info.AirportInfo.{AirportInfo}
 use Rattle.desk_data.specs.declared.info.LegInfo.{LegInfo}
 use Rattle.desk_data.specs.declared.info.PlaneInfo.{PlaneInfo}
@@ -7,14 +8,14 @@ use Rattle.desk_data.specs.declared.info.ResInfo.{ResInfo}
 use Rattle.day_names.specs.declared.places.Key.{Key as Borrowed}
 use Rattle.day_names.specs.declared.places.Key.TheVariants as borrowed
 
--- an aircraft or an airport by its name, a leg by its flight and its day, a reservation by its name and whether it is the
--- way back
+-- an aircraft or an airport by its name, a leg by its flight and its day, a reservation by its name and whether it is
+-- inbound
 pub data Key : Type 0 where
   named : List ℕ → Key
   on_day : List ℕ → ℕ → Key
   booked : List ℕ → Bool → Key
 
--- whether both are the way out, or both the way back
+-- whether both are outbound, or both inbound
 abbrev pub same_way : Bool → Bool → Bool
 same_way true true = true
 same_way false false = true
@@ -26,6 +27,10 @@ is_key (named a) (named b) = bytes_eq a b
 is_key (on_day flight day) (on_day other date) = bytes_eq flight other && (day == date)
 is_key (booked name inbound) (booked other back) = bytes_eq name other && same_way inbound back
 is_key a b = false
+
+-- the keys, with one more where it is new
+abbrev pub with_key : List Key → Key → List Key
+with_key keys key = cond (list_any (is_key key) keys) keys (keys ++ key ∷ [])
 
 -- the key that is borrowed
 abbrev pub key_in : Borrowed → Key

@@ -4,7 +4,7 @@ ghost use Rattle.std.specs.Prelude.{◌≡◌, ◌<◌, IfOk, IfSome};
 ghost use Rattle.desk_data.specs.Situation.{legs_of, planes_of, reservations_of, airports_of};
 ghost use Rattle.day_names.specs.Names.{leg_named, plane_named, res_named, airport_named};
 
-use crate::places::{Key, Places, places_of};
+use crate::places::{Key, NamePlaces, places_of};
 use desk_data::Instance;
 use desk_units::{Airport, Leg, NoMem, Plane, Res};
 use std::alloc::Global;
@@ -13,10 +13,10 @@ use std::marker::Model;
 /// The names of a day's legs, aircraft, reservations and airports. Contracts see it as the day.
 pub struct DayNames<'a> {
     inst: &'a Instance,
-    legs: Places<'a>,
-    planes: Places<'a>,
-    reservations: Places<'a>,
-    airports: Places<'a>,
+    legs: NamePlaces<'a>,
+    planes: NamePlaces<'a>,
+    reservations: NamePlaces<'a>,
+    airports: NamePlaces<'a>,
 }
 
 /// In one call, so that whoever lets them go does not prove anew that each part of them may go.
@@ -82,7 +82,7 @@ impl<'a> DayNames<'a> {
             .map(|place| Plane(place))
     }
 
-    /// The reservation of a name, the way back where `inbound` is set, else the way out; `None` where
+    /// The reservation of a name, the inbound one where `inbound` is set, else the outbound one; `None` where
     /// there is none.
     pub fn reservation(&self, name: &[u8], inbound: bool) -> Option<Res>
         ensures number { result ≡ res_named self.now name.now inbound }

@@ -1,7 +1,7 @@
 //! The places of rows, found by what they are named by.
 
-ghost use Rattle.std.specs.Prelude.{◌≡◌, ◌≢◌, ◌≤◌, ◌<◌, ◌^◌, IfOk, IfSome, length, map, position, AllPairs};
-ghost use Rattle.day_names.specs.Keys.{is_key, key_in};
+ghost use Rattle.std.specs.Prelude.{◌≡◌, ◌≢◌, ◌≤◌, ◌<◌, ◌^◌, IfOk, IfSome, OnOk, length, map, position, AllPairs};
+ghost use Rattle.day_names.specs.Keys.{is_key, key_in, with_key};
 
 use desk_units::NoMem;
 use indexmap::IndexSet;
@@ -15,7 +15,7 @@ pub(crate) enum Key<'a> {
     Named(&'a [u8]),
     /// A leg, by its flight and its day.
     OnDay(&'a [u8], u32),
-    /// A reservation, by its name and whether it is the way back.
+    /// A reservation, by its name and whether it is inbound.
     Booked(&'a [u8], bool),
 }
 
@@ -31,12 +31,18 @@ pub(crate) trait Keyed {
 }
 
 /// Different keys in the order of their rows.
-#[derive(Drop)]
-pub(crate) struct Places<'a> {
+pub(crate) struct NamePlaces<'a> {
     keys: IndexSet<Key<'a>>,
 }
 
-impl<'a> Model for Places<'a> {
+/// In one call, so that whoever lets one go does not prove anew that each part of its set may go.
+impl<'a> Drop for NamePlaces<'a> {
+    fn drop(self) {
+        let NamePlaces { keys: _ } = self;
+    }
+}
+
+impl<'a> Model for NamePlaces<'a> {
     ghost use Rattle.std.specs.Prelude.{List, map};
     ghost use Rattle.day_names.specs.Keys.{Key as RowKey, key_in};
 
@@ -45,7 +51,7 @@ impl<'a> Model for Places<'a> {
     ghost view = { λ p. map key_in p.keys.keys };
 }
 
-impl<'a> Places<'a> {
+impl<'a> NamePlaces<'a> {
     /// The place of the row with this key, from 0.
     pub(crate) fn place_of(&self, key: Key<'_>) -> Option<u32>
         requires { length self.now ≤ 2 ^ 32 }
@@ -55,16 +61,26 @@ impl<'a> Places<'a> {
         let place = self.keys.get_index_of(&key)?;
         Some(place as u32)
     }
+
+    // Puts a key after the others, where it is not among them. The only error is out of memory.
+    fn put(&mut self, key: Key<'a>) -> Result<(), NoMem>
+        ensures { OnOk result (self.new ≡ with_key self.old (key_in key.entry)) }
+    {
+        let _ = self.keys.insert_full(key)?;
+        Ok(())
+    }
 }
 
 /// The places of these rows, no two of which have the same key.
-pub(crate) fn places_of<'a, T: Keyed>(alloc: Global, rows: &'a [T]) -> Result<Places<'a>, NoMem>
+pub(crate) fn places_of<'a, T: Keyed>(alloc: Global, rows: &'a [T]) -> Result<NamePlaces<'a>, NoMem>
     requires { AllPairs (λ a b. T.key_of a ≢ T.key_of b) rows.now }
     ensures { IfOk result (λ places. places ≡ map T.key_of rows.now) }
 {
-    let mut keys = IndexSet::new(alloc);
+    let mut places = NamePlaces {
+        keys: IndexSet::new(alloc),
+    };
     for row in rows {
-        let _ = keys.insert_full(row.key())?;
+        places.put(row.key())?;
     }
-    Ok(Places { keys })
+    Ok(places)
 }

@@ -20,7 +20,7 @@ All-front P xs i h = λ k d below. let within : k < i = omega (arith, below, len
 pub All-rest : {X : Type 0} (P : X → Type 0) (xs : List X) (i : ℕ) → AllWithin P xs i (length xs) → All P (drop i xs)
 All-rest P xs i h = λ k d below. rw (get_or-drop i xs k d) (h (i + k) d (omega arith) (omega (arith, below, length-drop i xs)))
 
--- two lists of changes, one behind the other, with an hour between them
+-- two lists of changes, one after the other, with an hour between them
 in_order-append : (xs ys : List CapChange) (t : ℕ) → AreInOrder xs → AreInOrder ys → All (λ c. c.hour ≤ t) xs → All (λ c. t ≤ c.hour) ys → AreInOrder (xs ++ ys)
 in_order-append xs ys t up_xs up_ys below above = λ i j d le within.
     let len : length (xs ++ ys) ≡ length xs + length ys = length-append xs ys in
@@ -68,15 +68,15 @@ unfolding kept_cap
 kept_cap_stays xs t h le before =
     ap option_flatten (last_word_agree (cap_from t) (cap_from h) xs (All-weaker (λ (c : CapChange). c.hour ≤ t) (λ (c : CapChange). cap_from t c ≡ cap_from h c) (λ c k. rw (le-leb c.hour t k, le-leb c.hour h (omega arith))) xs before))
 
-flatten_behind : (b n c : Option (Option HourCap)) → option_flatten n ≡ option_flatten c → option_flatten (option_or b n) ≡ option_flatten (option_or b c)
-flatten_behind None n c e = e
-flatten_behind (Some z) n c e = refl
+flatten_after : (b n c : Option (Option HourCap)) → option_flatten n ≡ option_flatten c → option_flatten (option_or b n) ≡ option_flatten (option_or b c)
+flatten_after None n c e = e
+flatten_after (Some z) n c e = refl
 
--- what stands behind them decides in the same way
-kept_cap_behind : (xs ys zs : List CapChange) (h : ℕ) → kept_cap xs h ≡ kept_cap ys h → kept_cap (xs ++ zs) h ≡ kept_cap (ys ++ zs) h
+-- what follows them decides in the same way
+kept_cap_after : (xs ys zs : List CapChange) (h : ℕ) → kept_cap xs h ≡ kept_cap ys h → kept_cap (xs ++ zs) h ≡ kept_cap (ys ++ zs) h
 unfolding kept_cap
-kept_cap_behind xs ys zs h e =
-    rw (last_word-append (cap_from h) xs zs, last_word-append (cap_from h) ys zs) (flatten_behind (last_word (cap_from h) zs) (last_word (cap_from h) xs) (last_word (cap_from h) ys) e)
+kept_cap_after xs ys zs h e =
+    rw (last_word-append (cap_from h) xs zs, last_word-append (cap_from h) ys zs) (flatten_after (last_word (cap_from h) zs) (last_word (cap_from h) xs) (last_word (cap_from h) ys) e)
 
 one : (P : CapChange → Type 0) (c : CapChange) → P c → All P (c ∷ [])
 one P c h = All-cons P c [] h (All-nil P)
@@ -134,17 +134,17 @@ spanned_within xs start stop first behind cap cut h le lt =
     kept_cap_front ((front ++ from ∷ []) ++ to ∷ []) (drop stop xs) h (later_than (drop stop xs) behind h (omega arith) cut.after)
     ∙ (kept_cap_front (front ++ from ∷ []) (to ∷ []) h (one (λ (c : CapChange). h < c.hour) to lt) ∙ kept_cap_last front from h le)
 
--- behind the span
-spanned_behind : (xs : List CapChange) (start stop first behind : ℕ) (cap : HourCap) → IsCut xs start stop first behind → (h : ℕ) → behind ≤ h → kept_cap (spanned xs start stop first behind cap) h ≡ kept_cap xs h
-spanned_behind xs start stop first behind cap cut h le =
+-- after the span
+spanned_after : (xs : List CapChange) (start stop first behind : ℕ) (cap : HourCap) → IsCut xs start stop first behind → (h : ℕ) → behind ≤ h → kept_cap (spanned xs start stop first behind cap) h ≡ kept_cap xs h
+spanned_after xs start stop first behind cap cut h le =
     let most : List CapChange = take start xs ++ (record { hour = first; cap = Some cap }) ∷ [] in
     let to : CapChange = record { hour = behind; cap = kept_cap xs behind } in
     let whole : take stop xs ++ drop stop xs ≡ xs = take-append-drop stop xs in
-    let at_behind : kept_cap xs behind ≡ kept_cap (take stop xs) behind
+    let at_after : kept_cap xs behind ≡ kept_cap (take stop xs) behind
     = ap (λ l. kept_cap l behind) (sym whole) ∙ kept_cap_front (take stop xs) (drop stop xs) behind cut.after in
     let same : kept_cap (most ++ to ∷ []) h ≡ kept_cap (take stop xs) h
-    = kept_cap_last most to h le ∙ (at_behind ∙ kept_cap_stays (take stop xs) behind h le cut.until) in
-    kept_cap_behind (most ++ to ∷ []) (take stop xs) (drop stop xs) h same ∙ ap (λ l. kept_cap l h) whole
+    = kept_cap_last most to h le ∙ (at_after ∙ kept_cap_stays (take stop xs) behind h le cut.until) in
+    kept_cap_after (most ++ to ∷ []) (take stop xs) (drop stop xs) h same ∙ ap (λ l. kept_cap l h) whole
 
 -- what the changes then say of each hour
 pub spanned_caps : (xs : List CapChange) (start stop first behind : ℕ) (cap : HourCap) → IsCut xs start stop first behind → (h : ℕ) → kept_cap (spanned xs start stop first behind cap) h ≡ (if leb first h && ltb h behind then Some cap else kept_cap xs h)
@@ -155,6 +155,6 @@ spanned_caps xs start stop first behind cap cut h =
     rw (le-leb first h le)
     (⊎_elim
     (λ (lt : h < behind). rw (lt-ltb h behind lt) (spanned_within xs start stop first behind cap cut h le lt))
-    (λ (far : behind ≤ h). rw (le-ltb h behind far) (spanned_behind xs start stop first behind cap cut h far))
+    (λ (far : behind ≤ h). rw (le-ltb h behind far) (spanned_after xs start stop first behind cap cut h far))
     (cases_lt h behind)))
     (cases_lt h first)

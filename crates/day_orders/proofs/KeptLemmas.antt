@@ -117,7 +117,7 @@ last_order_on_leg-append x xs ys = rw (last_said_is x (xs ++ ys), last_said_is x
 over_both : {Y : Type 0} (both late early was mid new : Option Y) → both ≡ option_or late early → mid ≡ option_or early was → new ≡ option_or late mid → new ≡ option_or both was
 over_both both late early was mid new b m n = n ∙ (ap (λ o. option_or late o) m ∙ (sym (or_assoc late early was) ∙ ap (λ o. option_or o was) (sym b)))
 
--- one order behind others
+-- one order after others
 pub adds_more : (xs : List Order) (y : Order) (a b c : KeptLists) → Adds xs a b → Adds (y ∷ []) b c → Adds (xs ++ y ∷ []) a c
 adds_more xs y a b c first next = record {
   all_legs = next.all_legs ∙ first.all_legs;

@@ -11,7 +11,7 @@ begins h from =
     (λ (le : 60 * h + 60 ≤ from). let lt : h < from / 60 = omega arith in rw (le-ltb from (60 * h + 60) le, lt-leb (from / 60) h lt))
     (cases_lt from (60 * h + 60))
 
--- it ends behind the hour's start where the hour of its last minute is not earlier
+-- it ends after the hour's start where the hour of its last minute is not earlier
 ends : (h to : ℕ) → 0 < to → ltb (60 * h) to ≡ ltb h ((to - 1) / 60 + 1)
 ends h to some =
     ⊎_elim

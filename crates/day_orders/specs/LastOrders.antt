@@ -26,7 +26,7 @@ unfoldable pub last_word : {X Y : Type 0} → (X → Option Y) → List X → Op
 last_word says [] = None
 last_word says (row ∷ rows) = option_or (last_word says rows) (says row)
 
--- whether a span, from one minute up to but not including the other, has a minute in hour h: it has one at all, begins before the hour's end, and ends behind the hour's start
+-- whether a span, from one minute up to but not including the other, has a minute in hour h: it has one at all, begins before the hour's end, and ends after the hour's start
 unfoldable pub touches : ℕ → ℕ → ℕ → Bool
 touches h from to = nat_lt from to && (nat_lt from (60 * h + 60) && nat_lt (60 * h) to)
 

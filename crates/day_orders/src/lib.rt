@@ -2,13 +2,13 @@
 //!
 //! An `Order` delays a leg or takes it out of the plan, keeps an aircraft on the ground for a span, or
 //! sets the caps of an airport for a span. `Batch` is those that become known together, with the moment at
-//! which they do where that is told. What an order says is defined over the whole list of orders
+//! which they do where that is given. What an order says is defined over the whole list of orders
 //! (`specs/LastOrders`): of a leg and of an airport's hour the last one decides, and the spans of an
 //! aircraft add up.
 //!
 //! `OrderTables` has for each leg, aircraft and airport what the orders taken so far say of it, so that no
 //! look-up walks over the orders; `with` makes the tables with some orders more. Proved: each table
-//! is what the definitions say of the list. `Instance` of desk_data keeps one. It stands on
+//! is what the definitions say of the list. `Instance` of desk_data keeps one. It depends on
 //! `desk_units` alone.
 #![tactic(auto)]
 

@@ -25,18 +25,18 @@ pub enum Order {
         airport: Airport,
         from: Minute,
         to: Minute,
-        /// How many departures, 0 to 100,000 where a file tells them.
+        /// How many departures, 0 to 100,000 where a file gives them.
         deps: u32,
-        /// How many arrivals, 0 to 100,000 where a file tells them.
+        /// How many arrivals, 0 to 100,000 where a file gives them.
         arrs: u32,
     },
 }
 
-/// Disruptions that become known together, and the moment at which they do, where that is told. No
-/// batch tells one yet.
+/// Disruptions that become known together, and the moment at which they do, where that is given. No
+/// batch gives one yet.
 #[derive(Debug, Drop)]
 pub struct Batch {
-    /// The moment at which they become known, where it is told.
+    /// The moment at which they become known, where it is given.
     pub at: Option<Minute>,
     /// What they order, in the order in which it is taken.
     pub orders: List<Order>,

@@ -1,4 +1,4 @@
-//! Tests of what only calls can ask of a day: whether rows make one, what its orders and its prices say, its
+//! Tests of what only calls can ask of a day: whether rows make one, what its orders say, what makes a tariff, its
 //! plans and pages, and the evaluator and the book.
 //!
 //! There is no code here but tests: a crate with tests is proved twice, so they stand in a crate of their

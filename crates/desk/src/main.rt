@@ -3,12 +3,13 @@
 //! `replay IN OUT` reads the day, its batches of orders and the journal of the directory IN, takes each
 //! recorded batch and answers each recorded move in order, and writes the journal with its answers and the
 //! two files of the last plan to OUT. `recover IN OUT` takes the batches of the day and searches for a
-//! cheaper plan behind each, with at most `--moves` accepted moves, and writes the same files. `check IN OUT`
-//! judges the plan that two files of OUT tell, under all the orders of the day in IN: the first rule that it
+//! cheaper plan after each, until `--moves` moves are accepted, and writes the same files; with `--workers`
+//! so many threads search side by side, and with `--live` the batches arrive while they do. `check IN OUT`
+//! judges the plan that two files of OUT give, under all the orders of the day in IN: the first rule that it
 //! breaks, and its cost. `gen OUT` makes up a day, by `--seed` and `--size`, and writes its files to OUT;
 //! `trial` makes up such a day in memory, recovers it and reports that alone.
 //!
-//! `main` gives `desk_main` of desk_top the words, the host's folder and its standard output, ends with
+//! `main` gives `desk_main` of desk_top the host's threads, the words, the host's folder and its standard output, ends with
 //! the status that it answers, and empties output files that an earlier run left. All that is promised
 //! of a run is proved of `desk_main`; how `main` calls it is tested by the stored run in `data/`.
 #![tactic(auto)]
@@ -26,7 +27,7 @@ use std::io::ErrorKind;
 use std::process::ExitCode;
 use std::rt::Files;
 
-// The words behind the program's name; none where one of them is no text.
+// The words after the program's name; none where one of them is no text.
 fn words_of<R: Env + Alloc<A = Global>>(rt: &R) -> Result<Vec<String>, NoMem> {
     let alloc = rt.alloc();
     let mut words = Vec::new(alloc);
@@ -56,7 +57,7 @@ fn outputs_of(words: &[String]) -> &'static [File] {
 }
 
 // Empties what an earlier run left in these files, where this run has written none of them, so that
-// nobody takes it for this run's. A file that can't be emptied is told on standard error.
+// nobody takes it for this run's. A file that can't be emptied is named on standard error.
 fn settle<R: Files + Drop>(
     rt: &impl Eprint,
     alloc: Global,
@@ -71,7 +72,7 @@ fn settle<R: Files + Drop>(
     }
 }
 
-// Tells that memory ran out.
+// Says that memory ran out.
 fn out_of_memory<P: Print + Drop>(alloc: Global, out: &mut HostSink<P>) -> u8 {
     let _ = put_report(alloc, out, b"memory\n");
     6
@@ -85,7 +86,14 @@ fn main(rt: HostRuntime) -> ExitCode {
     };
     let outputs = outputs_of(words.as_slice());
     let mut folder = HostFolder::new(rt, alloc).with_outputs(outputs);
-    let status = desk_main(alloc, words.as_slice(), &mut folder, &mut out, &FreeGate);
+    let status = desk_main(
+        &rt,
+        alloc,
+        words.as_slice(),
+        &mut folder,
+        &mut out,
+        &FreeGate,
+    );
     // a run that was refused has read, and touches nothing
     if !matches!(status, 2..=4) {
         settle(&rt, alloc, &mut folder, outputs);

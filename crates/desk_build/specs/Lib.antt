@@ -1,4 +1,4 @@
 pub mod Join
-pub mod Told
+pub mod FaultText
 pub use Rattle.build_tables.specs.Facts
 pub use Rattle.build_refusals.specs.Refusals

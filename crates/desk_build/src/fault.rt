@@ -1,7 +1,7 @@
 //! Why rows are not joined.
 
 ghost use Rattle.std.specs.Prelude.{◌≡◌, Some};
-ghost use Rattle.desk_build.specs.Told.{fault_text};
+ghost use Rattle.desk_build.specs.FaultText.{fault_text};
 ghost use Rattle.desk_build.specs.declared.fault.BuildFault.TheVariants.{Memory};
 
 use desk_folder::File;

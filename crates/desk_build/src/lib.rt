@@ -9,7 +9,7 @@
 //! It asks `build_refusals` for the first row that is refused, and where there is none `build_day` makes the
 //! day of the rows and the batches of orders that may reach it. Proved: the answer is the day and the batches,
 //! or the refusal, of the definition `built_of` (`exact`); a new day is the one before any batch (`fresh`), the batches
-//! are at most 1,001 (`few`), and the day can take each (`batches`). It stands on these two crates.
+//! are at most 1,001 (`few`), and the day can take each (`batches`). It depends on these two crates.
 #![tactic(auto)]
 
 mod fault;

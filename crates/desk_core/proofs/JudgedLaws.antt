@@ -20,7 +20,7 @@ pub judged_without_plan : (E : Evaluated) (m : Move) (item : Broken) → least E
 unfolding answer
 judged_without_plan E m item is = record { answered = rw is refl; refused = refl; same = refl }
 
--- evaluator A is that of a published plan, of this cost, behind a move
+-- evaluator A is that of a published plan, of this cost, after a move
 pub record IsApplied (E A : Evaluated) (m : Move) (now : Grains) : Type 0 where
   pub published : least E.inst E.rows ≡ None
   pub costs : now ≡ grains (cost E.inst E.rows)

@@ -156,6 +156,6 @@ kept_taken E F counted accepted h caller B told kept few batch taken =
 pub fits_disturbed : (I : Situation) (m : Move) → Fits (undisturbed I) m → Fits I m
 fits_disturbed I m fits = askable-parts (undisturbed I) I (event.Move m) refl fits
 
--- the evaluator behind a move, once its past is forgotten
+-- the evaluator after a move, once its past is forgotten
 pub settled_moved : (E F : Evaluated) (m : Move) → F.inst ≡ E.inst → F.rows ≡ after_move E.inst E.rows m → record F { past = [] } ≡ settled_at E.inst (after_move E.inst E.rows m)
 settled_moved E F m inst rows = rw (inst, rows) refl

@@ -13,7 +13,7 @@ use Rattle.desk_model.specs.declared.fallbacks.Which.{Which}
 use Rattle.desk_model.specs.declared.fallbacks.Fallback.TheVariants as fallen
 use Rattle.desk_model.specs.Fallback.{fallback}
 use Rattle.desk_model.specs.States.{State, fallback_on, answer, after}
-use Rattle.desk_model.proofs.StateLaws.{IsTold, after-told}
+use Rattle.desk_model.proofs.StateLaws.{KnowsBroken, after-known}
 use Rattle.desk_eval.specs.Evaluated.{Evaluated}
 use Rattle.desk_core.specs.Judged.{state_in}
 use Rattle.desk_core.specs.Taken.{IsTaken}
@@ -34,9 +34,9 @@ left_after : (E : Evaluated) (B : Batch) (item : Broken) (Q : PlanRows) → fall
 unfolding after fallback_on
 left_after E B item Q is = rw is refl
 
--- the state behind is that of an evaluator with its instance and its rows, since the item is the first that the rows break
-behind_is : (S : State) (F : Evaluated) (b : Option Broken) → IsTold S → S ≡ record { inst = F.inst; plan = F.rows; broken = b } → S ≡ state_in F
-behind_is S F b told is =
+-- the state after it is that of an evaluator with its instance and its rows, since the item is the first that the rows break
+after_is : (S : State) (F : Evaluated) (b : Option Broken) → KnowsBroken S → S ≡ record { inst = F.inst; plan = F.rows; broken = b } → S ≡ state_in F
+after_is S F b told is =
     let item : b ≡ least F.inst F.rows = sym (ap (λ (T : State). T.broken) is) ∙ told ∙ ap (λ (T : State). least T.inst T.plan) is in
     is ∙ ap (λ (o : Option Broken). let at : State = record { inst = F.inst; plan = F.rows; broken = o } in at) item
 
@@ -44,7 +44,7 @@ pub taken_chosen : (E F : Evaluated) (B : Batch) (which : Which) → fallback (w
 taken_chosen E F B which is inst settled = record {
   answered = chosen_answer E B which F.rows is ∙ rw inst refl;
   inst = inst;
-  reached = behind_is (after (state_in E) (event.Batch B)) F None (after-told (state_in E) (event.Batch B) refl) (chosen_after E B which F.rows is ∙ rw inst refl);
+  reached = after_is (after (state_in E) (event.Batch B)) F None (after-known (state_in E) (event.Batch B) refl) (chosen_after E B which F.rows is ∙ rw inst refl);
   settled = settled;
 }
 
@@ -52,7 +52,7 @@ pub taken_left : (E F : Evaluated) (B : Batch) (item : Broken) → fallback (wit
 taken_left E F B item is inst settled = record {
   answered = left_answer E B item F.rows is;
   inst = inst;
-  reached = behind_is (after (state_in E) (event.Batch B)) F (Some item) (after-told (state_in E) (event.Batch B) refl) (left_after E B item F.rows is ∙ rw inst refl);
+  reached = after_is (after (state_in E) (event.Batch B)) F (Some item) (after-known (state_in E) (event.Batch B) refl) (left_after E B item F.rows is ∙ rw inst refl);
   settled = settled;
 }
 

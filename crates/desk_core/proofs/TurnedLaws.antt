@@ -24,7 +24,7 @@ use Rattle.turn_book.specs.Histories as turn
 use Rattle.turn_book.specs.Passes.{Called}
 use Rattle.turn_book.specs.declared.view.View.{View}
 use Rattle.desk_core.specs.Recorded.{Recorded, reply, with_entry}
-use Rattle.desk_core.specs.Turned.{is_full, tells_entry, entry_added, Replies, IsToldOf}
+use Rattle.desk_core.specs.Turned.{is_full, tells_entry, entry_added, Replies, GetsAnswer}
 
 -- ---- no state answers Full
 
@@ -117,7 +117,7 @@ desk_legal I h legal k entry at =
 pub turn_promises : (I : Situation) (h : List Entry) → turn.IsLegal IsAskable Replies I h → KeepsPromises I h
 turn_promises I h legal = promises I h (desk_legal I h legal)
 
--- ---- what a call tells
+-- ---- what a call says
 
 full_is : (I : Situation) (g : List Entry) (e : Event) → is_full (reply (record { opening = I; journal = g }) e) ≡ not (has_room (length g) e)
 full_is I g e =
@@ -126,8 +126,8 @@ full_is I g e =
       | inr full ↦ rw full refl
     ]
 
-pub told_of : (I : Situation) (v : View Situation Entry) (caller : ℕ) (e : Event) (told : Answer) (w : View Situation Entry) → Called Replies tells_entry I v caller e told w → IsToldOf I v caller e told w
-told_of I v caller e told w called = record {
+pub reported_of : (I : Situation) (v : View Situation Entry) (caller : ℕ) (e : Event) (told : Answer) (w : View Situation Entry) → Called Replies tells_entry I v caller e told w → GetsAnswer I v caller e told w
+reported_of I v caller e told w called = record {
   history = called.before;
   began = called.began;
   room = λ room.

@@ -19,7 +19,7 @@ use Rattle.desk_core.specs.declared.judged.Judged.TheVariants.{Moved, Refused}
 abbrev pub state_in : Evaluated → State
 state_in E = record { inst = E.inst; plan = E.rows; broken = least E.inst E.rows }
 
--- whether a verdict refuses: where it does, this is told; else the move is accepted at this cost
+-- whether a verdict refuses: where it does, this is the answer; else the move is accepted at this cost
 abbrev pub IsVerdict : Answer → ℕ → Option Answer → Type 0
 IsVerdict verdict would (Some told) = (verdict ≡ told) × (is_accepted told ≡ false)
 IsVerdict verdict would None = verdict ≡ Accepted (grains would)
@@ -37,7 +37,7 @@ pub record IsRefused (before : Evaluated) (m : Move) (behind : Evaluated) (told 
   pub refused : is_accepted told ≡ false
   pub same : behind ≡ before
 
--- what becomes of a move, between the evaluator before it and the one behind it
+-- what becomes of a move, between the evaluator before it and the one after it
 abbrev pub IsJudged : Evaluated → Move → Evaluated → Judged → Type 0
 IsJudged before m behind (Moved undo cost) = IsMoved before m behind undo cost
 IsJudged before m behind (Refused told) = IsRefused before m behind told

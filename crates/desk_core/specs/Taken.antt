@@ -8,7 +8,7 @@ use Rattle.desk_model.specs.States.{answer, after}
 use Rattle.desk_eval.specs.Evaluated.{Evaluated}
 use Rattle.desk_core.specs.Judged.{state_in}
 
--- the batch is answered with this at the state of the evaluator before it, and in the one behind it stands the state after the batch
+-- the batch is answered with this at the state of the evaluator before it, and the evaluator after it holds the state after the batch
 pub record IsTaken (before : Evaluated) (B : Batch) (behind : Evaluated) (told : Answer) : Type 0 where
   pub answered : answer (state_in before) (event.Batch B) ≡ told
   pub inst : behind.inst ≡ with_batch before.inst before.rows B

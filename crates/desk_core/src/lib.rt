@@ -6,6 +6,7 @@
 //!     let found = book.search(alloc, &mut search)?;      // what a search finds at the plan, which stays
 //!     for entry in book.journal() { .. }                 // who asked, what, and the answer
 //!     let plan = book.eval().plan();                     // the plan as it stands
+//!     follow(alloc, &mut eval, &mut broken, &entry)?;    // a copy of the state follows the journal
 //!
 //! The plan stands in an evaluator (`desk_eval`). A move is applied to it (`desk_moves`) and judged by
 //! what the evaluator then says that the plan breaks and costs; a move that is refused is taken back,
@@ -18,6 +19,7 @@
 #![tactic(auto)]
 
 mod book;
+mod followed;
 mod judged;
 mod search;
 mod taken;
@@ -26,7 +28,8 @@ mod turned;
 pub use book::Book;
 pub use desk_eval::Evaluator;
 pub use desk_model::{Answer, Batch, Broken, Entry, Event, Grains, Move, Which};
+pub use followed::follow;
 pub use search::Search;
 pub use turned::{
-    a_pass_is_told_the_answer_at_the_history_of_its_turn, what_a_pass_has_seen_keeps_the_promises,
+    a_pass_gets_the_answer_at_the_history_of_its_turn, what_a_pass_has_seen_keeps_the_promises,
 };

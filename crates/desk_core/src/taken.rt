@@ -25,18 +25,19 @@ pub(crate) fn take_in(alloc: Global, eval: &Evaluator, batch: &Batch) -> Result<
     requires { IsBatch eval.now.inst.parts batch.now }
     ensures { IfOk result (λ taken. IsTaken eval.now batch.now taken.eval taken.answer) }
 {
-    let plan = eval.plan().to_plan(alloc)?;
+    let pages = eval.plan();
+    let plan = pages.to_plan(alloc)?;
     let mut inst = eval.instance().copy(alloc)?;
     inst.add(alloc, &plan, batch)?;
-    match fallback(alloc, &inst, plan)? {
+    match fallback(alloc, &inst, plan, pages)? {
         Fallback::Chosen { which, plan } => {
-            let eval = Evaluator::of_plan(alloc, inst, plan)?;
+            let eval = eval.of_same_day(alloc, inst, plan)?;
             let cost = eval.cost();
             let answer = Answer::Taken { which, cost };
             Ok(Taken { eval, answer })
         }
         Fallback::NoPlan { broken, plan } => {
-            let eval = Evaluator::of_plan(alloc, inst, plan)?;
+            let eval = eval.of_same_day(alloc, inst, plan)?;
             let answer = Answer::NoPlan(broken);
             Ok(Taken { eval, answer })
         }

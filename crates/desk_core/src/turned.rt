@@ -12,7 +12,7 @@ ghost use Rattle.desk_model.specs.Promises.{KeepsPromises};
 ghost use Rattle.turn_book.specs.declared.view.View.{View as Pass};
 ghost use Rattle.turn_book.specs.Histories as turns;
 ghost use Rattle.turn_book.specs.Passes.{Called};
-ghost use Rattle.desk_core.specs.Turned.{IsToldOf, Replies, tells_entry};
+ghost use Rattle.desk_core.specs.Turned.{GetsAnswer, Replies, tells_entry};
 
 use crate::book::Book;
 use desk_data::{Instance, NoMem};
@@ -66,9 +66,9 @@ pub fn what_a_pass_has_seen_keeps_the_promises()
 {}
 
 /// The answer that a pass gets by a call is that of the state of the history that stood at its turn,
-/// which begins with all that it had seen: its entry stands behind that history. Where there was no
+/// which begins with all that it had seen: its entry comes after that history. Where there was no
 /// room for it, the answer is `Full` with the length of that history, and there is no entry. The
-/// answer tells which.
-pub fn a_pass_is_told_the_answer_at_the_history_of_its_turn()
-    ensures { (I : Situation) (v w : Pass Situation Recorded) (caller : ℕ) (e : Asked) (told : Told) → Called Replies tells_entry I v caller e told w → IsToldOf I v caller e told w }
+/// answer says which.
+pub fn a_pass_gets_the_answer_at_the_history_of_its_turn()
+    ensures { (I : Situation) (v w : Pass Situation Recorded) (caller : ℕ) (e : Asked) (told : Told) → Called Replies tells_entry I v caller e told w → GetsAnswer I v caller e told w }
 {}

@@ -15,7 +15,7 @@ fresh_day-valid parts h = record { parts = h; orders = All-nil (IsOrder parts); 
 pub with_batch-parts : (I : Situation) (P : PlanRows) (B : Batch) → (with_batch I P B).parts ≡ I.parts
 with_batch-parts I P B = refl
 
--- the batch's orders stand behind those taken before
+-- the batch's orders come after those taken before
 pub with_batch-orders : (I : Situation) (P : PlanRows) (B : Batch) → (with_batch I P B).orders ≡ I.orders ++ B.orders
 with_batch-orders I P B = refl
 

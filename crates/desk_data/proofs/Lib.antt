@@ -5,6 +5,6 @@ pub mod BoundLaws
 pub mod DepartureLaws
 mod HighestLaws
 mod KeepsLemmas
-pub mod OrderedLaws
+mod OrderedLaws
 pub mod SaidLemmas
 pub mod ScheduleLemmas

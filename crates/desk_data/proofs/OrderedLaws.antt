@@ -18,7 +18,7 @@ use Rattle.desk_data.specs.LaterOrders.{IsOfLeg, HasMinuteIn, IsOfHour, ObeysOfL
 
 -- ---- the last word
 
--- one row decides where none behind it says anything
+-- one row decides where none after it says anything
 word_last : {X Y : Type 0} (says : X → Option Y) (before behind : List X) (x : X) (y : Y) → says x ≡ Some y → All (λ z. says z ≡ None) behind → last_word says (before ++ x ∷ behind) ≡ Some y
 unfolding last_word
 word_last says before behind x y is silent = last_word-append says before (x ∷ behind) ∙ rw (last_word_none says behind silent, is) refl

@@ -37,7 +37,7 @@ pub record ObeysOfLeg (I : Situation) (x : ℕ) : Type 0 where
 pub record ObeysOfHour (I : Situation) (a h : ℕ) : Type 0 where
   pub last : (before behind : List Order) (from to : Minute) (deps arrs : ℕ) → I.orders ≡ before ++ Field (record { 0 = a }) from to deps arrs ∷ behind → HasMinuteIn h from.0 to.0 → All (λ order. IsOfHour a h order → ⊥) behind → (dep_cap I a h ≡ Some deps) × (arr_cap I a h ≡ Some arrs)
 
--- what a batch leaves as it was: a leg of which it has no flight order, and an hour in which no order of the airport has a minute. Spans out of service are added behind those that there are
+-- what a batch leaves as it was: a leg of which it has no flight order, and an hour in which no order of the airport has a minute. Spans out of service are added after those that there are
 pub record AddsOrders (I : Situation) (P : PlanRows) (B : Batch) : Type 0 where
   pub leg : (x : ℕ) → All (λ order. IsOfLeg x order → ⊥) B.orders → (ordered_off (with_batch I P B) x ≡ ordered_off I x) × (earliest (with_batch I P B) x ≡ earliest I x)
   pub hour : (a h : ℕ) → All (λ order. IsOfHour a h order → ⊥) B.orders → (dep_cap (with_batch I P B) a h ≡ dep_cap I a h) × (arr_cap (with_batch I P B) a h ≡ arr_cap I a h)

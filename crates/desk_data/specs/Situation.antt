@@ -25,7 +25,7 @@ abbrev pub PassengersGone : Type 0
 PassengersGone = List (Leg × Cabin) × ℕ
 
 -- how far a day has gone on: up to which moment; by leg, the row with which it left or was given up, if it is frozen;
--- and by reservation, how many passengers have which frozen legs behind them, in the order of paths
+-- and by reservation, how many passengers have flown which frozen legs, in the order of paths
 pub record Progress : Type 0 where
   pub now : Minute
   pub frozen : List (Option Row)
@@ -50,7 +50,7 @@ fresh_day parts = record { parts = parts; orders = []; progress = first_progress
 
 -- ---- a batch
 
--- the day with a batch: its orders stand behind those taken before. The plan that stands when it arrives decides nothing yet
+-- the day with a batch: its orders come after those taken before. The plan that stands when it arrives decides nothing yet
 abbrev pub with_batch : Situation → PlanRows → Batch → Situation
 with_batch I P B = record I { orders = I.orders ++ B.orders }
 
@@ -72,7 +72,7 @@ unfoldable pub no_leg : LegInfo
 no_leg = record { flight = []; day = 0; origin = record { 0 = 0 }; dest = record { 0 = 0 }; sched = record { 0 = 0 }; block = 0; distance = 0; haul = D; plane = record { 0 = 0 }; prev = None }
 
 unfoldable pub no_plane : PlaneInfo
-no_plane = record { name = []; model = []; family = []; seats = record { f = 0; b = 0; e = 0 }; range = 0; hourly = record { 0 = 0 }; turn = 0; transit = 0; origin = record { 0 = 0 }; maint = None; surface = false }
+no_plane = record { name = []; model = []; family = []; seats = record { f = 0; b = 0; e = 0 }; range = 0; hourly = record { 0 = 0 }; turnaround = 0; transit = 0; origin = record { 0 = 0 }; maint = None; surface = false }
 
 unfoldable pub no_res : ResInfo
 no_res = record { name = []; inbound = false; price = record { 0 = 0 }; count = 0; path = [] }

@@ -63,7 +63,7 @@ pub record IsPlane (airports : ℕ) (plane : PlaneInfo) : Type 0 where
   pub seats : AreSeats plane.seats
   pub range : plane.range ≤ 100000
   pub hourly : IsPrice plane.hourly.0
-  pub turn : plane.turn ≤ 2880
+  pub turnaround : plane.turnaround ≤ 2880
   pub transit : plane.transit ≤ 2880
   pub origin : plane.origin.0 < airports
   pub maint : ForSome plane.maint (IsMaint airports)
@@ -130,7 +130,7 @@ IsOrder parts (Flight leg delay) = (leg.0 < length parts.legs) × ForSome delay 
 IsOrder parts (Aircraft plane from to) = plane.0 < length parts.planes
 IsOrder parts (Field airport from to deps arrs) = airport.0 < length parts.airports
 
--- a batch that an instance can take: its orders are about what there is, and it tells no moment
+-- a batch that an instance can take: its orders are about what there is, and it gives no moment
 pub record IsBatch (parts : Parts) (batch : Batch) : Type 0 where
   pub orders : All (IsOrder parts) batch.orders
   pub at : batch.at ≡ None

@@ -46,7 +46,7 @@ pub struct PlaneInfo {
     /// What an hour in flight costs.
     pub hourly: Price,
     /// The ground time between two legs: at most 2,880 minutes.
-    pub turn: u32,
+    pub turnaround: u32,
     /// The ground time before a leg that follows its previous leg: at most 2,880 minutes.
     pub transit: u32,
     /// Where the aircraft stands before its first leg.
@@ -60,7 +60,7 @@ pub struct PlaneInfo {
 #[derive(Debug, Drop)]
 pub struct ResInfo {
     pub name: Name,
-    /// Whether this is the way back of a return trip.
+    /// Whether this is the inbound half of a return trip.
     pub inbound: bool,
     /// The price that each passenger paid.
     pub price: Price,
@@ -79,7 +79,7 @@ pub struct Cap {
     pub arrs: u32,
     /// The first minute of the day, below 1,440.
     pub from: u32,
-    /// The minute of the day behind the last one: at most 1,440.
+    /// The minute of the day after the last one: at most 1,440.
     pub to: u32,
 }
 

@@ -346,7 +346,7 @@ impl Instance {
         Ok(Plan::of(rows, groups))
     }
 
-    /// Takes the orders of a batch, behind those taken before. The plan is the one that stands when the batch
+    /// Takes the orders of a batch, after those taken before. The plan is the one that stands when the batch
     /// arrives; it decides nothing yet. After an error the instance is as before. `can_add` of day_checks tests
     /// the condition of the batch.
     pub fn add(&mut self, alloc: Global, plan: &Plan, batch: &Batch) -> Result<(), NoMem>

@@ -1,5 +1,5 @@
-//! What holds of every day: how far departures reach, which rows are due, what paths are bound to, and what
-//! a batch leaves as it was.
+//! What holds of every day: how far departures reach, which rows are due, what paths are bound to, which
+//! orders decide, and what a batch leaves as it was.
 
 ghost use Rattle.std.specs.Prelude.{◌≡◌, ◌↔◌, ℕ, ◌<◌, ◌≤◌, true, List, Some, is_some};
 ghost use Rattle.day_orders.specs.declared.orders.Batch.{Batch as Orders};
@@ -9,6 +9,7 @@ ghost use Rattle.desk_data.specs.declared.parts.Parts.{Parts};
 ghost use Rattle.desk_data.specs.declared.row.Group.{Group};
 ghost use Rattle.desk_data.specs.declared.row.Row.{Row};
 ghost use Rattle.desk_data.specs.Begun.{BeginsAsBegun};
+ghost use Rattle.desk_data.specs.LaterOrders.{AddsOrders, ObeysOfHour, ObeysOfLeg};
 ghost use Rattle.desk_data.specs.PlanRows.{PlanRows};
 ghost use Rattle.desk_data.specs.Situation.{Situation, fresh_day, with_batch, legs_of, planes_of, fixed, earliest, latest, due, bound};
 ghost use Rattle.desk_data.specs.Valid.{AreParts, IsBatch, IsPlanFor, IsRowOf, IsValid};
@@ -32,6 +33,17 @@ pub fn fixed_legs_have_rows_due()
 pub fn paths_are_bound_to_what_has_begun()
     ensures begins { (I : Situation) (r : ℕ) (groups : List Group) (path : List (Leg × Cabin)) → bound I r groups path ≡ true ↔ BeginsAsBegun I r path }
     ensures groups { (I : Situation) (r : ℕ) (groups others : List Group) (path : List (Leg × Cabin)) → bound I r groups path ≡ bound I r others path }
+{}
+
+/// Later orders decide. Of a leg the last flight order does: it takes the leg off, or delays it from
+/// its scheduled departure. Of an hour of an airport the last order of the airport that has a minute
+/// in the hour does. A batch leaves a leg as it was of which it has no flight order, and an hour in
+/// which its orders have no minute; spans in which an aircraft is out of service are added after
+/// those that there are.
+pub fn later_orders_decide()
+    ensures leg { (I : Situation) (x : ℕ) → ObeysOfLeg I x }
+    ensures hour { (I : Situation) (a h : ℕ) → ObeysOfHour I a h }
+    ensures batch { (I : Situation) (P : PlanRows) (B : Orders) → AddsOrders I P B }
 {}
 
 /// The day of valid rows before any batch is valid, and so is a valid day with a batch whose orders are about

@@ -14,7 +14,7 @@
 //! (`specs/Situation`, `specs/PlanRows`). Proved: each look-up is the definition over these, from
 //! tables; a batch's orders are appended, or the day is as before. Crates above use what holds of
 //! departures, rows that are due and paths that are bound by the laws alone (`src/laws`, `proofs`), and
-//! look inside none of these definitions. It stands on `desk_units`, `tariff_prices` and `day_orders`.
+//! look inside none of these definitions. It depends on `desk_units`, `tariff_prices` and `day_orders`.
 #![tactic(auto)]
 
 mod booked;
@@ -39,7 +39,7 @@ pub use desk_units::{
 pub use info::{AirportInfo, Cap, LegInfo, Maint, PlaneInfo, PositionInfo, ResInfo};
 pub use instance::Instance;
 pub use laws::{
-    batches_keep_days_valid, departures_are_in_time, fixed_legs_have_rows_due,
+    batches_keep_days_valid, departures_are_in_time, fixed_legs_have_rows_due, later_orders_decide,
     paths_are_bound_to_what_has_begun,
 };
 pub use limits::{DAY, DEPARTURES_END, LAST_SCHEDULED, MOMENTS_END, MOST_DELAY};

@@ -1,4 +1,4 @@
--- What a step of a descent proposes, and the book behind it.
+-- What a step of a descent proposes, and the book after it.
 use Rattle.std.specs.Prelude.{◌≡◌, ℕ, Option}
 use Rattle.std.specs.Option.{ForSome}
 use Rattle.plan_moves.specs.declared.moves.Move.{Move}
@@ -14,7 +14,7 @@ pub record IsFirstBetter (I : Situation) (P : PlanRows) (found : Option Move) : 
   pub first : found ≡ first_better I P 0 1
   pub fits : ForSome found (Fits I)
 
--- what is proposed to a book next, and the book behind it
+-- what is proposed to a book next, and the book after it
 abbrev pub next_of : ℕ → Recorded → Option Move
 next_of most B = next_proposal most (opening B.opening) B.journal
 

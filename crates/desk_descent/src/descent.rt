@@ -15,7 +15,7 @@ use std::alloc::Global;
 
 /// Proposes the first better move near the book's plan, as caller 0, until there is none, or `most` proposals
 /// were accepted since the last batch, or the journal has 900,000 entries. Where there is no plan, nothing is
-/// proposed. The answer tells why it ended, or `None` where there is no plan: `Budget` comes before `Quiet`
+/// proposed. The answer says why it ended, or `None` where there is no plan: `Budget` comes before `Quiet`
 /// where both hold. The only error is out of memory, and then some first steps of the descent may have been
 /// taken: the book is sound, and can go on.
 pub fn descend(alloc: Global, book: &mut Book, most: u32) -> Result<Option<SearchEnd>, NoMem>

@@ -8,7 +8,7 @@
 //! where no move is better, or where the history is spent: so many were accepted since the last batch, or the
 //! journal has 900,000 entries.
 //!
-//! Proved: the journal is `descent` of `near_moves` of the journal before, and how it ended is told exactly;
+//! Proved: the journal is `descent` of `near_moves` of the journal before, and how it ended is said exactly;
 //! where memory runs out, the journal is that of some first steps of it.
 #![tactic(auto)]
 

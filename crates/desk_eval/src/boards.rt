@@ -12,6 +12,7 @@ ghost use Rattle.board_rot.specs.Boards.{planes_on};
 ghost use Rattle.desk_eval.specs.Asked.{keeps_paths};
 ghost use Rattle.desk_eval.specs.Boards.{AreBoardsOf, rotations_of, slots_of, seats_of, cost_board_of};
 
+use crate::passengers::PassengerBoards;
 use board_cost::CostBoard;
 use board_kit::Both;
 use board_rot::RotBoard;
@@ -23,7 +24,7 @@ use plan_reads::RotationLeg;
 use std::alloc::Global;
 
 /// All boards of a plan as one: of its rotations and its hours, and of its seats and its cost.
-pub(crate) type AllBoards = Both<Both<RotBoard, SlotBoard>, Both<SeatBoard, CostBoard>>;
+pub(crate) type AllBoards = Both<Both<RotBoard, SlotBoard>, PassengerBoards>;
 
 /// What is kept of a plan: its rotations, its hours, its seats and paths, and its cost.
 #[derive(Debug)]
@@ -55,10 +56,7 @@ impl Boards {
                     first: rotations,
                     second: slots,
                 },
-                second: Both {
-                    first: seats,
-                    second: cost,
-                },
+                second: PassengerBoards { seats, cost },
             },
         })
     }
@@ -81,14 +79,14 @@ impl Boards {
     pub(crate) fn seats(&self) -> &SeatBoard
         ensures { result.now ≡ seats_of self.now.all }
     {
-        &self.all.second.first
+        &self.all.second.seats
     }
 
     /// The board of the cost.
     fn costs(&self) -> &CostBoard
         ensures { result.now ≡ cost_board_of self.now.all }
     {
-        &self.all.second.second
+        &self.all.second.cost
     }
 
     /// The first item that the plan breaks.
@@ -129,12 +127,12 @@ impl Boards {
 }
 
 /// Which legs some rotation legs are of.
-fn legs_of_rotation(alloc: Global, turns: &[RotationLeg]) -> Result<Vec<Leg>, NoMem>
-    ensures { IfOk result (λ legs. legs.items ≡ map (λ turn. turn.leg) turns.now) }
+fn legs_of_rotation(alloc: Global, rotation_legs: &[RotationLeg]) -> Result<Vec<Leg>, NoMem>
+    ensures { IfOk result (λ legs. legs.items ≡ map (λ rotation_leg. rotation_leg.leg) rotation_legs.now) }
 {
-    let mut legs = Vec::with_capacity(alloc, turns.len())?;
-    for turn in turns {
-        legs.push(turn.leg)?;
+    let mut legs = Vec::with_capacity(alloc, rotation_legs.len())?;
+    for rotation_leg in rotation_legs {
+        legs.push(rotation_leg.leg)?;
     }
     Ok(legs)
 }

@@ -1,6 +1,8 @@
 //! The evaluator.
 
 ghost use Rattle.std.specs.Prelude.{◌≡◌, ◌+◌, ◌<◌, ◌≤◌, [], ◌∷◌, length, map, filter, not, All, IfOk, OnOk, OnErr};
+ghost use Rattle.std.specs.Arc.{arc_value};
+ghost use Rattle.desk_eval.specs.Asked.{AreBooked};
 
 use crate::boards::Boards;
 use crate::change::{change_groups, change_row, copied_groups};
@@ -14,6 +16,7 @@ use plan_groups::KnowsAboard;
 use plan_pages::{Page, Pages};
 use std::alloc::Global;
 use std::marker::Model;
+use std::sync::Arc;
 use std::sync::ledger::Ledger;
 
 /// A plan that changes place by place. At each moment it knows the first item that the plan breaks
@@ -25,8 +28,8 @@ pub struct Evaluator {
     inst: Instance,
     pages: Pages,
     boards: Boards,
-    /// Who is booked on each leg, which no change of the plan touches.
-    booked: LegUsers,
+    /// Who is booked on each leg, which is that of the day: all its evaluators may share it.
+    booked: Arc<LegUsers>,
     /// The pages that each change since the past was last empty took from the plan.
     past: Vec<Page>,
 }
@@ -49,12 +52,13 @@ impl Model for Evaluator {
     ghost use Rattle.desk_eval.specs.Asked.{AreBooked};
     ghost use Rattle.desk_eval.specs.Evaluated.{Evaluated};
     ghost use Rattle.desk_eval.specs.Past.{plans_before, IsEvaluator};
+    ghost use Rattle.std.specs.Arc.{arc_value};
 
     ghost Value = { Evaluated };
 
     ghost view = { λ e. record { inst = e.inst; rows = e.pages; past = plans_before e.pages (reverse e.past.items) } };
 
-    ghost invariant = { λ e. IsEvaluator e.inst e.pages e.boards.all e.past.items × AreBooked e.inst e.booked };
+    ghost invariant = { λ e. IsEvaluator e.inst e.pages e.boards.all e.past.items × AreBooked e.inst (arc_value e.booked) };
 }
 
 impl Evaluator {
@@ -76,7 +80,8 @@ impl Evaluator {
         ensures { IfOk result (λ opened. opened ≡ record { inst = inst; rows = plan.now; past = [] }) }
     {
         let pages = Pages::of(alloc, plan)?;
-        Evaluator::of_pages(alloc, inst, pages)
+        let booked = booked_of(alloc, &inst)?;
+        Evaluator::of_pages(alloc, inst, pages, booked)
     }
 
     /// The evaluator of a plan that is handed in and not copied, with an empty past. The plan is one for the
@@ -86,16 +91,35 @@ impl Evaluator {
         ensures { IfOk result (λ opened. opened ≡ record { inst = inst; rows = plan; past = [] }) }
     {
         let pages = Pages::from_plan(alloc, plan)?;
-        Evaluator::of_pages(alloc, inst, pages)
+        let booked = booked_of(alloc, &inst)?;
+        Evaluator::of_pages(alloc, inst, pages, booked)
     }
 
-    /// The evaluator of the plan of these pages, with an empty past.
-    fn of_pages(alloc: Global, inst: Instance, pages: Pages) -> Result<Evaluator, NoMem>
-        requires { IsPlanFor inst pages }
+    /// The evaluator of another plan of the same day, which may have more orders, with an empty past. The plan
+    /// is handed in, and one for the instance that is handed in. What depends on the day alone is shared. The
+    /// only error is out of memory.
+    pub fn of_same_day(&self, alloc: Global, inst: Instance, plan: Plan) -> Result<Evaluator, NoMem>
+        requires day { inst.parts ≡ self.now.inst.parts }
+        requires plan { IsPlanFor inst plan }
+        ensures { IfOk result (λ opened. opened ≡ record { inst = inst; rows = plan; past = [] }) }
+    {
+        let pages = Pages::from_plan(alloc, plan)?;
+        let booked = self.booked.clone()?;
+        Evaluator::of_pages(alloc, inst, pages, booked)
+    }
+
+    /// The evaluator of the plan of these pages, with an empty past, given who is booked on each leg.
+    fn of_pages(
+        alloc: Global,
+        inst: Instance,
+        pages: Pages,
+        booked: Arc<LegUsers>,
+    ) -> Result<Evaluator, NoMem>
+        requires plan { IsPlanFor inst pages }
+        requires booked { AreBooked inst (arc_value booked) }
         ensures { IfOk result (λ opened. opened ≡ record { inst = inst; rows = pages; past = [] }) }
     {
         let boards = Boards::open(alloc, &inst, &pages)?;
-        let booked = LegUsers::booked(alloc, &inst)?;
         let past = Vec::new(alloc);
         Ok(Evaluator {
             inst,
@@ -221,7 +245,8 @@ impl Evaluator {
     {
         let inst = self.inst.copy(alloc)?;
         let pages = self.pages.share(alloc)?;
-        Evaluator::of_pages(alloc, inst, pages)
+        let booked = self.booked.clone()?;
+        Evaluator::of_pages(alloc, inst, pages, booked)
     }
 
     /// Takes the last change back: the plan and the past are those from before it. The past is not
@@ -272,6 +297,14 @@ impl Evaluator {
     {
         Ok(self.booked.users(leg).to_vec(alloc)?)
     }
+}
+
+/// Who is booked on each leg of a day.
+fn booked_of(alloc: Global, inst: &Instance) -> Result<Arc<LegUsers>, NoMem>
+    ensures { IfOk result (λ booked. AreBooked inst.now (arc_value booked)) }
+{
+    let booked = LegUsers::booked(alloc, inst)?;
+    Ok(Arc::new(alloc, booked)?)
 }
 
 /// An evaluator knows the hours of its plan, with no walk.

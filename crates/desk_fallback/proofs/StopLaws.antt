@@ -21,7 +21,7 @@ use Rattle.desk_model.proofs.RotationOrder.{flown_once}
 use Rattle.desk_model.proofs.FallbackLaws.{is_stopped-holds, is_stopped-from}
 use Rattle.desk_model.proofs.ValidLaws.{row_of_plan}
 use Rattle.desk_fallback.specs.declared.firsts.Stop.{Stop}
-use Rattle.desk_fallback.specs.Stops.{off_row, first_with, IsFirst, IsFirstOf, AreFirsts, is_at_or_behind, row_after_stop}
+use Rattle.desk_fallback.specs.Stops.{off_row, first_with, IsFirst, IsFirstOf, AreFirsts, is_at_or_after, row_after_stop}
 use Rattle.desk_fallback.proofs.RowParts.{stopped_row}
 
 below_cases : (k n : ℕ) → k < suc n → (k < n) ⊎ (k ≡ n)
@@ -159,10 +159,10 @@ order_from x d y e late =
       | inr apart ↦ inr (order_apart x d y e late apart)
     ]
 
--- a leg that stands behind another is not earlier than what that is not earlier than
-late_behind : (y dy x dx s ds : ℕ) → is_earlier y dy s ds ≡ false → (dy < dx) ⊎ ((dy ≡ dx) × (y < x)) → is_earlier x dx s ds ≡ false
-late_behind y dy x dx s ds late (inl less) = grind (arith, nat_tests)
-late_behind y dy x dx s ds late (inr both) =
+-- a leg that comes after another is not earlier than what the other is not earlier than
+late_after : (y dy x dx s ds : ℕ) → is_earlier y dy s ds ≡ false → (dy < dx) ⊎ ((dy ≡ dx) × (y < x)) → is_earlier x dx s ds ≡ false
+late_after y dy x dx s ds late (inl less) = grind (arith, nat_tests)
+late_after y dy x dx s ds late (inr both) =
     let same = both.0 in
     let less = both.1 in
     grind (arith, nat_tests)
@@ -175,10 +175,10 @@ module _ (I : Situation) (P : PlanRows) (x : ℕ) (plane : Plane) (at : Minute) 
         | inr order ↦ inr (record { plane = plane.0; dep = stop.dep.0; later = at.0; first = on; second = own; order = order })
       ]
 
-  -- a leg behind the first stop is stopped
-  behind_stopped : (o : Option Stop) → IsFirstOf I P plane.0 (legs_of I) o → (not (fixed I x) && is_at_or_behind o x at.0) ≡ true → is_stopped I P x ≡ true
-  behind_stopped None h is = absurd (true≢false (sym (and_parts (not (fixed I x)) false is).1))
-  behind_stopped (Some stop) h is =
+  -- a leg after the first stop is stopped
+  after_stopped : (o : Option Stop) → IsFirstOf I P plane.0 (legs_of I) o → (not (fixed I x) && is_at_or_after o x at.0) ≡ true → is_stopped I P x ≡ true
+  after_stopped None h is = absurd (true≢false (sym (and_parts (not (fixed I x)) false is).1))
+  after_stopped (Some stop) h is =
       let parts = and_parts (not (fixed I x)) (not (is_earlier x at.0 stop.leg.0 stop.dep.0)) is in
       let on = off_of I P stop.leg.0 plane stop.dep h.row in
       let off = and_parts (not (fixed I stop.leg.0)) (ordered_off I stop.leg.0) on.0 in
@@ -211,15 +211,15 @@ module _ (I : Situation) (P : PlanRows) (x : ℕ) (plane : Plane) (at : Minute) 
 
   late_from : (y : ℕ) (dy s ds : ℕ) → ((y ≡ x) × (dy ≡ at.0)) ⊎ ((dy < at.0) ⊎ ((dy ≡ at.0) × (y < x))) → is_earlier y dy s ds ≡ false → is_earlier x at.0 s ds ≡ false
   late_from y dy s ds (inl both) late = subst (λ (d : ℕ). is_earlier x d s ds ≡ false) both.1 (subst (λ (k : ℕ). is_earlier k dy s ds ≡ false) both.0 late)
-  late_from y dy s ds (inr order) late = late_behind y dy x at.0 s ds late order
+  late_from y dy s ds (inr order) late = late_after y dy x at.0 s ds late order
 
-  -- a leg that is stopped stands behind the first stop
-  stopped_behind : (o : Option Stop) → IsFirstOf I P plane.0 (legs_of I) o → IsStopped I P x → is_at_or_behind o x at.0 ≡ true
-  stopped_behind None h is =
+  -- a leg that is stopped comes after the first stop
+  stopped_after : (o : Option Stop) → IsFirstOf I P plane.0 (legs_of I) o → IsStopped I P x → is_at_or_after o x at.0 ≡ true
+  stopped_after None h is =
       let cause = cause_of is.cause is.place in
       let off : is_movable_off I is.cause ≡ true = and_from (not (fixed I is.cause)) (ordered_off I is.cause) (not_from_false (fixed I is.cause) is.off_movable) is.off in
       absurd (not_both (is_flown_by plane.0 (off_row I P is.cause)) (flown_by plane cause.at_y (off_row I P is.cause) (off_row-is I P is.cause off ∙ cause.flown)) (h is.cause is.leg))
-  stopped_behind (Some stop) h is =
+  stopped_after (Some stop) h is =
       let y = is.cause in
       let cause = cause_of y is.place in
       let off : is_movable_off I y ≡ true = and_from (not (fixed I y)) (ordered_off I y) (not_from_false (fixed I y) is.off_movable) is.off in
@@ -228,12 +228,12 @@ module _ (I : Situation) (P : PlanRows) (x : ℕ) (plane : Plane) (at : Minute) 
       let own_late : is_earlier y cause.at_y.0 stop.leg.0 stop.dep.0 ≡ false = subst (λ (row : Row). is_earlier y (departure row) stop.leg.0 stop.dep.0 ≡ false) there late in
       not_from_false (is_earlier x at.0 stop.leg.0 stop.dep.0) (late_from y cause.at_y.0 stop.leg.0 stop.dep.0 cause.order own_late)
 
-  stops_alike : (o : Option Stop) → IsFirstOf I P plane.0 (legs_of I) o → (not (fixed I x) && is_at_or_behind o x at.0) ≡ is_stopped I P x
+  stops_alike : (o : Option Stop) → IsFirstOf I P plane.0 (legs_of I) o → (not (fixed I x) && is_at_or_after o x at.0) ≡ is_stopped I P x
   stops_alike o h =
-      same_tests (not (fixed I x) && is_at_or_behind o x at.0) (is_stopped I P x)
-      (behind_stopped o h)
+      same_tests (not (fixed I x) && is_at_or_after o x at.0) (is_stopped I P x)
+      (after_stopped o h)
       (λ is. let stopped = is_stopped-holds I P x is in
-      and_from (not (fixed I x)) (is_at_or_behind o x at.0) (not_from_false (fixed I x) stopped.movable) (stopped_behind o h stopped))
+      and_from (not (fixed I x)) (is_at_or_after o x at.0) (not_from_false (fixed I x) stopped.movable) (stopped_after o h stopped))
 
 cancelled_either : (b : Bool) → Cancelled ≡ cond b Cancelled Cancelled
 cancelled_either true = refl
@@ -250,7 +250,7 @@ row_after_stop-is I P firsts x within plan h = row_by I P firsts x (row_at P x) 
 pub row_after_stop-valid : (I : Situation) (firsts : List (Option Stop)) (x : ℕ) (row : Row) → IsRowOf (planes_of I) row → IsRowOf (planes_of I) (row_after_stop I firsts x row)
 row_after_stop-valid I firsts x Cancelled fits = tt
 row_after_stop-valid I firsts x (Flown plane at) fits =
-    elim (cases_Bool (not (fixed I x) && is_at_or_behind (get_or firsts plane.0 None) x at.0)) [
+    elim (cases_Bool (not (fixed I x) && is_at_or_after (get_or firsts plane.0 None) x at.0)) [
       | inl stops ↦ rw stops tt
       | inr other ↦ rw other fits
     ]

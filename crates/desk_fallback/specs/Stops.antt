@@ -34,13 +34,13 @@ pub record AreFirsts (I : Situation) (P : PlanRows) (n : ℕ) (firsts : List (Op
   pub planes : length firsts ≡ planes_of I
   pub each : (p : ℕ) → p < planes_of I → IsFirstOf I P p n (slice_index_or firsts p None)
 
--- whether leg x, departing at a moment, is a stop or comes behind it; with no stop none does
-abbrev pub is_at_or_behind : Option Stop → ℕ → ℕ → Bool
-is_at_or_behind None x at = false
-is_at_or_behind (Some stop) x at = not (is_earlier x at stop.leg.0 stop.dep.0)
+-- whether leg x, departing at a moment, is a stop or comes after it; with no stop none does
+abbrev pub is_at_or_after : Option Stop → ℕ → ℕ → Bool
+is_at_or_after None x at = false
+is_at_or_after (Some stop) x at = not (is_earlier x at stop.leg.0 stop.dep.0)
 
--- the row of leg x once it is cancelled if it is movable, and its aircraft's first stop or behind that
+-- the row of leg x once it is cancelled where it is movable, and is its aircraft's first stop or comes after that
 abbrev pub row_after_stop : Situation → List (Option Stop) → ℕ → Row → Row
 row_after_stop I firsts x (Flown plane dep) =
-    if not (fixed I x) && is_at_or_behind (slice_index_or firsts plane.0 None) x dep.0 then Cancelled else Flown plane dep
+    if not (fixed I x) && is_at_or_after (slice_index_or firsts plane.0 None) x dep.0 then Cancelled else Flown plane dep
 row_after_stop I firsts x Cancelled = Cancelled

@@ -6,7 +6,7 @@ ghost use Rattle.desk_data.specs.PlanRows.{row_at, with_row};
 ghost use Rattle.desk_data.specs.Situation.{fixed, legs_of, planes_of};
 ghost use Rattle.desk_data.specs.Valid.{IsPlanFor, IsRowOf};
 ghost use Rattle.desk_model.specs.Fallback.{cancelled, stopped};
-ghost use Rattle.desk_fallback.specs.Stops.{is_at_or_behind, row_after_stop};
+ghost use Rattle.desk_fallback.specs.Stops.{is_at_or_after, row_after_stop};
 
 use crate::firsts::{Stop, first_stops, is_earlier};
 use desk_data::{Instance, Leg, Minute, NoMem, Plan, Row};
@@ -62,7 +62,8 @@ fn stop_leg(inst: &Instance, plan: &mut Plan, firsts: &[Option<Stop>], leg: Leg)
     plan.put_row(leg, row_after_stop(inst, firsts, leg, row));
 }
 
-/// The row of a leg once it is cancelled if it is movable, and its aircraft's first stop or behind that.
+/// The row of a leg once it is cancelled where it is movable, and is its aircraft's first stop or comes after
+/// that.
 fn row_after_stop(inst: &Instance, firsts: &[Option<Stop>], leg: Leg, row: Row) -> Row
     requires leg { leg.0 < legs_of inst.now }
     requires planes { length firsts.now ≡ planes_of inst.now }
@@ -71,7 +72,7 @@ fn row_after_stop(inst: &Instance, firsts: &[Option<Stop>], leg: Leg, row: Row) 
 {
     match row {
         Row::Flown { plane, dep } => {
-            if !inst.fixed(leg) && is_at_or_behind(firsts[plane.0 as usize], leg, dep) {
+            if !inst.fixed(leg) && is_at_or_after(firsts[plane.0 as usize], leg, dep) {
                 Row::Cancelled
             } else {
                 row
@@ -81,9 +82,9 @@ fn row_after_stop(inst: &Instance, firsts: &[Option<Stop>], leg: Leg, row: Row) 
     }
 }
 
-/// Whether a leg is a stop or comes behind it, by departure and then by leg; with no stop none does.
-fn is_at_or_behind(first: Option<Stop>, leg: Leg, dep: Minute) -> bool
-    ensures { result ≡ is_at_or_behind first leg.0 dep.0 }
+/// Whether a leg is a stop or comes after it, by departure and then by leg; with no stop none does.
+fn is_at_or_after(first: Option<Stop>, leg: Leg, dep: Minute) -> bool
+    ensures { result ≡ is_at_or_after first leg.0 dep.0 }
 {
     match first {
         Some(stop) => !is_earlier(leg, dep, stop),

@@ -10,15 +10,22 @@ use crate::make::{grounded, shifted};
 use desk_data::{Instance, NoMem, Plan};
 use desk_model::{Fallback, Which};
 use full_check::full_check;
+use plan_pages::Pages;
 use std::alloc::Global;
 
 /// What the desk falls back on: the first that is feasible of the plan as it stands, Shift and Ground,
 /// with its name. Where none is, there is no plan: the rows are those of Ground, and the item is the
-/// first that they break. The rows are a valid plan either way. The plan is handed in, and copied once where it
-/// is not feasible. The only error is out of memory.
+/// first that they break. The rows are a valid plan either way. The plan is handed in, and its pages are lent:
+/// they are copied where Shift is not feasible either. The only error is out of memory.
 #[tactic(auto, unfolding(desk_model::specs::Fallback::fallback))]
-pub fn fallback(alloc: Global, inst: &Instance, plan: Plan) -> Result<Fallback, NoMem>
-    requires { IsPlanFor inst.now plan }
+pub fn fallback(
+    alloc: Global,
+    inst: &Instance,
+    plan: Plan,
+    pages: &Pages,
+) -> Result<Fallback, NoMem>
+    requires plan { IsPlanFor inst.now plan }
+    requires same { pages.now ≡ plan }
     ensures first { IfOk result (λ made. made ≡ fallback inst.now plan) }
     ensures valid { IfOk result (λ made. IsPlanFor inst.now (rows_of made)) }
 {
@@ -27,23 +34,30 @@ pub fn fallback(alloc: Global, inst: &Instance, plan: Plan) -> Result<Fallback, 
             which: Which::Keep,
             plan,
         }),
-        Some(_) => shift_or_ground(alloc, inst, plan),
+        Some(_) => shift_or_ground(alloc, inst, plan, pages),
     }
 }
 
-/// The choice where the plan as it stands is not feasible. Shift is made in a copy of it, and Ground in itself.
-fn shift_or_ground(alloc: Global, inst: &Instance, plan: Plan) -> Result<Fallback, NoMem>
-    requires { IsPlanFor inst.now plan }
+/// The choice where the plan as it stands is not feasible. Shift is made in the plan itself, and Ground in a copy
+/// of its pages.
+fn shift_or_ground(
+    alloc: Global,
+    inst: &Instance,
+    plan: Plan,
+    pages: &Pages,
+) -> Result<Fallback, NoMem>
+    requires plan { IsPlanFor inst.now plan }
+    requires same { pages.now ≡ plan }
     ensures made { IfOk result (λ made. made ≡ chosen_or Shift (shifted inst.now plan) (least inst.now (shifted inst.now plan)) (last_choice (grounded inst.now plan) (least inst.now (grounded inst.now plan)))) }
     ensures valid { IfOk result (λ made. IsPlanFor inst.now (rows_of made)) }
 {
-    let made = shifted(alloc, inst, plan.copy(alloc)?)?;
+    let made = shifted(alloc, inst, plan)?;
     match full_check(alloc, inst, &made)? {
         None => Ok(Fallback::Chosen {
             which: Which::Shift,
             plan: made,
         }),
-        Some(_) => ground_or_none(alloc, inst, plan),
+        Some(_) => ground_or_none(alloc, inst, pages.to_plan(alloc)?),
     }
 }
 

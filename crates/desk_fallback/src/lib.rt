@@ -1,14 +1,14 @@
 //! What the desk falls back on when a disruption arrives.
 //!
-//!     match fallback(alloc, &inst, plan)? {           // the instance with the disruption's orders
+//!     match fallback(alloc, &inst, plan, pages)? {    // the instance with the disruption's orders
 //!         Fallback::Chosen { which, plan } => ..,     // a plan that breaks no rule
 //!         Fallback::NoPlan { broken, plan } => ..,    // no plan: rows, and the first item that they break
 //!     }
 //!
 //! It tries the plan as it stands, then a Shift, then Ground. A Shift gives fixed legs the rows that they
 //! are due, cancels an aircraft's movable legs from the first on that is ordered off, pushes every aircraft
-//! and tidies. Ground cancels every movable leg and tidies. The plan is handed in: a Shift is made in a
-//! copy of it, and Ground in itself, so that a plan that stays as it is is not copied.
+//! and tidies. Ground cancels every movable leg and tidies. The plan is handed in, and a Shift is made in it; its
+//! pages are lent, and copied only for Ground.
 //!
 //! Proved: the answer is `fallback` of desk_model, and its rows are a valid plan. The legs are walked once
 //! to settle and to cancel; Push is `plan_push`, Tidy is `plan_groups`, and `full_check` judges. The types

@@ -16,21 +16,21 @@ use Rattle.std.specs.Io.KnownBytes.{ReadConsumes}
 abbrev pub OthersStay : File → List ℕ → List ℕ → Type 0
 OthersStay file before now = (f : File) → f ≢ file → slice_index now (file_number f) ≡ slice_index before (file_number f)
 
-reads-untold : (answer : Result ℕ FolderFault) (buffer : List ℕ) → ReadConsumes None None answer buffer
-reads-untold (Ok n) buffer = (tt, λ _ _. tt)
-reads-untold (Err fault) buffer = tt
+reads-unshown : (answer : Result ℕ FolderFault) (buffer : List ℕ) → ReadConsumes None None answer buffer
+reads-unshown (Ok n) buffer = (tt, λ _ _. tt)
+reads-unshown (Err fault) buffer = tt
 
-puts-untold : (answer : Result ℕ FolderFault) (piece : List ℕ) → PutAppends None None piece answer
-puts-untold (Ok n) piece = tt
-puts-untold (Err Failed) piece = (0, tt)
-puts-untold (Err Memory) piece = tt
+puts-unshown : (answer : Result ℕ FolderFault) (piece : List ℕ) → PutAppends None None piece answer
+puts-unshown (Ok n) piece = tt
+puts-unshown (Err Failed) piece = (0, tt)
+puts-unshown (Err Memory) piece = tt
 
-pub Takes-untold : (named : Directories) (next nexts put : List ℕ) (file : File) (buffer : List ℕ) (answer : Result ℕ FolderFault) → ReadsAtMost answer buffer
+pub Takes-unshown : (named : Directories) (next nexts put : List ℕ) (file : File) (buffer : List ℕ) (answer : Result ℕ FolderFault) → ReadsAtMost answer buffer
     → Counts (slice_index next (file_number file)) (slice_index nexts (file_number file)) answer → OthersStay file next nexts
     → Takes (host_outside (record { directories = named; next = next; put = put })) (host_outside (record { directories = named; next = nexts; put = put })) file buffer answer
-Takes-untold named next nexts put file buffer answer fits faults others = record {
+Takes-unshown named next nexts put file buffer answer fits faults others = record {
   fits = fits;
-  bytes = reads-untold answer buffer;
+  bytes = reads-unshown answer buffer;
   faults = faults;
   others = record {
     directories = refl;
@@ -42,12 +42,12 @@ Takes-untold named next nexts put file buffer answer fits faults others = record
   };
 }
 
-pub Puts-untold : (named : Directories) (next put puts : List ℕ) (file : File) (piece : List ℕ) (answer : Result ℕ FolderFault) → IfOk answer (λ n. (0 < n) × (n ≤ length piece))
+pub Puts-unshown : (named : Directories) (next put puts : List ℕ) (file : File) (piece : List ℕ) (answer : Result ℕ FolderFault) → IfOk answer (λ n. (0 < n) × (n ≤ length piece))
     → Counts (slice_index put (file_number file)) (slice_index puts (file_number file)) answer → OthersStay file put puts
     → Puts (host_outside (record { directories = named; next = next; put = put })) (host_outside (record { directories = named; next = next; put = puts })) file piece answer
-Puts-untold named next put puts file piece answer count faults others = record {
+Puts-unshown named next put puts file piece answer count faults others = record {
   count = count;
-  bytes = puts-untold answer piece;
+  bytes = puts-unshown answer piece;
   faults = faults;
   others = record {
     directories = refl;
@@ -59,9 +59,9 @@ Puts-untold named next put puts file piece answer count faults others = record {
   };
 }
 
-pub Places-untold : (was : Directories) (i o input output next put : List ℕ) → i ≡ input → o ≡ output
+pub Places-unshown : (was : Directories) (i o input output next put : List ℕ) → i ≡ input → o ≡ output
     → Places (host_outside (record { directories = was; next = next; put = put })) (host_outside (record { directories = record { input = i; output = o }; next = next; put = put })) input output (Ok tt)
-Places-untold was i o input output next put i_is o_is = record {
+Places-unshown was i o input output next put i_is o_is = record {
   names = rw (i_is, o_is) refl;
   faults = record { kept = omega arith; rose = λ e. absurd (cc) };
   others = record { left = λ f. refl; written = λ f. refl; next_faults = λ f. refl; put_faults = λ f. refl };

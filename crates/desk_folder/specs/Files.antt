@@ -53,12 +53,12 @@ may_be_missing Feed = true
 may_be_missing Journal = true
 may_be_missing _ = false
 
--- the files that tell a day and its disruptions, in file order
+-- the files that give a day and its disruptions, in file order
 abbrev pub day_files : List File
 day_files =
     Config ∷ Flights ∷ Rotations ∷ Aircraft ∷ Airports ∷ Dist ∷ Itineraries ∷ Position
     ∷ AltFlights ∷ AltAircraft ∷ AltAirports ∷ Tariff ∷ Feed ∷ []
 
--- and those that tell a plan
+-- and those that give a plan
 abbrev pub plan_files : List File
 plan_files = SolRotations ∷ SolItineraries ∷ []

@@ -1,4 +1,4 @@
--- What the host's folder and sink tell of themselves: the directories, their counts of faults, and no bytes.
+-- What the host's folder and sink show of themselves: the directories, their counts of faults, and no bytes.
 use Rattle.std.specs.Prelude.{◌≡◌, ℕ, List, [], Some, None, slice_index}
 use Rattle.desk_folder.specs.Files.{file_number}
 use Rattle.desk_folder.specs.Outside.{Directories, Outside, SinkSide}
@@ -10,7 +10,7 @@ pub record HostSide : Type 0 where
   pub next : List ℕ
   pub put : List ℕ
 
--- the directories and the counts are told, and no bytes; naming directories never fails
+-- the directories and the counts are shown, and no bytes; naming directories never fails
 abbrev pub host_outside : HostSide → Outside
 host_outside h = record {
   directories = Some h.directories;
@@ -21,11 +21,11 @@ host_outside h = record {
   put_faults = λ file. slice_index h.put (file_number file);
 }
 
--- the count of a sink is told, and nothing else
+-- the count of a sink is shown, and nothing else
 abbrev pub faults_alone : ℕ → SinkSide
 faults_alone faults = record { written = None; faults = faults }
 
--- no directory is named, nothing is told of bytes, and no call has failed
+-- no directory is named, nothing is shown of bytes, and no call has failed
 pub record TellsNoBytes (now : Outside) : Type 0 where
   pub directories : now.directories ≡ Some (record { input = []; output = [] })
   pub left : (file : File) → now.left file ≡ None

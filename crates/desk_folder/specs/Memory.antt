@@ -1,4 +1,4 @@
--- What a folder in memory tells of itself.
+-- What a folder in memory shows of itself.
 use Rattle.std.specs.Prelude.{◌≡◌, ℕ, ◌+◌, ◌-◌, ◌^◌, ◌==◌, min, Bool, List, [], Some, drop, slice_index}
 use Rattle.std.specs.List.{list_any}
 use Rattle.desk_folder.specs.Entries.{entry_of, text_at}
@@ -27,7 +27,7 @@ pub record MemoryFolder : Type 0 where
   pub put_faults : List ℕ
   pub calls : CallPlan
 
--- a folder in memory tells all
+-- a folder in memory shows all
 abbrev pub memory_outside : MemoryFolder → Outside
 memory_outside m = record {
   directories = Some m.directories;

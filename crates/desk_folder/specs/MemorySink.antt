@@ -1,4 +1,4 @@
--- What a sink in memory tells of itself.
+-- What a sink in memory shows of itself.
 use Rattle.std.specs.Prelude.{ℕ, ◌+◌, ◌-◌, ◌^◌, ◌==◌, min, Bool, List, Some}
 use Rattle.std.specs.List.{list_any}
 use Rattle.desk_folder.specs.Outside.{SinkSide}
@@ -10,7 +10,7 @@ pub record MemorySink : Type 0 where
   pub calls : ℕ
   pub fail_put : List ℕ
 
--- a sink in memory tells all
+-- a sink in memory shows all
 abbrev pub sink_side : MemorySink → SinkSide
 sink_side s = record { written = Some s.written; faults = s.faults }
 

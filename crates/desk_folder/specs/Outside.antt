@@ -1,4 +1,4 @@
--- What a folder and a sink tell of themselves. `None` says that it isn't told, as by the host's own.
+-- What a folder and a sink show of themselves. `None` says that it isn't shown, as by the host's own.
 use Rattle.std.specs.Prelude.{◌≡◌, ◌≢◌, ℕ, List, Option}
 use Rattle.desk_folder.specs.declared.files.File.{File}
 

@@ -45,7 +45,7 @@ pub enum File {
 /// How many files there are.
 pub const FILES: usize = 16;
 
-// The files that tell a day and its disruptions, in file order, and these behind them.
+// The files that give a day and its disruptions, in file order, and these after them.
 macro_rules! day_files_and {
     ($($more:expr),*) => {
         [
@@ -67,7 +67,7 @@ macro_rules! day_files_and {
     };
 }
 
-/// The files that tell a day and its disruptions, in file order.
+/// The files that give a day and its disruptions, in file order.
 pub const DAY_FILES: [File; 13] = day_files_and!();
 
 /// These and the journal.
@@ -84,7 +84,7 @@ pub const ALL_FILES: [File; FILES] = day_files_and!(
 );
 
 /// The lists of the code are those of the definitions.
-pub fn day_files_are_told()
+pub fn day_files_are_as_defined()
     ensures day { DAY_FILES ≡ day_files }
     ensures with_journal { DAY_AND_JOURNAL ≡ day_files ++ file.Journal ∷ [] }
     ensures with_plan { DAY_AND_PLAN ≡ day_files ++ plan_files }

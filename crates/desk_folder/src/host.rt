@@ -1,4 +1,4 @@
-//! The host's own folder and standard output. They tell no bytes: what the host does with a call is
+//! The host's own folder and standard output. They show no bytes: what the host does with a call is
 //! trusted, and the contracts speak of the directories and of counts alone.
 ghost use Rattle.std.specs.Prelude.{◌≡◌, ◌≢◌, length, slice_index, if◌then◌else◌};
 ghost use Rattle.desk_folder.specs.Calls.{Counts, CountsFailure};
@@ -20,7 +20,7 @@ use std::rt::Files;
 /// What an earlier run left in the outputs of this one (`with_outputs`) goes, so that nobody takes it for
 /// what this run wrote: the first `put` into a file, before it writes, and `settle` at the end empty each
 /// output that this run has not begun and has not read from there. All other files stay as they are. Where
-/// an output can't be emptied, no `put` into another file fails for that, and `settle` tells it.
+/// an output can't be emptied, no `put` into another file fails for that, and `settle` reports it.
 pub struct HostFolder<R: Files + Drop> {
     rt: R,
     input: String,
@@ -91,7 +91,7 @@ impl<R: Files + Drop> HostFolder<R> {
 
     /// For the end of a run that was not refused: empties what an earlier run left in a file, if that is an
     /// output that this run has not begun, and answers whether nothing is left. It makes no file and no
-    /// directory. The directories and counts that the folder tells stay as they were.
+    /// directory. The directories and counts that the folder shows stay as they were.
     pub fn settle(&mut self, alloc: Global, file: File) -> bool
         ensures told { host_outside self.new ≡ host_outside self.old }
     {
@@ -113,7 +113,7 @@ impl<R: Files + Drop> HostFolder<R> {
         !self.is_left_over(file) || empty(&self.rt, alloc, self.output.as_str(), file)
     }
 
-    // Empties all outputs that an earlier run left but one. Where one can't be emptied, `settle` tells it.
+    // Empties all outputs that an earlier run left but one. Where one can't be emptied, `settle` reports it.
     fn empty_others(&self, alloc: Global, file: File) {
         for other in ALL_FILES {
             if other != file {

@@ -3,15 +3,15 @@
 //!
 //! `Folder` names two directories (`place`), reads the next bytes of a file (`next`) and writes to one
 //! (`put`); `Sink` takes the report. `File` has the 16 files in their order. A contract sees a folder as
-//! what it tells: the directories, the bytes left and written of each file, and how often each kind of
+//! what it shows: the directories, the bytes left and written of each file, and how often each kind of
 //! call has failed. An answer `Failed` comes only where that count rose in the call.
 //!
-//!     let mut folder = MemFolder::new(inputs, fail_next, fail_put);   // tells all its bytes
-//!     let mut folder = HostFolder::with_outputs(..);                  // the host's, tells none
+//!     let mut folder = MemFolder::new(inputs, fail_next, fail_put);   // shows all its bytes
+//!     let mut folder = HostFolder::with_outputs(..);                  // the host's, shows none
 //!
-//! `MemFolder` and `MemSink` stand in for the outside in tests, and fail the calls that they are told.
-//! `HostFolder` and `HostSink` are the trusted edge: their contracts tell the directories and count
-//! faults, and what a disk does is taken on trust. It stands on no crate of the desk.
+//! `MemFolder` and `MemSink` stand in for the outside in tests, and fail the calls that they are asked to fail.
+//! `HostFolder` and `HostSink` are the trusted edge: their contracts speak of the directories and count
+//! faults, and what a disk does is taken on trust. It depends on no crate of the desk.
 #![tactic(auto)]
 
 mod entries;
@@ -25,7 +25,7 @@ mod traits;
 
 pub use faults::FolderFault;
 pub use files::{
-    ALL_FILES, DAY_AND_JOURNAL, DAY_AND_PLAN, DAY_FILES, FILES, File, day_files_are_told,
+    ALL_FILES, DAY_AND_JOURNAL, DAY_AND_PLAN, DAY_FILES, FILES, File, day_files_are_as_defined,
 };
 pub use host::{HostFolder, HostSink};
 pub use memory::MemFolder;

@@ -1,12 +1,12 @@
-//! A folder in memory, for tests: it tells all, and fails the calls that it is told to.
+//! A folder in memory, for tests: it shows all, and fails the calls that it is asked to.
 use crate::entries::{append, entry, hand_out, raise, text};
 use crate::{FILES, File, Folder, FolderFault};
 use std::alloc::Global;
 use std::marker::Model;
 
-/// A folder in memory. It tells its directories, what is left and what is written, takes each piece
+/// A folder in memory. It shows its directories, what is left and what is written, takes each piece
 /// whole, and fails the calls of `next` and `put` with the numbers that it was given, counted from 1
-/// over all files, and the call of `place` behind each `fail_place`. A call that fails names, takes and
+/// over all files, and the call of `place` after each `fail_place`. A call that fails names, takes and
 /// writes nothing.
 pub struct MemFolder {
     inputs: Vec<(File, Vec<u8>)>,

@@ -1,9 +1,9 @@
-//! A sink in memory, for tests: it tells all, and fails the calls that it is told to.
+//! A sink in memory, for tests: it shows all, and fails the calls that it is asked to.
 use crate::{FolderFault, Sink};
 use std::alloc::Global;
 use std::marker::Model;
 
-/// A sink in memory. It tells what is written, takes each piece whole, and fails the calls of `put` with
+/// A sink in memory. It shows what is written, takes each piece whole, and fails the calls of `put` with
 /// the numbers that it was given, counted from 1. A call that fails writes nothing.
 pub struct MemSink {
     bytes: Vec<u8>,

@@ -10,7 +10,7 @@ use std::alloc::Global;
 /// solution files are read from the output directory, all others from the input directory, and all
 /// writes go to the output directory. Each call answers `Failed` only where its count of faults rose.
 pub trait Folder {
-    // What the folder tells of itself, and its counts of faults.
+    // What the folder shows of itself, and its counts of faults.
     ghost outside: { Self → Outside };
 
     /// Names the two directories. Whatever it answers, it changes no bytes.
@@ -32,7 +32,7 @@ pub trait Folder {
 
 /// Where the report is written.
 pub trait Sink {
-    // What the sink tells of itself, and its count of faults.
+    // What the sink shows of itself, and its count of faults.
     ghost report: { Self → SinkSide };
 
     /// Writes a prefix of `piece` of at least one byte, and answers its length. After `Failed` a

@@ -2,7 +2,7 @@
 use Rattle.std.proofs.Common.{◌≡◌, ℕ, zero, suc, ◌+◌, List, arith, ap, sym, ◌∙◌, refl}
 use Rattle.desk_gen.specs.Draws.{next_state, state_after}
 
--- words behind words
+-- words after words
 after_more : (state : List ℕ) (a b : ℕ) → state_after state (a + b) ≡ state_after (state_after state a) b
 unfolding state_after
 after_more state a zero = ap (state_after state) (let e : a + 0 ≡ a = omega arith in e)

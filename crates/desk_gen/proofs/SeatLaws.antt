@@ -93,9 +93,9 @@ all_left size rows legs each = record {
   each = λ x within. each x within ∙ same_seats (plane_seats (x / 4)) (seats_left [] x) (sym (left_at_first cabin.F x)) (sym (left_at_first cabin.B x)) (sym (left_at_first cabin.E x));
 }
 
--- the row of a table behind seats that were taken on one leg
-row_behind : (rows : List Seats) (c : Cabin) (count x y : ℕ) → x < length rows → row_at (row_without rows c count x) y ≡ fewer_if (eqb x y) (row_at rows y) c count
-row_behind rows c count x y within = elim (eqb_tells x y) [
+-- the row of a table after seats that were taken on one leg
+row_after : (rows : List Seats) (c : Cabin) (count x y : ℕ) → x < length rows → row_at (row_without rows c count x) y ≡ fewer_if (eqb x y) (row_at rows y) c count
+row_after rows c count x y within = elim (eqb_tells x y) [
   | inl same ↦ get_or-set_at rows x y (fewer (row_at rows x) c count) no_seats (sym same.1) within
       ∙ ap (λ k. fewer (row_at rows k) c count) same.1
       ∙ ap (λ hit. fewer_if hit (row_at rows y) c count) (sym same.0)
@@ -110,15 +110,15 @@ either true false s c count never = refl
 either false true s c count never = refl
 either false false s c count never = refl
 
-trip_behind : (rows : List Seats) (c : Cabin) (count : ℕ) (trip : Trip) (y : ℕ) → IsTripWithin (length rows) trip → row_at (trip_without rows c count trip) y ≡ fewer_if (has_leg trip y) (row_at rows y) c count
-trip_behind rows c count (One x) y within = row_behind rows c count x y within
-trip_behind rows c count (Two first second) y within =
+trip_after : (rows : List Seats) (c : Cabin) (count : ℕ) (trip : Trip) (y : ℕ) → IsTripWithin (length rows) trip → row_at (trip_without rows c count trip) y ≡ fewer_if (has_leg trip y) (row_at rows y) c count
+trip_after rows c count (One x) y within = row_after rows c count x y within
+trip_after rows c count (Two first second) y within =
     let middle = row_without rows c count first in
     let more : second < length middle = rw (length-set rows first (fewer (row_at rows first) c count)) within.1 in
     let apart : eqb first y ≡ true → eqb second y ≡ true → ⊥ = λ a b. let p : first ≡ y = eqb-true first y a in let q : second ≡ y = eqb-true second y b in omega (arith, within.0) in
     let one : first < length rows = omega (arith, within.0, within.1) in
-    row_behind middle c count second y more
-    ∙ ap (λ s. fewer_if (eqb second y) s c count) (row_behind rows c count first y one)
+    row_after middle c count second y more
+    ∙ ap (λ s. fewer_if (eqb second y) s c count) (row_after rows c count first y one)
     ∙ either (eqb first y) (eqb second y) (row_at rows y) c count apart
 
 trip_length : (rows : List Seats) (c : Cabin) (count : ℕ) (trip : Trip) → length (trip_without rows c count trip) ≡ length rows
@@ -126,12 +126,12 @@ trip_length rows c count (One x) = length-set rows x (fewer (row_at rows x) c co
 trip_length rows c count (Two x y) =
     length-set (row_without rows c count x) y (fewer (row_at (row_without rows c count x) y) c count) ∙ length-set rows x (fewer (row_at rows x) c count)
 
--- a table behind one line more
+-- a table after one line more
 pub left_behind : (size : ℕ) (lines : List Line) (rows : List Seats) (request : Request) (count : ℕ) → AreLeft size lines rows → IsTripWithin (length rows) request.trip → AreLeft size (lines ++ line_of request count ∷ []) (rows_without rows request count)
 left_behind size lines rows request count h within = record {
   legs = trip_length rows request.cabin count request.trip ∙ h.legs;
   each = λ x less.
-      trip_behind rows request.cabin count request.trip x within
+      trip_after rows request.cabin count request.trip x within
       ∙ ap (λ s. fewer_if (has_leg request.trip x) s request.cabin count) (h.each x less)
       ∙ sym (seats_left_more lines request count x);
 }
@@ -157,7 +157,7 @@ some_line : (lines : List Line) (request : Request) (n : ℕ) → n ≡ granted 
 unfolding with_request
 some_line lines request n e = ap (λ m. if eqb m 0 then lines else lines ++ line_of request m ∷ []) (sym e)
 
--- a table behind one reservation more
+-- a table after one reservation more
 pub left_served : (size : ℕ) (lines : List Line) (rows : List Seats) (request : Request) → AreLeft size lines rows → IsTripWithin (length rows) request.trip → AreLeft size (with_request lines request) (rows_served rows request)
 left_served size lines rows request h within =
     let n = granted_by rows request in

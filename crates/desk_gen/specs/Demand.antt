@@ -39,13 +39,13 @@ request_at state size j =
       cabin = cabin_of plane (draw state 4 5);
     }
 
--- the state behind the draws of all tours, three of each aircraft
-abbrev pub behind_tours : ℕ → ℕ → List ℕ
-behind_tours seed size = state_after (seeded seed) (3 * planes_of size)
+-- the state after the draws of all tours, three of each aircraft
+abbrev pub after_tours : ℕ → ℕ → List ℕ
+after_tours seed size = state_after (seeded seed) (3 * planes_of size)
 
--- what each reservation asks for, in their order: their draws come behind those of all tours
+-- what each reservation asks for, in their order: their draws come after those of all tours
 abbrev pub request_of : ℕ → ℕ → ℕ → Request
-request_of seed size j = request_at (state_after (behind_tours seed size) (5 * j)) size j
+request_of seed size j = request_at (state_after (after_tours seed size) (5 * j)) size j
 
 -- the legs of a trip
 abbrev pub trip_legs : Trip → List ℕ
@@ -90,7 +90,7 @@ unfoldable pub lines_of : ℕ → ℕ → ℕ → List Line
 lines_of seed size zero = []
 lines_of seed size (suc j) = with_request (lines_of seed size j) (request_of seed size j)
 
--- FLIGHT DATE CABIN of a leg, behind a space
+-- FLIGHT DATE CABIN of a leg, after a space
 abbrev pub seat_text : Cabin → ℕ → List ℕ
 seat_text cabin x = codes " " ++ flight_name x ++ codes " 01/03/08 " ++ cabin_text cabin
 

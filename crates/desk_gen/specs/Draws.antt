@@ -3,7 +3,7 @@ use Rattle.std.specs.Prelude.{ℕ, zero, suc, ◌%◌, List, [], ◌∷◌, ◌+
 use Rattle.rand_xoshiro.specs.SplitMix64.{splitmix_seed}
 use Rattle.rand_xoshiro.specs.Xoshiro256.{plus_plus, of_seed}
 
--- a state of the generator is a list of four words; it gives one word, and the state behind it
+-- a state of the generator is a list of four words; it gives one word, and the state after it
 unfoldable pub word_of : List ℕ → ℕ
 word_of state = (plus_plus state).0
 
@@ -14,7 +14,7 @@ next_state state = (plus_plus state).1
 unfoldable pub seeded : ℕ → List ℕ
 seeded seed = of_seed (splitmix_seed 32 seed)
 
--- the state behind so many words
+-- the state after so many words
 unfoldable pub state_after : List ℕ → ℕ → List ℕ
 state_after state zero = state
 state_after state (suc k) = next_state (state_after state k)

@@ -2,8 +2,8 @@
 use Rattle.std.specs.Prelude.{ℕ, Bool, ◌+◌, ◌*◌, ◌%◌, ◌==◌, if◌then◌else◌, List, ◌++◌, flat_map, codes, decimal}
 use Rattle.desk_units.specs.declared.numbers.Cabin.{Cabin}
 use Rattle.desk_units.specs.declared.numbers.Cabin.TheVariants as cabin
-use Rattle.desk_gen.specs.declared.fleet.Kind.{Kind}
-use Rattle.desk_gen.specs.declared.fleet.Kind.TheVariants.{Bus, Large, Small}
+use Rattle.desk_gen.specs.declared.fleet.Vehicle.{Vehicle}
+use Rattle.desk_gen.specs.declared.fleet.Vehicle.TheVariants.{Bus, Large, Small}
 use Rattle.desk_gen.specs.Draws.{numbers}
 
 -- how many aircraft there are
@@ -15,11 +15,11 @@ abbrev pub is_bus : ℕ → Bool
 is_bus plane = plane % 6 == 5
 
 -- of the others those with even numbers are large
-abbrev pub kind_of : ℕ → Kind
+abbrev pub kind_of : ℕ → Vehicle
 kind_of plane = if is_bus plane then Bus else (if plane % 2 == 0 then Large else Small)
 
 -- the seats of a cabin: those that the text of the kind says
-abbrev pub seats_of : Kind → Cabin → ℕ
+abbrev pub seats_of : Vehicle → Cabin → ℕ
 seats_of Bus cabin.E = 50
 seats_of Large cabin.B = 20
 seats_of Large cabin.E = 100
@@ -28,7 +28,7 @@ seats_of Small cabin.E = 80
 seats_of kind cabin = 0
 
 -- MODEL FAMILY SEATS RANGE COST TURN TRANSIT ORIGIN MAINTENANCE of a kind
-abbrev pub kind_text : Kind → List ℕ
+abbrev pub kind_text : Vehicle → List ℕ
 kind_text Bus = codes "BUS SURFACE 0/0/50 600 40 30 20 HUB NULL"
 kind_text Large = codes "M1 NARROW 0/20/100 600 1000 30 20 HUB NULL"
 kind_text Small = codes "M1 NARROW 0/12/80 600 900 30 20 HUB NULL"

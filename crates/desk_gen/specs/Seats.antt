@@ -68,7 +68,7 @@ trip_without rows cabin count (Two x y) = row_without (row_without rows cabin co
 abbrev pub rows_without : List Seats → Request → ℕ → List Seats
 rows_without rows request count = trip_without rows request.cabin count request.trip
 
--- a table behind a reservation that got seats, as far as there are some, and its line where it got any
+-- a table after a reservation that got seats, as far as there are some, and its line where it got any
 abbrev pub rows_served : List Seats → Request → List Seats
 rows_served rows request = if granted_by rows request == 0 then rows else rows_without rows request (granted_by rows request)
 

@@ -2,7 +2,7 @@
 
 ghost use Rattle.std.specs.Prelude.{◌≡◌, ◌<◌, ◌≤◌, ◌*◌, ◌+◌};
 ghost use Rattle.desk_gen.specs.Draws.{state_after};
-ghost use Rattle.desk_gen.specs.Demand.{trip_of, cabin_of, request_at, behind_tours};
+ghost use Rattle.desk_gen.specs.Demand.{trip_of, cabin_of, request_at, after_tours};
 ghost use Rattle.desk_gen.specs.Seats.{IsTripWithin};
 
 use crate::draws::{draw, seeded};
@@ -55,11 +55,11 @@ fn cabin_of(plane: u32, luck: u32) -> Cabin
     }
 }
 
-/// The generator behind the draws of all tours of a day of this seed and size, 1 to 40.
+/// The generator after the draws of all tours of a day of this seed and size, 1 to 40.
 #[tactic(auto, unfolding(crate::specs::Draws::state_after))]
-pub(crate) fn behind_tours(seed: u32, size: u32) -> Xoshiro256PlusPlus
+pub(crate) fn after_tours(seed: u32, size: u32) -> Xoshiro256PlusPlus
     requires { size ≤ 40 }
-    ensures { result ≡ behind_tours seed size }
+    ensures { result ≡ after_tours seed size }
 {
     let mut words = seeded(seed);
     for _ in 0..18 * size {

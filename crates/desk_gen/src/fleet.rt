@@ -10,7 +10,7 @@ use std::alloc::Global;
 
 /// The kinds of aircraft: surface transport, and two kinds that fly.
 #[derive(Clone, Copy, Debug, PartialEq, Eq)]
-pub enum Kind {
+pub enum Vehicle {
     Bus,
     Large,
     Small,
@@ -24,40 +24,40 @@ pub(crate) fn is_bus(plane: u32) -> bool
 }
 
 /// The kind of an aircraft.
-pub(crate) fn kind_of(plane: u32) -> Kind
+pub(crate) fn kind_of(plane: u32) -> Vehicle
     ensures { result ≡ kind_of plane }
 {
     if is_bus(plane) {
-        Kind::Bus
+        Vehicle::Bus
     } else if plane % 2 == 0 {
-        Kind::Large
+        Vehicle::Large
     } else {
-        Kind::Small
+        Vehicle::Small
     }
 }
 
 /// The seats of a kind in a cabin, 0 to 100.
-pub(crate) fn seats_of(kind: Kind, cabin: Cabin) -> u32
+pub(crate) fn seats_of(kind: Vehicle, cabin: Cabin) -> u32
     ensures { result ≡ seats_of kind cabin }
 {
     match (kind, cabin) {
-        (Kind::Bus, Cabin::E) => 50,
-        (Kind::Large, Cabin::B) => 20,
-        (Kind::Large, Cabin::E) => 100,
-        (Kind::Small, Cabin::B) => 12,
-        (Kind::Small, Cabin::E) => 80,
+        (Vehicle::Bus, Cabin::E) => 50,
+        (Vehicle::Large, Cabin::B) => 20,
+        (Vehicle::Large, Cabin::E) => 100,
+        (Vehicle::Small, Cabin::B) => 12,
+        (Vehicle::Small, Cabin::E) => 80,
         _ => 0,
     }
 }
 
-// What a line says of an aircraft behind its name.
-fn kind_text(kind: Kind) -> &'static [u8]
+// What a line says of an aircraft after its name.
+fn kind_text(kind: Vehicle) -> &'static [u8]
     ensures { result.now ≡ kind_text kind }
 {
     match kind {
-        Kind::Bus => b"BUS SURFACE 0/0/50 600 40 30 20 HUB NULL",
-        Kind::Large => b"M1 NARROW 0/20/100 600 1000 30 20 HUB NULL",
-        Kind::Small => b"M1 NARROW 0/12/80 600 900 30 20 HUB NULL",
+        Vehicle::Bus => b"BUS SURFACE 0/0/50 600 40 30 20 HUB NULL",
+        Vehicle::Large => b"M1 NARROW 0/20/100 600 1000 30 20 HUB NULL",
+        Vehicle::Small => b"M1 NARROW 0/12/80 600 900 30 20 HUB NULL",
     }
 }
 

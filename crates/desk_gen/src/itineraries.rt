@@ -7,7 +7,7 @@ ghost use Rattle.desk_gen.specs.Demand.{seat_text, trip_legs, itinerary_line, it
 ghost use Rattle.desk_gen.specs.Seats.{IsTripWithin, rows_served, text_served};
 ghost use Rattle.desk_gen.specs.Generated.{IsSize};
 
-use crate::demand::{Request, Trip, behind_tours, next_request};
+use crate::demand::{Request, Trip, after_tours, next_request};
 use crate::seats::{all_seats, granted, take};
 use desk_text::{cabin_letter, push_all};
 use desk_units::{Cabin, NoMem, Seats};
@@ -21,7 +21,7 @@ pub(crate) fn itineraries_text(alloc: Global, seed: u32, size: u32) -> Result<Ve
     requires { IsSize size }
     ensures { IfOk result (λ text. text.items ≡ itineraries_text seed size) }
 {
-    let mut words = behind_tours(seed, size);
+    let mut words = after_tours(seed, size);
     let mut rows = all_seats(alloc, size)?;
     let mut text = Vec::new(alloc);
     for number in 0..40 * size {
@@ -84,7 +84,7 @@ fn push_trip(text: &mut Vec<u8>, trip: Trip, cabin: Cabin) -> Result<(), NoMem>
     }
 }
 
-/// Adds a leg and a cabin, behind a space.
+/// Adds a leg and a cabin, after a space.
 fn push_seat(text: &mut Vec<u8>, x: u32, cabin: Cabin) -> Result<(), NoMem>
     ensures { OnOk result (text.new.items ≡ text.old.items ++ seat_text cabin x) }
 {

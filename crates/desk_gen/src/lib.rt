@@ -7,7 +7,7 @@
 //! drawn from the words of `Xoshiro256PlusPlus` of `rand_xoshiro`, in one order: three for each aircraft,
 //! then five for each reservation.
 //!
-//! Proved: the texts are those of the definition in `specs/`, text by text. It stands on `desk_folder`
+//! Proved: the texts are those of the definition in `specs/`, text by text. It depends on `desk_folder`
 //! for the files and on `desk_text` for the texts of times.
 #![tactic(auto)]
 

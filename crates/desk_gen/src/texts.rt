@@ -17,7 +17,7 @@ const TARIFF: &str = "surface,SURFACE\ndelay,D,E,10\ndelay,D,B,20\ndelay,C,E,12\
     downgrade,D,B,E,100\ndowngrade,C,B,E,150\ncare,D,120,20\ncare,C,180,30\n\
     compensation,D,none,250\ncompensation,C,none,400\nposition,500\n";
 
-/// The text of a file of a day of this seed and size; files behind the feed are empty. The only error
+/// The text of a file of a day of this seed and size; files after the feed are empty. The only error
 /// is out of memory.
 pub(crate) fn text_of(alloc: Global, seed: u32, size: u32, file: File) -> Result<Vec<u8>, NoMem>
     requires { IsSize size }

@@ -8,8 +8,8 @@ use Rattle.desk_data.specs.Situation.{Situation}
 use Rattle.desk_data.specs.PlanRows.{PlanRows}
 use Rattle.desk_rules.specs.Least.{least}
 use Rattle.desk_rules.specs.Cost.{cost, grains}
-use Rattle.journal_text.specs.Told.{Names}
-use Rattle.journal_text.proofs.Told.{least-names}
+use Rattle.journal_text.specs.Writable.{Names}
+use Rattle.journal_text.proofs.WritableLaws.{least-names}
 use Rattle.desk_runs.specs.declared.ending.Ending.{Ending}
 use Rattle.desk_runs.specs.Outcome.{Texts}
 use Rattle.desk_runs.specs.Runs.{World}

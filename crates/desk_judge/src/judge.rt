@@ -2,7 +2,7 @@
 
 ghost use Rattle.std.specs.Prelude.{◌≡◌, ◌++◌, [], IfOk, IfSome, OnOk};
 ghost use Rattle.desk_data.specs.Valid.{IsPlanFor};
-ghost use Rattle.journal_text.specs.Told.{Names};
+ghost use Rattle.journal_text.specs.Writable.{Names};
 ghost use Rattle.desk_tasks.specs.Judge.{verdict_text, verdict_report, verdict_end, verdict};
 ghost use Rattle.desk_runs.specs.Runs.{Between};
 ghost use Rattle.desk_runs.specs.Finishing.{Completes};
@@ -15,7 +15,7 @@ use full_cost::full_cost;
 use journal_text::push_broken;
 use std::alloc::Global;
 
-// How a run ends that told its verdict.
+// How a run ends that reported its verdict.
 fn end_with(broken: Option<Broken>) -> Ending
     ensures { result ≡ verdict_end broken }
 {
@@ -61,10 +61,10 @@ fn verdict_report(
     Ok(text)
 }
 
-/// Tells the first item that a plan breaks, and its cost in grains. It writes no file.
+/// Reports the first item that a plan breaks, and its cost in grains. It writes no file.
 ///
 /// It ends with `Done` where the plan breaks nothing and with `BrokenRule` where it breaks a rule, when all
-/// is told. `ReportFault` tells that the report could not be written, and `Memory` may come at any time: what
+/// is reported. `ReportFault` says that the report could not be written, and `Memory` may come at any time: what
 /// is written by then is a beginning of the report.
 pub fn judge_plan<F: Folder, O: Sink>(
     alloc: Global,

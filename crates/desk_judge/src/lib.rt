@@ -4,7 +4,7 @@
 //! or `broken ITEM`, and `cost COST`. It writes no file.
 //!
 //! Proved: what is written is the `verdict` of desk_tasks of that day and plan, or a beginning of it, with
-//! the call that failed. It stands on `full_check`, `full_cost` and the texts of items.
+//! the call that failed. It depends on `full_check`, `full_cost` and the texts of items.
 #![tactic(auto)]
 
 mod judge;

@@ -80,7 +80,7 @@ tells_of_batch S B =
     let J = with_batch S.inst S.plan B in
     tells_by J S.plan (least J S.plan) (least J (shifted J S.plan)) (least J (grounded J S.plan)) refl refl refl
 
--- ---- the rows that are told of
+-- ---- the rows of which something is reported
 
 named_by : (J : Situation) (P : PlanRows) (a b c : Option Broken) (which : Which) (price : Grains) → batch_answer J (chosen_or Keep P a (chosen_or Shift (shifted J P) b (last_choice (grounded J P) c))) ≡ Taken which price → rows_of (chosen_or Keep P a (chosen_or Shift (shifted J P) b (last_choice (grounded J P) c))) ≡ rows_named J P which
 named_by J P None b c which price h = let same : Keep ≡ which = cc in ap (rows_named J P) same

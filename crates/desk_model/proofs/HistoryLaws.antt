@@ -36,7 +36,7 @@ use Rattle.desk_model.specs.Promises.{state_at, cost_of, IsHonest, Improves, IsT
 use Rattle.desk_model.specs.Fallback.{grounded, rows_of, rows_named}
 use Rattle.desk_model.specs.Batches.{TellsOfBatch}
 use Rattle.desk_model.proofs.BatchLaws.{tells_of_batch, rows_of_name, rows_left}
-use Rattle.desk_model.proofs.StateLaws.{accepted-cause, accepted-from, batch-not-accepted, batch-priced, batch-published, batch-unplanned, move-not-taken, move-unplanned, move-broken, dearer-cause, after-batch-inst, after-batch-plan, IsTold, after-told, opening-told, after-move-inst, after-parts, after-progress, after-unchanged, after-accepted, accepted-told, after-falls}
+use Rattle.desk_model.proofs.StateLaws.{accepted-cause, accepted-from, batch-not-accepted, batch-priced, batch-published, batch-unplanned, move-not-taken, move-unplanned, move-broken, dearer-cause, after-batch-inst, after-batch-plan, KnowsBroken, after-known, opening-known, after-move-inst, after-parts, after-progress, after-unchanged, after-accepted, accepted-known, after-falls}
 
 -- ---- the state after a history
 
@@ -44,9 +44,9 @@ pub state-append : (S : State) (h g : List Entry) → state S (h ++ g) ≡ state
 state-append S [] g = refl
 state-append S (entry ∷ h) g = state-append (after S entry.event) h g
 
-pub state-told : (S : State) (h : List Entry) → IsTold S → IsTold (state S h)
-state-told S [] told = told
-state-told S (entry ∷ h) told = state-told (after S entry.event) h (after-told S entry.event told)
+pub state-known : (S : State) (h : List Entry) → KnowsBroken S → KnowsBroken (state S h)
+state-known S [] told = told
+state-known S (entry ∷ h) told = state-known (after S entry.event) h (after-known S entry.event told)
 
 -- a history leaves the joined rows
 pub state-parts : (S : State) (h : List Entry) → (state S h).inst.parts ≡ S.inst.parts
@@ -62,7 +62,7 @@ pub state-progress : (S : State) (h : List Entry) → (state S h).inst.progress 
 state-progress S [] = refl
 state-progress S (entry ∷ h) = state-progress (after S entry.event) h ∙ after-progress S entry.event
 
--- the orders are those that there were, and behind them those of the history's batches
+-- the orders are those that there were, and after them those of the history's batches
 pub state-orders : (S : State) (h : List Entry) → (state S h).inst.orders ≡ S.inst.orders ++ orders_of h
 state-orders S [] = sym (append-nil S.inst.orders)
 state-orders S (entry ∷ h) =
@@ -124,7 +124,7 @@ kept_dearer S entry m now would is by h =
 kept_accepted : (S : State) (entry : Entry) (m : Move) → entry.event ≡ event.Move m → entry.answer ≡ answer S entry.event → S.broken ≡ None → is_accepted entry.answer ≡ true ↔ Improves S m
 kept_accepted S entry m is told had = (
   (λ accepted.
-      let by = accepted-told entry.answer accepted in
+      let by = accepted-known entry.answer accepted in
       let cause = accepted-cause S m by.0 (sym (told ∙ ap (answer S) is) ∙ by.1) in
       record { feasible = feasible-holds _ _ cause.feasible; cheaper = cause.cheaper }),
   (λ better. ap is_accepted (told ∙ ap (answer S) is ∙ accepted-from S m had (feasible-from _ _ better.feasible) better.cheaper)),
@@ -139,7 +139,7 @@ kept_stored S entry (event.Move m) told is by h =
 
 kept_moved : (S : State) (entry : Entry) (m : Move) → entry.event ≡ event.Move m → entry.answer ≡ answer S entry.event → is_accepted entry.answer ≡ true → ((after S entry.event).inst ≡ S.inst) × ((after S entry.event).plan ≡ after_move S.inst S.plan m) × ((after S entry.event).broken ≡ None)
 kept_moved S entry m is told accepted =
-    let by = accepted-told entry.answer accepted in
+    let by = accepted-known entry.answer accepted in
     let there = ap (after S) is ∙ after-accepted S m by.0 (sym (told ∙ ap (answer S) is) ∙ by.1) in
     (ap (λ (T : State). T.inst) there, ap (λ (T : State). T.plan) there, ap (λ (T : State). T.broken) there)
 
@@ -199,7 +199,7 @@ changes_step h i entry false at is =
     let step = count_by_more_no (λ (e : Entry). is_change e.event e.answer) h i entry (slice_get_within h i entry at) (ap (λ (e : Entry). is_change e.event e.answer) (get_or_from_slice_get h i entry entry at) ∙ is) in
     omega (arith, step)
 
--- no entry has fewer changes behind it than before it
+-- no entry has fewer changes after it than before it
 changes_rise : (h : List Entry) (i : ℕ) → i < length h → changes (take i h) ≤ changes (take (i + 1) h)
 changes_rise h i lt =
     let at = entry_at h i lt in
@@ -237,8 +237,8 @@ same_state S h i (suc n) legal le same =
 
 -- ---- the promises
 
-told_is_honest : (S : State) → IsTold S → IsHonest S
-told_is_honest S told = record {
+known_is_honest : (S : State) → KnowsBroken S → IsHonest S
+known_is_honest S told = record {
   published = λ none. feasible-holds S.inst S.plan (sym told ∙ none);
   unpublished = λ item is. least-holds S.inst S.plan item (sym told ∙ is);
 }
@@ -249,7 +249,7 @@ legal-kept S h legal i entry at =
 
 pub promises : (I : Situation) (h : List Entry) → IsLegal (opening I) h → KeepsPromises I h
 promises I h legal = record {
-  honest = λ i. told_is_honest (state_at I h i) (state-told (opening I) (take i h) (opening-told I));
+  honest = λ i. known_is_honest (state_at I h i) (state-known (opening I) (take i h) (opening-known I));
   entries = legal-kept (opening I) h legal;
   falls = prefix-falls (opening I) h;
   same = λ i j le within same.
@@ -259,7 +259,7 @@ promises I h legal = record {
 
 -- ---- longer histories
 
--- an entry that may stand behind a legal history makes a legal one
+-- an entry that may come after a legal history makes a legal one
 pub legal-append : (S : State) (h : List Entry) (entry : Entry) → IsLegal S h → Stands S h entry → IsLegal S (h ++ entry ∷ [])
 legal-append S h entry legal stands i e at =
     let lt : i < length h + 1 = omega (arith, slice_get_within (h ++ entry ∷ []) i e at, length-append h (entry ∷ [])) in
@@ -307,7 +307,7 @@ since_is h entry =
 abbrev pub with_event : State → List Entry → ℕ × Event → List Entry
 with_event S h e = cond (has_room (length h) e.1) (h ++ entry_of (state S h) e.0 e.1 ∷ []) h
 
--- a history and the entries of the events behind it are those behind the history with the first event
+-- a history and the entries of the events after it are those after the history with the first event
 pub run-step : (S : State) (h : List Entry) (e : ℕ × Event) (events : List (ℕ × Event)) → h ++ entries (length h) (state S h) (e ∷ events) ≡ with_event S h e ++ entries (length (with_event S h e)) (state S (with_event S h e)) events
 unfolding entries
 run-step S h e events =

@@ -72,8 +72,8 @@ path_same (x ∷ xs) (y ∷ ys) e =
 pub path_itself : (a : List (Leg × Cabin)) → path_cmp a a ≡ Equal
 path_itself a = tied_itself path_total a
 
-pub path_behind : (a b : List (Leg × Cabin)) → path_cmp a b ≡ Greater → path_cmp b a ≡ Less
-path_behind a b e = path_total.antisymm b a ∙ ap ordering_reverse e
+pub path_after : (a b : List (Leg × Cabin)) → path_cmp a b ≡ Greater → path_cmp b a ≡ Less
+path_after a b e = path_total.antisymm b a ∙ ap ordering_reverse e
 
 pub path_before : (a b : List (Leg × Cabin)) → path_cmp a b ≡ Less → path_cmp b a ≡ Greater
 path_before a b e = path_total.antisymm b a ∙ ap ordering_reverse e

@@ -27,11 +27,11 @@ use Rattle.desk_rules.proofs.FindLaws.{none_of_numbers}
 use Rattle.desk_rules.proofs.RotationLaws.{precedes-holds, precedes-from, follows-holds, follows-from}
 use Rattle.desk_rules.proofs.MaintenanceLaws.{flies-holds, flies-from}
 use Rattle.desk_rules.proofs.LegLaws.{meets_span-holds, meets_span-from}
-use Rattle.desk_model.specs.Push.{rotation, comes_behind, pushed_legs, leg_before, ready_moment, meets_maintenance, is_free, departures_beside, arrivals_beside, is_below, has_slots, can_depart, first_departure, with_departure, after_placing, after_push, IsPushed, MayDepart, DepartsFirst, KeepsItsRow, PlacesLeg}
+use Rattle.desk_model.specs.Push.{rotation, comes_after, pushed_legs, leg_before, ready_moment, meets_maintenance, is_free, departures_beside, arrivals_beside, is_below, has_slots, can_depart, first_departure, with_departure, after_placing, after_push, IsPushed, MayDepart, DepartsFirst, KeepsItsRow, PlacesLeg}
 use Rattle.desk_model.specs.Fallback.{IsFlownBy}
 use Rattle.desk_model.proofs.ChoiceLaws.{FirstAt, found_first, first_within-holds, first_within-none}
 use Rattle.desk_model.proofs.ValidLaws.{with_row-valid}
-use Rattle.desk_model.proofs.RotationOrder.{flown_once, precedes-itself, precedes-total, Contains-filter, All-behind, pairs_across, pairs_behind, rotation-ordered, rotation-flown, rotation-each}
+use Rattle.desk_model.proofs.RotationOrder.{flown_once, precedes-itself, precedes-total, Contains-filter, All-behind, pairs_across, pairs_after, rotation-ordered, rotation-flown, rotation-each}
 use Rattle.desk_model.proofs.PathOrder.{pairs_head}
 
 -- ---- the leg before
@@ -203,21 +203,21 @@ module _ (I : Situation) (P : PlanRows) (p : ℕ) where
 
 pub pushed-ordered : (I : Situation) (P : PlanRows) (p : ℕ) (after : Option Leg) → AllPairs (Precedes P) (pushed_legs I P p after)
 unfolding pushed_legs
-pushed-ordered I P p after = AllPairs-filter (Precedes P) (λ x. not (fixed I x) && comes_behind P after x) (rotation I P p) (rotation-ordered I P p)
+pushed-ordered I P p after = AllPairs-filter (Precedes P) (λ x. not (fixed I x) && comes_after P after x) (rotation I P p) (rotation-ordered I P p)
 
-behind-holds : (P : PlanRows) (o : Option Leg) (x : ℕ) (leg : Leg) → comes_behind P o x ≡ true → o ≡ Some leg → Precedes P leg.0 x
+behind-holds : (P : PlanRows) (o : Option Leg) (x : ℕ) (leg : Leg) → comes_after P o x ≡ true → o ≡ Some leg → Precedes P leg.0 x
 behind-holds P None x leg holds is = absurd cc
 behind-holds P (Some other) x leg holds is =
     let same : other ≡ leg = cc in
     subst (λ (l : Leg). Precedes P l.0 x) same (precedes-holds P other.0 x holds)
 
-behind-from : (P : PlanRows) (o : Option Leg) (x : ℕ) → ((leg : Leg) → o ≡ Some leg → Precedes P leg.0 x) → comes_behind P o x ≡ true
+behind-from : (P : PlanRows) (o : Option Leg) (x : ℕ) → ((leg : Leg) → o ≡ Some leg → Precedes P leg.0 x) → comes_after P o x ≡ true
 behind-from P None x behind = refl
 behind-from P (Some leg) x behind = precedes-from P leg.0 x (behind leg refl)
 
-pushed_of : (I : Situation) (P : PlanRows) (p : ℕ) (after : Option Leg) (x : ℕ) → (x < legs_of I) × (flies P p x ≡ true) → (not (fixed I x) && comes_behind P after x) ≡ true → IsPushed I P p after x
+pushed_of : (I : Situation) (P : PlanRows) (p : ℕ) (after : Option Leg) (x : ℕ) → (x < legs_of I) × (flies P p x ≡ true) → (not (fixed I x) && comes_after P after x) ≡ true → IsPushed I P p after x
 pushed_of I P p after x leg passes =
-    let parts = and_parts (not (fixed I x)) (comes_behind P after x) passes in
+    let parts = and_parts (not (fixed I x)) (comes_after P after x) passes in
     record { leg = leg.0; dep = dep P x; flown = flies-holds P p x leg.1; movable = not-true (fixed I x) parts.0; behind = λ l is. behind-holds P after x l parts.1 is }
 
 both_all : {X : Type 0} (A B C : X → Type 0) → ((x : X) → A x → B x → C x) → (xs : List X) → All A xs → All B xs → All C xs
@@ -226,7 +226,7 @@ both_all A B C joined xs a b k d within = joined _ (a k d within) (b k d within)
 pub pushed-all : (I : Situation) (P : PlanRows) (p : ℕ) (after : Option Leg) → All (IsPushed I P p after) (pushed_legs I P p after)
 unfolding pushed_legs
 pushed-all I P p after =
-    let test : ℕ → Bool = λ x. not (fixed I x) && comes_behind P after x in
+    let test : ℕ → Bool = λ x. not (fixed I x) && comes_after P after x in
     both_all (λ x. (x < legs_of I) × (flies P p x ≡ true)) (λ x. test x ≡ true) (IsPushed I P p after) (λ x leg passes. pushed_of I P p after x leg passes)
     (filter test (rotation I P p))
     (All-filter test (λ x. (x < legs_of I) × (flies P p x ≡ true)) (rotation I P p) (rotation-flown I P p))
@@ -235,8 +235,8 @@ pushed-all I P p after =
 pub pushed-each : (I : Situation) (P : PlanRows) (p : ℕ) (after : Option Leg) (x : ℕ) → IsPushed I P p after x → Contains (pushed_legs I P p after) x
 unfolding pushed_legs
 pushed-each I P p after x is =
-    Contains-filter (λ x. not (fixed I x) && comes_behind P after x) (rotation I P p) x (rotation-each I P p x is.leg (flies-from P p x is.dep is.flown))
-    (and_from (not (fixed I x)) (comes_behind P after x) (not_from_false (fixed I x) is.movable) (behind-from P after x is.behind))
+    Contains-filter (λ x. not (fixed I x) && comes_after P after x) (rotation I P p) x (rotation-each I P p x is.leg (flies-from P p x is.dep is.flown))
+    (and_from (not (fixed I x)) (comes_after P after x) (not_from_false (fixed I x) is.movable) (behind-from P after x is.behind))
 
 -- ---- the step
 
@@ -257,7 +257,7 @@ nothing_pushed : (I : Situation) (P : PlanRows) (p : ℕ) (xs : List ℕ) → Al
 nothing_pushed I P p [] none = refl
 nothing_pushed I P p (x ∷ xs) none = absurd none.0
 
--- a leg that the aircraft does not fly has none behind it
+-- a leg that the aircraft does not fly has none after it
 pub after_push-other_plane : (I : Situation) (P : PlanRows) (p : ℕ) (leg : Leg) → ((d : ℕ) → Flies P leg.0 p d → ⊥) → after_push I P p (Some leg) ≡ P
 unfolding after_push
 after_push-other_plane I P p leg none =
@@ -280,7 +280,7 @@ places I P p done x rest ordered within =
     let R = place_all I P p P (done ++ x ∷ rest) in
     let whole : R ≡ place_all I P p Q (x ∷ rest) = fold-append (after_placing I P p) P done (x ∷ rest) in
     let across = pairs_across (Precedes P) done (x ∷ rest) ordered in
-    let behind : All (Precedes P x) rest = pairs_head (Precedes P) x rest (pairs_behind (Precedes P) done (x ∷ rest) ordered) in
+    let behind : All (Precedes P x) rest = pairs_head (Precedes P) x rest (pairs_after (Precedes P) done (x ∷ rest) ordered) in
     let not_again : AllByRecursion (λ y. x ≡ y → ⊥) rest = recursion_from_All (λ y. x ≡ y → ⊥) rest (All-weaker (Precedes P x) (λ y. x ≡ y → ⊥) (λ y more. apart P x y more) rest behind) in
     let not_before : AllByRecursion (λ y. x ≡ y → ⊥) done =
     recursion_from_All (λ y. x ≡ y → ⊥) done

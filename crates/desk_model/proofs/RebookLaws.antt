@@ -14,8 +14,8 @@ use Rattle.desk_units.specs.declared.numbers.Cabin.{Cabin}
 use Rattle.desk_data.specs.declared.row.Group.{Group}
 use Rattle.desk_data.specs.PlanRows.{path_cmp, IsGroup, AreGroups, same_path}
 use Rattle.desk_data.specs.Valid.{IsPathOf, AreGroupsOf}
-use Rattle.desk_model.specs.Rebook.{passengers_on, count_on, is_before, is_behind, group_of, with_count, with_fewer, with_more, groups_after_rebook}
-use Rattle.desk_model.proofs.PathOrder.{by_order, is_lt-holds, is_gt-holds, path_total, path_same, path_itself, path_behind, path_before, pairs_head, pairs_tail, pairs_nil, pairs_append}
+use Rattle.desk_model.specs.Rebook.{passengers_on, count_on, is_before, is_after, group_of, with_count, with_fewer, with_more, groups_after_rebook}
+use Rattle.desk_model.proofs.PathOrder.{by_order, is_lt-holds, is_gt-holds, path_total, path_same, path_itself, path_after, path_before, pairs_head, pairs_tail, pairs_nil, pairs_append}
 
 -- the passengers of a group, if its path passes a test
 abbrev pub amount : (List (Leg × Cabin) → Bool) → Group → ℕ
@@ -24,9 +24,9 @@ amount test group = cond (test group.path) group.count 0
 abbrev is_on : List (Leg × Cabin) → Group → Bool
 is_on path group = is_eq (path_cmp group.path path)
 
--- ---- passengers are before a path, on it or behind it
+-- ---- passengers are before a path, on it or after it
 
-parts_add : (test : List (Leg × Cabin) → Bool) (path : List (Leg × Cabin)) (groups : List Group) → passengers_on test (filter (is_before path) groups) + (passengers_on test (filter (is_on path) groups) + passengers_on test (filter (is_behind path) groups)) ≡ passengers_on test groups
+parts_add : (test : List (Leg × Cabin) → Bool) (path : List (Leg × Cabin)) (groups : List Group) → passengers_on test (filter (is_before path) groups) + (passengers_on test (filter (is_on path) groups) + passengers_on test (filter (is_after path) groups)) ≡ passengers_on test groups
 parts_add test path [] = refl
 parts_add test path (group ∷ groups) =
     let ih = parts_add test path groups in
@@ -34,7 +34,7 @@ parts_add test path (group ∷ groups) =
     by_order (path_cmp group.path path)
     (λ less. let one = sum_by-cons (amount test) group (filter (is_before path) groups) in rw less (omega (arith, ih, all, one)))
     (λ same. let one = sum_by-cons (amount test) group (filter (is_on path) groups) in rw same (omega (arith, ih, all, one)))
-    (λ more. let one = sum_by-cons (amount test) group (filter (is_behind path) groups) in rw more (omega (arith, ih, all, one)))
+    (λ more. let one = sum_by-cons (amount test) group (filter (is_after path) groups) in rw more (omega (arith, ih, all, one)))
 
 -- those on the path are there by its test
 on_path : (test : List (Leg × Cabin) → Bool) (path : List (Leg × Cabin)) (b : Bool) (groups : List Group) → test path ≡ b → passengers_on test (filter (is_on path) groups) ≡ cond b (count_on path groups) 0
@@ -73,8 +73,8 @@ one_group test path n =
 -- another count on a path: there are as many fewer on paths that have it among them as were on it, and as many more as are
 pub with_count-adds : (test : List (Leg × Cabin) → Bool) (path : List (Leg × Cabin)) (n : ℕ) (groups : List Group) → passengers_on test (with_count path n groups) + cond (test path) (count_on path groups) 0 ≡ passengers_on test groups + cond (test path) n 0
 with_count-adds test path n groups =
-    let all = sum_by-append (amount test) (filter (is_before path) groups) (group_of n path ++ filter (is_behind path) groups) in
-    let behind = sum_by-append (amount test) (group_of n path) (filter (is_behind path) groups) in
+    let all = sum_by-append (amount test) (filter (is_before path) groups) (group_of n path ++ filter (is_after path) groups) in
+    let behind = sum_by-append (amount test) (group_of n path) (filter (is_after path) groups) in
     let one = one_group test path n in
     let on = on_path test path (test path) groups refl in
     let parts = parts_add test path groups in
@@ -121,37 +121,37 @@ one_group-pairs path n =
       | inr some ↦ rw (ne_eqb n 0 some) (λ i j d before within. absurd (omega arith))
     ]
 
-behind_all : (path : List (Leg × Cabin)) (groups : List Group) → All (λ (group : Group). path_cmp path group.path ≡ Less) (filter (is_behind path) groups)
-behind_all path groups =
-    All-weaker (λ (group : Group). is_behind path group ≡ true) (λ (group : Group). path_cmp path group.path ≡ Less)
-    (λ group passes. path_behind group.path path (is_gt-holds (path_cmp group.path path) passes))
-    (filter (is_behind path) groups) (filter_passes (is_behind path) groups)
+after_all : (path : List (Leg × Cabin)) (groups : List Group) → All (λ (group : Group). path_cmp path group.path ≡ Less) (filter (is_after path) groups)
+after_all path groups =
+    All-weaker (λ (group : Group). is_after path group ≡ true) (λ (group : Group). path_cmp path group.path ≡ Less)
+    (λ group passes. path_after group.path path (is_gt-holds (path_cmp group.path path) passes))
+    (filter (is_after path) groups) (filter_passes (is_after path) groups)
 
--- a group before the path comes before the path's group and before those behind it
-before_all : (path : List (Leg × Cabin)) (n : ℕ) (groups : List Group) (group : Group) → path_cmp group.path path ≡ Less → All (Ascends group) (group_of n path ++ filter (is_behind path) groups)
+-- a group before the path comes before the path's group and before those after it
+before_all : (path : List (Leg × Cabin)) (n : ℕ) (groups : List Group) (group : Group) → path_cmp group.path path ≡ Less → All (Ascends group) (group_of n path ++ filter (is_after path) groups)
 before_all path n groups group less =
-    All-append (Ascends group) (group_of n path) (filter (is_behind path) groups)
+    All-append (Ascends group) (group_of n path) (filter (is_after path) groups)
     (one_group-all (Ascends group) path n (λ one is some. subst (λ (other : List (Leg × Cabin)). path_cmp group.path other ≡ Less) (sym is) less))
     (All-weaker (λ (other : Group). path_cmp path other.path ≡ Less) (Ascends group) (λ other more. path_total.trans group.path path other.path less more)
-    (filter (is_behind path) groups) (behind_all path groups))
+    (filter (is_after path) groups) (after_all path groups))
 
 with_count-pairs : (path : List (Leg × Cabin)) (n : ℕ) (groups : List Group) → AllPairs Ascends groups → AllPairs Ascends (with_count path n groups)
 with_count-pairs path n groups pairs =
-    pairs_append Ascends (filter (is_before path) groups) (group_of n path ++ filter (is_behind path) groups)
+    pairs_append Ascends (filter (is_before path) groups) (group_of n path ++ filter (is_after path) groups)
     (AllPairs-filter Ascends (is_before path) groups pairs)
-    (pairs_append Ascends (group_of n path) (filter (is_behind path) groups) (one_group-pairs path n) (AllPairs-filter Ascends (is_behind path) groups pairs)
-    (one_group-all (λ (one : Group). All (Ascends one) (filter (is_behind path) groups)) path n (λ one is some.
-    subst (λ (other : List (Leg × Cabin)). All (λ (group : Group). path_cmp other group.path ≡ Less) (filter (is_behind path) groups)) (sym is) (behind_all path groups))))
-    (All-weaker (λ (group : Group). is_before path group ≡ true) (λ (group : Group). All (Ascends group) (group_of n path ++ filter (is_behind path) groups))
+    (pairs_append Ascends (group_of n path) (filter (is_after path) groups) (one_group-pairs path n) (AllPairs-filter Ascends (is_after path) groups pairs)
+    (one_group-all (λ (one : Group). All (Ascends one) (filter (is_after path) groups)) path n (λ one is some.
+    subst (λ (other : List (Leg × Cabin)). All (λ (group : Group). path_cmp other group.path ≡ Less) (filter (is_after path) groups)) (sym is) (after_all path groups))))
+    (All-weaker (λ (group : Group). is_before path group ≡ true) (λ (group : Group). All (Ascends group) (group_of n path ++ filter (is_after path) groups))
     (λ group passes. before_all path n groups group (is_lt-holds (path_cmp group.path path) passes))
     (filter (is_before path) groups) (filter_passes (is_before path) groups))
 
 -- what holds of each group and of each on the path holds of each then
 with_count-all : (P : Group → Type 0) (path : List (Leg × Cabin)) (n : ℕ) (groups : List Group) → All P groups → ((group : Group) → group.path ≡ path → 1 ≤ group.count → P group) → All P (with_count path n groups)
 with_count-all P path n groups each one =
-    All-append P (filter (is_before path) groups) (group_of n path ++ filter (is_behind path) groups)
+    All-append P (filter (is_before path) groups) (group_of n path ++ filter (is_after path) groups)
     (All-filter (is_before path) P groups each)
-    (All-append P (group_of n path) (filter (is_behind path) groups) (one_group-all P path n one) (All-filter (is_behind path) P groups each))
+    (All-append P (group_of n path) (filter (is_after path) groups) (one_group-all P path n one) (All-filter (is_after path) P groups each))
 
 with_count-groups : (path : List (Leg × Cabin)) (n : ℕ) (groups : List Group) → length path ≤ 8 → AreGroups groups → AreGroups (with_count path n groups)
 with_count-groups path n groups short sound = record {
@@ -179,23 +179,23 @@ groups_after_rebook-of legs count path to n groups among among_to few sound =
 
 -- ---- where nothing is rebooked
 
-all_behind-before : (path : List (Leg × Cabin)) (groups : List Group) → AllByRecursion (λ (group : Group). path_cmp group.path path ≡ Greater) groups → filter (is_before path) groups ≡ []
-all_behind-before path [] all = refl
-all_behind-before path (group ∷ groups) all = rw all.0 (all_behind-before path groups all.1)
+all_after-before : (path : List (Leg × Cabin)) (groups : List Group) → AllByRecursion (λ (group : Group). path_cmp group.path path ≡ Greater) groups → filter (is_before path) groups ≡ []
+all_after-before path [] all = refl
+all_after-before path (group ∷ groups) all = rw all.0 (all_after-before path groups all.1)
 
-all_behind-behind : (path : List (Leg × Cabin)) (groups : List Group) → AllByRecursion (λ (group : Group). path_cmp group.path path ≡ Greater) groups → filter (is_behind path) groups ≡ groups
-all_behind-behind path [] all = refl
-all_behind-behind path (group ∷ groups) all = rw all.0 (ap (λ (rest : List Group). group ∷ rest) (all_behind-behind path groups all.1))
+all_after-behind : (path : List (Leg × Cabin)) (groups : List Group) → AllByRecursion (λ (group : Group). path_cmp group.path path ≡ Greater) groups → filter (is_after path) groups ≡ groups
+all_after-behind path [] all = refl
+all_after-behind path (group ∷ groups) all = rw all.0 (ap (λ (rest : List Group). group ∷ rest) (all_after-behind path groups all.1))
 
-all_behind-count : (path : List (Leg × Cabin)) (groups : List Group) → AllByRecursion (λ (group : Group). path_cmp group.path path ≡ Greater) groups → count_on path groups ≡ 0
-all_behind-count path [] all = refl
-all_behind-count path (group ∷ groups) all =
+all_after-count : (path : List (Leg × Cabin)) (groups : List Group) → AllByRecursion (λ (group : Group). path_cmp group.path path ≡ Greater) groups → count_on path groups ≡ 0
+all_after-count path [] all = refl
+all_after-count path (group ∷ groups) all =
     let none : amount (λ other. same_path other path) group ≡ 0 = rw all.0 refl in
-    omega (arith, sum_by-cons (amount (λ other. same_path other path)) group groups, none, all_behind-count path groups all.1)
+    omega (arith, sum_by-cons (amount (λ other. same_path other path)) group groups, none, all_after-count path groups all.1)
 
--- the groups behind the first one are behind a path that is not behind it
-rest_behind : (path : List (Leg × Cabin)) (group : Group) (groups : List Group) → AllPairs Ascends (group ∷ groups) → ((other : Group) → Ascends group other → path_cmp path other.path ≡ Less) → AllByRecursion (λ (other : Group). path_cmp other.path path ≡ Greater) groups
-rest_behind path group groups pairs first =
+-- the groups after the first one are after a path that is not after it
+rest_after : (path : List (Leg × Cabin)) (group : Group) (groups : List Group) → AllPairs Ascends (group ∷ groups) → ((other : Group) → Ascends group other → path_cmp path other.path ≡ Less) → AllByRecursion (λ (other : Group). path_cmp other.path path ≡ Greater) groups
+rest_after path group groups pairs first =
     recursion_from_All (λ (other : Group). path_cmp other.path path ≡ Greater) groups
     (All-weaker (Ascends group) (λ (other : Group). path_cmp other.path path ≡ Greater) (λ other less. path_before path other.path (first other less)) groups (pairs_head Ascends group groups pairs))
 
@@ -213,22 +213,22 @@ with_count-own path (group ∷ groups) each pairs =
     ∙ ap (λ (rest : List Group). group ∷ rest) (with_count-own path groups each.1 (pairs_tail Ascends group groups pairs)))
     (λ same.
     let is : group.path ≡ path = path_same group.path path same in
-    let rest = rest_behind path group groups pairs (λ other less. subst (λ (p : List (Leg × Cabin)). path_cmp p other.path ≡ Less) is less) in
+    let rest = rest_after path group groups pairs (λ other less. subst (λ (p : List (Leg × Cabin)). path_cmp p other.path ≡ Less) is less) in
     let own : amount (λ other. same_path other path) group ≡ group.count = rw same refl in
-    let count : count_on path (group ∷ groups) ≡ group.count = omega (arith, counts, own, all_behind-count path groups rest) in
+    let count : count_on path (group ∷ groups) ≡ group.count = omega (arith, counts, own, all_after-count path groups rest) in
     let some = each.0.some in
     let not_none : group.count ≡ 0 → ⊥ = λ e. omega (arith, e, some) in
     let one : group_of group.count path ≡ group ∷ [] =
     rw (ne_eqb group.count 0 not_none) (ap (λ (p : List (Leg × Cabin)). let g : Group = record { count = group.count; path = p } in g ∷ []) (sym is)) in
-    let front : filter (is_before path) (group ∷ groups) ≡ [] = rw same (all_behind-before path groups rest) in
-    let back : filter (is_behind path) (group ∷ groups) ≡ groups = rw same (all_behind-behind path groups rest) in
+    let front : filter (is_before path) (group ∷ groups) ≡ [] = rw same (all_after-before path groups rest) in
+    let back : filter (is_after path) (group ∷ groups) ≡ groups = rw same (all_after-behind path groups rest) in
     ap (λ (n : ℕ). with_count path n (group ∷ groups)) count ∙ rw (front, one, back) refl)
     (λ more.
-    let rest = rest_behind path group groups pairs (λ other less. path_total.trans path group.path other.path (path_behind group.path path more) less) in
+    let rest = rest_after path group groups pairs (λ other less. path_total.trans path group.path other.path (path_after group.path path more) less) in
     let none : amount (λ other. same_path other path) group ≡ 0 = rw more refl in
-    let count : count_on path (group ∷ groups) ≡ 0 = omega (arith, counts, none, all_behind-count path groups rest) in
-    let front : filter (is_before path) (group ∷ groups) ≡ [] = rw more (all_behind-before path groups rest) in
-    let back : filter (is_behind path) (group ∷ groups) ≡ group ∷ groups = rw more (ap (λ (gs : List Group). group ∷ gs) (all_behind-behind path groups rest)) in
+    let count : count_on path (group ∷ groups) ≡ 0 = omega (arith, counts, none, all_after-count path groups rest) in
+    let front : filter (is_before path) (group ∷ groups) ≡ [] = rw more (all_after-before path groups rest) in
+    let back : filter (is_after path) (group ∷ groups) ≡ group ∷ groups = rw more (ap (λ (gs : List Group). group ∷ gs) (all_after-behind path groups rest)) in
     ap (λ (n : ℕ). with_count path n (group ∷ groups)) count ∙ rw (front, back) refl)
 
 filter_again : (p : Group → Bool) (groups : List Group) → filter p (filter p groups) ≡ filter p groups
@@ -257,35 +257,35 @@ filter_one q path n fails =
 not_before : (path : List (Leg × Cabin)) (group : Group) → group.path ≡ path → is_before path group ≡ false
 not_before path group is = ap (λ (p : List (Leg × Cabin)). is_lt (path_cmp p path)) is ∙ ap is_lt (path_itself path)
 
-not_behind : (path : List (Leg × Cabin)) (group : Group) → group.path ≡ path → is_behind path group ≡ false
-not_behind path group is = ap (λ (p : List (Leg × Cabin)). is_gt (path_cmp p path)) is ∙ ap is_gt (path_itself path)
+not_after : (path : List (Leg × Cabin)) (group : Group) → group.path ≡ path → is_after path group ≡ false
+not_after path group is = ap (λ (p : List (Leg × Cabin)). is_gt (path_cmp p path)) is ∙ ap is_gt (path_itself path)
 
 with_count-before : (path : List (Leg × Cabin)) (n : ℕ) (groups : List Group) → filter (is_before path) (with_count path n groups) ≡ filter (is_before path) groups
 with_count-before path n groups =
-    filter-append (is_before path) (filter (is_before path) groups) (group_of n path ++ filter (is_behind path) groups)
+    filter-append (is_before path) (filter (is_before path) groups) (group_of n path ++ filter (is_after path) groups)
     ∙ rw (
       filter_again (is_before path) groups,
-      filter-append (is_before path) (group_of n path) (filter (is_behind path) groups),
+      filter-append (is_before path) (group_of n path) (filter (is_after path) groups),
       filter_one (is_before path) path n (not_before path),
-      filter_other (is_behind path) (is_before path) (λ group passes. ap is_lt (is_gt-holds (path_cmp group.path path) passes)) groups,
+      filter_other (is_after path) (is_before path) (λ group passes. ap is_lt (is_gt-holds (path_cmp group.path path) passes)) groups,
     )
     (append-nil (filter (is_before path) groups))
 
-with_count-behind : (path : List (Leg × Cabin)) (n : ℕ) (groups : List Group) → filter (is_behind path) (with_count path n groups) ≡ filter (is_behind path) groups
+with_count-behind : (path : List (Leg × Cabin)) (n : ℕ) (groups : List Group) → filter (is_after path) (with_count path n groups) ≡ filter (is_after path) groups
 with_count-behind path n groups =
-    filter-append (is_behind path) (filter (is_before path) groups) (group_of n path ++ filter (is_behind path) groups)
+    filter-append (is_after path) (filter (is_before path) groups) (group_of n path ++ filter (is_after path) groups)
     ∙ rw (
-      filter_other (is_before path) (is_behind path) (λ group passes. ap is_gt (is_lt-holds (path_cmp group.path path) passes)) groups,
-      filter-append (is_behind path) (group_of n path) (filter (is_behind path) groups),
-      filter_one (is_behind path) path n (not_behind path),
-      filter_again (is_behind path) groups,
+      filter_other (is_before path) (is_after path) (λ group passes. ap is_gt (is_lt-holds (path_cmp group.path path) passes)) groups,
+      filter-append (is_after path) (group_of n path) (filter (is_after path) groups),
+      filter_one (is_after path) path n (not_after path),
+      filter_again (is_after path) groups,
     )
     refl
 
 -- the last count decides
 with_count-twice : (path : List (Leg × Cabin)) (m n : ℕ) (groups : List Group) → with_count path m (with_count path n groups) ≡ with_count path m groups
 with_count-twice path m n groups =
-    ap (λ (front : List Group). front ++ (group_of m path ++ filter (is_behind path) (with_count path n groups))) (with_count-before path n groups)
+    ap (λ (front : List Group). front ++ (group_of m path ++ filter (is_after path) (with_count path n groups))) (with_count-before path n groups)
     ∙ ap (λ (back : List Group). filter (is_before path) groups ++ (group_of m path ++ back)) (with_count-behind path n groups)
 
 with_count-count : (path : List (Leg × Cabin)) (n : ℕ) (groups : List Group) → count_on path (with_count path n groups) ≡ n

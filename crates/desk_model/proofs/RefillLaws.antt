@@ -196,7 +196,7 @@ record RefilledTo (I : Situation) (x : ℕ) (P Q : PlanRows) (k : ℕ) : Type 0 
   behind : (r : ℕ) → r < k → RefillsReservation I P Q x r
   seats : (y : ℕ) (c : Cabin) → IsNotOverfilled I P Q y c
 
--- whether a reservation is refilled is told by the rows and by its own groups
+-- whether a reservation is refilled depends on the rows and on its own groups
 refilled-groups : (I : Situation) (P : PlanRows) (groups : List (List Group)) (x r : ℕ) → (let Q : PlanRows = record P { groups = groups } in groups_at Q r) ≡ groups_at P r → is_refilled I (record P { groups = groups }) x r ≡ is_refilled I P x r
 unfolding is_fit_path
 refilled-groups I P groups x r own =

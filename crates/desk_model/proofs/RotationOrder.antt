@@ -113,9 +113,9 @@ pairs_across R [] ys pairs = All-nil (λ x. All (R x) ys)
 pairs_across R (x ∷ xs) ys pairs =
     All-cons (λ z. All (R z) ys) x xs (All-behind (R x) xs ys (pairs_head R x (xs ++ ys) pairs)) (pairs_across R xs ys (pairs_tail R x (xs ++ ys) pairs))
 
-pub pairs_behind : {X : Type 0} (R : X → X → Type 0) (xs ys : List X) → AllPairs R (xs ++ ys) → AllPairs R ys
-pairs_behind R [] ys pairs = pairs
-pairs_behind R (x ∷ xs) ys pairs = pairs_behind R xs ys (pairs_tail R x (xs ++ ys) pairs)
+pub pairs_after : {X : Type 0} (R : X → X → Type 0) (xs ys : List X) → AllPairs R (xs ++ ys) → AllPairs R ys
+pairs_after R [] ys pairs = pairs
+pairs_after R (x ∷ xs) ys pairs = pairs_after R xs ys (pairs_tail R x (xs ++ ys) pairs)
 
 -- ---- the legs of an aircraft
 
@@ -123,14 +123,14 @@ with_leg-pairs : (P : PlanRows) (legs : List ℕ) (x : ℕ) → AllPairs (Preced
 with_leg-pairs P legs x pairs =
     let before = filter (λ y. precedes P y x) legs in
     let behind = filter (λ y. precedes P x y) legs in
-    let all_behind : All (Precedes P x) behind = All-weaker (λ y. precedes P x y ≡ true) (Precedes P x) (λ y is. precedes-holds P x y is) behind (filter_passes (λ y. precedes P x y) legs) in
+    let all_after : All (Precedes P x) behind = All-weaker (λ y. precedes P x y ≡ true) (Precedes P x) (λ y is. precedes-holds P x y is) behind (filter_passes (λ y. precedes P x y) legs) in
     pairs_append (Precedes P) before (x ∷ behind)
     (AllPairs-filter (Precedes P) (λ y. precedes P y x) legs pairs)
-    (AllPairs-cons (Precedes P) x behind all_behind (AllPairs-filter (Precedes P) (λ y. precedes P x y) legs pairs))
+    (AllPairs-cons (Precedes P) x behind all_after (AllPairs-filter (Precedes P) (λ y. precedes P x y) legs pairs))
     (All-weaker (λ y. precedes P y x ≡ true) (λ y. All (Precedes P y) (x ∷ behind))
     (λ y is.
     let less = precedes-holds P y x is in
-    All-cons (Precedes P y) x behind less (All-weaker (Precedes P x) (Precedes P y) (λ z more. precedes-trans P y x z less more) behind all_behind))
+    All-cons (Precedes P y) x behind less (All-weaker (Precedes P x) (Precedes P y) (λ z more. precedes-trans P y x z less more) behind all_after))
     before (filter_passes (λ y. precedes P y x) legs))
 
 -- the legs of an aircraft among the first k

@@ -74,7 +74,7 @@ batch_priced : (J : Situation) (F : Fallback) (which : Which) (told : Grains) �
 batch_priced J (fallen.Chosen w Q) which told h = cc
 batch_priced J (fallen.NoPlan item Q) which told h = absurd cc
 
--- the cost that is told of a batch is that of the rows after it
+-- the cost that is reported of a batch is that of the rows after it
 pub batch-priced : (S : State) (B : Batch) (which : Which) (told : Grains) → answer S (event.Batch B) ≡ Taken which told → told ≡ grains (cost_of (after S (event.Batch B)))
 unfolding answer after
 batch-priced S B which told h = batch_priced (with_batch S.inst S.plan B) (fallback_on S B) which told h
@@ -92,7 +92,7 @@ batch_unplanned : (J : Situation) (F : Fallback) (item : Broken) → batch_answe
 batch_unplanned J (fallen.Chosen which Q) item h = absurd cc
 batch_unplanned J (fallen.NoPlan other Q) item h = let same : other ≡ item = cc in ap Some same
 
--- the item that is told of a batch is that of the state after it
+-- the item that is reported of a batch is that of the state after it
 pub batch-unplanned : (S : State) (B : Batch) (item : Broken) → answer S (event.Batch B) ≡ NoPlan item → (after S (event.Batch B)).broken ≡ Some item
 unfolding answer after
 batch-unplanned S B item h = batch_unplanned (with_batch S.inst S.plan B) (fallback_on S B) item h
@@ -114,7 +114,7 @@ proposed_unplanned S m None item h =
     let moved_plan = after_move S.inst S.plan m in
     absurd (judged_unplanned (least S.inst moved_plan) (cost S.inst S.plan) (cost S.inst moved_plan) (leb (cost S.inst S.plan) (cost S.inst moved_plan)) item refl h)
 
--- a proposal is told that there is no plan where there is none
+-- a proposal is answered that there is no plan where there is none
 pub move-unplanned : (S : State) (m : Move) (item : Broken) → answer S (event.Move m) ≡ NoPlan item → S.broken ≡ Some item
 unfolding answer
 move-unplanned S m item h = proposed_unplanned S m S.broken item h
@@ -134,7 +134,7 @@ proposed_broken S m None item h =
     let moved_plan = after_move S.inst S.plan m in
     (refl, judged_broken (least S.inst moved_plan) (cost S.inst S.plan) (cost S.inst moved_plan) (leb (cost S.inst S.plan) (cost S.inst moved_plan)) item refl h)
 
--- a proposal is told an item where there is a plan, and the moved plan breaks it first
+-- a proposal is answered with an item where there is a plan, and the moved plan breaks it first
 pub move-broken : (S : State) (m : Move) (item : Broken) → answer S (event.Move m) ≡ Breaks item → (S.broken ≡ None) × (least S.inst (after_move S.inst S.plan m) ≡ Some item)
 unfolding answer
 move-broken S m item h = proposed_broken S m S.broken item h
@@ -208,35 +208,35 @@ after-batch-plan S B = fallen_plan (with_batch S.inst S.plan B) (fallback_on S B
 -- ---- the state after an answer
 
 -- the item of a state is the first that its rows break
-abbrev pub IsTold : State → Type 0
-IsTold S = S.broken ≡ least S.inst S.plan
+abbrev pub KnowsBroken : State → Type 0
+KnowsBroken S = S.broken ≡ least S.inst S.plan
 
-published-told : (S : State) (m : Move) (a : Answer) → answer S (event.Move m) ≡ a → IsTold S → IsTold (answered_state S m a)
-published-told S m (Accepted told) e h = sym (accepted-cause S m told e).feasible
-published-told S m (Taken which told) e h = h
-published-told S m (Breaks item) e h = h
-published-told S m (Dearer now would) e h = h
-published-told S m (NoPlan item) e h = h
-published-told S m (Full entries) e h = h
+published-known : (S : State) (m : Move) (a : Answer) → answer S (event.Move m) ≡ a → KnowsBroken S → KnowsBroken (answered_state S m a)
+published-known S m (Accepted told) e h = sym (accepted-cause S m told e).feasible
+published-known S m (Taken which told) e h = h
+published-known S m (Breaks item) e h = h
+published-known S m (Dearer now would) e h = h
+published-known S m (NoPlan item) e h = h
+published-known S m (Full entries) e h = h
 
-choice_told : (J : Situation) (P Q G : PlanRows) (a b c : Option Broken) → least J P ≡ a → least J Q ≡ b → least J G ≡ c → IsTold (fallen_state J (chosen_or Keep P a (chosen_or Shift Q b (last_choice G c))))
-choice_told J P Q G None b c p s g = sym p
-choice_told J P Q G (Some i) None c p s g = sym s
-choice_told J P Q G (Some i) (Some j) None p s g = sym g
-choice_told J P Q G (Some i) (Some j) (Some k) p s g = sym g
+choice_known : (J : Situation) (P Q G : PlanRows) (a b c : Option Broken) → least J P ≡ a → least J Q ≡ b → least J G ≡ c → KnowsBroken (fallen_state J (chosen_or Keep P a (chosen_or Shift Q b (last_choice G c))))
+choice_known J P Q G None b c p s g = sym p
+choice_known J P Q G (Some i) None c p s g = sym s
+choice_known J P Q G (Some i) (Some j) None p s g = sym g
+choice_known J P Q G (Some i) (Some j) (Some k) p s g = sym g
 
-fallen_told : (J : Situation) (P : PlanRows) → IsTold (fallen_state J (fallback J P))
+fallen_known : (J : Situation) (P : PlanRows) → KnowsBroken (fallen_state J (fallback J P))
 unfolding fallback
-fallen_told J P = choice_told J P (shifted J P) (grounded J P) (least J P) (least J (shifted J P)) (least J (grounded J P)) refl refl refl
+fallen_known J P = choice_known J P (shifted J P) (grounded J P) (least J P) (least J (shifted J P)) (least J (grounded J P)) refl refl refl
 
-pub after-told : (S : State) (e : Event) → IsTold S → IsTold (after S e)
+pub after-known : (S : State) (e : Event) → KnowsBroken S → KnowsBroken (after S e)
 unfolding after fallback_on
-after-told S (event.Batch B) h = fallen_told (with_batch S.inst S.plan B) S.plan
-after-told S (event.Move m) h = published-told S m (answer S (event.Move m)) refl h
+after-known S (event.Batch B) h = fallen_known (with_batch S.inst S.plan B) S.plan
+after-known S (event.Move m) h = published-known S m (answer S (event.Move m)) refl h
 
-pub opening-told : (I : Situation) → IsTold (opening I)
+pub opening-known : (I : Situation) → KnowsBroken (opening I)
 unfolding opening
-opening-told I = refl
+opening-known I = refl
 
 published-inst : (S : State) (m : Move) (a : Answer) → (answered_state S m a).inst ≡ S.inst
 published-inst S m (Accepted told) = refl
@@ -296,9 +296,9 @@ accepted_is (Dearer now would) h = absurd (true≢false (sym h))
 accepted_is (NoPlan item) h = absurd (true≢false (sym h))
 accepted_is (Full entries) h = absurd (true≢false (sym h))
 
--- an answer that accepts tells a cost
-pub accepted-told : (a : Answer) → is_accepted a ≡ true → (told : Grains) × (a ≡ Accepted told)
-accepted-told = accepted_is
+-- an answer that accepts names a cost
+pub accepted-known : (a : Answer) → is_accepted a ≡ true → (told : Grains) × (a ≡ Accepted told)
+accepted-known = accepted_is
 
 falls_by : (S : State) (m : Move) (a : Answer) → answer S (event.Move m) ≡ a → cost_of (answered_state S m a) ≤ cost_of S
 falls_by S m (Accepted told) e = let cause = accepted-cause S m told e in omega (arith, cause.cheaper)

@@ -24,25 +24,25 @@ use Rattle.desk_model.specs.Promises.{state_at}
 use Rattle.desk_model.specs.Batches.{HasPlanRows}
 use Rattle.desk_model.proofs.MoveLaws.{after_move-valid}
 use Rattle.desk_model.proofs.FallbackLaws.{fallback-valid}
-use Rattle.desk_model.proofs.StateLaws.{after-batch-inst, after-batch-plan, opening-told, opening-inst, opening-plan}
+use Rattle.desk_model.proofs.StateLaws.{after-batch-inst, after-batch-plan, opening-known, opening-inst, opening-plan}
 use Rattle.desk_model.proofs.BatchLaws.{least-from}
-use Rattle.desk_model.proofs.HistoryLaws.{state-told, state-parts, state-orders, state-progress, state-next, entry_at, askable-parts}
+use Rattle.desk_model.proofs.HistoryLaws.{state-known, state-parts, state-orders, state-progress, state-next, entry_at, askable-parts}
 
 -- ---- a plan, exactly where the rows are feasible
 
 pub planned : (I : Situation) (h : List Entry) → (state (opening I) h).broken ≡ None ↔ IsFeasible (state (opening I) h).inst (state (opening I) h).plan
 planned I h =
-    let told = state-told (opening I) h (opening-told I) in
+    let told = state-known (opening I) h (opening-known I) in
     ((λ none. feasible-holds _ _ (sym told ∙ none)), (λ feasible. told ∙ feasible-from _ _ feasible))
 
 pub unplanned : (I : Situation) (h : List Entry) (item : Broken) → (state (opening I) h).broken ≡ Some item ↔ IsLeast (state (opening I) h).inst (state (opening I) h).plan item
 unplanned I h item =
-    let told = state-told (opening I) h (opening-told I) in
+    let told = state-known (opening I) h (opening-known I) in
     ((λ some. least-holds _ _ item (sym told ∙ some)), (λ first. told ∙ least-from _ _ item first))
 
 -- ---- the instance of a state
 
--- its rows and how far it has gone on are those of the day at the opening; its orders have those of the batches behind them
+-- its rows and how far it has gone on are those of the day at the opening; its orders have those of the batches after them
 pub rows_of_state : (I : Situation) (h : List Entry) → (state (opening I) h).inst.parts ≡ I.parts
 rows_of_state I h = state-parts (opening I) h ∙ ap (λ (J : Situation). J.parts) (opening-inst I)
 

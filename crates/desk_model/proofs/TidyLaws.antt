@@ -183,12 +183,12 @@ module _ (stays : List (Leg × Cabin) → Bool) where
 stays_nil : (I : Situation) (P : PlanRows) (r : ℕ) → stays_carried I P r [] ≡ false
 stays_nil I P r = refl
 
-carried_behind : (path : List (Leg × Cabin)) → is_carried path ≡ true → path_cmp [] path ≡ Less
-carried_behind [] h = absurd (true≢false (sym h))
-carried_behind (pair ∷ path) h = refl
+carried_after : (path : List (Leg × Cabin)) → is_carried path ≡ true → path_cmp [] path ≡ Less
+carried_after [] h = absurd (true≢false (sym h))
+carried_after (pair ∷ path) h = refl
 
-stays_behind : (I : Situation) (P : PlanRows) (r : ℕ) (path : List (Leg × Cabin)) → stays_carried I P r path ≡ true → path_cmp [] path ≡ Less
-stays_behind I P r path h = carried_behind path (and_parts (is_carried path) (is_fit_path I P r path) h).0
+stays_after : (I : Situation) (P : PlanRows) (r : ℕ) (path : List (Leg × Cabin)) → stays_carried I P r path ≡ true → path_cmp [] path ≡ Less
+stays_after I P r path h = carried_after path (and_parts (is_carried path) (is_fit_path I P r path) h).0
 
 tidy-is : (I : Situation) (P : PlanRows) (r : ℕ) → groups_after_tidy I P r ≡ tidy_groups (stays_carried I P r) (groups_at P r)
 unfolding groups_after_tidy
@@ -210,7 +210,7 @@ after_tidy-valid I P plan = record {
   sound = record {
     rows = plan.sound.rows;
     groups = All-map AreGroups (groups_after_tidy I P) (numbers (reservations_of I)) (λ k d within.
-        subst AreGroups (sym (tidy-is I P _)) (tidy_groups-groups (stays_carried I P _) (groups_at P _) (stays_behind I P _) (groups_at-groups I P _ plan)));
+        subst AreGroups (sym (tidy-is I P _)) (tidy_groups-groups (stays_carried I P _) (groups_at P _) (stays_after I P _) (groups_at-groups I P _ plan)));
   };
   legs = plan.legs;
   res = length-map (numbers (reservations_of I)) (groups_after_tidy I P) ∙ length-numbers (reservations_of I);
@@ -344,7 +344,7 @@ tidy-count : (I : Situation) (P : PlanRows) (r : ℕ) (path : List (Leg × Cabin
 tidy-count I P r path within carried =
     let test : List (Leg × Cabin) → Bool = λ other. same_path other path in
     ap (passengers_on test) (after_tidy-at I P r within ∙ tidy-is I P r)
-    ∙ tidy_groups-count (stays_carried I P r) test (groups_at P r) (ap is_eq (carried_behind path carried))
+    ∙ tidy_groups-count (stays_carried I P r) test (groups_at P r) (ap is_eq (carried_after path carried))
 
 pub after_tidy-tidies : (I : Situation) (P : PlanRows) (r : ℕ) → r < reservations_of I → TidiesReservation I P (after_tidy I P) r
 after_tidy-tidies I P r within =

@@ -1,4 +1,4 @@
--- What the desk falls back on when a disruption arrives: the plan as it stands; else the plan with the legs cancelled that stand behind one that is ordered off, and all others pushed; else the plan in which no movable leg is flown.
+-- What the desk falls back on when a disruption arrives: the plan as it stands; else the plan with the legs cancelled that come after one that is ordered off, and all others pushed; else the plan in which no movable leg is flown.
 use Rattle.std.specs.Prelude.{◌≡◌, ◌↔◌, ℕ, ◌<◌, ◌⊎◌, Bool, true, false, ◌&&◌, ◌||◌, not, ◌==◌, if◌then◌else◌, Option, None, Some, unwrap_or, map, fold}
 use Rattle.std.specs.List.{list_any}
 use Rattle.desk_data.specs.declared.row.Row.{Row}
@@ -41,7 +41,7 @@ is_movable_off I x = not (fixed I x) && ordered_off I x
 abbrev pub is_at_or_before : PlanRows → ℕ → ℕ → Bool
 is_at_or_before P y x = (y == x) || precedes P y x
 
--- whether leg x is movable, and it or a leg before it on its aircraft is a movable leg ordered off: it is the first such leg of its aircraft, or comes behind that
+-- whether leg x is movable, and it or a leg before it on its aircraft is a movable leg ordered off: it is the first such leg of its aircraft, or comes after that
 unfoldable pub is_stopped : Situation → PlanRows → ℕ → Bool
 is_stopped I P x = not (fixed I x) && list_any (λ y. is_movable_off I y && is_at_or_before P y x) (numbers (legs_of I))
 

@@ -38,13 +38,13 @@ IsAskable I (event.Move m) = Fits I m
 abbrev pub AreAskable : Situation → List (ℕ × Event) → Type 0
 AreAskable I events = All (λ asked. IsAskable I asked.1) events
 
--- the entry may stand behind the entries before it: there was room, it could be asked, and it has the answer of the state there
+-- the entry may come after the entries before it: there was room, it could be asked, and it has the answer of the state there
 pub record Stands (S : State) (before : List Entry) (entry : Entry) : Type 0 where
   pub room : has_room (length before) entry.event ≡ true
   pub asked : IsAskable (state S before).inst entry.event
   pub told : entry.answer ≡ answer (state S before) entry.event
 
--- each entry stands behind those before it
+-- each entry comes after those before it
 abbrev pub IsLegal : State → List Entry → Type 0
 IsLegal S h = (i : ℕ) (entry : Entry) → slice_get h i ≡ Some entry → Stands S (take i h) entry
 
@@ -77,7 +77,7 @@ orders_of (entry ∷ entries) = orders_in entry.event ++ orders_of entries
 abbrev pub changes : List Entry → ℕ
 changes h = count_by (λ entry. is_change entry.event entry.answer) h
 
--- the entries behind the last batch, the last first
+-- the entries after the last batch, the last first
 abbrev pub since_batch : List Entry → List Entry
 since_batch h = take_while (λ entry. not (is_batch entry.event)) (reverse h)
 
@@ -89,7 +89,7 @@ accepted_since_batch h = count_by (λ entry. is_accepted entry.answer) (since_ba
 abbrev pub entry_of : State → ℕ → Event → Entry
 entry_of S caller event = record { caller = caller; event = event; answer = answer S event }
 
--- the entries of these events, each with its caller, behind n entries: those that find no room have none
+-- the entries of these events, each with its caller, after n entries: those that find no room have none
 unfoldable pub entries : ℕ → State → List (ℕ × Event) → List Entry
 entries n S [] = []
 entries n S (asked ∷ more) =

@@ -26,7 +26,7 @@ state_at I h i = state (opening I) (take i h)
 abbrev pub cost_of : State → ℕ
 cost_of S = cost S.inst S.plan
 
--- a published plan meets all rules; where there is no plan, the item told is the first that the rows break
+-- a published plan meets all rules; where there is no plan, the item reported is the first that the rows break
 pub record IsHonest (S : State) : Type 0 where
   pub published : S.broken ≡ None → IsFeasible S.inst S.plan
   pub unpublished : (item : Broken) → S.broken ≡ Some item → IsLeast S.inst S.plan item
@@ -36,7 +36,7 @@ pub record Improves (S : State) (m : Move) : Type 0 where
   pub feasible : IsFeasible S.inst (after_move S.inst S.plan m)
   pub cheaper : cost S.inst (after_move S.inst S.plan m) < cost_of S
 
--- a batch and the answer to it, between the state before it and the state after it: its orders are taken behind the others. The answer names the first of the three that is feasible, made of the rows as they stood, under the orders that there are then, or tells the first item that the rows of Ground break. The rows are those that the desk falls back on: those that the name stands for, or where no name is told those of Ground
+-- a batch and the answer to it, between the state before it and the state after it: its orders are taken after the others. The answer names the first of the three that is feasible, made of the rows as they stood, under the orders that there are then, or it is the first item that the rows of Ground break. The rows are those that the desk falls back on: those that the name stands for, or where no name is given those of Ground
 pub record IsTakenIn (before : State) (B : Batch) (given : Answer) (behind : State) : Type 0 where
   pub orders : behind.inst ≡ with_batch before.inst before.plan B
   pub told : TellsOfBatch behind.inst before.plan given
@@ -44,17 +44,17 @@ pub record IsTakenIn (before : State) (B : Batch) (given : Answer) (behind : Sta
   pub named : (which : Which) (price : Grains) → given ≡ Taken which price → behind.plan ≡ rows_named behind.inst before.plan which
   pub left : (item : Broken) → given ≡ NoPlan item → behind.plan ≡ grounded behind.inst before.plan
 
--- there was no plan to move, and nothing changes: the item told is the one that was told before
+-- there was no plan to move, and nothing changes: the item reported is the one that was reported before
 pub record HadNoPlan (before : State) (item : Broken) (behind : State) : Type 0 where
   pub had : before.broken ≡ Some item
   pub stays : behind ≡ before
 
--- there was a plan to move, and the item told is the first that the moved plan breaks
+-- there was a plan to move, and the item reported is the first that the moved plan breaks
 pub record BreaksFirst (before : State) (m : Move) (item : Broken) : Type 0 where
   pub had : before.broken ≡ None
   pub least : IsLeast before.inst (after_move before.inst before.plan m) item
 
--- there was a plan to move, and the moved plan is feasible and no cheaper. The costs told are that of the rows and that of the moved plan
+-- there was a plan to move, and the moved plan is feasible and no cheaper. The costs reported are that of the rows and that of the moved plan
 pub record IsDearer (before : State) (m : Move) (now would : Grains) : Type 0 where
   pub had : before.broken ≡ None
   pub feasible : IsFeasible before.inst (after_move before.inst before.plan m)
@@ -65,18 +65,18 @@ pub record IsDearer (before : State) (m : Move) (now would : Grains) : Type 0 wh
 -- entry i of the history, between the state before it and the state after it
 pub record IsKept (before : State) (entry : Entry) (behind : State) : Type 0 where
   pub taken : (B : Batch) → entry.event ≡ event.Batch B → IsTakenIn before B entry.answer behind
-  -- the cost that is told of a batch is the cost of the rows after it, under the new orders, and they are published
+  -- the cost that is reported of a batch is the cost of the rows after it, under the new orders, and they are published
   pub priced : (which : Which) (told : Grains) → entry.answer ≡ Taken which told → (told ≡ grains (cost_of behind)) × (behind.broken ≡ None)
-  -- where the answer is that there is no plan, there is none after the event, and the item told is the one that the rows break
+  -- where the answer is that there is no plan, there is none after the event, and the item reported is the one that the rows break
   pub unplanned : (item : Broken) → entry.answer ≡ NoPlan item → behind.broken ≡ Some item
   -- a proposal is answered so where there was none before it
   pub unmoved : (m : Move) (item : Broken) → entry.event ≡ event.Move m → entry.answer ≡ NoPlan item → HadNoPlan before item behind
-  -- what is told of a proposal that is refused
+  -- what is reported of a proposal that is refused
   pub breaking : (m : Move) (item : Broken) → entry.event ≡ event.Move m → entry.answer ≡ Breaks item → BreaksFirst before m item
   pub dearer : (m : Move) (now would : Grains) → entry.event ≡ event.Move m → entry.answer ≡ Dearer now would → IsDearer before m now would
   -- a proposal to a published plan is accepted exactly where the moved plan is feasible and cheaper
   pub accepted : (m : Move) → entry.event ≡ event.Move m → before.broken ≡ None → is_accepted entry.answer ≡ true ↔ Improves before m
-  -- the cost that is told of an accepted proposal is the cost of the rows after it, and less than before
+  -- the cost that is reported of an accepted proposal is the cost of the rows after it, and less than before
   pub stored : (told : Grains) → entry.answer ≡ Accepted told → (told ≡ grains (cost_of behind)) × (cost_of behind < cost_of before)
   -- an accepted proposal publishes the moved plan
   pub moved_to : (m : Move) → entry.event ≡ event.Move m → is_accepted entry.answer ≡ true → (behind.inst ≡ before.inst) × (behind.plan ≡ after_move before.inst before.plan m) × (behind.broken ≡ None)

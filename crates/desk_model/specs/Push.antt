@@ -27,14 +27,14 @@ with_leg P legs x = filter (λ y. precedes P y x) legs ++ x ∷ filter (λ y. pr
 unfoldable pub rotation : Situation → PlanRows → ℕ → List ℕ
 rotation I P p = fold (with_leg P) [] (filter (flies P p) (numbers (legs_of I)))
 
--- whether leg x comes behind the leg `after` on its aircraft; where none is named, each leg does
-abbrev pub comes_behind : PlanRows → Option Leg → ℕ → Bool
-comes_behind P None x = true
-comes_behind P (Some leg) x = precedes P leg.0 x
+-- whether leg x comes after the leg `after` on its aircraft; where none is named, each leg does
+abbrev pub comes_after : PlanRows → Option Leg → ℕ → Bool
+comes_after P None x = true
+comes_after P (Some leg) x = precedes P leg.0 x
 
--- the legs that are placed: the movable legs of aircraft p behind the leg `after`, in their order. None is behind a leg that the aircraft does not fly
+-- the legs that are placed: the movable legs of aircraft p after the leg `after`, in their order. None is after a leg that the aircraft does not fly
 unfoldable pub pushed_legs : Situation → PlanRows → ℕ → Option Leg → List ℕ
-pushed_legs I P p after = filter (λ x. not (fixed I x) && comes_behind P after x) (rotation I P p)
+pushed_legs I P p after = filter (λ x. not (fixed I x) && comes_after P after x) (rotation I P p)
 
 -- ---- from when on
 
@@ -139,7 +139,7 @@ pub record ArrivesBeside (I : Situation) (Q : PlanRows) (x a h y : ℕ) : Type 0
   pub from : 60 * h ≤ dep + (leg_at I y).block
   pub to : dep + (leg_at I y).block < 60 * h + 60
 
--- leg x is one that is placed: a movable leg of aircraft p behind the leg `after`, or any where none is named
+-- leg x is one that is placed: a movable leg of aircraft p after the leg `after`, or any where none is named
 pub record IsPushed (I : Situation) (P : PlanRows) (p : ℕ) (after : Option Leg) (x : ℕ) : Type 0 where
   pub leg : x < legs_of I
   pub dep : ℕ
@@ -173,7 +173,7 @@ pub record KeepsItsRow (I : Situation) (P Q R : PlanRows) (p x : ℕ) : Type 0 w
   pub row : row_at R x ≡ row_at P x
   pub none : (t : ℕ) → MayDepart I P Q p x t → ⊥
 
--- leg x is placed behind the legs `done`: plan P is that at the step's start, and plan R that after it
+-- leg x is placed after the legs `done`: plan P is that at the step's start, and plan R that after it
 pub record PlacesLeg (I : Situation) (P R : PlanRows) (p : ℕ) (done : List ℕ) (x : ℕ) : Type 0 where
   -- the plan as it stands then: the legs placed before are where they stay, and all others are where they were
   pub plan : PlanRows

@@ -14,20 +14,20 @@ passengers_on test groups = sum_by (λ group. if test group.path then group.coun
 abbrev pub count_on : List (Leg × Cabin) → List Group → ℕ
 count_on path groups = passengers_on (λ other. same_path other path) groups
 
--- whether a group's path comes before a path, or behind it
+-- whether a group's path comes before a path, or after it
 abbrev pub is_before : List (Leg × Cabin) → Group → Bool
 is_before path group = is_lt (path_cmp group.path path)
 
-abbrev pub is_behind : List (Leg × Cabin) → Group → Bool
-is_behind path group = is_gt (path_cmp group.path path)
+abbrev pub is_after : List (Leg × Cabin) → Group → Bool
+is_after path group = is_gt (path_cmp group.path path)
 
 -- the group of n passengers on a path; there is none where n is 0
 abbrev pub group_of : ℕ → List (Leg × Cabin) → List Group
 group_of n path = if n == 0 then [] else (let group : Group = record { count = n; path = path } in group ∷ [])
 
--- the groups with n passengers on a path, between the groups before it and those behind it
+-- the groups with n passengers on a path, between the groups before it and those after it
 abbrev pub with_count : List (Leg × Cabin) → ℕ → List Group → List Group
-with_count path n groups = filter (is_before path) groups ++ (group_of n path ++ filter (is_behind path) groups)
+with_count path n groups = filter (is_before path) groups ++ (group_of n path ++ filter (is_after path) groups)
 
 -- n passengers leave a path, n come to a path, and both
 abbrev pub with_fewer : List (Leg × Cabin) → ℕ → List Group → List Group
@@ -39,7 +39,7 @@ with_more path n groups = with_count path (count_on path groups + n) groups
 unfoldable pub groups_after_rebook : List (Leg × Cabin) → List (Leg × Cabin) → ℕ → List Group → List Group
 groups_after_rebook path to n groups = with_more to n (with_fewer path n groups)
 
--- Rebook: as many passengers of reservation r as are told go from one path to another, or all that are on it where they are fewer
+-- Rebook: as many passengers of reservation r as it names go from one path to another, or all that are on it where they are fewer
 unfoldable pub after_rebook : PlanRows → ℕ → List (Leg × Cabin) → List (Leg × Cabin) → ℕ → PlanRows
 after_rebook P r path to count =
     let groups = groups_at P r in

@@ -24,7 +24,7 @@ pub record SetsLeg (P Q : PlanRows) (x : ℕ) (was new : Row) : Type 0 where
   pub groups : Q.groups ≡ P.groups
   pub nothing : (row_at P x ≡ was → ⊥) → Q ≡ P
 
--- each kind of step is told in a file of its own
+-- each kind of step is defined in a file of its own
 unfoldable pub after_step : Situation → PlanRows → Step → PlanRows
 after_step I P (Set leg was new) = after_set P leg.0 was new
 after_step I P (Push plane after) = after_push I P plane.0 after

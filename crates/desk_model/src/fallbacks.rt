@@ -50,7 +50,7 @@ pub fn a_settled_plan_has_each_fixed_leg_as_it_is_due()
 {}
 
 /// Before aircraft are pushed, a Shift cancels each movable leg that is ordered off, and each movable
-/// leg that comes behind such a leg on its aircraft. All others keep their rows, and each reservation
+/// leg that comes after such a leg on its aircraft. All others keep their rows, and each reservation
 /// its groups.
 pub fn a_shift_cancels_legs_from_the_first_ordered_off_on()
     ensures stopped { (I : Situation) (P : PlanRows) (x : ℕ) → IsStopped I P x → row_at (stopped I P) x ≡ Cancelled }
@@ -72,7 +72,7 @@ pub fn a_shift_pushes_all_aircraft_in_turn()
 
 /// A Shift leaves the rows that the pushes make of a settled plan in which legs are cancelled from the
 /// first on that is ordered off. So each fixed leg is as it is due, each movable leg that is ordered off
-/// or comes behind such a leg on its aircraft is cancelled, and each other movable leg that was flown is
+/// or comes after such a leg on its aircraft is cancelled, and each other movable leg that was flown is
 /// flown by the same aircraft. Each reservation is tidied: the passengers on a carried path that meets
 /// C13, C14 and C15 stay on it, and there is none on another carried path.
 pub fn a_shift_keeps_what_is_due_and_flies_no_leg_ordered_off()

@@ -16,9 +16,9 @@ ghost use Rattle.desk_model.specs.Promises.{KeepsPromises, state_at};
 /// stored cost is the cost of the rows. A batch adds its orders, and leaves the rows that the desk
 /// falls back on; it is answered with the name of the first of the three that is feasible, or with the
 /// first item that the rows of Ground break. Where the answer is that there is no plan, the state after
-/// it has none, and breaks the item that was told. A proposal to a published plan is accepted exactly
+/// it has none, and breaks the item that was reported. A proposal to a published plan is accepted exactly
 /// where the moved plan is feasible and cheaper, and every other answer to one changes nothing, so that
-/// between two batches costs only fall; each tells the item or the costs of the moved plan, or that
+/// between two batches costs only fall; each names the item or the costs of the moved plan, or that
 /// there was no plan. Two beginnings of the history with equally many changes have the same state.
 pub fn legal_histories_keep_the_promises()
     ensures { (I : Situation) (h : Items Recorded) → IsLegal (opening I) h → KeepsPromises I h }
@@ -37,7 +37,7 @@ pub fn a_state_has_a_plan_exactly_where_its_rows_are_feasible()
 {}
 
 /// The rows of a state's day are those of the opening, and so are the orders, with those of all batches
-/// behind them in the order in which they were taken. For now each state's day has gone on no further
+/// after them in the order in which they were taken. For now each state's day has gone on no further
 /// than the opening's.
 pub fn a_states_orders_are_those_of_its_batches()
     ensures rows { (I : Situation) (h : Items Recorded) → (state (opening I) h).inst.parts ≡ I.parts }

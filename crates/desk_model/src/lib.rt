@@ -1,10 +1,10 @@
 //! What becomes of a plan, as definitions: steps, answers, states and histories, and what they promise.
 //!
-//! The definitions stand in `specs/`: `Steps`, what a move makes of a plan; `States`, what the desk
+//! The definitions are in `specs/`: `Steps`, what a move makes of a plan; `States`, what the desk
 //! answers to an event, and the state after it; `Fallback`, what it falls back on when a batch of
 //! disruptions arrives; `Histories`, lists of entries and which of them are legal; `Promises`, what
 //! holds of each legal history; `Batches`, what is answered to a batch. What a plan has to meet and
-//! what it costs stands in `desk_rules`, and which orders decide in `desk_data`.
+//! what it costs is in `desk_rules`, and which orders decide in `desk_data`.
 //!
 //! The code here is the types that the definitions speak of (`Event`, `Answer`, `Entry`, `Fallback`),
 //! and laws: each is a public function with an empty body, whose contract is the law.
@@ -19,7 +19,7 @@ mod histories;
 mod steps;
 
 pub use answer::{Answer, Entry, Event};
-pub use batches::{a_batch_is_answered_by_the_first_that_is_feasible, later_orders_decide};
+pub use batches::a_batch_is_answered_by_the_first_that_is_feasible;
 pub use desk_data::{Batch, Broken, Grains};
 pub use fallbacks::{
     Fallback, Which, a_ground_plan_flies_no_movable_leg,

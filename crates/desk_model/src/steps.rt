@@ -65,7 +65,7 @@ pub fn a_swap_exchanges_legs()
     ensures same { (P : PlanRows) (p at : ℕ) → after_swap P p p at ≡ P }
 {}
 
-/// A Push places the movable legs of its aircraft that stand behind the leg that it names, or all of
+/// A Push places the movable legs of its aircraft that come after the leg that it names, or all of
 /// them, in their order. All other rows stay, and all groups. Where the aircraft does not fly the leg
 /// that is named, nothing changes.
 pub fn a_push_places_legs_in_their_order()
@@ -84,7 +84,7 @@ pub fn a_push_places_each_leg_first()
     ensures { (I : Situation) (P : PlanRows) (p : ℕ) (after : Option Leg) (done : Items ℕ) (x : ℕ) (rest : Items ℕ) → IsPlanFor I P → pushed_legs I P p after ≡ done ++ x ∷ rest → PlacesLeg I P (after_push I P p after) p done x }
 {}
 
-/// A Rebook has passengers of one reservation go from one path to another, as many as it tells or all
+/// A Rebook has passengers of one reservation go from one path to another, as many as it names or all
 /// that are on the path where they are fewer. Where the two paths are one, or nobody is on the first,
 /// nothing changes.
 pub fn a_rebook_moves_passengers_between_two_paths()

@@ -11,7 +11,7 @@ use Rattle.desk_rules.specs.Rotations.{precedes}
 use Rattle.desk_rules.specs.Maintenance.{flies}
 use Rattle.desk_rules.proofs.HourLaws.{length-numbers}
 use Rattle.desk_rules.proofs.RotationLaws.{precedes-holds}
-use Rattle.desk_model.specs.Push.{with_leg, rotation, comes_behind, pushed_legs}
+use Rattle.desk_model.specs.Push.{with_leg, rotation, comes_after, pushed_legs}
 use Rattle.desk_model.proofs.RotationOrder.{precedes-itself, precedes-trans}
 use Rattle.plan_push.specs.declared.pushed.Placing.{Placing}
 
@@ -66,7 +66,7 @@ length-rotation I P p =
 pub length-pushed_legs : (I : Situation) (P : PlanRows) (p : ℕ) (after : Option Leg) → length (pushed_legs I P p after) ≤ legs_of I
 unfolding pushed_legs
 length-pushed_legs I P p after =
-    omega (arith, length-filter-le (λ x. not (fixed I x) && comes_behind P after x) (rotation I P p), length-rotation I P p)
+    omega (arith, length-filter-le (λ x. not (fixed I x) && comes_after P after x) (rotation I P p), length-rotation I P p)
 
 pub length-placings : (I : Situation) (P : PlanRows) (p : ℕ) (after : Option Leg) (all : List Placing) → map (λ placing. placing.leg.0) all ≡ pushed_legs I P p after → length all ≤ legs_of I
 length-placings I P p after all is =

@@ -13,7 +13,7 @@ use Rattle.plan_moves.specs.declared.moves.Move.{Move}
 use Rattle.desk_data.specs.Situation.{Situation, earliest}
 use Rattle.desk_data.specs.PlanRows.{PlanRows, row_at}
 
--- a delay, by the leg's row: the leg departs so many minutes later, the legs behind it on its aircraft are placed anew, and passengers whose paths break are no longer carried. Of a cancelled leg nothing is delayed
+-- a delay, by the leg's row: the leg departs so many minutes later, the legs after it on its aircraft are placed anew, and passengers whose paths break are no longer carried. Of a cancelled leg nothing is delayed
 abbrev pub delay_steps : Leg → ℕ → Row → List Step
 delay_steps leg minutes (Flown plane dep) =
     Set leg (Flown plane dep) (Flown plane (record { 0 = dep.0 + minutes })) ∷ Push plane (Some leg) ∷ Tidy ∷ []

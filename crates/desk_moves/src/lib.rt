@@ -5,14 +5,14 @@
 //!     eval.least_broken(), eval.cost()                                // of the plan that the move makes
 //!     undo(&mut eval, way_back);                                      // as before the move; or keep(way_back)
 //!
-//! A step is a walk over what it may change, and changes the evaluator place by place: `plan_push` tells
+//! A step is a walk over what it may change, and changes the evaluator place by place: `plan_push` says
 //! which legs a Push places and when each can depart, `plan_groups` the groups that a Rebook, a Tidy and a
 //! Refill make of a reservation. `apply` remembers how deep the evaluator's past was, and `undo` goes back
 //! to there, which takes no memory; where memory runs out within a move, `apply` goes back by itself.
 //!
 //! Proved: the plan after `apply` is `after_move` of `desk_model`, and the instance stays; after an error
 //! the evaluator is as before; `undo` after `apply` gives the evaluator of before, with what it breaks and
-//! what it costs; each usual move is its definition in `specs/UsualMoves`, and fits. It stands on
+//! what it costs; each usual move is its definition in `specs/UsualMoves`, and fits. It depends on
 //! `desk_eval`, `plan_push`, `plan_groups` and what is below them.
 #![tactic(auto)]
 

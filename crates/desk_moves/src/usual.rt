@@ -13,7 +13,7 @@ use plan_pages::Pages;
 use std::alloc::Global;
 
 /// Delays a leg by some minutes, at most 2,880, from its present departure; it departs then before minute
-/// 52,500,000. The movable legs behind it on its aircraft are placed anew, and passengers whose paths
+/// 52,500,000. The movable legs after it on its aircraft are placed anew, and passengers whose paths
 /// break are no longer carried. Of a cancelled leg the move is a Tidy alone. The move fits the instance. The
 /// only error is out of memory.
 pub fn delay(

@@ -11,7 +11,7 @@ use Rattle.desk_model.specs.declared.answer.Entry.{Entry}
 use Rattle.desk_model.specs.States.{opening}
 use Rattle.desk_model.specs.Histories.{state, proposal_limit, batch_limit, entry_of}
 use Rattle.desk_core.specs.Recorded.{Recorded, state_of, with_entry}
-use Rattle.near_moves.specs.Descent.{descent, recovery_behind, recovery}
+use Rattle.near_moves.specs.Descent.{descent, recovery_after, recovery}
 use Rattle.near_moves.proofs.DescentLaws.{descent-length}
 use Rattle.desk_descent.specs.Ending.{ending, after_descent}
 use Rattle.near_moves.specs.declared.ended.SearchEnd.{SearchEnd}
@@ -20,14 +20,14 @@ use Rattle.desk_runs.specs.Commands.{history_files}
 use Rattle.desk_runs.specs.Outcome.{Outcome}
 use Rattle.desk_runs.specs.Runs.{World}
 use Rattle.desk_runs.specs.Finishing.{Completes}
-use Rattle.desk_tasks.specs.Play.{search_told, history_outcome}
-use Rattle.desk_tasks.specs.Recover.{recovery_on, recovered_history, search_end, told_alone, recovered, tried}
+use Rattle.desk_tasks.specs.Play.{search_remarks, history_outcome}
+use Rattle.desk_tasks.specs.Recover.{recovery_on, recovered_history, search_end, reported_alone, recovered, tried}
 use Rattle.desk_recover.specs.Recovered.{IsRecoveredBook}
 
 -- the batches that are left make of the book's journal the recovery of all; and where one was taken, its search ended so
 pub record Continues (I : Situation) (moves : ℕ) (B : Recorded) (ended : Option SearchEnd) (i : ℕ) (left batches : List Batch) : Type 0 where
   pub same : B.opening ≡ I
-  pub rest : recovery_behind moves (opening I) B.journal left ≡ recovery moves (opening I) batches
+  pub rest : recovery_after moves (opening I) B.journal left ≡ recovery moves (opening I) batches
   pub few : length B.journal ≤ proposal_limit + i
   pub told : 1 ≤ i → ended ≡ ending moves (state_of B) B.journal
 
@@ -37,27 +37,27 @@ continues-start I moves B ended batches is =
     subst (λ (D : Recorded). Continues I moves D ended 0 (drop 0 batches) batches) (sym is)
     (record { same = refl; rest = refl; few = omega arith; told = λ some. absurd (omega (arith, some)) })
 
--- the book behind a batch for which there is room
+-- the book after a batch for which there is room
 taken_in : (B : Recorded) (batch : Batch) → length B.journal < batch_limit → with_entry B 0 (event.Batch batch) ≡ record B { journal = B.journal ++ entry_of (state_of B) 0 (event.Batch batch) ∷ [] }
 taken_in B batch lt = rw (lt-ltb (length B.journal) batch_limit lt) refl
 
--- the journal behind a batch and its descent
+-- the journal after a batch and its descent
 abbrev behind : Situation → ℕ → List Entry → Batch → List Entry
 behind I moves h batch = descent moves (opening I) (h ++ entry_of (state (opening I) h) 0 (event.Batch batch) ∷ [])
 
-behind_is : (I : Situation) (moves : ℕ) (B C D : Recorded) (batch : Batch) → B.opening ≡ I → length B.journal < batch_limit → C ≡ with_entry B 0 (event.Batch batch) → D ≡ after_descent moves C → D ≡ record { opening = I; journal = behind I moves B.journal batch }
-behind_is I moves B C D batch same lt taken down =
+after_is : (I : Situation) (moves : ℕ) (B C D : Recorded) (batch : Batch) → B.opening ≡ I → length B.journal < batch_limit → C ≡ with_entry B 0 (event.Batch batch) → D ≡ after_descent moves C → D ≡ record { opening = I; journal = behind I moves B.journal batch }
+after_is I moves B C D batch same lt taken down =
     down ∙ ap (after_descent moves) (taken ∙ taken_in B batch lt)
     ∙ ap (λ (J : Situation). let E : Recorded = record { opening = J; journal = behind J moves B.journal batch } in E) same
 
 pub continues-next : (I : Situation) (moves : ℕ) (B C D : Recorded) (was now : Option SearchEnd) (batch : Batch) (i : ℕ) (batches : List Batch) → i < length batches → length batches ≤ 1001 → batch ≡ get_or batches i batch
     → C ≡ with_entry B 0 (event.Batch batch) → D ≡ after_descent moves C → now ≡ ending moves (state_of D) D.journal
     → Continues I moves B was i (drop i batches) batches → Continues I moves D now (i + 1) (drop (i + 1) batches) batches
-unfolding recovery_behind
+unfolding recovery_after
 continues-next I moves B C D was now batch i batches lt most at taken down told h =
     let left : drop i batches ≡ batch ∷ drop (i + 1) batches = rw add-one (drop-cons batches i batch lt ∙ ap (λ (x : Batch). x ∷ drop (suc i) batches) (sym at)) in
     let room : length B.journal < batch_limit = omega (arith, h.few, lt, most) in
-    let is : D ≡ record { opening = I; journal = behind I moves B.journal batch } = behind_is I moves B C D batch h.same room taken down in
+    let is : D ≡ record { opening = I; journal = behind I moves B.journal batch } = after_is I moves B C D batch h.same room taken down in
     let journal : D.journal ≡ behind I moves B.journal batch = ap (λ (E : Recorded). E.journal) is in
     let g = B.journal ++ entry_of (state (opening I) B.journal) 0 (event.Batch batch) ∷ [] in
     let one : length g ≡ length B.journal + 1 = length-append B.journal (entry_of (state (opening I) B.journal) 0 (event.Batch batch) ∷ []) in
@@ -65,18 +65,18 @@ continues-next I moves B C D was now batch i batches lt most at taken down told 
     let length_is : length D.journal ≡ length (behind I moves B.journal batch) = ap length journal in
     record {
       same = ap (λ (E : Recorded). E.opening) is;
-      rest = ap (λ (j : List Entry). recovery_behind moves (opening I) j (drop (i + 1) batches)) journal
-          ∙ ap (λ (bs : List Batch). recovery_behind moves (opening I) B.journal bs) (sym left)
+      rest = ap (λ (j : List Entry). recovery_after moves (opening I) j (drop (i + 1) batches)) journal
+          ∙ ap (λ (bs : List Batch). recovery_after moves (opening I) B.journal bs) (sym left)
           ∙ h.rest;
       few = omega (arith, few, length_is);
       told = λ some. told;
     }
 
 pub continues-end : (I : Situation) (moves : ℕ) (B : Recorded) (search : Option SearchEnd) (i : ℕ) (batches : List Batch) → 1 ≤ length batches → length batches ≤ i → Continues I moves B search i (drop i batches) batches → IsRecoveredBook I batches moves B search
-unfolding recovery_behind search_end ending
+unfolding recovery_after search_end ending
 continues-end I moves B search i batches some le h =
     let left : drop i batches ≡ [] = drop_of_length-le batches le in
-    let journal : B.journal ≡ recovery moves (opening I) batches = ap (λ (bs : List Batch). recovery_behind moves (opening I) B.journal bs) (sym left) ∙ h.rest in
+    let journal : B.journal ≡ recovery moves (opening I) batches = ap (λ (bs : List Batch). recovery_after moves (opening I) B.journal bs) (sym left) ∙ h.rest in
     let made = λ (J : Situation) (j : List Entry). let E : Recorded = record { opening = J; journal = j } in E in
     let book : B ≡ made I (recovery moves (opening I) batches) = ap (λ (J : Situation). made J B.journal) h.same ∙ ap (made I) journal in
     record {
@@ -86,14 +86,14 @@ continues-end I moves B search i batches some le h =
 
 -- ---- what is written of it
 
-outcome_is : (I : Situation) (batches : List Batch) (moves : ℕ) (B : Recorded) (search : Option SearchEnd) → IsRecoveredBook I batches moves B search → history_outcome B.opening (search_told search) B.journal ≡ recovered (recovery_on I batches moves)
+outcome_is : (I : Situation) (batches : List Batch) (moves : ℕ) (B : Recorded) (search : Option SearchEnd) → IsRecoveredBook I batches moves B search → history_outcome B.opening (search_remarks search) B.journal ≡ recovered (recovery_on I batches moves)
 unfolding recovered_history
 outcome_is I batches moves B search h =
-    ap (λ (E : Recorded). history_outcome E.opening (search_told search) E.journal) h.history
-    ∙ ap (λ (s : Option SearchEnd). history_outcome I (search_told s) (recovery moves (opening I) batches)) h.ended
+    ap (λ (E : Recorded). history_outcome E.opening (search_remarks search) E.journal) h.history
+    ∙ ap (λ (s : Option SearchEnd). history_outcome I (search_remarks s) (recovery moves (opening I) batches)) h.ended
 
-pub recovered-book : (before now : World) (I : Situation) (batches : List Batch) (moves : ℕ) (B : Recorded) (search : Option SearchEnd) (how : Ending) → IsRecoveredBook I batches moves B search → Completes history_files before now (history_outcome B.opening (search_told search) B.journal) how → Completes history_files before now (recovered (recovery_on I batches moves)) how
+pub recovered-book : (before now : World) (I : Situation) (batches : List Batch) (moves : ℕ) (B : Recorded) (search : Option SearchEnd) (how : Ending) → IsRecoveredBook I batches moves B search → Completes history_files before now (history_outcome B.opening (search_remarks search) B.journal) how → Completes history_files before now (recovered (recovery_on I batches moves)) how
 recovered-book before now I batches moves B search how is done = subst (λ (o : Outcome). Completes history_files before now o how) (outcome_is I batches moves B search is) done
 
-pub tried-book : (before now : World) (I : Situation) (batches : List Batch) (moves : ℕ) (B : Recorded) (search : Option SearchEnd) (how : Ending) → IsRecoveredBook I batches moves B search → Completes [] before now (told_alone (history_outcome B.opening (search_told search) B.journal)) how → Completes [] before now (tried (recovery_on I batches moves)) how
-tried-book before now I batches moves B search how is done = subst (λ (o : Outcome). Completes [] before now (told_alone o) how) (outcome_is I batches moves B search is) done
+pub tried-book : (before now : World) (I : Situation) (batches : List Batch) (moves : ℕ) (B : Recorded) (search : Option SearchEnd) (how : Ending) → IsRecoveredBook I batches moves B search → Completes [] before now (reported_alone (history_outcome B.opening (search_remarks search) B.journal)) how → Completes [] before now (tried (recovery_on I batches moves)) how
+tried-book before now I batches moves B search how is done = subst (λ (o : Outcome). Completes [] before now (reported_alone o) how) (outcome_is I batches moves B search is) done

@@ -1,4 +1,4 @@
-//! Recovering a day: its batches arrive one after another, behind each the desk descends, and what came of it is
+//! Recovering a day: its batches arrive one after another, after each the desk descends, and what came of it is
 //! written.
 //!
 //! `recover_day` opens the book of a day, and for each batch has it taken and then descends, as long as a move
@@ -6,9 +6,9 @@
 //! book's history. `try_day` reports that alone, and writes no file.
 //!
 //! Proved: what is written is what that day and these batches come to, `recovered` or `tried` of desk_tasks: the
-//! journal of the history in which behind each batch stands exactly the descent and, where there is one, the
+//! journal of the history in which after each batch stands exactly the descent and, where there is one, the
 //! rotations and itineraries of its last plan, with how the last search ended; or a beginning of it, with the
-//! call that failed. It stands on `desk_descent`, `book_texts` and `desk_tasks`, and on no reader.
+//! call that failed. It depends on `desk_descent`, `book_texts` and `desk_tasks`, and on no reader.
 #![tactic(auto)]
 
 mod recover;

@@ -15,7 +15,7 @@ use desk_folder::{Folder, Sink};
 use desk_runs::Ending;
 use std::alloc::Global;
 
-/// Takes these batches on a day, 1 to 1,001 of them, descends behind each with at most so many accepted moves,
+/// Takes these batches on a day, 1 to 1,001 of them, descends after each with at most so many accepted moves,
 /// and writes the rotations and the itineraries of the last plan where there is one, the journal, and the
 /// report.
 ///

@@ -11,16 +11,16 @@ use Rattle.desk_runs.specs.Commands.{history_files}
 use Rattle.desk_runs.specs.Outcome.{Outcome}
 use Rattle.desk_runs.specs.Runs.{World}
 use Rattle.desk_runs.specs.Finishing.{Completes}
-use Rattle.desk_tasks.specs.Play.{story_on, history, search_told, history_outcome, played}
+use Rattle.desk_tasks.specs.Play.{story_on, history, search_remarks, history_outcome, played}
 
 -- the book that the events of a story end in
 abbrev book_of : Situation → List (ℕ × Event) → Recorded
 book_of I events = record { opening = I; journal = run (opening I) events }
 
-book_outcome : (I : Situation) (events : List (ℕ × Event)) → history_outcome (book_of I events).opening (search_told None) (book_of I events).journal ≡ played (story_on I events)
+book_outcome : (I : Situation) (events : List (ℕ × Event)) → history_outcome (book_of I events).opening (search_remarks None) (book_of I events).journal ≡ played (story_on I events)
 unfolding history
 book_outcome I events = refl
 
-pub played-book : (before now : World) (I : Situation) (events : List (ℕ × Event)) (B : Recorded) (how : Ending) → B ≡ book_of I events → Completes history_files before now (history_outcome B.opening (search_told None) B.journal) how → Completes history_files before now (played (story_on I events)) how
+pub played-book : (before now : World) (I : Situation) (events : List (ℕ × Event)) (B : Recorded) (how : Ending) → B ≡ book_of I events → Completes history_files before now (history_outcome B.opening (search_remarks None) B.journal) how → Completes history_files before now (played (story_on I events)) how
 played-book before now I events B how is done =
-    subst (λ (o : Outcome). Completes history_files before now o how) (ap (λ (C : Recorded). history_outcome C.opening (search_told None) C.journal) is ∙ book_outcome I events) done
+    subst (λ (o : Outcome). Completes history_files before now o how) (ap (λ (C : Recorded). history_outcome C.opening (search_remarks None) C.journal) is ∙ book_outcome I events) done

@@ -4,7 +4,7 @@
 //!
 //! Proved: what is written is what that day and these events come to, `played` of desk_tasks: the journal of
 //! their history and, where there is one, the rotations and itineraries of its last plan; or a beginning of
-//! it, with the call that failed. It stands on `desk_core`, `book_texts` and `desk_tasks`, and on no reader.
+//! it, with the call that failed. It depends on `desk_core`, `book_texts` and `desk_tasks`, and on no reader.
 #![tactic(auto)]
 
 mod play;

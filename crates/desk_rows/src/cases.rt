@@ -4,6 +4,8 @@ use crate::lines::file_of;
 use crate::play::play;
 use crate::texts::Texts;
 use std::io::ErrorKind;
+use std::sync::Wait;
+use std::thread::Threads;
 use std::{fs, io};
 
 // The names of the folders in a folder, or of the files, in order.
@@ -40,15 +42,19 @@ fn add_folder(rt: &HostRuntime, texts: &mut Texts, folder: &str) -> io::Result<(
     Ok(())
 }
 
-/// Plays a case: none where it gives what its transcript says, and else the transcript as it came.
-pub(crate) fn play_case(rt: &HostRuntime, name: &str) -> io::Result<Option<String>> {
+/// Plays a case, with these threads for its runs: none where it gives what its transcript says, and else the transcript as it came.
+pub(crate) fn play_case<R: Threads + Wait + Sync>(
+    rt: &HostRuntime,
+    threads: &R,
+    name: &str,
+) -> io::Result<Option<String>> {
     let alloc = rt.alloc();
     let mut day = Vec::new(alloc);
     add_folder(rt, &mut day, name)?;
     add_folder(rt, &mut day, "usual")?;
     let path = format!(in alloc; "{name}/transcript")?;
     let transcript = fs::read_to_string(rt, path.as_str())?;
-    let played = play(alloc, day, transcript.as_str())?;
+    let played = play(threads, alloc, day, transcript.as_str())?;
     if played.as_slice() == transcript.as_bytes() {
         return Ok(None);
     }

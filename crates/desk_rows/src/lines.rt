@@ -3,7 +3,7 @@
 use desk_folder::{ALL_FILES, File};
 use std::alloc::{AllocError, Global};
 
-/// A kind of call of which some can be told to fail.
+/// A kind of call of which some can be made to fail.
 #[derive(Clone, Copy)]
 pub(crate) enum Call {
     Next,
@@ -18,7 +18,7 @@ pub(crate) enum Command<'a> {
     Desk(&'a str),
     /// `text FILE TEXT`: the file has this text, in which `\n`, `\r`, `\t`, `\\` and `\xNN` are one byte each
     Text(File, &'a str),
-    /// `rows FILE FROM TO TEXT`: the file has this text behind its own for each number from FROM to TO,
+    /// `rows FILE FROM TO TEXT`: the file has this text after its own for each number from FROM to TO,
     /// which stands in the place of `{}`
     Rows(File, u64, u64, &'a str),
     /// `take FILE`: the file has what the run before wrote
@@ -29,7 +29,7 @@ pub(crate) enum Command<'a> {
     Fail(Call, u64),
     /// `room NUMBER`: the sink takes so many bytes, and then fails
     Room(u64),
-    /// `sizes`: of each file that the run writes its number of bytes is told, and not its text
+    /// `sizes`: of each file that the run writes its number of bytes is given, and not its text
     Sizes,
 }
 
@@ -65,7 +65,7 @@ fn call_of(name: &str) -> Option<Call> {
     }
 }
 
-// The front of a text up to its first blank, and what is behind it.
+// The front of a text up to its first blank, and what is after it.
 fn cut_word(text: &str) -> (&str, &str) {
     text.split_once(' ').unwrap_or((text, ""))
 }
@@ -116,7 +116,7 @@ pub(crate) fn line_of(line: &str) -> Line<'_> {
     }
 }
 
-// Where the reading of a text with escapes is: at a byte, behind a backslash, behind its `x`, and behind
+// Where the reading of a text with escapes is: at a byte, after a backslash, after its `x`, and after
 // the first digit, of this value.
 #[derive(Clone, Copy)]
 enum At {
@@ -135,7 +135,7 @@ fn digit(byte: u8) -> u8 {
     }
 }
 
-// The byte that is now complete, and where the reading is behind this one.
+// The byte that is now complete, and where the reading is after this one.
 fn step(at: At, byte: u8) -> (Option<u8>, At) {
     match (at, byte) {
         (At::Byte, b'\\') => (None, At::Mark),

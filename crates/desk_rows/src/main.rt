@@ -1,6 +1,6 @@
 //! Runs the desk over days in memory, and compares what each run gives with what it must give.
 //!
-//! Each folder here but `usual` is a case, as `cases.rt` tells. For each case it prints its name, and
+//! Each folder here but `usual` is a case, as `cases.rt` says. For each case it prints its name, and
 //! where something else came, the transcript as it came. The status is 0 where each case gave what it
 //! must give.
 //!
@@ -17,13 +17,15 @@ mod texts;
 use cases::{case_names, play_case};
 use std::io;
 use std::process::ExitCode;
+use std::sync::Wait;
+use std::thread::Threads;
 
 // Plays each case, and answers how many gave something else than they must give.
-fn play_all(rt: HostRuntime) -> io::Result<u64> {
+fn play_all<R: Threads + Wait + Sync>(rt: HostRuntime, threads: &R) -> io::Result<u64> {
     let names = case_names(&rt)?;
     let mut others = 0u64;
     for name in &names {
-        match play_case(&rt, name.as_str())? {
+        match play_case(&rt, threads, name.as_str())? {
             None => println!(rt; "{name}")?,
             Some(played) => {
                 others = others.saturating_add(1);
@@ -36,6 +38,6 @@ fn play_all(rt: HostRuntime) -> io::Result<u64> {
 }
 
 fn main(rt: HostRuntime) -> io::Result<ExitCode> {
-    let others = play_all(rt)?;
+    let others = play_all(rt, &rt)?;
     Ok(ExitCode::from(u8::from(others > 0)))
 }

@@ -1,4 +1,4 @@
-//! Plays a transcript: runs the desk as its commands say, and puts what each run gave behind them.
+//! Plays a transcript: runs the desk as its commands say, and puts what each run gave after them.
 
 use crate::lines::{Call, Command, Line, line_of, unescaped};
 use crate::sink::ReportSink;
@@ -6,6 +6,8 @@ use crate::texts::{Texts, add_all, push_rows, text_of, written_texts};
 use desk_folder::{ALL_FILES, File, FreeGate, MemFolder};
 use desk_top::desk_main;
 use std::alloc::{AllocError, Global};
+use std::sync::Wait;
+use std::thread::Threads;
 
 // The calls of the next run that are to fail, and the bytes that its sink takes.
 struct Faults {
@@ -72,7 +74,7 @@ struct Player {
     /// the texts of the next run that are changed
     changed: Texts,
     faults: Faults,
-    /// whether of each file that the next run writes its number of bytes is told, and not its text
+    /// whether of each file that the next run writes its number of bytes is given, and not its text
     sizes: bool,
     /// what the run before wrote
     written: Texts,
@@ -97,7 +99,12 @@ impl Drop for Player {
 }
 
 /// Plays a transcript over a day, and answers it with what came.
-pub(crate) fn play(alloc: Global, day: Texts, transcript: &str) -> Result<Vec<u8>, AllocError> {
+pub(crate) fn play<R: Threads + Wait + Sync>(
+    threads: &R,
+    alloc: Global,
+    day: Texts,
+    transcript: &str,
+) -> Result<Vec<u8>, AllocError> {
     let mut player = Player {
         alloc,
         day,
@@ -109,7 +116,7 @@ pub(crate) fn play(alloc: Global, day: Texts, transcript: &str) -> Result<Vec<u8
         played: Vec::new(alloc),
     };
     for line in transcript.lines() {
-        player.play_line(line)?;
+        player.play_line(threads, line)?;
     }
     if player.runs == 0 {
         player.push("nothing was run\n")?;
@@ -147,7 +154,7 @@ impl Player {
         self.played.extend_from_slice(text.as_bytes())
     }
 
-    // Adds a text of whole lines; a backslash tells that the last one has no end.
+    // Adds a text of whole lines; a backslash says that the last one has no end.
     fn push_text(&mut self, text: &[u8]) -> Result<(), AllocError> {
         self.played.extend_from_slice(text)?;
         match text.last() {
@@ -156,7 +163,11 @@ impl Player {
         }
     }
 
-    fn play_line(&mut self, line: &str) -> Result<(), AllocError> {
+    fn play_line<R: Threads + Wait + Sync>(
+        &mut self,
+        threads: &R,
+        line: &str,
+    ) -> Result<(), AllocError> {
         let meaning = line_of(line);
         if matches!(meaning, Line::Given) {
             return Ok(());
@@ -164,15 +175,19 @@ impl Player {
         self.push(line)?;
         self.push("\n")?;
         match meaning {
-            Line::Command(command) => self.obey(command),
+            Line::Command(command) => self.obey(threads, command),
             Line::Unknown => self.push("no command\n"),
             Line::Note | Line::Given => Ok(()),
         }
     }
 
-    fn obey(&mut self, command: Command<'_>) -> Result<(), AllocError> {
+    fn obey<R: Threads + Wait + Sync>(
+        &mut self,
+        threads: &R,
+        command: Command<'_>,
+    ) -> Result<(), AllocError> {
         match command {
-            Command::Desk(words) => self.run(words),
+            Command::Desk(words) => self.run(threads, words),
             Command::Text(file, text) => {
                 let text = unescaped(self.alloc, text)?;
                 self.change(file, text)
@@ -227,14 +242,25 @@ impl Player {
         Ok(())
     }
 
-    fn run(&mut self, words: &str) -> Result<(), AllocError> {
+    fn run<R: Threads + Wait + Sync>(
+        &mut self,
+        threads: &R,
+        words: &str,
+    ) -> Result<(), AllocError> {
         let alloc = self.alloc;
         let words = words_of(alloc, words)?;
         let mut inputs = std::mem::replace(&mut self.changed, Vec::new(alloc));
         add_all(&mut inputs, self.day.as_slice())?;
         let faults = std::mem::replace(&mut self.faults, no_faults(alloc));
         let (mut folder, mut sink) = faults.outside(alloc, inputs);
-        let status = desk_main(alloc, words.as_slice(), &mut folder, &mut sink, &FreeGate);
+        let status = desk_main(
+            threads,
+            alloc,
+            words.as_slice(),
+            &mut folder,
+            &mut sink,
+            &FreeGate,
+        );
         self.runs = self.runs.saturating_add(1);
         self.tell(status, sink.bytes.as_slice(), &folder)
     }

@@ -16,7 +16,7 @@ pub(crate) fn text_of(texts: &[(File, Vec<u8>)], file: File) -> &[u8] {
     &[]
 }
 
-/// Adds copies of texts behind these.
+/// Adds copies of texts after these.
 pub(crate) fn add_all(texts: &mut Texts, more: &[(File, Vec<u8>)]) -> Result<(), AllocError> {
     let alloc = *texts.allocator();
     for (file, text) in more {
@@ -25,7 +25,7 @@ pub(crate) fn add_all(texts: &mut Texts, more: &[(File, Vec<u8>)]) -> Result<(),
     Ok(())
 }
 
-// Where a number goes in a row: behind how many bytes its `{}` begins.
+// Where a number goes in a row: after how many bytes its `{}` begins.
 fn place_of_number(row: &[u8]) -> Option<usize> {
     row.windows(2).position(|two| two == b"{}".as_slice())
 }

@@ -22,7 +22,7 @@ one_none : {X : Type 0} (b : Bool) (x : X) → cond b (Some x) None ≡ None →
 one_none true x h = absurd cc
 one_none false x h = refl
 
--- the first of a list, and those behind it
+-- the first of a list, and those after it
 pub none-cons : {X : Type 0} (p : X → Bool) (x : X) (xs : List X) → find p (x ∷ xs) ≡ None → (p x ≡ false) × (find p xs ≡ None)
 none-cons p x xs h = let parts = find_none-parts p (x ∷ []) xs h in (one_none (p x) x parts.0, parts.1)
 

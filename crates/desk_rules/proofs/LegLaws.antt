@@ -12,7 +12,7 @@ use Rattle.desk_data.specs.declared.row.Row.TheVariants.{Flown, Cancelled}
 use Rattle.desk_data.specs.Situation.{Situation, leg_at, plane_at, fixed, ordered_off, earliest, latest, due, spans}
 use Rattle.desk_data.specs.PlanRows.{PlanRows, row_at}
 use Rattle.desk_rules.specs.Rows.{is_row}
-use Rattle.desk_rules.specs.Rules.{c1_due, c2_in_time, c3_family, c4_range, c7_service, meets_span, keeps_c1, keeps_c2, keeps_c3, keeps_c4, keeps_c7}
+use Rattle.desk_rules.specs.Rules.{c1_due, departs_in_time, c3_family, c4_range, c7_service, meets_span, keeps_c1, keeps_c2, keeps_c3, keeps_c4, keeps_c7}
 use Rattle.desk_rules.specs.Words.{Flies, MeetsSpan, MeetsC1, MeetsC2, MeetsC3, MeetsC4, MeetsC7}
 
 -- ---- C1
@@ -48,35 +48,35 @@ keeps_c1-from I P x h = c1_due-from (due I x) (row_at P x) h
 
 -- ---- C2
 
-c2_in_time-holds : (I : Situation) (P : PlanRows) (x p d : ℕ) → Flies P x p d → c2_in_time I x (row_at P x) ≡ true → (ordered_off I x ≡ false) × (earliest I x ≤ d) × (d ≤ latest I x)
-c2_in_time-holds I P x p d flown h =
+departs_in_time-holds : (I : Situation) (P : PlanRows) (x p d : ℕ) → Flies P x p d → departs_in_time I x (row_at P x) ≡ true → (ordered_off I x ≡ false) × (earliest I x ≤ d) × (d ≤ latest I x)
+departs_in_time-holds I P x p d flown h =
     let here : (not (ordered_off I x) && leb (earliest I x) d && leb d (latest I x)) ≡ true = rw flown at h in
     let outer = and_parts (not (ordered_off I x) && leb (earliest I x) d) (leb d (latest I x)) here in
     let inner = and_parts (not (ordered_off I x)) (leb (earliest I x) d) outer.0 in
     (not-true (ordered_off I x) inner.0, leb-true (earliest I x) d inner.1, leb-true d (latest I x) outer.1)
 
-c2_in_time-from : (I : Situation) (x : ℕ) (r : Row) → ((p d : ℕ) → r ≡ Flown (record { 0 = p }) (record { 0 = d }) → (ordered_off I x ≡ false) × (earliest I x ≤ d) × (d ≤ latest I x)) → c2_in_time I x r ≡ true
-c2_in_time-from I x (Flown p d) h =
+departs_in_time-from : (I : Situation) (x : ℕ) (r : Row) → ((p d : ℕ) → r ≡ Flown (record { 0 = p }) (record { 0 = d }) → (ordered_off I x ≡ false) × (earliest I x ≤ d) × (d ≤ latest I x)) → departs_in_time I x r ≡ true
+departs_in_time-from I x (Flown p d) h =
     let facts = h p.0 d.0 refl in
     and_from (not (ordered_off I x) && leb (earliest I x) d.0) (leb d.0 (latest I x))
     (and_from (not (ordered_off I x)) (leb (earliest I x) d.0) (not_from_false (ordered_off I x) facts.0) (le-leb (earliest I x) d.0 facts.1))
     (le-leb d.0 (latest I x) facts.2)
-c2_in_time-from I x Cancelled h = refl
+departs_in_time-from I x Cancelled h = refl
 
 pub keeps_c2-holds : (I : Situation) (P : PlanRows) (x : ℕ) → keeps_c2 I P x ≡ true → MeetsC2 I P x
 unfolding keeps_c2
 keeps_c2-holds I P x h movable p d flown =
-    elim (or_cases (fixed I x) (c2_in_time I x (row_at P x)) h) [
+    elim (or_cases (fixed I x) (departs_in_time I x (row_at P x)) h) [
       | inl stays ↦ absurd (true≢false (sym stays ∙ movable))
-      | inr in_time ↦ c2_in_time-holds I P x p d flown in_time
+      | inr in_time ↦ departs_in_time-holds I P x p d flown in_time
     ]
 
 pub keeps_c2-from : (I : Situation) (P : PlanRows) (x : ℕ) → MeetsC2 I P x → keeps_c2 I P x ≡ true
 unfolding keeps_c2
 keeps_c2-from I P x h =
     elim (cases_Bool (fixed I x)) [
-      | inl stays ↦ or_left (fixed I x) (c2_in_time I x (row_at P x)) stays
-      | inr movable ↦ or_right (fixed I x) (c2_in_time I x (row_at P x)) (c2_in_time-from I x (row_at P x) (h movable))
+      | inl stays ↦ or_left (fixed I x) (departs_in_time I x (row_at P x)) stays
+      | inr movable ↦ or_right (fixed I x) (departs_in_time I x (row_at P x)) (departs_in_time-from I x (row_at P x) (h movable))
     ]
 
 -- ---- C3

@@ -54,7 +54,7 @@ departs_from-from P p at x d flown no_less =
 
 -- ---- the last leg before a moment
 
--- a leg of the aircraft that departs before the moment, behind leg x
+-- a leg of the aircraft that departs before the moment, after leg x
 abbrev is_later : PlanRows → ℕ → ℕ → ℕ → ℕ → Bool
 is_later P p at x z = departs_before P p at z && precedes P x z
 

@@ -1,4 +1,4 @@
--- The order in which items are told.
+-- The order in which items are reported.
 use Rattle.std.specs.Prelude.{◌≡◌, ℕ, ◌<◌, ◌⊎◌}
 use Rattle.desk_units.specs.Ranks.{cabin_rank}
 use Rattle.desk_data.specs.declared.broken.Broken.{Broken}
@@ -49,6 +49,6 @@ part_of item = 0
 abbrev pub IsLess : ℕ → ℕ → ℕ → ℕ → Type 0
 IsLess a b c d = (a < c) ⊎ ((a ≡ c) × (b < d))
 
--- one item is told before another: by rule, then by what it names, then by hour or cabin
-abbrev pub IsToldBefore : Broken → Broken → Type 0
-IsToldBefore a b = (rule_of a < rule_of b) ⊎ ((rule_of a ≡ rule_of b) × IsLess (named_by a) (part_of a) (named_by b) (part_of b))
+-- one item is reported before another: by rule, then by what it names, then by hour or cabin
+abbrev pub IsReportedBefore : Broken → Broken → Type 0
+IsReportedBefore a b = (rule_of a < rule_of b) ⊎ ((rule_of a ≡ rule_of b) × IsLess (named_by a) (part_of a) (named_by b) (part_of b))

@@ -1,4 +1,4 @@
--- Passengers: the seats that they take, and the paths that they are on. What they booked is told in desk_data.
+-- Passengers: the seats that they take, and the paths that they are on. What they booked is defined in desk_data.
 use Rattle.std.specs.Prelude.{ℕ, ◌+◌, ◌-◌, Bool, true, false, ◌&&◌, ◌==◌, nat_le, if◌then◌else◌, List, length, sum_by}
 use Rattle.std.specs.List.{list_all, list_any}
 use Rattle.desk_units.specs.declared.numbers.Leg.{Leg}

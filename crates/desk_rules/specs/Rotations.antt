@@ -47,4 +47,4 @@ is_leg x (Some leg) = leg.0 == x
 
 -- the ground time of aircraft p between leg x and leg y: shorter where x is the previous leg of y
 abbrev pub ground_time : Situation → ℕ → ℕ → ℕ → ℕ
-ground_time I p x y = if is_leg x (leg_at I y).prev then (plane_at I p).transit else (plane_at I p).turn
+ground_time I p x y = if is_leg x (leg_at I y).prev then (plane_at I p).transit else (plane_at I p).turnaround

@@ -19,12 +19,12 @@ unfoldable pub keeps_c1 : Situation → PlanRows → ℕ → Bool
 keeps_c1 I P x = c1_due (due I x) (row_at P x)
 
 -- C2: a movable leg that is ordered off is cancelled; any other that is flown departs from its earliest to its latest departure
-abbrev pub c2_in_time : Situation → ℕ → Row → Bool
-c2_in_time I x (Flown plane dep) = not (ordered_off I x) && nat_le (earliest I x) dep.0 && nat_le dep.0 (latest I x)
-c2_in_time I x Cancelled = true
+abbrev pub departs_in_time : Situation → ℕ → Row → Bool
+departs_in_time I x (Flown plane dep) = not (ordered_off I x) && nat_le (earliest I x) dep.0 && nat_le dep.0 (latest I x)
+departs_in_time I x Cancelled = true
 
 unfoldable pub keeps_c2 : Situation → PlanRows → ℕ → Bool
-keeps_c2 I P x = fixed I x || c2_in_time I x (row_at P x)
+keeps_c2 I P x = fixed I x || departs_in_time I x (row_at P x)
 
 -- C3: a flown leg's aircraft is of the family of its scheduled aircraft
 abbrev pub c3_family : Situation → ℕ → Row → Bool

@@ -16,7 +16,7 @@ ghost use Rattle.desk_rules.specs.Slots.{arrives_in, departs_in};
 ghost use Rattle.desk_data.specs.Booked.{booked_path, haul_of, reference_of};
 ghost use Rattle.desk_rules.specs.Passengers.{takes};
 ghost use Rattle.desk_rules.specs.Words.{ArrivesIn, DepartsBefore, DepartsIn, HasLeg, IsFeasible, IsHighestCabin, IsHighestHaul, IsLeast};
-ghost use Rattle.desk_rules.specs.Order.{IsToldBefore};
+ghost use Rattle.desk_rules.specs.Order.{IsReportedBefore};
 
 /// A plan breaks no item exactly where it meets each rule, as the rules are written in words:
 ///
@@ -37,16 +37,16 @@ pub fn feasible_plans_meet_the_rules()
     ensures only { (I : Situation) (P : PlanRows) → IsFeasible I P → least I P ≡ None }
 {}
 
-/// The item that is told is broken, and each item before it in the order of rules, and in a rule
+/// The item that is reported is broken, and each item before it in the order of rules, and in a rule
 /// in the order of what it names, is not.
-pub fn the_first_broken_item_is_told()
+pub fn the_first_broken_item_is_reported()
     ensures { (I : Situation) (P : PlanRows) (item : Item) → least I P ≡ Some item → IsLeast I P item }
 {}
 
-/// The order in which items are told: by rule, then by the number of the leg, aircraft, airport or
+/// The order in which items are reported: by rule, then by the number of the leg, aircraft, airport or
 /// reservation that they name, then by hour or cabin. No item is listed twice.
 pub fn the_items_are_in_order()
-    ensures { (I : Situation) → AllPairs IsToldBefore (items I) }
+    ensures { (I : Situation) → AllPairs IsReportedBefore (items I) }
 {}
 
 /// What C9, C10 and C11 count, in words: an aircraft's legs that depart before a moment, and the
@@ -59,13 +59,13 @@ pub fn the_rules_count_legs_as_in_words()
 {}
 
 /// No leg of a plan leaves or reaches an airport in an hour that no item can name: C10 and C11 hold
-/// of the hours behind the last one too, since nothing departs or arrives then.
+/// of the hours after the last one too, since nothing departs or arrives then.
 pub fn legs_are_within_the_hours()
     ensures departs { (I : Situation) (P : PlanRows) (a h x : ℕ) → IsValid I → IsPlanFor I P → DepartsIn I P a h x → h < all_hours }
     ensures arrives { (I : Situation) (P : PlanRows) (a h x : ℕ) → IsValid I → IsPlanFor I P → ArrivesIn I P a h x → h < all_hours }
 {}
 
-/// The item that is told is the first that breaks C1 to C9, where there is none the first that breaks
+/// The item that is reported is the first that breaks C1 to C9, where there is none the first that breaks
 /// C10 or C11, and where there is none either the first that breaks C12 to C15: so the three can be
 /// looked for apart.
 pub fn the_least_is_of_rotations_then_slots_then_passengers()

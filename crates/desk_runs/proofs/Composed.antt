@@ -16,7 +16,7 @@ use Rattle.desk_runs.specs.Commands.{Ask, files_read, files_written}
 use Rattle.desk_runs.specs.Inputs.{Inputs, Tells}
 use Rattle.desk_runs.specs.Reading.{IsUnread, ReadsAmong, StopsAt, StandsFirst}
 use Rattle.desk_runs.specs.Outcome.{Texts, Outcome}
-use Rattle.desk_runs.specs.Runs.{World, world, Meaning, IsUntold, IsWritten, Stops, Finishes, Does, HasCause, IsUnplaced, AreNamed, AreRead, IsReadWhole, IsSilent, Obeys, EndsBy, TellsEnd, Runs}
+use Rattle.desk_runs.specs.Runs.{World, world, Meaning, IsUnreported, IsWritten, Stops, Finishes, Does, HasCause, IsUnplaced, AreNamed, AreRead, IsReadWhole, IsSilent, Obeys, EndsBy, TellsEnd, Runs}
 use Rattle.desk_runs.specs.Finishing.{Leaves, Completes}
 use Rattle.desk_runs.specs.Works.{Meanings, IsUnbegun, IsFair, AtSomeWork}
 
@@ -43,12 +43,12 @@ written_from before mid now sink sink' t same h = put_from (λ f. ⊥) (Appends 
 stops_from : (before mid now : Outside) (sink sink' : SinkSide) (t : Texts) → SameWritten before mid → Stops (world mid sink) (world now sink') t → Stops (world before sink) (world now sink') t
 stops_from before mid now sink sink' t same h = put_from (λ f. Keeps sink.written sink'.written) (AppendsPrefix sink.written sink'.written t.report) t before mid now same h
 
-untold_from : (before mid now : Outside) (sink sink' : SinkSide) → SameWritten before mid → IsUntold (world mid sink) (world now sink') → IsUntold (world before sink) (world now sink')
-untold_from before mid now sink sink' same h = record { written = λ f. h.written f ∙ same f; sink = h.sink }
+unreported_from : (before mid now : Outside) (sink sink' : SinkSide) → SameWritten before mid → IsUnreported (world mid sink) (world now sink') → IsUnreported (world before sink) (world now sink')
+unreported_from before mid now sink sink' same h = record { written = λ f. h.written f ∙ same f; sink = h.sink }
 
 -- ---- where a task was done
 
--- no file is read behind one that its grammar refuses
+-- no file is read after one that its grammar refuses
 abbrev pub InOrder : {Rows Task : Type 0} → Meaning Rows Task → Command → Outside → Outside → Type 0
 InOrder M c before now = (x : Inputs) → Tells (files_read c) before x → (r : Refusal) → M.rows c x ≡ Err r → StopsAt r.file before now
 
@@ -73,7 +73,7 @@ does_from M c before mid now sink sink' t ending.NoPlan x p h tells = (t, p.told
 does_from M c before mid now sink sink' t ending.BrokenRule x p h tells = (t, p.told x tells, finishes_from M before mid now sink sink' t 7 p.tries.only.written p.sound h.0 h.1)
 does_from M c before mid now sink sink' t (ending.WriteFault f) x p h tells = (t, p.told x tells, put_from (λ g. (g ≡ f) × Keeps sink.written sink'.written) ⊥ (M.outcome t).texts before mid now p.tries.only.written h)
 does_from M c before mid now sink sink' t ending.ReportFault x p h tells = (t, p.told x tells, put_from (λ f. ⊥) (AppendsPrefix sink.written sink'.written (M.outcome t).texts.report) (M.outcome t).texts before mid now p.tries.only.written h)
-does_from M c before mid now sink sink' t ending.Memory x p (inl h) tells = inl (untold_from before mid now sink sink' p.tries.only.written h)
+does_from M c before mid now sink sink' t ending.Memory x p (inl h) tells = inl (unreported_from before mid now sink sink' p.tries.only.written h)
 does_from M c before mid now sink sink' t ending.Memory x p (inr h) tells = inr (t, p.told x tells, stops_from before mid now sink sink' (M.outcome t).texts p.tries.only.written h)
 does_from M c before mid now sink sink' t ending.Usage x p h tells = absurd h
 does_from M c before mid now sink sink' t (ending.Refused r) x p h tells = absurd h
@@ -155,8 +155,8 @@ obeys-done M c before mid now sink sink' t how p h = record {
 
 -- ---- where the input set no task
 
-tried_untold : {Rows Task : Type 0} (M : Meaning Rows Task) (c : Command) (before now : Outside) (sink : SinkSide) → Tries M c before now → IsUntold (world before sink) (world now sink)
-tried_untold M c before now sink t = record { written = t.only.written; sink = refl }
+tried_unreported : {Rows Task : Type 0} (M : Meaning Rows Task) (c : Command) (before now : Outside) (sink : SinkSide) → Tries M c before now → IsUnreported (world before sink) (world now sink)
+tried_unreported M c before now sink t = record { written = t.only.written; sink = refl }
 
 tried_unplaced : {Rows Task : Type 0} (M : Meaning Rows Task) (c : Command) (before now : Outside) (sink : SinkSide) (how : Ending) → Tries M c before now → how ≢ ending.PlaceFault → IsUnplaced (world before sink) (world now sink) how
 tried_unplaced M c before now sink how t other = record { no_fault = other; directories = t.only.directories; faults = t.only.place_faults }
@@ -169,7 +169,7 @@ obeys-refused M c before now sink r t gives = record {
   does = gives;
   placed = tried_unplaced M c before now sink (ending.Refused r) t (λ e. absurd cc);
   read = tt;
-  silent = tried_untold M c before now sink t;
+  silent = tried_unreported M c before now sink t;
   kept = omega arith;
   in_order = t.in_order;
   unread = t.only.unread;
@@ -184,7 +184,7 @@ obeys-unread M c before now sink f t among rose stops gives = record {
   does = gives;
   placed = tried_unplaced M c before now sink (ending.ReadFault f) t (λ e. absurd cc);
   read = tt;
-  silent = (tried_untold M c before now sink t, stops);
+  silent = (tried_unreported M c before now sink t, stops);
   kept = omega arith;
   in_order = t.in_order;
   unread = t.only.unread;
@@ -195,7 +195,7 @@ pub obeys-memory : {Rows Task : Type 0} (M : Meaning Rows Task) (c : Command) (b
 obeys-memory M c before now sink t = record {
   no_usage = λ e. absurd cc;
   cause = tt;
-  does = λ x tells. inl (tried_untold M c before now sink t);
+  does = λ x tells. inl (tried_unreported M c before now sink t);
   placed = tried_unplaced M c before now sink ending.Memory t (λ e. absurd cc);
   read = tt;
   silent = tt;
@@ -258,7 +258,7 @@ does_placed M c before placed now sink sink' x ending.PlaceFault same h = h
 does_placed M c before placed now sink sink' x (ending.ReadFault f) same h = h
 does_placed M c before placed now sink sink' x (ending.WriteFault f) same h = (h.0, h.1, put_from (λ g. (g ≡ f) × Keeps sink.written sink'.written) ⊥ (M.outcome h.0).texts before placed now same h.2)
 does_placed M c before placed now sink sink' x ending.ReportFault same h = (h.0, h.1, put_from (λ f. ⊥) (AppendsPrefix sink.written sink'.written (M.outcome h.0).texts.report) (M.outcome h.0).texts before placed now same h.2)
-does_placed M c before placed now sink sink' x ending.Memory same (inl h) = inl (untold_from before placed now sink sink' same h)
+does_placed M c before placed now sink sink' x ending.Memory same (inl h) = inl (unreported_from before placed now sink sink' same h)
 does_placed M c before placed now sink sink' x ending.Memory same (inr h) = inr (h.0, h.1, stops_from before placed now sink sink' (M.outcome h.0).texts same h.2)
 
 read_before : (d placed now : Option (List ℕ)) → placed ≡ d → IfSome placed (λ bytes. now ≡ Some []) → IfSome d (λ bytes. now ≡ Some [])
@@ -280,9 +280,9 @@ read_whole_placed files before placed now sink sink' ending.ReportFault only h =
 read_whole_placed files before placed now sink sink' ending.Memory only h = tt
 
 silent_placed : (before placed now : Outside) (sink sink' : SinkSide) (how : Ending) → PlacesOnly before placed → IsSilent (world placed sink) (world now sink') how → IsSilent (world before sink) (world now sink') how
-silent_placed before placed now sink sink' (ending.Refused r) only h = untold_from before placed now sink sink' only.written h
-silent_placed before placed now sink sink' ending.PlaceFault only h = (untold_from before placed now sink sink' only.written h.0, λ f. unread_from before placed now f only (h.1 f))
-silent_placed before placed now sink sink' (ending.ReadFault f) only h = (untold_from before placed now sink sink' only.written h.0, λ g lt. unread_from before placed now g only (h.1 g lt))
+silent_placed before placed now sink sink' (ending.Refused r) only h = unreported_from before placed now sink sink' only.written h
+silent_placed before placed now sink sink' ending.PlaceFault only h = (unreported_from before placed now sink sink' only.written h.0, λ f. unread_from before placed now f only (h.1 f))
+silent_placed before placed now sink sink' (ending.ReadFault f) only h = (unreported_from before placed now sink sink' only.written h.0, λ g lt. unread_from before placed now g only (h.1 g lt))
 silent_placed before placed now sink sink' ending.Done only h = tt
 silent_placed before placed now sink sink' ending.NoPlan only h = tt
 silent_placed before placed now sink sink' ending.BrokenRule only h = tt
@@ -306,7 +306,7 @@ obeys-placed M c dirs before placed now sink sink' how ok names only run = recor
   unput = λ f other. unput_on before placed now f (only.written f) (only.put_faults f) (run.unput f other);
 }
 
--- ---- the line that tells the ending
+-- ---- the line that names the ending
 
 pub runs-told : {Rows Task : Type 0} (M : Meaning Rows Task) (ask : Option Ask) (before mid : World) (now : SinkSide) (how : Ending) (code : ℕ) → EndsBy M ask before mid how → TellsEnd how mid.sink now code → Runs M ask before (world mid.folder now) code
 runs-told M ask before mid now how code ends told = record { how = how; sink = mid.sink; ends = ends; answer = told.answer; line = told.line; status = told.status }

@@ -1,4 +1,4 @@
--- What a run that was done has written, the line that tells a fault left out, which is then empty.
+-- What a run that was done has written, the line that names a fault left out, which is then empty.
 use Rattle.std.proofs.Common.{◌≡◌, ℕ, ◌≤◌, List, [], ◌++◌, subst, sym, ◌∙◌, arith, refl, inl, inr}
 use Rattle.std.specs.Prelude.{Option, Some, None, Result, Ok, Err}
 use Rattle.std.specs.Io.KnownBytes.{Appends}
@@ -14,11 +14,11 @@ use Rattle.desk_runs.specs.declared.ending.Ending.TheVariants as ending
 use Rattle.desk_runs.specs.Commands.{Ask, files_read}
 use Rattle.desk_runs.specs.Inputs.{Inputs, Tells}
 use Rattle.desk_runs.specs.Outcome.{Texts, fault_text, status_of}
-use Rattle.desk_runs.specs.Runs.{World, Meaning, Does, Finishes, IsTold, IsWritten, Runs}
+use Rattle.desk_runs.specs.Runs.{World, Meaning, Does, Finishes, IsSetTask, IsWritten, Runs}
 use Rattle.desk_runs.specs.Causes.{IsDoneAt, IsDone}
 use Rattle.desk_runs.proofs.CausesLaw.{status_cases}
 
--- nothing is put behind what was put
+-- nothing is put after what was put
 nothing_more : (before mid now : Option (List ℕ)) (text : List ℕ) (answer : Result (Unit {0}) FolderFault) → Appends before mid text → TextAppends mid now [] answer → Appends before now text
 nothing_more None mid now text answer h more = tt
 nothing_more (Some xs) None now text answer h more = absurd h
@@ -52,7 +52,7 @@ not_done : (code n : ℕ) → code ≡ n → 2 ≤ n → n ≤ 6 → IsDoneAt co
 not_done code n e low high (inl le) = omega (arith, e, low, high, le)
 not_done code n e low high (inr is) = omega (arith, e, low, high, is)
 
-finished : {Rows Task : Type 0} (M : Meaning Rows Task) (c : Command) (before now : World) (sink : SinkSide) (x : Inputs) (t : Task) (answer : Result (Unit {0}) FolderFault) (status code : ℕ) → code ≡ status → IsTold M c x t → Finishes M before (record { folder = now.folder; sink = sink }) t status
+finished : {Rows Task : Type 0} (M : Meaning Rows Task) (c : Command) (before now : World) (sink : SinkSide) (x : Inputs) (t : Task) (answer : Result (Unit {0}) FolderFault) (status code : ℕ) → code ≡ status → IsSetTask M c x t → Finishes M before (record { folder = now.folder; sink = sink }) t status
     → TextAppends sink.written now.sink.written [] answer → IsDone M c before now x code
 finished M c before now sink x t answer status code e told h more = record {
   task = t;
@@ -74,7 +74,7 @@ done_by M c before now sink x (ending.WriteFault f) answer code e done does line
 done_by M c before now sink x ending.ReportFault answer code e done does line = absurd (not_done code 5 e (omega arith) (omega arith) done)
 done_by M c before now sink x ending.Memory answer code e done does line = absurd (not_done code 6 e (omega arith) (omega arith) done)
 
--- where the folder tells its input, at 0, 1 and 7 all texts of the task are written
+-- where the folder shows its input, at 0, 1 and 7 all texts of the task are written
 pub done-of : {Rows Task : Type 0} (M : Meaning Rows Task) (a : Ask) (before now : World) (code : ℕ) → Runs M (Some a) before now code → (x : Inputs) → Tells (files_read a.command) before.folder x → IsDoneAt code → IsDone M a.command before now x code
 done-of M a before now code run x tells done =
     elim (status_cases run.how run.answer code run.status) [

@@ -20,15 +20,15 @@ use Rattle.desk_runs.specs.Commands.{Ask, files_read, files_written, reads, writ
 use Rattle.desk_runs.specs.Inputs.{Inputs, Tells}
 use Rattle.desk_runs.specs.Reading.{IsUnread, StopsAt}
 use Rattle.desk_runs.specs.Outcome.{Texts, fault_text, status_of}
-use Rattle.desk_runs.specs.Runs.{World, Meaning, AreNamed, IsPlaced, IsUntold, IsWritten, Stops, StopsIn, StopsInReport, IsTold, Does, AreRead, IsUntouched, Obeys, EndsBy, Runs, status_after}
+use Rattle.desk_runs.specs.Runs.{World, Meaning, AreNamed, IsPlaced, IsUnreported, IsWritten, Stops, StopsIn, StopsInReport, IsSetTask, Does, AreRead, IsUntouched, Obeys, EndsBy, Runs, status_after}
 use Rattle.desk_runs.specs.Causes.{IsDoneAt}
-use Rattle.desk_runs.specs.Standing.{texts_by, finished_texts, AreBegun, AreWhole, IsRefusedSo, IsToldLast, IsNamedAt, IsUnnamed}
+use Rattle.desk_runs.specs.Standing.{texts_by, finished_texts, AreBegun, AreWhole, IsRefusedSo, ReportsFault, IsNamedAt, IsUnnamed}
 use Rattle.desk_runs.proofs.CausesLaw.{status_cases, cause_after, caused-by}
 
--- ---- before the fault's line: writing stopped somewhere, perhaps before its first byte or behind its last one
+-- ---- before the fault's line: writing stopped somewhere, perhaps before its first byte or after its last one
 
-stops_untold : (before mid : World) (t : Texts) → IsUntold before mid → Stops before mid t
-stops_untold before mid t h =
+stops_unreported : (before mid : World) (t : Texts) → IsUnreported before mid → Stops before mid t
+stops_unreported before mid t h =
     let keeps : Keeps before.sink.written mid.sink.written = keeps-same before.sink.written mid.sink.written (ap (λ (s : SinkSide). s.written) h.sink) in
     let none : AppendsPrefix before.sink.written mid.sink.written t.report = (0, appends-nothing before.sink.written mid.sink.written keeps) in
     ArePut-none (λ f. Keeps before.sink.written mid.sink.written) (AppendsPrefix before.sink.written mid.sink.written t.report) t.files before.folder mid.folder
@@ -50,27 +50,27 @@ stops_in_report before mid t h =
     (λ f none. absurd none) (λ part. part) h
 
 -- the texts of the task that the inputs set
-stops_told : {Rows Task : Type 0} (M : Meaning Rows Task) (a : Ask) (before mid : World) (x : Inputs) (t : Task) → IsTold M a.command x t → Stops before mid (M.outcome t).texts → Stops before mid (finished_texts M (Some a) x)
-stops_told {Task = Task} M a before mid x t told h = subst (λ (r : Result Task Refusal). Stops before mid (texts_by M (files_written a.command) r)) (sym told) h
+stops_reported : {Rows Task : Type 0} (M : Meaning Rows Task) (a : Ask) (before mid : World) (x : Inputs) (t : Task) → IsSetTask M a.command x t → Stops before mid (M.outcome t).texts → Stops before mid (finished_texts M (Some a) x)
+stops_reported {Task = Task} M a before mid x t told h = subst (λ (r : Result Task Refusal). Stops before mid (texts_by M (files_written a.command) r)) (sym told) h
 
 stops_does : {Rows Task : Type 0} (M : Meaning Rows Task) (a : Ask) (before mid : World) (x : Inputs) (how : Ending) → Obeys M a before mid how → Does M a.command before mid x how → Stops before mid (finished_texts M (Some a) x)
-stops_does M a before mid x ending.Done run does = stops_told M a before mid x does.0 does.1 (stops_written before mid (M.outcome does.0).texts does.2.written)
-stops_does M a before mid x ending.NoPlan run does = stops_told M a before mid x does.0 does.1 (stops_written before mid (M.outcome does.0).texts does.2.written)
-stops_does M a before mid x ending.BrokenRule run does = stops_told M a before mid x does.0 does.1 (stops_written before mid (M.outcome does.0).texts does.2.written)
+stops_does M a before mid x ending.Done run does = stops_reported M a before mid x does.0 does.1 (stops_written before mid (M.outcome does.0).texts does.2.written)
+stops_does M a before mid x ending.NoPlan run does = stops_reported M a before mid x does.0 does.1 (stops_written before mid (M.outcome does.0).texts does.2.written)
+stops_does M a before mid x ending.BrokenRule run does = stops_reported M a before mid x does.0 does.1 (stops_written before mid (M.outcome does.0).texts does.2.written)
 stops_does M a before mid x ending.Usage run does = absurd does
-stops_does M a before mid x (ending.Refused r) run does = stops_untold before mid (finished_texts M (Some a) x) run.silent
-stops_does M a before mid x ending.PlaceFault run does = stops_untold before mid (finished_texts M (Some a) x) run.silent.0
-stops_does M a before mid x (ending.ReadFault f) run does = stops_untold before mid (finished_texts M (Some a) x) run.silent.0
-stops_does M a before mid x (ending.WriteFault f) run does = stops_told M a before mid x does.0 does.1 (stops_in_file before mid (M.outcome does.0).texts f does.2)
-stops_does M a before mid x ending.ReportFault run does = stops_told M a before mid x does.0 does.1 (stops_in_report before mid (M.outcome does.0).texts does.2)
-stops_does M a before mid x ending.Memory run (inl h) = stops_untold before mid (finished_texts M (Some a) x) h
-stops_does M a before mid x ending.Memory run (inr does) = stops_told M a before mid x does.0 does.1 does.2
+stops_does M a before mid x (ending.Refused r) run does = stops_unreported before mid (finished_texts M (Some a) x) run.silent
+stops_does M a before mid x ending.PlaceFault run does = stops_unreported before mid (finished_texts M (Some a) x) run.silent.0
+stops_does M a before mid x (ending.ReadFault f) run does = stops_unreported before mid (finished_texts M (Some a) x) run.silent.0
+stops_does M a before mid x (ending.WriteFault f) run does = stops_reported M a before mid x does.0 does.1 (stops_in_file before mid (M.outcome does.0).texts f does.2)
+stops_does M a before mid x ending.ReportFault run does = stops_reported M a before mid x does.0 does.1 (stops_in_report before mid (M.outcome does.0).texts does.2)
+stops_does M a before mid x ending.Memory run (inl h) = stops_unreported before mid (finished_texts M (Some a) x) h
+stops_does M a before mid x ending.Memory run (inr does) = stops_reported M a before mid x does.0 does.1 does.2
 
-untouched : (before mid : World) → IsUntouched before mid → IsUntold before mid
+untouched : (before mid : World) → IsUntouched before mid → IsUnreported before mid
 untouched before mid h = record { written = λ f. ap (λ (o : Outside). o.written f) h.folder; sink = h.sink }
 
 stops_by : {Rows Task : Type 0} (M : Meaning Rows Task) (ask : Option Ask) (before mid : World) (x : Inputs) (how : Ending) → Tells (reads ask) before.folder x → EndsBy M ask before mid how → Stops before mid (finished_texts M ask x)
-stops_by M None before mid x how tells ends = stops_untold before mid (finished_texts M None x) (untouched before mid ends.1)
+stops_by M None before mid x how tells ends = stops_unreported before mid (finished_texts M None x) (untouched before mid ends.1)
 stops_by M (Some a) before mid x how tells ends = stops_does M a before mid x how ends (ends.does x tells)
 
 -- so much of the report stands in the sink, none of it where an output file is not whole
@@ -91,7 +91,7 @@ reports_of before mid t h =
 
 -- ---- 2, 3 and 4: nothing is written
 
-silent_by : {Rows Task : Type 0} (M : Meaning Rows Task) (a : Ask) (before mid : World) (how : Ending) → 2 ≤ status_of how → status_of how ≤ 4 → Obeys M a before mid how → IsUntold before mid
+silent_by : {Rows Task : Type 0} (M : Meaning Rows Task) (a : Ask) (before mid : World) (how : Ending) → 2 ≤ status_of how → status_of how ≤ 4 → Obeys M a before mid how → IsUnreported before mid
 silent_by M a before mid (ending.Refused r) low high run = run.silent
 silent_by M a before mid ending.PlaceFault low high run = run.silent.0
 silent_by M a before mid (ending.ReadFault f) low high run = run.silent.0
@@ -103,7 +103,7 @@ silent_by M a before mid (ending.WriteFault f) low high run = absurd (omega arit
 silent_by M a before mid ending.ReportFault low high run = absurd (omega arith)
 silent_by M a before mid ending.Memory low high run = absurd (omega arith)
 
-silent_ask : {Rows Task : Type 0} (M : Meaning Rows Task) (ask : Option Ask) (before mid : World) (how : Ending) → 2 ≤ status_of how → status_of how ≤ 4 → EndsBy M ask before mid how → IsUntold before mid
+silent_ask : {Rows Task : Type 0} (M : Meaning Rows Task) (ask : Option Ask) (before mid : World) (how : Ending) → 2 ≤ status_of how → status_of how ≤ 4 → EndsBy M ask before mid how → IsUnreported before mid
 silent_ask M None before mid how low high ends = untouched before mid ends.1
 silent_ask M (Some a) before mid how low high ends = silent_by M a before mid how low high ends
 
@@ -212,8 +212,8 @@ report_of M ask before mid x how code low (inl e) tells ends = elim (early code)
   | inr gt ↦ (reports_of before mid (finished_texts M ask x) (stops_by M ask before mid x how tells ends), λ le. absurd (omega (arith, gt, le)))
 ]
 
-pub told-last : {Rows Task : Type 0} (M : Meaning Rows Task) (ask : Option Ask) (before now : World) (code : ℕ) → Runs M ask before now code → (x : Inputs) → Tells (reads ask) before.folder x → 2 ≤ code → IsToldLast M ask before now x code
-told-last M ask before now code run x tells low =
+pub fault-reported : {Rows Task : Type 0} (M : Meaning Rows Task) (ask : Option Ask) (before now : World) (code : ℕ) → Runs M ask before now code → (x : Inputs) → Tells (reads ask) before.folder x → 2 ≤ code → ReportsFault M ask before now x code
+fault-reported M ask before now code run x tells low =
     let mid : World = record { folder = now.folder; sink = run.sink } in
     let status = status_cases run.how run.answer code run.status in
     let report = report_of M ask before mid x run.how code low status tells run.ends in

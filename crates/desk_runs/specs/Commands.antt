@@ -1,5 +1,5 @@
 -- The files that each command reads and writes, and what is asked of the desk.
-use Rattle.std.specs.Prelude.{◌≡◌, ◌≤◌, ℕ, false, List, [], ◌∷◌, ◌++◌, Option, Some, None}
+use Rattle.std.specs.Prelude.{◌≡◌, ◌≤◌, ℕ, true, List, [], ◌∷◌, ◌++◌, Option, Some, None}
 use Rattle.std.specs.Option.{option_map}
 use Rattle.desk_folder.specs.declared.files.File.{File}
 use Rattle.desk_folder.specs.declared.files.File.TheVariants as file
@@ -17,7 +17,7 @@ files_read command_is.Check = day_files ++ plan_files
 files_read (command_is.Gen seed size) = []
 files_read (command_is.Trial seed size) = []
 
--- the files that tell what a history came to, in the order in which they are written
+-- the files that say what a history came to, in the order in which they are written
 abbrev pub history_files : List File
 history_files = file.SolRotations ∷ file.SolItineraries ∷ file.Journal ∷ []
 
@@ -54,11 +54,16 @@ abbrev pub writes : Option Ask → List File
 writes None = []
 writes (Some a) = files_written a.command
 
--- what a command may ask for: a seed of at most nine digits and a size from 1 to 40; or 1 to 100,000 accepted moves of a search
--- without workers, which no batch interrupts
+-- what a command may ask for: a seed of at most nine digits and a size from 1 to 40; or a search with at most 64 workers and 1 to 100,000
+-- accepted moves, where batches arrive live only beside a worker
 abbrev pub IsCommand : Command → Type 0
 IsCommand command_is.Replay = Unit {0}
-IsCommand (command_is.Recover workers moves live) = (workers ≡ 0) × (1 ≤ moves) × (moves ≤ 100000) × (live ≡ false)
+IsCommand (command_is.Recover workers moves live) = (workers ≤ 64) × (1 ≤ moves) × (moves ≤ 100000) × (live ≡ true → 1 ≤ workers)
 IsCommand command_is.Check = Unit {0}
 IsCommand (command_is.Gen seed size) = (seed ≤ 999999999) × (1 ≤ size) × (size ≤ 40)
 IsCommand (command_is.Trial seed size) = (seed ≤ 999999999) × (1 ≤ size) × (size ≤ 40)
+
+-- how many workers a command asks for
+abbrev pub workers_of : Command → ℕ
+workers_of (command_is.Recover workers moves live) = workers
+workers_of other = 0

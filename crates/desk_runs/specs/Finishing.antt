@@ -5,7 +5,7 @@ use Rattle.folder_io.specs.Outputs.{WritesAmong}
 use Rattle.desk_runs.specs.declared.ending.Ending.{Ending}
 use Rattle.desk_runs.specs.declared.ending.Ending.TheVariants as ending
 use Rattle.desk_runs.specs.Outcome.{Outcome}
-use Rattle.desk_runs.specs.Runs.{World, HasCause, IsUntold, IsWritten, Stops, StopsIn, StopsInReport}
+use Rattle.desk_runs.specs.Runs.{World, HasCause, IsUnreported, IsWritten, Stops, StopsIn, StopsInReport}
 
 -- what was written of an outcome, by the ending
 abbrev pub Leaves : World → World → Outcome → Ending → Type 0
@@ -14,7 +14,7 @@ Leaves before now o ending.NoPlan = (o.status ≡ 1) × IsWritten before now o.t
 Leaves before now o ending.BrokenRule = (o.status ≡ 7) × IsWritten before now o.texts
 Leaves before now o (ending.WriteFault f) = StopsIn f before now o.texts
 Leaves before now o ending.ReportFault = StopsInReport before now o.texts
-Leaves before now o ending.Memory = IsUntold before now ⊎ Stops before now o.texts
+Leaves before now o ending.Memory = IsUnreported before now ⊎ Stops before now o.texts
 Leaves before now o other = ⊥
 
 -- a task is done, and what it comes to is written, into these files alone

@@ -8,6 +8,6 @@ use Rattle.folder_io.specs.Outputs.{is_among}
 abbrev pub Inputs : Type 0
 Inputs = File → List ℕ
 
--- the folder tells the bytes of these files
+-- the folder shows the bytes of these files
 abbrev pub Tells : List File → Outside → Inputs → Type 0
 Tells files outside x = (f : File) → is_among f files ≡ true → outside.left f ≡ Some (x f)

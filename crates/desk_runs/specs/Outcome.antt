@@ -25,7 +25,7 @@ pub record Outcome : Type 0 where
 abbrev pub refusal_text : Refusal → List ℕ
 refusal_text r = line (codes "refused " ++ file_name r.file ++ codes " " ++ decimal r.line ++ codes " " ++ cause_name r.cause)
 
--- the line that tells why a run was not done
+-- the line that says why a run was not done
 unfoldable pub fault_text : Ending → List ℕ
 fault_text ending.Done = []
 fault_text ending.NoPlan = []

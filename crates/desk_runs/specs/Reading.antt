@@ -24,7 +24,7 @@ pub record ReadsAmong (files : List File) (before now : Outside) : Type 0 where
   pub place_faults : now.place_faults ≡ before.place_faults
   pub put_faults : (f : File) → now.put_faults f ≡ before.put_faults f
 
--- no file that stands behind this one was read
+-- no file that comes after this one was read
 abbrev pub StopsAt : File → Outside → Outside → Type 0
 StopsAt f before now = (g : File) → file_number f < file_number g → IsUnread before now g
 

@@ -34,12 +34,12 @@ pub record World : Type 0 where
 abbrev pub world : Outside → SinkSide → World
 world folder sink = record { folder = folder; sink = sink }
 
--- this holds of the world before a call and after it, as the folder and the sink of the call tell it
+-- this holds of the world before a call and after it, as the folder and the sink of the call show it
 abbrev pub Between : {F O : Type 0} → (F → Outside) → (O → SinkSide) → F → O → F → O → (World → World → Type 0) → Type 0
 Between outside report folder out folder' out' Holds = Holds (world (outside folder) (report out)) (world (outside folder') (report out'))
 
 -- no file has got a byte, and nothing is reported
-pub record IsUntold (before now : World) : Type 0 where
+pub record IsUnreported (before now : World) : Type 0 where
   pub written : (f : File) → now.folder.written f ≡ before.folder.written f
   pub sink : now.sink ≡ before.sink
 
@@ -47,7 +47,7 @@ pub record IsUntold (before now : World) : Type 0 where
 abbrev pub IsWritten : World → World → Texts → Type 0
 IsWritten before now t = ArePut (λ f. ⊥) (Appends before.sink.written now.sink.written t.report) t.files before.folder now.folder
 
--- writing stopped in this file, or in the report: what stands before is whole, and what stands behind is not begun
+-- writing stopped in this file, or in the report: what comes before is whole, and what comes after is not begun
 abbrev pub StopsIn : File → World → World → Texts → Type 0
 StopsIn f before now t = ArePut (λ g. (g ≡ f) × Keeps before.sink.written now.sink.written) ⊥ t.files before.folder now.folder
 
@@ -59,8 +59,8 @@ abbrev pub Stops : World → World → Texts → Type 0
 Stops before now t = ArePut (λ f. Keeps before.sink.written now.sink.written) (AppendsPrefix before.sink.written now.sink.written t.report) t.files before.folder now.folder
 
 -- the task that the inputs set the command
-abbrev pub IsTold : {Rows Task : Type 0} → Meaning Rows Task → Command → Inputs → Task → Type 0
-IsTold M c x t = M.task c x ≡ Ok t
+abbrev pub IsSetTask : {Rows Task : Type 0} → Meaning Rows Task → Command → Inputs → Task → Type 0
+IsSetTask M c x t = M.task c x ≡ Ok t
 
 -- what a run that was done did: it wrote all texts that the task comes to
 pub record Finishes {Rows Task : Type 0} (M : Meaning Rows Task) (before now : World) (t : Task) (status : ℕ) : Type 0 where
@@ -70,16 +70,16 @@ pub record Finishes {Rows Task : Type 0} (M : Meaning Rows Task) (before now : W
 
 -- what a run of a command did on these inputs, by its ending; where a file could not be read, no grammar refuses one before it
 abbrev pub Does : {Rows Task : Type 0} → Meaning Rows Task → Command → World → World → Inputs → Ending → Type 0
-Does {Task = Task} M c before now x ending.Done = (t : Task) × IsTold M c x t × Finishes M before now t 0
-Does {Task = Task} M c before now x ending.NoPlan = (t : Task) × IsTold M c x t × Finishes M before now t 1
-Does {Task = Task} M c before now x ending.BrokenRule = (t : Task) × IsTold M c x t × Finishes M before now t 7
+Does {Task = Task} M c before now x ending.Done = (t : Task) × IsSetTask M c x t × Finishes M before now t 0
+Does {Task = Task} M c before now x ending.NoPlan = (t : Task) × IsSetTask M c x t × Finishes M before now t 1
+Does {Task = Task} M c before now x ending.BrokenRule = (t : Task) × IsSetTask M c x t × Finishes M before now t 7
 Does M c before now x ending.Usage = ⊥
 Does M c before now x (ending.Refused r) = M.task c x ≡ Err r
 Does M c before now x ending.PlaceFault = Unit {0}
 Does M c before now x (ending.ReadFault f) = StandsFirst f (M.rows c x)
-Does {Task = Task} M c before now x (ending.WriteFault f) = (t : Task) × IsTold M c x t × StopsIn f before now (M.outcome t).texts
-Does {Task = Task} M c before now x ending.ReportFault = (t : Task) × IsTold M c x t × StopsInReport before now (M.outcome t).texts
-Does {Task = Task} M c before now x ending.Memory = IsUntold before now ⊎ ((t : Task) × IsTold M c x t × Stops before now (M.outcome t).texts)
+Does {Task = Task} M c before now x (ending.WriteFault f) = (t : Task) × IsSetTask M c x t × StopsIn f before now (M.outcome t).texts
+Does {Task = Task} M c before now x ending.ReportFault = (t : Task) × IsSetTask M c x t × StopsInReport before now (M.outcome t).texts
+Does {Task = Task} M c before now x ending.Memory = IsUnreported before now ⊎ ((t : Task) × IsSetTask M c x t × Stops before now (M.outcome t).texts)
 
 -- only a fault of the outside ends a run so: its count of that very call and file rose, and the file is one of those that are
 -- read or written
@@ -117,11 +117,11 @@ IsReadWhole files before now ending.BrokenRule = AreRead files before.folder now
 IsReadWhole files before now other = Unit {0}
 
 -- where a run ends before its task is done, nothing is written or reported; where the directories could not be named,
--- nothing was read, and where a file could not be read, none behind it was
+-- nothing was read, and where a file could not be read, none after it was
 abbrev pub IsSilent : World → World → Ending → Type 0
-IsSilent before now (ending.Refused r) = IsUntold before now
-IsSilent before now ending.PlaceFault = IsUntold before now × ((f : File) → IsUnread before.folder now.folder f)
-IsSilent before now (ending.ReadFault f) = IsUntold before now × StopsAt f before.folder now.folder
+IsSilent before now (ending.Refused r) = IsUnreported before now
+IsSilent before now ending.PlaceFault = IsUnreported before now × ((f : File) → IsUnread before.folder now.folder f)
+IsSilent before now (ending.ReadFault f) = IsUnreported before now × StopsAt f before.folder now.folder
 IsSilent before now other = Unit {0}
 
 -- a run that does what is asked, before its fault's line
@@ -133,7 +133,7 @@ pub record Obeys {Rows Task : Type 0} (M : Meaning Rows Task) (a : Ask) (before 
   pub read : IsReadWhole (files_read a.command) before now how
   pub silent : IsSilent before now how
   pub kept : before.sink.faults ≤ now.sink.faults
-  -- no file is read behind one that its grammar refuses
+  -- no file is read after one that its grammar refuses
   pub in_order : (x : Inputs) → Tells (files_read a.command) before.folder x → (r : Refusal) → M.rows a.command x ≡ Err r → StopsAt r.file before.folder now.folder
   -- no other file is read, and none but those of the command is written
   pub unread : (f : File) → is_among f (files_read a.command) ≡ false → IsUnread before.folder now.folder f
@@ -154,7 +154,7 @@ status_after how (Ok done) = status_of how
 status_after how (Err fault.Failed) = status_of how
 status_after how (Err fault.Memory) = 6
 
--- the line that tells an ending is put into the sink
+-- the line that names an ending is put into the sink
 pub record TellsEnd (how : Ending) (before now : SinkSide) (code : ℕ) : Type 0 where
   pub answer : Result (Unit {0}) FolderFault
   pub line : PutsReport before now (fault_text how) answer

@@ -32,7 +32,7 @@ abbrev pub finished_texts : {Rows Task : Type 0} → Meaning Rows Task → Optio
 finished_texts M None x = nothing_in []
 finished_texts M (Some a) x = texts_by M (files_written a.command) (M.task a.command x)
 
--- the output files, in their order: whole up to one, of which there is a beginning, and nothing behind it
+-- the output files, in their order: whole up to one, of which there is a beginning, and nothing after it
 abbrev pub AreBegun : Outside → Outside → Texts → Type 0
 AreBegun before now t = ArePut (λ f. Unit {0}) (Unit {0}) t.files before now
 
@@ -44,8 +44,8 @@ AreWhole before now t = ArePut (λ f. ⊥) (Unit {0}) t.files before now
 abbrev pub IsRefusedSo : {Rows Task : Type 0} → Meaning Rows Task → Option Ask → Inputs → Refusal → Type 0
 IsRefusedSo M ask x r = MatchOption ask ⊥ (λ a. M.task a.command x ≡ Err r)
 
--- the sink, at a status from 2 to 6: a beginning of what a finished run reports, and behind it a beginning of the line of a fault
-pub record IsToldLast {Rows Task : Type 0} (M : Meaning Rows Task) (ask : Option Ask) (before now : World) (x : Inputs) (code : ℕ) : Type 0 where
+-- the sink, at a status from 2 to 6: a beginning of what a finished run reports, and after it a beginning of the line of a fault
+pub record ReportsFault {Rows Task : Type 0} (M : Meaning Rows Task) (ask : Option Ask) (before now : World) (x : Inputs) (code : ℕ) : Type 0 where
   -- the fault has this status, unless memory ran out, and it came
   pub how : Ending
   pub status : IsUnlessMemory code (status_of how)

@@ -6,7 +6,7 @@ ghost use Rattle.desk_runs.specs.Commands.{files_read, files_written};
 use desk_folder::{DAY_AND_JOURNAL, DAY_AND_PLAN, DAY_FILES, File};
 use desk_words::Command;
 
-// The files that tell what a history came to.
+// The files that say what a history came to.
 const HISTORY_FILES: [File; 3] = [File::SolRotations, File::SolItineraries, File::Journal];
 
 /// The files that a command reads, in file order.

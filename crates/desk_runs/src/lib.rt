@@ -1,9 +1,9 @@
 //! What a run of the desk is, for any command: the files that it reads and writes, its endings and the line
-//! that tells them, and the writing of what came of it.
+//! that names them, and the writing of what came of it.
 //!
 //! `files_read` and `files_written` are the files of a command, `Ending` is how a run ends, with its status,
-//! `fault_text` the line that tells it, and `put_outputs` writes texts, each into its file, and the report
-//! behind them. `Refusal` is the first refusal of the input: file, line and cause.
+//! `fault_text` the line that names it, and `put_outputs` writes texts, each into its file, and the report
+//! after them. `Refusal` is the first refusal of the input: file, line and cause.
 //!
 //! The definitions say what a run has read and written by its ending (`Runs`), over what its inputs mean
 //! (`Meaning`): the task that they set a command, and the `Outcome` of that task, with a status, texts of

@@ -1,4 +1,4 @@
-//! The line that tells why a run was not done.
+//! The line that says why a run was not done.
 
 ghost use Rattle.std.specs.Prelude.{◌≡◌, ◌++◌, IfOk};
 ghost use Rattle.std.specs.String.{string_bytes};
@@ -29,7 +29,7 @@ fn file_line(alloc: Global, words: &str, file: File) -> Result<String, NoMem>
     Ok(format!(in alloc; "{words}{name}\n")?)
 }
 
-/// The line that tells why a run was not done; empty where it was. The only error is out of memory.
+/// The line that says why a run was not done; empty where it was. The only error is out of memory.
 #[tactic(auto, unfolding(crate::specs::Outcome::fault_text))]
 pub fn fault_text(alloc: Global, ending: &Ending) -> Result<String, NoMem>
     ensures { IfOk result (λ text. string_bytes text ≡ fault_text ending.now) }

@@ -22,7 +22,7 @@ pub struct OutputTexts {
 /// Writes the texts of the files one after another, and then the report. An empty text is not written.
 ///
 /// # Errors
-/// `WriteFault` tells the file that could not be written, `ReportFault` that the report could not be,
+/// `WriteFault` names the file that could not be written, `ReportFault` that the report could not be,
 /// and `Memory` may come at any time. What is written by then is a beginning of the texts, in their
 /// order.
 pub fn put_outputs<F: Folder, O: Sink>(

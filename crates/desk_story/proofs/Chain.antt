@@ -1,4 +1,4 @@
--- A file is read, and then those behind it.
+-- A file is read, and then those after it.
 use Rattle.std.proofs.Common.{◌≡◌, ◌≢◌, ℕ, ◌<◌, ◌≤◌, true, false, List, [], ◌∷◌, refl, sym, ap, subst, ◌∙◌, arith, inl, inr}
 use Rattle.std.specs.Prelude.{Option, Some, IfSome, Result, Ok, Err}
 use Rattle.std.proofs.lemmas.Bool.{cases_Bool}
@@ -30,7 +30,7 @@ first_not_rest g files order = elim (cases_Bool (is_among g files)) [
 rest_not_first : (f g : File) (files : List File) → are_in_order (g ∷ files) ≡ true → is_among f files ≡ true → f ≢ g
 rest_not_first f g files order among same = let lt : file_number g < file_number f = behind f g files order among in let e : file_number f ≡ file_number g = ap file_number same in omega (arith, lt, e)
 
--- ---- what is told
+-- ---- what is reported
 
 pub tells-rest : (g : File) (files : List File) (before mid : Outside) (x : Inputs) → are_in_order (g ∷ files) ≡ true → ReadsOnly g before mid → Tells (g ∷ files) before x → Tells files mid x
 tells-rest g files before mid x order only tells f among = only.left f (rest_not_first f g files order among) ∙ tells f (among_rest f g files among)
@@ -107,7 +107,7 @@ cause-rest g files before mid now (fault.ReadFault f) only kept h =
     (among_rest f g files h.0, omega (arith, le, rose))
 cause-rest g files before mid now fault.Memory only kept h = tt
 
--- ---- no file behind one that is refused, or that could not be read
+-- ---- no file after one that is refused, or that could not be read
 
 unread_first : (f g : File) (before mid : Outside) → ReadsOnly f before mid → file_number f < file_number g → IsUnread before mid g
 unread_first f g before mid only lt =

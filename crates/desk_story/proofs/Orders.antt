@@ -18,29 +18,29 @@ and_left : (a b : Bool) → (a && b) ≡ true → a ≡ true
 and_left true b e = refl
 and_left false b e = e
 
--- each of these stands behind a place, so each one among them does
-all_behind : (n : ℕ) (f : File) (files : List File) → list_all (λ g. nat_lt n (file_number g)) files ≡ true → is_among f files ≡ true → n < file_number f
-all_behind n f [] all among = absurd (let e : false ≡ true = among in cc)
-all_behind n f (g ∷ files) all among =
+-- each of these comes after a place, so each one among them does
+all_after : (n : ℕ) (f : File) (files : List File) → list_all (λ g. nat_lt n (file_number g)) files ≡ true → is_among f files ≡ true → n < file_number f
+all_after n f [] all among = absurd (let e : false ≡ true = among in cc)
+all_after n f (g ∷ files) all among =
     let first : nat_lt n (file_number g) ≡ true = and_left (nat_lt n (file_number g)) (list_all (λ h. nat_lt n (file_number h)) files) all in
     elim (cases_Bool (file_number g == file_number f)) [
       | inl same ↦ let e : file_number g ≡ file_number f = eqb-true (file_number g) (file_number f) same in omega (arith, ltb-true n (file_number g) first)
-      | inr other ↦ all_behind n f files (rw first at all) (rw other at among)
+      | inr other ↦ all_after n f files (rw first at all) (rw other at among)
     ]
 
--- a file among those behind another one has a greater place
+-- a file among those after another one has a greater place
 pub behind : (f g : File) (files : List File) → are_in_order (g ∷ files) ≡ true → is_among f files ≡ true → file_number g < file_number f
 behind f g files order among =
-    all_behind (file_number g) f files (and_left (list_all (λ h. nat_lt (file_number g) (file_number h)) files) (are_in_order files) order) among
+    all_after (file_number g) f files (and_left (list_all (λ h. nat_lt (file_number g) (file_number h)) files) (are_in_order files) order) among
 
--- a refusal is told of the file that is read
-told_of : (f : File) (read : Result Rows (ℕ × Cause)) (r : Refusal) → or_refused (in_file f) read ≡ Err r → r.file ≡ f
-told_of f (Ok rows) r e = cc
-told_of f (Err at) r e = let same : in_file f at ≡ r = cc in ap (λ (r : Refusal). r.file) (sym same)
+-- a refusal is reported of the file that is read
+reported_of : (f : File) (read : Result Rows (ℕ × Cause)) (r : Refusal) → or_refused (in_file f) read ≡ Err r → r.file ≡ f
+reported_of f (Ok rows) r e = cc
+reported_of f (Err at) r e = let same : in_file f at ≡ r = cc in ap (λ (r : Refusal). r.file) (sym same)
 
 refused_is : (f : File) (bytes : List ℕ) (rows : Rows) (r : Refusal) → read_as f bytes rows ≡ Err r → r.file ≡ f
 unfolding read_as
-refused_is f bytes rows r e = told_of f (within_limit f bytes (with_rows f bytes rows)) r e
+refused_is f bytes rows r e = reported_of f (within_limit f bytes (with_rows f bytes rows)) r e
 
 -- and so of one of the files
 abbrev Read : Type 0

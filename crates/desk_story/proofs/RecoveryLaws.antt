@@ -26,7 +26,7 @@ use Rattle.desk_story.specs.Story.{Rows, no_rows, read_as, read_texts, read_all,
 use Rattle.desk_story.specs.Facts.{as_rows, AreInputRows, as_recovery}
 use Rattle.desk_story.specs.Reading.{GivesRead, NeedsNoFault}
 
--- ---- a fault ends the reading, whatever would come behind it
+-- ---- a fault ends the reading, whatever would come after it
 
 pub fault-behind : {V W X Y : Type 0} (view : V → X) (other : W → Y) (e : StoryFault) (read : Result X Refusal) (rest : X → Result Y Refusal) → NeedsNoFault e → GivesRead view (Err e) read → GivesRead other (Err e) (read >>= rest)
 fault-behind view other (fault.Refused r) read rest none gives = rw gives refl
@@ -63,14 +63,14 @@ texts-end rows first items i texts le h = sym h.exact ∙ ap (λ (left : List (F
 
 -- ---- a day that is made up
 
-same_behind : (read : Result Rows Refusal) (f g : Rows → Result Rows Refusal) → ((rows : Rows) → f rows ≡ g rows) → (read >>= f) ≡ (read >>= g)
-same_behind (Ok rows) f g same = same rows
-same_behind (Err r) f g same = refl
+same_after : (read : Result Rows Refusal) (f g : Rows → Result Rows Refusal) → ((rows : Rows) → f rows ≡ g rows) → (read >>= f) ≡ (read >>= g)
+same_after (Ok rows) f g same = same rows
+same_after (Err r) f g same = refl
 
 texts_all : (files : List File) (x : Inputs) (rows : Rows) → read_texts (map (λ name. (name, x name)) files) rows ≡ read_all files x rows
 unfolding read_texts read_all
 texts_all [] x rows = refl
-texts_all (f ∷ files) x rows = same_behind (read_as f (x f) rows) (read_texts (map (λ name. (name, x name)) files)) (read_all files x) (texts_all files x)
+texts_all (f ∷ files) x rows = same_after (read_as f (x f) rows) (read_texts (map (λ name. (name, x name)) files)) (read_all files x) (texts_all files x)
 
 made_is : (seed size : ℕ) → read_texts (generated seed size) no_rows ≡ read_all day_files (text_of seed size) no_rows
 unfolding generated

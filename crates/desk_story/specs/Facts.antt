@@ -1,5 +1,5 @@
 -- What holds of the rows that were read, and of the task.
-use Rattle.std.specs.Prelude.{◌≡◌}
+use Rattle.std.specs.Prelude.{◌≡◌, ℕ, ◌≤◌}
 use Rattle.build_tables.specs.Facts.{AreFileRows}
 use Rattle.journal_rows.specs.Facts.{AreRows}
 use Rattle.desk_model.specs.Histories.{AreAskable}
@@ -14,8 +14,9 @@ use Rattle.desk_story.specs.declared.task.InputTask.{InputTask}
 use Rattle.desk_story.specs.declared.task.InputTask.TheVariants as input
 use Rattle.desk_tasks.specs.Play.{Story}
 use Rattle.desk_tasks.specs.Recover.{Recovery}
+use Rattle.desk_tasks.specs.Team.{team_on}
 use Rattle.desk_tasks.specs.Judge.{Judged}
-use Rattle.desk_tasks.specs.Tasks.{Task, play, recover, trial, judge, generate, IsRecoverable}
+use Rattle.desk_tasks.specs.Tasks.{Task, play, recover, team, trial, judge, generate, IsRecoverable}
 use Rattle.desk_story.specs.Story.{Rows}
 
 -- the rows, wherever they lie in memory
@@ -53,6 +54,7 @@ as_judged p = record { day = p.inst; plan = p.plan }
 abbrev pub as_task : InputTask → Task
 as_task (input.Play s) = play (as_story s)
 as_task (input.Recover r) = recover (as_recovery r)
+as_task (input.Team r workers live) = team (team_on (as_recovery r) workers live)
 as_task (input.Try r) = trial (as_recovery r)
 as_task (input.Judge p) = judge (as_judged p)
 as_task (input.Generate seed size) = generate seed size
@@ -61,6 +63,7 @@ as_task (input.Generate seed size) = generate seed size
 abbrev pub CanBeDone : InputTask → Type 0
 CanBeDone (input.Play s) = CanBeRun s
 CanBeDone (input.Recover r) = CanRecover r
+CanBeDone (input.Team r workers live) = CanRecover r × (1 ≤ workers) × (workers ≤ 64)
 CanBeDone (input.Try r) = CanRecover r
 CanBeDone (input.Judge p) = IsPlanFor p.inst p.plan
 CanBeDone (input.Generate seed size) = IsSize size

@@ -1,4 +1,4 @@
--- The faults of readers and joins, told of the input.
+-- The faults of readers and joins, as those of the input.
 use Rattle.std.specs.Prelude.{◌≡◌, ℕ, Result, Ok, Err}
 use Rattle.desk_folder.specs.declared.files.File.{File}
 use Rattle.desk_text.specs.declared.fault.ReadFault.{ReadFault}

@@ -11,12 +11,12 @@ use Rattle.desk_runs.specs.Reading.{StopsAt, StandsFirst}
 use Rattle.desk_story.specs.declared.fault.StoryFault.{StoryFault}
 use Rattle.desk_story.specs.declared.fault.StoryFault.TheVariants as fault
 
--- each file stands before those behind it in file order, so none stands twice
+-- each file stands before those after it in file order, so none stands twice
 abbrev pub are_in_order : List File → Bool
 are_in_order [] = true
 are_in_order (f ∷ others) = list_all (λ g. nat_lt (file_number f) (file_number g)) others && are_in_order others
 
--- where the reading of a file failed, none behind it was read
+-- where the reading of a file failed, none after it was read
 abbrev pub StopsAtFault : Outside → Outside → StoryFault → Type 0
 StopsAtFault before now (fault.ReadFault f) = StopsAt f before now
 StopsAtFault before now (fault.Refused r) = Unit {0}

@@ -36,7 +36,7 @@ use Rattle.desk_runs.specs.Commands.{files_read}
 use Rattle.desk_tasks.specs.Play.{Story}
 use Rattle.desk_tasks.specs.Recover.{Recovery}
 use Rattle.desk_tasks.specs.Judge.{Judged, with_batches}
-use Rattle.desk_tasks.specs.Tasks.{Task, play, recover, trial, judge, generate}
+use Rattle.desk_tasks.specs.Tasks.{Task, play, trial, judge, generate, recover_by}
 
 -- ---- refusals
 
@@ -44,12 +44,12 @@ use Rattle.desk_tasks.specs.Tasks.{Task, play, recover, trial, judge, generate}
 abbrev pub refusal : File → Cause → ℕ → Refusal
 refusal file cause line = record { file = file; line = line; cause = cause }
 
--- what was read, or why it was not, told in other words
+-- what was read, or why it was not, in other words
 abbrev pub or_refused : {A Why Told : Type 0} → (Why → Told) → Result A Why → Result A Told
 or_refused told (Ok x) = Ok x
 or_refused told (Err why) = Err (told why)
 
--- a line with its cause, told of a file
+-- a line with its cause, and the file that it is of
 abbrev pub in_file : File → ℕ × Cause → Refusal
 in_file file at = refusal file at.1 at.0
 
@@ -63,7 +63,7 @@ not_joined at = refusal at.0 at.2 at.1
 pub record Rows : Type 0 where
   pub files : Files
   pub journal : List JournalRow
-  -- the bytes of the two files that tell a plan, once their lines are in their form
+  -- the bytes of the two files that give a plan, once their lines are in their form
   pub plan_rotations : List ℕ
   pub plan_itineraries : List ℕ
 
@@ -181,7 +181,7 @@ story_of_rows rows = do
   events ← or_refused (in_file file.Journal) (events_of built rows.journal)
   Ok (record { day = built.inst; events = events })
 
--- to recover: the files are joined, and all batches arrive, with so many accepted moves at most behind each
+-- to recover: the files are joined, and all batches arrive, with so many accepted moves at most after each
 unfoldable pub recovery_of_rows : ℕ → Rows → Result Recovery Refusal
 recovery_of_rows moves rows = do
   built ← or_refused not_joined (built_of rows.files)
@@ -209,7 +209,7 @@ task_of_rows command_is.Replay rows = do
   Ok (play story)
 task_of_rows (command_is.Recover workers moves live) rows = do
   recovery ← recovery_of_rows moves rows
-  Ok (recover recovery)
+  Ok (recover_by workers live recovery)
 task_of_rows command_is.Check rows = do
   judged ← judged_of_rows rows
   Ok (judge judged)

@@ -9,8 +9,8 @@
 //! in the command's list and a reader; the reading itself is proved once for any list.
 //!
 //! Proved: the task is that of the definition `task_of` over the bytes of the files, or its first refusal
-//! is told; no file is read behind one that is refused, and no file that is not on the list is touched. It
-//! stands on the readers, the joins, `desk_runs` and `desk_tasks`.
+//! is reported; no file is read after one that is refused, and no file that is not on the list is touched. It
+//! depends on the readers, the joins, `desk_runs` and `desk_tasks`.
 #![tactic(auto)]
 
 mod fault;

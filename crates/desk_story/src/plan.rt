@@ -1,4 +1,4 @@
-//! The day and the plan that the input files tell.
+//! The day and the plan that the input files give.
 
 ghost use Rattle.std.specs.Prelude.{◌≡◌, All, IfOk, IfErr};
 ghost use Rattle.desk_data.specs.Valid.{IsBatch, IsPlanFor};

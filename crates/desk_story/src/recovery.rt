@@ -26,7 +26,7 @@ pub struct InputRecovery {
     pub inst: Instance,
     /// The batches that arrive on it in their order, 1 to 1,001.
     pub batches: List<Batch>,
-    /// How many moves may be accepted behind each, 1 to 100,000.
+    /// How many moves may be accepted after each, 1 to 100,000.
     pub moves: u32,
 }
 

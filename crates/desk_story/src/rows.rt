@@ -77,8 +77,8 @@ impl InputRows {
         }
     }
 
-    /// Takes the rows of a file from its bytes, by its grammar, or tells the first line that it
-    /// refuses. Of the two files that tell a plan the bytes are kept, which `read_solution` reads again on
+    /// Takes the rows of a file from its bytes, by its grammar, or gives the first line that it
+    /// refuses. Of the two files that give a plan the bytes are kept, which `read_solution` reads again on
     /// the joined day. After an error the rows are given up.
     #[tactic(auto, unfolding(crate::specs::Story::with_rows))]
     pub(crate) fn take(&mut self, alloc: Global, file: File, kept: Vec<u8>) -> Result<(), ReadFault>

@@ -1,4 +1,4 @@
-//! The day and the events that the input files tell.
+//! The day and the events that the input files give.
 
 ghost use Rattle.std.specs.Prelude.{IfOk, IfErr};
 ghost use Rattle.desk_story.specs.Story.{story_of_rows};

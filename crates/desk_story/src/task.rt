@@ -1,15 +1,15 @@
 //! What the input of a command asks for.
 
-ghost use Rattle.std.specs.Prelude.{◌≡◌, Err, IfOk, OnOk, IfErr};
-ghost use Rattle.desk_runs.specs.Commands.{IsCommand, files_read, files_written};
+ghost use Rattle.std.specs.Prelude.{◌≡◌, ◌≤◌, Err, IfOk, OnOk, IfErr};
+ghost use Rattle.desk_runs.specs.Commands.{IsCommand, files_read, files_written, history_files, workers_of};
 ghost use Rattle.desk_runs.specs.Inputs.{Inputs, Tells};
 ghost use Rattle.desk_runs.specs.declared.refusal.Refusal.{Refusal as Refused};
 ghost use Rattle.desk_runs.specs.Reading.{ReadsAmong, StopsAt};
 ghost use Rattle.desk_runs.specs.Runs.{AreRead};
-ghost use Rattle.desk_tasks.specs.Tasks.{files_for};
+ghost use Rattle.desk_tasks.specs.Tasks.{files_for, recover_by, team_size};
 ghost use Rattle.desk_story.specs.Story.{rows_of, task_of_rows, task_of};
 ghost use Rattle.desk_story.specs.Reading.{StopsAtFault, GivesRead, GivesTask, HasReadCause, NeedsNoFault};
-ghost use Rattle.desk_story.specs.Facts.{as_rows, AreInputRows, as_task, CanBeDone};
+ghost use Rattle.desk_story.specs.Facts.{as_rows, AreInputRows, as_recovery, CanRecover, as_task, CanBeDone};
 
 use crate::fault::StoryFault;
 use crate::files::read_files;
@@ -29,12 +29,42 @@ pub enum InputTask {
     Play(InputStory),
     /// A day is to be recovered.
     Recover(InputRecovery),
+    /// A day is to be recovered by a team of 1 to 64 workers; the batches but the first arrive while they search
+    /// where it is live.
+    Team {
+        recovery: InputRecovery,
+        workers: u32,
+        live: bool,
+    },
     /// A day is to be recovered, and that is reported alone.
     Try(InputRecovery),
     /// A plan is to be judged.
     Judge(InputPlan),
     /// The input files of a day are to be made, of this seed and this size from 1 to 40.
-    Generate { seed: u32, size: u32 },
+    Generate {
+        seed: u32,
+        size: u32,
+    },
+}
+
+// Has a day recovered by so many workers, and by the desk alone where there is none.
+fn by_team(recovery: InputRecovery, workers: u32, live: bool) -> InputTask
+    requires sound { CanRecover recovery }
+    requires few { workers ≤ 64 }
+    ensures exact { as_task result ≡ recover_by workers live (as_recovery recovery) }
+    ensures sound { CanBeDone result }
+    ensures files { files_for (as_task result) ≡ history_files }
+    ensures team { team_size (as_task result) ≡ workers }
+{
+    if workers == 0 {
+        InputTask::Recover(recovery)
+    } else {
+        InputTask::Team {
+            recovery,
+            workers,
+            live,
+        }
+    }
 }
 
 // Joins the rows as the command asks for.
@@ -45,6 +75,7 @@ fn joined_task(alloc: Global, command: &Command, rows: &InputRows) -> Result<Inp
     ensures exact { GivesRead as_task result (task_of_rows command.now (as_rows rows.now)) }
     ensures sound { IfOk result CanBeDone }
     ensures files { IfOk result (λ task. files_for (as_task task) ≡ files_written command.now) }
+    ensures team { IfOk result (λ task. team_size (as_task task) ≡ workers_of command.now) }
     ensures cause { IfErr result NeedsNoFault }
 {
     match command {
@@ -52,9 +83,13 @@ fn joined_task(alloc: Global, command: &Command, rows: &InputRows) -> Result<Inp
             let story = joined_story(alloc, rows)?;
             Ok(InputTask::Play(story))
         }
-        Command::Recover { moves, .. } => {
+        Command::Recover {
+            workers,
+            moves,
+            live,
+        } => {
             let recovery = joined_recovery(alloc, rows, *moves)?;
-            Ok(InputTask::Recover(recovery))
+            Ok(by_team(recovery, *workers, *live))
         }
         Command::Check => {
             let plan = joined_plan(alloc, rows)?;
@@ -96,7 +131,7 @@ fn read_rows<F: Folder>(
 /// # Errors
 /// `Refused` with the first refusal of the input; `ReadFault` only where the count of failed reads of
 /// that file rose, and no file before it is refused by its grammar; `Memory` at any time. No file is
-/// read behind one that its grammar refuses, or that could not be read.
+/// read after one that its grammar refuses, or that could not be read.
 pub fn read_task<F: Folder>(
     alloc: Global,
     command: &Command,
@@ -113,6 +148,7 @@ pub fn read_task<F: Folder>(
     ensures stops { IfErr result (StopsAtFault (F.outside folder.old) (F.outside folder.new)) }
     ensures sound { IfOk result CanBeDone }
     ensures files { IfOk result (λ task. files_for (as_task task) ≡ files_written command.now) }
+    ensures team { IfOk result (λ task. team_size (as_task task) ≡ workers_of command.now) }
 {
     let rows = match read_rows(alloc, command, folder) {
         Ok(rows) => rows,

@@ -6,10 +6,11 @@ use Rattle.desk_model.specs.declared.answer.Entry.{Entry}
 use Rattle.desk_gen.specs.Generated.{generated}
 use Rattle.desk_runs.specs.Commands.{history_files}
 use Rattle.desk_tasks.specs.Play.{Story, Remarks, history_outcome, played}
-use Rattle.desk_tasks.specs.Recover.{Recovery, told_alone, recovered, tried}
+use Rattle.desk_tasks.specs.Recover.{Recovery, reported_alone, recovered, tried}
+use Rattle.desk_tasks.specs.Team.{TeamRecovery, Work, recovered_by_team}
 use Rattle.desk_tasks.specs.Judge.{Judged, verdict, judged}
 use Rattle.desk_tasks.specs.Generate.{generation}
-use Rattle.desk_tasks.specs.Tasks.{Task, play, recover, trial, judge, generate, outcome, files_for}
+use Rattle.desk_tasks.specs.Tasks.{Task, play, recover, team, trial, judge, generate, outcome_at, files_for}
 
 pub history-files : (I : Situation) (remarks : Remarks) (h : List Entry) → files_of (history_outcome I remarks h).texts.files ≡ history_files
 unfolding history_outcome
@@ -23,8 +24,12 @@ pub recovered-files : (r : Recovery) → files_of (recovered r).texts.files ≡ 
 unfolding history_outcome
 recovered-files r = refl
 
+pub team-files : (t : TeamRecovery) (work : Work) → files_of (recovered_by_team t work).texts.files ≡ files_for (team t)
+unfolding history_outcome
+team-files t work = refl
+
 pub tried-files : (r : Recovery) → files_of (tried r).texts.files ≡ files_for (trial r)
-unfolding told_alone
+unfolding reported_alone
 tried-files r = refl
 
 pub judged-files : (j : Judged) → files_of (judged j).texts.files ≡ files_for (judge j)
@@ -35,9 +40,10 @@ pub generated-files : (seed size : ℕ) → files_of (generation seed size).text
 unfolding generation generated
 generated-files seed size = refl
 
-pub files-for : (t : Task) → files_of (outcome t).texts.files ≡ files_for t
-files-for (play s) = played-files s
-files-for (recover r) = recovered-files r
-files-for (trial r) = tried-files r
-files-for (judge j) = judged-files j
-files-for (generate seed size) = generated-files seed size
+pub files-for : (work : Work) (t : Task) → files_of (outcome_at work t).texts.files ≡ files_for t
+files-for work (play s) = played-files s
+files-for work (recover r) = recovered-files r
+files-for work (team t) = team-files t work
+files-for work (trial r) = tried-files r
+files-for work (judge j) = judged-files j
+files-for work (generate seed size) = generated-files seed size

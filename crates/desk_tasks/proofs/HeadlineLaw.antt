@@ -18,12 +18,14 @@ use Rattle.journal_text.specs.Lines.{journal_text}
 use Rattle.desk_runs.specs.Outcome.{Texts}
 use Rattle.desk_runs.specs.Runs.{World, IsWritten}
 use Rattle.near_moves.specs.Descent.{recovery}
+use Rattle.desk_teams.proofs.TeamLaws.{refused-between}
 use Rattle.near_moves.proofs.LegalLaws.{recovery-legal}
 use Rattle.near_moves.proofs.RecoveryLaws.{recovery-all_wait, recovery-along, recovery-batches}
-use Rattle.desk_tasks.specs.Play.{Story, history, Remarks, search_told, planned_rotations, planned_itineraries, report_text, history_outcome, played}
-use Rattle.desk_tasks.specs.Recover.{Recovery, recovered_history, search_end, told_alone, recovered, tried}
-use Rattle.desk_tasks.specs.Tasks.{IsRunnable, IsRecoverable}
-use Rattle.desk_tasks.specs.Headline.{TellsHistory, Headline, HasHeadline, Recovers, HasRecovered, HasTried}
+use Rattle.desk_tasks.specs.Play.{Story, history, Remarks, search_remarks, planned_rotations, planned_itineraries, report_text, history_outcome, played}
+use Rattle.desk_tasks.specs.Recover.{Recovery, recovered_history, search_end, reported_alone, recovered, tried}
+use Rattle.desk_tasks.specs.Team.{TeamRecovery, Work, IsTeamWork, recovered_by_team}
+use Rattle.desk_tasks.specs.Tasks.{Task, play, recover, team, trial, judge, generate, team_size, IsWorkOf, outcome_at, outcome, IsRunnable, IsRecoverable, IsSound}
+use Rattle.desk_tasks.specs.Headline.{TellsHistory, Headline, HasHeadline, Recovers, HasRecovered, HasTried, TeamRecovers, HasTeamRecovered}
 use Rattle.desk_tasks.proofs.RecoveryLaw.{recovery-rests, search-ended}
 
 keeps_of : (before now : Option (List ℕ)) → Appends before now [] → Keeps before now
@@ -55,28 +57,28 @@ journal_of I h = (file.Journal, journal_text I h)
 abbrev itineraries_of : Situation → List Entry → FileText
 itineraries_of I h = (file.SolItineraries, planned_itineraries (end_of I h) (end_of I h).broken)
 
-abbrev behind_itineraries : Situation → List Entry → List FileText
-behind_itineraries I h = journal_of I h ∷ []
+abbrev after_itineraries : Situation → List Entry → List FileText
+after_itineraries I h = journal_of I h ∷ []
 
-abbrev behind_rotations : Situation → List Entry → List FileText
-behind_rotations I h = itineraries_of I h ∷ behind_itineraries I h
+abbrev after_rotations : Situation → List Entry → List FileText
+after_rotations I h = itineraries_of I h ∷ after_itineraries I h
 
 abbrev files_are : Situation → List Entry → List FileText
-files_are I h = rotations_of I h ∷ behind_rotations I h
+files_are I h = rotations_of I h ∷ after_rotations I h
 
 texts_are : (I : Situation) (remarks : Remarks) (h : List Entry) → (history_outcome I remarks h).texts ≡ record { files = files_are I h; report = report_text I remarks h }
 unfolding history_outcome
 texts_are I remarks h = refl
 
--- whoever has written all that a history comes to tells it
+-- whoever has written all that a history comes to has said it
 pub tells : (before now : World) (I : Situation) (remarks : Remarks) (h : List Entry) → IsWritten before now (history_outcome I remarks h).texts → TellsHistory before now I remarks h
 tells before now I remarks h w =
     let Reported : Type 0 = Appends before.sink.written now.sink.written (report_text I remarks h) in
     let whole : ArePut (λ f. ⊥) Reported (files_are I h) before.folder now.folder = subst (λ (t : Texts). IsWritten before now t) (texts_are I remarks h) w in
-    let rotations : HasAll (rotations_of I h) before.folder now.folder = whole-first Reported (rotations_of I h) (behind_rotations I h) before.folder now.folder whole in
-    let behind : ArePut (λ f. ⊥) Reported (behind_rotations I h) before.folder now.folder = whole-rest Reported (rotations_of I h) (behind_rotations I h) before.folder now.folder whole in
-    let itineraries : HasAll (itineraries_of I h) before.folder now.folder = whole-first Reported (itineraries_of I h) (behind_itineraries I h) before.folder now.folder behind in
-    let last : ArePut (λ f. ⊥) Reported (behind_itineraries I h) before.folder now.folder = whole-rest Reported (itineraries_of I h) (behind_itineraries I h) before.folder now.folder behind in
+    let rotations : HasAll (rotations_of I h) before.folder now.folder = whole-first Reported (rotations_of I h) (after_rotations I h) before.folder now.folder whole in
+    let behind : ArePut (λ f. ⊥) Reported (after_rotations I h) before.folder now.folder = whole-rest Reported (rotations_of I h) (after_rotations I h) before.folder now.folder whole in
+    let itineraries : HasAll (itineraries_of I h) before.folder now.folder = whole-first Reported (itineraries_of I h) (after_itineraries I h) before.folder now.folder behind in
+    let last : ArePut (λ f. ⊥) Reported (after_itineraries I h) before.folder now.folder = whole-rest Reported (itineraries_of I h) (after_itineraries I h) before.folder now.folder behind in
     let S = end_of I h in
     record {
       journal = whole-first Reported (journal_of I h) [] before.folder now.folder last;
@@ -106,7 +108,7 @@ has-headline before now s runs w = record {
     events = history_is s;
     legal = story_legal s runs;
     promises = promises s.day (history s) (story_legal s runs);
-    written = tells before now s.day (search_told None) (history s) w;
+    written = tells before now s.day (search_remarks None) (history s) w;
   };
 }
 
@@ -136,11 +138,11 @@ pub has-recovered : (before now : World) (r : Recovery) → IsRecoverable r → 
 has-recovered before now r can w = record {
   history = recovered_history r;
   recovers = recovers r can;
-  written = tells before now r.day (search_told (search_end r.day r.moves (recovered_history r))) (recovered_history r) w;
+  written = tells before now r.day (search_remarks (search_end r.day r.moves (recovered_history r))) (recovered_history r) w;
 }
 
-tried_report : (before now : World) (r : Recovery) → IsWritten before now (tried r).texts → Appends before.sink.written now.sink.written (report_text r.day (search_told (search_end r.day r.moves (recovered_history r))) (recovered_history r))
-unfolding told_alone history_outcome
+tried_report : (before now : World) (r : Recovery) → IsWritten before now (tried r).texts → Appends before.sink.written now.sink.written (report_text r.day (search_remarks (search_end r.day r.moves (recovered_history r))) (recovered_history r))
+unfolding reported_alone history_outcome
 tried_report before now r w = w
 
 pub has-tried : (before now : World) (r : Recovery) → IsRecoverable r → IsWritten before now (tried r).texts → HasTried before now r
@@ -149,3 +151,30 @@ has-tried before now r can w = record {
   recovers = recovers r can;
   reported = tried_report before now r w;
 }
+
+-- ---- a recovery by a team
+
+pub team-recovers : (t : TeamRecovery) (w : Work) → IsTeamWork t w → TeamRecovers t w.history w.ended
+team-recovers t w is = record {
+  legal = is.legal;
+  promises = promises t.recovery.day w.history is.legal;
+  teamwork = is.teamwork;
+  refusals = λ k entry at p refused. refused-between t.workers t.recovery.day w.history k entry is.legal at p refused;
+  ended = is.ended;
+}
+
+pub has-team-recovered : (before now : World) (t : TeamRecovery) (w : Work) → IsTeamWork t w → IsWritten before now (recovered_by_team t w).texts → HasTeamRecovered before now t w
+has-team-recovered before now t w is written = record {
+  recovers = team-recovers t w is;
+  written = tells before now t.recovery.day (search_remarks w.ended) w.history written;
+}
+
+-- ---- tasks with one outcome
+
+pub one-work : (task : Task) (work other : Work) → IsSound task → team_size task ≡ 0 → IsWorkOf task work → IsWorkOf task other → (work ≡ other) × (outcome_at work task ≡ outcome task)
+one-work (play s) work other sound e a b = (a ∙ sym b, refl)
+one-work (recover r) work other sound e a b = (a ∙ sym b, refl)
+one-work (trial r) work other sound e a b = (a ∙ sym b, refl)
+one-work (judge j) work other sound e a b = (a ∙ sym b, refl)
+one-work (generate seed size) work other sound e a b = (a ∙ sym b, refl)
+one-work (team t) work other sound e a b = absurd (let some = sound.some in omega (arith, some, e))

@@ -1,24 +1,27 @@
 -- The promise of the desk.
-use Rattle.std.specs.Prelude.{◌≡◌, ℕ, List, None, IsSome}
+use Rattle.std.specs.Prelude.{◌≡◌, ℕ, false, List, Option, None, Some, IsSome, slice_get}
 use Rattle.std.specs.Io.KnownBytes.{Appends, Keeps}
 use Rattle.desk_folder.specs.declared.files.File.TheVariants as file
 use Rattle.desk_data.specs.Situation.{Situation}
 use Rattle.desk_model.specs.declared.answer.Entry.{Entry}
 use Rattle.desk_model.specs.States.{opening}
-use Rattle.desk_model.specs.Histories.{IsLegal, run, state}
+use Rattle.desk_model.specs.Histories.{IsLegal, run, state, is_accepted}
 use Rattle.desk_model.specs.Promises.{KeepsPromises}
 use Rattle.near_moves.specs.Descent.{recovery}
 use Rattle.near_moves.specs.Descents.{AllAlong, IsRecoveryEntry, BatchesWait, batches_in}
+use Rattle.near_moves.specs.declared.ended.SearchEnd.{SearchEnd}
+use Rattle.desk_teams.specs.Teams.{IsTeamwork, IsProposal, ChangesBetween}
 use Rattle.journal_text.specs.Lines.{journal_text}
 use Rattle.sol_text.specs.Rotations.{rotations_text}
 use Rattle.sol_text.specs.Itineraries.{itineraries_text}
 use Rattle.desk_runs.specs.Runs.{World}
-use Rattle.desk_tasks.specs.Play.{Story, Remarks, search_told, report_text}
+use Rattle.desk_tasks.specs.Play.{Story, Remarks, search_remarks, report_text}
 use Rattle.desk_tasks.specs.Recover.{Recovery, search_end, IsSearchEnd}
+use Rattle.desk_tasks.specs.Team.{TeamRecovery, Work, IsTeamEnd}
 
 -- what is written of a history, with the remarks of its report
 pub record TellsHistory (before now : World) (I : Situation) (remarks : Remarks) (h : List Entry) : Type 0 where
-  -- journal.csv is the journal of the history, and the report tells its batches, its changes and the cost of the last plan, with
+  -- journal.csv is the journal of the history, and the report gives its batches, its changes and the cost of the last plan, with
   -- the remarks
   pub journal : Appends (before.folder.written file.Journal) (now.folder.written file.Journal) (journal_text I h)
   pub reported : Appends before.sink.written now.sink.written (report_text I remarks h)
@@ -34,7 +37,7 @@ pub record TellsHistory (before now : World) (I : Situation) (remarks : Remarks)
 
 -- ---- a story
 
--- the promise of the desk, for a story that was played: the history behind what was written
+-- the promise of the desk, for a story that was played: the history to which what was written belongs
 pub record Headline (before now : World) (s : Story) (h : List Entry) : Type 0 where
   -- it is the history of the events that were read, in their order, from the opening of the day that was read
   pub events : h ≡ run (opening s.day) s.events
@@ -43,7 +46,7 @@ pub record Headline (before now : World) (s : Story) (h : List Entry) : Type 0 w
   -- each stored cost is the cost of the rows under these, between two batches costs only fall, and a proposal to a published
   -- plan is accepted exactly where the moved plan is feasible and cheaper
   pub promises : KeepsPromises s.day h
-  pub written : TellsHistory before now s.day (search_told None) h
+  pub written : TellsHistory before now s.day (search_remarks None) h
 
 -- there is such a history
 pub record HasHeadline (before now : World) (s : Story) : Type 0 where
@@ -54,7 +57,7 @@ pub record HasHeadline (before now : World) (s : Story) : Type 0 where
 
 -- a history is that of a recovery
 pub record Recovers (r : Recovery) (h : List Entry) : Type 0 where
-  -- behind each batch stands exactly the descent: as long as there is a plan and the budget is not spent, the first move near it
+  -- after each batch stands exactly the descent: as long as there is a plan and the budget is not spent, the first move near it
   -- that makes it feasible and cheaper
   pub exact : h ≡ recovery r.moves (opening r.day) r.batches
   -- the batches are those that were read, in their order, each once
@@ -67,17 +70,38 @@ pub record Recovers (r : Recovery) (h : List Entry) : Type 0 where
   -- and it keeps what is promised of a story that is played
   pub legal : IsLegal (opening r.day) h
   pub promises : KeepsPromises r.day h
-  -- what the report tells of the last search
+  -- what the report says of the last search
   pub ended : IsSearchEnd r.day r.moves h (search_end r.day r.moves h)
 
--- there is such a history behind what was written
+-- there is such a history, to which what was written belongs
 pub record HasRecovered (before now : World) (r : Recovery) : Type 0 where
   pub history : List Entry
   pub recovers : Recovers r history
-  pub written : TellsHistory before now r.day (search_told (search_end r.day r.moves history)) history
+  pub written : TellsHistory before now r.day (search_remarks (search_end r.day r.moves history)) history
 
--- or behind what was reported, where nothing else was written
+-- or, where nothing was written but a report, there is such a history, to which the report belongs
 pub record HasTried (before now : World) (r : Recovery) : Type 0 where
   pub history : List Entry
   pub recovers : Recovers r history
-  pub reported : Appends before.sink.written now.sink.written (report_text r.day (search_told (search_end r.day r.moves history)) history)
+  pub reported : Appends before.sink.written now.sink.written (report_text r.day (search_remarks (search_end r.day r.moves history)) history)
+
+-- ---- a recovery by a team
+
+-- a history is one that a team may make of a day, whatever worker came first
+pub record TeamRecovers (t : TeamRecovery) (h : List Entry) (reported : Option SearchEnd) : Type 0 where
+  -- it keeps what is promised of a story that is played: each published plan meets the rules, each stored cost is that of its rows, and so on
+  pub legal : IsLegal (opening t.recovery.day) h
+  pub promises : KeepsPromises t.recovery.day h
+  -- its batches are those that were read, in their order, each once and from the desk. Each other entry is the proposal of a worker: the first better
+  -- move of its shard, after a beginning of the history that has all its earlier entries. Each batch but the first waits until the search before
+  -- it has stopped, unless batches arrive live; and at the end the search has stopped
+  pub teamwork : IsTeamwork t.workers t.recovery.moves t.live (opening t.recovery.day) t.recovery.batches h
+  -- a proposal is refused only where another change stands between what its worker saw and its entry
+  pub refusals : (k : ℕ) (entry : Entry) → slice_get h k ≡ Some entry → (p : IsProposal t.workers (opening t.recovery.day) h k entry) → is_accepted entry.answer ≡ false → ChangesBetween h p.saw k entry.caller
+  -- what the report says of the end of the search
+  pub ended : IsTeamEnd t.recovery.day t.recovery.moves h reported
+
+-- there is such a history, to which what was written belongs
+pub record HasTeamRecovered (before now : World) (t : TeamRecovery) (work : Work) : Type 0 where
+  pub recovers : TeamRecovers t work.history work.ended
+  pub written : TellsHistory before now t.recovery.day (search_remarks work.ended) work.history

@@ -49,7 +49,7 @@ verdict I P = record {
 abbrev pub judged : Judged → Outcome
 judged j = verdict j.day j.plan
 
--- how a run ends that told it
+-- how a run ends that reported it
 abbrev pub verdict_end : Option Broken → Ending
 verdict_end None = ending.Done
 verdict_end (Some item) = ending.BrokenRule

@@ -59,7 +59,7 @@ end_lines I h =
     let S = state (opening I) h in
     line (codes "changes " ++ decimal (changes h)) ++ line (cost_or_broken S.inst (cost_of S) S.broken)
 
--- what a report tells besides what its history tells: lines before those of the batches, why the search behind the last batch ended,
+-- what a report says besides what its history says: lines before those of the batches, why the search after the last batch ended,
 -- where there was one, and lines before the number of changes
 pub record Remarks : Type 0 where
   pub head : List ℕ
@@ -67,10 +67,10 @@ pub record Remarks : Type 0 where
   pub extra : List ℕ
 
 -- why the search ended, and no line more
-abbrev pub search_told : Option SearchEnd → Remarks
-search_told search = record { head = []; search = search; extra = [] }
+abbrev pub search_remarks : Option SearchEnd → Remarks
+search_remarks search = record { head = []; search = search; extra = [] }
 
--- the line that tells why the search ended
+-- the line that says why the search ended
 abbrev pub search_line : Option SearchEnd → List ℕ
 search_line None = []
 search_line (Some ended.Budget) = line (codes "ended budget")
@@ -108,7 +108,7 @@ history_outcome I remarks h =
 
 -- what a story comes to that is played
 abbrev pub played : Story → Outcome
-played s = history_outcome s.day (search_told None) (history s)
+played s = history_outcome s.day (search_remarks None) (history s)
 
 -- how a run ends that wrote it, by what its last plan breaks
 abbrev pub played_end : Option Broken → Ending

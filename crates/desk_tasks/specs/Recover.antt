@@ -1,4 +1,4 @@
--- Recovering a day: its batches arrive one after another, behind each the desk searches for a cheaper plan, and what that comes to is written.
+-- Recovering a day: its batches arrive one after another, after each the desk searches for a cheaper plan, and what that comes to is written.
 use Rattle.std.specs.Prelude.{◌≡◌, ◌↔◌, ℕ, true, false, List, [], Option, Some, None, IsSome}
 use Rattle.day_orders.specs.declared.orders.Batch.{Batch}
 use Rattle.desk_data.specs.Situation.{Situation}
@@ -9,9 +9,9 @@ use Rattle.near_moves.specs.Descent.{IsQuiet, end_by, is_spent, recovery}
 use Rattle.desk_runs.specs.Outcome.{Outcome}
 use Rattle.near_moves.specs.declared.ended.SearchEnd.{SearchEnd}
 use Rattle.near_moves.specs.declared.ended.SearchEnd.TheVariants as ended
-use Rattle.desk_tasks.specs.Play.{search_told, history_outcome}
+use Rattle.desk_tasks.specs.Play.{search_remarks, history_outcome}
 
--- a day, the batches that arrive on it in order, and how many proposals may be accepted behind each
+-- a day, the batches that arrive on it in order, and how many proposals may be accepted after each
 pub record Recovery : Type 0 where
   pub day : Situation
   pub batches : List Batch
@@ -30,11 +30,11 @@ search_end I most h = end_by (state (opening I) h).broken (is_spent most h)
 
 -- what a recovery comes to
 abbrev pub recovered : Recovery → Outcome
-recovered r = history_outcome r.day (search_told (search_end r.day r.moves (recovered_history r))) (recovered_history r)
+recovered r = history_outcome r.day (search_remarks (search_end r.day r.moves (recovered_history r))) (recovered_history r)
 
 -- the same status and report, and no files
-unfoldable pub told_alone : Outcome → Outcome
-told_alone o = record {
+unfoldable pub reported_alone : Outcome → Outcome
+reported_alone o = record {
   status = o.status;
   texts = record {
     files = [];
@@ -44,12 +44,12 @@ told_alone o = record {
 
 -- what a trial comes to, which recovers a day and writes no file
 abbrev pub tried : Recovery → Outcome
-tried r = told_alone (recovered r)
+tried r = reported_alone (recovered r)
 
--- what is told of the last search behind a history: its budget was spent exactly where there is a plan and as many proposals were
+-- what is reported of the last search after a history: its budget was spent exactly where there is a plan and as many proposals were
 -- accepted since the last batch as may be, or the journal takes no more; and it ended quiet exactly where neither is so and no
 -- move near the plan is better
 pub record IsSearchEnd (I : Situation) (most : ℕ) (h : List Entry) (told : Option SearchEnd) : Type 0 where
   pub budget : told ≡ Some ended.Budget ↔ ((state (opening I) h).broken ≡ None) × (is_spent most h ≡ true)
   pub quiet : told ≡ Some ended.Quiet ↔ IsQuiet (state (opening I) h) × (is_spent most h ≡ false)
-  pub untold : told ≡ None ↔ IsSome (state (opening I) h).broken
+  pub unreported : told ≡ None ↔ IsSome (state (opening I) h).broken

@@ -1,5 +1,5 @@
 -- What a command is to do, once its input is accepted, and what that comes to.
-use Rattle.std.specs.Prelude.{◌≡◌, ◌≤◌, ℕ, List, [], length, All}
+use Rattle.std.specs.Prelude.{◌≡◌, ◌≤◌, ℕ, Bool, ◌==◌, if◌then◌else◌, List, [], length, All}
 use Rattle.desk_folder.specs.declared.files.File.{File}
 use Rattle.desk_folder.specs.Files.{day_files}
 use Rattle.desk_data.specs.Valid.{IsBatch, IsValid, IsPlanFor}
@@ -8,41 +8,57 @@ use Rattle.desk_runs.specs.Commands.{history_files}
 use Rattle.desk_runs.specs.Outcome.{Outcome}
 use Rattle.desk_tasks.specs.Play.{Story, played}
 use Rattle.desk_tasks.specs.Recover.{Recovery, recovered, tried}
+use Rattle.desk_tasks.specs.Team.{TeamRecovery, team_on, Work, nothing, IsTeamWork, recovered_by_team}
 use Rattle.desk_tasks.specs.Judge.{Judged, judged}
 use Rattle.desk_tasks.specs.Generate.{generation}
 
--- to play a story, to recover a day or to try that without a file, to judge a plan, or to generate a day from a seed and a size
+-- to play a story; to recover a day, by the desk alone or by a team, or to try that without a file; to judge a plan; or to generate a day from
+-- a seed and a size
 pub data Task : Type 0 where
   play : Story → Task
   recover : Recovery → Task
+  team : TeamRecovery → Task
   trial : Recovery → Task
   judge : Judged → Task
   generate : ℕ → ℕ → Task
 
--- the status, the texts of files and the report
-abbrev pub outcome : Task → Outcome
-outcome (play s) = played s
-outcome (recover r) = recovered r
-outcome (trial r) = tried r
-outcome (judge j) = judged j
-outcome (generate seed size) = generation seed size
+-- a recovery by so many workers: where there is none, by the desk alone
+abbrev pub recover_by : ℕ → Bool → Recovery → Task
+recover_by workers live r = if workers == 0 then recover r else team (team_on r workers live)
 
--- what a run of a task may make or find, on which it depends what the task comes to: of these tasks nothing
-pub data Work : Type 0 where
-  nothing : Work
-
--- the works that a run of a task may have
-abbrev pub IsWorkOf : Task → Work → Type 0
-IsWorkOf t work = work ≡ nothing
-
--- what a task comes to at a work: of these tasks the same at each
+-- what a task comes to at the work of a run: the status, the texts of files and the report. It depends on the work where a team
+-- recovers a day
 abbrev pub outcome_at : Work → Task → Outcome
-outcome_at work t = outcome t
+outcome_at work (play s) = played s
+outcome_at work (recover r) = recovered r
+outcome_at work (team t) = recovered_by_team t work
+outcome_at work (trial r) = tried r
+outcome_at work (judge j) = judged j
+outcome_at work (generate seed size) = generation seed size
+
+-- the works that a run of a task may have: one, where its task comes to the same at each
+abbrev pub IsWorkOf : Task → Work → Type 0
+IsWorkOf (play s) work = work ≡ nothing
+IsWorkOf (recover r) work = work ≡ nothing
+IsWorkOf (team t) work = IsTeamWork t work
+IsWorkOf (trial r) work = work ≡ nothing
+IsWorkOf (judge j) work = work ≡ nothing
+IsWorkOf (generate seed size) work = work ≡ nothing
+
+-- what a task comes to that one thread does
+abbrev pub outcome : Task → Outcome
+outcome t = outcome_at nothing t
+
+-- how many workers it asks for
+abbrev pub team_size : Task → ℕ
+team_size (team t) = t.workers
+team_size other = 0
 
 -- the files that its texts are put into
 abbrev pub files_for : Task → List File
 files_for (play s) = history_files
 files_for (recover r) = history_files
+files_for (team t) = history_files
 files_for (trial r) = []
 files_for (judge j) = []
 files_for (generate seed size) = day_files
@@ -58,10 +74,17 @@ pub record IsRecoverable (r : Recovery) : Type 0 where
   pub some : 1 ≤ length r.batches
   pub few : length r.batches ≤ 1001
 
+-- and those of a recovery by a team, of 1 to 64 workers
+pub record IsTeamRecoverable (t : TeamRecovery) : Type 0 where
+  pub recovery : IsRecoverable t.recovery
+  pub some : 1 ≤ t.workers
+  pub few : t.workers ≤ 64
+
 -- what reading a task makes sure of
 abbrev pub IsSound : Task → Type 0
 IsSound (play s) = IsRunnable s
 IsSound (recover r) = IsRecoverable r
+IsSound (team t) = IsTeamRecoverable t
 IsSound (trial r) = IsRecoverable r
 IsSound (judge j) = IsPlanFor j.day j.plan
 IsSound (generate seed size) = Unit {0}

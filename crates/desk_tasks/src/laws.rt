@@ -4,8 +4,9 @@ ghost use Rattle.desk_runs.specs.Runs.{World, IsWritten};
 ghost use Rattle.desk_tasks.specs.Play.{Story, played};
 ghost use Rattle.desk_tasks.specs.Recover.{Recovery, recovered, tried};
 ghost use Rattle.std.specs.Prelude.{◌≡◌};
-ghost use Rattle.desk_tasks.specs.Tasks.{Task, Work, IsWorkOf, outcome, outcome_at, IsRunnable, IsRecoverable};
-ghost use Rattle.desk_tasks.specs.Headline.{HasHeadline, HasRecovered, HasTried};
+ghost use Rattle.desk_tasks.specs.Team.{TeamRecovery, Work, IsTeamWork, recovered_by_team};
+ghost use Rattle.desk_tasks.specs.Tasks.{Task, team_size, IsWorkOf, outcome, outcome_at, IsRunnable, IsRecoverable, IsSound};
+ghost use Rattle.desk_tasks.specs.Headline.{HasHeadline, HasRecovered, HasTried, HasTeamRecovered};
 
 /// Whoever has written all that a story comes to, whose events can be asked on its day, keeps the
 /// promise of the desk.
@@ -14,8 +15,8 @@ pub fn played_stories_carry_the_headline()
         IsWritten before now (played story).texts → HasHeadline before now story }
 {}
 
-/// So does whoever has written all that a recovery comes to, whose batches can arrive on its day: behind
-/// each batch stands exactly the descent, and the report tells why the last one ended. Of a trial the
+/// So does whoever has written all that a recovery comes to, whose batches can arrive on its day: after
+/// each batch stands exactly the descent, and the report says why the last one ended. Of a trial the
 /// report says the same, and nothing else is written.
 pub fn recoveries_carry_the_headline()
     ensures recovered { (before : World) → (now : World) → (r : Recovery) → IsRecoverable r →
@@ -24,8 +25,18 @@ pub fn recoveries_carry_the_headline()
         IsWritten before now (tried r).texts → HasTried before now r }
 {}
 
-/// A run of any task has one work, and at it the task comes to its outcome and to nothing else.
+/// Where a team made a history of a day, and whoever writes has written all that it comes to, the history keeps
+/// all that is promised of a team: it is legal, its batches are those of the day, each proposal is the first better
+/// move of its worker's shard, and its last plan and why its search ended are written.
+pub fn recoveries_by_teams_carry_the_headline()
+    ensures { (before : World) → (now : World) → (t : TeamRecovery) → (work : Work) → IsTeamWork t work →
+        IsWritten before now (recovered_by_team t work).texts → HasTeamRecovered before now t work }
+{}
+
+/// A run of a task that asks for no worker has one work, and at it the task comes to its outcome and to nothing else.
 pub fn tasks_come_to_one_outcome()
-    ensures work { (task : Task) → (work : Work) → (other : Work) → IsWorkOf task work → IsWorkOf task other → work ≡ other }
-    ensures outcome { (task : Task) → (work : Work) → IsWorkOf task work → outcome_at work task ≡ outcome task }
+    ensures work { (task : Task) → (work : Work) → (other : Work) → IsSound task → team_size task ≡ 0 →
+        IsWorkOf task work → IsWorkOf task other → work ≡ other }
+    ensures outcome { (task : Task) → (work : Work) → IsSound task → team_size task ≡ 0 →
+        IsWorkOf task work → outcome_at work task ≡ outcome task }
 {}

@@ -1,10 +1,10 @@
 //! What the commands of the desk are to do, and what that comes to.
 //!
-//! A task is what the input of a command asks for, once it is accepted: to play a story, to recover a day or to
-//! try that, to judge a plan, or to generate a day. The definitions give the `outcome` of each: its status, the
-//! texts of files, in the order in which they are written, and the report. Another command is a task more, or a
-//! use of one of these. Where what a task comes to depends on what its run made or found, that is its `Work`; of
-//! these tasks there is none, so each has one outcome.
+//! A task is what the input of a command asks for, once it is accepted: to play a story, to recover a day, by the
+//! desk alone or by a team, or to try that, to judge a plan, or to generate a day. The definitions give the outcome
+//! of each: its status, the texts of files, in the order in which they are written, and the report. Another command
+//! is a task more, or a use of one of these. What a team comes to depends on the history that it makes, its `Work`;
+//! each other task has one outcome.
 //!
 //! The code is the headline of the desk as laws, public functions with
 //! empty bodies: a story that was played, and all of whose texts are written, has written the journal of a
@@ -15,6 +15,7 @@
 mod laws;
 
 pub use laws::{
-    played_stories_carry_the_headline, recoveries_carry_the_headline, tasks_come_to_one_outcome,
+    played_stories_carry_the_headline, recoveries_by_teams_carry_the_headline,
+    recoveries_carry_the_headline, tasks_come_to_one_outcome,
 };
 pub use near_moves::SearchEnd;

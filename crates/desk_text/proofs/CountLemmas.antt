@@ -41,12 +41,12 @@ first_below_is_blank line h = ap (λ (n : ℕ). cond (ltb n (length line)) (Some
 
 -- ---- how many fields there are
 
--- how many fields begin in these bytes, behind a byte of a field or not
+-- how many fields begin in these bytes, after a byte of a field or not
 abbrev pub beginnings : Bool → List ℕ → ℕ
 beginnings inside [] = 0
 beginnings inside (byte ∷ bytes) = cond (leb 33 byte && not inside) 1 0 + beginnings (leb 33 byte) bytes
 
--- at one byte, and behind it
+-- at one byte, and after it
 pub beginnings_at : (inside : Bool) (line : List ℕ) (i : ℕ) → i < length line → beginnings inside (drop i line) ≡ cond (leb 33 (get_or line i 0) && not inside) 1 0 + beginnings (leb 33 (get_or line i 0)) (drop (i + 1) line)
 beginnings_at inside line i lt = rw (add-one, drop-cons line i 0) refl
 
@@ -61,7 +61,7 @@ onto_both : (x y : ℕ) (parts : List (List ℕ)) → full (onto_first x (onto_f
 onto_both x y [] = full_first x (y ∷ []) [] ∙ sym (full_first y [] [])
 onto_both x y (part ∷ parts) = full_first x (y ∷ part) parts ∙ sym (full_first y part parts)
 
--- the beginnings in a line, and in one behind a byte of a field
+-- the beginnings in a line, and in one after a byte of a field
 record AreBeginnings (line : List ℕ) : Type 0 where
   outside : beginnings false line ≡ full (slice_split is_blank line)
   inside : (x : ℕ) → 1 + beginnings true line ≡ full (onto_first x (slice_split is_blank line))

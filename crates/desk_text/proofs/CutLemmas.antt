@@ -50,13 +50,13 @@ module _ (p : ℕ → Bool) where
       let there : position_or_len p bytes ≡ k = position_or_len_is p bytes k 0 (omega arith) (λ j lt. false_from_ne_true _ (first.0.before j (omega arith) lt)) (λ lt. first.1) in
       ap Some (sym there) ∙ sym (cond-true _ (Some (position_or_len p bytes)) None (lt-ltb (position_or_len p bytes) (length bytes) (omega arith)))
 
-  -- all of a list is its front and what is behind
+  -- all of a list is its front and what comes after
   pub all_taken : (n : ℕ) (bytes : List ℕ) → list_all p bytes ≡ true → list_all p (take n bytes) ≡ true
   all_taken n bytes all = (and_parts _ _ (sym (list_all-append p (take n bytes) (drop n bytes)) ∙ ap (list_all p) (take-append-drop n bytes) ∙ all)).0
 
   pub all_dropped : (n : ℕ) (bytes : List ℕ) → list_all p bytes ≡ true → list_all p (drop n bytes) ≡ true
   all_dropped n bytes all = (and_parts _ _ (sym (list_all-append p (take n bytes) (drop n bytes)) ∙ ap (list_all p) (take-append-drop n bytes) ∙ all)).1
 
--- what is behind a place, in two steps
-pub behind_place : (n : ℕ) (bytes back : List ℕ) → back ≡ drop n bytes → take (length back - 1) (drop 1 back) ≡ drop (n + 1) bytes
-behind_place n bytes back is_back = take_all (length back - 1) (drop 1 back) (omega (arith, length-drop 1 back)) ∙ ap (drop 1) is_back ∙ drop-drop 1 n bytes
+-- what comes after a place, in two steps
+pub after_place : (n : ℕ) (bytes back : List ℕ) → back ≡ drop n bytes → take (length back - 1) (drop 1 back) ≡ drop (n + 1) bytes
+after_place n bytes back is_back = take_all (length back - 1) (drop 1 back) (omega (arith, length-drop 1 back)) ∙ ap (drop 1) is_back ∙ drop-drop 1 n bytes

@@ -72,7 +72,7 @@ lines_uncut n bytes line rest e is_line none =
     ∙ kept-cons n line []
     ∙ ap (λ (others : List (ℕ × List ℕ)). cond (is_last line) [] (cond (list_all is_blank line) others ((n, line) ∷ others))) (sym (no_lines (n + 1)) ∙ ap (lines_from (n + 1)) (sym none))
 
--- nothing is behind the last byte
+-- nothing comes after the last byte
 pub nothing_left : (bytes : List ℕ) → take (length bytes - length bytes) (drop (length bytes) bytes) ≡ []
 nothing_left bytes = let none : length bytes - length bytes ≡ 0 = omega arith in rw none refl
 

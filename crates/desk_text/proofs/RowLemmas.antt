@@ -10,7 +10,7 @@ use Rattle.desk_text.specs.declared.fault.RowFault.TheVariants as row_fault
 use Rattle.desk_text.specs.Lines.{text_lines}
 use Rattle.desk_text.specs.Rows.{◌>>=◌, RowOf, line_row, at_line, rows_of_lines, text_rows, GivesRow, Gives, fault_at}
 
--- these rows, and behind them those that are read
+-- these rows, and after them those that are read
 abbrev pub behind : {Row : Type 0} → List Row → Result (List Row) (ℕ × Cause) → Result (List Row) (ℕ × Cause)
 behind before (Ok rows) = Ok (before ++ rows)
 behind before (Err e) = Err e

@@ -47,7 +47,7 @@ number_from low high bytes = do
 abbrev pub number_of : ℕ → ℕ → List ℕ → Result ℕ Cause
 number_of low high field = ok_or (number_from low high field) Number
 
--- what 1 to so many digits behind a point are worth, counted in the last of these places
+-- what 1 to so many digits after a point are worth, counted in the last of these places
 unfoldable pub fraction_of : ℕ → List ℕ → Option ℕ
 fraction_of places bytes = do
   n ← digits_of places bytes
@@ -113,7 +113,7 @@ date_of field = ok_or (day_from field) Date
 abbrev pub minutes_from : ℕ → ℕ → Option ℕ
 minutes_from a b = only_if ((is_ascii_digit a && is_ascii_digit b) && nat_lt (10 * (a - 48) + (b - 48)) 60) (10 * (a - 48) + (b - 48))
 
--- what stands behind the hours: the minutes, and perhaps '+' and one digit for the days
+-- what comes after the hours: the minutes, and perhaps '+' and one digit for the days
 unfoldable pub minutes_and_days : List ℕ → Option (ℕ × Option ℕ)
 minutes_and_days (a ∷ b ∷ []) = do
   minutes ← minutes_from a b
@@ -123,7 +123,7 @@ minutes_and_days (a ∷ b ∷ sign ∷ days ∷ []) = do
   only_if (sign == plus && is_ascii_digit days) (minutes, Some (days - 48))
 minutes_and_days _ = None
 
--- the hours, from 0 to 23, in 1 or 2 digits, a colon, and what stands behind them
+-- the hours, from 0 to 23, in 1 or 2 digits, a colon, and what comes after them
 unfoldable pub minute_from : List ℕ → Option (ℕ × Option ℕ)
 minute_from bytes = do
   parts ← cut colon bytes
@@ -143,6 +143,6 @@ haul_of field = if bytes_eq field (codes "D") then Ok hauls.D else (if bytes_eq 
 abbrev pub cabin_of : List ℕ → Result Cabin Cause
 cabin_of field = if bytes_eq field (codes "F") then Ok cabins.F else (if bytes_eq field (codes "B") then Ok cabins.B else (if bytes_eq field (codes "E") then Ok cabins.E else Err Word))
 
--- whether passengers return: 'A' for those on their way out, 'R' for those on their way back
+-- whether passengers return: 'A' for those who fly out, 'R' for those who fly back
 abbrev pub inbound_of : List ℕ → Result Bool Cause
 inbound_of field = if bytes_eq field (codes "A") then Ok false else (if bytes_eq field (codes "R") then Ok true else Err Word)

@@ -1,6 +1,6 @@
 pub mod Days
 pub mod Texts
-pub mod Told
+pub mod FaultText
 pub mod Lines
 pub mod Seen
 pub mod Cuts

@@ -55,7 +55,7 @@ cabin_text cabin.F = codes "F"
 cabin_text cabin.B = codes "B"
 cabin_text cabin.E = codes "E"
 
--- the direction of a reservation: A for the way out, R for the way back
+-- the direction of a reservation: A for outbound, R for inbound
 abbrev pub direction_text : Bool → List ℕ
 direction_text false = codes "A"
 direction_text true = codes "R"

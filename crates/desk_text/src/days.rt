@@ -39,7 +39,7 @@ pub fn day_of(day: u32, month: u32, year: u32) -> Option<u32>
     Some(number_of(date))
 }
 
-/// The date that is so many days behind 2000-01-01.
+/// The date that is so many days after 2000-01-01.
 fn date_after(days: u32) -> Date
     requires { days < 36525 }
     ensures { epoch_day result ≡ pos (10957 + days) }

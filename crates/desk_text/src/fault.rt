@@ -1,7 +1,7 @@
 //! Why a text file is refused.
 
 ghost use Rattle.std.specs.Prelude.{◌≡◌, Some};
-ghost use Rattle.desk_text.specs.Told.{fault_text};
+ghost use Rattle.desk_text.specs.FaultText.{fault_text};
 ghost use Rattle.desk_text.specs.Rows.{fault_at};
 ghost use Rattle.desk_text.specs.declared.fault.ReadFault.TheVariants as read_fault;
 ghost use Rattle.desk_text.specs.declared.fault.RowFault.TheVariants as row_fault;

@@ -29,7 +29,7 @@ fn place_of_blank(line: &[u8]) -> Option<usize>
     place_of_unseen(line)
 }
 
-/// The bytes before the first blank, and those behind it, or `None` where there is none.
+/// The bytes before the first blank, and those after it, or `None` where there is none.
 #[inline]
 fn cut_at_blank(line: &[u8]) -> Option<(&[u8], &[u8])>
     requires { list_all is_text line.now ≡ true }
@@ -41,7 +41,7 @@ fn cut_at_blank(line: &[u8]) -> Option<(&[u8], &[u8])>
     Some(parts_at(line, place))
 }
 
-/// The first field, and the bytes behind it.
+/// The first field, and the bytes after it.
 #[inline]
 fn first_field(line: &[u8]) -> Option<(&[u8], &[u8])>
     requires { list_all is_text line.now ≡ true }
@@ -63,7 +63,7 @@ fn first_field(line: &[u8]) -> Option<(&[u8], &[u8])>
     }
 }
 
-/// 1 where a field begins at a byte, which can be seen or not, behind one inside a field or not; else 0.
+/// 1 where a field begins at a byte, which can be seen or not, after one inside a field or not; else 0.
 #[inline]
 fn begins(inside: bool, is_seen: bool) -> usize
     ensures { result ≡ (if is_seen && not inside then 1 else 0) }
@@ -137,6 +137,13 @@ impl<'a> Fields<'a> {
             Some(field) => Ok(field),
             None => Err(Cause::Fields),
         }
+    }
+
+    /// The same fields once more, for whoever has to count them after they are read.
+    pub fn again(&self) -> Fields<'a>
+        ensures { result ≡ self.now }
+    {
+        Fields { rest: self.rest }
     }
 
     /// How many fields there are.

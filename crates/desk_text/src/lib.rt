@@ -11,7 +11,7 @@
 //!
 //! The calendar is that of `jiff`, and that both count alike is proved. `push_date`, `push_moment` and
 //! `push_number` write what the readers read. Proved: each call is its definition by cases on lists of
-//! bytes (`specs/`), refusals and their order included. It stands on `file_rows`,
+//! bytes (`specs/`), refusals and their order included. It depends on `file_rows`,
 //! for the causes and the limits.
 #![tactic(auto)]
 
@@ -35,7 +35,7 @@ pub use reading::{Lines, are_text};
 pub use rows::{Grammar, read_rows};
 pub use text::lines;
 pub use texts::{
-    cabin_letter, date_text, direction_letter, moment_text, push_all, push_date, push_moment,
-    push_number, time_text, two_digits, written_days_read_back,
+    LastDate, cabin_letter, date_text, direction_letter, moment_text, push_all, push_date,
+    push_moment, push_number, time_text, two_digits, written_days_read_back,
 };
 pub use values::{cabin, date, haul, inbound, name, number, price, seats, time, weight};

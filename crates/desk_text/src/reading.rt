@@ -11,7 +11,7 @@ use file_rows::{CARRIAGE_RETURN, FIRST_VISIBLE, HASH, LAST_VISIBLE, LINE_FEED, S
 use memchr::memchr;
 use std::marker::Model;
 
-/// The bytes before this place, and those behind it.
+/// The bytes before this place, and those after it.
 #[inline]
 pub(crate) fn parts_at(bytes: &[u8], place: usize) -> (&[u8], &[u8])
     requires { place < length bytes.now }
@@ -29,7 +29,7 @@ fn place_of(bytes: &[u8], at: u8) -> Option<usize>
     bytes.iter().position(|byte| *byte == at)
 }
 
-/// The bytes before the first `at`, and those behind it, or `None` where there is none.
+/// The bytes before the first `at`, and those after it, or `None` where there is none.
 #[inline]
 pub(crate) fn cut(bytes: &[u8], at: u8) -> Option<(&[u8], &[u8])>
     ensures exact { option_map (λ parts. (parts.0.now, parts.1.now)) result ≡ cut at bytes.now }
@@ -47,7 +47,7 @@ fn place_of_line_feed(bytes: &[u8]) -> Option<usize>
     memchr(LINE_FEED, bytes)
 }
 
-/// The bytes before the first LF, and those behind it, or `None` where there is none.
+/// The bytes before the first LF, and those after it, or `None` where there is none.
 #[inline]
 fn cut_line(bytes: &[u8]) -> Option<(&[u8], &[u8])>
     ensures exact { option_map (λ parts. (parts.0.now, parts.1.now)) result ≡ cut line_feed bytes.now }
@@ -68,7 +68,7 @@ fn without_cr(line: &[u8]) -> &[u8]
     }
 }
 
-/// The first line, and the bytes behind its end.
+/// The first line, and the bytes after its end.
 fn first_line(bytes: &[u8]) -> (&[u8], &[u8])
     requires { 0 < length bytes.now }
     ensures exact { (n : ℕ) → lines_from n bytes.now ≡ line_then n result.0.now result.1.now }
@@ -144,7 +144,7 @@ fn is_last(line: &[u8]) -> bool
     }
 }
 
-/// A line that has fields, its number, and the bytes behind it.
+/// A line that has fields, its number, and the bytes after it.
 #[derive(Drop)]
 struct Line<'a> {
     number: u32,
@@ -152,7 +152,7 @@ struct Line<'a> {
     rest: &'a [u8],
 }
 
-/// The next line that has fields, behind so many lines.
+/// The next line that has fields, after so many lines.
 fn next_line(mut passed: u32, bytes: &[u8]) -> Option<Line<'_>>
     requires { passed + length bytes.now < 2 ^ 32 }
     ensures exact { MatchOption result (lines_from (passed + 1) bytes.now ≡ []) (λ line. lines_from (passed + 1) bytes.now ≡ (line.number, line.text.now) ∷ lines_from (line.number + 1) line.rest.now) }

@@ -33,6 +33,34 @@ pub fn date_text(day: u32) -> [u8; 8]
     ]
 }
 
+/// The text of a day, and the day: the days that a file names one after another are mostly the same.
+#[derive(Clone, Copy)]
+pub struct LastDate {
+    day: u32,
+    text: [u8; 8],
+    ghost is: { text ≡ date_text day },
+}
+
+impl LastDate {
+    /// That of 2000-01-01.
+    pub fn new() -> LastDate {
+        let text = date_text(0);
+        LastDate { day: 0, text }
+    }
+
+    /// The text of a day, counted from 2000-01-01 and below 36,525: `dd/mm/yy`. That of the last day is kept.
+    pub fn text(&mut self, day: u32) -> [u8; 8]
+        requires { day < 36525 }
+        ensures { result ≡ date_text day }
+    {
+        if self.day != day {
+            let text = date_text(day);
+            *self = LastDate { day, text };
+        }
+        self.text
+    }
+}
+
 /// The text of a minute of the day: `HH:MM`.
 #[tactic(auto, unfolding(crate::specs::Texts::time_text))]
 pub fn time_text(minute: u32) -> [u8; 5]
@@ -67,7 +95,7 @@ pub fn cabin_letter(cabin: Cabin) -> [u8; 1]
     }
 }
 
-/// The letter of a direction: `A` for the way out, `R` for the way back.
+/// The letter of a direction: `A` for outbound, `R` for inbound.
 pub fn direction_letter(inbound: bool) -> [u8; 1]
     ensures { result ≡ direction_text inbound }
 {
@@ -105,7 +133,7 @@ pub fn push_number(out: &mut Vec<u8>, number: u128) -> Result<(), NoMem>
     Ok(())
 }
 
-/// Adds all parts, one behind the other. Where memory runs out, the text is as before.
+/// Adds all parts, one after the other. Where memory runs out, the text is as before.
 pub fn push_all(out: &mut Vec<u8>, parts: &[&[u8]]) -> Result<(), NoMem>
     ensures ok { OnOk result (out.new.items ≡ out.old.items ++ flat_map (λ part. part.now) parts.now) }
     ensures err { OnErr result (out.new.items ≡ out.old.items) }

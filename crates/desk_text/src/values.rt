@@ -71,7 +71,7 @@ pub fn number(field: &[u8], low: u32, high: u32) -> Result<u32, Cause>
     number_from(field, low, high).ok_or(Cause::Number)
 }
 
-/// What 1 to 4 digits behind a point are worth, in ten-thousandths.
+/// What 1 to 4 digits after a point are worth, in ten-thousandths.
 #[tactic(auto, unfolding(crate::specs::Fields::fraction_of))]
 fn ten_thousandths(bytes: &[u8]) -> Option<u32>
     ensures exact { result ≡ fraction_of 4 bytes.now }
@@ -87,7 +87,7 @@ fn ten_thousandths(bytes: &[u8]) -> Option<u32>
     Some(n * worth)
 }
 
-/// What 1 to 3 digits behind a point are worth, in thousandths.
+/// What 1 to 3 digits after a point are worth, in thousandths.
 #[tactic(auto, unfolding(crate::specs::Fields::fraction_of))]
 fn thousandths(bytes: &[u8]) -> Option<u32>
     ensures exact { result ≡ fraction_of 3 bytes.now }
@@ -308,7 +308,7 @@ fn minute_from(bytes: &[u8]) -> Option<(u32, Option<u32>)>
 }
 
 /// A time: an hour from 0 to 23 in 1 or 2 digits, a colon, two digits from 00 to 59, and perhaps a
-/// plus sign and one digit; else `Time`. It is the minute of the day, and the days behind the plus
+/// plus sign and one digit; else `Time`. It is the minute of the day, and the days after the plus
 /// sign where there is one.
 pub fn time(field: &[u8]) -> Result<(u32, Option<u32>), Cause>
     ensures exact { result ≡ time_of field.now }

@@ -1,5 +1,6 @@
 -- What each command did, once it was done.
-use Rattle.std.proofs.Common.{◌≡◌, ◌≢◌, ℕ, false, List, refl, sym, ap, subst, ◌∙◌}
+use Rattle.std.proofs.lemmas.Bool.Decides.{nat_tests}
+use Rattle.std.proofs.Common.{◌≡◌, ◌≢◌, ℕ, zero, suc, ◌≤◌, ◌==◌, Bool, false, List, refl, sym, ap, subst, ◌∙◌, arith}
 use Rattle.std.specs.Prelude.{Option, Some, None, Result, Ok, Err}
 use Rattle.std.specs.Io.KnownBytes.{Appends}
 use Rattle.std.specs.Option.{option_map}
@@ -13,7 +14,7 @@ use Rattle.desk_words.specs.declared.asked.Command.{Command}
 use Rattle.desk_words.specs.declared.asked.Command.TheVariants as command_is
 use Rattle.desk_words.specs.Commands.{Asking}
 use Rattle.desk_runs.specs.declared.refusal.Refusal.{Refusal}
-use Rattle.desk_runs.specs.Commands.{asks, asked_here, files_read}
+use Rattle.desk_runs.specs.Commands.{asks, asked_here, files_read, workers_of}
 use Rattle.desk_runs.specs.Inputs.{Inputs, Tells}
 use Rattle.desk_runs.specs.Causes.{IsDoneAt}
 use Rattle.desk_runs.specs.Runs.{World, IsWritten}
@@ -21,14 +22,15 @@ use Rattle.desk_runs.proofs.CausesLaw.{usage-only}
 use Rattle.desk_text.specs.Rows.{◌>>=◌}
 use Rattle.near_moves.specs.Descent.{recovery}
 use Rattle.desk_gen.specs.Generated.{text_of}
-use Rattle.desk_tasks.specs.Play.{Story, Remarks, search_told, history_outcome, plan_status}
-use Rattle.desk_tasks.specs.Recover.{Recovery, recovered_history, search_end, recovered, told_alone, tried}
+use Rattle.desk_tasks.specs.Play.{Story, Remarks, search_remarks, history_outcome, plan_status}
+use Rattle.desk_tasks.specs.Recover.{Recovery, recovered_history, search_end, recovered, reported_alone, tried}
 use Rattle.desk_tasks.specs.Judge.{Judged, verdict, verdict_report, rule_status, judged}
 use Rattle.desk_tasks.specs.Generate.{generation}
-use Rattle.desk_tasks.specs.Tasks.{Task, play, recover, trial, judge, generate, Work, nothing, outcome, IsSound}
-use Rattle.desk_tasks.proofs.HeadlineLaw.{has-headline, has-recovered, has-tried}
+use Rattle.desk_tasks.specs.Team.{TeamRecovery, team_on, Work, nothing, IsTeamWork}
+use Rattle.desk_tasks.specs.Tasks.{Task, play, recover, team, recover_by, trial, judge, generate, outcome_at, IsSound, IsWorkOf, IsSoundAt}
+use Rattle.desk_tasks.proofs.HeadlineLaw.{has-headline, has-recovered, has-tried, has-team-recovered}
 use Rattle.desk_story.specs.Story.{Rows, rows_of, usual_moves, story_of_rows, recovery_of_rows, trial_of, judged_of_rows, task_of_rows, task_of}
-use Rattle.desk_top.specs.Desk.{meaning_at, RunsWith, IsDone, RunsAsPromised, IsReplayed, IsRecovered, IsTried, IsChecked, IsGenerated}
+use Rattle.desk_top.specs.Desk.{meaning_at, RunsWith, IsDone, RunsAsPromised, IsReplayed, IsRecovered, IsRecoveredByTeam, IsTried, IsChecked, IsGenerated}
 
 -- ---- what is asked
 
@@ -36,8 +38,8 @@ use Rattle.desk_top.specs.Desk.{meaning_at, RunsWith, IsDone, RunsAsPromised, Is
 pub done-by : (o : Option Asking) (asked : Asking) (before now : World) (x : Inputs) (code : ℕ) → (kept : RunsAsPromised (option_map asks o) before now code) → o ≡ Some asked → Tells (files_read asked.0) before.folder x → IsDoneAt code → IsDone kept.work asked.0 before now x code
 done-by o asked before now x code kept is tells done = kept.holds.means.done (asks asked) (ap (λ (o : Option Asking). option_map asks o) is) x tells done
 
-pub here-no-usage : (c : Command) (before now : World) (code : ℕ) → RunsWith nothing (asked_here c) before now code → code ≢ 2
-here-no-usage c before now code run two = let none : asked_here c ≡ None = usage-only (meaning_at nothing) (asked_here c) before now code run two in absurd cc
+pub here-no-usage : (work : Work) (c : Command) (before now : World) (code : ℕ) → RunsWith work (asked_here c) before now code → code ≢ 2
+here-no-usage work c before now code run two = let none : asked_here c ≡ None = usage-only (meaning_at work) (asked_here c) before now code run two in absurd cc
 
 -- ---- which task a command is set
 
@@ -48,9 +50,9 @@ played_task : (read : Result Story Refusal) (t : Task) → (read >>= (λ story. 
 played_task (Ok s) t e = (s, let is : play s ≡ t = cc in sym is)
 played_task (Err r) t e = absurd cc
 
-recover_task : (read : Result Recovery Refusal) (t : Task) → (read >>= (λ recovery. let r : Result Task Refusal = Ok (recover recovery) in r)) ≡ Ok t → (r : Recovery) × (t ≡ recover r) × (read ≡ Ok r)
-recover_task (Ok r) t e = (r, (let is : recover r ≡ t = cc in sym is), refl)
-recover_task (Err r) t e = absurd cc
+recover_task : (workers : ℕ) (live : Bool) (read : Result Recovery Refusal) (t : Task) → (read >>= (λ recovery. let r : Result Task Refusal = Ok (recover_by workers live recovery) in r)) ≡ Ok t → (r : Recovery) × (t ≡ recover_by workers live r) × (read ≡ Ok r)
+recover_task workers live (Ok r) t e = (r, (let is : recover_by workers live r ≡ t = cc in sym is), refl)
+recover_task workers live (Err r) t e = absurd cc
 
 trial_task : (read : Result Recovery Refusal) (t : Task) → (read >>= (λ recovery. let r : Result Task Refusal = Ok (trial recovery) in r)) ≡ Ok t → (r : Recovery) × (t ≡ trial r) × (read ≡ Ok r)
 trial_task (Ok r) t e = (r, (let is : trial r ≡ t = cc in sym is), refl)
@@ -65,10 +67,10 @@ unfolding task_of_rows
 replay_rows (Ok rows) t e = played_task (story_of_rows rows) t e
 replay_rows (Err r) t e = absurd cc
 
-recover_rows : (moves : ℕ) (read : Read) (t : Task) → (read >>= task_of_rows (command_is.Recover 0 moves false)) ≡ Ok t → (r : Recovery) × (t ≡ recover r)
+recover_rows : (workers moves : ℕ) (live : Bool) (read : Read) (t : Task) → (read >>= task_of_rows (command_is.Recover workers moves live)) ≡ Ok t → (r : Recovery) × (t ≡ recover_by workers live r)
 unfolding task_of_rows
-recover_rows moves (Ok rows) t e = let held = recover_task (recovery_of_rows moves rows) t e in (held.0, held.1)
-recover_rows moves (Err r) t e = absurd cc
+recover_rows workers moves live (Ok rows) t e = let held = recover_task workers live (recovery_of_rows moves rows) t e in (held.0, held.1)
+recover_rows workers moves live (Err r) t e = absurd cc
 
 trial_rows : (seed size : ℕ) (read : Read) (t : Task) → (read >>= task_of_rows (command_is.Trial seed size)) ≡ Ok t → (r : Recovery) × (t ≡ trial r) × (trial_of seed size ≡ Ok r)
 unfolding task_of_rows
@@ -89,9 +91,14 @@ replay_task : (x : Inputs) (t : Task) → task_of command_is.Replay x ≡ Ok t �
 unfolding task_of
 replay_task x t e = replay_rows (rows_of command_is.Replay x) t e
 
-recovery_task : (moves : ℕ) (x : Inputs) (t : Task) → task_of (command_is.Recover 0 moves false) x ≡ Ok t → (r : Recovery) × (t ≡ recover r)
+recovery_task : (workers moves : ℕ) (live : Bool) (x : Inputs) (t : Task) → task_of (command_is.Recover workers moves live) x ≡ Ok t → (r : Recovery) × (t ≡ recover_by workers live r)
 unfolding task_of
-recovery_task moves x t e = recover_rows moves (rows_of (command_is.Recover 0 moves false) x) t e
+recovery_task workers moves live x t e = recover_rows workers moves live (rows_of (command_is.Recover workers moves live) x) t e
+
+-- where there is a worker, by a team
+by_team : (workers : ℕ) (live : Bool) (r : Recovery) → 1 ≤ workers → recover_by workers live r ≡ team (team_on r workers live)
+by_team zero live r some = absurd (omega (arith, some))
+by_team (suc n) live r some = let e : (suc n == 0) ≡ false = grind (arith, nat_tests) in rw e refl
 
 tried_task : (seed size : ℕ) (x : Inputs) (t : Task) → task_of (command_is.Trial seed size) x ≡ Ok t → (r : Recovery) × (t ≡ trial r) × (trial_of seed size ≡ Ok r)
 unfolding task_of
@@ -115,12 +122,23 @@ gen_task : (seed size : ℕ) (x : Inputs) (t : Task) → task_of (command_is.Gen
 unfolding task_of
 gen_task seed size x t e = gen_rows seed size (rows_of (command_is.Gen seed size) x) t e
 
+-- a run of a command that asks for no worker has one work
+pub plain-work : (c : Command) (x : Inputs) (t : Task) → workers_of c ≡ 0 → task_of c x ≡ Ok t → IsWorkOf t nothing
+plain-work command_is.Replay x t none e = let s = replay_task x t e in subst (λ (t : Task). IsWorkOf t nothing) (sym s.1) refl
+plain-work (command_is.Recover workers moves live) x t none e =
+    let alone : task_of (command_is.Recover 0 moves live) x ≡ Ok t = subst (λ (n : ℕ). task_of (command_is.Recover n moves live) x ≡ Ok t) none e in
+    let r = recovery_task 0 moves live x t alone in
+    subst (λ (t : Task). IsWorkOf t nothing) (sym r.1) refl
+plain-work command_is.Check x t none e = let j = check_task x t e in subst (λ (t : Task). IsWorkOf t nothing) (sym j.1) refl
+plain-work (command_is.Gen seed size) x t none e = subst (λ (t : Task). IsWorkOf t nothing) (sym (gen_task seed size x t e)) refl
+plain-work (command_is.Trial seed size) x t none e = let r = tried_task seed size x t e in subst (λ (t : Task). IsWorkOf t nothing) (sym r.1) refl
+
 -- a task that is another one
-done_as : (work : Work) (c : Command) (before now : World) (x : Inputs) (code : ℕ) (t : Task) (done : IsDone work c before now x code) → done.task ≡ t → (task_of c x ≡ Ok t) × (code ≡ (outcome t).status) × IsWritten before now (outcome t).texts
+done_as : (work : Work) (c : Command) (before now : World) (x : Inputs) (code : ℕ) (t : Task) (done : IsDone work c before now x code) → done.task ≡ t → (task_of c x ≡ Ok t) × (code ≡ (outcome_at work t).status) × IsWritten before now (outcome_at work t).texts
 done_as work c before now x code t done is = (
   subst (λ (t : Task). task_of c x ≡ Ok t) is done.told,
-  subst (λ (t : Task). code ≡ (outcome t).status) is done.status,
-  subst (λ (t : Task). IsWritten before now (outcome t).texts) is done.written,
+  subst (λ (t : Task). code ≡ (outcome_at work t).status) is done.status,
+  subst (λ (t : Task). IsWritten before now (outcome_at work t).texts) is done.written,
 )
 
 -- ---- replay
@@ -141,19 +159,34 @@ history_status I remarks h = refl
 recovered_status : (r : Recovery) (h : List Entry) → h ≡ recovery r.moves (opening r.day) r.batches → (recovered r).status ≡ plan_status (state (opening r.day) h).broken
 unfolding recovered_history
 recovered_status r h is =
-    history_status r.day (search_told (search_end r.day r.moves (recovery r.moves (opening r.day) r.batches))) (recovery r.moves (opening r.day) r.batches)
+    history_status r.day (search_remarks (search_end r.day r.moves (recovery r.moves (opening r.day) r.batches))) (recovery r.moves (opening r.day) r.batches)
     ∙ ap (λ (g : List Entry). plan_status (state (opening r.day) g).broken) (sym is)
 
 tried_status : (r : Recovery) → (tried r).status ≡ (recovered r).status
-unfolding told_alone
+unfolding reported_alone
 tried_status r = refl
 
 pub recovered-day : (work : Work) (before now : World) (moves : ℕ) (x : Inputs) (code : ℕ) → IsDone work (command_is.Recover 0 moves false) before now x code → IsRecovered before now moves x code
 recovered-day work before now moves x code done =
-    let r = recovery_task moves x done.task done.told in
+    let r = recovery_task 0 moves false x done.task done.told in
     let parts = done_as work (command_is.Recover 0 moves false) before now x code (recover r.0) done r.1 in
     let held = has-recovered before now r.0 (subst IsSound r.1 done.sound.0) parts.2 in
     record { recovery = r.0; told = parts.0; history = held.history; status = parts.1 ∙ recovered_status r.0 held.history held.recovers.exact; recovers = held.recovers; written = held.written }
+
+pub recovered-by-team : (work : Work) (before now : World) (workers moves : ℕ) (live : Bool) (x : Inputs) (code : ℕ) → 1 ≤ workers → IsDone work (command_is.Recover workers moves live) before now x code → IsRecoveredByTeam before now workers moves live x code
+recovered-by-team work before now workers moves live x code some done =
+    let r = recovery_task workers moves live x done.task done.told in
+    let t = team_on r.0 workers live in
+    let is : done.task ≡ team t = r.1 ∙ by_team workers live r.0 some in
+    let parts = done_as work (command_is.Recover workers moves live) before now x code (team t) done is in
+    let made : IsTeamWork t work = (subst (IsSoundAt work) is done.sound).1 in
+    record {
+      recovery = r.0;
+      told = parts.0;
+      work = work;
+      status = parts.1 ∙ history_status r.0.day (search_remarks work.ended) work.history;
+      headline = has-team-recovered before now t work made parts.2;
+    }
 
 pub tried-day : (work : Work) (before now : World) (seed size : ℕ) (x : Inputs) (code : ℕ) → IsDone work (command_is.Trial seed size) before now x code → IsTried before now seed size code
 tried-day work before now seed size x code done =

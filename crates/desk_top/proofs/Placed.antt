@@ -1,19 +1,29 @@
--- A run by the words, from that of their command behind the naming of its directories.
-use Rattle.std.proofs.Common.{◌≡◌, ℕ, refl, sym, ap, subst, ◌∙◌, inr}
-use Rattle.std.specs.Prelude.{Option, None, Some, Result, Ok}
+-- A run by the words, from that of their command after the naming of its directories.
+use Rattle.std.proofs.Common.{◌≡◌, ℕ, ◌⊎◌, List, refl, sym, ap, subst, ◌∙◌, inl, inr, arith}
+use Rattle.std.specs.Prelude.{Option, None, Some, Result, Ok, Err}
 use Rattle.std.specs.Option.{option_map}
 use Rattle.desk_folder.specs.declared.faults.FolderFault.{FolderFault}
 use Rattle.desk_folder.specs.Outside.{Outside, SinkSide, Directories, PlacesOnly}
-use Rattle.desk_folder.specs.Calls.{Names}
+use Rattle.desk_folder.specs.declared.files.File.{File}
+use Rattle.desk_folder.specs.Calls.{Names, AppendsPrefix, Rose}
+use Rattle.folder_io.specs.Outputs.{IsUnput}
+use Rattle.folder_io.specs.Texts.{TextAppends}
+use Rattle.folder_io.proofs.PutAll.{begins-whole}
 use Rattle.desk_words.specs.declared.asked.Command.{Command}
 use Rattle.desk_words.specs.Commands.{Asking}
-use Rattle.desk_runs.specs.Commands.{Ask, asks}
-use Rattle.desk_runs.specs.Works.{IsFair}
-use Rattle.desk_runs.specs.Runs.{World, world}
-use Rattle.desk_runs.proofs.Composed.{here, works-placed}
+use Rattle.desk_runs.specs.Commands.{Ask, asks, asked_here, workers_of}
+use Rattle.desk_runs.specs.declared.ending.Ending.{Ending}
+use Rattle.desk_runs.specs.declared.ending.Ending.TheVariants as ending
+use Rattle.desk_runs.specs.Reading.{IsUnread}
+use Rattle.desk_runs.specs.Outcome.{fault_text}
+use Rattle.desk_runs.specs.Works.{IsUnbegun, IsFair}
+use Rattle.desk_runs.specs.Runs.{World, world, IsUnreported, EndsBy, TellsEnd}
+use Rattle.desk_runs.proofs.Composed.{here, at, works-placed, runs-told}
 use Rattle.desk_runs.proofs.PromisedLaw.{runs-of}
-use Rattle.desk_tasks.specs.Tasks.{nothing}
-use Rattle.desk_top.specs.Desk.{meanings, RunsWith, Runs, RunsAsPromised}
+use Rattle.desk_tasks.specs.Team.{Work, nothing}
+use Rattle.desk_tasks.specs.Tasks.{IsWorkOf}
+use Rattle.desk_top.specs.Desk.{meaning_at, meanings, Obeys, ObeysSomehow, RunsWith, Runs, RunsAsPromised}
+use Rattle.desk_top.proofs.Commands.{plain-work}
 
 asked_as : (these : Option Asking) (asked : Asking) (before now : World) (code : ℕ) → Some asked ≡ these → Runs (Some (asks asked)) before now code → Runs (option_map asks these) before now code
 asked_as these asked before now code is run = subst (λ (o : Option Asking). Runs (option_map asks o) before now code) is run
@@ -28,11 +38,100 @@ run-placed these c dirs before placed now sink sink' code ok is names only kept 
 pub asked-with : (these : Option Asking) (c : Command) (dirs o : Option Directories) → o ≡ dirs → Some (c, o) ≡ these → Some (c, dirs) ≡ these
 asked-with these c dirs o same is = ap (λ (d : Option Directories). Some (c, d)) (sym same) ∙ is
 
--- ---- the work of a run of these commands
+-- ---- the work of a run
 
-fair_nothing : (ask : Option Ask) (before now : World) → IsFair meanings ask before now nothing
-fair_nothing None before now = tt
-fair_nothing (Some a) before now = λ x tells t told. inr refl
+-- of a command that asks for no worker
+pub with-nothing : (c : Command) (before now : World) (code : ℕ) → workers_of c ≡ 0 → RunsWith nothing (asked_here c) before now code → Runs (asked_here c) before now code
+with-nothing c before now code alone run = record { work = nothing; fair = λ x tells t told. inr (plain-work c x t alone told); holds = run }
 
-pub with-nothing : (ask : Option Ask) (before now : World) (code : ℕ) → RunsWith nothing ask before now code → Runs ask before now code
-with-nothing ask before now code run = record { work = nothing; fair = fair_nothing ask before now; holds = run }
+-- of one that was not begun
+pub not-begun : (ask : Option Ask) (before now : World) → IsUnbegun before now → IsFair meanings ask before now nothing
+not-begun None before now h = tt
+not-begun (Some a) before now h = λ x tells t told. inl h
+
+put_some : (before now : Option (List ℕ)) (text : List ℕ) (answer : Result (Unit {0}) FolderFault) → TextAppends before now text answer → AppendsPrefix before now text
+put_some before now text (Ok done) h = begins-whole before now text h
+put_some before now text (Err e) h = h
+
+pub unbegun-told : (before mid : World) (now : SinkSide) (how : Ending) (code : ℕ) → IsUnreported before mid → TellsEnd how mid.sink now code → IsUnbegun before (world mid.folder now)
+unbegun-told before mid now how code h told = record {
+  written = h.written;
+  how = how;
+  line = subst (λ (s : SinkSide). AppendsPrefix s.written now.written (fault_text how)) h.sink (put_some mid.sink.written now.written (fault_text how) told.answer told.line.bytes);
+}
+
+-- a run that ended so before anything was written
+pub run-unbegun : (ask : Option Ask) (before mid : World) (now : SinkSide) (how : Ending) (code : ℕ) → IsUnreported before mid → EndsBy (meaning_at nothing) ask before mid how → TellsEnd how mid.sink now code → Runs ask before (world mid.folder now) code
+run-unbegun ask before mid now how code h ends told = record {
+  work = nothing;
+  fair = not-begun ask before (world mid.folder now) (unbegun-told before mid now how code h told);
+  holds = runs-told (meaning_at nothing) ask before mid now how code ends told;
+}
+
+-- of a command that was obeyed with some work
+pub run-somehow : (c : Command) (before mid : World) (now : SinkSide) (how : Ending) (code : ℕ) → ObeysSomehow (here c) before mid how → TellsEnd how mid.sink now code → Runs (asked_here c) before (world mid.folder now) code
+run-somehow c before mid now how code h told = record {
+  work = h.work;
+  fair = λ x tells t set. elim (h.fair x tells t set) [
+    | inl untold ↦ inl (unbegun-told before mid now how code untold told)
+    | inr is ↦ inr is
+  ];
+  holds = runs-told (meaning_at h.work) (asked_here c) before mid now how code h.obeys told;
+}
+
+-- ---- before a command is obeyed
+
+-- words that are no command
+pub run-usage : (these : Option Asking) (before : World) (now : SinkSide) (code : ℕ) → None ≡ these → TellsEnd ending.Usage before.sink now code → Runs (option_map asks these) before (world before.folder now) code
+run-usage these before now code is told =
+    subst (λ (o : Option Asking). Runs (option_map asks o) before (world before.folder now) code) is
+    (run-unbegun None before before now ending.Usage code (record { written = λ f. refl; sink = refl }) (refl, record { folder = refl; sink = refl }) told)
+
+-- a command that has no directories
+pub run-here : (these : Option Asking) (c : Command) (before now : World) (code : ℕ) → Some (c, None) ≡ these → RunsAsPromised (asked_here c) before now code → Runs (option_map asks these) before now code
+run-here these c before now code is kept = asked_as these (c, None) before now code is (runs-of meanings (asked_here c) before now code kept)
+
+unread_placed : (before placed : Outside) (f : File) → PlacesOnly before placed → IsUnread before placed f
+unread_placed before placed f only = record { left = only.left f; faults = only.next_faults f }
+
+unput_placed : (before placed : Outside) (f : File) → PlacesOnly before placed → IsUnput before placed f
+unput_placed before placed f only = record { written = only.written f; faults = only.put_faults f }
+
+-- its directories could not be named
+obeys_unplaced : (c : Command) (dirs : Directories) (before placed : Outside) (sink : SinkSide) → PlacesOnly before placed → Rose before.place_faults placed.place_faults → Obeys nothing (at c dirs) (world before sink) (world placed sink) ending.PlaceFault
+obeys_unplaced c dirs before placed sink only rose = record {
+  no_usage = λ e. absurd cc;
+  cause = rose;
+  does = λ x tells. tt;
+  placed = tt;
+  read = tt;
+  silent = (record { written = only.written; sink = refl }, λ f. unread_placed before placed f only);
+  kept = omega arith;
+  in_order = λ x tells r refused g lt. unread_placed before placed g only;
+  unread = λ f other. unread_placed before placed f only;
+  unput = λ f other. unput_placed before placed f only;
+}
+
+obeys_unnamed : (c : Command) (dirs : Directories) (before placed : Outside) (sink : SinkSide) → PlacesOnly before placed → Obeys nothing (at c dirs) (world before sink) (world placed sink) ending.Memory
+obeys_unnamed c dirs before placed sink only = record {
+  no_usage = λ e. absurd cc;
+  cause = tt;
+  does = λ x tells. inl (record { written = only.written; sink = refl });
+  placed = tt;
+  read = tt;
+  silent = tt;
+  kept = omega arith;
+  in_order = λ x tells r refused g lt. unread_placed before placed g only;
+  unread = λ f other. unread_placed before placed f only;
+  unput = λ f other. unput_placed before placed f only;
+}
+
+pub run-unplaced : (these : Option Asking) (c : Command) (dirs : Directories) (before placed : Outside) (sink now : SinkSide) (code : ℕ) → Some (c, Some dirs) ≡ these → PlacesOnly before placed → Rose before.place_faults placed.place_faults → TellsEnd ending.PlaceFault sink now code → Runs (option_map asks these) (world before sink) (world placed now) code
+run-unplaced these c dirs before placed sink now code is only rose told =
+    asked_as these (c, Some dirs) (world before sink) (world placed now) code is
+    (run-unbegun (Some (at c dirs)) (world before sink) (world placed sink) now ending.PlaceFault code (record { written = only.written; sink = refl }) (obeys_unplaced c dirs before placed sink only rose) told)
+
+pub run-unnamed : (these : Option Asking) (c : Command) (dirs : Directories) (before placed : Outside) (sink now : SinkSide) (code : ℕ) → Some (c, Some dirs) ≡ these → PlacesOnly before placed → TellsEnd ending.Memory sink now code → Runs (option_map asks these) (world before sink) (world placed now) code
+run-unnamed these c dirs before placed sink now code is only told =
+    asked_as these (c, Some dirs) (world before sink) (world placed now) code is
+    (run-unbegun (Some (at c dirs)) (world before sink) (world placed sink) now ending.Memory code (record { written = only.written; sink = refl }) (obeys_unnamed c dirs before placed sink only) told)

@@ -1,6 +1,7 @@
 -- The numbers of the words are in their ranges.
 use Rattle.std.proofs.Common.{◌≡◌, ℕ, ◌≤◌, Bool, true, false, ◌&&◌, if◌then◌else◌, List, [], ◌∷◌, refl, sym, subst, inl, inr, arith}
-use Rattle.std.specs.Prelude.{Option, Some, None, IfSome, nat_le, bytes_eq, codes}
+use Rattle.std.proofs.lemmas.Bool.Decides.{nat_tests}
+use Rattle.std.specs.Prelude.{Option, Some, None, IfSome, nat_le, nat_lt, bytes_eq, codes}
 use Rattle.std.proofs.lemmas.Bool.{cases_Bool, leb-true}
 use Rattle.desk_folder.specs.Outside.{Directories}
 use Rattle.desk_text.specs.Fields.{◌>>=◌, only_if, digits_of, number_from}
@@ -9,7 +10,7 @@ use Rattle.desk_words.specs.declared.asked.Command.TheVariants as command_is
 use Rattle.desk_words.specs.declared.choice.NumberOption.{NumberOption}
 use Rattle.desk_words.specs.declared.choice.NumberOption.TheVariants as choice_is
 use Rattle.desk_words.specs.Arguments.{Argument, arguments, places}
-use Rattle.desk_words.specs.Commands.{Asking, least_of, most_of, value_in, value_of, no_day_options, no_search_options, input_and_output, output_alone, no_directory, plain, searching, recovering, making, generating, sampling, trying, command_by, command}
+use Rattle.desk_words.specs.Commands.{Asking, least_of, most_of, value_in, value_of, no_day_options, no_search_options, input_and_output, output_alone, no_directory, plain, search, searching, recovering, making, generating, sampling, trying, command_by, command}
 use Rattle.desk_runs.specs.Commands.{IsCommand}
 
 -- from a least to a greatest number
@@ -38,6 +39,7 @@ value_within choice_is.Seed [] = (omega arith, omega arith)
 value_within choice_is.Size [] = (omega arith, omega arith)
 value_within choice_is.Workers [] = (omega arith, omega arith)
 value_within choice_is.Moves [] = (omega arith, omega arith)
+value_within choice_is.Live [] = (omega arith, omega arith)
 value_within choice (text ∷ []) = number_within (least_of choice) (most_of choice) text
 value_within choice (text ∷ other ∷ texts) = tt
 
@@ -59,14 +61,23 @@ if_range : (test : Bool) (o : Option Asking) → InRange o → InRange (if test 
 if_range true o h = h
 if_range false o h = tt
 
-searching_in : (workers moves : Option ℕ) (dirs : Option Directories) → IfSome workers (Within 0 0) → IfSome moves (Within 1 100000) → InRange (workers >>= (λ workers. moves >>= (λ moves. dirs >>= (λ dirs. Some (command_is.Recover workers moves false, Some dirs)))))
-searching_in None moves dirs w a = tt
-searching_in (Some workers) None dirs w a = tt
-searching_in (Some workers) (Some moves) dirs w a = with_dirs (command_is.Recover workers moves false) dirs (omega (arith, w.1), a.0, a.1, refl)
+-- batches arrive live only beside a worker
+some_worker : (workers live : ℕ) → nat_lt workers live ≡ false → nat_lt 0 live ≡ true → 1 ≤ workers
+some_worker workers live few some = grind (arith, nat_tests)
+
+search_in : (workers moves live : ℕ) (dirs : Option Directories) (less : Bool) → nat_lt workers live ≡ less → Within 0 64 workers → Within 1 100000 moves → InRange ((if less then None else Some (command_is.Recover workers moves (nat_lt 0 live))) >>= (λ command. dirs >>= (λ dirs. Some (command, Some dirs))))
+search_in workers moves live dirs true is w a = tt
+search_in workers moves live dirs false is w a = with_dirs (command_is.Recover workers moves (nat_lt 0 live)) dirs (w.1, a.0, a.1, λ some. some_worker workers live is some)
+
+searching_in : (workers moves live : Option ℕ) (dirs : Option Directories) → IfSome workers (Within 0 64) → IfSome moves (Within 1 100000) → InRange (workers >>= (λ workers. moves >>= (λ moves. live >>= (λ live. search workers moves live >>= (λ command. dirs >>= (λ dirs. Some (command, Some dirs)))))))
+searching_in None moves live dirs w a = tt
+searching_in (Some workers) None live dirs w a = tt
+searching_in (Some workers) (Some moves) None dirs w a = tt
+searching_in (Some workers) (Some moves) (Some live) dirs w a = search_in workers moves live dirs (nat_lt workers live) refl w a
 
 recovering_range : (list : List Argument) → InRange (recovering list)
 unfolding searching
-recovering_range list = if_range (no_day_options list) _ (searching_in (value_of choice_is.Workers list) (value_of choice_is.Moves list) (input_and_output (places list)) (value_within choice_is.Workers _) (value_within choice_is.Moves _))
+recovering_range list = if_range (no_day_options list) _ (searching_in (value_of choice_is.Workers list) (value_of choice_is.Moves list) (value_of choice_is.Live list) (input_and_output (places list)) (value_within choice_is.Workers _) (value_within choice_is.Moves _))
 
 making_in : (seed size : Option ℕ) (dirs : Option Directories) → IfSome seed (Within 0 999999999) → IfSome size (Within 1 40) → InRange (seed >>= (λ seed. size >>= (λ size. dirs >>= (λ dirs. Some (command_is.Gen seed size, Some dirs)))))
 making_in None size dirs a b = tt
@@ -102,14 +113,14 @@ asked_range word list =
     choice_range true a b h k = h
     choice_range false a b h k = k
 
-behind_range : (word : List ℕ) (read : Option (List Argument)) → InRange (read >>= command_by word)
-behind_range word None = tt
-behind_range word (Some list) = asked_range word list
+after_range : (word : List ℕ) (read : Option (List Argument)) → InRange (read >>= command_by word)
+after_range word None = tt
+after_range word (Some list) = asked_range word list
 
 ranges : (words : List (List ℕ)) → InRange (command words)
 unfolding command
 ranges [] = tt
-ranges (word ∷ words) = behind_range word (arguments words)
+ranges (word ∷ words) = after_range word (arguments words)
 
 pub asked-in-range : (words : List (List ℕ)) (asked : Asking) → Some asked ≡ command words → IsCommand asked.0
 asked-in-range words asked is = subst (λ (o : Option Asking). InRange o) (sym is) (ranges words)

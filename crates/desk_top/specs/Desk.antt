@@ -1,5 +1,5 @@
 -- What is said of a run of the desk, where its inputs mean what the files' grammars and their join say.
-use Rattle.std.specs.Prelude.{◌≡◌, ℕ, false, List, Option, Ok}
+use Rattle.std.specs.Prelude.{◌≡◌, ◌⊎◌, ℕ, Bool, false, List, Option, Ok}
 use Rattle.std.specs.Io.KnownBytes.{Appends}
 use Rattle.desk_model.specs.declared.answer.Entry.{Entry}
 use Rattle.desk_model.specs.States.{opening}
@@ -9,19 +9,20 @@ use Rattle.desk_rules.specs.Cost.{cost}
 use Rattle.desk_words.specs.declared.asked.Command.{Command}
 use Rattle.desk_words.specs.declared.asked.Command.TheVariants as command_is
 use Rattle.desk_runs.specs.declared.ending.Ending.{Ending}
-use Rattle.desk_runs.specs.Commands.{Ask}
-use Rattle.desk_runs.specs.Inputs.{Inputs}
-use Rattle.desk_runs.specs.Runs.{World, Meaning, IsWritten}
+use Rattle.desk_runs.specs.Commands.{Ask, files_read}
+use Rattle.desk_runs.specs.Inputs.{Inputs, Tells}
+use Rattle.desk_runs.specs.Runs.{World, Meaning, IsSetTask, IsUnreported, IsWritten}
 use Rattle.desk_runs.specs.Runs as runs
 use Rattle.desk_runs.specs.Causes as causes
 use Rattle.desk_runs.specs.Promised as promised
 use Rattle.desk_runs.specs.Works.{Meanings, AtSomeWork}
-use Rattle.desk_tasks.specs.Play.{Story, search_told, report_text, plan_status}
+use Rattle.desk_tasks.specs.Play.{Story, search_remarks, report_text, plan_status}
 use Rattle.desk_tasks.specs.Recover.{Recovery, search_end}
+use Rattle.desk_tasks.specs.Team.{TeamRecovery, team_on, Work}
 use Rattle.desk_tasks.specs.Judge.{Judged, verdict_report, rule_status}
 use Rattle.desk_tasks.specs.Generate.{generation}
-use Rattle.desk_tasks.specs.Tasks.{Task, play, recover, judge, Work, IsWorkOf, outcome_at, IsSoundAt}
-use Rattle.desk_tasks.specs.Headline.{TellsHistory, Headline, Recovers}
+use Rattle.desk_tasks.specs.Tasks.{Task, play, recover, team, judge, IsWorkOf, outcome_at, IsSoundAt}
+use Rattle.desk_tasks.specs.Headline.{TellsHistory, Headline, Recovers, HasTeamRecovered}
 use Rattle.desk_gen.specs.Generated.{text_of}
 use Rattle.desk_story.specs.Story.{Rows, rows_of, usual_moves, task_of}
 
@@ -30,7 +31,7 @@ use Rattle.desk_story.specs.Story.{Rows, rows_of, usual_moves, task_of}
 abbrev pub meaning_at : Work → Meaning Rows Task
 meaning_at work = record { rows = rows_of; task = task_of; outcome = outcome_at work; IsSound = IsSoundAt work }
 
--- the same at each work
+-- at each work
 abbrev pub meanings : Meanings Rows Task Work
 meanings = record { at = meaning_at; IsWorkOf = IsWorkOf }
 
@@ -39,6 +40,12 @@ meanings = record { at = meaning_at; IsWorkOf = IsWorkOf }
 -- a command that is obeyed with this work
 abbrev pub Obeys : Work → Ask → World → World → Ending → Type 0
 Obeys work a before now how = runs.Obeys (meaning_at work) a before now how
+
+-- a command that is obeyed with some work, one of the task that its inputs set; unless nothing is written, and no line of a fault is put yet
+pub record ObeysSomehow (a : Ask) (before now : World) (how : Ending) : Type 0 where
+  pub work : Work
+  pub fair : (x : Inputs) → Tells (files_read a.command) before.folder x → (t : Task) → IsSetTask (meaning_at work) a.command x t → IsUnreported before now ⊎ IsWorkOf t work
+  pub obeys : Obeys work a before now how
 
 -- a run with this work, and a run with some work
 abbrev pub RunsWith : Work → Option Ask → World → World → ℕ → Type 0
@@ -57,14 +64,14 @@ RunsAsPromised ask before now code = promised.RunsAsPromised meanings ask before
 
 -- ---- what each command did, once it was done
 
--- `replay`: the inputs tell a story, and there is a history with the headline
+-- `replay`: the inputs give a story, and there is a history with the headline
 pub record IsReplayed (before now : World) (x : Inputs) : Type 0 where
   pub story : Story
   pub told : task_of command_is.Replay x ≡ Ok (play story)
   pub history : List Entry
   pub headline : Headline before now story history
 
--- `recover`: the inputs tell a day and its batches, and there is a history with the headline; the status is 1 where it ends with no plan
+-- `recover`: the inputs give a day and its batches, and there is a history with the headline; the status is 1 where it ends with no plan
 -- and else 0
 pub record IsRecovered (before now : World) (moves : ℕ) (x : Inputs) (code : ℕ) : Type 0 where
   pub recovery : Recovery
@@ -72,7 +79,16 @@ pub record IsRecovered (before now : World) (moves : ℕ) (x : Inputs) (code : �
   pub history : List Entry
   pub status : code ≡ plan_status (state (opening recovery.day) history).broken
   pub recovers : Recovers recovery history
-  pub written : TellsHistory before now recovery.day (search_told (search_end recovery.day recovery.moves history)) history
+  pub written : TellsHistory before now recovery.day (search_remarks (search_end recovery.day recovery.moves history)) history
+
+-- `recover` with workers: the inputs give a day and its batches, and there is a history with the headline, which a team of so many may make of
+-- them; the status is 1 where it ends with no plan and else 0
+pub record IsRecoveredByTeam (before now : World) (workers moves : ℕ) (live : Bool) (x : Inputs) (code : ℕ) : Type 0 where
+  pub recovery : Recovery
+  pub told : task_of (command_is.Recover workers moves live) x ≡ Ok (team (team_on recovery workers live))
+  pub work : Work
+  pub status : code ≡ plan_status (state (opening recovery.day) work.history).broken
+  pub headline : HasTeamRecovered before now (team_on recovery workers live) work
 
 -- `trial`: the same of the texts of a day that is made up, read as `recover` reads them with its usual options, and reported alone
 pub record IsTried (before now : World) (seed size : ℕ) (code : ℕ) : Type 0 where
@@ -81,9 +97,9 @@ pub record IsTried (before now : World) (seed size : ℕ) (code : ℕ) : Type 0 
   pub history : List Entry
   pub status : code ≡ plan_status (state (opening recovery.day) history).broken
   pub recovers : Recovers recovery history
-  pub reported : Appends before.sink.written now.sink.written (report_text recovery.day (search_told (search_end recovery.day recovery.moves history)) history)
+  pub reported : Appends before.sink.written now.sink.written (report_text recovery.day (search_remarks (search_end recovery.day recovery.moves history)) history)
 
--- `check`: the inputs tell a day and a plan; the status is 7 where the plan breaks a rule and else 0, and the report tells the
+-- `check`: the inputs give a day and a plan; the status is 7 where the plan breaks a rule and else 0, and the report gives the
 -- first item that is broken, or that none is, and the cost of the plan under the orders of all batches
 pub record IsChecked (before now : World) (x : Inputs) (code : ℕ) : Type 0 where
   pub judged : Judged

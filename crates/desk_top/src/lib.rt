@@ -1,16 +1,17 @@
 //! The top call: what the words of the program ask for, over a folder and a sink.
 //!
-//!     let status = desk_main(alloc, words, &mut folder, &mut out, &FreeGate);
+//!     let status = desk_main(rt, alloc, words, &mut folder, &mut out, &FreeGate);
 //!
 //! answers the status of the program, from 0 to 7. Its contract is what the desk promises of each run of each
 //! command: the headline, the cause of each status, and what stands outside after it, clause by clause;
-//! docs/PROMISES.md tells them in plain words. The body takes the words apart, names the directories, and has
-//! `run_plain` do the command, which puts the line that tells why a run was not done.
+//! docs/PROMISES.md says them in plain words. The body takes the words apart, names the directories, and has
+//! `run_plain` do the command, or `run_workers` where it asks for workers; these put the line that says why a run was
+//! not done.
 //!
-//! Its runs stand in `desk_rows`, as files. The tests here are of what a file cannot say: each allocation
+//! Its runs are in `desk_rows`, as files. The tests here are of what a file cannot say: each allocation
 //! of some runs is refused in turn, a million changes are made and taken back, and a larger trial is run
-//! twice. It stands on the crates of the commands; the program `desk` and
-//! `desk_rows` stand on it.
+//! twice. It depends on the crates of the commands; the program `desk` and
+//! `desk_rows` depend on it.
 #![tactic(auto)]
 
 mod day;
@@ -18,7 +19,9 @@ mod desk;
 mod plain;
 #[cfg(test)]
 mod tests;
+mod workers;
 
 pub use desk::desk_main;
 pub use desk_words::Command;
 pub use plain::run_plain;
+pub use workers::run_workers;

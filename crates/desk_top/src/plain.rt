@@ -1,11 +1,12 @@
 //! The commands, one after another on one thread, in directories that are named already.
 
-ghost use Rattle.std.specs.Prelude.{◌≢◌};
-ghost use Rattle.desk_runs.specs.Commands.{IsCommand, asked_here};
+ghost use Rattle.std.specs.Prelude.{◌≡◌, ◌≢◌};
+ghost use Rattle.desk_runs.specs.Commands.{IsCommand, asked_here, workers_of};
 ghost use Rattle.desk_runs.specs.Runs.{Between, TellsEnd};
 ghost use Rattle.desk_runs.specs.Finishing.{Completes};
 ghost use Rattle.desk_runs.proofs.Composed.{here};
-ghost use Rattle.desk_tasks.specs.Tasks.{nothing, outcome, files_for};
+ghost use Rattle.desk_tasks.specs.Team.{nothing};
+ghost use Rattle.desk_tasks.specs.Tasks.{outcome, files_for, team_size};
 ghost use Rattle.desk_story.specs.Facts.{as_task, CanBeDone};
 ghost use Rattle.desk_top.specs.Desk.{Obeys, RunsWith, RunsAsPromised};
 
@@ -27,7 +28,8 @@ fn do_task<F: Folder, O: Sink>(
     folder: &mut F,
     out: &mut O,
 ) -> Ending
-    requires { CanBeDone task }
+    requires sound { CanBeDone task }
+    requires alone { team_size (as_task task) ≡ 0 }
     ensures { Between F.outside O.report folder.old out.old folder.new out.new
         (λ before now. Completes (files_for (as_task task)) before now (outcome (as_task task)) result) }
 {
@@ -57,12 +59,14 @@ fn do_task<F: Folder, O: Sink>(
             judge_plan(alloc, &inst, &plan, folder, out)
         }
         InputTask::Generate { seed, size } => write_day(alloc, seed, size, folder, out),
+        InputTask::Team { .. } => unreachable!(),
     }
 }
 
 // Reads what a command asks for, and does it.
 fn obey<F: Folder, O: Sink>(alloc: Global, command: &Command, folder: &mut F, out: &mut O) -> Ending
-    requires { IsCommand command.now }
+    requires ranges { IsCommand command.now }
+    requires alone { workers_of command.now ≡ 0 }
     ensures { Between F.outside O.report folder.old out.old folder.new out.new
         (λ before now. Obeys nothing (here command.now) before now result) }
 {
@@ -72,7 +76,7 @@ fn obey<F: Folder, O: Sink>(alloc: Global, command: &Command, folder: &mut F, ou
     }
 }
 
-/// Puts the line that tells why a run was not done, and answers the status.
+/// Puts the line that says why a run was not done, and answers the status.
 pub(crate) fn tell<O: Sink>(alloc: Global, ending: Ending, out: &mut O) -> u8
     ensures { TellsEnd ending (O.report out.old) (O.report out.new) result }
 {
@@ -85,9 +89,10 @@ pub(crate) fn tell<O: Sink>(alloc: Global, ending: Ending, out: &mut O) -> u8
     }
 }
 
-// Reads what a command asks for, does it, and puts the line that tells why it was not done.
+// Reads what a command asks for, does it, and puts the line that says why it was not done.
 fn told<F: Folder, O: Sink>(alloc: Global, command: &Command, folder: &mut F, out: &mut O) -> u8
-    requires { IsCommand command.now }
+    requires ranges { IsCommand command.now }
+    requires alone { workers_of command.now ≡ 0 }
     ensures { Between F.outside O.report folder.old out.old folder.new out.new
         (λ before now. RunsWith nothing (asked_here command.now) before now result) }
 {
@@ -95,7 +100,8 @@ fn told<F: Folder, O: Sink>(alloc: Global, command: &Command, folder: &mut F, ou
     tell(alloc, ending, out)
 }
 
-/// Does what a command says, in the directories that the folder has, and answers the status.
+/// Does what a command says that asks for no workers, in the directories that the folder has, and answers the status.
+/// It waits for nobody.
 ///
 /// 0: done; of a replay, a recovery or a trial with a plan at the end, of a check with a plan that breaks no
 /// rule. 1: a replay, a recovery or a trial was done, with no plan at the end. 3: the input is refused. 4: the
@@ -107,7 +113,8 @@ pub fn run_plain<F: Folder, O: Sink>(
     folder: &mut F,
     out: &mut O,
 ) -> u8
-    requires { IsCommand command.now }
+    requires ranges { IsCommand command.now }
+    requires alone { workers_of command.now ≡ 0 }
     // All that is promised of each run: how it ended, what its status means, what stands outside after it, and
     // what is untouched.
     ensures promise { Between F.outside O.report folder.old out.old folder.new out.new

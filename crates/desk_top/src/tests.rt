@@ -8,9 +8,11 @@ use crate::desk_main;
 use desk_data::NoMem;
 use desk_folder::{File, FreeGate, MemFolder, MemSink};
 use std::alloc::Global;
+use std::sync::Wait;
+use std::thread::Threads;
 
 /// A day with a reservation on each leg, with prices, with orders of each kind, with a proposal for each
-/// kind of answer, before two batches and between them, and with a plan that meets the rules behind both.
+/// kind of answer, before two batches and between them, and with a plan that meets the rules after both.
 const DAY: [(File, &str); 16] = [
     (File::Config, "01/03/08 06:00 02/03/08 06:00\n"),
     (
@@ -107,17 +109,30 @@ fn words_of(alloc: Global, text: &str) -> Result<Vec<String>, NoMem> {
 }
 
 /// The status of a run, or an error where memory ran out before it began.
-fn status_of_run(alloc: Global, words: &str, changed: File, text: &str) -> Result<u8, NoMem> {
+fn status_of_run<R: Threads + Wait + Sync>(
+    rt: &R,
+    alloc: Global,
+    words: &str,
+    changed: File,
+    text: &str,
+) -> Result<u8, NoMem> {
     let words = words_of(alloc, words)?;
     let mut folder = folder_of(alloc, changed, text)?;
     let mut out = MemSink::new(Vec::new(alloc));
-    Ok(desk_main(alloc, words.as_slice(), &mut folder, &mut out, &FreeGate))
+    Ok(desk_main(
+        rt,
+        alloc,
+        words.as_slice(),
+        &mut folder,
+        &mut out,
+        &FreeGate,
+    ))
 }
 
 #[test]
 fn running_out_of_memory_gives_status_6_or_the_runs_own(rt: HostRuntime) {
     for (words, file, text, own) in &RUNS {
-        if let Ok(status) = status_of_run(rt.alloc(), words, *file, text) {
+        if let Ok(status) = status_of_run(&rt, rt.alloc(), words, *file, text) {
             assert!(rt;
                 status == *own || status == 6,
                 "status {status} of {words} with {file}"

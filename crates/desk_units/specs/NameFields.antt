@@ -1,4 +1,4 @@
--- A name is kept as 32 bytes, of which those behind it are zero.
+-- A name is kept as 32 bytes, of which those after the name's own are zero.
 use Rattle.std.specs.Prelude.{◌≡◌, ℕ, ◌-◌, List, ◌++◌, length, take, drop, replicate, refl}
 use Rattle.std.proofs.Common.{arith, ap, ◌∙◌}
 use Rattle.std.proofs.lemmas.List.{take-append-drop, length-take, length-append, length-replicate, drop-replicate, drop_at}
@@ -9,7 +9,7 @@ use Rattle.desk_units.specs.declared.name.Name.TheInside.{Inside}
 abbrev pub fields_of : List ℕ → Inside
 fields_of name = record { bytes = name ++ replicate (32 - length name) 0; len = length name }
 
--- the bytes behind the name are zero
+-- the bytes after the name are zero
 pub record IsPadded (n : Inside) : Type 0 where
   pub length_of : IsNameLength n.len
   pub room : length n.bytes ≡ 32

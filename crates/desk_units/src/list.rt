@@ -5,7 +5,7 @@ ghost use Rattle.std.specs.Prelude.{◌≡◌, List as Items};
 use std::marker::Model;
 
 /// A list that is a field of a public type. Contracts see it as the list of its items, whatever
-/// room the vector behind it keeps.
+/// room the vector inside it keeps.
 #[derive(Debug, Drop)]
 pub struct List<T>(pub Vec<T>);
 

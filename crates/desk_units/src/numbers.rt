@@ -24,7 +24,7 @@ pub struct Leg(pub u32);
 pub struct Res(pub u32);
 
 /// A cabin: first, business or economy, in the order in which paths are compared.
-#[derive(Clone, Copy, Debug, PartialEq, Eq, PartialOrd, Ord, Hash)]
+#[derive(Clone, Copy, Debug, PartialEq, Eq, PartialOrd, Ord)]
 pub enum Cabin {
     F,
     B,
@@ -47,7 +47,7 @@ impl Cabin {
 }
 
 /// The haul of a leg: domestic, continental or intercontinental.
-#[derive(Clone, Copy, Debug, PartialEq, Eq, PartialOrd, Ord, Hash)]
+#[derive(Clone, Copy, Debug, PartialEq, Eq)]
 pub enum Haul {
     D,
     C,
@@ -70,7 +70,7 @@ impl Haul {
 }
 
 /// The seats of an aircraft in each cabin, each from 0 to 999 in a day that was read.
-#[derive(Clone, Copy, Debug, PartialEq, Eq, PartialOrd, Ord, Hash)]
+#[derive(Clone, Copy, Debug, PartialEq, Eq)]
 pub struct Seats {
     pub f: u32,
     pub b: u32,

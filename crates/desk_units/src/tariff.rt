@@ -9,7 +9,7 @@ use crate::name::Name;
 use crate::numbers::{Cabin, Haul};
 
 /// A term of a plan's cost.
-#[derive(Clone, Copy, Debug, PartialEq, Eq, PartialOrd, Ord, Hash)]
+#[derive(Clone, Copy, Debug, PartialEq, Eq)]
 pub enum Term {
     /// The hours that aircraft fly.
     Operating,

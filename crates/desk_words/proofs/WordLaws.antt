@@ -5,56 +5,59 @@ use Rattle.desk_text.specs.Fields.{◌>>=◌, number_from}
 use Rattle.desk_words.specs.declared.asked.Command.{Command}
 use Rattle.desk_words.specs.declared.asked.Command.TheVariants.{Replay, Check}
 use Rattle.desk_words.specs.declared.choice.NumberOption.{NumberOption}
-use Rattle.desk_words.specs.declared.choice.NumberOption.TheVariants.{Seed, Size, Workers, Moves}
+use Rattle.desk_words.specs.declared.choice.NumberOption.TheVariants.{Seed, Size, Workers, Moves, Live}
 use Rattle.desk_words.specs.declared.read.Expected.{Expected}
 use Rattle.desk_words.specs.declared.read.Expected.TheVariants as expected
-use Rattle.desk_words.specs.Arguments.{Argument, Place, Setting, is_directory, choice_of, setting_of, before, named_or, set_before, only_places, arguments_behind, arguments, places, values, choice_number}
-use Rattle.desk_words.specs.Commands.{Asking, default_of, least_of, most_of, value_in, value_of, is_nothing, is_unset, no_day_options, no_search_options, input_and_output, plain, searching, recovering, making, generating, sampling, trying, command_by, command}
-use Rattle.desk_words.specs.Read.{WordsRead, nothing, one_more, with_place, with_setting, with_argument, with_all, kept_behind, by_choice, next_is, arguments_by, of_any, of_word, value, with_value, unset, no_day_set, no_search_set, number_kept, plain_kept, recovering_kept, generating_kept, trying_kept, asked_kept}
+use Rattle.desk_words.specs.Arguments.{Argument, Place, Setting, is_directory, choice_of, setting_of, is_live, before, named_or, set_before, only_places, arguments_after, arguments, places, values, choice_number}
+use Rattle.desk_words.specs.Commands.{Asking, default_of, least_of, most_of, value_in, value_of, is_nothing, is_unset, no_day_options, no_search_options, search, input_and_output, plain, searching, recovering, making, generating, sampling, trying, command_by, command}
+use Rattle.desk_words.specs.Read.{WordsRead, nothing, one_more, with_place, with_setting, with_argument, with_all, kept_after, by_choice, next_is, arguments_by, of_any, of_word, value, with_value, unset, no_day_set, no_search_set, number_kept, plain_kept, recovering_kept, generating_kept, trying_kept, asked_kept}
 
 nowhere : {X : Type 0} (more : Option X) (f : X → Option WordsRead) → ((x : X) → f x ≡ None) → (more >>= f) ≡ None
 nowhere None f none = refl
 nowhere (Some x) f none = none x
 
 -- an argument before others is kept, and then the others
-pub kept_before : (kept : WordsRead) (argument : Argument) (others : Option (List Argument)) → kept_behind kept (before argument others) ≡ (with_argument kept argument >>= λ more. kept_behind more others)
+pub kept_before : (kept : WordsRead) (argument : Argument) (others : Option (List Argument)) → kept_after kept (before argument others) ≡ (with_argument kept argument >>= λ more. kept_after more others)
 unfolding with_all
 kept_before kept argument (Some list) = refl
-kept_before kept argument None = sym (nowhere (with_argument kept argument) (λ more. kept_behind more None) (λ more. refl))
+kept_before kept argument None = sym (nowhere (with_argument kept argument) (λ more. kept_after more None) (λ more. refl))
 
--- what is kept of the words behind one
+-- what is kept of the words after one
 abbrev go_on : List (List ℕ) → Expected × WordsRead → Option WordsRead
-go_on words next = kept_behind next.1 (arguments_by next.0 words)
+go_on words next = kept_after next.1 (arguments_by next.0 words)
 
 bind_twice : (more : Option WordsRead) (next : Expected) (f : Expected × WordsRead → Option WordsRead) → ((more >>= next_is next) >>= f) ≡ (more >>= λ kept. f (next, kept))
 bind_twice None next f = refl
 bind_twice (Some kept) next f = refl
 
-kept_any : (kept : WordsRead) (word : List ℕ) (words : List (List ℕ)) → kept_behind kept (arguments_behind None (word ∷ words)) ≡ (of_any kept word >>= go_on words)
-unfolding of_any arguments_behind
-kept_any kept word words = by_tests (is_directory word) (bytes_eq word (codes "--")) (choice_of word) (setting_of word)
+kept_any : (kept : WordsRead) (word : List ℕ) (words : List (List ℕ)) → kept_after kept (arguments_after None (word ∷ words)) ≡ (of_any kept word >>= go_on words)
+unfolding of_any arguments_after
+kept_any kept word words = by_tests (is_directory word) (bytes_eq word (codes "--")) (is_live word) (choice_of word) (setting_of word)
   where
-    by_tests : (place dashes : Bool) (choice : Option NumberOption) (set : Option (NumberOption × List ℕ)) →
-        kept_behind kept (if place then before (Place word) (arguments_behind None words) else (
-        if dashes then only_places words else
-        named_or choice (λ c. arguments_behind (Some c) words) (set_before set (arguments_behind None words))))
+    by_tests : (place dashes live : Bool) (choice : Option NumberOption) (set : Option (NumberOption × List ℕ)) →
+        kept_after kept (if place then before (Place word) (arguments_after None words) else (
+        if dashes then only_places words else (
+        if live then before (Setting Live (codes "1")) (arguments_after None words) else
+        named_or choice (λ c. arguments_after (Some c) words) (set_before set (arguments_after None words)))))
         ≡ ((if place then (with_place kept word >>= next_is expected.Any) else (
-        if dashes then next_is expected.Place kept else
-        by_choice choice (λ c. next_is (expected.Value c) kept) (set >>= λ s. with_setting kept s.0 s.1 >>= next_is expected.Any))) >>= go_on words)
-    by_tests true dashes choice set = kept_before kept (Place word) (arguments_behind None words) ∙ sym (bind_twice (with_place kept word) expected.Any (go_on words))
-    by_tests false true choice set = refl
-    by_tests false false (Some c) set = refl
-    by_tests false false None None = refl
-    by_tests false false None (Some s) = kept_before kept (Setting s.0 s.1) (arguments_behind None words) ∙ sym (bind_twice (with_setting kept s.0 s.1) expected.Any (go_on words))
+        if dashes then next_is expected.Place kept else (
+        if live then (with_setting kept Live (codes "1") >>= next_is expected.Any) else
+        by_choice choice (λ c. next_is (expected.Value c) kept) (set >>= λ s. with_setting kept s.0 s.1 >>= next_is expected.Any)))) >>= go_on words)
+    by_tests true dashes live choice set = kept_before kept (Place word) (arguments_after None words) ∙ sym (bind_twice (with_place kept word) expected.Any (go_on words))
+    by_tests false true live choice set = refl
+    by_tests false false true choice set = kept_before kept (Setting Live (codes "1")) (arguments_after None words) ∙ sym (bind_twice (with_setting kept Live (codes "1")) expected.Any (go_on words))
+    by_tests false false false (Some c) set = refl
+    by_tests false false false None None = refl
+    by_tests false false false None (Some s) = kept_before kept (Setting s.0 s.1) (arguments_after None words) ∙ sym (bind_twice (with_setting kept s.0 s.1) expected.Any (go_on words))
 
 -- what words say is what the first of them says, and then the others
-pub kept_word : (mode : Expected) (kept : WordsRead) (word : List ℕ) (words : List (List ℕ)) → kept_behind kept (arguments_by mode (word ∷ words)) ≡ (of_word mode kept word >>= go_on words)
-unfolding of_word arguments_behind only_places
+pub kept_word : (mode : Expected) (kept : WordsRead) (word : List ℕ) (words : List (List ℕ)) → kept_after kept (arguments_by mode (word ∷ words)) ≡ (of_word mode kept word >>= go_on words)
+unfolding of_word arguments_after only_places
 kept_word expected.Any kept word words = kept_any kept word words
-kept_word (expected.Value choice) kept word words = kept_before kept (Setting choice word) (arguments_behind None words) ∙ sym (bind_twice (with_setting kept choice word) expected.Any (go_on words))
+kept_word (expected.Value choice) kept word words = kept_before kept (Setting choice word) (arguments_after None words) ∙ sym (bind_twice (with_setting kept choice word) expected.Any (go_on words))
 kept_word expected.Place kept word words = by_test (is_directory word)
   where
-    by_test : (test : Bool) → kept_behind kept (if test then before (Place word) (only_places words) else None) ≡ ((if test then (with_place kept word >>= next_is expected.Place) else None) >>= go_on words)
+    by_test : (test : Bool) → kept_after kept (if test then before (Place word) (only_places words) else None) ≡ ((if test then (with_place kept word >>= next_is expected.Place) else None) >>= go_on words)
     by_test true = kept_before kept (Place word) (only_places words) ∙ sym (bind_twice (with_place kept word) expected.Place (go_on words))
     by_test false = refl
 
@@ -116,7 +119,7 @@ day_says : (done : List Argument) (kept : WordsRead) → Says done kept → no_d
 day_says done kept h = rw (unset_read Seed (values Seed done) kept.values.seed (h.set Seed), unset_read Size (values Size done) kept.values.size (h.set Size)) refl
 
 search_says : (done : List Argument) (kept : WordsRead) → Says done kept → no_search_options done ≡ no_search_set kept.values
-search_says done kept h = rw (unset_read Workers (values Workers done) kept.values.workers (h.set Workers), unset_read Moves (values Moves done) kept.values.moves (h.set Moves)) refl
+search_says done kept h = rw (unset_read Workers (values Workers done) kept.values.workers (h.set Workers), unset_read Moves (values Moves done) kept.values.moves (h.set Moves), unset_read Live (values Live done) kept.values.live (h.set Live)) refl
 
 number_says : (choice : NumberOption) (done : List Argument) (kept : WordsRead) → Says done kept → value_of choice done ≡ Some (number_kept choice kept)
 number_says choice done kept h = value_kept choice (values choice done) (value kept.values choice) (h.set choice)
@@ -127,7 +130,7 @@ plain_says command done kept h = rw (day_says done kept h, search_says done kept
 
 recovering_says : (done : List Argument) (kept : WordsRead) → Says done kept → recovering done ≡ recovering_kept kept
 unfolding searching recovering_kept
-recovering_says done kept h = rw (day_says done kept h, number_says Workers done kept h, number_says Moves done kept h, h.told) refl
+recovering_says done kept h = rw (day_says done kept h, number_says Workers done kept h, number_says Moves done kept h, number_says Live done kept h, h.told) refl
 
 generating_says : (done : List Argument) (kept : WordsRead) → Says done kept → generating done ≡ generating_kept kept
 unfolding making generating_kept
@@ -166,6 +169,10 @@ if_none : {X : Type 0} (test : Bool) (a b : Option X) → a ≡ None → b ≡ N
 if_none true a b e f = e
 if_none false a b e f = f
 
+and_first : (a b : Bool) → a ≡ false → (a && b) ≡ false
+and_first true b e = absurd cc
+and_first false b e = refl
+
 and_false : (a b : Bool) → b ≡ false → (a && b) ≡ false
 and_false true b e = e
 and_false false b e = refl
@@ -181,12 +188,14 @@ day_wrong Seed list e of = rw (unset_wrong Seed (values Seed list) e) refl
 day_wrong Size list e of = and_false (is_unset Seed list) (is_unset Size list) (unset_wrong Size (values Size list) e)
 day_wrong Workers list e of = absurd of
 day_wrong Moves list e of = absurd of
+day_wrong Live list e of = absurd of
 
 search_wrong : (choice : NumberOption) (list : List Argument) → value_in choice (values choice list) ≡ None → (IsOfDay choice → ⊥) → no_search_options list ≡ false
 search_wrong Seed list e of = absurd (of tt)
 search_wrong Size list e of = absurd (of tt)
 search_wrong Workers list e of = rw (unset_wrong Workers (values Workers list) e) refl
-search_wrong Moves list e of = and_false (is_unset Workers list) (is_unset Moves list) (unset_wrong Moves (values Moves list) e)
+search_wrong Moves list e of = and_first (is_unset Workers list && is_unset Moves list) (is_unset Live list) (and_false (is_unset Workers list) (is_unset Moves list) (unset_wrong Moves (values Moves list) e))
+search_wrong Live list e of = and_false (is_unset Workers list && is_unset Moves list) (is_unset Live list) (unset_wrong Live (values Live list) e)
 
 unless : {X : Type 0} (test : Bool) (a : Option X) → test ≡ false → (if test then a else None) ≡ None
 unless test a e = rw e refl
@@ -201,14 +210,16 @@ plain_fails command list (wrong Seed e) = unless (no_day_options list && no_sear
 plain_fails command list (wrong Size e) = unless (no_day_options list && no_search_options list) _ (rw (day_wrong Size list e tt) refl)
 plain_fails command list (wrong Workers e) = unless (no_day_options list && no_search_options list) _ (and_false (no_day_options list) (no_search_options list) (search_wrong Workers list e (λ n. n)))
 plain_fails command list (wrong Moves e) = unless (no_day_options list && no_search_options list) _ (and_false (no_day_options list) (no_search_options list) (search_wrong Moves list e (λ n. n)))
+plain_fails command list (wrong Live e) = unless (no_day_options list && no_search_options list) _ (and_false (no_day_options list) (no_search_options list) (search_wrong Live list e (λ n. n)))
 
 recovering_fails : (list : List Argument) → Fails list → recovering list ≡ None
 unfolding searching
-recovering_fails list (many a b c others e) = if_none (no_day_options list) _ None (bind_none (value_of Workers list) _ (λ x. bind_none (value_of Moves list) _ (λ y. rw e refl))) refl
+recovering_fails list (many a b c others e) = if_none (no_day_options list) _ None (bind_none (value_of Workers list) _ (λ x. bind_none (value_of Moves list) _ (λ y. bind_none (value_of Live list) _ (λ z. bind_none (search x y z) _ (λ command. rw e refl))))) refl
 recovering_fails list (wrong Seed e) = unless (no_day_options list) _ (day_wrong Seed list e tt)
 recovering_fails list (wrong Size e) = unless (no_day_options list) _ (day_wrong Size list e tt)
 recovering_fails list (wrong Workers e) = if_none (no_day_options list) _ None (rw e refl) refl
 recovering_fails list (wrong Moves e) = if_none (no_day_options list) _ None (bind_none (value_of Workers list) _ (λ x. rw e refl)) refl
+recovering_fails list (wrong Live e) = if_none (no_day_options list) _ None (bind_none (value_of Workers list) _ (λ x. bind_none (value_of Moves list) _ (λ y. rw e refl))) refl
 
 generating_fails : (list : List Argument) → Fails list → generating list ≡ None
 unfolding making
@@ -217,6 +228,7 @@ generating_fails list (wrong Seed e) = if_none (no_search_options list) _ None (
 generating_fails list (wrong Size e) = if_none (no_search_options list) _ None (bind_none (value_of Seed list) _ (λ x. rw e refl)) refl
 generating_fails list (wrong Workers e) = unless (no_search_options list) _ (search_wrong Workers list e (λ n. n))
 generating_fails list (wrong Moves e) = unless (no_search_options list) _ (search_wrong Moves list e (λ n. n))
+generating_fails list (wrong Live e) = unless (no_search_options list) _ (search_wrong Live list e (λ n. n))
 
 trying_fails : (list : List Argument) → Fails list → trying list ≡ None
 unfolding sampling
@@ -225,6 +237,7 @@ trying_fails list (wrong Seed e) = if_none (no_search_options list) _ None (rw e
 trying_fails list (wrong Size e) = if_none (no_search_options list) _ None (bind_none (value_of Seed list) _ (λ x. rw e refl)) refl
 trying_fails list (wrong Workers e) = unless (no_search_options list) _ (search_wrong Workers list e (λ n. n))
 trying_fails list (wrong Moves e) = unless (no_search_options list) _ (search_wrong Moves list e (λ n. n))
+trying_fails list (wrong Live e) = unless (no_search_options list) _ (search_wrong Live list e (λ n. n))
 
 fails_all : (word : List ℕ) (list : List Argument) → Fails list → command_by word list ≡ None
 fails_all word list h =
@@ -234,7 +247,7 @@ fails_all word list h =
     (if_none (bytes_eq word (codes "gen")) (generating list) _ (generating_fails list h)
     (if_none (bytes_eq word (codes "trial")) (trying list) None (trying_fails list h) refl))))
 
--- an argument more is kept, or it fails whatever stands behind it
+-- an argument more is kept, or it fails whatever follows it
 data Step (done : List Argument) (kept : WordsRead) (argument : Argument) : Type 0 where
   goes : (more : WordsRead) → with_argument kept argument ≡ Some more → Says (done ++ argument ∷ []) more → Step done kept argument
   stops : with_argument kept argument ≡ None → ((list : List Argument) → Fails (done ++ argument ∷ list)) → Step done kept argument
@@ -254,18 +267,18 @@ place_goes done kept word more h e is = goes (record { places = more; values = k
       set = λ choice. no_value choice done word (value kept.values choice) (h.set choice);
     })
 
-places_behind : (done : List Argument) (kept : WordsRead) (word : List ℕ) (told : List (List ℕ)) (list : List Argument) → Says done kept → kept.places ≡ told → places (done ++ Place word ∷ list) ≡ told ++ word ∷ places list
+places_after : (done : List Argument) (kept : WordsRead) (word : List ℕ) (told : List (List ℕ)) (list : List Argument) → Says done kept → kept.places ≡ told → places (done ++ Place word ∷ list) ≡ told ++ word ∷ places list
 unfolding places
-places_behind done kept word told list h e = places-append done (Place word ∷ list) ∙ ap (λ p. p ++ word ∷ places list) (h.told ∙ e)
+places_after done kept word told list h e = places-append done (Place word ∷ list) ∙ ap (λ p. p ++ word ∷ places list) (h.told ∙ e)
 
 place_step : (done : List Argument) (kept : WordsRead) (word : List ℕ) (told : List (List ℕ)) → kept.places ≡ told → Says done kept → Step done kept (Place word)
 unfolding with_place
 place_step done kept word [] e h = place_goes done kept word (word ∷ []) h (ap (λ p. one_more p word) e) (ap (λ p. p ++ word ∷ []) e)
 place_step done kept word (first ∷ []) e h = place_goes done kept word (first ∷ word ∷ []) h (ap (λ p. one_more p word) e) (ap (λ p. p ++ word ∷ []) e)
 place_step done kept word (first ∷ second ∷ []) e h = stops (rw e refl)
-    (λ list. many first second word (places list) (places_behind done kept word (first ∷ second ∷ []) list h e))
+    (λ list. many first second word (places list) (places_after done kept word (first ∷ second ∷ []) list h e))
 place_step done kept word (first ∷ second ∷ third ∷ others) e h = stops (rw e refl)
-    (λ list. many first second third (others ++ word ∷ places list) (places_behind done kept word (first ∷ second ∷ third ∷ others) list h e))
+    (λ list. many first second third (others ++ word ∷ places list) (places_after done kept word (first ∷ second ∷ third ∷ others) list h e))
 
 twice : (choice : NumberOption) (texts : List (List ℕ)) (value : ℕ) (text : List ℕ) (others : List (List ℕ)) → value_read choice texts ≡ Some (Some value) → value_in choice (texts ++ text ∷ others) ≡ None
 twice choice [] value text others e = absurd (none_value value (some_of None (Some value) e))
@@ -288,20 +301,21 @@ no_number : (choice : NumberOption) (text : List ℕ) (others : List (List ℕ))
 no_number choice text [] e = e
 no_number choice text (other ∷ others) e = refl
 
--- the texts of an option behind its setting, and of another one
+-- the texts of an option after its setting, and of another one
 own_values : (choice : NumberOption) (done : List Argument) (text : List ℕ) (list : List Argument) → values choice (done ++ Setting choice text ∷ list) ≡ values choice done ++ text ∷ values choice list
 unfolding values
 own_values Seed done text list = values-append Seed done (Setting Seed text ∷ list)
 own_values Size done text list = values-append Size done (Setting Size text ∷ list)
 own_values Workers done text list = values-append Workers done (Setting Workers text ∷ list)
+own_values Live done text list = values-append Live done (Setting Live text ∷ list)
 own_values Moves done text list = values-append Moves done (Setting Moves text ∷ list)
 
 other_values : (choice other : NumberOption) (done : List Argument) (text : List ℕ) → values choice (Setting other text ∷ []) ≡ [] → values choice (done ++ Setting other text ∷ []) ≡ values choice done
 other_values choice other done text none = values-append choice done (Setting other text ∷ []) ∙ ap (λ (t : List (List ℕ)). values choice done ++ t) none ∙ append-nil (values choice done)
 
-told_set : (choice : NumberOption) (done : List Argument) (text : List ℕ) → places (done ++ Setting choice text ∷ []) ≡ places done
+reported_set : (choice : NumberOption) (done : List Argument) (text : List ℕ) → places (done ++ Setting choice text ∷ []) ≡ places done
 unfolding places
-told_set choice done text = places-append done (Setting choice text ∷ []) ∙ append-nil (places done)
+reported_set choice done text = places-append done (Setting choice text ∷ []) ∙ append-nil (places done)
 
 -- an option that was set fails where it is set again
 again : (choice : NumberOption) (done : List Argument) (text : List ℕ) (value : ℕ) → value_read choice (values choice done) ≡ Some (Some value) → (list : List Argument) → Fails (done ++ Setting choice text ∷ list)
@@ -319,13 +333,14 @@ unfolding values
 read_first choice done text n e some =
     ap (value_read choice) (own_values choice done text [] ∙ ap (λ t. t ++ text ∷ []) (not_yet choice (values choice done) e)) ∙ ap (λ m. m >>= λ k. Some (Some k)) some
 
--- what is kept behind a setting: of that option its number, of the others what was kept
+-- what is kept after a setting: of that option its number, of the others what was kept
 set_more : (choice other : NumberOption) (done : List Argument) (kept : WordsRead) (text : List ℕ) (n : ℕ) → Says done kept → value_read other (values other (done ++ Setting other text ∷ [])) ≡ Some (Some n) → value_read choice (values choice (done ++ Setting other text ∷ [])) ≡ Some (value (with_value kept.values other n) choice)
 unfolding values
 set_more Seed Seed done kept text n h is = is
 set_more Size Size done kept text n h is = is
 set_more Workers Workers done kept text n h is = is
 set_more Moves Moves done kept text n h is = is
+set_more Live Live done kept text n h is = is
 set_more Seed Size done kept text n h is = ap (value_read Seed) (other_values Seed Size done text refl) ∙ h.set Seed
 set_more Seed Workers done kept text n h is = ap (value_read Seed) (other_values Seed Workers done text refl) ∙ h.set Seed
 set_more Seed Moves done kept text n h is = ap (value_read Seed) (other_values Seed Moves done text refl) ∙ h.set Seed
@@ -338,13 +353,21 @@ set_more Workers Moves done kept text n h is = ap (value_read Workers) (other_va
 set_more Moves Seed done kept text n h is = ap (value_read Moves) (other_values Moves Seed done text refl) ∙ h.set Moves
 set_more Moves Size done kept text n h is = ap (value_read Moves) (other_values Moves Size done text refl) ∙ h.set Moves
 set_more Moves Workers done kept text n h is = ap (value_read Moves) (other_values Moves Workers done text refl) ∙ h.set Moves
+set_more Seed Live done kept text n h is = ap (value_read Seed) (other_values Seed Live done text refl) ∙ h.set Seed
+set_more Size Live done kept text n h is = ap (value_read Size) (other_values Size Live done text refl) ∙ h.set Size
+set_more Workers Live done kept text n h is = ap (value_read Workers) (other_values Workers Live done text refl) ∙ h.set Workers
+set_more Moves Live done kept text n h is = ap (value_read Moves) (other_values Moves Live done text refl) ∙ h.set Moves
+set_more Live Seed done kept text n h is = ap (value_read Live) (other_values Live Seed done text refl) ∙ h.set Live
+set_more Live Size done kept text n h is = ap (value_read Live) (other_values Live Size done text refl) ∙ h.set Live
+set_more Live Workers done kept text n h is = ap (value_read Live) (other_values Live Workers done text refl) ∙ h.set Live
+set_more Live Moves done kept text n h is = ap (value_read Live) (other_values Live Moves done text refl) ∙ h.set Live
 
 set_step : (choice : NumberOption) (done : List Argument) (kept : WordsRead) (text : List ℕ) (was number : Option ℕ) → value kept.values choice ≡ was → number_from (least_of choice) (most_of choice) text ≡ number → Says done kept → Step done kept (Setting choice text)
 unfolding with_setting
 set_step choice done kept text (Some value) number e is h = stops (rw e refl) (again choice done text value (h.set choice ∙ ap Some e))
 set_step choice done kept text None None e is h = stops (rw (e, is) refl) (unread choice done text (h.set choice ∙ ap Some e) is)
 set_step choice done kept text None (Some n) e is h = goes (record { places = kept.places; values = with_value kept.values choice n }) (rw (e, is) refl) (record {
-  told = told_set choice done text ∙ h.told;
+  told = reported_set choice done text ∙ h.told;
   set = λ other. set_more other choice done kept text n h (read_first choice done text n (h.set choice ∙ ap Some e) is);
 })
 
@@ -366,27 +389,28 @@ none_set Seed = refl
 none_set Size = refl
 none_set Workers = refl
 none_set Moves = refl
+none_set Live = refl
 
 says_nothing : Says [] nothing
 unfolding places values
 says_nothing = record { told = refl; set = none_set }
 
 -- what a command's word makes of arguments is what it makes of what is kept of them
-pub asked_of_kept : (word : List ℕ) (list : Option (List Argument)) → (list >>= command_by word) ≡ (kept_behind nothing list >>= asked_kept word)
+pub asked_of_kept : (word : List ℕ) (list : Option (List Argument)) → (list >>= command_by word) ≡ (kept_after nothing list >>= asked_kept word)
 asked_of_kept word None = refl
 asked_of_kept word (Some list) = kept_all word [] list nothing says_nothing
 
--- reading stops at a word, or goes on behind it
-pub read_stops : (mode : Expected) (kept : WordsRead) (word : List ℕ) (words all : List (List ℕ)) → all ≡ word ∷ words → None ≡ of_word mode kept word → None ≡ kept_behind kept (arguments_by mode all)
+-- reading stops at a word, or goes on after it
+pub read_stops : (mode : Expected) (kept : WordsRead) (word : List ℕ) (words all : List (List ℕ)) → all ≡ word ∷ words → None ≡ of_word mode kept word → None ≡ kept_after kept (arguments_by mode all)
 read_stops mode kept word words all e none =
-    ap (λ next. next >>= go_on words) none ∙ sym (kept_word mode kept word words) ∙ ap (λ l. kept_behind kept (arguments_by mode l)) (sym e)
+    ap (λ next. next >>= go_on words) none ∙ sym (kept_word mode kept word words) ∙ ap (λ l. kept_after kept (arguments_by mode l)) (sym e)
 
-pub read_goes : (mode : Expected) (kept : WordsRead) (word : List ℕ) (words all : List (List ℕ)) (next : Expected × WordsRead) (answer : Option WordsRead) → all ≡ word ∷ words → Some next ≡ of_word mode kept word → answer ≡ kept_behind next.1 (arguments_by next.0 words) → answer ≡ kept_behind kept (arguments_by mode all)
+pub read_goes : (mode : Expected) (kept : WordsRead) (word : List ℕ) (words all : List (List ℕ)) (next : Expected × WordsRead) (answer : Option WordsRead) → all ≡ word ∷ words → Some next ≡ of_word mode kept word → answer ≡ kept_after next.1 (arguments_by next.0 words) → answer ≡ kept_after kept (arguments_by mode all)
 read_goes mode kept word words all next answer e some rest =
-    rest ∙ ap (λ n. n >>= go_on words) some ∙ sym (kept_word mode kept word words) ∙ ap (λ l. kept_behind kept (arguments_by mode l)) (sym e)
+    rest ∙ ap (λ n. n >>= go_on words) some ∙ sym (kept_word mode kept word words) ∙ ap (λ l. kept_after kept (arguments_by mode l)) (sym e)
 
--- the command of words, by what is kept of those behind the first
-command_is : (word : List ℕ) (words all : List (List ℕ)) → all ≡ word ∷ words → (kept_behind nothing (arguments words) >>= asked_kept word) ≡ command all
+-- the command of words, by what is kept of those after the first
+command_is : (word : List ℕ) (words all : List (List ℕ)) → all ≡ word ∷ words → (kept_after nothing (arguments words) >>= asked_kept word) ≡ command all
 unfolding command
 command_is word words all e = sym (asked_of_kept word (arguments words)) ∙ ap command (sym e)
 
@@ -394,10 +418,10 @@ pub no_command : (all : List (List ℕ)) → all ≡ [] → None ≡ command all
 unfolding command
 no_command all e = ap command (sym e)
 
-pub command_stops : (first : WordsRead) (word : List ℕ) (words all : List (List ℕ)) → all ≡ word ∷ words → first ≡ nothing → None ≡ kept_behind first (arguments words) → None ≡ command all
+pub command_stops : (first : WordsRead) (word : List ℕ) (words all : List (List ℕ)) → all ≡ word ∷ words → first ≡ nothing → None ≡ kept_after first (arguments words) → None ≡ command all
 command_stops first word words all e start none =
-    ap (λ (kept : Option WordsRead). kept >>= asked_kept word) (none ∙ ap (λ k. kept_behind k (arguments words)) start) ∙ command_is word words all e
+    ap (λ (kept : Option WordsRead). kept >>= asked_kept word) (none ∙ ap (λ k. kept_after k (arguments words)) start) ∙ command_is word words all e
 
-pub command_goes : (first : WordsRead) (word : List ℕ) (words all : List (List ℕ)) (kept : WordsRead) (answer : Option Asking) → all ≡ word ∷ words → first ≡ nothing → Some kept ≡ kept_behind first (arguments words) → answer ≡ asked_kept word kept → answer ≡ command all
+pub command_goes : (first : WordsRead) (word : List ℕ) (words all : List (List ℕ)) (kept : WordsRead) (answer : Option Asking) → all ≡ word ∷ words → first ≡ nothing → Some kept ≡ kept_after first (arguments words) → answer ≡ asked_kept word kept → answer ≡ command all
 command_goes first word words all kept answer e start some is =
-    is ∙ ap (λ (k : Option WordsRead). k >>= asked_kept word) (some ∙ ap (λ k. kept_behind k (arguments words)) start) ∙ command_is word words all e
+    is ∙ ap (λ (k : Option WordsRead). k >>= asked_kept word) (some ∙ ap (λ k. kept_after k (arguments words)) start) ∙ command_is word words all e

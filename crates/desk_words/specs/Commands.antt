@@ -1,11 +1,11 @@
 -- The words of the program: a command first, then its directories and options.
-use Rattle.std.specs.Prelude.{ℕ, Bool, true, false, ◌&&◌, if◌then◌else◌, List, [], ◌∷◌, Option, Some, None, codes, bytes_eq}
+use Rattle.std.specs.Prelude.{ℕ, Bool, true, false, ◌&&◌, nat_lt, if◌then◌else◌, List, [], ◌∷◌, Option, Some, None, codes, bytes_eq}
 use Rattle.desk_folder.specs.Outside.{Directories}
 use Rattle.desk_text.specs.Fields.{◌>>=◌, number_from}
 use Rattle.desk_words.specs.declared.asked.Command.{Command}
 use Rattle.desk_words.specs.declared.asked.Command.TheVariants.{Replay, Recover, Check, Gen, Trial}
 use Rattle.desk_words.specs.declared.choice.NumberOption.{NumberOption}
-use Rattle.desk_words.specs.declared.choice.NumberOption.TheVariants.{Seed, Size, Workers, Moves}
+use Rattle.desk_words.specs.declared.choice.NumberOption.TheVariants.{Seed, Size, Workers, Moves, Live}
 use Rattle.desk_words.specs.Arguments.{Argument, arguments, places, values}
 
 -- a command, and the directories that are to be named for it, where it has any
@@ -15,24 +15,27 @@ Asking = Command × Option Directories
 abbrev pub directories : List ℕ → List ℕ → Directories
 directories input output = record { input = input; output = output }
 
--- what an option is where it isn't set, and the least and the greatest number that it can be: there are no workers yet
+-- what an option is where it isn't set, and the least and the greatest number that it can be
 abbrev pub default_of : NumberOption → ℕ
 default_of Seed = 1
 default_of Size = 1
 default_of Workers = 0
 default_of Moves = 1000
+default_of Live = 0
 
 abbrev pub least_of : NumberOption → ℕ
 least_of Seed = 0
 least_of Size = 1
 least_of Workers = 0
 least_of Moves = 1
+least_of Live = 0
 
 abbrev pub most_of : NumberOption → ℕ
 most_of Seed = 999999999
 most_of Size = 40
-most_of Workers = 0
+most_of Workers = 64
 most_of Moves = 100000
+most_of Live = 1
 
 -- an option stands at most once, and its value is 1 to 9 digits that spell a number in its range
 abbrev pub value_in : NumberOption → List (List ℕ) → Option ℕ
@@ -56,7 +59,7 @@ abbrev pub no_day_options : List Argument → Bool
 no_day_options arguments = is_unset Seed arguments && is_unset Size arguments
 
 abbrev pub no_search_options : List Argument → Bool
-no_search_options arguments = is_unset Workers arguments && is_unset Moves arguments
+no_search_options arguments = is_unset Workers arguments && is_unset Moves arguments && is_unset Live arguments
 
 -- exactly two directories: the input and the output
 abbrev pub input_and_output : List (List ℕ) → Option Directories
@@ -80,13 +83,19 @@ plain command arguments =
     then (input_and_output (places arguments) >>= λ dirs. Some (command, Some dirs))
     else None
 
+-- a search of so many workers, which takes live batches only where there is one
+abbrev pub search : ℕ → ℕ → ℕ → Option Command
+search workers moves live = if nat_lt workers live then None else Some (Recover workers moves (nat_lt 0 live))
+
 -- the command `recover`, which takes an input and an output directory and the options of a search
 unfoldable pub searching : List Argument → Option Asking
 searching arguments = do
   workers ← value_of Workers arguments
   moves ← value_of Moves arguments
+  live ← value_of Live arguments
+  command ← search workers moves live
   dirs ← input_and_output (places arguments)
-  Some (Recover workers moves false, Some dirs)
+  Some (command, Some dirs)
 
 abbrev pub recovering : List Argument → Option Asking
 recovering arguments = if no_day_options arguments then searching arguments else None

@@ -4,22 +4,22 @@ use Rattle.desk_text.specs.Fields.{◌>>=◌, number_from}
 use Rattle.desk_words.specs.declared.asked.Command.{Command}
 use Rattle.desk_words.specs.declared.asked.Command.TheVariants.{Replay, Recover, Check, Gen, Trial}
 use Rattle.desk_words.specs.declared.choice.NumberOption.{NumberOption}
-use Rattle.desk_words.specs.declared.choice.NumberOption.TheVariants.{Seed, Size, Workers, Moves}
-use Rattle.desk_words.specs.declared.read.Places.{Places}
-use Rattle.desk_words.specs.declared.read.Places.TheVariants.{Nothing, One, Two}
+use Rattle.desk_words.specs.declared.choice.NumberOption.TheVariants.{Seed, Size, Workers, Moves, Live}
+use Rattle.desk_words.specs.declared.read.DirectoryWords.{DirectoryWords}
+use Rattle.desk_words.specs.declared.read.DirectoryWords.TheVariants.{Nothing, One, Two}
 use Rattle.desk_words.specs.declared.read.Read.{Read}
 use Rattle.desk_words.specs.declared.read.Values.{Values}
 use Rattle.desk_words.specs.declared.read.Expected.{Expected}
 use Rattle.desk_words.specs.declared.read.Expected.TheVariants as expected
-use Rattle.desk_words.specs.Arguments.{Argument, Place, Setting, is_directory, choice_of, setting_of, only_places, arguments_behind}
-use Rattle.desk_words.specs.Commands.{Asking, default_of, least_of, most_of, input_and_output, output_alone, no_directory}
+use Rattle.desk_words.specs.Arguments.{Argument, Place, Setting, is_directory, choice_of, setting_of, is_live, only_places, arguments_after}
+use Rattle.desk_words.specs.Commands.{Asking, default_of, least_of, most_of, search, input_and_output, output_alone, no_directory}
 
 -- what is kept
 pub record WordsRead : Type 0 where
   pub places : List (List ℕ)
   pub values : Values
 
-abbrev pub place_list : Places → List (List ℕ)
+abbrev pub place_list : DirectoryWords → List (List ℕ)
 place_list Nothing = []
 place_list (One first) = first.now ∷ []
 place_list (Two first second) = first.now ∷ second.now ∷ []
@@ -28,7 +28,7 @@ abbrev pub kept_of : Read → WordsRead
 kept_of read = record { places = place_list read.places; values = read.values }
 
 abbrev pub nothing : WordsRead
-nothing = record { places = []; values = record { seed = None; size = None; workers = None; moves = None } }
+nothing = record { places = []; values = record { seed = None; size = None; workers = None; moves = None; live = None } }
 
 -- the number of an option, where it is set
 abbrev pub value : Values → NumberOption → Option ℕ
@@ -36,6 +36,7 @@ value set Seed = set.seed
 value set Size = set.size
 value set Workers = set.workers
 value set Moves = set.moves
+value set Live = set.live
 
 -- the numbers with that of one option more
 abbrev pub with_value : Values → NumberOption → ℕ → Values
@@ -43,6 +44,7 @@ with_value set Seed n = record set { seed = Some n }
 with_value set Size n = record set { size = Some n }
 with_value set Workers n = record set { workers = Some n }
 with_value set Moves n = record set { moves = Some n }
+with_value set Live n = record set { live = Some n }
 
 -- one directory more, where there are not yet two
 abbrev pub one_more : List (List ℕ) → List ℕ → Option (List (List ℕ))
@@ -65,7 +67,7 @@ with_setting kept choice text = do
   number ← first_value choice (value kept.values choice) text
   Some (record { places = kept.places; values = with_value kept.values choice number })
 
--- what is kept behind one argument more, and behind some
+-- what is kept after one argument more, and after some
 abbrev pub with_argument : WordsRead → Argument → Option WordsRead
 with_argument kept (Place word) = with_place kept word
 with_argument kept (Setting choice text) = with_setting kept choice text
@@ -76,10 +78,10 @@ with_all kept (argument ∷ others) = do
   more ← with_argument kept argument
   with_all more others
 
--- what is kept behind the arguments of some words, where they have arguments
-abbrev pub kept_behind : WordsRead → Option (List Argument) → Option WordsRead
-kept_behind kept None = None
-kept_behind kept (Some arguments) = with_all kept arguments
+-- what is kept after the arguments of some words, where they have arguments
+abbrev pub kept_after : WordsRead → Option (List Argument) → Option WordsRead
+kept_after kept None = None
+kept_after kept (Some arguments) = with_all kept arguments
 
 -- what comes of an option, or else of none
 abbrev pub by_choice : Option NumberOption → (NumberOption → Option (Expected × WordsRead)) → Option (Expected × WordsRead) → Option (Expected × WordsRead)
@@ -88,8 +90,8 @@ by_choice None named other = other
 
 -- the arguments of words, by what the first of them may be
 abbrev pub arguments_by : Expected → List (List ℕ) → Option (List Argument)
-arguments_by expected.Any words = arguments_behind None words
-arguments_by (expected.Value choice) words = arguments_behind (Some choice) words
+arguments_by expected.Any words = arguments_after None words
+arguments_by (expected.Value choice) words = arguments_after (Some choice) words
 arguments_by expected.Place words = only_places words
 
 -- what the next word may be, and what is kept
@@ -100,13 +102,14 @@ after pair = (pair.0, kept_of pair.1)
 abbrev pub next_is : Expected → WordsRead → Option (Expected × WordsRead)
 next_is mode kept = Some (mode, kept)
 
--- behind one word
+-- after one word
 unfoldable pub of_any : WordsRead → List ℕ → Option (Expected × WordsRead)
 of_any kept word =
     if is_directory word then (with_place kept word >>= next_is expected.Any) else (
-    if bytes_eq word (codes "--") then next_is expected.Place kept else
+    if bytes_eq word (codes "--") then next_is expected.Place kept else (
+    if is_live word then (with_setting kept Live (codes "1") >>= next_is expected.Any) else
     by_choice (choice_of word) (λ choice. next_is (expected.Value choice) kept)
-    (setting_of word >>= λ set. with_setting kept set.0 set.1 >>= next_is expected.Any))
+    (setting_of word >>= λ set. with_setting kept set.0 set.1 >>= next_is expected.Any)))
 
 unfoldable pub of_word : Expected → WordsRead → List ℕ → Option (Expected × WordsRead)
 of_word expected.Any kept word = of_any kept word
@@ -122,7 +125,7 @@ abbrev pub no_day_set : Values → Bool
 no_day_set set = unset set.seed && unset set.size
 
 abbrev pub no_search_set : Values → Bool
-no_search_set set = unset set.workers && unset set.moves
+no_search_set set = unset set.workers && unset set.moves && unset set.live
 
 -- what a command's word makes of what was kept
 unfoldable pub plain_kept : Command → WordsRead → Option Asking
@@ -131,13 +134,20 @@ plain_kept command kept =
     then (input_and_output kept.places >>= λ dirs. Some (command, Some dirs))
     else None
 
+-- the number of an option, which is the usual one where it isn't set
+abbrev pub number_set : NumberOption → Values → ℕ
+number_set choice set = unwrap_or (value set choice) (default_of choice)
+
 abbrev pub number_kept : NumberOption → WordsRead → ℕ
-number_kept choice kept = unwrap_or (value kept.values choice) (default_of choice)
+number_kept choice kept = number_set choice kept.values
+
+abbrev pub searching_kept : Values → Option Command
+searching_kept set = search (number_set Workers set) (number_set Moves set) (number_set Live set)
 
 unfoldable pub recovering_kept : WordsRead → Option Asking
 recovering_kept kept =
     if no_day_set kept.values
-    then (input_and_output kept.places >>= λ dirs. Some (Recover (number_kept Workers kept) (number_kept Moves kept) false, Some dirs))
+    then (searching_kept kept.values >>= λ command. input_and_output kept.places >>= λ dirs. Some (command, Some dirs))
     else None
 
 unfoldable pub generating_kept : WordsRead → Option Asking

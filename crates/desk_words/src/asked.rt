@@ -5,13 +5,13 @@
 pub enum Command {
     /// to take the events of a journal in order
     Replay,
-    /// to take the batches of a day, and to search for a cheaper plan behind each
+    /// to take the batches of a day, and to search for a cheaper plan after each
     Recover {
-        /// how many workers search beside one another; with 0, which no words exceed yet, the desk searches alone
+        /// how many workers search beside one another, 0 to 64; with 0 the desk searches alone
         workers: u32,
-        /// how many moves are accepted at most behind each batch, 1 to 100,000
+        /// after how many accepted moves since the last batch the search stops, 1 to 100,000
         moves: u32,
-        /// whether batches arrive while the search goes on; no words say so yet
+        /// whether batches arrive while workers search; then there is at least 1
         live: bool,
     },
     /// to check the files of a plan

@@ -4,13 +4,15 @@ ghost use Rattle.std.specs.Prelude.{◌≡◌, ◌==◌, ◌<◌, IfSome, length
 ghost use Rattle.std.specs.Option.{option_map};
 ghost use Rattle.desk_words.specs.Arguments.{choice_of, setting_of};
 
-/// An option.
+/// An option, by the number that it sets.
 #[derive(Clone, Copy, Debug, PartialEq, Eq)]
 pub enum NumberOption {
     Seed,
     Size,
     Workers,
     Moves,
+    /// The number is 1 where it stands: its word has no value.
+    Live,
 }
 
 // The option that a word names, whose value is the next word.
@@ -38,7 +40,7 @@ fn first_equals(word: &[u8]) -> Option<usize>
     word.iter().position(|byte| *byte == b'=')
 }
 
-// The option that a word sets, with the text of its value behind `=`.
+// The option that a word sets, with the text of its value after `=`.
 #[tactic(auto, unfolding(crate::specs::Arguments::setting_of))]
 pub(crate) fn setting_of(word: &[u8]) -> Option<(NumberOption, &[u8])>
     ensures { option_map (λ set. (set.0, set.1.now)) result ≡ setting_of word.now }

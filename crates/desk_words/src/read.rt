@@ -1,17 +1,17 @@
-//! Reading the words behind a command.
+//! Reading the words after a command.
 
 ghost use Rattle.std.specs.Prelude.{◌≡◌, [], ◌∷◌, map, MatchOption};
 ghost use Rattle.std.specs.String.{string_bytes};
 ghost use Rattle.std.specs.Option.{option_map};
 ghost use Rattle.desk_words.specs.Arguments.{is_directory};
-ghost use Rattle.desk_words.specs.Read.{kept_of, nothing, with_place, value, with_value, first_value, with_setting, kept_behind, arguments_by, after, of_any, of_word};
+ghost use Rattle.desk_words.specs.Read.{kept_of, nothing, with_place, value, with_value, first_value, with_setting, kept_after, arguments_by, after, of_any, of_word};
 
 use crate::choice::{NumberOption, choice_of, setting_of};
 use desk_text::number;
 
 /// The directories that were read.
 #[derive(Clone, Copy, Debug)]
-pub enum Places<'a> {
+pub enum DirectoryWords<'a> {
     Nothing,
     One(&'a str),
     Two(&'a str, &'a str),
@@ -20,7 +20,7 @@ pub enum Places<'a> {
 /// What is kept of the words that were read.
 #[derive(Clone, Copy, Debug)]
 pub struct Read<'a> {
-    pub places: Places<'a>,
+    pub places: DirectoryWords<'a>,
     pub values: Values,
 }
 
@@ -31,6 +31,7 @@ pub struct Values {
     pub size: Option<u32>,
     pub workers: Option<u32>,
     pub moves: Option<u32>,
+    pub live: Option<u32>,
 }
 
 // The number of an option, where it is set.
@@ -42,6 +43,7 @@ fn value(values: Values, choice: NumberOption) -> Option<u32>
         NumberOption::Size => values.size,
         NumberOption::Workers => values.workers,
         NumberOption::Moves => values.moves,
+        NumberOption::Live => values.live,
     }
 }
 
@@ -67,6 +69,10 @@ fn with_value(values: Values, choice: NumberOption, number: u32) -> Values
             moves: number,
             ..values
         },
+        NumberOption::Live => Values {
+            live: number,
+            ..values
+        },
     }
 }
 
@@ -85,12 +91,13 @@ pub(crate) fn nothing<'a>() -> Read<'a>
     ensures { kept_of result ≡ nothing }
 {
     Read {
-        places: Places::Nothing,
+        places: DirectoryWords::Nothing,
         values: Values {
             seed: None,
             size: None,
             workers: None,
             moves: None,
+            live: None,
         },
     }
 }
@@ -101,9 +108,9 @@ fn with_place<'a>(read: Read<'a>, word: &'a str) -> Option<Read<'a>>
     ensures { option_map kept_of result ≡ with_place (kept_of read.entry) word.now }
 {
     let places = match read.places {
-        Places::Nothing => Places::One(word),
-        Places::One(first) => Places::Two(first, word),
-        Places::Two(..) => return None,
+        DirectoryWords::Nothing => DirectoryWords::One(word),
+        DirectoryWords::One(first) => DirectoryWords::Two(first, word),
+        DirectoryWords::Two(..) => return None,
     };
     Some(Read { places, ..read })
 }
@@ -117,8 +124,9 @@ fn first_value(choice: NumberOption, value: Option<u32>, text: &[u8]) -> Option<
         None => match choice {
             NumberOption::Seed => number(text, 0, 999_999_999).ok(),
             NumberOption::Size => number(text, 1, 40).ok(),
-            NumberOption::Workers => number(text, 0, 0).ok(),
+            NumberOption::Workers => number(text, 0, 64).ok(),
             NumberOption::Moves => number(text, 1, 100_000).ok(),
+            NumberOption::Live => number(text, 0, 1).ok(),
         },
     }
 }
@@ -156,6 +164,10 @@ fn read_any<'a>(read: Read<'a>, word: &'a str) -> Option<(Expected, Read<'a>)>
     if word == "--" {
         return Some((Expected::Place, read));
     }
+    if word == "--live" {
+        let more = with_setting(read, NumberOption::Live, b"1")?;
+        return Some((Expected::Any, more));
+    }
     if let Some(choice) = choice_of(word.as_bytes()) {
         return Some((Expected::Value(choice), read));
     }
@@ -186,9 +198,9 @@ fn read_word<'a>(expected: Expected, read: Read<'a>, word: &'a str) -> Option<(E
 }
 
 // What was read, where no word is left.
-#[tactic(auto, unfolding(crate::specs::Arguments::arguments_behind, crate::specs::Arguments::only_places, crate::specs::Read::with_all))]
+#[tactic(auto, unfolding(crate::specs::Arguments::arguments_after, crate::specs::Arguments::only_places, crate::specs::Read::with_all))]
 fn at_end<'a>(expected: Expected, read: Read<'a>) -> Option<Read<'a>>
-    ensures { option_map kept_of result ≡ kept_behind (kept_of read.entry) (arguments_by expected []) }
+    ensures { option_map kept_of result ≡ kept_after (kept_of read.entry) (arguments_by expected []) }
 {
     match expected {
         Expected::Any | Expected::Place => Some(read),
@@ -215,7 +227,7 @@ pub(crate) fn read_words<'a>(
     words: &'a [String],
 ) -> Option<Read<'a>>
     ensures { option_map kept_of result
-        ≡ kept_behind (kept_of read.entry) (arguments_by expected (map string_bytes words.now)) }
+        ≡ kept_after (kept_of read.entry) (arguments_by expected (map string_bytes words.now)) }
 {
     match first_word(words) {
         None => at_end(expected, read),

@@ -6,16 +6,16 @@ ghost use Rattle.std.specs.Option.{option_map};
 ghost use Rattle.desk_words.specs.declared.choice.NumberOption.TheVariants as choice;
 ghost use Rattle.desk_words.specs.Commands.{Asking, command, default_of};
 ghost use Rattle.desk_words.specs.Asked.{asking};
-ghost use Rattle.desk_words.specs.Read.{kept_of, no_day_set, no_search_set, plain_kept, recovering_kept, generating_kept, trying_kept, asked_kept};
+ghost use Rattle.desk_words.specs.Read.{kept_of, no_day_set, no_search_set, plain_kept, searching_kept, recovering_kept, generating_kept, trying_kept, asked_kept};
 
 use crate::asked::{Asked, Command, Directories};
-use crate::read::{Expected, Places, Read, Values, first_word, nothing, read_words};
+use crate::read::{DirectoryWords, Expected, Read, Values, first_word, nothing, read_words};
 
-/// How many moves a recovery accepts at most behind each batch, where the words don't say it.
+/// How many moves a recovery accepts at most after each batch, where the words don't say it.
 pub const USUAL_MOVES: u32 = 1_000;
 
 /// It is that of the definitions.
-pub fn usual_moves_are_told()
+pub fn usual_moves_are_as_defined()
     ensures { USUAL_MOVES ≡ default_of choice.Moves }
 {}
 
@@ -33,7 +33,7 @@ pub fn command(words: &[String]) -> Option<Asked<'_>>
     }
 }
 
-// What a command's word makes of the words behind it.
+// What a command's word makes of the words after it.
 fn asked<'a>(word: &str, read: Read<'a>) -> Option<Asked<'a>>
     ensures { option_map asking result ≡ asked_kept word.now (kept_of read.entry) }
 {
@@ -58,7 +58,7 @@ fn no_day_options(values: Values) -> bool
 fn no_search_options(values: Values) -> bool
     ensures { result ≡ no_search_set values }
 {
-    values.workers.is_none() && values.moves.is_none()
+    values.workers.is_none() && values.moves.is_none() && values.live.is_none()
 }
 
 // A command that takes an input and an output directory, and no options.
@@ -70,12 +70,29 @@ fn plain<'a>(command: Command, read: Read<'a>) -> Option<Asked<'a>>
         return None;
     }
     match read.places {
-        Places::Two(input, output) => Some(Asked {
+        DirectoryWords::Two(input, output) => Some(Asked {
             command,
             directories: Some(Directories { input, output }),
         }),
         _ => None,
     }
+}
+
+// The command `recover` with these numbers, which takes no live batches without a worker.
+fn searching(values: Values) -> Option<Command>
+    ensures { result ≡ searching_kept values }
+{
+    let workers = values.workers.unwrap_or(0);
+    let moves = values.moves.unwrap_or(USUAL_MOVES);
+    let live = values.live.unwrap_or(0);
+    if live > workers {
+        return None;
+    }
+    Some(Command::Recover {
+        workers,
+        moves,
+        live: live > 0,
+    })
 }
 
 // The command `recover`.
@@ -86,13 +103,10 @@ fn recovering<'a>(read: Read<'a>) -> Option<Asked<'a>>
     if !no_day_options(read.values) {
         return None;
     }
+    let command = searching(read.values)?;
     match read.places {
-        Places::Two(input, output) => Some(Asked {
-            command: Command::Recover {
-                workers: read.values.workers.unwrap_or(0),
-                moves: read.values.moves.unwrap_or(USUAL_MOVES),
-                live: false,
-            },
+        DirectoryWords::Two(input, output) => Some(Asked {
+            command,
             directories: Some(Directories { input, output }),
         }),
         _ => None,
@@ -108,7 +122,7 @@ fn generating<'a>(read: Read<'a>) -> Option<Asked<'a>>
         return None;
     }
     match read.places {
-        Places::One(output) => Some(Asked {
+        DirectoryWords::One(output) => Some(Asked {
             command: Command::Gen {
                 seed: read.values.seed.unwrap_or(1),
                 size: read.values.size.unwrap_or(1),
@@ -128,7 +142,7 @@ fn trying<'a>(read: Read<'a>) -> Option<Asked<'a>>
         return None;
     }
     match read.places {
-        Places::Nothing => Some(Asked {
+        DirectoryWords::Nothing => Some(Asked {
             command: Command::Trial {
                 seed: read.values.seed.unwrap_or(1),
                 size: read.values.size.unwrap_or(1),

@@ -59,7 +59,7 @@ pub record IsAircraft (row : AircraftRow) : Type 0 where
   pub seats : AreSeats row.seats
   pub range : row.range ≤ 100000
   pub hourly : row.hourly.0 ≤ 9999999999999
-  pub turn : row.turn ≤ 2880
+  pub turnaround : row.turnaround ≤ 2880
   pub transit : row.transit ≤ 2880
   pub origin : IsSeen row.origin
   pub maint : IfSome row.maint IsMaint

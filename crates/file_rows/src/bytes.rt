@@ -43,7 +43,7 @@ pub const FIRST_VISIBLE: u8 = b'!';
 pub const LAST_VISIBLE: u8 = b'~';
 
 /// The special bytes of the code are those of the definitions.
-pub fn special_bytes_are_told()
+pub fn special_bytes_are_as_defined()
     ensures space { SPACE ≡ space }
     ensures tab { TAB ≡ tab }
     ensures line_feed { LINE_FEED ≡ line_feed }

@@ -20,7 +20,7 @@ pub struct AircraftRow {
     /// What an hour of flight costs, at most 999,999,999.9999.
     pub hourly: Price,
     /// The ground time between two legs, in minutes, 0 to 2,880.
-    pub turn: u32,
+    pub turnaround: u32,
     /// The ground time before a leg that follows its previous leg, in minutes, 0 to 2,880.
     pub transit: u32,
     /// The airport where it stands first.

@@ -7,8 +7,8 @@
 //! A row has its line, and names as they stand in the file; a field's doc comment gives its range. What
 //! each reader says of its rows is a record of `specs/Facts`, as `IsFlight`. `Cause` has the 17 reasons for
 //! which a line is refused. The limits, as `MOST_BYTES`, and the special bytes, as `SPACE`, stand once in the
-//! code and once in the definitions, and the laws `limits_are_told` and `special_bytes_are_told` compare
-//! the two. It stands on `desk_units`.
+//! code and once in the definitions, and the laws `limits_are_as_defined` and `special_bytes_are_as_defined` compare
+//! the two. It depends on `desk_units`.
 #![tactic(auto)]
 
 mod bytes;
@@ -22,7 +22,7 @@ mod passengers;
 
 pub use bytes::{
     CARRIAGE_RETURN, COLON, COMMA, DASH, FIRST_VISIBLE, HASH, LAST_VISIBLE, LINE_FEED, PLUS, POINT,
-    SLASH, SPACE, TAB, special_bytes_are_told,
+    SLASH, SPACE, TAB, special_bytes_are_as_defined,
 };
 pub use cause::Cause;
 pub use desk_units::{Cabin, Haul, List, Minute, Name, Price, Seats};
@@ -32,7 +32,7 @@ pub use legs::{FlightRow, RotationRow};
 pub use limits::{
     END_OF_TIME, LATEST_DEPARTURE, MOST_AIRCRAFT, MOST_AIRPORTS, MOST_BATCHES, MOST_BYTES,
     MOST_DISTANCES, MOST_FLIGHTS, MOST_GROUPS, MOST_ITINERARIES, MOST_JOURNAL_BYTES, MOST_LEGS,
-    MOST_ORDERS, MOST_PASSENGERS, MOST_TARIFF_ROWS, limits_are_told,
+    MOST_ORDERS, MOST_PASSENGERS, MOST_TARIFF_ROWS, limits_are_as_defined,
 };
 pub use network::{AirportRow, CapRow, DistRow, Window};
 pub use passengers::{ItineraryRow, LegRow};

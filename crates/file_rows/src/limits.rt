@@ -49,7 +49,7 @@ pub const LATEST_DEPARTURE: u64 = 52_480_000;
 pub const END_OF_TIME: u32 = 52_500_000;
 
 /// The limits of the code are those of the definitions.
-pub fn limits_are_told()
+pub fn limits_are_as_defined()
     ensures bytes { MOST_BYTES ≡ most_bytes }
     ensures journal_bytes { MOST_JOURNAL_BYTES ≡ most_journal_bytes }
     ensures flights { MOST_FLIGHTS ≡ most_flights }

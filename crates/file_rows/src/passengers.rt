@@ -20,7 +20,7 @@ pub struct ItineraryRow {
     pub line: u32,
     /// Its name, 1 to 32 bytes.
     pub name: Name,
-    /// Whether this is the way back of a return trip (`R`), and not a way out (`A`).
+    /// Whether this is the inbound half of a return trip (`R`), and not an outbound trip (`A`).
     pub inbound: bool,
     /// The price that each passenger paid, at most 999,999,999.9999.
     pub price: Price,

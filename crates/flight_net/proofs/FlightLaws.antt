@@ -137,7 +137,7 @@ window sought flights start end long first second =
           let f = get_or (take start flights) k d in
           none_early f.from.0 f.dep.0 sought.from.0 sought.earliest sought.until
           (subst (λ (f : Flight). leaves sought.from.0 sought.earliest f ≡ true) (sym (get_or-take start flights k d within)) (first.0 k d (omega arith) within));
-      none_behind = λ k d lt.
+      none_after = λ k d lt.
           let n = length-drop end rest in
           let f = get_or (drop end rest) k d in
           none_late f.from.0 f.dep.0 sought.from.0 sought.earliest sought.until

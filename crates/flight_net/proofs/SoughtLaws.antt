@@ -105,7 +105,7 @@ window-wanted I P sought n flights part sound w =
     ∙ filter-append test w.before (part ++ w.behind)
     ∙ ap (λ (fs : List Flight). fs ++ filter test (part ++ w.behind)) (filter_none test w.before (all-out I P sought n w.before parts.0 w.none_before))
     ∙ filter-append test part w.behind
-    ∙ ap (λ (fs : List Flight). filter test part ++ fs) (filter_none test w.behind (all-out I P sought n w.behind parts.2 w.none_behind))
+    ∙ ap (λ (fs : List Flight). filter test part ++ fs) (filter_none test w.behind (all-out I P sought n w.behind parts.2 w.none_after))
     ∙ append-nil (filter test part)
 
 pub window-sound : (I : Situation) (P : PlanRows) (sought : Sought) (flights part : List Flight) → IsNetOf I P flights → IsWindow sought flights part → All (λ f. f.leg.0 < legs_of I) part

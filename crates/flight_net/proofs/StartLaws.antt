@@ -17,13 +17,13 @@ use Rattle.desk_rules.specs.Words.{IsFlown, TakesThere, GoesOn}
 use Rattle.desk_rules.proofs.Tests.{implies-holds}
 use Rattle.desk_rules.proofs.CarriageLaws.{is_good_path-holds, all_flown-from}
 use Rattle.desk_model.specs.Tidy.{is_fit_path}
-use Rattle.near_moves.specs.Places.{leg}
+use Rattle.near_moves.specs.MoveParts.{leg}
 use Rattle.near_moves.specs.Routes.{is_route, stem}
 use Rattle.near_moves.specs.RouteParts.{is_other_route}
 use Rattle.near_moves.proofs.RouteLaws.{is_route-fit}
 use Rattle.flight_net.specs.declared.sought.Sought.{Sought}
 use Rattle.flight_net.specs.Sought.{is_sought}
-use Rattle.flight_net.specs.Start.{place_behind, ready_behind, due_before}
+use Rattle.flight_net.specs.Start.{place_after, ready_after, due_before}
 use Rattle.flight_net.proofs.SoughtLaws.{sought-from}
 
 -- ---- what C13 and C14 say of a route
@@ -47,8 +47,8 @@ other-taken I P r path h = fit-taken I P r path (is_route-fit I P r path (and_pa
 
 -- ---- the legs of a path that is made of parts
 
-leg_behind : (start rest : List (Leg × Cabin)) (pair : Leg × Cabin) (i : ℕ) → i ≡ length start → leg_in (start ++ pair ∷ rest) i ≡ pair.0.0
-leg_behind start rest pair i is = ap (λ (p : Leg × Cabin). p.0.0) (get_or_at start pair rest no_pair i (sym is))
+leg_after : (start rest : List (Leg × Cabin)) (pair : Leg × Cabin) (i : ℕ) → i ≡ length start → leg_in (start ++ pair ∷ rest) i ≡ pair.0.0
+leg_after start rest pair i is = ap (λ (p : Leg × Cabin). p.0.0) (get_or_at start pair rest no_pair i (sym is))
 
 leg_before : (start rest : List (Leg × Cabin)) (i : ℕ) → i < length start → leg_in (start ++ rest) i ≡ leg_in start i
 leg_before start rest i lt = ap (λ (p : Leg × Cabin). p.0.0) (get_or_append_left start rest no_pair i lt)
@@ -56,13 +56,13 @@ leg_before start rest i lt = ap (λ (p : Leg × Cabin). p.0.0) (get_or_append_le
 last-is : (start : List (Leg × Cabin)) (pair : Leg × Cabin) → last_leg (start ++ pair ∷ []) ≡ pair.0.0
 last-is start pair =
     let n = length-append start (pair ∷ []) in
-    leg_behind start [] pair (length (start ++ pair ∷ []) - 1) (omega (arith, n))
+    leg_after start [] pair (length (start ++ pair ∷ []) - 1) (omega (arith, n))
 
 pub leg-flown : (I : Situation) (P : PlanRows) (r : ℕ) (start rest : List (Leg × Cabin)) (pair : Leg × Cabin) → TakesThere I P r (start ++ pair ∷ rest) → is_flown (row_at P pair.0.0) ≡ true
 leg-flown I P r start rest pair h =
     let long = length-append start (pair ∷ rest) in
     let at : IsFlown P (leg_in (start ++ pair ∷ rest) (length start)) = h.flown (length start) no_pair (omega (arith, long)) in
-    let own : IsFlown P pair.0.0 = subst (IsFlown P) (leg_behind start rest pair (length start) refl) at in
+    let own : IsFlown P pair.0.0 = subst (IsFlown P) (leg_after start rest pair (length start) refl) at in
     ap is_flown own.flown
 
 goes_on-time : (I : Situation) (P : PlanRows) (x y : ℕ) → GoesOn I P x y → arr I P x ≤ dep P y
@@ -72,23 +72,23 @@ goes_on-time I P x y h =
       | inr aboard ↦ aboard.1
     ]
 
--- two legs that stand one behind the other
+-- two legs that follow one another
 pub leg-next : (I : Situation) (P : PlanRows) (r : ℕ) (start rest : List (Leg × Cabin)) (a b : Leg × Cabin) → TakesThere I P r (start ++ a ∷ b ∷ rest) → GoesOn I P a.0.0 b.0.0
 leg-next I P r start rest a b h =
     let long = length-append start (a ∷ b ∷ rest) in
     let i = length start in
     let path = start ++ a ∷ b ∷ rest in
     let at : GoesOn I P (leg_in path i) (leg_in path (i + 1)) = h.goes_on i (omega (arith, long)) in
-    let first : leg_in path i ≡ a.0.0 = leg_behind start (b ∷ rest) a i refl in
+    let first : leg_in path i ≡ a.0.0 = leg_after start (b ∷ rest) a i refl in
     let whole : path ≡ (start ++ a ∷ []) ++ b ∷ rest = sym (append_assoc start (a ∷ []) (b ∷ rest)) in
     let n = length-append start (a ∷ []) in
-    let second : leg_in path (i + 1) ≡ b.0.0 = ap (λ (p : List (Leg × Cabin)). leg_in p (i + 1)) whole ∙ leg_behind (start ++ a ∷ []) rest b (i + 1) (omega (arith, n)) in
+    let second : leg_in path (i + 1) ≡ b.0.0 = ap (λ (p : List (Leg × Cabin)). leg_in p (i + 1)) whole ∙ leg_after (start ++ a ∷ []) rest b (i + 1) (omega (arith, n)) in
     subst (λ (y : ℕ). GoesOn I P a.0.0 y) second (subst (λ (x : ℕ). GoesOn I P x (leg_in path (i + 1))) first at)
 
--- the first leg behind what was begun
+-- the first leg after what was begun
 record Follows (I : Situation) (P : PlanRows) (r : ℕ) (start : List (Leg × Cabin)) (x : ℕ) : Type 0 where
-  place : (leg_at I x).origin.0 ≡ place_behind I r start
-  time : ready_behind I P r start ≤ dep P x
+  place : (leg_at I x).origin.0 ≡ place_after I r start
+  time : ready_after I P r start ≤ dep P x
 
 first-follows : (I : Situation) (P : PlanRows) (r : ℕ) (start rest : List (Leg × Cabin)) (pair : Leg × Cabin) → TakesThere I P r (start ++ pair ∷ rest) → Follows I P r start pair.0.0
 first-follows I P r [] rest pair h = record { place = h.origin; time = h.departs }
@@ -100,19 +100,19 @@ first-follows I P r (a ∷ start) rest pair h =
     let at : GoesOn I P (leg_in path i) (leg_in path (i + 1)) = h.goes_on i (omega (arith, long)) in
     let first : leg_in path i ≡ leg_in whole i = leg_before whole (pair ∷ rest) i (omega arith) in
     let last : leg_in whole i ≡ last_leg whole = ap (leg_in whole) (omega arith) in
-    let second : leg_in path (i + 1) ≡ pair.0.0 = leg_behind whole rest pair (i + 1) (omega arith) in
+    let second : leg_in path (i + 1) ≡ pair.0.0 = leg_after whole rest pair (i + 1) (omega arith) in
     let own : GoesOn I P (last_leg whole) pair.0.0 = subst (λ (y : ℕ). GoesOn I P (last_leg whole) y) second (subst (λ (x : ℕ). GoesOn I P x (leg_in path (i + 1))) (first ∙ last) at) in
     record { place = own.place; time = goes_on-time I P (last_leg whole) pair.0.0 own }
 
 -- ---- what is sought
 
--- behind a path, to an airport where one is named
-pub record SeeksBehind (I : Situation) (P : PlanRows) (r : ℕ) (start : List (Leg × Cabin)) (sought : Sought) : Type 0 where
-  pub from : sought.from.0 ≡ place_behind I r start
-  pub earliest : sought.earliest ≡ ready_behind I P r start
+-- after a path, to an airport where one is named
+pub record SeeksAfter (I : Situation) (P : PlanRows) (r : ℕ) (start : List (Leg × Cabin)) (sought : Sought) : Type 0 where
+  pub from : sought.from.0 ≡ place_after I r start
+  pub earliest : sought.earliest ≡ ready_after I P r start
   pub until : sought.until ≡ due_before I r
 
-pub single-sought : (I : Situation) (P : PlanRows) (r x : ℕ) (c : Cabin) (sought : Sought) (dest : Airport) → SeeksBehind I P r (stem I r) sought → sought.to ≡ Some dest → dest.0 ≡ dest_of I r → is_other_route I P r (stem I r ++ (leg x, c) ∷ []) ≡ true → is_sought I P sought x ≡ true
+pub single-sought : (I : Situation) (P : PlanRows) (r x : ℕ) (c : Cabin) (sought : Sought) (dest : Airport) → SeeksAfter I P r (stem I r) sought → sought.to ≡ Some dest → dest.0 ≡ dest_of I r → is_other_route I P r (stem I r ++ (leg x, c) ∷ []) ≡ true → is_sought I P sought x ≡ true
 single-sought I P r x c sought dest seeks named is h =
     let start = stem I r in
     let taken = other-taken I P r (start ++ (leg x, c) ∷ []) h in
@@ -133,7 +133,7 @@ single-sought I P r x c sought dest seeks named is h =
     })
 
 -- the first of two legs
-pub first-sought : (I : Situation) (P : PlanRows) (r x y : ℕ) (c : Cabin) (sought : Sought) → SeeksBehind I P r (stem I r) sought → sought.to ≡ None → is_other_route I P r (stem I r ++ (leg x, c) ∷ (leg y, c) ∷ []) ≡ true → is_sought I P sought x ≡ true
+pub first-sought : (I : Situation) (P : PlanRows) (r x y : ℕ) (c : Cabin) (sought : Sought) → SeeksAfter I P r (stem I r) sought → sought.to ≡ None → is_other_route I P r (stem I r ++ (leg x, c) ∷ (leg y, c) ∷ []) ≡ true → is_sought I P sought x ≡ true
 first-sought I P r x y c sought seeks none h =
     let start = stem I r in
     let path = start ++ (leg x, c) ∷ (leg y, c) ∷ [] in

@@ -13,7 +13,7 @@ use Rattle.desk_units.specs.Ranks.{cabin_rank}
 use Rattle.desk_data.specs.Situation.{Situation, legs_of}
 use Rattle.desk_data.specs.PlanRows.{PlanRows}
 use Rattle.desk_rules.specs.Numbers.{numbers}
-use Rattle.near_moves.specs.Places.{leg}
+use Rattle.near_moves.specs.MoveParts.{leg}
 use Rattle.near_moves.specs.Routes.{stem, all_pairs, all_doubles}
 use Rattle.near_moves.specs.RouteParts.{is_other_route}
 use Rattle.near_moves.proofs.ListLaws.{map_of_flat_map, filter_of_map, filter_of_flat_map, filter_none, flat_map_filter, flat_map_agree, All_from_contains, map_contains}

@@ -30,10 +30,10 @@ leaves_before flight from at = nat_lt flight.from.0 from || ((flight.from.0 == f
 abbrev pub is_within : Sought → Flight → Bool
 is_within sought flight = (flight.from.0 == sought.from.0) && (nat_le sought.earliest flight.dep.0 && nat_lt flight.dep.0 sought.until)
 
--- some flights in a row, such that no flight before them or behind them does
+-- some flights in a row, such that no flight before them or after them does
 pub record IsWindow (sought : Sought) (flights part : List Flight) : Type 0 where
   pub before : List Flight
   pub behind : List Flight
   pub whole : flights ≡ before ++ (part ++ behind)
   pub none_before : All (λ flight. is_within sought flight ≡ false) before
-  pub none_behind : All (λ flight. is_within sought flight ≡ false) behind
+  pub none_after : All (λ flight. is_within sought flight ≡ false) behind

@@ -9,15 +9,15 @@ use Rattle.desk_data.specs.PlanRows.{PlanRows}
 use Rattle.desk_rules.specs.Rotations.{arr}
 use Rattle.desk_rules.specs.Passengers.{longest_delay}
 
--- the airport where passengers of reservation r stand behind the legs of a path: at first where they set out
-abbrev pub place_behind : Situation → ℕ → List (Leg × Cabin) → ℕ
-place_behind I r [] = origin_of I r
-place_behind I r (pair ∷ path) = (leg_at I (last_leg (pair ∷ path))).dest.0
+-- the airport where passengers of reservation r stand after the legs of a path: at first where they set out
+abbrev pub place_after : Situation → ℕ → List (Leg × Cabin) → ℕ
+place_after I r [] = origin_of I r
+place_after I r (pair ∷ path) = (leg_at I (last_leg (pair ∷ path))).dest.0
 
 -- when they stand there: at first from their booked departure on
-abbrev pub ready_behind : Situation → PlanRows → ℕ → List (Leg × Cabin) → ℕ
-ready_behind I P r [] = booked_departure I r
-ready_behind I P r (pair ∷ path) = arr I P (last_leg (pair ∷ path))
+abbrev pub ready_after : Situation → PlanRows → ℕ → List (Leg × Cabin) → ℕ
+ready_after I P r [] = booked_departure I r
+ready_after I P r (pair ∷ path) = arr I P (last_leg (pair ∷ path))
 
 -- the minute before which they have to arrive
 abbrev pub due_before : Situation → ℕ → ℕ

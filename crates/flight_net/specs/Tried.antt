@@ -1,4 +1,4 @@
--- The paths that are tried behind the scheduled path, leg by leg.
+-- The paths that are tried after the scheduled path, leg by leg.
 use Rattle.std.specs.Prelude.{ℕ, List, [], ◌∷◌, ◌++◌, filter, map}
 use Rattle.std.specs.List.{flat_map}
 use Rattle.desk_units.specs.declared.numbers.Leg.{Leg}
@@ -6,7 +6,7 @@ use Rattle.desk_units.specs.declared.numbers.Cabin.{Cabin}
 use Rattle.desk_units.specs.declared.numbers.Cabin.TheVariants.{F, B, E}
 use Rattle.desk_data.specs.Situation.{Situation}
 use Rattle.desk_data.specs.PlanRows.{PlanRows}
-use Rattle.near_moves.specs.Places.{leg}
+use Rattle.near_moves.specs.MoveParts.{leg}
 use Rattle.near_moves.specs.Routes.{stem}
 use Rattle.near_moves.specs.RouteParts.{is_other_route}
 
@@ -14,11 +14,11 @@ use Rattle.near_moves.specs.RouteParts.{is_other_route}
 abbrev pub others : Situation → PlanRows → ℕ → List (List (Leg × Cabin)) → List (List (Leg × Cabin))
 others I P r paths = filter (is_other_route I P r) paths
 
--- leg x behind the legs that were begun, in each cabin
+-- leg x after the legs that were begun, in each cabin
 abbrev pub singles_of : Situation → ℕ → ℕ → List (List (Leg × Cabin))
 singles_of I r x = map (λ c. stem I r ++ (leg x, c) ∷ []) (F ∷ B ∷ E ∷ [])
 
--- leg x and each of some legs behind them, in one cabin
+-- leg x and each of some legs after them, in one cabin
 abbrev pub doubles_in : Situation → ℕ → ℕ → List ℕ → Cabin → List (List (Leg × Cabin))
 doubles_in I r x ys c = map (λ y. stem I r ++ (leg x, c) ∷ (leg y, c) ∷ []) ys
 

@@ -1,4 +1,4 @@
-//! Routes with two legs behind what was begun, in one cabin.
+//! Routes with two legs after what was begun, in one cabin.
 
 ghost use Rattle.std.specs.Prelude.{◌≡◌, ◌<◌, ◌++◌, OnOk, All, map};
 ghost use Rattle.desk_data.specs.Situation.{legs_of, reservations_of};
@@ -10,8 +10,8 @@ ghost use Rattle.flight_net.specs.Tried.{others, doubles_in, doubles_of};
 
 use crate::flights::FlightNet;
 use crate::sought::Sought;
-use crate::start::{due_before, start_behind, stem};
-use crate::tried::take_behind;
+use crate::start::{due_before, start_after, stem};
+use crate::tried::take_after;
 use desk_data::{Cabin, Instance, Leg, NoMem, Path, Res};
 use plan_pages::Pages;
 use plan_reads::arrival;
@@ -32,7 +32,7 @@ impl FlightNet {
         requires res { res.0 < reservations_of inst.now }
         ensures { OnOk result (routes.new.items ≡ routes.old.items ++ others inst.now plan.now res.0 (map (λ double. stem inst.now res.0 ++ double) (all_doubles inst.now))) }
     {
-        let (from, earliest) = start_behind(inst, plan, res, stem(inst, res));
+        let (from, earliest) = start_after(inst, plan, res, stem(inst, res));
         let sought = Sought {
             from,
             to: None,
@@ -93,7 +93,7 @@ fn take_doubles_in(
     ensures { OnOk result (routes.new.items ≡ routes.old.items ++ others inst.now plan.now res.0 (doubles_in inst.now res.0 first.0.0 (map (λ leg. leg.0) seconds.now) first.1)) }
 {
     for second in seconds {
-        take_behind(alloc, inst, plan, res, &[first, (*second, first.1)], routes)?;
+        take_after(alloc, inst, plan, res, &[first, (*second, first.1)], routes)?;
     }
     Ok(())
 }

@@ -8,7 +8,7 @@
 //! earlier than they may go, the second where the first arrives, no earlier than it does, and none that
 //! arrives too late. What is found is judged as a whole path, by the tests of plan_reads.
 //!
-//! Proved: the paths are `routes` of near_moves, in its order. It stands on `near_moves`, `plan_reads`
+//! Proved: the paths are `routes` of near_moves, in its order. It depends on `near_moves`, `plan_reads`
 //! and `plan_pages`.
 #![tactic(auto)]
 

@@ -7,14 +7,14 @@ ghost use Rattle.near_moves.specs.Routes.{routes};
 ghost use Rattle.flight_net.specs.Flights.{IsNetOf};
 
 use crate::flights::FlightNet;
-use crate::tried::{take_behind, take_scheduled};
+use crate::tried::{take_after, take_scheduled};
 use desk_data::{Instance, NoMem, Path, Res};
 use plan_pages::Pages;
 use std::alloc::Global;
 
 impl FlightNet {
     /// The routes of a reservation in the plan whose legs these are, each once: the scheduled path, then
-    /// what was begun, then that with one leg behind it, then with two in one cabin, each kind in path order.
+    /// what was begun, then that with one leg after it, then with two in one cabin, each kind in path order.
     /// It tries the legs that leave where passengers stand, in time. The only error is out of memory.
     pub fn routes(
         &self,
@@ -30,7 +30,7 @@ impl FlightNet {
     {
         let mut routes = Vec::new(alloc);
         take_scheduled(alloc, inst, plan, res, &mut routes)?;
-        take_behind(alloc, inst, plan, res, &[], &mut routes)?;
+        take_after(alloc, inst, plan, res, &[], &mut routes)?;
         self.take_singles(alloc, inst, plan, res, &mut routes)?;
         self.take_doubles(alloc, inst, plan, res, &mut routes)?;
         Ok(routes)

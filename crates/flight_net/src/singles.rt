@@ -1,4 +1,4 @@
-//! Routes with one leg behind what was begun.
+//! Routes with one leg after what was begun.
 
 ghost use Rattle.std.specs.Prelude.{◌≡◌, ◌<◌, ◌≤◌, ◌++◌, ◌∷◌, [], OnOk, map};
 ghost use Rattle.desk_data.specs.Situation.{legs_of, reservations_of};
@@ -9,8 +9,8 @@ ghost use Rattle.flight_net.specs.Tried.{others, singles_of};
 
 use crate::flights::FlightNet;
 use crate::sought::Sought;
-use crate::start::{due_before, start_behind, stem};
-use crate::tried::take_behind;
+use crate::start::{due_before, start_after, stem};
+use crate::tried::take_after;
 use desk_data::{Cabin, Instance, Leg, NoMem, Path, Res};
 use plan_pages::Pages;
 use std::alloc::Global;
@@ -30,7 +30,7 @@ impl FlightNet {
         requires res { res.0 < reservations_of inst.now }
         ensures { OnOk result (routes.new.items ≡ routes.old.items ++ others inst.now plan.now res.0 (map (λ pair. stem inst.now res.0 ++ pair ∷ []) (all_pairs inst.now))) }
     {
-        let (from, earliest) = start_behind(inst, plan, res, stem(inst, res));
+        let (from, earliest) = start_after(inst, plan, res, stem(inst, res));
         let sought = Sought {
             from,
             to: Some(inst.booked(res).dest),
@@ -59,7 +59,7 @@ fn take_single(
     requires leg { leg.0 < legs_of inst.now }
     ensures { OnOk result (routes.new.items ≡ routes.old.items ++ others inst.now plan.now res.0 (singles_of inst.now res.0 leg.0)) }
 {
-    take_behind(alloc, inst, plan, res, &[(leg, Cabin::F)], routes)?;
-    take_behind(alloc, inst, plan, res, &[(leg, Cabin::B)], routes)?;
-    take_behind(alloc, inst, plan, res, &[(leg, Cabin::E)], routes)
+    take_after(alloc, inst, plan, res, &[(leg, Cabin::F)], routes)?;
+    take_after(alloc, inst, plan, res, &[(leg, Cabin::B)], routes)?;
+    take_after(alloc, inst, plan, res, &[(leg, Cabin::E)], routes)
 }

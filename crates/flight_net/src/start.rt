@@ -1,10 +1,10 @@
-//! Where and when passengers may go on behind what they have begun.
+//! Where and when passengers may go on after what they have begun.
 
 ghost use Rattle.std.specs.Prelude.{◌≡◌, ◌<◌, ◌≤◌, length};
 ghost use Rattle.desk_data.specs.Situation.{legs_of, reservations_of};
 ghost use Rattle.desk_data.specs.Valid.{IsPathOf, IsPlanFor};
 ghost use Rattle.near_moves.specs.Routes.{stem};
-ghost use Rattle.flight_net.specs.Start.{due_before, place_behind, ready_behind};
+ghost use Rattle.flight_net.specs.Start.{due_before, place_after, ready_after};
 
 use desk_data::{Airport, Cabin, Instance, Leg, Res};
 use plan_pages::Pages;
@@ -23,8 +23,8 @@ pub(crate) fn stem(inst: &Instance, res: Res) -> &[(Leg, Cabin)]
     &inst.res(res).path.as_slice()[..begun]
 }
 
-/// The airport where they stand behind the legs of a path, and when they do.
-pub(crate) fn start_behind(
+/// The airport where they stand after the legs of a path, and when they do.
+pub(crate) fn start_after(
     inst: &Instance,
     plan: &Pages,
     res: Res,
@@ -33,8 +33,8 @@ pub(crate) fn start_behind(
     requires plan { IsPlanFor inst.now plan.now }
     requires res { res.0 < reservations_of inst.now }
     requires path { IsPathOf (legs_of inst.now) path.now }
-    ensures place { result.0.0 ≡ place_behind inst.now res.0 path.now }
-    ensures ready { result.1 ≡ ready_behind inst.now plan.now res.0 path.now }
+    ensures place { result.0.0 ≡ place_after inst.now res.0 path.now }
+    ensures ready { result.1 ≡ ready_after inst.now plan.now res.0 path.now }
 {
     if path.is_empty() {
         let booked = inst.booked(res);

@@ -33,9 +33,9 @@ pub(crate) fn take_scheduled(
     Ok(())
 }
 
-/// Takes the path that is what was begun and some legs behind it, where it is a route and not
+/// Takes the path that is what was begun and some legs after it, where it is a route and not
 /// the scheduled path.
-pub(crate) fn take_behind(
+pub(crate) fn take_after(
     alloc: Global,
     inst: &Instance,
     plan: &Pages,
@@ -57,7 +57,7 @@ pub(crate) fn take_behind(
     Ok(())
 }
 
-/// Two paths, the second behind the first.
+/// Two paths, the second after the first.
 fn joined(alloc: Global, first: &[(Leg, Cabin)], second: &[(Leg, Cabin)]) -> Result<Path, NoMem>
     requires first { length first.now ≤ 8 }
     requires second { length second.now ≤ 2 }

@@ -2,3 +2,4 @@ pub mod Frames
 pub mod PutLemmas
 pub mod Among
 pub mod PutAll
+mod FeedLemmas

@@ -42,8 +42,8 @@ abbrev pub HaveNothing : List FileText → Outside → Outside → Type 0
 HaveNothing [] before now = Unit {0}
 HaveNothing (t ∷ others) before now = HasNothing t before now × HaveNothing others before now
 
--- the texts in their order, and then what comes behind them: they are whole up to one, of that one there is a beginning, and
--- of those behind it nothing, and so much is said of its file; or all of them are whole, and so much is said of the end
+-- the texts in their order, and then what comes after them: they are whole up to one, of that one there is a beginning, and
+-- of those after it nothing, and so much is said of its file; or all of them are whole, and so much is said of the end
 abbrev pub ArePut : (File → Type 0) → Type 0 → List FileText → Outside → Outside → Type 0
 ArePut SaidOf AtEnd [] before now = AtEnd
 ArePut SaidOf AtEnd (t ∷ others) before now =

@@ -10,17 +10,17 @@ use Rattle.desk_folder.specs.Calls.{AppendsPrefix, Counts, Rose}
 use Rattle.folder_io.specs.declared.reads.ReadEnd.{ReadEnd}
 use Rattle.folder_io.specs.declared.reads.ReadEnd.TheVariants.{Size, Failed}
 
--- the bytes are all that was left of the file, where told, and now nothing is left
+-- the bytes are all that was left of the file, where that is shown, and now nothing is left
 abbrev pub IsWhole : Option (List ℕ) → Option (List ℕ) → List ℕ → Type 0
 IsWhole None now bytes = ⊤
 IsWhole (Some left) now bytes = (bytes ≡ left) × (now ≡ Some [])
 
--- some of the bytes that were left at the front, perhaps none, are left no more, where told
+-- some of the bytes that were left at the front, perhaps none, are left no more, where that is shown
 abbrev pub ConsumesSome : Option (List ℕ) → Option (List ℕ) → Type 0
 ConsumesSome before now = (taken : List ℕ) × Consumes before now taken
 
 -- a file is read to its end: Ok gives all its bytes, no more than the limit; Size says that there are more, where
--- told; Failed says that a read of this file failed; and nothing else changes
+-- shown; Failed says that a read of this file failed; and nothing else changes
 pub record ReadsFile (before now : Outside) (file : File) (limit : ℕ) (answer : Result (Vec ℕ Global) ReadEnd) : Type 0 where
   pub whole : IfOk answer (λ v. IsWhole (before.left file) (now.left file) v.items)
   pub fits : IfOk answer (λ v. length v.items ≤ limit)

@@ -9,7 +9,7 @@
 //! is read, or one byte more than the limit, and until all is put. Each line is put by itself. Proved:
 //! what was read are the bytes of the file, and what was written is the text; after an error, a
 //! beginning of it, and the error says which call failed. `ArePut` says of a list of texts how far they
-//! are put. It stands on `desk_folder`.
+//! are put. It depends on `desk_folder`.
 #![tactic(auto)]
 
 mod outputs;

@@ -30,7 +30,7 @@ fn first_and_others(texts: &[(File, Vec<u8>)]) -> Option<(&(File, Vec<u8>), &[(F
 /// Puts these texts one after another, each at the end of its file. An empty text calls no `put`.
 ///
 /// After an error the texts are whole up to one, of that one a beginning is put, and nothing of those
-/// behind it. `Failed` tells the file of that one.
+/// after it. `Failed` names the file of that one.
 pub fn put_texts<F: Folder>(
     alloc: Global,
     folder: &mut F,

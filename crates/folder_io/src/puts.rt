@@ -4,14 +4,15 @@ ghost use Rattle.folder_io.specs.Lines.{first_line_length};
 ghost use Rattle.folder_io.specs.Texts.{PutsText, PutsReport};
 
 use desk_folder::{File, Folder, FolderFault, Sink};
+use memchr::memchr;
 use std::alloc::Global;
 
-// The index of the first line feed.
+// The index of the first line feed, which in a line is many bytes on.
 fn line_end(text: &[u8]) -> Option<usize>
     ensures first { result ≡ position (λ b. b == 10) text.now }
     ensures within { IfSome result (λ at. at < length text.now) }
 {
-    text.iter().position(|byte| *byte == b'\n')
+    memchr(b'\n', text)
 }
 
 // The length of the first line with its line feed, or of the text where it has none.

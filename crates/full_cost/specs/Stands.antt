@@ -9,7 +9,7 @@ use Rattle.desk_rules.specs.Numbers.{numbers}
 use Rattle.desk_rules.specs.Cost.{is_wanted, ends_at}
 use Rattle.plan_reads.specs.Last.{stand}
 
--- where aircraft p ends behind its last leg: surface transport ends nowhere
+-- where aircraft p ends after its last leg: surface transport ends nowhere
 abbrev pub end_of : Situation → ℕ → Option Leg → Option Airport
 end_of I p last = if (plane_at I p).surface then None else Some (stand I p last)
 

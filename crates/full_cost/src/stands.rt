@@ -29,7 +29,7 @@ pub(crate) fn put_stands<P: ReadPlan>(
     }
 }
 
-/// Where an aircraft ends behind its last leg; `None` for surface transport.
+/// Where an aircraft ends after its last leg; `None` for surface transport.
 fn end_of(inst: &Instance, plane: Plane, last: Option<Leg>) -> Option<Airport>
     requires plane { plane.0 < planes_of inst.now }
     requires last { ForSome last (λ leg. leg.0 < legs_of inst.now) }

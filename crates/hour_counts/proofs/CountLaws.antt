@@ -108,7 +108,7 @@ none_counted I Q = record { departures = λ a h. refl; arrivals = λ a h. refl }
 one_more : (p : ℕ → Bool) (n : ℕ) → count_by p (numbers (n + 1)) ≡ count_by p (numbers n) + one_if (p n)
 one_more p n = rw add-one (sum_by_push (λ y. one_if (p y)) (numbers n) n)
 
--- the same tables before and behind two changes
+-- the same tables before and after two changes
 pub record AreEntered (I : Situation) (n : ℕ) (row : Row) (old new : Counted) : Type 0 where
   pub departures : Enters old.departures new.departures (departure_of I n row)
   pub arrivals : Enters old.arrivals new.arrivals (arrival_of I n row)

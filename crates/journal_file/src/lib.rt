@@ -10,7 +10,7 @@
 //! The steps are read by `journal_rows`, with names, dates and times as the text files have them. What
 //! `journal_text` writes is such a file. Proved: `read_journal` gives the rows, or the first record that
 //! is refused with its cause, that the definition in `specs/` gives of the bytes (`exact`), and the rows
-//! are as the join relies on (`facts`). It stands on `journal_rows` and `comma_rows`.
+//! are as the join relies on (`facts`). It depends on `journal_rows` and `comma_rows`.
 #![tactic(auto)]
 
 mod journal;

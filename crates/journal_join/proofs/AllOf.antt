@@ -10,7 +10,7 @@ use Rattle.desk_text.specs.declared.fault.RowFault.TheVariants as row_fault
 use Rattle.desk_text.specs.Rows.{◌>>=◌, GivesRow}
 use Rattle.journal_join.specs.Join.{all_of}
 
--- these, and behind them what is still joined
+-- these, and after them what is still joined
 abbrev pub behind : {B E : Type 0} → List B → Result (List B) E → Result (List B) E
 behind before (Ok ys) = Ok (before ++ ys)
 behind before (Err e) = Err e
@@ -69,9 +69,9 @@ module _ {A B E : Type 0} (f : A → Result B E) (xs : List A) where
 -- ---- faults
 
 -- an answer that is a fault
-pub told_fault : {X : Type 0} (result : Result X RowFault) (fault : RowFault) (join : Result X Cause) → IsErrAnd result (λ e. e ≡ fault) → GivesRow {Row = X} (Err fault) join → GivesRow result join
-told_fault (Ok x) fault join is h = absurd is
-told_fault (Err e) fault join is h = subst (λ (f : RowFault). GivesRow (Err f) join) (sym is) h
+pub reported_fault : {X : Type 0} (result : Result X RowFault) (fault : RowFault) (join : Result X Cause) → IsErrAnd result (λ e. e ≡ fault) → GivesRow {Row = X} (Err fault) join → GivesRow result join
+reported_fault (Ok x) fault join is h = absurd is
+reported_fault (Err e) fault join is h = subst (λ (f : RowFault). GivesRow (Err f) join) (sym is) h
 
 module _ {A B : Type 0} (f : A → Result B Cause) (xs : List A) (before : List B) (k : ℕ) (x : A) (total : Result (List B) Cause) where
   -- one is not joined

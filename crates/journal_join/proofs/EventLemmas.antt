@@ -40,10 +40,10 @@ use Rattle.journal_rows.specs.Facts.{IsNamedLeg, IsNamedPath, IsNamedStep, IsNam
 use Rattle.desk_build.specs.declared.fault.BuildFault.{BuildFault}
 use Rattle.desk_build.specs.declared.joining.Built.{Built}
 use Rattle.day_orders.specs.declared.orders.Batch.{Batch}
-use Rattle.journal_join.specs.Join.{all_of, leg_of, plane_of, res_of, after_of, seat_of, path_of, row_of, set_of, push_of, swap_of, rebook_of, refill_of, step_of, row_is_in_time, step_is_in_time, is_move, move_of, joined_move, batch_of, told_batch, batches_in, event_of, asked_of, all_behind, events_of}
+use Rattle.journal_join.specs.Join.{all_of, leg_of, plane_of, res_of, after_of, seat_of, path_of, row_of, set_of, push_of, swap_of, rebook_of, refill_of, step_of, row_is_in_time, step_is_in_time, is_move, move_of, joined_move, batch_of, stated_batch, batches_in, event_of, asked_of, all_after, events_of}
 use Rattle.journal_join.specs.Gives.{JoinGives}
 use Rattle.journal_join.proofs.AllOf.{all_of-All, all_of-length}
-use Rattle.journal_join.proofs.AllBehind.{all_behind-All}
+use Rattle.journal_join.proofs.AllAfter.{all_after-All}
 
 -- what comes after something that was given
 bound : {A B E : Type 0} (r : Result A E) (f : A → Result B E) (y : B) → (r >>= f) ≡ Ok y → (x : A) × (r ≡ Ok x) × (f x ≡ Ok y)
@@ -199,16 +199,16 @@ there : (batches : List Batch) (due number : ℕ) (batch : Batch) → batch_of b
 unfolding batch_of
 there batches due number batch h = there_by (number == due) (slice_get batches number) batch h
 
-told_fits : (I : Situation) (batches : List Batch) (due number : ℕ) (asked : Event) → AreBatches I batches → told_batch batches due number ≡ Ok asked → IsAskable I asked
-unfolding told_batch
-told_fits I batches due number asked orders h =
+reported_fits : (I : Situation) (batches : List Batch) (due number : ℕ) (asked : Event) → AreBatches I batches → stated_batch batches due number ≡ Ok asked → IsAskable I asked
+unfolding stated_batch
+reported_fits I batches due number asked orders h =
     let batch = bound (batch_of batches due number) (λ batch. Ok (event.Batch batch)) asked h in
     let is = there batches due number batch.0 batch.1 in
     let same = get_or_from_slice_get batches number batch.0 batch.0 is in
     subst (IsAskable I) (same_Ok (event.Batch batch.0) asked batch.2) (subst (IsBatch I.parts) same (orders number batch.0 (slice_get_within batches number batch.0 is)))
 
 event_fits : (I : Situation) (batches : List Batch) (due : ℕ) (e : NamedEvent) (asked : Event) → AreBatches I batches → IsNamedEvent e → event_of I batches due e ≡ Ok asked → IsAskable I asked
-event_fits I batches due (named_event.Batch number) asked orders facts h = told_fits I batches due number asked orders h
+event_fits I batches due (named_event.Batch number) asked orders facts h = reported_fits I batches due number asked orders h
 event_fits I batches due (named_event.Move steps) asked orders facts h = joined_fits I steps asked facts h
 
 -- ---- rows
@@ -231,15 +231,15 @@ row_asks I batches orders before r asked facts h =
 all_fit : (built : Built) (rows : List JournalRow) (events : List (ℕ × Event)) → AreBatches built.inst built.batches → AreRows rows → events_of built rows ≡ Ok events → All (CanBeAsked built.inst) events
 unfolding events_of
 all_fit built rows events orders facts h =
-    All-from_recursion (CanBeAsked built.inst) events (all_behind-All (asked_of built.inst built.batches) IsJournalRow (CanBeAsked built.inst) (row_asks built.inst built.batches orders) [] rows events (recursion_from_All IsJournalRow rows facts) h)
+    All-from_recursion (CanBeAsked built.inst) events (all_after-All (asked_of built.inst built.batches) IsJournalRow (CanBeAsked built.inst) (row_asks built.inst built.batches orders) [] rows events (recursion_from_All IsJournalRow rows facts) h)
 
 -- events by the places and the batches of a day are those of the day
 pub events_give : {Answer : Type 0} (built : Built) (J : Situation) (batches : List Batch) (rows : List JournalRow) (result : Result Answer BuildFault) (view : Answer → List (ℕ × Event)) → J ≡ built.inst → batches ≡ built.batches
-    → JoinGives view result (all_behind (asked_of J batches) [] rows) → JoinGives view result (events_of built rows)
+    → JoinGives view result (all_after (asked_of J batches) [] rows) → JoinGives view result (events_of built rows)
 unfolding events_of
 events_give built J batches rows result view same all h =
-    subst (λ (bs : List Batch). JoinGives view result (all_behind (asked_of built.inst bs) [] rows)) all
-    (subst (λ (K : Situation). JoinGives view result (all_behind (asked_of K batches) [] rows)) same h)
+    subst (λ (bs : List Batch). JoinGives view result (all_after (asked_of built.inst bs) [] rows)) all
+    (subst (λ (K : Situation). JoinGives view result (all_after (asked_of K batches) [] rows)) same h)
 
 pub all_asked : {Answer : Type 0} (built : Built) (rows : List JournalRow) (result : Result Answer BuildFault) (view : Answer → List (ℕ × Event)) → AreBatches built.inst built.batches → AreRows rows → JoinGives view result (events_of built rows) → IfOk result (λ v. AreAskable built.inst (view v))
 all_asked built rows (Ok v) view orders facts h = λ k d below. (all_fit built rows (view v) orders facts h k d below).0

@@ -1,4 +1,4 @@
 mod AllOf
-mod AllBehind
+mod AllAfter
 mod RowLemmas
 mod EventLemmas

@@ -11,10 +11,10 @@ use Rattle.desk_data.specs.Situation.{Situation}
 use Rattle.desk_model.specs.declared.answer.Event.{Event}
 use Rattle.desk_build.specs.declared.fault.BuildFault.{BuildFault}
 use Rattle.journal_rows.specs.declared.rows.JournalRow.{JournalRow}
-use Rattle.journal_join.specs.Join.{all_behind, is_batch, batches_in, event_of, asked_of}
+use Rattle.journal_join.specs.Join.{all_after, is_batch, batches_in, event_of, asked_of}
 use Rattle.journal_join.specs.Gives.{JoinGives, fault_at}
 use Rattle.journal_join.proofs.AllOf.{behind}
-use Rattle.journal_join.proofs.AllBehind.{refused}
+use Rattle.journal_join.proofs.AllAfter.{refused}
 
 -- ---- the batch that is due
 
@@ -22,7 +22,7 @@ count_with : (rows : List JournalRow) (k : ℕ) (row : JournalRow) (b : Bool) �
 count_with rows k row true below is = sym (count_by_more_yes (λ (r : JournalRow). is_batch r.event) rows k row below is)
 count_with rows k row false below is = sym (count_by_more_no (λ (r : JournalRow). is_batch r.event) rows k row below is)
 
--- behind a batch the next one is due, and behind a move the same one
+-- after a batch the next one is due, and after a move the same one
 pub due_next : (rows : List JournalRow) (k : ℕ) (row : JournalRow) (due next : ℕ) → k < length rows → row ≡ get_or rows k row → due ≡ batches_in (take k rows) → next ≡ cond (is_batch row.event) (due + 1) due → next ≡ batches_in (take (k + 1) rows)
 due_next rows k row due next below is so_far step =
     step ∙ ap (λ (n : ℕ). cond (is_batch row.event) (n + 1) n) so_far
@@ -49,7 +49,7 @@ module _ (I : Situation) (batches : List Batch) (due : ℕ) (before : List Journ
 -- a row that gives none ends the join
 pub row_stops : {Answer : Type 0} (view : Answer → List (ℕ × Event)) (I : Situation) (batches : List Batch) (rows : List JournalRow) (done : List (ℕ × Event)) (k due : ℕ) (row : JournalRow) (total : Result (List (ℕ × Event)) (ℕ × Cause)) (fault : RowFault) (end : BuildFault)
     → k < length rows → row ≡ get_or rows k row → due ≡ batches_in (take k rows) → GivesRow {Row = Event} (Err fault) (event_of I batches due row.event) → end ≡ fault_at row.line fault
-    → behind done (all_behind (asked_of I batches) (take k rows) (drop k rows)) ≡ total → JoinGives view (Err end) total
+    → behind done (all_after (asked_of I batches) (take k rows) (drop k rows)) ≡ total → JoinGives view (Err end) total
 row_stops view I batches rows done k due row total (row_fault.Refused why) end below is is_due gives told so_far =
     subst (λ (f : BuildFault). JoinGives view (Err f) total) (sym told) (refused (asked_of I batches) rows done k row (row.line, why) total below is (row_refused I batches due (take k rows) row is_due why gives) so_far, refl)
 row_stops view I batches rows done k due row total row_fault.Memory end below is is_due gives told so_far = subst (λ (f : BuildFault). JoinGives view (Err f) total) (sym told) tt

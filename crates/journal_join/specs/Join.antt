@@ -39,12 +39,12 @@ all_of f (x ∷ xs) = do
   ys ← all_of f xs
   Ok (y ∷ ys)
 
--- what each gives behind those that stand before it, in order, or the first refusal
-unfoldable pub all_behind : {A B E : Type 0} → (List A → A → Result B E) → List A → List A → Result (List B) E
-all_behind f before [] = Ok []
-all_behind f before (x ∷ xs) = do
+-- what each gives after those that stand before it, in order, or the first refusal
+unfoldable pub all_after : {A B E : Type 0} → (List A → A → Result B E) → List A → List A → Result (List B) E
+all_after f before [] = Ok []
+all_after f before (x ∷ xs) = do
   y ← f before x
-  ys ← all_behind f (before ++ x ∷ []) xs
+  ys ← all_after f (before ++ x ∷ []) xs
   Ok (y ∷ ys)
 
 -- ---- names: one that nothing has is unknown
@@ -132,7 +132,7 @@ abbrev pub row_is_in_time : Row → Bool
 row_is_in_time (row.Flown plane dep) = is_in_time dep
 row_is_in_time row.Cancelled = true
 
--- whether the departures that a step tells are, and the moment from which it swaps
+-- whether the departures that a step names are, and the moment from which it swaps
 abbrev pub step_is_in_time : Step → Bool
 step_is_in_time (Set leg was new) = row_is_in_time was && row_is_in_time new
 step_is_in_time (Swap first second at) = is_in_time at
@@ -158,7 +158,7 @@ abbrev pub is_batch : NamedEvent → Bool
 is_batch (named_event.Batch number) = true
 is_batch (named_event.Move steps) = false
 
--- how many of the rows are batches. So the batch behind them is due to have this number: 0 where there is none before it, and else one more than the last
+-- how many of the rows are batches. So the batch after them is due to have this number: 0 where there is none before it, and else one more than the last
 abbrev pub batches_in : List JournalRow → ℕ
 batches_in rows = count_by (λ row. is_batch row.event) rows
 
@@ -167,8 +167,8 @@ unfoldable pub batch_of : List Batch → ℕ → ℕ → Result Batch Cause
 batch_of batches due number = if number == due then ok_or (slice_get batches number) cause.Batch else Err cause.Batch
 
 -- the event of that batch
-unfoldable pub told_batch : List Batch → ℕ → ℕ → Result Event Cause
-told_batch batches due number = do
+unfoldable pub stated_batch : List Batch → ℕ → ℕ → Result Event Cause
+stated_batch batches due number = do
   batch ← batch_of batches due number
   Ok (event.Batch batch)
 
@@ -176,10 +176,10 @@ told_batch batches due number = do
 
 -- the event of a row, where batch `due` is the next one
 abbrev pub event_of : Situation → List Batch → ℕ → NamedEvent → Result Event Cause
-event_of I batches due (named_event.Batch number) = told_batch batches due number
+event_of I batches due (named_event.Batch number) = stated_batch batches due number
 event_of I batches due (named_event.Move steps) = joined_move I steps
 
--- a row's caller and its event behind the rows before it, or the row's line and why it is refused
+-- a row's caller and its event after the rows before it, or the row's line and why it is refused
 unfoldable pub asked_of : Situation → List Batch → List JournalRow → JournalRow → Result (ℕ × Event) (ℕ × Cause)
 asked_of I batches before row = do
   event ← at_line row.line (event_of I batches (batches_in before) row.event)
@@ -187,4 +187,4 @@ asked_of I batches before row = do
 
 -- the events of the rows, each with its caller, or the line of the first row that is refused, with the cause
 unfoldable pub events_of : Built → List JournalRow → Result (List (ℕ × Event)) (ℕ × Cause)
-events_of built rows = all_behind (asked_of built.inst built.batches) [] rows
+events_of built rows = all_after (asked_of built.inst built.batches) [] rows

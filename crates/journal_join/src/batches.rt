@@ -1,8 +1,8 @@
-//! The batches that a journal tells of.
+//! The batches that a journal names.
 
 ghost use Rattle.std.specs.Prelude.{◌≡◌, ◌+◌, ◌<◌, ◌^◌, Ok, Err, MatchResult, if◌then◌else◌};
 ghost use Rattle.desk_text.specs.Rows.{GivesRow};
-ghost use Rattle.journal_join.specs.Join.{batch_of, is_batch, told_batch};
+ghost use Rattle.journal_join.specs.Join.{batch_of, is_batch, stated_batch};
 
 use desk_data::Batch;
 use desk_model::Event;
@@ -24,21 +24,21 @@ fn batch_of(batches: &[Batch], due: usize, number: u32) -> Result<&Batch, Cause>
 }
 
 /// The event of the batch of a number, where it is the one that is due.
-#[tactic(auto, unfolding(crate::specs::Join::told_batch))]
-pub(crate) fn told_batch(
+#[tactic(auto, unfolding(crate::specs::Join::stated_batch))]
+pub(crate) fn stated_batch(
     alloc: Global,
     batches: &[Batch],
     due: usize,
     number: u32,
 ) -> Result<Event, RowFault>
-    ensures { GivesRow result (told_batch batches.now due number) }
+    ensures { GivesRow result (stated_batch batches.now due number) }
 {
     let batch = batch_of(batches, due, number)?;
     Ok(Event::Batch(batch.copy(alloc)?))
 }
 
-/// The number of the batch that is due behind an event, by the one that was due at it.
-pub(crate) fn due_behind(due: usize, event: &NamedEvent) -> usize
+/// The number of the batch that is due after an event, by the one that was due at it.
+pub(crate) fn due_after(due: usize, event: &NamedEvent) -> usize
     requires { due < 2 ^ 63 }
     ensures { result ≡ (if is_batch event.now then due + 1 else due) }
 {

@@ -5,10 +5,10 @@ ghost use Rattle.desk_data.specs.Valid.{IsBatch};
 ghost use Rattle.desk_model.specs.Histories.{AreAskable};
 ghost use Rattle.desk_text.specs.Rows.{GivesRow};
 ghost use Rattle.journal_rows.specs.Facts.{AreRows};
-ghost use Rattle.journal_join.specs.Join.{all_behind, asked_of, event_of, events_of};
+ghost use Rattle.journal_join.specs.Join.{all_after, asked_of, event_of, events_of};
 ghost use Rattle.journal_join.specs.Gives.{JoinGives, fault_at};
 
-use crate::batches::{due_behind, told_batch};
+use crate::batches::{due_after, stated_batch};
 use crate::steps::joined_move;
 use day_names::DayNames;
 use desk_build::{BuildFault, Built};
@@ -30,7 +30,7 @@ fn event_of(
     ensures { GivesRow result (event_of names.now batches.now due event.now) }
 {
     match event {
-        NamedEvent::Batch { number } => told_batch(alloc, batches, due, *number),
+        NamedEvent::Batch { number } => stated_batch(alloc, batches, due, *number),
         NamedEvent::Move { steps } => joined_move(alloc, names, steps.as_slice()),
     }
 }
@@ -56,14 +56,14 @@ fn events(
     batches: &[Batch],
     rows: &[JournalRow],
 ) -> Result<Vec<(u32, Event)>, BuildFault>
-    ensures { JoinGives (λ v. v.items) result (all_behind (asked_of names.now batches.now) [] rows.now) }
+    ensures { JoinGives (λ v. v.items) result (all_after (asked_of names.now batches.now) [] rows.now) }
 {
     let mut events = Vec::with_capacity(alloc, rows.len())?;
     let mut due = 0;
     for row in rows {
         match event_of(alloc, names, batches, due, &row.event) {
             Ok(event) => {
-                due = due_behind(due, &row.event);
+                due = due_after(due, &row.event);
                 events.push((row.caller, event))?;
             }
             Err(fault) => return Err(fault_at(row.line, fault)),

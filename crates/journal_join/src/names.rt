@@ -37,7 +37,7 @@ pub(crate) fn res_of(names: &DayNames<'_>, res: &NamedRes) -> Result<Res, Cause>
         .ok_or(Cause::Unknown)
 }
 
-/// The leg behind which legs are pushed, where there is one.
+/// The leg after which legs are pushed, where there is one.
 #[tactic(auto, unfolding(crate::specs::Join::after_of))]
 pub(crate) fn after_of(names: &DayNames<'_>, after: &Option<NamedLeg>) -> Result<Option<Leg>, Cause>
     ensures { result ≡ after_of names.now after.now }

@@ -122,7 +122,7 @@ fn row_is_in_time(row: &Row) -> bool
     }
 }
 
-/// Whether the departures that a step tells, and the moment from which it swaps, are before minute
+/// Whether the departures that a step names, and the moment from which it swaps, are before minute
 /// 52,500,000.
 fn step_is_in_time(step: &Step) -> bool
     ensures { result ≡ step_is_in_time step.now }

@@ -16,13 +16,13 @@ use Rattle.desk_model.specs.States.{State, opening, after}
 use Rattle.desk_model.specs.Histories.{state, IsAskable, Stands, IsLegal, is_batch, entry_of, entries, run}
 use Rattle.desk_model.proofs.HistoryLaws.{state-append, state-parts, askable-parts}
 use Rattle.journal_rows.specs.declared.rows.JournalRow.{JournalRow}
-use Rattle.journal_join.specs.Join.{all_behind, is_batch as is_named_batch, batches_in, batch_of, told_batch, event_of, asked_of}
+use Rattle.journal_join.specs.Join.{all_after, is_batch as is_named_batch, batches_in, batch_of, stated_batch, event_of, asked_of}
 use Rattle.journal_text.specs.Lines.{batches}
 use Rattle.journal_text.proofs.LineLemmas.{enumerate-append}
 use Rattle.journal_laws.specs.Named.{named_event, row_at, rows_of_history, asked, TakesInOrder}
 use Rattle.journal_laws.proofs.JoinBack.{move_back}
 
--- ---- the entry behind some others
+-- ---- the entry after some others
 
 there : (done more : List Entry) (e : Entry) → slice_get (done ++ e ∷ more) (length done) ≡ Some e
 there [] more e = refl
@@ -56,7 +56,7 @@ count_rows I h k (e ∷ es) =
 
 module _ (I : Situation) (distinct : AreDistinct I.parts) (feed : List Batch) where
   event_joined : (due number : ℕ) (e : Event) → number ≡ due → ((batch : Batch) → e ≡ event.Batch batch → slice_get feed number ≡ Some batch) → IsAskable I e → event_of I feed due (named_event I number e) ≡ Ok e
-  unfolding told_batch batch_of
+  unfolding stated_batch batch_of
   event_joined due number (event.Batch batch) same order asked = rw (eq-eqb number due same, order batch refl) refl
   event_joined due number (event.Move m) same order asked = move_back I distinct m asked
 
@@ -83,37 +83,37 @@ module _ (I : Situation) (distinct : AreDistinct I.parts) (feed : List Batch) wh
         let joined = event_joined (batches_in (rows 0 done)) (batches (take i h)) e.event same (λ batch is. order i e batch at is) can in
         rw joined refl
 
-    behind_back : (done more : List Entry) → done ++ more ≡ h → all_behind (asked_of I feed) (rows 0 done) (rows (length done) more) ≡ Ok (map asked more)
-    unfolding all_behind
-    behind_back done [] whole = refl
-    behind_back done (e ∷ more) whole =
+    later_back : (done more : List Entry) → done ++ more ≡ h → all_after (asked_of I feed) (rows 0 done) (rows (length done) more) ≡ Ok (map asked more)
+    unfolding all_after
+    later_back done [] whole = refl
+    later_back done (e ∷ more) whole =
         let f = asked_of I feed in
         let count : length done + 1 ≡ length (done ++ e ∷ []) = sym (length-append done (e ∷ [])) in
-        let rest : all_behind f (rows 0 done ++ row_at I h (length done, e) ∷ []) (rows (length done + 1) more) ≡ Ok (map asked more) =
-        ap (λ (before : List JournalRow). all_behind f before (rows (length done + 1) more)) (one_row_more done e)
-        ∙ ap (λ (k : ℕ). all_behind f (rows 0 (done ++ e ∷ [])) (rows k more)) count
-        ∙ behind_back (done ++ e ∷ []) more (append_assoc done (e ∷ []) more ∙ whole) in
+        let rest : all_after f (rows 0 done ++ row_at I h (length done, e) ∷ []) (rows (length done + 1) more) ≡ Ok (map asked more) =
+        ap (λ (before : List JournalRow). all_after f before (rows (length done + 1) more)) (one_row_more done e)
+        ∙ ap (λ (k : ℕ). all_after f (rows 0 (done ++ e ∷ [])) (rows k more)) count
+        ∙ later_back (done ++ e ∷ []) more (append_assoc done (e ∷ []) more ∙ whole) in
         rw (first_event done more e whole, rest) refl
 
     -- the rows of the history give its events
-    pub events_back : all_behind (asked_of I feed) [] (rows_of_history I h) ≡ Ok (map asked h)
+    pub events_back : all_after (asked_of I feed) [] (rows_of_history I h) ≡ Ok (map asked h)
     unfolding rows_of_history
-    events_back = behind_back [] h refl
+    events_back = later_back [] h refl
 
 -- ---- runs
 
-run_behind : (S : State) (done more : List Entry) → IsLegal S (done ++ more) → entries (length done) (state S done) (map asked more) ≡ more
+run_after : (S : State) (done more : List Entry) → IsLegal S (done ++ more) → entries (length done) (state S done) (map asked more) ≡ more
 unfolding entries
-run_behind S done [] legal = refl
-run_behind S done (e ∷ more) legal =
+run_after S done [] legal = refl
+run_after S done (e ∷ more) legal =
     let stands : Stands S done e = subst (λ (before : List Entry). Stands S before e) (take_done done (e ∷ more)) (legal (length done) e (there done more e)) in
     let entry : entry_of (state S done) e.caller e.event ≡ e = ap (λ (told : Answer). let entry : Entry = record { caller = e.caller; event = e.event; answer = told } in entry) (sym stands.told) in
     let rest : entries (length done + 1) (after (state S done) e.event) (map asked more) ≡ more =
     ap (λ (n : ℕ). entries n (after (state S done) e.event) (map asked more)) (sym (length-append done (e ∷ [])))
     ∙ ap (λ (T : State). entries (length (done ++ e ∷ [])) T (map asked more)) (sym (state-append S done (e ∷ [])))
-    ∙ run_behind S (done ++ e ∷ []) more (subst (IsLegal S) (sym (append_assoc done (e ∷ []) more)) legal) in
+    ∙ run_after S (done ++ e ∷ []) more (subst (IsLegal S) (sym (append_assoc done (e ∷ []) more)) legal) in
     rw (stands.room, rest) (ap (λ (x : Entry). x ∷ more) entry)
 
 -- the run of a legal history's events is the history
 pub run_back : (S : State) (h : List Entry) → IsLegal S h → run S (map asked h) ≡ h
-run_back S h legal = run_behind S [] h legal
+run_back S h legal = run_after S [] h legal

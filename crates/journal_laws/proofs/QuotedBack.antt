@@ -106,10 +106,10 @@ line_is_record I number entry lt =
     ∙ sym (record_is (field_text default_writer a) (field_text default_writer b) (field_text default_writer c) (field_text default_writer d))
 
 -- a line begins with its caller
-abbrev behind_caller : Situation → ℕ → Entry → List ℕ
-behind_caller I number entry = 44 ∷ (kind_text entry.event ++ 44 ∷ (quoted (detail_text I number entry.event) ++ 44 ∷ (quoted (answer_text I entry.answer) ++ 10 ∷ [])))
+abbrev after_caller : Situation → ℕ → Entry → List ℕ
+after_caller I number entry = 44 ∷ (kind_text entry.event ++ 44 ∷ (quoted (detail_text I number entry.event) ++ 44 ∷ (quoted (answer_text I entry.answer) ++ 10 ∷ [])))
 
-line_begins : (I : Situation) (number : ℕ) (entry : Entry) → line_text I number entry ≡ decimal entry.caller ++ behind_caller I number entry
+line_begins : (I : Situation) (number : ℕ) (entry : Entry) → line_text I number entry ≡ decimal entry.caller ++ after_caller I number entry
 unfolding line_text
 line_begins I number entry = line_is (decimal entry.caller) (kind_text entry.event) (quoted (detail_text I number entry.event)) (quoted (answer_text I entry.answer))
 
@@ -152,7 +152,7 @@ module _ (I : Situation) (h : List Entry) where
         few_lines placed,
         length-append (line_text I number p.1) (flat_map (line_at I h) placed),
         ap length (line_begins I number p.1),
-        length-append (decimal p.1.caller) (behind_caller I number p.1),
+        length-append (decimal p.1.caller) (after_caller I number p.1),
       )
 
   -- a text that begins with a digit has no byte order mark
@@ -168,10 +168,10 @@ module _ (I : Situation) (h : List Entry) where
   unmarked_text (p ∷ placed) callers =
       let number = batches (take p.0 h) in
       let more = flat_map (line_at I h) placed in
-      let whole : line_text I number p.1 ++ more ≡ decimal p.1.caller ++ (behind_caller I number p.1 ++ more) =
-      ap (λ (text : List ℕ). text ++ more) (line_begins I number p.1) ∙ append_assoc (decimal p.1.caller) (behind_caller I number p.1) more in
+      let whole : line_text I number p.1 ++ more ≡ decimal p.1.caller ++ (after_caller I number p.1 ++ more) =
+      ap (λ (text : List ℕ). text ++ more) (line_begins I number p.1) ∙ append_assoc (decimal p.1.caller) (after_caller I number p.1) more in
       let digits = decimal_digits p.1.caller (omega (arith, callers.0)) in
-      ap strip_bom whole ∙ no_mark (decimal p.1.caller) (behind_caller I number p.1 ++ more) digits.digits digits.some ∙ sym whole
+      ap strip_bom whole ∙ no_mark (decimal p.1.caller) (after_caller I number p.1 ++ more) digits.digits digits.some ∙ sym whole
 
   -- the records of the lines are their fields
   pub records_of_lines : (placed : List (ℕ × Entry)) → HaveCallers placed → text_records (flat_map (line_at I h) placed) ≡ map (placed_fields I h) placed

@@ -29,7 +29,7 @@ use Rattle.journal_rows.specs.declared.rows.NamedRow.TheVariants as read_rows
 use Rattle.journal_rows.specs.declared.rows.NamedStep.{NamedStep}
 use Rattle.journal_rows.specs.declared.rows.NamedStep.TheVariants as named
 use Rattle.file_rows.specs.declared.cause.Cause.{Cause}
-use Rattle.journal_rows.specs.Tokens.{TokenReaders, Reading, token, flown_of, behind_of}
+use Rattle.journal_rows.specs.Tokens.{TokenReaders, Reading, token, flown_of, later_of}
 use Rattle.journal_rows.specs.Steps.{leg_at as read_leg, moment_at as read_moment, row_from, row_at as read_row, after_from, seat_at as read_seat, seats_at, path_at as read_path, step_from, step_at as read_step, steps_of}
 use Rattle.journal_rows.proofs.StepLemmas.{no_steps, first_step}
 use Rattle.journal_file.specs.Journal.{full_tokens}
@@ -51,7 +51,7 @@ pub record Reads {X : Type 0} (reader : List (List ℕ) → Reading X) (text : L
 one_token : {X : Type 0} (spells : List ℕ → Result X Cause) (text : List ℕ) (x : X) → 1 ≤ length text → is_seen text ≡ true → spells text ≡ Ok x → Reads (token spells) text x
 one_token spells text x some seen is = record { tokens = text ∷ []; spelled = spells_token text some seen; read = λ rest. rw is refl }
 
--- a reader behind another one
+-- a reader after another one
 then_reads : {X Y : Type 0} (first : List (List ℕ) → Reading X) (second : X → List (List ℕ) → Reading Y) (a b : List ℕ) (x : X) (y : Y)
     → Reads first a x → Reads (second x) b y → Reads (λ tokens. first tokens >>= λ p. second p.0 p.1) (a ++ 32 ∷ b) y
 then_reads first second a b x y h k = record {
@@ -167,12 +167,12 @@ module _ (I : Situation) (ok : IsReadable I) where
   row_reads row.Cancelled fits = record { tokens = codes "-" ∷ []; spelled = spells_token (codes "-") (omega arith) refl; read = λ rest. refl }
 
   after_reads : {Y : Type 0} (make : Option NamedLeg → Y) (after : Option Leg) → ForSome after (λ leg. leg.0 < legs_of I)
-      → Reads (λ tokens. token behind_of tokens >>= λ b. after_from T b.0 b.1 >>= λ a. Ok (make a.0, a.1)) (after_text I after) (make (named_after I after))
+      → Reads (λ tokens. token later_of tokens >>= λ b. after_from T b.0 b.1 >>= λ a. Ok (make a.0, a.1)) (after_text I after) (make (named_after I after))
   unfolding after_from
   after_reads make None fits = record { tokens = codes "all" ∷ []; spelled = spells_token (codes "all") (omega arith) refl; read = λ rest. refl }
   after_reads make (Some leg) fits =
-      then_reads (token behind_of) (λ b tokens. after_from T b tokens >>= λ a. Ok (make a.0, a.1)) (codes "after") (leg_text I leg.0) true (make (Some (named_leg I leg.0)))
-      (one_token behind_of (codes "after") true (omega arith) refl refl)
+      then_reads (token later_of) (λ b tokens. after_from T b tokens >>= λ a. Ok (make a.0, a.1)) (codes "after") (leg_text I leg.0) true (make (Some (named_leg I leg.0)))
+      (one_token later_of (codes "after") true (omega arith) refl refl)
       (map_reads (λ tokens. read_leg T tokens >>= λ leg. Ok (Some leg.0, leg.1)) make (leg_text I leg.0) (Some (named_leg I leg.0))
       (map_reads (read_leg T) (λ leg. Some leg) (leg_text I leg.0) (named_leg I leg.0) (leg_reads leg.0 (fits leg refl))))
 
@@ -184,7 +184,7 @@ module _ (I : Situation) (ok : IsReadable I) where
       (leg_reads pair.0.0 lt)
       (map_reads (token cabin_of) (λ c. (named_leg I pair.0.0, c)) (cabin_text pair.1) pair.1 (cabin_reads pair.1)))
 
-  -- the legs of a path, each behind a space
+  -- the legs of a path, each after a space
   record ReadsSeats (path : List (Leg × Cabin)) : Type 0 where
     tokens : List (List ℕ)
     spelled : (a : List ℕ) (s : List (List ℕ)) → Spells a s → Spells (a ++ flat_map (λ pair. codes " " ++ seat_text I pair) path) (s ++ tokens)
@@ -245,7 +245,7 @@ module _ (I : Situation) (ok : IsReadable I) where
   push_reads : (plane : Plane) (after : Option Leg) → StepFits I (step.Push plane after) → Reads (read_step T (codes "push")) ((plane_at I plane.0).name ++ 32 ∷ after_text I after) (named_step I (step.Push plane after))
   unfolding read_step step_from
   push_reads plane after fits =
-      then_reads (token T.name_of) (λ name tokens. token behind_of tokens >>= λ b. after_from T b.0 b.1 >>= λ a. Ok (named.Push name a.0, a.1)) (plane_at I plane.0).name (after_text I after) (plane_at I plane.0).name (named_step I (step.Push plane after))
+      then_reads (token T.name_of) (λ name tokens. token later_of tokens >>= λ b. after_from T b.0 b.1 >>= λ a. Ok (named.Push name a.0, a.1)) (plane_at I plane.0).name (after_text I after) (plane_at I plane.0).name (named_step I (step.Push plane after))
       (name_reads (plane_at I plane.0).name (ok.planes plane.0 fits.0))
       (after_reads (λ a. named.Push (plane_at I plane.0).name a) after fits.1)
 
@@ -310,7 +310,7 @@ module _ (I : Situation) (ok : IsReadable I) where
 
   -- ---- moves
 
-  -- steps behind others, each behind a space
+  -- steps after others, each after a space
   record ReadsSteps (steps : List Step) : Type 0 where
     tokens : List (List ℕ)
     spelled : (a : List ℕ) (s : List (List ℕ)) → Spells a s → Spells (a ++ flat_map (λ s. codes " " ++ step_text I s) steps) (s ++ tokens)

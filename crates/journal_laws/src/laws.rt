@@ -7,7 +7,7 @@ ghost use Rattle.desk_data.specs.Situation.{Situation};
 ghost use Rattle.desk_model.specs.declared.answer.Entry.{Entry as Recorded};
 ghost use Rattle.desk_model.specs.States.{opening};
 ghost use Rattle.desk_model.specs.Histories.{IsLegal, run};
-ghost use Rattle.desk_tasks.specs.Play.{story_on, played, Remarks, search_told, history_outcome};
+ghost use Rattle.desk_tasks.specs.Play.{story_on, played, Remarks, search_remarks, history_outcome};
 ghost use Rattle.journal_file.specs.Journal.{journal_rows_of};
 ghost use Rattle.journal_join.specs.Join.{events_of};
 ghost use Rattle.journal_text.specs.Lines.{journal_text, line_text};
@@ -29,6 +29,6 @@ pub fn written_journals_read_back()
     ensures rows { (built : Joined) (h : Items Recorded) → CanBeReadBack built.inst built.batches h → journal_rows_of (journal_text built.inst h) ≡ Ok (rows_of_history built.inst h) }
     ensures events { (built : Joined) (h : Items Recorded) → CanBeReadBack built.inst built.batches h → events_of built (rows_of_history built.inst h) ≡ Ok (map asked h) }
     ensures run { (I : Situation) (h : Items Recorded) → IsLegal (opening I) h → run (opening I) (map asked h) ≡ h }
-    ensures replayed { (I : Situation) (h : Items Recorded) → IsLegal (opening I) h → played (story_on I (map asked h)) ≡ history_outcome I (search_told None) h }
+    ensures replayed { (I : Situation) (h : Items Recorded) → IsLegal (opening I) h → played (story_on I (map asked h)) ≡ history_outcome I (search_remarks None) h }
     ensures searched { (I : Situation) (remarks : Remarks) (h : Items Recorded) → IsLegal (opening I) h → (played (story_on I (map asked h))).texts.files ≡ (history_outcome I remarks h).texts.files }
 {}

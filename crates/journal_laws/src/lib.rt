@@ -5,7 +5,7 @@
 //! law. On the way stands another: a line is what the crate `csv` writes of its fields.
 //!
 //! The law asks that each name of the day has 1 to 32 bytes, with which `walk_names` of `token_laws` ends.
-//! The crate stands on that crate for what a line is made of, and on the crates whose definitions it
+//! The crate depends on that crate for what a line is made of, and on the crates whose definitions it
 //! compares.
 #![tactic(auto)]
 

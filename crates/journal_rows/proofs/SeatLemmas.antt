@@ -12,25 +12,25 @@ use Rattle.journal_rows.specs.Steps.{seat_at, seats_at}
 abbrev pub Seat : Type 0
 Seat = NamedLeg × Cabin
 
--- these legs, and behind them those that are read
-abbrev pub seats_behind : List Seat → Reading (List Seat) → Reading (List Seat)
-seats_behind before (Ok read) = Ok (before ++ read.0, read.1)
-seats_behind before (Err cause) = Err cause
+-- these legs, and after them those that are read
+abbrev pub seats_after : List Seat → Reading (List Seat) → Reading (List Seat)
+seats_after before (Ok read) = Ok (before ++ read.0, read.1)
+seats_after before (Err cause) = Err cause
 
-one_more : (before : List Seat) (seat : Seat) (others : Reading (List Seat)) → seats_behind before (others >>= λ o. Ok (seat ∷ o.0, o.1)) ≡ seats_behind (before ++ seat ∷ []) others
+one_more : (before : List Seat) (seat : Seat) (others : Reading (List Seat)) → seats_after before (others >>= λ o. Ok (seat ∷ o.0, o.1)) ≡ seats_after (before ++ seat ∷ []) others
 one_more before seat (Ok o) = ap (λ seats. Ok (seats, o.1)) (sym (append_assoc before (seat ∷ []) o.0))
 one_more before seat (Err cause) = refl
 
-module _ (T : TokenReaders) (before : List Seat) (total : Reading (List Seat)) (count i : ℕ) (tokens : List (List ℕ)) (more : i < count) (so_far : seats_behind before (seats_at T (count - i) tokens) ≡ total) where
+module _ (T : TokenReaders) (before : List Seat) (total : Reading (List Seat)) (count i : ℕ) (tokens : List (List ℕ)) (more : i < count) (so_far : seats_after before (seats_at T (count - i) tokens) ≡ total) where
   abbrev after : Reading Seat → Reading (List Seat)
-  after seat = seats_behind before (seat >>= λ s. seats_at T (count - (i + 1)) s.1 >>= λ o. Ok (s.0 ∷ o.0, o.1))
+  after seat = seats_after before (seat >>= λ s. seats_at T (count - (i + 1)) s.1 >>= λ o. Ok (s.0 ∷ o.0, o.1))
 
   one_seat : after (seat_at T tokens) ≡ total
   unfolding seats_at
-  one_seat = let next : suc (count - (i + 1)) ≡ count - i = omega arith in ap (λ n. seats_behind before (seats_at T n tokens)) next ∙ so_far
+  one_seat = let next : suc (count - (i + 1)) ≡ count - i = omega arith in ap (λ n. seats_after before (seats_at T n tokens)) next ∙ so_far
 
   -- a leg is read
-  pub goes_on : (seat : Seat) (rest : List (List ℕ)) → seat_at T tokens ≡ Ok (seat, rest) → seats_behind (before ++ seat ∷ []) (seats_at T (count - (i + 1)) rest) ≡ total
+  pub goes_on : (seat : Seat) (rest : List (List ℕ)) → seat_at T tokens ≡ Ok (seat, rest) → seats_after (before ++ seat ∷ []) (seats_at T (count - (i + 1)) rest) ≡ total
   goes_on seat rest e = sym (ap after e ∙ one_more before seat (seats_at T (count - (i + 1)) rest)) ∙ one_seat
 
   -- a leg is refused
@@ -38,8 +38,8 @@ module _ (T : TokenReaders) (before : List Seat) (total : Reading (List Seat)) (
   stops cause e = sym one_seat ∙ ap after e
 
 -- all legs are read
-pub all_read : (T : TokenReaders) (before : List Seat) (total : Reading (List Seat)) (count i : ℕ) (tokens : List (List ℕ)) → count ≤ i → seats_behind before (seats_at T (count - i) tokens) ≡ total → total ≡ Ok (before, tokens)
+pub all_read : (T : TokenReaders) (before : List Seat) (total : Reading (List Seat)) (count i : ℕ) (tokens : List (List ℕ)) → count ≤ i → seats_after before (seats_at T (count - i) tokens) ≡ total → total ≡ Ok (before, tokens)
 unfolding seats_at
 all_read T before total count i tokens none so_far =
     let left : count - i ≡ zero = omega arith in
-    sym so_far ∙ ap (λ n. seats_behind before (seats_at T n tokens)) left ∙ ap (λ seats. Ok (seats, tokens)) (append-nil before)
+    sym so_far ∙ ap (λ n. seats_after before (seats_at T n tokens)) left ∙ ap (λ seats. Ok (seats, tokens)) (append-nil before)

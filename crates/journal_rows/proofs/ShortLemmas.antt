@@ -4,9 +4,9 @@ use Rattle.std.specs.Prelude.{IfOk}
 use Rattle.file_rows.specs.declared.cause.Cause.{Cause}
 use Rattle.desk_text.specs.Fields.{number_of, cabin_of, inbound_of}
 use Rattle.desk_text.specs.Rows.{◌>>=◌}
-use Rattle.journal_rows.specs.declared.kind.Kind.{Kind}
-use Rattle.journal_rows.specs.declared.kind.Kind.TheVariants as kinds
-use Rattle.journal_rows.specs.Tokens.{TokenReaders, Reading, token, kind_of, flown_of, behind_of}
+use Rattle.journal_rows.specs.declared.kind.StepKind.{StepKind}
+use Rattle.journal_rows.specs.declared.kind.StepKind.TheVariants as kinds
+use Rattle.journal_rows.specs.Tokens.{TokenReaders, Reading, token, kind_of, flown_of, later_of}
 use Rattle.journal_rows.specs.Steps.{leg_at, moment_at, row_from, row_at, after_from, seat_at, seats_at, path_at, step_from, step_at}
 
 -- what is read leaves at most so many tokens
@@ -66,16 +66,16 @@ module _ (T : TokenReaders) where
   unfolding path_at
   leaves-path tokens = then _ _ _ (leaves-token (number_of 0 8) tokens) (λ count. then _ _ _ (leaves-seats count.0 count.1) (λ seats. omega arith))
 
-  leaves-step_from : (kind : Kind) (tokens : List (List ℕ)) → Leaves (length tokens) (step_from T kind tokens)
+  leaves-step_from : (kind : StepKind) (tokens : List (List ℕ)) → Leaves (length tokens) (step_from T kind tokens)
   unfolding step_from
   leaves-step_from kinds.Set tokens = then _ _ _ (leaves-leg tokens) (λ leg. then _ _ _ (leaves-row leg.1) (λ was. then _ _ _ (leaves-row was.1) (λ new. omega arith)))
-  leaves-step_from kinds.Push tokens = then _ _ _ (leaves-token T.name_of tokens) (λ plane. then _ _ _ (leaves-token behind_of plane.1) (λ behind. then _ _ _ (leaves-after behind.0 behind.1) (λ after. omega arith)))
+  leaves-step_from kinds.Push tokens = then _ _ _ (leaves-token T.name_of tokens) (λ plane. then _ _ _ (leaves-token later_of plane.1) (λ behind. then _ _ _ (leaves-after behind.0 behind.1) (λ after. omega arith)))
   leaves-step_from kinds.Swap tokens = then _ _ _ (leaves-token T.name_of tokens) (λ first. then _ _ _ (leaves-token T.name_of first.1) (λ second. then _ _ _ (leaves-moment second.1) (λ at. omega arith)))
   leaves-step_from kinds.Rebook tokens = then _ _ _ (leaves-token T.name_of tokens) (λ name. then _ _ _ (leaves-token inbound_of name.1) (λ inbound. then _ _ _ (leaves-token (number_of 1 1000) inbound.1) (λ count. then _ _ _ (leaves-path count.1) (λ path. then _ _ _ (leaves-path path.1) (λ to. omega arith)))))
   leaves-step_from kinds.Tidy tokens = omega arith
   leaves-step_from kinds.Refill tokens = then _ _ _ (leaves-leg tokens) (λ leg. omega arith)
 
-  leaves-kind : (kind : Result Kind Cause) (tokens : List (List ℕ)) → Leaves (length tokens) (kind >>= λ k. step_from T k tokens)
+  leaves-kind : (kind : Result StepKind Cause) (tokens : List (List ℕ)) → Leaves (length tokens) (kind >>= λ k. step_from T k tokens)
   leaves-kind (Ok kind) tokens = leaves-step_from kind tokens
   leaves-kind (Err cause) tokens = tt
 

@@ -35,12 +35,12 @@ module _ (T : TokenReaders) where
   by_its_length most (Ok s) short = ap (before_all s.0) (any_bound most (length s.1) s.1 short (omega arith))
   by_its_length most (Err cause) short = refl
 
-  -- the first step, and the steps of the tokens behind it
+  -- the first step, and the steps of the tokens after it
   pub first_step : (word : List ℕ) (tokens : List (List ℕ)) → steps_of T (word ∷ tokens) ≡ steps_from T (step_at T word tokens)
   unfolding steps_of steps_within
   first_step word tokens = by_its_length (length tokens) (step_at T word tokens) (leaves-step T word tokens)
 
--- these steps, and behind them those that are read
+-- these steps, and after them those that are read
 abbrev pub behind : List NamedStep → Result (List NamedStep) Cause → Result (List NamedStep) Cause
 behind before (Ok steps) = Ok (before ++ steps)
 behind before (Err cause) = Err cause

@@ -8,15 +8,15 @@ use Rattle.desk_text.specs.declared.fault.RowFault.{RowFault}
 use Rattle.desk_text.specs.declared.fault.RowFault.TheVariants as row_fault
 use Rattle.desk_text.specs.Fields.{number_of, cabin_of, inbound_of}
 use Rattle.desk_text.specs.Rows.{◌>>=◌}
-use Rattle.journal_rows.specs.declared.kind.Kind.{Kind}
-use Rattle.journal_rows.specs.declared.kind.Kind.TheVariants as kinds
+use Rattle.journal_rows.specs.declared.kind.StepKind.{StepKind}
+use Rattle.journal_rows.specs.declared.kind.StepKind.TheVariants as kinds
 use Rattle.journal_rows.specs.declared.rows.NamedLeg.{NamedLeg}
 use Rattle.journal_rows.specs.declared.rows.NamedPath.{NamedPath}
 use Rattle.journal_rows.specs.declared.rows.NamedRow.{NamedRow}
 use Rattle.journal_rows.specs.declared.rows.NamedRow.TheVariants.{Flown, Cancelled}
 use Rattle.journal_rows.specs.declared.rows.NamedStep.{NamedStep}
 use Rattle.journal_rows.specs.declared.rows.NamedStep.TheVariants.{Set, Push, Swap, Rebook, Tidy, Refill}
-use Rattle.journal_rows.specs.Tokens.{TokenReaders, Reading, token, kind_of, flown_of, behind_of}
+use Rattle.journal_rows.specs.Tokens.{TokenReaders, Reading, token, kind_of, flown_of, later_of}
 
 -- ---- parts of steps
 
@@ -48,7 +48,7 @@ row_at T tokens = do
   flown ← token flown_of tokens
   row_from T flown.0 flown.1
 
--- FLIGHT DATE of the leg that a push begins behind, where there is one
+-- FLIGHT DATE of the leg that a push begins after, where there is one
 unfoldable pub after_from : TokenReaders → Bool → List (List ℕ) → Reading (Option NamedLeg)
 after_from T true tokens = do
   leg ← leg_at T tokens
@@ -80,7 +80,7 @@ path_at T tokens = do
 -- ---- steps
 
 -- what follows the first token of a step of this kind
-unfoldable pub step_from : TokenReaders → Kind → List (List ℕ) → Reading NamedStep
+unfoldable pub step_from : TokenReaders → StepKind → List (List ℕ) → Reading NamedStep
 -- FLIGHT DATE WAS NEW
 step_from T kinds.Set tokens = do
   leg ← leg_at T tokens
@@ -90,7 +90,7 @@ step_from T kinds.Set tokens = do
 -- AIRCRAFT all, or AIRCRAFT after FLIGHT DATE
 step_from T kinds.Push tokens = do
   plane ← token T.name_of tokens
-  behind ← token behind_of plane.1
+  behind ← token later_of plane.1
   after ← after_from T behind.0 behind.1
   Ok (Push plane.0 after.0, after.1)
 -- AIRCRAFT AIRCRAFT DATE TIME
@@ -135,7 +135,7 @@ steps_within T (suc most) (word ∷ tokens) = do
 unfoldable pub steps_of : TokenReaders → List (List ℕ) → Result (List NamedStep) Cause
 steps_of T tokens = steps_within T (length tokens) tokens
 
--- a step and, behind it, the steps of the tokens that it leaves
+-- a step and, after it, the steps of the tokens that it leaves
 abbrev pub steps_from : TokenReaders → Reading NamedStep → Result (List NamedStep) Cause
 steps_from T step = do
   first ← step

@@ -5,8 +5,8 @@ use Rattle.file_rows.specs.declared.cause.Cause.TheVariants.{Word}
 use Rattle.desk_text.specs.declared.fault.RowFault.{RowFault}
 use Rattle.desk_text.specs.declared.fault.RowFault.TheVariants as row_fault
 use Rattle.desk_text.specs.Rows.{◌>>=◌, next_field}
-use Rattle.journal_rows.specs.declared.kind.Kind.{Kind}
-use Rattle.journal_rows.specs.declared.kind.Kind.TheVariants as kinds
+use Rattle.journal_rows.specs.declared.kind.StepKind.{StepKind}
+use Rattle.journal_rows.specs.declared.kind.StepKind.TheVariants as kinds
 
 -- a form of tokens: which are names, which dates, as day numbers, and which times, as minutes of the day
 pub record TokenReaders : Type 0 where
@@ -14,7 +14,7 @@ pub record TokenReaders : Type 0 where
   pub date_of : List ℕ → Result ℕ Cause
   pub time_of : List ℕ → Result ℕ Cause
 
--- what is read from the left, and the tokens behind it, or the cause for which it is refused
+-- what is read from the left, and the tokens after it, or the cause for which it is refused
 abbrev pub Reading : Type 0 → Type 0
 Reading X = Result (X × List (List ℕ)) Cause
 
@@ -37,7 +37,7 @@ TakesInMemory (Err (row_fault.Refused cause)) rest read = read ≡ Err cause
 TakesInMemory (Err row_fault.Memory) rest read = Unit {0}
 
 -- a step's first token
-abbrev pub kind_of : List ℕ → Result Kind Cause
+abbrev pub kind_of : List ℕ → Result StepKind Cause
 kind_of token =
     if bytes_eq token (codes "set") then Ok kinds.Set else
     if bytes_eq token (codes "push") then Ok kinds.Push else
@@ -51,6 +51,6 @@ kind_of token =
 abbrev pub flown_of : List ℕ → Result Bool Cause
 flown_of token = if bytes_eq token (codes "+") then Ok true else (if bytes_eq token (codes "-") then Ok false else Err Word)
 
--- whether a push begins behind a leg: 'after' where it does, 'all' where it takes all legs
-abbrev pub behind_of : List ℕ → Result Bool Cause
-behind_of token = if bytes_eq token (codes "after") then Ok true else (if bytes_eq token (codes "all") then Ok false else Err Word)
+-- whether a push begins after a leg: 'after' where it does, 'all' where it takes all legs
+abbrev pub later_of : List ℕ → Result Bool Cause
+later_of token = if bytes_eq token (codes "after") then Ok true else (if bytes_eq token (codes "all") then Ok false else Err Word)

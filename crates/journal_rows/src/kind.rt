@@ -2,7 +2,7 @@
 
 /// What a step does, by its first word.
 #[derive(Clone, Copy, Debug, PartialEq, Eq)]
-pub(crate) enum Kind {
+pub(crate) enum StepKind {
     Set,
     Push,
     Swap,

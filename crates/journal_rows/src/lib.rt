@@ -2,7 +2,7 @@
 //!
 //! A row has its line, its caller and an event: the batch of a number, or a move, in whose steps legs,
 //! aircraft and reservations have their names. The join makes numbers of them. What a reader says of its
-//! rows is told in `specs/Facts`, as `IsJournalRow`.
+//! rows is stated in `specs/Facts`, as `IsJournalRow`.
 //!
 //!     read_steps(alloc, &form, b"push P1 after F3 01/03/08 tidy")    // a push and a tidy
 //!
@@ -13,7 +13,7 @@
 //! Proved: `read_steps` gives the steps, or the first cause from the left, that the definition in
 //! `specs/Steps` gives for the tokens (`exact`), and the ranges that the join relies on (`facts`). The
 //! definition counts down from the number of tokens, so that it ends; `steps_are_read_in_turn` says that
-//! this leaves nothing out. It stands on `desk_text` for tokens and what they spell.
+//! this leaves nothing out. It depends on `desk_text` for tokens and what they spell.
 #![tactic(auto)]
 
 mod kind;

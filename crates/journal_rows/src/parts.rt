@@ -66,17 +66,17 @@ pub(crate) fn next_row<F: TokenForm>(form: &F, tokens: &mut Fields<'_>) -> Resul
     row_from(form, is_flown, tokens)
 }
 
-/// The leg that a push begins behind, `FLIGHT DATE`, where there is one.
+/// The leg that a push begins after, `FLIGHT DATE`, where there is one.
 #[tactic(auto, unfolding(crate::specs::Steps::after_from))]
 pub(crate) fn after_from<F: TokenForm>(
     form: &F,
-    is_behind: bool,
+    is_after: bool,
     tokens: &mut Fields<'_>,
 ) -> Result<Option<NamedLeg>, Cause>
-    ensures exact { Takes result tokens.new (after_from (F.readers form.now) is_behind tokens.old) }
+    ensures exact { Takes result tokens.new (after_from (F.readers form.now) is_after tokens.old) }
     ensures facts { IfOk result (λ after. IfSome after IsNamedLeg) }
 {
-    if is_behind {
+    if is_after {
         Ok(Some(next_leg(form, tokens)?))
     } else {
         Ok(None)

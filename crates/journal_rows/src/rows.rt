@@ -40,7 +40,7 @@ pub enum NamedStep {
         was: NamedRow,
         new: NamedRow,
     },
-    /// The legs of the aircraft behind the leg `after`, or all where it is `None`, are placed anew.
+    /// The legs of the aircraft after the leg `after`, or all where it is `None`, are placed anew.
     Push {
         plane: Name,
         after: Option<NamedLeg>,
@@ -66,7 +66,7 @@ pub enum NamedStep {
     },
 }
 
-/// What a caller tells or asks for.
+/// What a caller reports or asks for.
 #[derive(Debug, Drop)]
 pub enum NamedEvent {
     /// Disruptions become known: the batch of orders with this number, 0 to 1,000.
@@ -75,7 +75,7 @@ pub enum NamedEvent {
     Move { steps: List<NamedStep> },
 }
 
-/// A row of the journal: its line, from 1, its caller, 0 to 64, and what the caller tells or asks for.
+/// A row of the journal: its line, from 1, its caller, 0 to 64, and what the caller reports or asks for.
 #[derive(Debug, Drop)]
 pub struct JournalRow {
     pub line: u32,

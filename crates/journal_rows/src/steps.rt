@@ -3,15 +3,15 @@
 ghost use Rattle.std.specs.Prelude.{◌≡◌, ℕ, List, [], ◌∷◌, All, IfOk, Ok, true};
 ghost use Rattle.std.specs.List.{list_all};
 ghost use Rattle.desk_text.specs.Lines.{fields, is_text};
-ghost use Rattle.journal_rows.specs.declared.kind.Kind.TheVariants as kinds;
+ghost use Rattle.journal_rows.specs.declared.kind.StepKind.TheVariants as kinds;
 ghost use Rattle.journal_rows.specs.Tokens.{TokenReaders, Takes, TakesInMemory};
 ghost use Rattle.journal_rows.specs.Steps.{step_from, step_at, steps_from, steps_of, StepsAre};
 ghost use Rattle.journal_rows.specs.Facts.{IsNamedStep};
 
-use crate::kind::Kind;
+use crate::kind::StepKind;
 use crate::parts::{after_from, next_leg, next_moment, next_path, next_row};
 use crate::rows::{NamedRes, NamedStep};
-use crate::tokens::{TokenForm, kind, next_behind, next_inbound, next_name, next_number};
+use crate::tokens::{TokenForm, kind, next_after, next_inbound, next_name, next_number};
 use desk_text::{Cause, Fields, RowFault};
 use std::alloc::Global;
 
@@ -34,8 +34,8 @@ fn next_push<F: TokenForm>(form: &F, tokens: &mut Fields<'_>) -> Result<NamedSte
     ensures facts { IfOk result IsNamedStep }
 {
     let plane = next_name(form, tokens)?;
-    let is_behind = next_behind(tokens)?;
-    let after = after_from(form, is_behind, tokens)?;
+    let is_after = next_after(tokens)?;
+    let after = after_from(form, is_after, tokens)?;
     Ok(NamedStep::Push { plane, after })
 }
 
@@ -89,19 +89,19 @@ fn next_refill<F: TokenForm>(form: &F, tokens: &mut Fields<'_>) -> Result<NamedS
 fn step_from<F: TokenForm>(
     alloc: Global,
     form: &F,
-    kind: Kind,
+    kind: StepKind,
     tokens: &mut Fields<'_>,
 ) -> Result<NamedStep, RowFault>
     ensures exact { TakesInMemory result tokens.new (step_from (F.readers form.now) kind tokens.old) }
     ensures facts { IfOk result IsNamedStep }
 {
     match kind {
-        Kind::Set => Ok(next_set(form, tokens)?),
-        Kind::Push => Ok(next_push(form, tokens)?),
-        Kind::Swap => Ok(next_swap(form, tokens)?),
-        Kind::Rebook => next_rebook(alloc, form, tokens),
-        Kind::Tidy => Ok(NamedStep::Tidy),
-        Kind::Refill => Ok(next_refill(form, tokens)?),
+        StepKind::Set => Ok(next_set(form, tokens)?),
+        StepKind::Push => Ok(next_push(form, tokens)?),
+        StepKind::Swap => Ok(next_swap(form, tokens)?),
+        StepKind::Rebook => next_rebook(alloc, form, tokens),
+        StepKind::Tidy => Ok(NamedStep::Tidy),
+        StepKind::Refill => Ok(next_refill(form, tokens)?),
     }
 }
 

@@ -3,9 +3,9 @@
 ghost use Rattle.std.specs.Prelude.{◌≡◌, ◌<◌, ◌≤◌, IfOk};
 ghost use Rattle.file_rows.specs.Seen.{IsSeen};
 ghost use Rattle.desk_text.specs.Fields.{number_of, cabin_of, inbound_of};
-ghost use Rattle.journal_rows.specs.Tokens.{TokenReaders, token, Takes, kind_of, flown_of, behind_of};
+ghost use Rattle.journal_rows.specs.Tokens.{TokenReaders, token, Takes, kind_of, flown_of, later_of};
 
-use crate::kind::Kind;
+use crate::kind::StepKind;
 use desk_text::{Cause, Fields, cabin, inbound, number};
 use desk_units::{Cabin, Name};
 
@@ -96,10 +96,10 @@ pub(crate) fn next_flown(tokens: &mut Fields<'_>) -> Result<bool, Cause>
     flown(tokens.take()?)
 }
 
-/// Whether a token says that a push begins behind a leg: `after` where it does, `all` where it takes
+/// Whether a token says that a push begins after a leg: `after` where it does, `all` where it takes
 /// all legs.
 fn behind(token: &[u8]) -> Result<bool, Cause>
-    ensures { result ≡ behind_of token.now }
+    ensures { result ≡ later_of token.now }
 {
     if token == b"after".as_slice() {
         Ok(true)
@@ -110,29 +110,29 @@ fn behind(token: &[u8]) -> Result<bool, Cause>
     }
 }
 
-/// Whether the next token says that a push begins behind a leg.
-pub(crate) fn next_behind(tokens: &mut Fields<'_>) -> Result<bool, Cause>
-    ensures { Takes result tokens.new (token behind_of tokens.old) }
+/// Whether the next token says that a push begins after a leg.
+pub(crate) fn next_after(tokens: &mut Fields<'_>) -> Result<bool, Cause>
+    ensures { Takes result tokens.new (token later_of tokens.old) }
 {
     behind(tokens.take()?)
 }
 
 /// The kind of the step whose first token is this one.
-pub(crate) fn kind(token: &[u8]) -> Result<Kind, Cause>
+pub(crate) fn kind(token: &[u8]) -> Result<StepKind, Cause>
     ensures { result ≡ kind_of token.now }
 {
     if token == b"set".as_slice() {
-        Ok(Kind::Set)
+        Ok(StepKind::Set)
     } else if token == b"push".as_slice() {
-        Ok(Kind::Push)
+        Ok(StepKind::Push)
     } else if token == b"swap".as_slice() {
-        Ok(Kind::Swap)
+        Ok(StepKind::Swap)
     } else if token == b"rebook".as_slice() {
-        Ok(Kind::Rebook)
+        Ok(StepKind::Rebook)
     } else if token == b"tidy".as_slice() {
-        Ok(Kind::Tidy)
+        Ok(StepKind::Tidy)
     } else if token == b"refill".as_slice() {
-        Ok(Kind::Refill)
+        Ok(StepKind::Refill)
     } else {
         Err(Cause::Word)
     }

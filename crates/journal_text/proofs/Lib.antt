@@ -1,3 +1,3 @@
 pub mod LineLemmas
 pub mod PartsLaws
-pub mod Told
+pub mod WritableLaws

@@ -27,7 +27,7 @@ hour_text I airport hour = (airport_at I airport).name ++ codes " " ++ date_text
 unfoldable pub seat_text : Situation → Leg × Cabin → List ℕ
 seat_text I pair = leg_text I pair.0.0 ++ codes " " ++ cabin_text pair.1
 
--- a path: its number of legs, then each of them, behind a space
+-- a path: its number of legs, then each of them, after a space
 unfoldable pub path_text : Situation → List (Leg × Cabin) → List ℕ
 path_text I path = decimal (length path) ++ flat_map (λ pair. codes " " ++ seat_text I pair) path
 

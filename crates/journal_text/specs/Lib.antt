@@ -1,4 +1,4 @@
 pub mod Items
 pub mod Quoting
 pub mod Lines
-pub mod Told
+pub mod Writable

@@ -3,7 +3,7 @@ use Rattle.std.specs.Prelude.{ℕ, Bool, ◌||◌, List, [], ◌∷◌, ◌++◌
 use Rattle.std.specs.List.{flat_map, list_any}
 use Rattle.file_rows.specs.Bytes.{comma, line_feed, carriage_return}
 
--- what stands before and behind a field that is quoted
+-- what stands before and after a field that is quoted
 abbrev pub quote_mark : ℕ
 quote_mark = 34
 

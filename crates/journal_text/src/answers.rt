@@ -2,7 +2,7 @@
 
 ghost use Rattle.std.specs.Prelude.{◌≡◌, ◌++◌, OnOk, decimal};
 ghost use Rattle.journal_text.specs.Lines.{answer_text, which_text};
-ghost use Rattle.journal_text.specs.Told.{AnswerNames};
+ghost use Rattle.journal_text.specs.Writable.{AnswerNames};
 
 use crate::items::push_broken;
 use desk_data::{Grains, Instance, NoMem};

@@ -5,14 +5,14 @@ ghost use Rattle.desk_data.specs.Situation.{legs_of, planes_of, airports_of, res
 ghost use Rattle.desk_data.specs.Valid.{IsRowOf};
 ghost use Rattle.journal_text.specs.Items.{leg_text, row_text, hour_text, reservation_text, broken_text};
 ghost use Rattle.desk_text.specs.Texts.{cabin_text};
-ghost use Rattle.journal_text.specs.Told.{Names};
+ghost use Rattle.journal_text.specs.Writable.{Names};
 
 use desk_data::{Airport, Broken, Cabin, Instance, Leg, NoMem, Plane, Res, Row};
 use desk_text::{cabin_letter, date_text, direction_letter, moment_text, push_all, two_digits};
 
 /// Adds the rule that is broken and what breaks it, as `C2 FLIGHT DATE`, `C9 AIRCRAFT`,
 /// `C10 AIRPORT DATE HH`, `C12 FLIGHT DATE CABIN` or `C13 RESERVATION TYPE`. The hour has two
-/// digits, and the type is A for the way out and R for the way back. Where memory runs out, the text
+/// digits, and the type is A for outbound and R for inbound. Where memory runs out, the text
 /// is as before.
 #[tactic(auto, unfolding(crate::specs::Items::broken_text))]
 pub fn push_broken(text: &mut Vec<u8>, inst: &Instance, item: &Broken) -> Result<(), NoMem>

@@ -8,9 +8,9 @@
 //!     1,move,push P1 after F1 01/03/08 tidy,breaks C5 F2 01/03/08
 //!
 //! `journal_line` gives the line of one entry, `journal_text` the bytes of a whole journal, and
-//! `push_broken` adds a broken item as replies and the report tell it, as `C5 F2 01/03/08`. Proved: they are
-//! those of the definition in `specs/`; and by the law `legal_entries_can_be_told`, that each entry of a
-//! legal history has a line. It stands on `desk_model` and, for dates, on `desk_text`.
+//! `push_broken` adds a broken item as replies and the report give it, as `C5 F2 01/03/08`. Proved: they are
+//! those of the definition in `specs/`; and by the law `legal_entries_can_be_written`, that each entry of a
+//! legal history has a line. It depends on `desk_model` and, for dates, on `desk_text`.
 #![tactic(auto)]
 
 mod answers;
@@ -24,4 +24,4 @@ pub use answers::push_answer;
 pub use desk_data::{Broken, Instance, NoMem};
 pub use desk_model::{Answer, Entry, Event};
 pub use items::push_broken;
-pub use lines::{journal_line, journal_text, legal_entries_can_be_told};
+pub use lines::{journal_line, journal_text, legal_entries_can_be_written};

@@ -6,7 +6,7 @@ ghost use Rattle.desk_model.specs.declared.answer.Entry.{Entry as Recorded};
 ghost use Rattle.desk_model.specs.States.{opening};
 ghost use Rattle.desk_model.specs.Histories.{IsLegal};
 ghost use Rattle.journal_text.specs.Lines.{detail_text, kind_text, line_text, journal_text};
-ghost use Rattle.journal_text.specs.Told.{CanBeTold, EventNames};
+ghost use Rattle.journal_text.specs.Writable.{CanBeWritten, EventNames};
 
 use crate::answers::push_answer;
 use crate::quoting::push_quoted;
@@ -20,7 +20,7 @@ use std::alloc::Global;
 /// stand before it. The only error is out of memory.
 #[tactic(auto, unfolding(crate::specs::Lines::journal_text))]
 pub fn journal_text(alloc: Global, inst: &Instance, entries: &[Entry]) -> Result<Vec<u8>, NoMem>
-    requires { All (CanBeTold inst.now) entries.now }
+    requires { All (CanBeWritten inst.now) entries.now }
     ensures { IfOk result (λ text. text.items ≡ journal_text inst.now entries.now) }
 {
     let mut text = Vec::new(alloc);
@@ -44,7 +44,7 @@ pub fn journal_line(
     number: u32,
     entry: &Entry,
 ) -> Result<Vec<u8>, NoMem>
-    requires { CanBeTold inst.now entry.now }
+    requires { CanBeWritten inst.now entry.now }
     ensures { IfOk result (λ text. text.items ≡ line_text inst.now number entry.now) }
 {
     let mut text = Vec::new(alloc);
@@ -63,7 +63,7 @@ fn push_line(
     number: usize,
     entry: &Entry,
 ) -> Result<(), NoMem>
-    requires { CanBeTold inst.now entry.now }
+    requires { CanBeWritten inst.now entry.now }
     ensures { OnOk result (text.new.items ≡ text.old.items ++ line_text inst.now number entry.now) }
 {
     push_number(text, u128::from(entry.caller))?;
@@ -106,8 +106,8 @@ fn push_detail(
     }
 }
 
-/// Each entry of a legal history from the opening of an instance can be told: what it asks and what
+/// Each entry of a legal history from the opening of an instance can be reported: what it asks and what
 /// it answers names legs, aircraft, airports and reservations of the instance.
-pub fn legal_entries_can_be_told()
-    ensures { (I : Situation) (h : Items Recorded) → IsLegal (opening I) h → All (CanBeTold I) h }
+pub fn legal_entries_can_be_written()
+    ensures { (I : Situation) (h : Items Recorded) → IsLegal (opening I) h → All (CanBeWritten I) h }
 {}

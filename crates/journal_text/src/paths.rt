@@ -21,7 +21,7 @@ pub(crate) fn push_path(text: &mut Vec<u8>, inst: &Instance, path: &Path) -> Res
     push_seats(text, inst, legs)
 }
 
-/// Adds the legs of a path with their cabins, each behind a space.
+/// Adds the legs of a path with their cabins, each after a space.
 #[tactic(auto, unfolding(crate::specs::Items::seat_text))]
 fn push_seats(text: &mut Vec<u8>, inst: &Instance, legs: &[(Leg, Cabin)]) -> Result<(), NoMem>
     requires { IsPathOf (legs_of inst.now) legs.now }

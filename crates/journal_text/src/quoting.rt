@@ -7,7 +7,7 @@ ghost use Rattle.journal_text.specs.Quoting.{doubled, is_mark, quoted};
 use desk_data::NoMem;
 use desk_text::push_all;
 
-/// What stands before and behind a field that is quoted.
+/// What stands before and after a field that is quoted.
 const QUOTE_MARK: u8 = b'"';
 
 /// Adds a field: as it stands, or, where it has a comma, a quote mark, CR or LF, between quote marks,

@@ -31,7 +31,7 @@ pub(crate) fn push_move(text: &mut Vec<u8>, inst: &Instance, m: &Move) -> Result
     }
 }
 
-/// Adds steps, each behind a space.
+/// Adds steps, each after a space.
 fn push_more_steps(text: &mut Vec<u8>, inst: &Instance, steps: &[Step]) -> Result<(), NoMem>
     requires { All (StepFits inst.now) steps.now }
     ensures { OnOk result (

@@ -1,3 +1,4 @@
 pub mod SetLaws
 pub mod NeighbourLaws
+pub mod ReplaceLaws
 pub mod ListLaws

@@ -13,7 +13,7 @@ contains-first x xs = (zero, omega arith, refl)
 pub contains-behind : {X : Type 0} (x y : X) (xs : List X) → Contains xs y → Contains (x ∷ xs) y
 contains-behind x y xs (k, lt, is) = (suc k, omega arith, is)
 
--- each behind the first stands in the relation to it
+-- each after the first stands in the relation to it
 pub pairs-first : {X : Type 0} (R : X → X → Type 0) (x y : X) (xs : List X) → AllPairs R (x ∷ xs) → Contains xs y → R x y
 pairs-first R x y xs pairs (k, lt, is) = subst (R x) is (pairs zero (suc k) y (omega arith) (omega arith))
 
@@ -35,15 +35,15 @@ same_head : {X : Type 0} (R : X → X → Type 0) (x y : X) (xs ys : List X) →
 same_head R x y xs ys strict a b to back =
     elim (contains-cons y x ys to) [
       | inl same ↦ same
-      | inr behind_y ↦ elim (contains-cons x y xs back) [
+      | inr after_y ↦ elim (contains-cons x y xs back) [
         | inl same ↦ sym same
-        | inr behind_x ↦ absurd (strict.itself x (strict.trans x y x (pairs-first R x y xs a behind_x) (pairs-first R y x ys b behind_y)))
+        | inr after_x ↦ absurd (strict.itself x (strict.trans x y x (pairs-first R x y xs a after_x) (pairs-first R y x ys b after_y)))
       ]
     ]
 
--- so are those behind them
-behind_head : {X : Type 0} (R : X → X → Type 0) (x y z : X) (xs ys : List X) → IsStrict R → x ≡ y → AllPairs R (x ∷ xs) → Contains (y ∷ ys) z → Contains xs z → Contains ys z
-behind_head R x y z xs ys strict same a to has =
+-- so are those after them
+after_head : {X : Type 0} (R : X → X → Type 0) (x y z : X) (xs ys : List X) → IsStrict R → x ≡ y → AllPairs R (x ∷ xs) → Contains (y ∷ ys) z → Contains xs z → Contains ys z
+after_head R x y z xs ys strict same a to has =
     elim (contains-cons y z ys to) [
       | inl first ↦ absurd (strict.itself x (subst (R x) (first ∙ sym same) (pairs-first R x z xs a has)))
       | inr behind ↦ behind
@@ -56,6 +56,6 @@ same_ordered R (x ∷ xs) [] strict a b to back = absurd (none_in x (to x (conta
 same_ordered R (x ∷ xs) (y ∷ ys) strict a b to back =
     let same : x ≡ y = same_head R x y xs ys strict a b (to x (contains-first x xs)) (back y (contains-first y ys)) in
     let rest : xs ≡ ys = same_ordered R xs ys strict (pairs-behind R x xs a) (pairs-behind R y ys b)
-    (λ z has. behind_head R x y z xs ys strict same a (to z (contains-behind x z xs has)) has)
-    (λ z has. behind_head R y x z ys xs strict (sym same) b (back z (contains-behind y z ys has)) has) in
+    (λ z has. after_head R x y z xs ys strict same a (to z (contains-behind x z xs has)) has)
+    (λ z has. after_head R y x z ys xs strict (sym same) b (back z (contains-behind y z ys has)) has) in
     ap (λ k. k ∷ xs) same ∙ ap (λ zs. y ∷ zs) rest

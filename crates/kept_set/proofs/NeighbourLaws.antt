@@ -1,4 +1,4 @@
--- The items before and behind an item.
+-- The items before and after an item.
 use Rattle.std.proofs.Common.{◌≡◌, ◌≢◌, ℕ, ◌+◌, ◌-◌, ◌<◌, ◌≤◌, ◌⊎◌, inl, inr, List, length, get_or, sym, ap, ◌∙◌, arith}
 use Rattle.std.specs.Prelude.{Some}
 use Rattle.std.specs.List.{AllWithin, HoldsAt}
@@ -8,7 +8,7 @@ use Rattle.std.specs.declared.cmp.Ordering.{Ordering}
 use Rattle.std.specs.declared.cmp.Ordering.TheVariants.{Less, Equal, Greater}
 use Rattle.std.proofs.lemmas.Cmp.{tied_back, alike_right}
 use Rattle.std.proofs.lemmas.List.{get_or_default}
-use Rattle.kept_set.specs.Kept.{AreRising, IsLastBefore, IsFirstBehind}
+use Rattle.kept_set.specs.Kept.{AreRising, IsLastBefore, IsFirstAfter}
 
 equal_not_less : (o : Ordering) → o ≡ Equal → o ≢ Less
 equal_not_less o e l = absurd cc
@@ -26,15 +26,15 @@ less_back {cmp = cmp} total x y less = greater_not_less (cmp y x) (total.antisym
 pub found_before : {K : Type 0} {cmp : K → K → Ordering} (total : IsTotalOrder cmp) (xs : List K) (i : ℕ) (x : K) → AreRising cmp xs → i < length xs → HoldsAt (λ y. cmp y x ≡ Equal) xs i → AllWithin (λ y. cmp y x ≡ Less) xs 0 i
 found_before total xs i x rising within at k d low high = sym (alike_right total (get_or xs i d) x (get_or xs k d) (at d)) ∙ rising k i d high within
 
--- those behind it are above it
-pub found_behind : {K : Type 0} {cmp : K → K → Ordering} (total : IsTotalOrder cmp) (xs : List K) (i : ℕ) (x : K) → AreRising cmp xs → HoldsAt (λ y. cmp y x ≡ Equal) xs i → AllWithin (λ y. cmp x y ≡ Less) xs (i + 1) (length xs)
-found_behind total xs i x rising at k d low high = sym (total.congr (get_or xs i d) x (get_or xs k d) (at d)) ∙ rising i k d (omega (arith, low)) high
+-- those after it are above it
+pub found_after : {K : Type 0} {cmp : K → K → Ordering} (total : IsTotalOrder cmp) (xs : List K) (i : ℕ) (x : K) → AreRising cmp xs → HoldsAt (λ y. cmp y x ≡ Equal) xs i → AllWithin (λ y. cmp x y ≡ Less) xs (i + 1) (length xs)
+found_after total xs i x rising at k d low high = sym (total.congr (get_or xs i d) x (get_or xs k d) (at d)) ∙ rising i k d (omega (arith, low)) high
 
 pub found_not_below : {K : Type 0} {cmp : K → K → Ordering} (total : IsTotalOrder cmp) (xs : List K) (i : ℕ) (x : K) → AreRising cmp xs → HoldsAt (λ y. cmp y x ≡ Equal) xs i → AllWithin (λ y. cmp y x ≢ Less) xs i (length xs)
 found_not_below {cmp = cmp} total xs i x rising at k d low high =
     let cases : (i < k) ⊎ (k ≡ i) = grind arith in
     elim cases [
-      | inl less ↦ less_back total x (get_or xs k d) (found_behind total xs i x rising at k d (omega (arith, less)) high)
+      | inl less ↦ less_back total x (get_or xs k d) (found_after total xs i x rising at k d (omega (arith, less)) high)
       | inr same ↦ equal_not_less (cmp (get_or xs k d) x) (ap (λ (j : ℕ). cmp (get_or xs j d) x) same ∙ at d)
     ]
 
@@ -65,8 +65,8 @@ last_before cmp xs n x z rising some within at before rest =
           ],
     )
 
-pub first_behind : {K : Type 0} (cmp : K → K → Ordering) (xs : List K) (n : ℕ) (x z : K) → AreRising cmp xs → n < length xs → z ≡ get_or xs n z → AllWithin (λ y. cmp x y ≢ Less) xs 0 n → AllWithin (λ y. cmp x y ≡ Less) xs n (length xs) → IsFirstBehind cmp xs x (Some z)
-first_behind cmp xs n x z rising within at before rest =
+pub first_after : {K : Type 0} (cmp : K → K → Ordering) (xs : List K) (n : ℕ) (x z : K) → AreRising cmp xs → n < length xs → z ≡ get_or xs n z → AllWithin (λ y. cmp x y ≢ Less) xs 0 n → AllWithin (λ y. cmp x y ≡ Less) xs n (length xs) → IsFirstAfter cmp xs x (Some z)
+first_after cmp xs n x z rising within at before rest =
     let same : (d : _) → get_or xs n d ≡ z = λ d. get_or_default xs n d z within ∙ sym at in (
       (n, within, sym at),
       ap (λ y. cmp x y) at ∙ rest n z (omega arith) within,

@@ -49,7 +49,7 @@ insert_held xs i x y within other (k, lt, is) =
       ]
     ]
 
-remove_held : {K : Type 0} (xs : List K) (i : ℕ) (y : K) → i < length xs → (k : ℕ) → k < length (remove xs i) → (j : ℕ) × (j < length xs) × (j ≢ i) × (get_or (remove xs i) k y ≡ get_or xs j y)
+pub remove_held : {K : Type 0} (xs : List K) (i : ℕ) (y : K) → i < length xs → (k : ℕ) → k < length (remove xs i) → (j : ℕ) × (j < length xs) × (j ≢ i) × (get_or (remove xs i) k y ≡ get_or xs j y)
 remove_held xs i y within k lt =
     let len = length-remove xs i within in
     let cases : (k < i) ⊎ (i ≤ k) = grind arith in

@@ -1,9 +1,9 @@
 //! The set.
 
-ghost use Rattle.std.specs.Prelude.{◌≡◌, ◌≢◌, ◌+◌, ◌<◌, ◌≤◌, [], length, OnOk, IfOk, IfErr, IsTrue, ◌↔◌, true, false};
+ghost use Rattle.std.specs.Prelude.{◌≡◌, ◌≢◌, ◌+◌, ◌-◌, ◌<◌, ◌≤◌, [], length, OnOk, IfOk, IfErr, IfSome, IsNone, IsTrue, ◌↔◌, true, false, Some};
 ghost use Rattle.std.specs.List.{AllWithin, Contains, HoldsAt};
 ghost use Rattle.std.specs.declared.cmp.Ordering.TheVariants.{Less, Equal};
-ghost use Rattle.kept_set.specs.Kept.{AreSet, AreRising, IsExact, IsFirstBehind, IsGap, IsLastBefore, first};
+ghost use Rattle.kept_set.specs.Kept.{AreReplaced, AreSet, AreRising, IsBetween, IsExact, IsFirstAfter, IsGap, IsItemAt, IsItemBefore, IsLastBefore, IsToggled, first};
 
 use std::alloc::{AllocError, Global};
 use std::marker::Model;
@@ -12,6 +12,13 @@ use std::marker::Model;
 #[derive(Debug, Drop)]
 pub struct KeptSet<K: Ord> {
     items: Vec<K>,
+}
+
+/// The items next to a place in the order, where there are some.
+#[derive(Clone, Copy, Debug)]
+pub struct Neighbours<K> {
+    pub before: Option<K>,
+    pub after: Option<K>,
 }
 
 impl<K: Ord> Model for KeptSet<K> {
@@ -87,6 +94,72 @@ impl<K: Ord + Copy> KeptSet<K> {
         }
     }
 
+    /// From now on the item is among the items where it was not, and else is not; the others stay, where
+    /// items that compare alike are one. There is room for one more. It takes no memory.
+    pub fn toggle(&mut self, item: K)
+        requires { length self.old.items < self.old.room }
+        ensures set { IsExact K.cmp → IsToggled self.old.items self.new.items item }
+        ensures length { length self.new.items ≤ length self.old.items + 1 }
+        ensures room { self.old.room ≤ self.new.room }
+    {
+        match self.find(item) {
+            Ok(place) => {
+                self.items.remove(place);
+            }
+            Err(place) => {
+                // there is room, so it is not refused
+                let _inserted = self.items.insert(place, item);
+            }
+        }
+    }
+
+    /// Puts an item in the place of another, where it stays between its neighbours, and gives these.
+    /// `None` where the other is not among the items, or where it would not stay: then nothing changes.
+    /// It takes no memory.
+    pub fn replace(&mut self, from: K, to: K) -> Option<Neighbours<K>>
+        ensures none { IsNone result → self.new ≡ self.old }
+        ensures set { IfSome result (λ around. IsExact K.cmp → AreReplaced self.old.items self.new.items from to) }
+        ensures before { IfSome result (λ around. IsLastBefore K.cmp self.new.items to around.before) }
+        ensures after { IfSome result (λ around. IsFirstAfter K.cmp self.new.items to around.after) }
+        ensures was { IfSome result (λ around. IsFirstAfter K.cmp self.old.items from around.after) }
+        ensures length { length self.new.items ≡ length self.old.items }
+        ensures room { self.new.room ≡ self.old.room }
+    {
+        let Ok(at) = self.find(from) else {
+            return None;
+        };
+        let before = self.item_before(at);
+        let after = self.item_at(at + 1);
+        if is_between(before, to, after) {
+            self.items[at] = to;
+            Some(Neighbours { before, after })
+        } else {
+            None
+        }
+    }
+
+    /// The item at a place.
+    fn item_at(&self, at: usize) -> Option<K>
+        ensures { IsItemAt self.now.items at result }
+    {
+        if at < self.items.len() {
+            Some(self.items.as_slice()[at])
+        } else {
+            None
+        }
+    }
+
+    /// The item before a place.
+    fn item_before(&self, at: usize) -> Option<K>
+        requires { at ≤ length self.now.items }
+        ensures { IsItemBefore self.now.items at result }
+    {
+        if at == 0 {
+            return None;
+        }
+        Some(self.items.as_slice()[at - 1])
+    }
+
     /// Whether an item is among the items, where items that compare alike are one.
     pub fn has(&self, item: K) -> bool
         ensures { IsExact K.cmp → IsTrue result ↔ Contains self.now.items item }
@@ -119,8 +192,8 @@ impl<K: Ord + Copy> KeptSet<K> {
     }
 
     /// The least item above an item, which need not be among the items.
-    pub fn behind(&self, item: K) -> Option<K>
-        ensures { IsFirstBehind K.cmp self.now.items item result }
+    pub fn after(&self, item: K) -> Option<K>
+        ensures { IsFirstAfter K.cmp self.now.items item result }
     {
         let at = self.count_not_above(item);
         if at == self.items.len() {
@@ -155,5 +228,32 @@ impl<K: Ord + Copy> KeptSet<K> {
             Ok(at) => at + 1,
             Err(at) => at,
         }
+    }
+}
+
+/// Whether an item is above another, if there is one, and below a third, if there is one.
+fn is_between<K: Ord + Copy>(before: Option<K>, item: K, after: Option<K>) -> bool
+    ensures { IsTrue result → IsBetween K.cmp before item after }
+{
+    is_above(item, before) && is_below(item, after)
+}
+
+/// Whether an item is above another, if there is one.
+fn is_above<K: Ord + Copy>(item: K, before: Option<K>) -> bool
+    ensures { IsTrue result → IfSome before (λ y. K.cmp y item ≡ Less) }
+{
+    match before {
+        Some(other) => other.cmp(&item).is_lt(),
+        None => true,
+    }
+}
+
+/// Whether an item is below another, if there is one.
+fn is_below<K: Ord + Copy>(item: K, after: Option<K>) -> bool
+    ensures { IsTrue result → IfSome after (λ y. K.cmp item y ≡ Less) }
+{
+    match after {
+        Some(other) => item.cmp(&other).is_lt(),
+        None => true,
     }
 }

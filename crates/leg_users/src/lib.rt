@@ -11,7 +11,7 @@
 //! a leg's reservations asks each of their paths anyway. Who booked a leg never changes.
 //!
 //! Proved: `open` keeps just those that use a leg, and `booked` those that booked it; `add` and `take` change one reservation of one leg,
-//! and nothing else. It stands on `desk_data`, `plan_reads` and `kept_set`.
+//! and nothing else. It depends on `desk_data`, `plan_reads` and `kept_set`.
 #![tactic(auto)]
 
 mod users;

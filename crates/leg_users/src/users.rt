@@ -39,9 +39,10 @@ impl LegUsers {
         ensures users { IfOk result (λ made. HasUsers (P.plan_of plan.now) (has_user made)) }
         ensures exact { IfOk result (λ made. (x r : ℕ) → has_user made x r ≡ uses (P.plan_of plan.now) x r) }
     {
-        let mut users = LegUsers::no_users(alloc, inst.legs())?;
+        let counts = counts_of_groups(alloc, inst, plan)?;
+        let mut users = LegUsers::with_room(alloc, counts.as_slice())?;
         for r in 0..inst.reservations() {
-            users.add_groups(Res(r), plan.groups(Res(r)))?;
+            users.keep_groups(Res(r), plan.groups(Res(r)))?;
         }
         Ok(users)
     }
@@ -52,9 +53,10 @@ impl LegUsers {
         ensures legs { IfOk result (λ made. length made ≡ legs_of inst.now) }
         ensures exact { IfOk result (λ made. (x r : ℕ) → has_user made x r ≡ (nat_lt r (reservations_of inst.now) && is_booked_on inst.now x r)) }
     {
-        let mut users = LegUsers::no_users(alloc, inst.legs())?;
+        let counts = counts_of_booked(alloc, inst)?;
+        let mut users = LegUsers::with_room(alloc, counts.as_slice())?;
         for r in 0..inst.reservations() {
-            users.add_path(Res(r), inst.res(Res(r)).path.as_slice())?;
+            users.keep_path(Res(r), inst.res(Res(r)).path.as_slice())?;
         }
         Ok(users)
     }
@@ -70,7 +72,7 @@ impl LegUsers {
         self.legs[leg.0 as usize].items()
     }
 
-    /// Keeps a reservation for a leg, too, and tells whether it was not kept before. After an error,
+    /// Keeps a reservation for a leg, too, and gives whether it was not kept before. After an error,
     /// which is out of memory, nothing has changed.
     pub fn add(&mut self, leg: Leg, res: Res) -> Result<bool, NoMem>
         requires { leg.0 < length self.old }
@@ -79,13 +81,25 @@ impl LegUsers {
         ensures added { IfOk result (λ added. added ≡ not (has_user self.old leg.0 res.0)) }
         ensures err { OnErr result (self.new ≡ self.old) }
     {
-        let kept = &mut self.legs[leg.0 as usize];
-        if kept.has(res) {
+        if self.legs[leg.0 as usize].has(res) {
             return Ok(false);
         }
+        self.keep(leg, res)?;
+        Ok(true)
+    }
+
+    /// Keeps a reservation for a leg, too, which may be kept for it already. After an error, which is
+    /// out of memory, nothing has changed.
+    fn keep(&mut self, leg: Leg, res: Res) -> Result<(), NoMem>
+        requires { leg.0 < length self.old }
+        ensures legs { length self.new ≡ length self.old }
+        ensures ok { OnOk result (has_user self.new ≡ with_user leg.0 res.0 (has_user self.old)) }
+        ensures err { OnErr result (self.new ≡ self.old) }
+    {
+        let kept = &mut self.legs[leg.0 as usize];
         kept.reserve(1)?;
         kept.put(res);
-        Ok(true)
+        Ok(())
     }
 
     /// Keeps a reservation for a leg no more. It takes no memory.
@@ -97,38 +111,88 @@ impl LegUsers {
         self.legs[leg.0 as usize].take(res);
     }
 
-    /// No reservations for so many legs.
-    fn no_users(alloc: Global, legs: u32) -> Result<LegUsers, NoMem>
-        ensures { IfOk result (λ made. made ≡ replicate legs []) }
+    /// No reservations for each leg, with room for so many.
+    fn with_room(alloc: Global, counts: &[u32]) -> Result<LegUsers, NoMem>
+        ensures { IfOk result (λ made. made ≡ replicate (length counts.now) []) }
     {
-        let mut lists = Vec::with_capacity(alloc, legs as usize)?;
-        for _ in 0..legs {
-            lists.push(KeptSet::new(alloc))?;
+        let mut lists = Vec::with_capacity(alloc, counts.len())?;
+        for count in counts {
+            let mut kept = KeptSet::new(alloc);
+            kept.reserve(*count as usize)?;
+            lists.push(kept)?;
         }
         Ok(LegUsers { legs: lists })
     }
 
     /// Keeps a reservation for each leg of the paths of some groups.
-    fn add_groups(&mut self, res: Res, groups: &[Group]) -> Result<(), NoMem>
+    fn keep_groups(&mut self, res: Res, groups: &[Group]) -> Result<(), NoMem>
         requires { All (λ group. IsPathOf (length self.old) group.path) groups.now }
         ensures legs { length self.new ≡ length self.old }
         ensures ok { OnOk result ((x r : ℕ) → has_user self.new x r ≡ has_user self.old x r || ((r == res.0) && list_any (has_leg x) groups.now)) }
     {
         for group in groups {
-            self.add_path(res, group.path.as_slice())?;
+            self.keep_path(res, group.path.as_slice())?;
         }
         Ok(())
     }
 
     /// Keeps a reservation for each leg of a path.
-    fn add_path(&mut self, res: Res, path: &[(Leg, Cabin)]) -> Result<(), NoMem>
+    fn keep_path(&mut self, res: Res, path: &[(Leg, Cabin)]) -> Result<(), NoMem>
         requires { IsPathOf (length self.old) path.now }
         ensures legs { length self.new ≡ length self.old }
         ensures ok { OnOk result ((x r : ℕ) → has_user self.new x r ≡ has_user self.old x r || ((r == res.0) && list_any (λ pair. pair.0.0 == x) path.now)) }
     {
         for pair in path {
-            self.add(pair.0, res)?;
+            self.keep(pair.0, res)?;
         }
         Ok(())
+    }
+}
+
+/// How many reservations may use each leg: how often it stands in the paths of the groups.
+fn counts_of_groups<P: ReadPlan>(
+    alloc: Global,
+    inst: &Instance,
+    plan: &P,
+) -> Result<Vec<u32>, NoMem>
+    requires { IsPlanFor inst.now (P.plan_of plan.now) }
+    ensures { IfOk result (λ counts. length counts.items ≡ legs_of inst.now) }
+{
+    let mut counts = vec![in alloc; 0; inst.legs() as usize]?;
+    for r in 0..inst.reservations() {
+        count_groups(&mut counts, plan.groups(Res(r)));
+    }
+    Ok(counts)
+}
+
+/// How many reservations may be booked on each leg: how often it stands in the scheduled paths.
+fn counts_of_booked(alloc: Global, inst: &Instance) -> Result<Vec<u32>, NoMem>
+    ensures { IfOk result (λ counts. length counts.items ≡ legs_of inst.now) }
+{
+    let mut counts = vec![in alloc; 0; inst.legs() as usize]?;
+    for r in 0..inst.reservations() {
+        count_path(&mut counts, inst.res(Res(r)).path.as_slice());
+    }
+    Ok(counts)
+}
+
+/// Counts each leg of the paths of some groups.
+fn count_groups(counts: &mut Vec<u32>, groups: &[Group])
+    requires { All (λ group. IsPathOf (length counts.old.items) group.path) groups.now }
+    ensures { length counts.new.items ≡ length counts.old.items }
+{
+    for group in groups {
+        count_path(counts, group.path.as_slice());
+    }
+}
+
+/// Counts each leg of a path, up to the greatest number.
+fn count_path(counts: &mut Vec<u32>, path: &[(Leg, Cabin)])
+    requires { IsPathOf (length counts.old.items) path.now }
+    ensures { length counts.new.items ≡ length counts.old.items }
+{
+    for pair in path {
+        let leg = pair.0.0 as usize;
+        counts[leg] = counts[leg].saturating_add(1);
     }
 }

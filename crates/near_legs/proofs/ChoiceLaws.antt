@@ -19,7 +19,7 @@ use Rattle.plan_moves.specs.declared.moves.Move.{Move}
 use Rattle.plan_moves.specs.declared.moves.Step.TheVariants.{Push, Tidy}
 use Rattle.desk_rules.specs.Numbers.{numbers}
 use Rattle.desk_rules.specs.Rotations.{dep}
-use Rattle.near_moves.specs.Places.{plane, minute, flier, is_restorable, run}
+use Rattle.near_moves.specs.MoveParts.{plane, minute, flier, is_restorable, run}
 use Rattle.near_moves.specs.LegMoves.{retiming, retimings, exchange, exchanges, exchange_moments, comes_round, run_lengths, dropping, droppings, cancelling, brings_back, restoring_alone, restoring_both, restorings, handing, handing_step}
 use Rattle.near_moves.specs.Near.{move_of, step_in_time}
 use Rattle.near_legs.specs.declared.lists.By.TheVariants.{AirportPair}

@@ -1,4 +1,4 @@
-pub mod BehindLaws
+pub mod AfterLaws
 pub mod RunLaws
 pub mod ListsLaws
 pub mod ChoiceLaws

@@ -27,7 +27,7 @@ use Rattle.desk_rules.specs.Words.{Flies}
 use Rattle.desk_rules.proofs.HourLaws.{length-numbers}
 use Rattle.desk_rules.proofs.MaintenanceLaws.{flies-holds, flies-from, dep-is}
 use Rattle.desk_model.proofs.GroupPlans.{numbers-at}
-use Rattle.near_moves.specs.Places.{flier, family_of}
+use Rattle.near_moves.specs.MoveParts.{flier, family_of}
 use Rattle.near_moves.specs.LegMoves.{exchange_moments}
 use Rattle.near_moves.specs.Words.{DepartsOneAt}
 use Rattle.near_moves.proofs.ListLaws.{Source, contains_map, map_contains, contains_filter, filter_contains, filter_yes, filter_no, numbers_each, numbers_within, same_ordered, less_trans, less_itself}

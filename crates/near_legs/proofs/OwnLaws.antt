@@ -10,7 +10,7 @@ use Rattle.desk_units.specs.declared.numbers.Leg.{Leg}
 use Rattle.desk_units.specs.declared.numbers.Plane.{Plane}
 use Rattle.desk_data.specs.Situation.{Situation, legs_of, planes_of}
 use Rattle.desk_data.specs.PlanRows.{PlanRows, row_at}
-use Rattle.near_moves.specs.Places.{flier, family_of, is_run}
+use Rattle.near_moves.specs.MoveParts.{flier, family_of, is_run}
 use Rattle.near_moves.specs.Units.{swapped, restored, handed}
 use Rattle.near_moves.specs.LegMoves.{later_of_family, run_lengths}
 use Rattle.near_moves.proofs.ListLaws.{All_flat_map}

@@ -1,4 +1,4 @@
--- Runs, from the leg behind each leg.
+-- Runs, from the leg after each leg.
 use Rattle.std.proofs.Common.{◌≡◌, ℕ, zero, suc, ◌+◌, ◌-◌, ◌<◌, ◌≤◌, min, Bool, true, false, ◌&&◌, ◌||◌, not, leb, eqb, List, [], ◌∷◌, ◌++◌, length, get_or, map, take, drop, refl, sym, ap, subst, ◌∙◌, arith}
 use Rattle.std.specs.Prelude.{Option, Some, None, is_none, is_some}
 use Rattle.std.specs.Option.{ForSome}
@@ -11,13 +11,13 @@ use Rattle.std.proofs.lemmas.List.Folds.{list_all-map}
 use Rattle.desk_units.specs.declared.numbers.Leg.{Leg}
 use Rattle.desk_data.specs.Situation.{Situation, legs_of, leg_at, fixed}
 use Rattle.desk_data.specs.PlanRows.{PlanRows}
-use Rattle.near_moves.specs.Places.{legs_from, run, is_run}
+use Rattle.near_moves.specs.MoveParts.{legs_from, run, is_run}
 use Rattle.near_moves.specs.LegMoves.{run_end, comes_round}
 use Rattle.near_moves.proofs.ListLaws.{for_some}
-use Rattle.near_legs.specs.LegTables.{AreBehind, from_next}
+use Rattle.near_legs.specs.LegTables.{AreAfter, from_next}
 use Rattle.near_legs.specs.Choices.{IsFlownLeg}
 
--- ---- legs that are taken one behind another
+-- ---- legs that are taken one after another
 
 -- the legs so far, and those from the next one on, are the legs from leg x on
 pub record IsOnWay (I : Situation) (P : PlanRows) (x : ℕ) (legs : List Leg) (next : Option Leg) (n : ℕ) : Type 0 where
@@ -29,10 +29,10 @@ pub record IsOnWay (I : Situation) (P : PlanRows) (x : ℕ) (legs : List Leg) (n
 pub way-starts : (I : Situation) (P : PlanRows) (leg : Leg) → IsFlownLeg I P leg.0 → IsOnWay I P leg.0 [] (Some leg) 0
 way-starts I P leg flown = record { legs_are = refl; count = refl; within = All-nil (λ (l : Leg). l.0 < legs_of I); flown = for_some (λ (l : Leg). IsFlownLeg I P l.0) leg flown }
 
-pub next-flown : (I : Situation) (P : PlanRows) (behind : List (Option Leg)) (x : ℕ) → AreBehind I P behind → ForSome (get_or behind x None) (λ l. IsFlownLeg I P l.0)
+pub next-flown : (I : Situation) (P : PlanRows) (behind : List (Option Leg)) (x : ℕ) → AreAfter I P behind → ForSome (get_or behind x None) (λ l. IsFlownLeg I P l.0)
 next-flown I P behind x are = λ next at. record { within = are.within x next at; flown = are.flown x next at }
 
-pub way-goes : (I : Situation) (P : PlanRows) (x : ℕ) (legs : List Leg) (leg : Leg) (n : ℕ) (behind : List (Option Leg)) → AreBehind I P behind → IsOnWay I P x legs (Some leg) n → IsOnWay I P x (legs ++ leg ∷ []) (get_or behind leg.0 None) (n + 1)
+pub way-goes : (I : Situation) (P : PlanRows) (x : ℕ) (legs : List Leg) (leg : Leg) (n : ℕ) (behind : List (Option Leg)) → AreAfter I P behind → IsOnWay I P x legs (Some leg) n → IsOnWay I P x (legs ++ leg ∷ []) (get_or behind leg.0 None) (n + 1)
 way-goes I P x legs leg n behind are way =
     let own : IsFlownLeg I P leg.0 = way.flown leg refl in
     let here : legs_from I P leg.0 ≡ leg.0 ∷ from_next I P (get_or behind leg.0 None) = are.each leg.0 own.within own.flown in
@@ -101,7 +101,7 @@ end-step I P k x (Some next) flown lt here more =
       rest = ap (drop (suc k)) here ∙ end.rest ∙ ap (legs_from I P) (sym at);
     }
 
-end-of : (I : Situation) (P : PlanRows) (behind : List (Option Leg)) (k x : ℕ) → AreBehind I P behind → IsFlownLeg I P x → k < length (legs_from I P x) → IsEnd I P x k
+end-of : (I : Situation) (P : PlanRows) (behind : List (Option Leg)) (k x : ℕ) → AreAfter I P behind → IsFlownLeg I P x → k < length (legs_from I P x) → IsEnd I P x k
 end-of I P behind zero x are own lt =
     let here : legs_from I P x ≡ x ∷ from_next I P (get_or behind x None) = are.each x own.within own.flown in
     let first : get_or (legs_from I P x) 0 0 ≡ x = ap (λ (xs : List ℕ). get_or xs 0 0) here in
@@ -112,7 +112,7 @@ end-of I P behind (suc k) x are own lt =
 differ : (n k : ℕ) → k < n → eqb n k ≡ false
 differ n k h = grind (arith, nat_tests)
 
--- so many legs are all where the last of them has none behind it
+-- so many legs are all where the last of them has none after it
 last_test : (I : Situation) (P : PlanRows) (next : Option Leg) (n k y : ℕ) (ends : List ℕ) → 1 ≤ k → ForSome next (λ l. (l.0 < legs_of I) × (0 < length (legs_from I P l.0))) → ends ≡ y ∷ from_next I P next → length ends ≡ n - (k - 1) → eqb n k ≡ is_none next
 last_test I P None n k y ends some flown is long = let one : length ends ≡ 1 = ap length is in eq-eqb n k (omega (arith, one, long, some))
 last_test I P (Some next) n k y ends some flown is long =
@@ -120,13 +120,13 @@ last_test I P (Some next) n k y ends some flown is long =
     let full : 0 < length (legs_from I P next.0) = (flown next refl).1 in
     differ n k (omega (arith, more, full, long, some))
 
-last_flown : (I : Situation) (P : PlanRows) (behind : List (Option Leg)) (y : ℕ) → AreBehind I P behind → ForSome (get_or behind y None) (λ l. (l.0 < legs_of I) × (0 < length (legs_from I P l.0)))
+last_flown : (I : Situation) (P : PlanRows) (behind : List (Option Leg)) (y : ℕ) → AreAfter I P behind → ForSome (get_or behind y None) (λ l. (l.0 < legs_of I) × (0 < length (legs_from I P l.0)))
 last_flown I P behind y are = λ next at.
     let own : legs_from I P next.0 ≡ next.0 ∷ from_next I P (get_or behind next.0 None) = are.each next.0 (are.within y next at) (are.flown y next at) in
     let long : length (legs_from I P next.0) ≡ suc (length (from_next I P (get_or behind next.0 None))) = ap length own in
     (are.within y next at, omega (arith, long))
 
-pub whole_test : (I : Situation) (P : PlanRows) (behind : List (Option Leg)) (x k y : ℕ) → AreBehind I P behind → IsFlownLeg I P x → 1 ≤ k → k ≤ length (legs_from I P x) → get_or (legs_from I P x) (k - 1) 0 ≡ y → eqb (length (legs_from I P x)) k ≡ is_none (get_or behind y None)
+pub whole_test : (I : Situation) (P : PlanRows) (behind : List (Option Leg)) (x k y : ℕ) → AreAfter I P behind → IsFlownLeg I P x → 1 ≤ k → k ≤ length (legs_from I P x) → get_or (legs_from I P x) (k - 1) 0 ≡ y → eqb (length (legs_from I P x)) k ≡ is_none (get_or behind y None)
 whole_test I P behind x k y are own some enough at =
     let end = end-of I P behind (k - 1) x are own (omega (arith, some, enough)) in
     let last : IsFlownLeg I P y = subst (IsFlownLeg I P) at end.leg in
@@ -147,7 +147,7 @@ end_is I P x k some enough =
     get_or-take k (legs_from I P x) (k - 1) x (omega (arith, some))
     ∙ get_or_default (legs_from I P x) (k - 1) x 0 (omega (arith, some, enough))
 
-pub comes_round-of : (I : Situation) (P : PlanRows) (behind : List (Option Leg)) (x k : ℕ) (legs : List Leg) (last : Leg) → AreBehind I P behind → IsFlownLeg I P x → 1 ≤ k → k ≤ 4 → map (λ (l : Leg). l.0) legs ≡ run I P x 4 → is_run I P x k ≡ true → k ≤ length legs → last ≡ get_or legs (k - 1) last
+pub comes_round-of : (I : Situation) (P : PlanRows) (behind : List (Option Leg)) (x k : ℕ) (legs : List Leg) (last : Leg) → AreAfter I P behind → IsFlownLeg I P x → 1 ≤ k → k ≤ 4 → map (λ (l : Leg). l.0) legs ≡ run I P x 4 → is_run I P x k ≡ true → k ≤ length legs → last ≡ get_or legs (k - 1) last
     → comes_round I P x k ≡ ((eqb (leg_at I last.0).dest.0 (leg_at I x).origin.0) || is_none (get_or behind last.0 None))
 unfolding comes_round
 comes_round-of I P behind x k legs last are own some few are_legs runs enough at =
@@ -170,7 +170,7 @@ run-enough I P x k legs few are runs =
     leb-true k (length legs) (and_parts (leb k (length legs)) (list_all (λ (l : Leg). not (fixed I l.0)) (take k legs)) (sym (is_run-of I P x k legs few are) ∙ runs)).0
 
 -- the same, of the leg at the last place whatever stands for none there
-pub comes_round-at : (I : Situation) (P : PlanRows) (behind : List (Option Leg)) (x k : ℕ) (legs : List Leg) (d : Leg) → AreBehind I P behind → IsFlownLeg I P x → 1 ≤ k → k ≤ 4 → map (λ (l : Leg). l.0) legs ≡ run I P x 4 → is_run I P x k ≡ true
+pub comes_round-at : (I : Situation) (P : PlanRows) (behind : List (Option Leg)) (x k : ℕ) (legs : List Leg) (d : Leg) → AreAfter I P behind → IsFlownLeg I P x → 1 ≤ k → k ≤ 4 → map (λ (l : Leg). l.0) legs ≡ run I P x 4 → is_run I P x k ≡ true
     → comes_round I P x k ≡ ((eqb (leg_at I (get_or legs (k - 1) d).0).dest.0 (leg_at I x).origin.0) || is_none (get_or behind (get_or legs (k - 1) d).0 None))
 comes_round-at I P behind x k legs d are own some few are_legs runs =
     let enough = run-enough I P x k legs few are_legs runs in

@@ -14,8 +14,8 @@ use Rattle.plan_moves.specs.declared.moves.Move.{Move}
 use Rattle.plan_moves.specs.Fits.{Fits}
 use Rattle.desk_rules.specs.Numbers.{numbers}
 use Rattle.desk_rules.proofs.HourLaws.{length-numbers}
-use Rattle.near_moves.specs.Places.{is_movable_flown, is_restorable, family_of, is_run}
-use Rattle.near_moves.specs.Units.{Unit_, retimed, swapped, dropped, restored, handed, owner}
+use Rattle.near_moves.specs.MoveParts.{is_movable_flown, is_restorable, family_of, is_run}
+use Rattle.near_moves.specs.Units.{MoveUnit, retimed, swapped, dropped, restored, handed, owner}
 use Rattle.near_moves.specs.LegMoves.{retimed_units, later_of_family, swapped_units, dropped_units, restored_units, run_lengths, others_of_family, handed_units}
 use Rattle.near_moves.specs.Near.{leg_units, of_shard, moves_of, unit_moves}
 use Rattle.near_moves.proofs.ListLaws.{drop_numbers, All_flat_map, for_none, for_some}
@@ -24,33 +24,33 @@ use Rattle.near_legs.specs.declared.unit.LegUnit.{LegUnit}
 use Rattle.near_legs.specs.declared.neighbourhood.Neighbourhood.{Neighbourhood}
 use Rattle.near_legs.specs.declared.neighbourhood.Neighbourhood.TheVariants as neighbourhood
 use Rattle.near_legs.specs.Choices.{unit_of, IsLegUnit}
-use Rattle.near_legs.specs.Walk.{owners, handed_of_run, owned_in, rest_of, next_neighbourhood, behind_neighbourhood, UnitWalk, units_left, IsUnitWalk, MoveWalk, left, rank, places_left, is_at_end, at_neighbourhood, at_next_neighbourhood, IsNextUnit}
+use Rattle.near_legs.specs.Walk.{owners, handed_of_run, owned_in, rest_of, next_neighbourhood, after_neighbourhood, UnitWalk, units_left, IsUnitWalk, MoveWalk, left, rank, places_left, is_at_end, at_neighbourhood, at_next_neighbourhood, IsNextUnit}
 
 -- ---- the units of a neighbourhood, in a shard
 
-keeps : (s n o : ℕ) (us : List Unit_) → All (λ u. owner u ≡ o) us → eqb (o % n) s ≡ true → filter (λ u. eqb (owner u % n) s) us ≡ us
+keeps : (s n o : ℕ) (us : List MoveUnit) → All (λ u. owner u ≡ o) us → eqb (o % n) s ≡ true → filter (λ u. eqb (owner u % n) s) us ≡ us
 keeps s n o [] all here = refl
 keeps s n o (u ∷ us) all here =
     let own : eqb (owner u % n) s ≡ true = ap (λ (k : ℕ). eqb (k % n) s) (All-head (λ v. owner v ≡ o) u us all) ∙ here in
     rw own (ap (λ vs. u ∷ vs) (keeps s n o us (All-tail (λ v. owner v ≡ o) u us all) here))
 
-drops : (s n o : ℕ) (us : List Unit_) → All (λ u. owner u ≡ o) us → eqb (o % n) s ≡ false → filter (λ u. eqb (owner u % n) s) us ≡ []
+drops : (s n o : ℕ) (us : List MoveUnit) → All (λ u. owner u ≡ o) us → eqb (o % n) s ≡ false → filter (λ u. eqb (owner u % n) s) us ≡ []
 drops s n o [] all gone = refl
 drops s n o (u ∷ us) all gone =
     let own : eqb (owner u % n) s ≡ false = ap (λ (k : ℕ). eqb (k % n) s) (All-head (λ v. owner v ≡ o) u us all) ∙ gone in
     rw own (drops s n o us (All-tail (λ v. owner v ≡ o) u us all) gone)
 
-same_owner : (s n o : ℕ) (us : List Unit_) → All (λ u. owner u ≡ o) us → filter (λ u. eqb (owner u % n) s) us ≡ cond (eqb (o % n) s) us []
+same_owner : (s n o : ℕ) (us : List MoveUnit) → All (λ u. owner u ≡ o) us → filter (λ u. eqb (owner u % n) s) us ≡ cond (eqb (o % n) s) us []
 same_owner s n o us all = elim (cases_Bool (eqb (o % n) s)) [
   | inl here ↦ keeps s n o us all here ∙ sym (ap (λ (b : Bool). cond b us []) here)
   | inr gone ↦ drops s n o us all gone ∙ sym (ap (λ (b : Bool). cond b us []) gone)
 ]
 
-no_units : (b : Bool) → cond b (let us : List Unit_ = [] in us) [] ≡ []
+no_units : (b : Bool) → cond b (let us : List MoveUnit = [] in us) [] ≡ []
 no_units true = refl
 no_units false = refl
 
-shard-step : (h : ℕ → List Unit_) (t : ℕ → Bool) (s n o : ℕ) (xs : List ℕ) → All (λ u. owner u ≡ o) (h o) → (b : Bool) → filter (λ u. eqb (owner u % n) s) (flat_map h (filter t xs)) ≡ flat_map (λ k. cond (eqb (k % n) s) (cond (t k) (h k) []) []) xs
+shard-step : (h : ℕ → List MoveUnit) (t : ℕ → Bool) (s n o : ℕ) (xs : List ℕ) → All (λ u. owner u ≡ o) (h o) → (b : Bool) → filter (λ u. eqb (owner u % n) s) (flat_map h (filter t xs)) ≡ flat_map (λ k. cond (eqb (k % n) s) (cond (t k) (h k) []) []) xs
     → filter (λ u. eqb (owner u % n) s) (flat_map h (cond b (o ∷ filter t xs) (filter t xs))) ≡ cond (eqb (o % n) s) (cond b (h o) []) [] ++ flat_map (λ k. cond (eqb (k % n) s) (cond (t k) (h k) []) []) xs
 shard-step h t s n o xs own true more =
     filter-append (λ u. eqb (owner u % n) s) (h o) (flat_map h (filter t xs))
@@ -59,13 +59,13 @@ shard-step h t s n o xs own true more =
 shard-step h t s n o xs own false more =
     more ∙ ap (λ us. us ++ flat_map (λ k. cond (eqb (k % n) s) (cond (t k) (h k) []) []) xs) (sym (no_units (eqb (o % n) s)))
 
-neighbourhood-shard : (h : ℕ → List Unit_) (t : ℕ → Bool) (s n : ℕ) → ((o : ℕ) → All (λ u. owner u ≡ o) (h o)) → (xs : List ℕ) → filter (λ u. eqb (owner u % n) s) (flat_map h (filter t xs)) ≡ flat_map (λ o. cond (eqb (o % n) s) (cond (t o) (h o) []) []) xs
+neighbourhood-shard : (h : ℕ → List MoveUnit) (t : ℕ → Bool) (s n : ℕ) → ((o : ℕ) → All (λ u. owner u ≡ o) (h o)) → (xs : List ℕ) → filter (λ u. eqb (owner u % n) s) (flat_map h (filter t xs)) ≡ flat_map (λ o. cond (eqb (o % n) s) (cond (t o) (h o) []) []) xs
 neighbourhood-shard h t s n own [] = refl
 neighbourhood-shard h t s n own (o ∷ xs) = shard-step h t s n o xs (own o) (t o) (neighbourhood-shard h t s n own xs)
 
 -- ---- all of them, at the start
 
-one_owner : (f : ℕ → Unit_) (o : ℕ) → owner (f o) ≡ o → All (λ u. owner u ≡ o) (f o ∷ [])
+one_owner : (f : ℕ → MoveUnit) (o : ℕ) → owner (f o) ≡ o → All (λ u. owner u ≡ o) (f o ∷ [])
 one_owner f o is = All-cons (λ u. owner u ≡ o) (f o) [] is (All-nil (λ u. owner u ≡ o))
 
 retimed-rest : (I : Situation) (P : PlanRows) (s n : ℕ) → of_shard s n (retimed_units I P) ≡ rest_of I P s n neighbourhood.Retimed 0
@@ -96,13 +96,13 @@ handed-rest I P s n =
     neighbourhood-shard (λ x. flat_map (handed_of_run I P x) (filter (is_run I P x) run_lengths)) (is_movable_flown I P) s n
     (λ o. All_flat_map (λ u. owner u ≡ o) (handed_of_run I P o) (filter (is_run I P o) run_lengths) (λ k d lt. All-map (λ u. owner u ≡ o) (handed o _) (others_of_family I P o) (λ i e within. refl))) (numbers (legs_of I))
 
-five : (a b d e f : List Unit_) → a ++ b ++ d ++ e ++ f ≡ a ++ (b ++ (d ++ (e ++ f)))
+five : (a b d e f : List MoveUnit) → a ++ b ++ d ++ e ++ f ≡ a ++ (b ++ (d ++ (e ++ f)))
 five a b d e f = simp append_assoc
 
-pub start-left : (I : Situation) (P : PlanRows) (s n : ℕ) → rest_of I P s n neighbourhood.Retimed 0 ++ behind_neighbourhood I P s n neighbourhood.Retimed ≡ of_shard s n (leg_units I P)
+pub start-left : (I : Situation) (P : PlanRows) (s n : ℕ) → rest_of I P s n neighbourhood.Retimed 0 ++ after_neighbourhood I P s n neighbourhood.Retimed ≡ of_shard s n (leg_units I P)
 unfolding leg_units
 start-left I P s n =
-    let q = λ (u : Unit_). eqb (owner u % n) s in
+    let q = λ (u : MoveUnit). eqb (owner u % n) s in
     let a = retimed_units I P in
     let b = swapped_units I in
     let d = dropped_units I P in
@@ -131,25 +131,25 @@ rest-end I P s n f o past = ap (flat_map (owned_in I P s n f)) (drop_all (number
 
 pub take-left : (I : Situation) (P : PlanRows) (W : UnitWalk) (made : List LegUnit) → W.at_hand ≡ [] → W.owner < owners I W.neighbourhood → map unit_of made ≡ owned_in I P W.shard W.shards W.neighbourhood W.owner → units_left I P (record W { at_hand = made; owner = W.owner + 1 }) ≡ units_left I P W
 take-left I P W made empty lt is =
-    let behind = behind_neighbourhood I P W.shard W.shards W.neighbourhood in
+    let behind = after_neighbourhood I P W.shard W.shards W.neighbourhood in
     let rest = rest_of I P W.shard W.shards W.neighbourhood (W.owner + 1) in
     ap (λ us. us ++ (rest ++ behind)) is
     ∙ sym (append_assoc (owned_in I P W.shard W.shards W.neighbourhood W.owner) rest behind)
     ∙ ap (λ us. us ++ behind) (sym (rest-at I P W.shard W.shards W.neighbourhood W.owner lt))
     ∙ ap (λ us. map unit_of us ++ (rest_of I P W.shard W.shards W.neighbourhood W.owner ++ behind)) (sym empty)
 
-behind-next : (I : Situation) (P : PlanRows) (s n : ℕ) (f next : Neighbourhood) → next_neighbourhood f ≡ Some next → behind_neighbourhood I P s n f ≡ rest_of I P s n next 0 ++ behind_neighbourhood I P s n next
-behind-next I P s n neighbourhood.Retimed next is = let same : neighbourhood.Swapped ≡ next = cc in ap (λ g. rest_of I P s n g 0 ++ behind_neighbourhood I P s n g) same
-behind-next I P s n neighbourhood.Swapped next is = let same : neighbourhood.Dropped ≡ next = cc in ap (λ g. rest_of I P s n g 0 ++ behind_neighbourhood I P s n g) same
-behind-next I P s n neighbourhood.Dropped next is = let same : neighbourhood.Restored ≡ next = cc in ap (λ g. rest_of I P s n g 0 ++ behind_neighbourhood I P s n g) same
-behind-next I P s n neighbourhood.Restored next is = let same : neighbourhood.Handed ≡ next = cc in sym (append-nil (rest_of I P s n neighbourhood.Handed 0)) ∙ ap (λ g. rest_of I P s n g 0 ++ behind_neighbourhood I P s n g) same
+behind-next : (I : Situation) (P : PlanRows) (s n : ℕ) (f next : Neighbourhood) → next_neighbourhood f ≡ Some next → after_neighbourhood I P s n f ≡ rest_of I P s n next 0 ++ after_neighbourhood I P s n next
+behind-next I P s n neighbourhood.Retimed next is = let same : neighbourhood.Swapped ≡ next = cc in ap (λ g. rest_of I P s n g 0 ++ after_neighbourhood I P s n g) same
+behind-next I P s n neighbourhood.Swapped next is = let same : neighbourhood.Dropped ≡ next = cc in ap (λ g. rest_of I P s n g 0 ++ after_neighbourhood I P s n g) same
+behind-next I P s n neighbourhood.Dropped next is = let same : neighbourhood.Restored ≡ next = cc in ap (λ g. rest_of I P s n g 0 ++ after_neighbourhood I P s n g) same
+behind-next I P s n neighbourhood.Restored next is = let same : neighbourhood.Handed ≡ next = cc in sym (append-nil (rest_of I P s n neighbourhood.Handed 0)) ∙ ap (λ g. rest_of I P s n g 0 ++ after_neighbourhood I P s n g) same
 behind-next I P s n neighbourhood.Handed next is = absurd cc
 
 next-left-at : (I : Situation) (P : PlanRows) (W : UnitWalk) (o : Option Neighbourhood) → next_neighbourhood W.neighbourhood ≡ o → owners I W.neighbourhood ≤ W.owner → units_left I P (at_neighbourhood W o) ≡ units_left I P W
 next-left-at I P W None is past = refl
 next-left-at I P W (Some next) is past =
     ap (λ us. map unit_of W.at_hand ++ us)
-    (sym (behind-next I P W.shard W.shards W.neighbourhood next is) ∙ ap (λ us. us ++ behind_neighbourhood I P W.shard W.shards W.neighbourhood) (sym (rest-end I P W.shard W.shards W.neighbourhood W.owner past)))
+    (sym (behind-next I P W.shard W.shards W.neighbourhood next is) ∙ ap (λ us. us ++ after_neighbourhood I P W.shard W.shards W.neighbourhood) (sym (rest-end I P W.shard W.shards W.neighbourhood W.owner past)))
 
 pub next-left : (I : Situation) (P : PlanRows) (W : UnitWalk) → owners I W.neighbourhood ≤ W.owner → units_left I P (at_next_neighbourhood W) ≡ units_left I P W
 next-left I P W past = next-left-at I P W (next_neighbourhood W.neighbourhood) refl past
@@ -195,7 +195,7 @@ take-nearer I W made lt few =
 
 -- ---- what is at hand
 
-behind-none : (I : Situation) (P : PlanRows) (s n : ℕ) (f : Neighbourhood) → is_none (next_neighbourhood f) ≡ true → behind_neighbourhood I P s n f ≡ []
+behind-none : (I : Situation) (P : PlanRows) (s n : ℕ) (f : Neighbourhood) → is_none (next_neighbourhood f) ≡ true → after_neighbourhood I P s n f ≡ []
 behind-none I P s n neighbourhood.Retimed h = absurd (true≢false (sym h))
 behind-none I P s n neighbourhood.Swapped h = absurd (true≢false (sym h))
 behind-none I P s n neighbourhood.Dropped h = absurd (true≢false (sym h))
@@ -205,8 +205,8 @@ behind-none I P s n neighbourhood.Handed h = refl
 pub end-left : (I : Situation) (P : PlanRows) (W : UnitWalk) → is_at_end I W ≡ true → W.at_hand ≡ [] → units_left I P W ≡ []
 end-left I P W done empty =
     let parts = and_parts (leb (owners I W.neighbourhood) W.owner) (is_none (next_neighbourhood W.neighbourhood)) done in
-    ap (λ us. map unit_of us ++ (rest_of I P W.shard W.shards W.neighbourhood W.owner ++ behind_neighbourhood I P W.shard W.shards W.neighbourhood)) empty
-    ∙ ap (λ us. us ++ behind_neighbourhood I P W.shard W.shards W.neighbourhood) (rest-end I P W.shard W.shards W.neighbourhood W.owner (leb-true (owners I W.neighbourhood) W.owner parts.0))
+    ap (λ us. map unit_of us ++ (rest_of I P W.shard W.shards W.neighbourhood W.owner ++ after_neighbourhood I P W.shard W.shards W.neighbourhood)) empty
+    ∙ ap (λ us. us ++ after_neighbourhood I P W.shard W.shards W.neighbourhood) (rest-end I P W.shard W.shards W.neighbourhood W.owner (leb-true (owners I W.neighbourhood) W.owner parts.0))
     ∙ behind-none I P W.shard W.shards W.neighbourhood parts.1
 
 next-some : (I : Situation) (P : PlanRows) (u : LegUnit) (xs : List LegUnit) → All (IsLegUnit I P) xs → u ∷ [] ≡ take 1 xs → IsLegUnit I P u × (xs ≡ u ∷ drop 1 xs)
@@ -252,13 +252,13 @@ given-fit I old new (Some m) rest is fits =
     let all : All (Fits I) (m ∷ (reverse new ++ rest)) = subst (All (Fits I)) same fits in
     (All-tail (Fits I) m (reverse new ++ rest) all, for_some (Fits I) m (All-head (Fits I) m (reverse new ++ rest) all))
 
-pub start-fits : (I : Situation) (P : PlanRows) (s n : ℕ) (us : List Unit_) → IsPlanFor I P → us ≡ of_shard s n (leg_units I P) → All (Fits I) (moves_of I P us)
+pub start-fits : (I : Situation) (P : PlanRows) (s n : ℕ) (us : List MoveUnit) → IsPlanFor I P → us ≡ of_shard s n (leg_units I P) → All (Fits I) (moves_of I P us)
 start-fits I P s n us plan is = subst (λ vs. All (Fits I) (moves_of I P vs)) (sym is) (some-fit I P (λ u. eqb (owner u % n) s) plan)
 
--- the moves of the unit at hand, and of those behind it
+-- the moves of the unit at hand, and of those after it
 made-left : (I : Situation) (P : PlanRows) (W : UnitWalk) (u : LegUnit) → W.at_hand ≡ u ∷ drop 1 W.at_hand → moves_of I P (units_left I P W) ≡ unit_moves I P (unit_of u) ++ moves_of I P (units_left I P (record W { at_hand = drop 1 W.at_hand }))
 made-left I P W u is =
-    ap (λ (us : List LegUnit). moves_of I P (map unit_of us ++ (rest_of I P W.shard W.shards W.neighbourhood W.owner ++ behind_neighbourhood I P W.shard W.shards W.neighbourhood))) is
+    ap (λ (us : List LegUnit). moves_of I P (map unit_of us ++ (rest_of I P W.shard W.shards W.neighbourhood W.owner ++ after_neighbourhood I P W.shard W.shards W.neighbourhood))) is
 
 pub made-fit : (I : Situation) (P : PlanRows) (old : MoveWalk) (W S : UnitWalk) (u : LegUnit) (made : List Move) → All (Fits I) (left I P old) → old.made ≡ [] → units_left I P W ≡ units_left I P old.units → W.at_hand ≡ u ∷ drop 1 W.at_hand → S ≡ record W { at_hand = drop 1 W.at_hand } → made ≡ unit_moves I P (unit_of u) → All (Fits I) (made ++ moves_of I P (units_left I P S))
 made-fit I P old W S u made fits empty same next skipped is =

@@ -10,8 +10,8 @@ use Rattle.plan_moves.specs.declared.moves.Step.{Step}
 use Rattle.plan_moves.specs.declared.moves.Step.TheVariants.{Set}
 use Rattle.desk_rules.specs.Rotations.{dep}
 use Rattle.desk_rules.specs.Passengers.{is_flown}
-use Rattle.near_moves.specs.Places.{leg, minute, flown_row}
-use Rattle.near_moves.specs.Units.{Unit_, retimed, swapped, dropped, restored, handed}
+use Rattle.near_moves.specs.MoveParts.{leg, minute, flown_row}
+use Rattle.near_moves.specs.Units.{MoveUnit, retimed, swapped, dropped, restored, handed}
 use Rattle.near_moves.specs.LegMoves.{retiming, exchange, dropping, restoring_alone, restoring_both, handing}
 use Rattle.near_legs.specs.declared.unit.LegUnit.{LegUnit}
 use Rattle.near_legs.specs.declared.unit.LegUnit.TheVariants as units
@@ -19,7 +19,7 @@ use Rattle.near_legs.specs.declared.choice.Choice.{Choice}
 use Rattle.near_legs.specs.declared.choice.Choice.TheVariants.{Depart, Exchange, Drop, Alone, Both, Hand}
 
 -- the unit
-abbrev pub unit_of : LegUnit → Unit_
+abbrev pub unit_of : LegUnit → MoveUnit
 unit_of (units.Retimed leg) = retimed leg.0
 unit_of (units.Swapped first second) = swapped first.0 second.0
 unit_of (units.Dropped leg) = dropped leg.0

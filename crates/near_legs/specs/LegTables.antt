@@ -7,11 +7,11 @@ use Rattle.desk_data.specs.Situation.{Situation, legs_of, planes_of, airports_of
 use Rattle.desk_data.specs.PlanRows.{PlanRows, row_at}
 use Rattle.desk_rules.specs.Numbers.{numbers}
 use Rattle.desk_rules.specs.Passengers.{is_flown}
-use Rattle.near_moves.specs.Places.{flier, is_movable_flown, is_restorable, family_of, legs_from}
+use Rattle.near_moves.specs.MoveParts.{flier, is_movable_flown, is_restorable, family_of, legs_from}
 use Rattle.near_legs.specs.declared.lists.By.{By}
 use Rattle.near_legs.specs.declared.lists.By.TheVariants.{Aircraft, AirportPair}
 
--- ---- the leg behind a leg
+-- ---- the leg after a leg
 
 -- the legs from a leg on, where there is one
 abbrev pub from_next : Situation → PlanRows → Option Leg → List ℕ
@@ -19,7 +19,7 @@ from_next I P None = []
 from_next I P (Some leg) = legs_from I P leg.0
 
 -- of each leg that is flown, the next one on its aircraft
-pub record AreBehind (I : Situation) (P : PlanRows) (behind : List (Option Leg)) : Type 0 where
+pub record AreAfter (I : Situation) (P : PlanRows) (behind : List (Option Leg)) : Type 0 where
   pub legs : length behind ≡ legs_of I
   pub within : (x : ℕ) → ForSome (slice_index_or behind x None) (λ next. next.0 < legs_of I)
   pub flown : (x : ℕ) → ForSome (slice_index_or behind x None) (λ next. is_flown (row_at P next.0) ≡ true)
@@ -80,7 +80,7 @@ pub record Lists : Type 0 where
   pub cancelled : List (List Leg)
 
 pub record AreLists (I : Situation) (P : PlanRows) (lists : Lists) : Type 0 where
-  pub behind : AreBehind I P lists.behind
+  pub behind : AreAfter I P lists.behind
   pub families : AreFamilies I lists.families
   pub flown : AreListed (legs_of I) I P Aircraft lists.flown
   pub cancelled : AreListed (legs_of I) I P AirportPair lists.cancelled

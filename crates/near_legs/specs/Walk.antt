@@ -6,8 +6,8 @@ use Rattle.desk_data.specs.PlanRows.{PlanRows}
 use Rattle.plan_moves.specs.declared.moves.Move.{Move}
 use Rattle.plan_moves.specs.Fits.{Fits}
 use Rattle.desk_rules.specs.Numbers.{numbers}
-use Rattle.near_moves.specs.Places.{is_movable_flown, is_restorable, family_of, is_run}
-use Rattle.near_moves.specs.Units.{Unit_, retimed, swapped, dropped, restored, handed}
+use Rattle.near_moves.specs.MoveParts.{is_movable_flown, is_restorable, family_of, is_run}
+use Rattle.near_moves.specs.Units.{MoveUnit, retimed, swapped, dropped, restored, handed}
 use Rattle.near_moves.specs.LegMoves.{later_of_family, run_lengths, others_of_family}
 use Rattle.near_moves.specs.Near.{moves_of}
 use Rattle.near_legs.specs.declared.unit.LegUnit.{LegUnit}
@@ -25,11 +25,11 @@ owners I neighbourhood.Restored = legs_of I
 owners I neighbourhood.Handed = legs_of I
 
 -- what there is to hand on of the run of k legs from leg x on
-abbrev pub handed_of_run : Situation → PlanRows → ℕ → ℕ → List Unit_
+abbrev pub handed_of_run : Situation → PlanRows → ℕ → ℕ → List MoveUnit
 handed_of_run I P x k = map (handed x k) (others_of_family I P x)
 
 -- the units of an owner
-abbrev pub owned : Situation → PlanRows → Neighbourhood → ℕ → List Unit_
+abbrev pub owned : Situation → PlanRows → Neighbourhood → ℕ → List MoveUnit
 owned I P neighbourhood.Retimed x = if is_movable_flown I P x then retimed x ∷ [] else []
 owned I P neighbourhood.Swapped p = if not (plane_at I p).surface then map (swapped p) (later_of_family I p) else []
 owned I P neighbourhood.Dropped x = if is_movable_flown I P x then dropped x ∷ [] else []
@@ -37,14 +37,14 @@ owned I P neighbourhood.Restored x = if is_restorable I P x then map (restored x
 owned I P neighbourhood.Handed x = if is_movable_flown I P x then flat_map (handed_of_run I P x) (filter (is_run I P x) run_lengths) else []
 
 -- the same where the owner is of shard s of n
-abbrev pub owned_in : Situation → PlanRows → ℕ → ℕ → Neighbourhood → ℕ → List Unit_
+abbrev pub owned_in : Situation → PlanRows → ℕ → ℕ → Neighbourhood → ℕ → List MoveUnit
 owned_in I P s n f o = if o % n == s then owned I P f o else []
 
 -- the units of a neighbourhood from an owner on
-unfoldable pub rest_of : Situation → PlanRows → ℕ → ℕ → Neighbourhood → ℕ → List Unit_
+unfoldable pub rest_of : Situation → PlanRows → ℕ → ℕ → Neighbourhood → ℕ → List MoveUnit
 rest_of I P s n f o = flat_map (owned_in I P s n f) (drop o (numbers (owners I f)))
 
--- the neighbourhood behind a neighbourhood
+-- the neighbourhood after a neighbourhood
 abbrev pub next_neighbourhood : Neighbourhood → Option Neighbourhood
 next_neighbourhood neighbourhood.Retimed = Some neighbourhood.Swapped
 next_neighbourhood neighbourhood.Swapped = Some neighbourhood.Dropped
@@ -52,15 +52,15 @@ next_neighbourhood neighbourhood.Dropped = Some neighbourhood.Restored
 next_neighbourhood neighbourhood.Restored = Some neighbourhood.Handed
 next_neighbourhood neighbourhood.Handed = None
 
--- the units of the neighbourhoods behind a neighbourhood
-abbrev pub behind_neighbourhood : Situation → PlanRows → ℕ → ℕ → Neighbourhood → List Unit_
-behind_neighbourhood I P s n neighbourhood.Handed = []
-behind_neighbourhood I P s n neighbourhood.Restored = rest_of I P s n neighbourhood.Handed 0
-behind_neighbourhood I P s n neighbourhood.Dropped = rest_of I P s n neighbourhood.Restored 0 ++ rest_of I P s n neighbourhood.Handed 0
-behind_neighbourhood I P s n neighbourhood.Swapped = rest_of I P s n neighbourhood.Dropped 0 ++ (rest_of I P s n neighbourhood.Restored 0 ++ rest_of I P s n neighbourhood.Handed 0)
-behind_neighbourhood I P s n neighbourhood.Retimed = rest_of I P s n neighbourhood.Swapped 0 ++ (rest_of I P s n neighbourhood.Dropped 0 ++ (rest_of I P s n neighbourhood.Restored 0 ++ rest_of I P s n neighbourhood.Handed 0))
+-- the units of the neighbourhoods after a neighbourhood
+abbrev pub after_neighbourhood : Situation → PlanRows → ℕ → ℕ → Neighbourhood → List MoveUnit
+after_neighbourhood I P s n neighbourhood.Handed = []
+after_neighbourhood I P s n neighbourhood.Restored = rest_of I P s n neighbourhood.Handed 0
+after_neighbourhood I P s n neighbourhood.Dropped = rest_of I P s n neighbourhood.Restored 0 ++ rest_of I P s n neighbourhood.Handed 0
+after_neighbourhood I P s n neighbourhood.Swapped = rest_of I P s n neighbourhood.Dropped 0 ++ (rest_of I P s n neighbourhood.Restored 0 ++ rest_of I P s n neighbourhood.Handed 0)
+after_neighbourhood I P s n neighbourhood.Retimed = rest_of I P s n neighbourhood.Swapped 0 ++ (rest_of I P s n neighbourhood.Dropped 0 ++ (rest_of I P s n neighbourhood.Restored 0 ++ rest_of I P s n neighbourhood.Handed 0))
 
--- where a walk stands: behind the owners below one of a neighbourhood, with some units of the owner before still to give
+-- where a walk stands: after the owners below one of a neighbourhood, with some units of the owner before still to give
 pub record UnitWalk : Type 0 where
   pub lists : Lists
   pub shard : ℕ
@@ -70,8 +70,8 @@ pub record UnitWalk : Type 0 where
   pub at_hand : List LegUnit
 
 -- the units that a walk has still to give
-abbrev pub units_left : Situation → PlanRows → UnitWalk → List Unit_
-units_left I P W = map unit_of W.at_hand ++ (rest_of I P W.shard W.shards W.neighbourhood W.owner ++ behind_neighbourhood I P W.shard W.shards W.neighbourhood)
+abbrev pub units_left : Situation → PlanRows → UnitWalk → List MoveUnit
+units_left I P W = map unit_of W.at_hand ++ (rest_of I P W.shard W.shards W.neighbourhood W.owner ++ after_neighbourhood I P W.shard W.shards W.neighbourhood)
 
 -- a walk over the units near plan P
 pub record IsUnitWalk (I : Situation) (P : PlanRows) (W : UnitWalk) : Type 0 where

@@ -1,9 +1,9 @@
-//! The leg behind each leg on its aircraft.
+//! The leg after each leg on its aircraft.
 
 ghost use Rattle.std.specs.Prelude.{◌≡◌, ℕ, ◌<◌, ◌≤◌, None, IfOk, length, slice_index_or};
 ghost use Rattle.std.specs.Option.{ForSome};
 ghost use Rattle.desk_data.specs.Valid.{IsPlanFor};
-ghost use Rattle.near_legs.specs.LegTables.{AreBehind, IsInverse};
+ghost use Rattle.near_legs.specs.LegTables.{AreAfter, IsInverse};
 
 use desk_data::{Instance, Leg, NoMem};
 use plan_pages::Pages;
@@ -12,13 +12,13 @@ use std::alloc::Global;
 
 /// For each leg that is flown the next one on its aircraft, or `None` where it is the last. The legs are
 /// sorted once. The only error is out of memory.
-pub(crate) fn legs_behind(
+pub(crate) fn legs_after(
     alloc: Global,
     inst: &Instance,
     plan: &Pages,
 ) -> Result<Vec<Option<Leg>>, NoMem>
     requires { IsPlanFor inst.now plan.now }
-    ensures { IfOk result (λ behind. AreBehind inst.now plan.now behind.items) }
+    ensures { IfOk result (λ behind. AreAfter inst.now plan.now behind.items) }
 {
     let before = legs_before(alloc, plan, inst.legs())?;
     inverse(alloc, before.as_slice())

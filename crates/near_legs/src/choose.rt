@@ -65,7 +65,7 @@ fn earlier(alloc: Global, leg: Leg, earliest: Minute, departs: u32) -> Result<Ve
     Ok(all)
 }
 
-/// Puts the later departures of a leg behind others.
+/// Puts the later departures of a leg after others.
 fn add_later(leg: Leg, departs: u32, all: &mut Vec<Choice>) -> Result<(), NoMem>
     requires { departs < 52500000 }
     ensures { OnOk result (all.new.items ≡ all.old.items ++ map (later_choice leg departs) (15 ∷ 30 ∷ 60 ∷ 120 ∷ 240 ∷ [])) }

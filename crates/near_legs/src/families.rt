@@ -4,7 +4,7 @@ ghost use Rattle.std.specs.Prelude.{◌≡◌, ◌+◌, ◌<◌, [], true, All, 
 ghost use Rattle.std.specs.Option.{ForSome};
 ghost use Rattle.desk_data.specs.Situation.{plane_at, planes_of};
 ghost use Rattle.desk_rules.specs.Numbers.{numbers};
-ghost use Rattle.near_moves.specs.Places.{family_of};
+ghost use Rattle.near_moves.specs.MoveParts.{family_of};
 ghost use Rattle.near_legs.specs.LegTables.{AreFamilies};
 
 use desk_data::{Instance, NoMem, Plane};

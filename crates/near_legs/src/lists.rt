@@ -5,7 +5,7 @@ ghost use Rattle.std.specs.Option.{ForSome};
 ghost use Rattle.desk_data.specs.Situation.{legs_of};
 ghost use Rattle.desk_data.specs.PlanRows.{row_at};
 ghost use Rattle.desk_data.specs.Valid.{IsPlanFor};
-ghost use Rattle.near_moves.specs.Places.{is_movable_flown, is_restorable};
+ghost use Rattle.near_moves.specs.MoveParts.{is_movable_flown, is_restorable};
 ghost use Rattle.near_legs.specs.LegTables.{AreListed, count_of, pair_number, place};
 
 use desk_data::{Airport, Instance, Leg, NoMem, Row};

@@ -39,7 +39,7 @@ pub(crate) fn moves_of(
     Ok(moves)
 }
 
-/// Puts the move of some steps behind others, if all departures that they tell are before minute
+/// Puts the move of some steps after others, if all departures that they name are before minute
 /// 52,500,000.
 fn add_in_time(steps: Vec<Step>, moves: &mut Vec<Move>) -> Result<(), NoMem>
     ensures { OnOk result (moves.new.items ≡ moves.old.items ++ map move_of (filter (list_all step_in_time) (steps.items ∷ []))) }
@@ -50,7 +50,7 @@ fn add_in_time(steps: Vec<Step>, moves: &mut Vec<Move>) -> Result<(), NoMem>
     Ok(())
 }
 
-/// Whether the departures that some steps tell are before minute 52,500,000.
+/// Whether the departures that some steps name are before minute 52,500,000.
 fn are_in_time(steps: &[Step]) -> bool
     ensures { result ≡ list_all step_in_time steps.now }
 {

@@ -37,7 +37,7 @@ pub(crate) fn moments(
     Ok(all)
 }
 
-/// Puts the departures of some legs behind others.
+/// Puts the departures of some legs after others.
 fn add_departures(plan: &Pages, legs: &[Leg], all: &mut Vec<u32>) -> Result<(), NoMem>
     requires { All (λ leg. leg.0 < length plan.now.rows) legs.now }
     ensures { OnOk result (all.new.items ≡ all.old.items ++ map (λ leg. dep plan.now leg.0) legs.now) }

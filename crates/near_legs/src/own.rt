@@ -5,7 +5,7 @@ ghost use Rattle.std.specs.List.{flat_map};
 ghost use Rattle.desk_data.specs.Situation.{leg_at, legs_of, plane_at, planes_of};
 ghost use Rattle.desk_data.specs.PlanRows.{row_at};
 ghost use Rattle.desk_data.specs.Valid.{IsPlanFor};
-ghost use Rattle.near_moves.specs.Places.{family_of, flier, is_movable_flown, is_restorable, is_run};
+ghost use Rattle.near_moves.specs.MoveParts.{family_of, flier, is_movable_flown, is_restorable, is_run};
 ghost use Rattle.near_moves.specs.Units.{restored, swapped};
 ghost use Rattle.near_moves.specs.LegMoves.{later_of_family, run_lengths};
 ghost use Rattle.near_legs.specs.Choices.{AreInRange, IsFlownLeg, IsHandedOf, IsLegUnit, unit_of};
@@ -176,7 +176,7 @@ fn handed_runs(
     Ok(units)
 }
 
-/// Puts a run with each other aircraft of some behind others.
+/// Puts a run with each other aircraft of some after others.
 fn add_others(
     leg: Leg,
     count: u32,

@@ -1,11 +1,11 @@
-//! Legs that stand one behind another on an aircraft.
+//! Legs that follow one another on an aircraft.
 
 ghost use Rattle.std.specs.Prelude.{◌≡◌, ◌<◌, ◌≤◌, All, IfOk, map, not};
 ghost use Rattle.std.specs.List.{list_all};
 ghost use Rattle.desk_data.specs.Situation.{fixed, legs_of};
 ghost use Rattle.desk_data.specs.Valid.{IsPlanFor};
 ghost use Rattle.near_moves.specs.LegMoves.{comes_round};
-ghost use Rattle.near_moves.specs.Places.{is_run, run};
+ghost use Rattle.near_moves.specs.MoveParts.{is_run, run};
 ghost use Rattle.near_legs.specs.Choices.{IsFlownLeg};
 ghost use Rattle.near_legs.specs.LegTables.{AreLists};
 
@@ -61,7 +61,7 @@ fn are_movable(inst: &Instance, legs: &[Leg]) -> bool
     legs.iter().all(|leg| !inst.fixed(*leg))
 }
 
-/// Whether so many legs, 1 to 4, from a leg on are a run behind which the aircraft is where the leg leaves, or
+/// Whether so many legs, 1 to 4, from a leg on are a run after which the aircraft is where the leg leaves, or
 /// flies no other leg. Of the legs from it the first 4 are given.
 pub(crate) fn comes_round(
     inst: &Instance,

@@ -4,7 +4,7 @@ ghost use Rattle.std.specs.Prelude.{◌≡◌, ◌<◌, None, All, IfOk, length,
 ghost use Rattle.desk_data.specs.Situation.{legs_of, planes_of};
 ghost use Rattle.desk_data.specs.Valid.{IsPlanFor};
 ghost use Rattle.near_moves.specs.LegMoves.{back_departure, dropping, exchange, handing, restoring_alone, restoring_both, retiming};
-ghost use Rattle.near_moves.specs.Places.{flier};
+ghost use Rattle.near_moves.specs.MoveParts.{flier};
 ghost use Rattle.near_legs.specs.Choices.{IsChoice, IsFlownLeg, run_step, steps_of};
 ghost use Rattle.near_legs.specs.LegTables.{AreLists};
 
@@ -137,14 +137,14 @@ fn restoring_both(
 }
 
 /// When the leg departs that brings an aircraft back: at its earliest departure, or once the aircraft has
-/// turned round behind the other leg, whichever is later.
+/// turned round after the other leg, whichever is later.
 fn back_departure(inst: &Instance, leg: Leg, plane: Plane, back: Leg) -> Minute
     requires leg { leg.0 < legs_of inst.now }
     requires back { back.0 < legs_of inst.now }
     requires plane { plane.0 < planes_of inst.now }
     ensures { result.0 ≡ back_departure inst.now leg.0 plane.0 back.0 }
 {
-    let ready = inst.earliest(leg).0 + inst.leg(leg).block + inst.plane(plane).turn;
+    let ready = inst.earliest(leg).0 + inst.leg(leg).block + inst.plane(plane).turnaround;
     Minute(inst.earliest(back).0.max(ready))
 }
 

@@ -4,7 +4,7 @@ ghost use Rattle.std.specs.Prelude.{◌≡◌, ◌<◌, None, [], IfOk, length, 
 ghost use Rattle.desk_data.specs.Valid.{IsPlanFor};
 ghost use Rattle.near_legs.specs.LegTables.{AreLists, pair_number};
 
-use crate::behind::legs_behind;
+use crate::behind::legs_after;
 use crate::families::families;
 use crate::lists::{By, lists, pair_number};
 use desk_data::{Airport, Instance, Leg, NoMem, Plane};
@@ -47,7 +47,7 @@ impl LegTables {
         requires { IsPlanFor inst.now plan.now }
         ensures { IfOk result (AreLists inst.now plan.now) }
     {
-        let behind = legs_behind(alloc, inst, plan)?;
+        let behind = legs_after(alloc, inst, plan)?;
         let families = families(alloc, inst)?;
         let flown = lists(alloc, inst, plan, By::Aircraft)?;
         let cancelled = lists(alloc, inst, plan, By::AirportPair)?;
@@ -59,7 +59,7 @@ impl LegTables {
         })
     }
 
-    /// The leg behind a leg that is flown, on its aircraft.
+    /// The leg after a leg that is flown, on its aircraft.
     pub(crate) fn behind(&self, leg: Leg) -> Option<Leg>
         requires { leg.0 < length self.now.behind }
         ensures { result ≡ slice_index_or self.now.behind leg.0 None }

@@ -148,11 +148,11 @@ impl LegUnits {
     fn is_at_end(&self, inst: &Instance) -> bool
         ensures { result ≡ is_at_end inst.now self.now }
     {
-        self.is_behind_owners(inst) && self.neighbourhood.next().is_none()
+        self.is_after_owners(inst) && self.neighbourhood.next().is_none()
     }
 
     /// Whether no owner of the neighbourhood is left.
-    fn is_behind_owners(&self, inst: &Instance) -> bool
+    fn is_after_owners(&self, inst: &Instance) -> bool
         ensures behind { result ≡ nat_le (owners inst.now self.now.neighbourhood) self.now.owner }
         ensures limit { owners inst.now self.now.neighbourhood ≤ 20000 }
     {
@@ -169,7 +169,7 @@ impl LegUnits {
         ensures left { units_left inst.now plan.now self.new ≡ units_left inst.now plan.now self.old }
         ensures nearer { OnOk result (places_left self.new < places_left self.old) }
     {
-        if self.is_behind_owners(inst) {
+        if self.is_after_owners(inst) {
             self.take_neighbourhood();
             return Ok(());
         }

@@ -15,7 +15,7 @@ use Rattle.desk_model.specs.declared.answer.Entry.{Entry}
 use Rattle.desk_model.specs.Steps.{after_move}
 use Rattle.desk_model.specs.States.{State, verdict, move_answer, answer}
 use Rattle.desk_model.specs.Histories.{state, proposal_limit, is_accepted, since_batch, accepted_since_batch, entry_of}
-use Rattle.desk_model.proofs.StateLaws.{accepted-told, after-accepted}
+use Rattle.desk_model.proofs.StateLaws.{accepted-known, after-accepted}
 use Rattle.desk_model.proofs.HistoryLaws.{state-append, since_is}
 use Rattle.near_moves.specs.Near.{near}
 use Rattle.near_moves.specs.Descent.{is_better, IsQuiet, is_spent, next_proposal, with_proposal, descent_of, descent}
@@ -169,11 +169,11 @@ step-accepted most S h m next =
 step_is : (most : ℕ) (S : State) (h : List Entry) (m : Move) → IsNext most S h m → IsDescentStep (state S h) (step_entry S h m)
 step_is most S h m next = record { move = m; planned = next.planned; first = next.first; told = refl; accepted = step-accepted most S h m next }
 
--- the state behind it: the move is published
+-- the state after it: the move is published
 pub step-state : (most : ℕ) (S : State) (h : List Entry) (m : Move) → IsNext most S h m → state S (h ++ step_entry S h m ∷ []) ≡ record { inst = (state S h).inst; plan = after_move (state S h).inst (state S h).plan m; broken = None }
 step-state most S h m next =
     let T = state S h in
-    let told = accepted-told (answer T (event.Move m)) (step-accepted most S h m next) in
+    let told = accepted-known (answer T (event.Move m)) (step-accepted most S h m next) in
     state-append S h (step_entry S h m ∷ []) ∙ after-accepted T m told.0 told.1
 
 -- one more was accepted
@@ -184,7 +184,7 @@ step-since most S h m next =
     ∙ sum_by-cons (λ (e : Entry). cond (is_accepted e.answer) 1 0) entry (since_batch h)
     ∙ rw (step-accepted most S h m next) (omega arith)
 
--- behind a batch none was accepted yet
+-- after a batch none was accepted yet
 pub batch-since : (S : State) (h : List Entry) (B : Batch) → accepted_since_batch (h ++ entry_of (state S h) 0 (event.Batch B) ∷ []) ≡ 0
 batch-since S h B = ap (count_by (λ (e : Entry). is_accepted e.answer)) (since_is h (entry_of (state S h) 0 (event.Batch B)))
 
@@ -252,7 +252,7 @@ descent-planned (suc n) most S h planned =
 
 -- ---- the end
 
--- behind n rounds nothing is proposed, or n more were accepted
+-- after n rounds nothing is proposed, or n more were accepted
 abbrev IsFar : ℕ → ℕ → State → List Entry → List Entry → Type 0
 IsFar n most S h g = (next_proposal most S g ≡ None) ⊎ (accepted_since_batch h + n ≤ accepted_since_batch g)
 

@@ -11,7 +11,7 @@ use Rattle.desk_data.specs.PlanRows.{PlanRows}
 use Rattle.plan_moves.specs.declared.moves.Step.{Step}
 use Rattle.desk_rules.specs.Words.{Precedes}
 use Rattle.desk_model.proofs.RotationOrder.{precedes-trans, precedes-itself}
-use Rattle.near_moves.specs.Places.{legs_from, run, is_run}
+use Rattle.near_moves.specs.MoveParts.{legs_from, run, is_run}
 use Rattle.near_moves.specs.LegMoves.{run_end, comes_round, run_lengths, dropping, droppings}
 use Rattle.near_moves.specs.Words.{IsFrom}
 use Rattle.near_moves.specs.DropWords.{IsLastLeg, DropsRun, IsDropping}
@@ -29,7 +29,7 @@ end-there I P x k some long =
 end-at : (I : Situation) (P : PlanRows) (x k : ℕ) → 1 ≤ k → run_end I P x k ≡ get_or (legs_from I P x) (k - 1) x
 end-at I P x k some = get_or-take k (legs_from I P x) (k - 1) x (omega (arith, some))
 
--- behind the last of the legs from a leg on no leg of the aircraft comes
+-- after the last of the legs from a leg on no leg of the aircraft comes
 behind-from : (I : Situation) (P : PlanRows) (x e y : ℕ) → IsFrom I P x e → y < legs_of I → Precedes P e y → Contains (legs_from I P x) y
 behind-from I P x e y from within behind =
     let before : Precedes P x y = elim from.place [

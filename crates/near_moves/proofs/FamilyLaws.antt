@@ -11,8 +11,8 @@ use Rattle.desk_data.specs.Situation.{Situation, legs_of, reservations_of, leg_a
 use Rattle.desk_data.specs.PlanRows.{PlanRows, row_at, groups_at}
 use Rattle.desk_rules.specs.Numbers.{numbers}
 use Rattle.desk_rules.specs.Passengers.{is_flown}
-use Rattle.near_moves.specs.Places.{is_movable_flown, is_restorable, family_of}
-use Rattle.near_moves.specs.Units.{Unit_, retimed, dropped, restored, rebooked}
+use Rattle.near_moves.specs.MoveParts.{is_movable_flown, is_restorable, family_of}
+use Rattle.near_moves.specs.Units.{MoveUnit, retimed, dropped, restored, rebooked}
 use Rattle.near_moves.specs.LegMoves.{retimed_units, swapped_units, dropped_units, restored_units, handed_units}
 use Rattle.near_moves.specs.PassengerMoves.{rebooked_units}
 use Rattle.near_moves.specs.Near.{leg_units, units}
@@ -34,7 +34,7 @@ movable-each I P x is =
     contains_filter (is_movable_flown I P) (numbers (legs_of I)) x (numbers_each (legs_of I) x is.within)
     (and_from (not (fixed I x)) (is_flown (row_at P x)) (ap not is.movable) (ap is_flown is.flown))
 
-retimed-holds : (I : Situation) (P : PlanRows) (u : Unit_) → Contains (retimed_units I P) u → IsUnit I P u
+retimed-holds : (I : Situation) (P : PlanRows) (u : MoveUnit) → Contains (retimed_units I P) u → IsUnit I P u
 unfolding retimed_units
 retimed-holds I P u has =
     let of_leg = map_contains retimed (filter (is_movable_flown I P) (numbers (legs_of I))) u has in
@@ -44,7 +44,7 @@ retimed-each : (I : Situation) (P : PlanRows) (x : ℕ) → IsMovableLeg I P x �
 unfolding retimed_units
 retimed-each I P x is = contains_map retimed (filter (is_movable_flown I P) (numbers (legs_of I))) x (movable-each I P x is)
 
-dropped-holds : (I : Situation) (P : PlanRows) (u : Unit_) → Contains (dropped_units I P) u → IsUnit I P u
+dropped-holds : (I : Situation) (P : PlanRows) (u : MoveUnit) → Contains (dropped_units I P) u → IsUnit I P u
 unfolding dropped_units
 dropped-holds I P u has =
     let of_leg = map_contains dropped (filter (is_movable_flown I P) (numbers (legs_of I))) u has in
@@ -60,7 +60,7 @@ pub row_cancelled : (row : Row) → is_flown row ≡ false → row ≡ Cancelled
 row_cancelled (Flown plane dep) h = absurd cc
 row_cancelled Cancelled h = refl
 
-restored-holds : (I : Situation) (P : PlanRows) (u : Unit_) → Contains (restored_units I P) u → IsUnit I P u
+restored-holds : (I : Situation) (P : PlanRows) (u : MoveUnit) → Contains (restored_units I P) u → IsUnit I P u
 unfolding restored_units
 restored-holds I P u has =
     let of_leg = flat_map_contains (λ x. map (restored x) (family_of I (leg_at I x).plane.0)) (filter (is_restorable I P) (numbers (legs_of I))) u has in
@@ -91,7 +91,7 @@ restored-each I P x p is =
 
 -- ---- paths that have passengers
 
-rebooked-holds : (I : Situation) (P : PlanRows) (u : Unit_) → Contains (rebooked_units I P) u → IsUnit I P u
+rebooked-holds : (I : Situation) (P : PlanRows) (u : MoveUnit) → Contains (rebooked_units I P) u → IsUnit I P u
 unfolding rebooked_units
 rebooked-holds I P u has =
     let of_res = flat_map_contains (λ r. map (λ (group : Group). rebooked r group.path) (groups_at P r)) (numbers (reservations_of I)) u has in
@@ -110,7 +110,7 @@ rebooked-each I P r path is =
 
 -- ---- all of them
 
-legs-hold : (I : Situation) (P : PlanRows) (u : Unit_) → Contains (leg_units I P) u → IsUnit I P u
+legs-hold : (I : Situation) (P : PlanRows) (u : MoveUnit) → Contains (leg_units I P) u → IsUnit I P u
 unfolding leg_units
 legs-hold I P u has =
     elim (Contains-append_cases (retimed_units I P ++ swapped_units I ++ dropped_units I P ++ restored_units I P) (handed_units I P) u has) [
@@ -127,7 +127,7 @@ legs-hold I P u has =
       ]
     ]
 
-pub units-hold : (I : Situation) (P : PlanRows) (u : Unit_) → Contains (units I P) u → IsUnit I P u
+pub units-hold : (I : Situation) (P : PlanRows) (u : MoveUnit) → Contains (units I P) u → IsUnit I P u
 unfolding units
 units-hold I P u has =
     elim (Contains-append_cases (leg_units I P) (rebooked_units I P) u has) [
@@ -136,19 +136,19 @@ units-hold I P u has =
     ]
 
 -- what is in one of the first parts of the list is in the list
-in-four : (I : Situation) (P : PlanRows) (u : Unit_) → Contains (retimed_units I P ++ swapped_units I ++ dropped_units I P ++ restored_units I P) u → Contains (units I P) u
+in-four : (I : Situation) (P : PlanRows) (u : MoveUnit) → Contains (retimed_units I P ++ swapped_units I ++ dropped_units I P ++ restored_units I P) u → Contains (units I P) u
 unfolding leg_units units
 in-four I P u has =
     Contains-append_left (retimed_units I P ++ swapped_units I ++ dropped_units I P ++ restored_units I P ++ handed_units I P) (rebooked_units I P) u
     (Contains-append_left (retimed_units I P ++ swapped_units I ++ dropped_units I P ++ restored_units I P) (handed_units I P) u has)
 
-in-two : (I : Situation) (P : PlanRows) (u : Unit_) → Contains (retimed_units I P ++ swapped_units I) u → Contains (units I P) u
+in-two : (I : Situation) (P : PlanRows) (u : MoveUnit) → Contains (retimed_units I P ++ swapped_units I) u → Contains (units I P) u
 in-two I P u has =
     in-four I P u
     (Contains-append_left (retimed_units I P ++ swapped_units I ++ dropped_units I P) (restored_units I P) u
     (Contains-append_left (retimed_units I P ++ swapped_units I) (dropped_units I P) u has))
 
-pub units-each : (I : Situation) (P : PlanRows) (u : Unit_) → IsUnit I P u → Contains (units I P) u
+pub units-each : (I : Situation) (P : PlanRows) (u : MoveUnit) → IsUnit I P u → Contains (units I P) u
 unfolding leg_units units
 units-each I P u (retimes x is same) =
     in-two I P u (Contains-append_left (retimed_units I P) (swapped_units I) u (subst (Contains (retimed_units I P)) (sym same) (retimed-each I P x is)))

@@ -16,8 +16,8 @@ use Rattle.plan_moves.specs.Fits.{Fits, StepFits}
 use Rattle.desk_rules.specs.Numbers.{numbers}
 use Rattle.desk_rules.specs.Rotations.{dep}
 use Rattle.desk_rules.specs.Passengers.{is_flown}
-use Rattle.near_moves.specs.Places.{leg, plane, flier, legs_from, run}
-use Rattle.near_moves.specs.Units.{Unit_, retimed, swapped, dropped, restored, handed}
+use Rattle.near_moves.specs.MoveParts.{leg, plane, flier, legs_from, run}
+use Rattle.near_moves.specs.Units.{MoveUnit, retimed, swapped, dropped, restored, handed}
 use Rattle.near_moves.specs.LegMoves.{retiming, retimings, other_departures, exchange, exchanges, exchange_moments, cancelling, dropping, droppings, comes_round, run_lengths, restoring_alone, restoring_both, restorings, brings_back, handing_step, handing}
 use Rattle.near_moves.specs.Near.{unit_steps, unit_moves, move_of, row_in_time, step_in_time}
 use Rattle.std.proofs.lemmas.List.Sums.{AllPass-from_list_all}
@@ -70,7 +70,7 @@ move_fits I steps range time = record {
   each = λ k d lt. step_fits I _ (range.each k d lt) (AllPass-from_list_all step_in_time steps time k d lt);
 }
 
-pub unit-fits : (I : Situation) (P : PlanRows) (u : Unit_) → All (AreInRange I) (unit_steps I P u) → All (Fits I) (unit_moves I P u)
+pub unit-fits : (I : Situation) (P : PlanRows) (u : MoveUnit) → All (AreInRange I) (unit_steps I P u) → All (Fits I) (unit_moves I P u)
 unfolding unit_moves
 unit-fits I P u range =
     All-map (Fits I) move_of (filter (list_all step_in_time) (unit_steps I P u))
@@ -126,7 +126,7 @@ pub swapped-range : (I : Situation) (P : PlanRows) (p q : ℕ) → p < planes_of
 unfolding unit_steps exchanges
 swapped-range I P p q first second = All-map (AreInRange I) (exchange p q) (exchange_moments I P p q) (λ k d lt. exchange-range I p q _ first second)
 
--- the steps of a run, and some behind them
+-- the steps of a run, and some after them
 run-range : (I : Situation) (P : PlanRows) (x k : ℕ) (f : ℕ → Step) (more : List Step) → k ≤ 4 → 1 ≤ length more → length more ≤ 3 → ((y : ℕ) → y < legs_of I → StepInRange I (f y)) → All (StepInRange I) more → AreInRange I (map f (run I P x k) ++ more)
 run-range I P x k f more few some most each behind =
     let long : length (map f (run I P x k) ++ more) ≡ length (run I P x k) + length more = length-append (map f (run I P x k)) more ∙ ap (λ (n : ℕ). n + length more) (length-map (run I P x k) f) in

@@ -14,7 +14,7 @@ use Rattle.desk_rules.proofs.RotationLaws.{precedes-holds, precedes-from}
 use Rattle.desk_rules.proofs.MaintenanceLaws.{flies-holds, flies-from}
 use Rattle.desk_model.specs.Push.{rotation}
 use Rattle.desk_model.proofs.RotationOrder.{rotation-ordered, rotation-flown, rotation-each}
-use Rattle.near_moves.specs.Places.{flier, legs_from, run, is_run}
+use Rattle.near_moves.specs.MoveParts.{flier, legs_from, run, is_run}
 use Rattle.near_moves.specs.Words.{IsFrom, IsRun}
 use Rattle.std.proofs.lemmas.List.Sums.{AllPass-from_list_all, list_all-from_AllPass}
 use Rattle.near_moves.proofs.ListLaws.{contains_filter, filter_contains}

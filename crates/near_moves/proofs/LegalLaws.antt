@@ -21,12 +21,12 @@ use Rattle.desk_model.proofs.HistoryLaws.{legal-append, legal-nil}
 use Rattle.desk_model.proofs.StatePlans.{plans_of_history, askable_along}
 use Rattle.near_moves.specs.PassengerMoves.{rebooked_units}
 use Rattle.near_moves.specs.Near.{leg_units, units, unit_moves, moves_of, near}
-use Rattle.near_moves.specs.Descent.{is_better, next_proposal, with_proposal, descent_of, descent, recovery_behind, recovery}
+use Rattle.near_moves.specs.Descent.{is_better, next_proposal, with_proposal, descent_of, descent, recovery_after, recovery}
 use Rattle.near_moves.proofs.RebookingLaws.{rebookings-fit}
 use Rattle.near_moves.proofs.UnitLaws.{moves_of_legs-fit}
 use Rattle.near_moves.proofs.DescentLaws.{IsNext, next-some, find-holds, unspent-room, step_entry, descent-length}
 
--- the moves near a plan fit: those of legs, and behind them those of passengers
+-- the moves near a plan fit: those of legs, and after them those of passengers
 pub near-fit : (I : Situation) (P : PlanRows) → IsValid I → IsPlanFor I P → All (Fits I) (near I P)
 unfolding near units
 near-fit I P valid plan =
@@ -35,15 +35,15 @@ near-fit I P valid plan =
     let parts : moves_of I P (leg_units I P ++ rebooked_units I P) ≡ front ++ back = flat_map-append (unit_moves I P) (leg_units I P) (rebooked_units I P) in
     subst (All (Fits I)) (sym parts) (All-append (Fits I) front back (moves_of_legs-fit I P plan) (rebookings-fit I P valid plan))
 
--- what stands behind a legal history is a plan for its instance
-rows_behind : (I : Situation) (h : List Entry) → IsValid I → IsLegal (opening I) h → HasPlanRows (state (opening I) h)
-rows_behind I h valid legal =
+-- what comes after a legal history is a plan for its instance
+rows_after : (I : Situation) (h : List Entry) → IsValid I → IsLegal (opening I) h → HasPlanRows (state (opening I) h)
+rows_after I h valid legal =
     subst (λ (t : List Entry). HasPlanRows (state (opening I) t)) (take_all (length h) h (omega arith)) (plans_of_history I h valid legal (length h))
 
 step_fits : (most : ℕ) (I : Situation) (h : List Entry) (m : Move) → IsValid I → IsLegal (opening I) h → IsNext most (opening I) h m → Fits (state (opening I) h).inst m
 step_fits most I h m valid legal next =
     let T = state (opening I) h in
-    let there = rows_behind I h valid legal in
+    let there = rows_after I h valid legal in
     let all = recursion_from_All (Fits T.inst) (near T.inst T.plan) (near-fit T.inst T.plan there.inst there.plan) in
     find-holds (Fits T.inst) (is_better T.inst T.plan) (near T.inst T.plan) m all next.first
 
@@ -79,8 +79,8 @@ batch_legal I h B few batch legal =
     } in
     legal-append (opening I) h entry legal stands
 
-recovery_legal : (most b : ℕ) (I : Situation) (h : List Entry) (batches : List Batch) → IsValid I → AllByRecursion (IsBatch I.parts) batches → IsLegal (opening I) h → length h ≤ b → proposal_limit ≤ b → b + length batches ≤ batch_limit → IsLegal (opening I) (recovery_behind most (opening I) h batches)
-unfolding recovery_behind
+recovery_legal : (most b : ℕ) (I : Situation) (h : List Entry) (batches : List Batch) → IsValid I → AllByRecursion (IsBatch I.parts) batches → IsLegal (opening I) h → length h ≤ b → proposal_limit ≤ b → b + length batches ≤ batch_limit → IsLegal (opening I) (recovery_after most (opening I) h batches)
+unfolding recovery_after
 recovery_legal most b I h [] valid taken legal le limit room = legal
 recovery_legal most b I h (B ∷ batches) valid taken legal le limit room =
     let g = h ++ entry_of (state (opening I) h) 0 (event.Batch B) ∷ [] in

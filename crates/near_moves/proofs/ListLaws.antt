@@ -63,15 +63,15 @@ pub record Source {X : Type 0} (xs : List X) (IsOf : X → Type 0) : Type 0 wher
   pub there : Contains xs from
   pub is : IsOf from
 
-source_behind : {X : Type 0} (z : X) (xs : List X) (IsOf : X → Type 0) → Source xs IsOf → Source (z ∷ xs) IsOf
-source_behind z xs IsOf s = record { from = s.from; there = contains_tail z s.from xs s.there; is = s.is }
+source_after : {X : Type 0} (z : X) (xs : List X) (IsOf : X → Type 0) → Source xs IsOf → Source (z ∷ xs) IsOf
+source_after z xs IsOf s = record { from = s.from; there = contains_tail z s.from xs s.there; is = s.is }
 
 pub map_contains : {X Y : Type 0} (f : X → Y) (xs : List X) (y : Y) → Contains (map f xs) y → Source xs (λ x. f x ≡ y)
 map_contains f [] y has = absurd (contains_none y has)
 map_contains f (x ∷ xs) y has =
     elim (contains_cases (f x) y (map f xs) has) [
       | inl same ↦ record { from = x; there = contains_head x xs; is = same }
-      | inr behind ↦ source_behind x xs (λ z. f z ≡ y) (map_contains f xs y behind)
+      | inr behind ↦ source_after x xs (λ z. f z ≡ y) (map_contains f xs y behind)
     ]
 
 pub contains_flat_map : {X Y : Type 0} (f : X → List Y) (xs : List X) (x : X) (y : Y) → Contains xs x → Contains (f x) y → Contains (flat_map f xs) y
@@ -87,7 +87,7 @@ flat_map_contains f [] y has = absurd (contains_none y has)
 flat_map_contains f (x ∷ xs) y has =
     elim (Contains-append_cases (f x) (flat_map f xs) y has) [
       | inl here ↦ record { from = x; there = contains_head x xs; is = here }
-      | inr behind ↦ source_behind x xs (λ z. Contains (f z) y) (flat_map_contains f xs y behind)
+      | inr behind ↦ source_after x xs (λ z. Contains (f z) y) (flat_map_contains f xs y behind)
     ]
 
 pub All_flat_map : {X Y : Type 0} (P : Y → Type 0) (f : X → List Y) (xs : List X) → All (λ x. All P (f x)) xs → All P (flat_map f xs)
@@ -244,14 +244,14 @@ same_head : {X : Type 0} (R : X → X → Type 0) → ((x y z : X) → R x y →
 same_head R trans itself x y xs ys a b to back =
     elim (contains_cases y x ys to) [
       | inl same ↦ sym same
-      | inr behind_y ↦ elim (contains_cases x y xs back) [
+      | inr after_y ↦ elim (contains_cases x y xs back) [
         | inl same ↦ same
-        | inr behind_x ↦ absurd (itself x (trans x y x (All-contains (R x) xs y a behind_x) (All-contains (R y) ys x b behind_y)))
+        | inr after_x ↦ absurd (itself x (trans x y x (All-contains (R x) xs y a after_x) (All-contains (R y) ys x b after_y)))
       ]
     ]
 
-behind_head : {X : Type 0} (R : X → X → Type 0) → ((x : X) → R x x → ⊥) → (x y z : X) (xs ys : List X) → x ≡ y → All (R x) xs → Contains (y ∷ ys) z → Contains xs z → Contains ys z
-behind_head R itself x y z xs ys same a to has =
+after_head : {X : Type 0} (R : X → X → Type 0) → ((x : X) → R x x → ⊥) → (x y z : X) (xs ys : List X) → x ≡ y → All (R x) xs → Contains (y ∷ ys) z → Contains xs z → Contains ys z
+after_head R itself x y z xs ys same a to has =
     elim (contains_cases y z ys to) [
       | inl first ↦ absurd (itself x (subst (R x) (sym (same ∙ first)) (All-contains (R x) xs z a has)))
       | inr behind ↦ behind
@@ -266,8 +266,8 @@ same_ordered R trans itself (x ∷ xs) (y ∷ ys) a b to back =
     let first_y = pairs_head R y ys b in
     let same : x ≡ y = same_head R trans itself x y xs ys first_x first_y (to x (contains_head x xs)) (back y (contains_head y ys)) in
     let rest : xs ≡ ys = same_ordered R trans itself xs ys (pairs_tail R x xs a) (pairs_tail R y ys b)
-    (λ z has. behind_head R itself x y z xs ys same first_x (to z (contains_tail x z xs has)) has)
-    (λ z has. behind_head R itself y x z ys xs (sym same) first_y (back z (contains_tail y z ys has)) has) in
+    (λ z has. after_head R itself x y z xs ys same first_x (to z (contains_tail x z xs has)) has)
+    (λ z has. after_head R itself y x z ys xs (sym same) first_y (back z (contains_tail y z ys has)) has) in
     ap (λ k. k ∷ xs) same ∙ ap (λ zs. y ∷ zs) rest
 
 pub less_trans : (x y z : ℕ) → x < y → y < z → x < z

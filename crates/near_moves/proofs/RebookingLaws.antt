@@ -23,8 +23,8 @@ use Rattle.plan_moves.specs.declared.moves.Move.{Move}
 use Rattle.plan_moves.specs.Fits.{Fits, StepFits, IsPathIn}
 use Rattle.desk_model.specs.Rebook.{count_on}
 use Rattle.desk_model.proofs.PathOrder.{pairs_head, pairs_tail, path_before}
-use Rattle.near_moves.specs.Units.{Unit_, rebooked}
-use Rattle.near_moves.specs.Places.{leg}
+use Rattle.near_moves.specs.Units.{MoveUnit, rebooked}
+use Rattle.near_moves.specs.MoveParts.{leg}
 use Rattle.near_moves.specs.Routes.{stem, routes}
 use Rattle.near_moves.specs.RouteWords.{IsTried, scheduled, begun_alone, one_more, two_more}
 use Rattle.near_moves.specs.PassengerMoves.{aims, portions, rebooking, rebookings, rebooked_units}
@@ -161,14 +161,14 @@ unit-fits I P r path m valid lt here has =
     let at = map_contains move_of (filter (list_all step_in_time) (rebookings I P r path)) m has in
     subst (Fits I) at.is (rebooking-fits I P r path at.from valid lt here (filter_contains (list_all step_in_time) (rebookings I P r path) at.from at.there).0)
 
-unit-here : (I : Situation) (P : PlanRows) (u : Unit_) (m : Move) → IsValid I → IsPlanFor I P → Contains (rebooked_units I P) u → Contains (unit_moves I P u) m → Fits I m
+unit-here : (I : Situation) (P : PlanRows) (u : MoveUnit) (m : Move) → IsValid I → IsPlanFor I P → Contains (rebooked_units I P) u → Contains (unit_moves I P u) m → Fits I m
 unfolding rebooked_units
 unit-here I P u m valid plan has moves =
     let res = flat_map_contains (λ r. map (λ (group : Group). rebooked r group.path) (groups_at P r)) (numbers (reservations_of I)) u has in
     let r = res.from in
     let lt = numbers_within (reservations_of I) r res.there in
     let at = map_contains (λ (group : Group). rebooked r group.path) (groups_at P r) u res.is in
-    unit-fits I P r at.from.path m valid lt (group-here I P r at.from valid plan lt at.there) (subst (λ (v : Unit_). Contains (unit_moves I P v) m) (sym at.is) moves)
+    unit-fits I P r at.from.path m valid lt (group-here I P r at.from valid plan lt at.there) (subst (λ (v : MoveUnit). Contains (unit_moves I P v) m) (sym at.is) moves)
 
 pub rebookings-fit : (I : Situation) (P : PlanRows) → IsValid I → IsPlanFor I P → All (Fits I) (moves_of I P (rebooked_units I P))
 rebookings-fit I P valid plan =

@@ -10,7 +10,7 @@ use Rattle.desk_model.specs.declared.answer.Event.TheVariants as event
 use Rattle.desk_model.specs.declared.answer.Entry.{Entry}
 use Rattle.desk_model.specs.States.{State, after}
 use Rattle.desk_model.specs.Histories.{state, proposal_limit, is_batch, accepted_since_batch, entry_of}
-use Rattle.near_moves.specs.Descent.{descent, recovery_behind, recovery}
+use Rattle.near_moves.specs.Descent.{descent, recovery_after, recovery}
 use Rattle.near_moves.specs.Descents.{IsDescentStep, AllAlong, IsRecoveryEntry, HasEnded, BatchesWait, batch_in, batches_in}
 use Rattle.near_moves.proofs.DescentLaws.{next-quiet, batch-since, descent-descends, descent-length, descent-few, descent-ends}
 
@@ -20,7 +20,7 @@ along-append : (Q : State → Entry → Type 0) (S : State) (h g : List Entry) �
 along-append Q S [] g all more = more
 along-append Q S (entry ∷ h) g all more = (all.0, along-append Q (after S entry.event) h g all.1 more)
 
--- the entry of a batch behind a history
+-- the entry of a batch after a history
 abbrev batch_entry : State → List Entry → Batch → Entry
 batch_entry S h B = entry_of (state S h) 0 (event.Batch B)
 
@@ -39,8 +39,8 @@ descent_along most S h all =
     let down = descent-descends most most S h in
     subst (AllAlong IsRecoveryEntry S) (sym down.behind) (along-append IsRecoveryEntry S h down.added all (steps_are (state S h) down.added down.steps))
 
-pub recovery-along : (most : ℕ) (S : State) (h : List Entry) (batches : List Batch) → AllAlong IsRecoveryEntry S h → AllAlong IsRecoveryEntry S (recovery_behind most S h batches)
-unfolding recovery_behind
+pub recovery-along : (most : ℕ) (S : State) (h : List Entry) (batches : List Batch) → AllAlong IsRecoveryEntry S h → AllAlong IsRecoveryEntry S (recovery_after most S h batches)
+unfolding recovery_after
 recovery-along most S h [] all = all
 recovery-along most S h (B ∷ batches) all =
     let g = h ++ batch_entry S h B ∷ [] in
@@ -65,8 +65,8 @@ descent_brings_none most S h =
     ap batches_in down.behind ∙ batches_append h down.added
     ∙ ap (λ (bs : List Batch). batches_in h ++ bs) (steps_bring_none (state S h) down.added down.steps) ∙ append-nil (batches_in h)
 
-pub recovery-batches : (most : ℕ) (S : State) (h : List Entry) (batches : List Batch) → batches_in (recovery_behind most S h batches) ≡ batches_in h ++ batches
-unfolding recovery_behind
+pub recovery-batches : (most : ℕ) (S : State) (h : List Entry) (batches : List Batch) → batches_in (recovery_after most S h batches) ≡ batches_in h ++ batches
+unfolding recovery_after
 recovery-batches most S h [] = sym (append-nil (batches_in h))
 recovery-batches most S h (B ∷ batches) =
     let g = h ++ batch_entry S h B ∷ [] in
@@ -76,8 +76,8 @@ recovery-batches most S h (B ∷ batches) =
 
 -- ---- the length
 
-pub recovery-length : (most b : ℕ) (S : State) (h : List Entry) (batches : List Batch) → length h ≤ b → proposal_limit ≤ b → length (recovery_behind most S h batches) ≤ b + length batches
-unfolding recovery_behind
+pub recovery-length : (most b : ℕ) (S : State) (h : List Entry) (batches : List Batch) → length h ≤ b → proposal_limit ≤ b → length (recovery_after most S h batches) ≤ b + length batches
+unfolding recovery_after
 recovery-length most b S h [] le limit = omega arith
 recovery-length most b S h (B ∷ batches) le limit =
     let g = h ++ batch_entry S h B ∷ [] in
@@ -86,11 +86,11 @@ recovery-length most b S h (B ∷ batches) le limit =
     let rest = recovery-length most (b + 1) S (descent most S g) batches more (omega (arith, limit)) in
     omega (arith, rest)
 
--- ---- behind each batch
+-- ---- after each batch
 
 -- the batches may be taken in two parts
-pub recovery-parts : (most : ℕ) (S : State) (h : List Entry) (before behind : List Batch) → recovery_behind most S h (before ++ behind) ≡ recovery_behind most S (recovery_behind most S h before) behind
-unfolding recovery_behind
+pub recovery-parts : (most : ℕ) (S : State) (h : List Entry) (before behind : List Batch) → recovery_after most S h (before ++ behind) ≡ recovery_after most S (recovery_after most S h before) behind
+unfolding recovery_after
 recovery-parts most S h [] behind = refl
 recovery-parts most S h (B ∷ before) behind = recovery-parts most S (descent most S (h ++ batch_entry S h B ∷ [])) before behind
 
@@ -105,14 +105,14 @@ longer_trans f g h one more = record {
   behind = more.behind ∙ ap (λ (xs : List Entry). xs ++ more.added) one.behind ∙ append_assoc f one.added more.added;
 }
 
-recovery_longer : (most : ℕ) (S : State) (h : List Entry) (batches : List Batch) → IsLonger h (recovery_behind most S h batches)
-unfolding recovery_behind
+recovery_longer : (most : ℕ) (S : State) (h : List Entry) (batches : List Batch) → IsLonger h (recovery_after most S h batches)
+unfolding recovery_after
 recovery_longer most S h [] = record { added = []; behind = sym (append-nil h) }
 recovery_longer most S h (B ∷ batches) =
     let g = h ++ batch_entry S h B ∷ [] in
     let down = descent-descends most most S g in
-    longer_trans h g (recovery_behind most S (descent most S g) batches) (record { added = batch_entry S h B ∷ []; behind = refl })
-    (longer_trans g (descent most S g) (recovery_behind most S (descent most S g) batches) (record { added = down.added; behind = down.behind }) (recovery_longer most S (descent most S g) batches))
+    longer_trans h g (recovery_after most S (descent most S g) batches) (record { added = batch_entry S h B ∷ []; behind = refl })
+    (longer_trans g (descent most S g) (recovery_after most S (descent most S g) batches) (record { added = down.added; behind = down.behind }) (recovery_longer most S (descent most S g) batches))
 
 first_part : (h g : List Entry) → IsLonger h g → take (length h) g ≡ h
 first_part h g more = ap (take (length h)) more.behind ∙ take-append_seam h more.added
@@ -120,10 +120,10 @@ first_part h g more = ap (take (length h)) more.behind ∙ take-append_seam h mo
 pub recovery-begins : (most : ℕ) (S : State) (before behind : List Batch) → take (length (recovery most S before)) (recovery most S (before ++ behind)) ≡ recovery most S before
 recovery-begins most S before behind =
     let h = recovery most S before in
-    ap (take (length h)) (recovery-parts most S [] before behind) ∙ first_part h (recovery_behind most S h behind) (recovery_longer most S h behind)
+    ap (take (length h)) (recovery-parts most S [] before behind) ∙ first_part h (recovery_after most S h behind) (recovery_longer most S h behind)
 
 pub recovery-descends : (most : ℕ) (S : State) (before : List Batch) (B : Batch) → recovery most S (before ++ B ∷ []) ≡ descent most S (recovery most S before ++ entry_of (state S (recovery most S before)) 0 (event.Batch B) ∷ [])
-unfolding recovery_behind
+unfolding recovery_after
 recovery-descends most S before B = recovery-parts most S [] before (B ∷ [])
 
 descent_ended : (most : ℕ) (S : State) (h : List Entry) → accepted_since_batch h ≤ most → HasEnded most S (descent most S h)
@@ -192,8 +192,8 @@ one_waits most S h first entry zero (inl none) some at = absurd (omega (arith, n
 one_waits most S h first entry zero (inr ended) some at = subst (HasEnded most S) (sym (append-nil h)) ended
 one_waits most S h first entry (suc j) ready some at = absurd cc
 
-pub recovery-waits : (most : ℕ) (S : State) (h : List Entry) (batches : List Batch) → BatchesWait most S h → IsReady most S h → BatchesWait most S (recovery_behind most S h batches)
-unfolding recovery_behind
+pub recovery-waits : (most : ℕ) (S : State) (h : List Entry) (batches : List Batch) → BatchesWait most S h → IsReady most S h → BatchesWait most S (recovery_after most S h batches)
+unfolding recovery_after
 recovery-waits most S h [] waits ready = waits
 recovery-waits most S h (B ∷ batches) waits ready =
     let entry = batch_entry S h B in

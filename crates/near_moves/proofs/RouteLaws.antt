@@ -1,4 +1,4 @@
--- Which paths are routes, and that each is told once.
+-- Which paths are routes, and that each is listed once.
 use Rattle.std.proofs.Common.{◌≡◌, ℕ, ◌<◌, ◌≤◌, inl, inr, Bool, true, false, not, ◌&&◌, cond, eqb, leb, List, [], ◌∷◌, ◌++◌, length, map, refl, sym, ap, subst, ◌∙◌, arith}
 use Rattle.std.specs.Prelude.{filter}
 use Rattle.std.specs.Bool.{Decides}
@@ -20,7 +20,7 @@ use Rattle.desk_model.specs.Tidy.{is_fit_path}
 use Rattle.std.specs.Ordering.{is_eq}
 use Rattle.desk_model.proofs.PathOrder.{path_same, path_itself, is_eq-holds}
 use Rattle.desk_model.proofs.TidyLaws.{is_fit-holds, is_fit-from}
-use Rattle.near_moves.specs.Places.{leg}
+use Rattle.near_moves.specs.MoveParts.{leg}
 use Rattle.near_moves.specs.Routes.{all_pairs, all_doubles, stem, tried_paths, is_route, without_repeats, routes}
 use Rattle.near_moves.specs.RouteParts.{tried_rest, is_other_route}
 use Rattle.near_moves.specs.RouteWords.{IsTried, scheduled, begun_alone, one_more, two_more, IsRoute}
@@ -326,7 +326,7 @@ pub routes-apart : (I : Situation) (P : PlanRows) (r : ℕ) → Apart (routes I 
 unfolding routes
 routes-apart I P r = repeats-apart (filter (is_route I P r) (tried_paths I r))
 
--- ---- the routes in parts: the scheduled path where it is one, and those behind it that are another path
+-- ---- the routes in parts: the scheduled path where it is one, and those after it that are another path
 
 longer : (start rest : List (Leg × Cabin)) → 1 ≤ length rest → start ≡ start ++ rest → ⊥
 longer start rest some is = let e = ap length is ∙ length-append start rest in omega (arith, e, some)

@@ -19,7 +19,7 @@ use Rattle.desk_rules.specs.Passengers.{is_flown}
 use Rattle.desk_rules.proofs.MaintenanceLaws.{dep-is}
 use Rattle.desk_model.specs.Rebook.{count_on}
 use Rattle.desk_model.proofs.RotationOrder.{flown_once}
-use Rattle.near_moves.specs.Places.{leg, plane, flier, flown_row, is_restorable, legs_from, run}
+use Rattle.near_moves.specs.MoveParts.{leg, plane, flier, flown_row, is_restorable, legs_from, run}
 use Rattle.near_moves.specs.LegMoves.{other_departures, retiming, retimings, exchange_moments, exchange, exchanges, handing_step, handing, restoring_alone, restoring_both, brings_back, restorings}
 use Rattle.near_moves.specs.PassengerMoves.{aims, portions, rebooking, rebookings}
 use Rattle.near_moves.specs.Units.{handed}

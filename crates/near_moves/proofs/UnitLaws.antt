@@ -18,8 +18,8 @@ use Rattle.desk_rules.specs.Numbers.{numbers}
 use Rattle.desk_rules.specs.Rotations.{dep}
 use Rattle.desk_rules.specs.Passengers.{is_flown}
 use Rattle.desk_model.proofs.PathOrder.{pairs_nil, pairs_head, pairs_tail, pairs_append}
-use Rattle.near_moves.specs.Places.{flier, is_movable_flown, is_restorable, family_of, is_run}
-use Rattle.near_moves.specs.Units.{Unit_, retimed, swapped, dropped, restored, handed}
+use Rattle.near_moves.specs.MoveParts.{flier, is_movable_flown, is_restorable, family_of, is_run}
+use Rattle.near_moves.specs.Units.{MoveUnit, retimed, swapped, dropped, restored, handed}
 use Rattle.near_moves.specs.LegMoves.{retimed_units, later_of_family, swapped_units, dropped_units, restored_units, run_lengths, others_of_family, handed_units}
 use Rattle.near_moves.specs.Near.{unit_steps, leg_units, unit_moves, moves_of}
 use Rattle.near_moves.specs.Words.{ExchangesTwo, AreInOrder, HandsRun}
@@ -52,7 +52,7 @@ family-ordered I p = AllPairs-filter (λ q r. q < r) (λ r. bytes_eq (plane_at I
 
 -- ---- swaps
 
-pub swaps-hold : (I : Situation) (u : Unit_) → Contains (swapped_units I) u → ExchangesTwo I u
+pub swaps-hold : (I : Situation) (u : MoveUnit) → Contains (swapped_units I) u → ExchangesTwo I u
 unfolding swapped_units
 swaps-hold I u has =
     let of_plane = flat_map_contains (λ p. map (swapped p) (later_of_family I p)) (filter (λ p. not (plane_at I p).surface) (numbers (planes_of I))) u has in
@@ -72,7 +72,7 @@ swaps-hold I u has =
       family = family.1;
     }
 
-pub swaps-each : (I : Situation) (u : Unit_) → ExchangesTwo I u → Contains (swapped_units I) u
+pub swaps-each : (I : Situation) (u : MoveUnit) → ExchangesTwo I u → Contains (swapped_units I) u
 unfolding swapped_units
 swaps-each I u is =
     let p = is.first in
@@ -95,15 +95,15 @@ pairs_of p (q ∷ qs) up =
     (pairs_of p qs (pairs_tail (λ q r. q < r) q qs up))
 
 -- those of a later first aircraft
-pairs_behind : (p q r : ℕ) (ss : List ℕ) → p < r → All (AreInOrder (swapped p q)) (map (swapped r) ss)
-pairs_behind p q r ss lt =
+pairs_after : (p q r : ℕ) (ss : List ℕ) → p < r → All (AreInOrder (swapped p q)) (map (swapped r) ss)
+pairs_after p q r ss lt =
     All-map (AreInOrder (swapped p q)) (swapped r) ss
     (λ k d within. record { first = p; second = q; later_first = r; later_second = _; pair = refl; later_pair = refl; order = inl lt })
 
-pairs_behind_all : (f : ℕ → List ℕ) (p q : ℕ) (ps : List ℕ) → All (λ r. p < r) ps → All (AreInOrder (swapped p q)) (flat_map (λ r. map (swapped r) (f r)) ps)
-pairs_behind_all f p q ps up =
+pairs_after_all : (f : ℕ → List ℕ) (p q : ℕ) (ps : List ℕ) → All (λ r. p < r) ps → All (AreInOrder (swapped p q)) (flat_map (λ r. map (swapped r) (f r)) ps)
+pairs_after_all f p q ps up =
     All_flat_map (AreInOrder (swapped p q)) (λ r. map (swapped r) (f r)) ps
-    (All-weaker (λ r. p < r) (λ r. All (AreInOrder (swapped p q)) (map (swapped r) (f r))) (λ r lt. pairs_behind p q r (f r) lt) ps up)
+    (All-weaker (λ r. p < r) (λ r. All (AreInOrder (swapped p q)) (map (swapped r) (f r))) (λ r lt. pairs_after p q r (f r) lt) ps up)
 
 pairs_of_all : (f : ℕ → List ℕ) (ps : List ℕ) → ((p : ℕ) → AllPairs (λ q r. q < r) (f p)) → AllPairs (λ p r. p < r) ps → AllPairs AreInOrder (flat_map (λ p. map (swapped p) (f p)) ps)
 pairs_of_all f [] each up = pairs_nil AreInOrder
@@ -112,7 +112,7 @@ pairs_of_all f (p ∷ ps) each up =
     (pairs_of p (f p) (each p))
     (pairs_of_all f ps each (pairs_tail (λ p r. p < r) p ps up))
     (All-map (λ u. All (AreInOrder u) (flat_map (λ r. map (swapped r) (f r)) ps)) (swapped p) (f p)
-    (λ k d within. pairs_behind_all f p (get_or (f p) k d) ps (pairs_head (λ p r. p < r) p ps up)))
+    (λ k d within. pairs_after_all f p (get_or (f p) k d) ps (pairs_head (λ p r. p < r) p ps up)))
 
 pub swaps-ordered : (I : Situation) → AllPairs AreInOrder (swapped_units I)
 unfolding swapped_units
@@ -161,7 +161,7 @@ not_eqb a b h = grind (arith, nat_tests)
 eqb_not : (a b : ℕ) → a ≢ b → not (eqb a b) ≡ true
 eqb_not a b h = grind (arith, nat_tests)
 
-pub hands-hold : (I : Situation) (P : PlanRows) (u : Unit_) → Contains (handed_units I P) u → HandsRun I P u
+pub hands-hold : (I : Situation) (P : PlanRows) (u : MoveUnit) → Contains (handed_units I P) u → HandsRun I P u
 unfolding handed_units
 hands-hold I P u has =
     let of_leg = flat_map_contains (λ x. flat_map (λ k. map (handed x k) (others_of_family I P x)) (filter (is_run I P x) run_lengths)) (filter (is_movable_flown I P) (numbers (legs_of I))) u has in
@@ -197,7 +197,7 @@ hands-hold I P u has =
       family = family.1 ∙ ap (λ (r : ℕ). (plane_at I r).family) plane;
     }
 
-pub hands-each : (I : Situation) (P : PlanRows) (u : Unit_) → HandsRun I P u → Contains (handed_units I P) u
+pub hands-each : (I : Situation) (P : PlanRows) (u : MoveUnit) → HandsRun I P u → Contains (handed_units I P) u
 unfolding handed_units
 hands-each I P u is =
     let x = is.leg in
@@ -217,10 +217,10 @@ hands-each I P u is =
 
 -- ---- all moves of legs and aircraft fit
 
-MovesFit : Situation → PlanRows → Unit_ → Type 0
+MovesFit : Situation → PlanRows → MoveUnit → Type 0
 MovesFit I P u = All (Fits I) (unit_moves I P u)
 
-movable-fit : (I : Situation) (P : PlanRows) (unit : ℕ → Unit_) → ((x : ℕ) → x < legs_of I → is_flown (row_at P x) ≡ true → All (AreInRange I) (unit_steps I P (unit x))) → All (MovesFit I P) (map unit (filter (is_movable_flown I P) (numbers (legs_of I))))
+movable-fit : (I : Situation) (P : PlanRows) (unit : ℕ → MoveUnit) → ((x : ℕ) → x < legs_of I → is_flown (row_at P x) ≡ true → All (AreInRange I) (unit_steps I P (unit x))) → All (MovesFit I P) (map unit (filter (is_movable_flown I P) (numbers (legs_of I))))
 unfolding MovesFit
 movable-fit I P unit range =
     All-map (MovesFit I P) unit (filter (is_movable_flown I P) (numbers (legs_of I)))
@@ -274,7 +274,7 @@ leg_units-fit I P plan =
     (dropped-fit I P plan)) (restored-fit I P)) (handed-fit I P plan)
 
 -- the moves of some units of legs and aircraft
-pub some-fit : (I : Situation) (P : PlanRows) (test : Unit_ → Bool) → IsPlanFor I P → All (Fits I) (moves_of I P (filter test (leg_units I P)))
+pub some-fit : (I : Situation) (P : PlanRows) (test : MoveUnit → Bool) → IsPlanFor I P → All (Fits I) (moves_of I P (filter test (leg_units I P)))
 unfolding MovesFit
 some-fit I P test plan =
     All_flat_map (Fits I) (unit_moves I P) (filter test (leg_units I P)) (All-filter test (MovesFit I P) (leg_units I P) (leg_units-fit I P plan))

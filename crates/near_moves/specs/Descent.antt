@@ -32,7 +32,7 @@ pub record IsQuiet (S : State) : Type 0 where
   pub planned : S.broken ≡ None
   pub none : better S.inst S.plan ≡ []
 
--- no proposal more is made behind a history in which so many were accepted since the last batch, or whose journal takes no more
+-- no proposal more is made after a history in which so many were accepted since the last batch, or whose journal takes no more
 unfoldable pub is_spent : ℕ → List Entry → Bool
 is_spent most h = nat_le most (accepted_since_batch h) || nat_le proposal_limit (length h)
 
@@ -42,7 +42,7 @@ end_by None true = Some Budget
 end_by None false = Some Quiet
 end_by (Some item) spent = None
 
--- what is proposed behind a history: the first better move near the plan, where there is a plan and the history is not spent
+-- what is proposed after a history: the first better move near the plan, where there is a plan and the history is not spent
 unfoldable pub next_proposal : ℕ → State → List Entry → Option Move
 next_proposal most S h =
     let T = state S h in
@@ -62,10 +62,10 @@ descent_of (suc n) most S h = descent_of n most S (with_proposal S h (next_propo
 abbrev pub descent : ℕ → State → List Entry → List Entry
 descent most S h = descent_of most most S h
 
--- behind a history the batches arrive in their order, each from caller 0 and followed by a descent
-unfoldable pub recovery_behind : ℕ → State → List Entry → List Batch → List Entry
-recovery_behind most S h [] = h
-recovery_behind most S h (B ∷ batches) = recovery_behind most S (descent most S (h ++ entry_of (state S h) 0 (event.Batch B) ∷ [])) batches
+-- after a history the batches arrive in their order, each from caller 0 and followed by a descent
+unfoldable pub recovery_after : ℕ → State → List Entry → List Batch → List Entry
+recovery_after most S h [] = h
+recovery_after most S h (B ∷ batches) = recovery_after most S (descent most S (h ++ entry_of (state S h) 0 (event.Batch B) ∷ [])) batches
 
 abbrev pub recovery : ℕ → State → List Batch → List Entry
-recovery most S batches = recovery_behind most S [] batches
+recovery most S batches = recovery_after most S [] batches

@@ -24,7 +24,7 @@ abbrev pub AllAlong : (State → Entry → Type 0) → State → List Entry → 
 AllAlong Stands S [] = Unit {0}
 AllAlong Stands S (entry ∷ entries) = Stands S entry × AllAlong Stands (after S entry.event) entries
 
--- history g is history h with the steps of a descent behind it
+-- history g is history h with the steps of a descent after it
 pub record Descends (S : State) (h g : List Entry) : Type 0 where
   pub added : List Entry
   pub behind : g ≡ h ++ added
@@ -43,7 +43,7 @@ batch_in (event.Move m) = []
 abbrev pub batches_in : List Entry → List Batch
 batches_in h = flat_map (λ entry. batch_in entry.event) h
 
--- a descent has ended behind a history: nothing more is proposed, at most so many were accepted since the last batch, and a plan
+-- a descent has ended after a history: nothing more is proposed, at most so many were accepted since the last batch, and a plan
 -- whose history is not spent is quiet
 pub record HasEnded (most : ℕ) (S : State) (h : List Entry) : Type 0 where
   pub none : next_proposal most S h ≡ None

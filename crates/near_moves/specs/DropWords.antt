@@ -6,10 +6,10 @@ use Rattle.desk_data.specs.PlanRows.{PlanRows, row_at}
 use Rattle.plan_moves.specs.declared.moves.Step.{Step}
 use Rattle.plan_moves.specs.declared.moves.Step.TheVariants.{Set, Push, Tidy}
 use Rattle.desk_rules.specs.Words.{Precedes}
-use Rattle.near_moves.specs.Places.{leg, plane, flier, run}
+use Rattle.near_moves.specs.MoveParts.{leg, plane, flier, run}
 use Rattle.near_moves.specs.Words.{IsRun}
 
--- no leg of its aircraft comes behind leg y
+-- no leg of its aircraft comes after leg y
 abbrev pub IsLastLeg : Situation → PlanRows → ℕ → Type 0
 IsLastLeg I P y = (z : ℕ) → z < legs_of I → Precedes P y z → ⊥
 

@@ -9,8 +9,8 @@ use Rattle.plan_moves.specs.declared.moves.Step.TheVariants.{Set, Push, Swap, Ti
 use Rattle.desk_rules.specs.Numbers.{numbers}
 use Rattle.desk_rules.specs.Rotations.{dep}
 use Rattle.desk_rules.specs.Maintenance.{flies}
-use Rattle.near_moves.specs.Places.{leg, plane, minute, flier, flown_row, is_movable_flown, is_restorable, family_of, legs_from, run, is_run}
-use Rattle.near_moves.specs.Units.{Unit_, retimed, swapped, dropped, restored, handed}
+use Rattle.near_moves.specs.MoveParts.{leg, plane, minute, flier, flown_row, is_movable_flown, is_restorable, family_of, legs_from, run, is_run}
+use Rattle.near_moves.specs.Units.{MoveUnit, retimed, swapped, dropped, restored, handed}
 
 -- ---- N1, retimed: a leg departs at another time
 
@@ -24,7 +24,7 @@ other_departures I P x =
     (if nat_lt (earliest I x) (dep P x) then earliest I x ∷ [] else [])
     ++ map (λ later. dep P x + later) retiming_delays
 
--- its row is set, its aircraft's legs behind it are pushed, and then a Tidy and a Refill of it
+-- its row is set, its aircraft's legs after it are pushed, and then a Tidy and a Refill of it
 abbrev pub retiming : PlanRows → ℕ → ℕ → List Step
 retiming P x t =
     let p = flier (row_at P x) in
@@ -34,7 +34,7 @@ unfoldable pub retimings : Situation → PlanRows → ℕ → List (List Step)
 retimings I P x = map (retiming P x) (other_departures I P x)
 
 -- each movable leg that is flown
-unfoldable pub retimed_units : Situation → PlanRows → List Unit_
+unfoldable pub retimed_units : Situation → PlanRows → List MoveUnit
 retimed_units I P = map retimed (filter (is_movable_flown I P) (numbers (legs_of I)))
 
 -- ---- N2, swapped: two aircraft exchange their legs from a moment on
@@ -62,7 +62,7 @@ exchanges I P p q = map (exchange p q) (exchange_moments I P p q)
 abbrev pub later_of_family : Situation → ℕ → List ℕ
 later_of_family I p = filter (λ q. nat_lt p q) (family_of I p)
 
-unfoldable pub swapped_units : Situation → List Unit_
+unfoldable pub swapped_units : Situation → List MoveUnit
 swapped_units I = flat_map (λ p. map (swapped p) (later_of_family I p)) (filter (λ p. not (plane_at I p).surface) (numbers (planes_of I)))
 
 -- ---- N3, dropped: legs are cancelled, so that the aircraft is again where it was
@@ -91,7 +91,7 @@ dropping I P x k = map (cancelling P) (run I P x k) ++ Push (plane (flier (row_a
 unfoldable pub droppings : Situation → PlanRows → ℕ → List (List Step)
 droppings I P x = map (dropping I P x) (filter (comes_round I P x) run_lengths)
 
-unfoldable pub dropped_units : Situation → PlanRows → List Unit_
+unfoldable pub dropped_units : Situation → PlanRows → List MoveUnit
 dropped_units I P = map dropped (filter (is_movable_flown I P) (numbers (legs_of I)))
 
 -- ---- N4, restored: a cancelled leg is flown again, alone or with one that brings its aircraft back
@@ -103,7 +103,7 @@ restoring_step I x p = Set (leg x) Cancelled (flown_row p (earliest I x))
 abbrev pub restoring_alone : Situation → ℕ → ℕ → List Step
 restoring_alone I x p = restoring_step I x p ∷ Push (plane p) (Some (leg x)) ∷ Tidy ∷ Refill (leg x) ∷ []
 
--- a leg that brings the aircraft back is scheduled to depart at most so many minutes behind the arrival: a day
+-- a leg that brings the aircraft back is scheduled to depart at most so many minutes after the arrival: a day
 abbrev pub back_within : ℕ
 back_within = 1440
 
@@ -116,9 +116,9 @@ brings_back I P x y =
     && ((back.origin.0 == there.dest.0) && (back.dest.0 == there.origin.0)
     && (nat_le (there.sched.0 + there.block) back.sched.0 && nat_le back.sched.0 (there.sched.0 + there.block + back_within)))
 
--- leg y departs at its earliest departure, or once aircraft p has turned round behind leg x, whichever is later
+-- leg y departs at its earliest departure, or once aircraft p has turned round after leg x, whichever is later
 abbrev pub back_departure : Situation → ℕ → ℕ → ℕ → ℕ
-back_departure I x p y = max (earliest I y) (earliest I x + (leg_at I x).block + (plane_at I p).turn)
+back_departure I x p y = max (earliest I y) (earliest I x + (leg_at I x).block + (plane_at I p).turnaround)
 
 abbrev pub restoring_both : Situation → ℕ → ℕ → ℕ → List Step
 restoring_both I x p y =
@@ -128,7 +128,7 @@ unfoldable pub restorings : Situation → PlanRows → ℕ → ℕ → List (Lis
 restorings I P x p = restoring_alone I x p ∷ map (restoring_both I x p) (filter (brings_back I P x) (numbers (legs_of I)))
 
 -- each movable leg that is cancelled though not ordered off, with each aircraft of its scheduled aircraft's family
-unfoldable pub restored_units : Situation → PlanRows → List Unit_
+unfoldable pub restored_units : Situation → PlanRows → List MoveUnit
 restored_units I P = flat_map (λ x. map (restored x) (family_of I (leg_at I x).plane.0)) (filter (is_restorable I P) (numbers (legs_of I)))
 
 -- ---- N5, handed: a run goes to another aircraft of the family
@@ -146,5 +146,5 @@ abbrev pub others_of_family : Situation → PlanRows → ℕ → List ℕ
 others_of_family I P x = filter (λ q. not (q == flier (row_at P x))) (family_of I (flier (row_at P x)))
 
 -- each run that begins with a movable leg that is flown, with each of these; the shorter runs first
-unfoldable pub handed_units : Situation → PlanRows → List Unit_
+unfoldable pub handed_units : Situation → PlanRows → List MoveUnit
 handed_units I P = flat_map (λ x. flat_map (λ k. map (handed x k) (others_of_family I P x)) (filter (is_run I P x) run_lengths)) (filter (is_movable_flown I P) (numbers (legs_of I)))

@@ -1,4 +1,4 @@
-pub mod Places
+pub mod MoveParts
 pub mod Units
 pub mod LegMoves
 pub mod Routes

@@ -7,7 +7,7 @@ use Rattle.desk_data.specs.declared.row.Group.{Group}
 use Rattle.desk_data.specs.Situation.{Situation, legs_of, planes_of, reservations_of, leg_at, plane_at, fixed, ordered_off}
 use Rattle.desk_data.specs.PlanRows.{PlanRows, row_at, groups_at}
 use Rattle.desk_rules.specs.Words.{Flies}
-use Rattle.near_moves.specs.Units.{Unit_, retimed, dropped, restored, rebooked}
+use Rattle.near_moves.specs.Units.{MoveUnit, retimed, dropped, restored, rebooked}
 use Rattle.near_moves.specs.Words.{ExchangesTwo, HandsRun}
 use Rattle.near_moves.specs.RouteWords.{IsRoute}
 
@@ -36,7 +36,7 @@ pub record HasPassengers (I : Situation) (P : PlanRows) (r : ℕ) (path : List (
   pub on : group.path ≡ path
 
 -- a unit is of one of the six neighbourhoods, N1 to N6
-pub data IsUnit (I : Situation) (P : PlanRows) (u : Unit_) : Type 0 where
+pub data IsUnit (I : Situation) (P : PlanRows) (u : MoveUnit) : Type 0 where
   -- a movable leg that is flown departs at another time
   retimes : (x : ℕ) → IsMovableLeg I P x → u ≡ retimed x → IsUnit I P u
   -- two aircraft of a family exchange their legs

@@ -10,7 +10,7 @@ use Rattle.plan_moves.specs.declared.moves.Step.{Step}
 use Rattle.plan_moves.specs.declared.moves.Step.TheVariants.{Rebook}
 use Rattle.desk_rules.specs.Numbers.{numbers}
 use Rattle.desk_model.specs.Rebook.{count_on}
-use Rattle.near_moves.specs.Units.{Unit_, rebooked}
+use Rattle.near_moves.specs.Units.{MoveUnit, rebooked}
 use Rattle.near_moves.specs.Routes.{routes}
 
 -- where passengers may go: to each route, and then off all paths
@@ -30,5 +30,5 @@ rebookings I P r path =
     flat_map (λ aim. map (rebooking r path aim) (portions (count_on path (groups_at P r)))) (filter (λ aim. not (same_path path aim)) (aims I P r))
 
 -- each reservation, with each path that has passengers, in path order
-unfoldable pub rebooked_units : Situation → PlanRows → List Unit_
+unfoldable pub rebooked_units : Situation → PlanRows → List MoveUnit
 rebooked_units I P = flat_map (λ r. map (λ group. rebooked r group.path) (groups_at P r)) (numbers (reservations_of I))

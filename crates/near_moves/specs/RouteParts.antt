@@ -1,4 +1,4 @@
--- The routes in two parts: the scheduled path, where it is one, and the others behind it.
+-- The routes in two parts: the scheduled path, where it is one, and the others after it.
 use Rattle.std.specs.Prelude.{ℕ, Bool, ◌&&◌, not, List, [], ◌∷◌, ◌++◌, map}
 use Rattle.desk_units.specs.declared.numbers.Leg.{Leg}
 use Rattle.desk_units.specs.declared.numbers.Cabin.{Cabin}
@@ -7,7 +7,7 @@ use Rattle.desk_data.specs.Booked.{booked_path}
 use Rattle.desk_data.specs.PlanRows.{PlanRows, same_path}
 use Rattle.near_moves.specs.Routes.{all_pairs, all_doubles, stem, is_route}
 
--- the paths that are tried behind the scheduled path
+-- the paths that are tried after the scheduled path
 abbrev pub tried_rest : Situation → ℕ → List (List (Leg × Cabin))
 tried_rest I r =
     stem I r

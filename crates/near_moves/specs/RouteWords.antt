@@ -6,7 +6,7 @@ use Rattle.desk_data.specs.Situation.{Situation, legs_of}
 use Rattle.desk_data.specs.Booked.{booked_path}
 use Rattle.desk_data.specs.PlanRows.{PlanRows}
 use Rattle.desk_model.specs.Tidy.{IsFit}
-use Rattle.near_moves.specs.Places.{leg}
+use Rattle.near_moves.specs.MoveParts.{leg}
 use Rattle.near_moves.specs.Routes.{stem}
 
 -- the four kinds of paths that may be routes of reservation r
@@ -15,9 +15,9 @@ pub data IsTried (I : Situation) (r : ℕ) (path : List (Leg × Cabin)) : Type 0
   scheduled : path ≡ booked_path I r → IsTried I r path
   -- what was begun, alone
   begun_alone : path ≡ stem I r → IsTried I r path
-  -- and with one leg behind it, in any cabin
+  -- and with one leg after it, in any cabin
   one_more : (x : ℕ) (c : Cabin) → x < legs_of I → path ≡ stem I r ++ (leg x, c) ∷ [] → IsTried I r path
-  -- and with two legs behind it, in one cabin
+  -- and with two legs after it, in one cabin
   two_more : (x y : ℕ) (c : Cabin) → x < legs_of I → y < legs_of I → path ≡ stem I r ++ (leg x, c) ∷ (leg y, c) ∷ [] → IsTried I r path
 
 -- a path that passengers of reservation r may take: it is of one of these kinds, has 1 to 8 legs, and meets C13, C14 and C15

@@ -11,7 +11,7 @@ use Rattle.desk_data.specs.PlanRows.{PlanRows, same_path}
 use Rattle.desk_rules.specs.Numbers.{numbers}
 use Rattle.desk_data.specs.Paths.{is_carried}
 use Rattle.desk_model.specs.Tidy.{is_fit_path}
-use Rattle.near_moves.specs.Places.{leg}
+use Rattle.near_moves.specs.MoveParts.{leg}
 
 -- each leg with each cabin, in the order of paths
 unfoldable pub all_pairs : Situation → List (Leg × Cabin)
@@ -25,7 +25,7 @@ all_doubles I = flat_map (λ a. map (λ b. a ∷ b ∷ []) (filter (λ b. cabin_
 abbrev pub stem : Situation → ℕ → List (Leg × Cabin)
 stem I r = take (begun I r) (booked_path I r)
 
--- the scheduled path; what was begun, alone; and behind that one leg, or two legs in one cabin
+-- the scheduled path; what was begun, alone; and after that one leg, or two legs in one cabin
 unfoldable pub tried_paths : Situation → ℕ → List (List (Leg × Cabin))
 tried_paths I r =
     booked_path I r

@@ -3,11 +3,11 @@ use Rattle.std.specs.Prelude.{◌≡◌, ℕ, ◌<◌, List, Contains}
 use Rattle.plan_moves.specs.declared.moves.Move.{Move}
 use Rattle.desk_data.specs.Situation.{Situation}
 use Rattle.desk_data.specs.PlanRows.{PlanRows}
-use Rattle.near_moves.specs.Units.{Unit_}
+use Rattle.near_moves.specs.Units.{MoveUnit}
 use Rattle.near_moves.specs.Near.{of_shard, shard}
 
 -- a unit is in one of n shards, and in no other
-pub record IsInOneShard (n : ℕ) (us : List Unit_) (u : Unit_) : Type 0 where
+pub record IsInOneShard (n : ℕ) (us : List MoveUnit) (u : MoveUnit) : Type 0 where
   pub shard : ℕ
   pub below : shard < n
   pub there : Contains (of_shard shard n us) u

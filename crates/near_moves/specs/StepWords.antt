@@ -9,7 +9,7 @@ use Rattle.plan_moves.specs.declared.moves.Step.{Step}
 use Rattle.plan_moves.specs.declared.moves.Step.TheVariants.{Set, Push, Swap, Tidy, Refill, Rebook}
 use Rattle.desk_rules.specs.Rotations.{dep}
 use Rattle.desk_model.specs.Rebook.{count_on}
-use Rattle.near_moves.specs.Places.{leg, plane, minute, flown_row, run}
+use Rattle.near_moves.specs.MoveParts.{leg, plane, minute, flown_row, run}
 use Rattle.near_moves.specs.Words.{DepartsOneAt}
 use Rattle.near_moves.specs.NeighbourhoodWords.{IsAim, IsPortion}
 
@@ -22,7 +22,7 @@ pub data IsOtherDeparture (I : Situation) (x d t : ℕ) : Type 0 where
   later_by_120 : t ≡ d + 120 → IsOtherDeparture I x d t
   later_by_240 : t ≡ d + 240 → IsOtherDeparture I x d t
 
--- the leg that aircraft p flies at moment d departs at another; the legs behind it are pushed, and then a Tidy and a Refill of it
+-- the leg that aircraft p flies at moment d departs at another; the legs after it are pushed, and then a Tidy and a Refill of it
 pub record IsRetiming (I : Situation) (P : PlanRows) (x p d : ℕ) (steps : List Step) : Type 0 where
   pub at : ℕ
   pub other : IsOtherDeparture I x d at
@@ -47,7 +47,7 @@ pub record IsRebooking (I : Situation) (P : PlanRows) (r : ℕ) (path : List (Le
   pub portion : IsPortion (count_on path (groups_at P r)) count
   pub all : steps ≡ Rebook (record { 0 = r }) path aim count ∷ []
 
--- leg y is movable, cancelled and not ordered off; it leads back from where leg x leads, and is scheduled to depart 0 to 1,440 minutes behind the scheduled arrival of leg x
+-- leg y is movable, cancelled and not ordered off; it leads back from where leg x leads, and is scheduled to depart 0 to 1,440 minutes after the scheduled arrival of leg x
 pub record LeadsBack (I : Situation) (P : PlanRows) (x y : ℕ) : Type 0 where
   pub within : y < legs_of I
   pub movable : fixed I y ≡ false
@@ -63,5 +63,5 @@ pub data IsRestoring (I : Situation) (P : PlanRows) (x p : ℕ) (steps : List St
   alone : steps ≡ Set (leg x) Cancelled (flown_row p (earliest I x)) ∷ Push (plane p) (Some (leg x)) ∷ Tidy ∷ Refill (leg x) ∷ [] → IsRestoring I P x p steps
   with_back :
       (y : ℕ) → LeadsBack I P x y
-      → steps ≡ Set (leg x) Cancelled (flown_row p (earliest I x)) ∷ Set (leg y) Cancelled (flown_row p (max (earliest I y) (earliest I x + (leg_at I x).block + (plane_at I p).turn))) ∷ Push (plane p) None ∷ Tidy ∷ Refill (leg x) ∷ Refill (leg y) ∷ []
+      → steps ≡ Set (leg x) Cancelled (flown_row p (earliest I x)) ∷ Set (leg y) Cancelled (flown_row p (max (earliest I y) (earliest I x + (leg_at I x).block + (plane_at I p).turnaround))) ∷ Push (plane p) None ∷ Tidy ∷ Refill (leg x) ∷ Refill (leg y) ∷ []
       → IsRestoring I P x p steps

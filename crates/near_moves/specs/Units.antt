@@ -4,22 +4,22 @@ use Rattle.desk_units.specs.declared.numbers.Leg.{Leg}
 use Rattle.desk_units.specs.declared.numbers.Cabin.{Cabin}
 
 -- what the moves of a unit are made of
-pub data Unit_ : Type 0 where
+pub data MoveUnit : Type 0 where
   -- N1: a leg departs at another time
-  retimed : ℕ → Unit_
+  retimed : ℕ → MoveUnit
   -- N2: two aircraft exchange their legs
-  swapped : ℕ → ℕ → Unit_
+  swapped : ℕ → ℕ → MoveUnit
   -- N3: legs from this one on are cancelled
-  dropped : ℕ → Unit_
+  dropped : ℕ → MoveUnit
   -- N4: a cancelled leg is flown again, by this aircraft
-  restored : ℕ → ℕ → Unit_
+  restored : ℕ → ℕ → MoveUnit
   -- N5: so many legs from this one on go to another aircraft
-  handed : ℕ → ℕ → ℕ → Unit_
+  handed : ℕ → ℕ → ℕ → MoveUnit
   -- N6: passengers of a reservation leave this path
-  rebooked : ℕ → List (Leg × Cabin) → Unit_
+  rebooked : ℕ → List (Leg × Cabin) → MoveUnit
 
 -- the number of the leg, the aircraft or the reservation to which the moves of a unit belong
-abbrev pub owner : Unit_ → ℕ
+abbrev pub owner : MoveUnit → ℕ
 owner (retimed x) = x
 owner (swapped p q) = p
 owner (dropped x) = x

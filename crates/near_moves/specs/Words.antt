@@ -3,11 +3,11 @@ use Rattle.std.specs.Prelude.{◌≡◌, ◌≢◌, ℕ, ◌<◌, ◌≤◌, ◌
 use Rattle.desk_data.specs.Situation.{Situation, legs_of, planes_of, plane_at, fixed}
 use Rattle.desk_data.specs.PlanRows.{PlanRows}
 use Rattle.desk_rules.specs.Words.{Flies, Precedes}
-use Rattle.near_moves.specs.Places.{legs_from, run}
-use Rattle.near_moves.specs.Units.{Unit_, swapped, handed}
+use Rattle.near_moves.specs.MoveParts.{legs_from, run}
+use Rattle.near_moves.specs.Units.{MoveUnit, swapped, handed}
 
 -- two aircraft are of one family, the first is no surface transport, and the second has the greater number
-pub record ExchangesTwo (I : Situation) (u : Unit_) : Type 0 where
+pub record ExchangesTwo (I : Situation) (u : MoveUnit) : Type 0 where
   pub first : ℕ
   pub second : ℕ
   pub unit : u ≡ swapped first second
@@ -17,7 +17,7 @@ pub record ExchangesTwo (I : Situation) (u : Unit_) : Type 0 where
   pub family : (plane_at I second).family ≡ (plane_at I first).family
 
 -- one pair of aircraft stands before another: by the first aircraft, and then by the second
-pub record AreInOrder (u v : Unit_) : Type 0 where
+pub record AreInOrder (u v : MoveUnit) : Type 0 where
   pub first : ℕ
   pub second : ℕ
   pub later_first : ℕ
@@ -33,7 +33,7 @@ pub record DepartsOneAt (I : Situation) (P : PlanRows) (p q t : ℕ) : Type 0 wh
   pub movable : fixed I leg ≡ false
   pub flown : Flies P leg p t ⊎ Flies P leg q t
 
--- leg y is leg x, which an aircraft flies, or comes behind it on that aircraft
+-- leg y is leg x, which an aircraft flies, or comes after it on that aircraft
 pub record IsFrom (I : Situation) (P : PlanRows) (x y : ℕ) : Type 0 where
   pub within : y < legs_of I
   pub plane : ℕ
@@ -47,7 +47,7 @@ pub record IsRun (I : Situation) (P : PlanRows) (x k : ℕ) : Type 0 where
   pub movable : All (λ y. fixed I y ≡ false) (run I P x k)
 
 -- a run of 1 to 4 legs that begins with a movable leg goes from the aircraft that flies it to another of the family
-pub record HandsRun (I : Situation) (P : PlanRows) (u : Unit_) : Type 0 where
+pub record HandsRun (I : Situation) (P : PlanRows) (u : MoveUnit) : Type 0 where
   pub leg : ℕ
   pub legs : ℕ
   pub to : ℕ

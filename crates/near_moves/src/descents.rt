@@ -26,8 +26,8 @@ pub fn a_proposal_is_accepted_exactly_where_it_is_better()
 
 /// A descent leaves the history that it begins with, and adds steps to it: in each caller 0 proposes
 /// the first better move near the plan as it stands, and it is accepted. Where there is no plan, it adds
-/// nothing. It never makes a history of 900,000 entries or more longer. Since the last batch no more are accepted behind it
-/// than `most`, or than there were: behind a batch, where none was accepted yet, at most `most`.
+/// nothing. It never makes a history of 900,000 entries or more longer. Since the last batch no more are accepted after it
+/// than `most`, or than there were: after a batch, where none was accepted yet, at most `most`.
 pub fn a_descent_adds_the_first_better_moves()
     ensures adds { (most : ℕ) (S : State) (h : Items Recorded) → Descends S h (descent most S h) }
     ensures unplanned { (most : ℕ) (S : State) (h : Items Recorded) (item : Broken) → (state S h).broken ≡ Some item → descent most S h ≡ h }
@@ -36,22 +36,22 @@ pub fn a_descent_adds_the_first_better_moves()
     ensures batch { (S : State) (h : Items Recorded) (B : Batch) → accepted_since_batch (h ++ entry_of (state S h) 0 (event.Batch B) ∷ []) ≡ 0 }
 {}
 
-/// Behind a descent there is nothing more to propose. So from a plan it ends at a plan, and where the
-/// history behind it is not spent, no move near that plan is better.
+/// After a descent there is nothing more to propose. So from a plan it ends at a plan, and where the
+/// history after it is not spent, no move near that plan is better.
 pub fn a_descent_ends_quiet_or_spent()
     ensures ends { (most : ℕ) (S : State) (h : Items Recorded) → next_proposal most S (descent most S h) ≡ None }
     ensures planned { (most : ℕ) (S : State) (h : Items Recorded) → (state S h).broken ≡ None → (state S (descent most S h)).broken ≡ None }
     ensures quiet { (most : ℕ) (S : State) (h : Items Recorded) → (state S h).broken ≡ None → is_spent most (descent most S h) ≡ false → IsQuiet (state S (descent most S h)) }
 {}
 
-/// The batches of a recovery are those that it is told, in their order, each once. All its entries are
+/// The batches of a recovery are those that it is given, in their order, each once. All its entries are
 /// from caller 0, and those that are no batches are steps of descents. It is at most 900,000 entries
 /// longer than there are batches.
 ///
-/// The recovery of some first batches stands at its beginning. Behind each batch it goes on by the descent from there, and
-/// this ends before the next batch arrives, and behind the last: at most `most` were accepted since the batch, and there is
+/// The recovery of some first batches stands at its beginning. After each batch it goes on by the descent from there, and
+/// this ends before the next batch arrives, and after the last: at most `most` were accepted since the batch, and there is
 /// nothing more to propose. So where there is a plan then and the history is not spent, no move near that plan is better.
-pub fn a_recovery_takes_the_batches_and_descends_behind_each()
+pub fn a_recovery_takes_the_batches_and_descends_after_each()
     ensures batches { (most : ℕ) (S : State) (batches : Items Batch) → batches_in (recovery most S batches) ≡ batches }
     ensures entries { (most : ℕ) (S : State) (batches : Items Batch) → AllAlong IsRecoveryEntry S (recovery most S batches) }
     ensures length { (most : ℕ) (S : State) (batches : Items Batch) → length (recovery most S batches) ≤ proposal_limit + length batches }

@@ -1,6 +1,6 @@
 //! Why a search ended.
 
-/// Why no move more is proposed behind a batch where there is a plan.
+/// Why no move more is proposed after a batch where there is a plan.
 #[derive(Clone, Copy, Debug, PartialEq, Eq)]
 pub enum SearchEnd {
     /// As many proposals were accepted as may be, or the journal takes no more of them.

@@ -6,10 +6,10 @@ ghost use Rattle.desk_data.specs.PlanRows.{PlanRows};
 ghost use Rattle.desk_data.specs.Valid.{IsPlanFor};
 ghost use Rattle.desk_rules.specs.Words.{Precedes};
 ghost use Rattle.plan_moves.specs.Fits.{Fits};
-ghost use Rattle.near_moves.specs.Places.{is_run, legs_from};
+ghost use Rattle.near_moves.specs.MoveParts.{is_run, legs_from};
 ghost use Rattle.near_moves.specs.LegMoves.{exchange_moments, handed_units, swapped_units};
 ghost use Rattle.near_moves.specs.Near.{leg_units, moves_of};
-ghost use Rattle.near_moves.specs.Units.{Unit_};
+ghost use Rattle.near_moves.specs.Units.{MoveUnit};
 ghost use Rattle.near_moves.specs.Words.{AreInOrder, DepartsOneAt, ExchangesTwo, HandsRun, IsFrom, IsRun};
 
 /// Each move of legs and aircraft near a plan can be asked about: it has 1 to 16 steps, its numbers are in
@@ -18,7 +18,7 @@ pub fn moves_of_legs_fit()
     ensures { (I : Situation) (P : PlanRows) → IsPlanFor I P → All (Fits I) (moves_of I P (leg_units I P)) }
 {}
 
-/// The legs from a leg on are the leg, where it is flown, and those behind it on its aircraft, in their
+/// The legs from a leg on are the leg, where it is flown, and those after it on its aircraft, in their
 /// order.
 pub fn legs_from_a_leg_are_in_their_order()
     ensures legs { (I : Situation) (P : PlanRows) (x y : ℕ) → x < legs_of I → Contains (legs_from I P x) y ↔ IsFrom I P x y }
@@ -34,7 +34,7 @@ pub fn runs_are_of_movable_legs()
 /// Two aircraft exchange legs just where they are of one family and the first is no surface transport.
 /// Each two stand there once, the lesser number first, in the order of their numbers.
 pub fn swaps_are_of_two_aircraft_of_a_family()
-    ensures units { (I : Situation) (u : Unit_) → Contains (swapped_units I) u ↔ ExchangesTwo I u }
+    ensures units { (I : Situation) (u : MoveUnit) → Contains (swapped_units I) u ↔ ExchangesTwo I u }
     ensures order { (I : Situation) → AllPairs AreInOrder (swapped_units I) }
 {}
 
@@ -48,5 +48,5 @@ pub fn moments_of_an_exchange_are_departures_in_order()
 /// Legs are handed on just where they are a run of 1 to 4 that begins with a movable leg, and only to
 /// another aircraft of the family of the one that flies them.
 pub fn runs_are_handed_within_the_family()
-    ensures { (I : Situation) (P : PlanRows) (u : Unit_) → Contains (handed_units I P) u ↔ HandsRun I P u }
+    ensures { (I : Situation) (P : PlanRows) (u : MoveUnit) → Contains (handed_units I P) u ↔ HandsRun I P u }
 {}

@@ -1,11 +1,11 @@
 //! The moves near a plan that a search tries, in their order, and what a descent makes of them.
 //!
-//! The definitions stand in `specs/`: `Places`, the legs and aircraft that moves are made of; `Units`, of what
+//! The definitions are in `specs/`: `MoveParts`, the legs and aircraft that moves are made of; `Units`, of what
 //! the moves of a unit are made; `LegMoves` and `PassengerMoves`, the moves of each neighbourhood; `Near`, all
 //! of them in their order, and their shards; `Routes`, where passengers may go; `Descent`, what is proposed
 //! one after another. The same in words, for the laws: `NeighbourhoodWords`, `Words`, `DropWords`, `StepWords`
 //! and `RouteWords`; `Shards`, what is in a shard; `Descents`, what descents and recoveries add to a history.
-//! What a move makes of a plan stands in `desk_model`.
+//! What a move makes of a plan is in `desk_model`.
 //!
 //! The neighbourhoods, in their order: a leg departs at another time (N1, retimed), two aircraft exchange
 //! their legs from a moment on (N2, swapped), legs are cancelled so that the aircraft is again where it was
@@ -26,7 +26,7 @@ mod shards;
 pub use descents::{
     a_descent_adds_the_first_better_moves, a_descent_ends_quiet_or_spent,
     a_proposal_is_accepted_exactly_where_it_is_better,
-    a_recovery_takes_the_batches_and_descends_behind_each, descents_and_recoveries_are_legal,
+    a_recovery_takes_the_batches_and_descends_after_each, descents_and_recoveries_are_legal,
 };
 pub use drops::runs_are_dropped_where_they_come_round;
 pub use ended::SearchEnd;

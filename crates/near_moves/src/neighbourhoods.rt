@@ -7,7 +7,7 @@ ghost use Rattle.desk_data.specs.Situation.{Situation};
 ghost use Rattle.desk_data.specs.PlanRows.{PlanRows, groups_at};
 ghost use Rattle.desk_data.specs.Valid.{IsPlanFor};
 ghost use Rattle.near_moves.specs.Near.{unit_steps, units};
-ghost use Rattle.near_moves.specs.Units.{Unit_, handed};
+ghost use Rattle.near_moves.specs.Units.{MoveUnit, handed};
 ghost use Rattle.near_moves.specs.PassengerMoves.{aims, portions, rebookings};
 ghost use Rattle.plan_moves.specs.declared.moves.Step.{Step};
 ghost use Rattle.desk_model.specs.Rebook.{count_on};
@@ -22,7 +22,7 @@ ghost use Rattle.near_moves.specs.NeighbourhoodWords.{IsAim, IsPortion, IsUnit};
 /// scheduled aircraft, runs are handed on within the family, and the passengers of each reservation are
 /// rebooked off each path that they are on.
 pub fn units_are_of_six_neighbourhoods()
-    ensures { (I : Situation) (P : PlanRows) (u : Unit_) → Contains (units I P) u ↔ IsUnit I P u }
+    ensures { (I : Situation) (P : PlanRows) (u : MoveUnit) → Contains (units I P) u ↔ IsUnit I P u }
 {}
 
 /// Passengers may go just to the routes of their reservation, and off all paths.
@@ -37,7 +37,7 @@ pub fn all_or_a_power_of_two_may_go()
 {}
 
 /// A leg that is flown is retimed just to its earliest departure, where it departs later than that, and to 15,
-/// 30, 60, 120 and 240 minutes later. The move sets it, pushes the legs behind it, tidies, and refills it.
+/// 30, 60, 120 and 240 minutes later. The move sets it, pushes the legs after it, tidies, and refills it.
 pub fn legs_are_retimed_to_other_departures()
     ensures { (I : Situation) (P : PlanRows) (x p d : ℕ) (steps : Items Step) → Flies P x p d → Contains (retimings I P x) steps ↔ IsRetiming I P x p d steps }
 {}
@@ -48,7 +48,7 @@ pub fn aircraft_exchange_their_legs_at_departures()
     ensures { (I : Situation) (P : PlanRows) (p q : ℕ) (steps : Items Step) → IsPlanFor I P → Contains (exchanges I P p q) steps ↔ IsExchange I P p q steps }
 {}
 
-/// A leg is restored just alone, or with one that leads back, scheduled to depart at most 1,440 minutes behind
+/// A leg is restored just alone, or with one that leads back, scheduled to depart at most 1,440 minutes after
 /// its scheduled arrival.
 pub fn legs_are_restored_alone_or_with_one_back()
     ensures { (I : Situation) (P : PlanRows) (x p : ℕ) (steps : Items Step) → Contains (restorings I P x p) steps ↔ IsRestoring I P x p steps }

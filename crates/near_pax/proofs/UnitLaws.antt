@@ -10,7 +10,7 @@ use Rattle.desk_data.specs.Situation.{Situation, reservations_of}
 use Rattle.desk_data.specs.PlanRows.{PlanRows, groups_at}
 use Rattle.desk_data.specs.Valid.{IsPlanFor}
 use Rattle.desk_rules.specs.Numbers.{numbers}
-use Rattle.near_moves.specs.Units.{Unit_, rebooked, owner}
+use Rattle.near_moves.specs.Units.{MoveUnit, rebooked, owner}
 use Rattle.near_moves.specs.Near.{of_shard}
 use Rattle.near_moves.specs.PassengerMoves.{rebooked_units}
 use Rattle.near_moves.proofs.ListLaws.{filter_of_map, filter_of_flat_map, filter_all, filter_none, flat_map_agree, All_from_contains}
@@ -32,7 +32,7 @@ numbers-at (suc n) k d lt =
     ]
 
 -- the units of all reservations from r on
-abbrev behind : Situation → PlanRows → ℕ → ℕ → ℕ → List Unit_
+abbrev behind : Situation → PlanRows → ℕ → ℕ → ℕ → List MoveUnit
 behind I P s n r = flat_map (units_of P s n) (drop r (numbers (reservations_of I)))
 
 units-past : (I : Situation) (P : PlanRows) (s n r : ℕ) → IsPlanFor I P → reservations_of I ≤ r → units_of P s n r ≡ []
@@ -53,7 +53,7 @@ behind-next I P s n r plan =
       | inl lt ↦ ap (flat_map (units_of P s n)) (drop_more ns r 0 (omega (arith, lt, long)) ∙ ap (λ (k : ℕ). k ∷ drop (r + 1) ns) (numbers-at (reservations_of I) r 0 lt))
       | inr past ↦
           ap (flat_map (units_of P s n)) (drop_all r ns (omega (arith, past, long)) ∙ sym (drop_all (r + 1) ns (omega (arith, past, long))))
-          ∙ ap (λ (us : List Unit_). us ++ behind I P s n (r + 1)) (sym (units-past I P s n r plan past))
+          ∙ ap (λ (us : List MoveUnit). us ++ behind I P s n (r + 1)) (sym (units-past I P s n r plan past))
     ]
 
 -- the units of a shard are those of its reservations
@@ -86,17 +86,17 @@ unit-given I P u v has s n r place =
     let groups = groups_at P u.res in
     let parts = and_parts (eqb (u.res % u.shards) u.shard) (ltb u.place (length groups)) has in
     let lt = ltb-true u.place (length groups) parts.1 in
-    let f : Group → Unit_ = λ group. rebooked u.res group.path in
+    let f : Group → MoveUnit = λ group. rebooked u.res group.path in
     let long = length-map groups f in
     let mine : units_of P u.shard u.shards u.res ≡ map f groups = rw parts.0 refl in
     let rest = behind I P u.shard u.shards (u.res + 1) in
     let more : drop u.place (map f groups) ≡ unit_at P u.res u.place ∷ drop (u.place + 1) (map f groups) =
     drop_more (map f groups) u.place (unit_at P u.res u.place) (omega (arith, lt, long))
-    ∙ ap (λ (k : Unit_). k ∷ drop (u.place + 1) (map f groups)) (get_or-map f groups u.place no_group (unit_at P u.res u.place) lt) in
+    ∙ ap (λ (k : MoveUnit). k ∷ drop (u.place + 1) (map f groups)) (get_or-map f groups u.place no_group (unit_at P u.res u.place) lt) in
     rw (s, n, r, place)
-    (ap (λ (us : List Unit_). drop u.place us ++ rest) mine
-    ∙ ap (λ (us : List Unit_). us ++ rest) more
-    ∙ ap (λ (us : List Unit_). unit_at P u.res u.place ∷ (drop (u.place + 1) us ++ rest)) (sym mine))
+    (ap (λ (us : List MoveUnit). drop u.place us ++ rest) mine
+    ∙ ap (λ (us : List MoveUnit). us ++ rest) more
+    ∙ ap (λ (us : List MoveUnit). unit_at P u.res u.place ∷ (drop (u.place + 1) us ++ rest)) (sym mine))
 
 not_less : (a b : ℕ) → ltb a b ≡ false → b ≤ a
 not_less a b h = grind (arith, nat_tests)
@@ -104,7 +104,7 @@ not_less a b h = grind (arith, nat_tests)
 none_here : (P : PlanRows) (u : PaxUnits) → has_path P u u.res ≡ false → drop u.place (units_of P u.shard u.shards u.res) ≡ []
 none_here P u has =
     let groups = groups_at P u.res in
-    let f : Group → Unit_ = λ group. rebooked u.res group.path in
+    let f : Group → MoveUnit = λ group. rebooked u.res group.path in
     elim (cases_Bool (eqb (u.res % u.shards) u.shard)) [
       | inl mine ↦
           let off : ltb u.place (length groups) ≡ false = rw mine at has in
@@ -118,13 +118,13 @@ pub unit-passed : (I : Situation) (P : PlanRows) (u v : PaxUnits) → IsPlanFor 
 unfolding left_units
 unit-passed I P u v plan has s n r place =
     rw (s, n, r, place)
-    (ap (λ (us : List Unit_). us ++ behind I P u.shard u.shards (u.res + 1)) (none_here P u has)
+    (ap (λ (us : List MoveUnit). us ++ behind I P u.shard u.shards (u.res + 1)) (none_here P u has)
     ∙ behind-next I P u.shard u.shards (u.res + 1) plan)
 
 pub units-none : (I : Situation) (P : PlanRows) (u : PaxUnits) → IsPlanFor I P → reservations_of I ≤ u.res → left_units I P u ≡ []
 unfolding left_units
 units-none I P u plan past =
     let long = numbers-length (reservations_of I) in
-    ap (λ (us : List Unit_). drop u.place us ++ behind I P u.shard u.shards (u.res + 1)) (units-past I P u.shard u.shards u.res plan past)
-    ∙ ap (λ (us : List Unit_). us ++ behind I P u.shard u.shards (u.res + 1)) (drop_all u.place [] (omega arith))
+    ap (λ (us : List MoveUnit). drop u.place us ++ behind I P u.shard u.shards (u.res + 1)) (units-past I P u.shard u.shards u.res plan past)
+    ∙ ap (λ (us : List MoveUnit). us ++ behind I P u.shard u.shards (u.res + 1)) (drop_all u.place [] (omega arith))
     ∙ ap (flat_map (units_of P u.shard u.shards)) (drop_all (u.res + 1) (numbers (reservations_of I)) (omega (arith, past, long)))

@@ -8,7 +8,7 @@ use Rattle.desk_data.specs.PlanRows.{PlanRows, groups_at, same_path}
 use Rattle.plan_moves.specs.declared.moves.Move.{Move}
 use Rattle.desk_model.specs.Rebook.{count_on}
 use Rattle.flight_net.specs.Flights.{IsNetOf}
-use Rattle.near_moves.specs.Units.{Unit_}
+use Rattle.near_moves.specs.Units.{MoveUnit}
 use Rattle.near_moves.specs.PassengerMoves.{aims, portions, rebooking}
 use Rattle.near_moves.specs.Near.{move_of, unit_moves, moves_of}
 use Rattle.near_pax.specs.declared.unit.Made.{Made}
@@ -72,11 +72,11 @@ pub record IsOf (I : Situation) (P : PlanRows) (moves : PaxMoves) : Type 0 where
   pub shards : 0 < moves.units.shards
   pub unit : IsUnitIfAny I P moves.unit
 
--- the moves that are left of the unit at hand, and the units behind it
+-- the moves that are left of the unit at hand, and the units after it
 unfoldable pub unit_left : Situation → PlanRows → PaxMoves → List Move
 unit_left I P moves = left_if_any I P moves.unit
 
-unfoldable pub units_left : Situation → PlanRows → PaxMoves → List Unit_
+unfoldable pub units_left : Situation → PlanRows → PaxMoves → List MoveUnit
 units_left I P moves = left_units I P moves.units
 
 -- all moves that are left

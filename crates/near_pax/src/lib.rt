@@ -11,7 +11,7 @@
 //!     }
 //!
 //! Proved: the moves are those of near_moves for passengers of a shard's reservations, in their order, and
-//! where memory runs out those that are left are as before. It stands on `near_moves`, `flight_net` and
+//! where memory runs out those that are left are as before. It depends on `near_moves`, `flight_net` and
 //! `plan_pages`.
 #![tactic(auto)]
 

@@ -119,7 +119,7 @@ impl PaxMoves {
         }
     }
 
-    /// The next move off the path at hand; the paths behind it stay. `None` where that path has none left. The
+    /// The next move off the path at hand; the paths after it stay. `None` where that path has none left. The
     /// only error is out of memory, and after it the moves that are left are as before.
     pub fn next_in_unit(
         &mut self,

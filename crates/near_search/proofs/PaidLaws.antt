@@ -16,7 +16,7 @@ use Rattle.desk_data.specs.PlanRows.{PlanRows, groups_at, with_groups, path_cmp,
 use Rattle.desk_rules.specs.Numbers.{numbers}
 use Rattle.desk_rules.specs.Passengers.{all_flown, minutes_late}
 use Rattle.desk_rules.specs.Cost.{arrives, delay, delay_cost, cancellation, cancellation_cost, downgrade_on, downgrade_cost, legal, legal_cost, operating_cost, missing_aircraft, position_cost, cost}
-use Rattle.desk_model.specs.Rebook.{count_on, is_before, is_behind, group_of, with_count, with_fewer, with_more, groups_after_rebook, after_rebook}
+use Rattle.desk_model.specs.Rebook.{count_on, is_before, is_after, group_of, with_count, with_fewer, with_more, groups_after_rebook, after_rebook}
 use Rattle.desk_model.proofs.PathOrder.{by_order, path_same}
 use Rattle.desk_model.proofs.RebookLaws.{amount}
 use Rattle.desk_model.proofs.GroupPlans.{with_groups-same, with_groups-other}
@@ -103,12 +103,12 @@ groups_times I P r (group ∷ groups) =
     rw (sum_by-cons (group_cost I P r) group groups, sum_by-cons (fare (passenger_cost I P r)) group groups, groups_times I P r groups)
     (ap (λ (k : ℕ). k + sum_by (fare (passenger_cost I P r)) groups) (group_times I P r group.count group.path))
 
--- ---- passengers are before a path, on it or behind it
+-- ---- passengers are before a path, on it or after it
 
 abbrev is_on : List (Leg × Cabin) → Group → Bool
 is_on path group = is_eq (path_cmp group.path path)
 
-parts_cost : (f : Fare) (path : List (Leg × Cabin)) (groups : List Group) → sum_by (fare f) (filter (is_before path) groups) + (count_on path groups * f path + sum_by (fare f) (filter (is_behind path) groups)) ≡ sum_by (fare f) groups
+parts_cost : (f : Fare) (path : List (Leg × Cabin)) (groups : List Group) → sum_by (fare f) (filter (is_before path) groups) + (count_on path groups * f path + sum_by (fare f) (filter (is_after path) groups)) ≡ sum_by (fare f) groups
 parts_cost f path [] = omega arith
 parts_cost f path (group ∷ groups) =
     let ih = parts_cost f path groups in
@@ -128,7 +128,7 @@ parts_cost f path (group ∷ groups) =
     let here : fare f group ≡ group.count * f path = ap (λ (p : List (Leg × Cabin)). group.count * f p) is in
     rw (counts, same) (omega (arith, ih, all, more, here)))
     (λ more.
-    let one = sum_by-cons (fare f) group (filter (is_behind path) groups) in
+    let one = sum_by-cons (fare f) group (filter (is_after path) groups) in
     let none : amount (λ other. same_path other path) group ≡ 0 = rw more refl in
     let counts : count_on path (group ∷ groups) ≡ count_on path groups = omega (arith, count, none) in
     rw (counts, more) (omega (arith, ih, all, one)))
@@ -143,8 +143,8 @@ one_cost f path n =
 -- another count on a path
 count_cost : (f : Fare) (path : List (Leg × Cabin)) (n : ℕ) (groups : List Group) → sum_by (fare f) (with_count path n groups) + count_on path groups * f path ≡ sum_by (fare f) groups + n * f path
 count_cost f path n groups =
-    let all = sum_by-append (fare f) (filter (is_before path) groups) (group_of n path ++ filter (is_behind path) groups) in
-    let behind = sum_by-append (fare f) (group_of n path) (filter (is_behind path) groups) in
+    let all = sum_by-append (fare f) (filter (is_before path) groups) (group_of n path ++ filter (is_after path) groups) in
+    let behind = sum_by-append (fare f) (group_of n path) (filter (is_after path) groups) in
     omega (arith, all, behind, one_cost f path n, parts_cost f path groups)
 
 fewer_cost : (f : Fare) (path : List (Leg × Cabin)) (n : ℕ) (groups : List Group) → n ≤ count_on path groups → sum_by (fare f) (with_fewer path n groups) + n * f path ≡ sum_by (fare f) groups

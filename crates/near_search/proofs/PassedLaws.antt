@@ -10,7 +10,7 @@ use Rattle.plan_moves.specs.declared.moves.Move.{Move}
 use Rattle.plan_moves.specs.Fits.{Fits}
 use Rattle.desk_data.specs.Situation.{Situation}
 use Rattle.desk_data.specs.PlanRows.{PlanRows}
-use Rattle.near_moves.specs.Units.{Unit_, owner}
+use Rattle.near_moves.specs.Units.{MoveUnit, owner}
 use Rattle.near_moves.specs.Near.{unit_moves, moves_of, of_shard}
 use Rattle.near_moves.specs.Descent.{is_better}
 use Rattle.near_pax.specs.Units.{unit_at, path_at}
@@ -50,26 +50,26 @@ both_by Q (x ∷ xs) ys front back = (front.0, both_by Q xs ys front.1 back)
 
 -- ---- units that are passed over
 
-pub past-none : (I : Situation) (P : PlanRows) (units : List Unit_) → IsPast I P units units
+pub past-none : (I : Situation) (P : PlanRows) (units : List MoveUnit) → IsPast I P units units
 past-none I P units = record { same = refl; fits = λ all. all; fewer = omega arith }
 
 -- one more: a passenger costs nothing on its path
-pub past-more : (I : Situation) (P : PlanRows) (before now behind : List Unit_) (r place : ℕ) → IsPast I P before now → now ≡ unit_at P r place ∷ behind → passenger_cost I P r (path_at P r place) ≡ 0 → IsPast I P before behind
+pub past-more : (I : Situation) (P : PlanRows) (before now behind : List MoveUnit) (r place : ℕ) → IsPast I P before now → now ≡ unit_at P r place ∷ behind → passenger_cost I P r (path_at P r place) ≡ 0 → IsPast I P before behind
 past-more I P before now behind r place past is none =
     let u = unit_at P r place in
     let worse = recursion_from_All (λ (m : Move). is_better I P m ≡ false) (unit_moves I P u) (unit-ruled_out I P r (path_at P r place) none) in
     let first : find (is_better I P) (moves_of I P now) ≡ find (is_better I P) (moves_of I P behind) =
-    ap (λ (us : List Unit_). find (is_better I P) (moves_of I P us)) is
+    ap (λ (us : List MoveUnit). find (is_better I P) (moves_of I P us)) is
     ∙ find-behind (is_better I P) (unit_moves I P u) (moves_of I P behind) (find_none (is_better I P) (unit_moves I P u) worse) in
     let few = past.fewer in
     record {
       same = past.same ∙ first;
-      fits = λ all. all-back (Fits I) (unit_moves I P u) (moves_of I P behind) (subst (λ (us : List Unit_). All (Fits I) (moves_of I P us)) is (past.fits all));
+      fits = λ all. all-back (Fits I) (unit_moves I P u) (moves_of I P behind) (subst (λ (us : List MoveUnit). All (Fits I) (moves_of I P us)) is (past.fits all));
       fewer = omega (arith, few, ap length is);
     }
 
 -- the moves of the next one are made
-pub past-goes : (I : Situation) (P : PlanRows) (before now : List Unit_) (moves : PaxMoves) (u : Unit_) → IsPast I P before now → now ≡ u ∷ units_left I P moves → unit_left I P moves ≡ unit_moves I P u → GoesOn I P before moves
+pub past-goes : (I : Situation) (P : PlanRows) (before now : List MoveUnit) (moves : PaxMoves) (u : MoveUnit) → IsPast I P before now → now ≡ u ∷ units_left I P moves → unit_left I P moves ≡ unit_moves I P u → GoesOn I P before moves
 past-goes I P before now moves u past is made =
     let behind = units_left I P moves in
     let all_left : left I P moves ≡ moves_of I P now =
@@ -82,12 +82,12 @@ past-goes I P before now moves u past is made =
     }
 
 -- none is left
-pub past-all : (I : Situation) (P : PlanRows) (before now : List Unit_) → IsPast I P before now → now ≡ [] → find (is_better I P) (moves_of I P before) ≡ None
-past-all I P before now past none = past.same ∙ ap (λ (us : List Unit_). find (is_better I P) (moves_of I P us)) none
+pub past-all : (I : Situation) (P : PlanRows) (before now : List MoveUnit) → IsPast I P before now → now ≡ [] → find (is_better I P) (moves_of I P before) ≡ None
+past-all I P before now past none = past.same ∙ ap (λ (us : List MoveUnit). find (is_better I P) (moves_of I P us)) none
 
 -- ---- shards
 
-shard_by : (I : Situation) (P : PlanRows) (Q : Move → Type 0) (s n : ℕ) (us : List Unit_) → AllByRecursion Q (moves_of I P us) → AllByRecursion Q (moves_of I P (of_shard s n us))
+shard_by : (I : Situation) (P : PlanRows) (Q : Move → Type 0) (s n : ℕ) (us : List MoveUnit) → AllByRecursion Q (moves_of I P us) → AllByRecursion Q (moves_of I P (of_shard s n us))
 shard_by I P Q s n [] all = tt
 shard_by I P Q s n (u ∷ us) all =
     let rest = shard_by I P Q s n us (back_by Q (unit_moves I P u) (moves_of I P us) all) in
@@ -97,7 +97,7 @@ shard_by I P Q s n (u ∷ us) all =
     ]
 
 -- what holds of all moves of some units holds of those of a shard
-pub shard-all : (I : Situation) (P : PlanRows) (Q : Move → Type 0) (s n : ℕ) (us : List Unit_) → All Q (moves_of I P us) → All Q (moves_of I P (of_shard s n us))
+pub shard-all : (I : Situation) (P : PlanRows) (Q : Move → Type 0) (s n : ℕ) (us : List MoveUnit) → All Q (moves_of I P us) → All Q (moves_of I P (of_shard s n us))
 shard-all I P Q s n us all = All-from_recursion Q (moves_of I P (of_shard s n us)) (shard_by I P Q s n us (recursion_from_All Q (moves_of I P us) all))
 
 -- ---- one after another
@@ -107,14 +107,14 @@ pub next-is : (o : Option Move) (m : Move) (before after : List Move) → MatchO
 next-is None m before after gives is = absurd cc
 next-is (Some x) m before after gives is = let same : x ≡ m = cc in gives ∙ ap (λ (y : Move). y ∷ after) same
 
--- it fits, and so do those behind it
+-- it fits, and so do those after it
 pub first-fits : (I : Situation) (m : Move) (before after : List Move) → before ≡ m ∷ after → All (Fits I) before → Fits I m
 first-fits I m before after is all = All-head (Fits I) m after (subst (All (Fits I)) is all)
 
 pub rest-fits : (I : Situation) (m : Move) (before after : List Move) → before ≡ m ∷ after → All (Fits I) before → All (Fits I) after
 rest-fits I m before after is all = All-tail (Fits I) m after (subst (All (Fits I)) is all)
 
--- where it is not better, the first better one is among those behind it
+-- where it is not better, the first better one is among those after it
 pub rest-found : (I : Situation) (P : PlanRows) (m : Move) (before after : List Move) → before ≡ m ∷ after → is_better I P m ≡ false → find (is_better I P) after ≡ find (is_better I P) before
 rest-found I P m before after is worse =
     let step : find (is_better I P) (m ∷ after) ≡ find (is_better I P) after = rw worse refl in

@@ -10,7 +10,7 @@ use Rattle.near_legs.specs.Walk.{MoveWalk}
 use Rattle.near_pax.specs.Left as passengers
 use Rattle.near_pax.specs.declared.pax.PaxMoves.{PaxMoves}
 
--- a call gives a move, and leaves the walk so: which moves a walk has still to give is told by a function of it
+-- a call gives a move, and leaves the walk so: which moves a walk has still to give is a function of it
 pub record GivesOne {Walk : Type 0} (left : Walk → List Move) (walk : Walk) (m : Move) (Behind : Walk → Type 0) : Type 0 where
   pub after : Walk
   pub first : left walk ≡ m ∷ left after

@@ -3,20 +3,20 @@ use Rattle.std.specs.Prelude.{◌≡◌, ◌<◌, ◌≤◌, List, length, find,
 use Rattle.desk_data.specs.Situation.{Situation}
 use Rattle.desk_data.specs.PlanRows.{PlanRows}
 use Rattle.plan_moves.specs.Fits.{Fits}
-use Rattle.near_moves.specs.Units.{Unit_}
+use Rattle.near_moves.specs.Units.{MoveUnit}
 use Rattle.near_moves.specs.Near.{moves_of}
 use Rattle.near_moves.specs.Descent.{is_better}
 use Rattle.near_pax.specs.declared.pax.PaxMoves.{PaxMoves}
 use Rattle.near_pax.specs.Left.{left, units_left}
 
--- what is left once units were passed over: the first better move is the same, all fit where they did, and fewer units are left behind
-pub record IsPast (I : Situation) (P : PlanRows) (before now : List Unit_) : Type 0 where
+-- what is left once units were passed over: the first better move is the same, all fit where they did, and fewer units are left
+pub record IsPast (I : Situation) (P : PlanRows) (before now : List MoveUnit) : Type 0 where
   pub same : find (is_better I P) (moves_of I P before) ≡ find (is_better I P) (moves_of I P now)
   pub fits : All (Fits I) (moves_of I P before) → All (Fits I) (moves_of I P now)
   pub fewer : length now ≤ length before
 
--- these moves are left of some units, of at least one of which none is left behind them
-pub record GoesOn (I : Situation) (P : PlanRows) (before : List Unit_) (moves : PaxMoves) : Type 0 where
+-- these moves are left of some units, and the units that are left after them are fewer than those
+pub record GoesOn (I : Situation) (P : PlanRows) (before : List MoveUnit) (moves : PaxMoves) : Type 0 where
   pub same : find (is_better I P) (moves_of I P before) ≡ find (is_better I P) (left I P moves)
   pub fits : All (Fits I) (moves_of I P before) → All (Fits I) (left I P moves)
   pub fewer : length (units_left I P moves) < length before

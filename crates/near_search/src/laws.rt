@@ -16,7 +16,7 @@ ghost use Rattle.near_moves.specs.Units.{rebooked};
 ghost use Rattle.near_moves.specs.Descent.{is_better};
 ghost use Rattle.near_search.specs.Given.{LegsGive, PassengersGive};
 
-/// The moves that a `LegMoves` of a shard gives, call after call until it gives none, and behind them those that a
+/// The moves that a `LegMoves` of a shard gives, call after call until it gives none, and after them those that a
 /// `PaxMoves` of the shard gives so, are the moves of the shard: all of them, in their order, and no others.
 pub fn moves_of_legs_and_then_of_passengers_are_the_shard()
     ensures { (I : Situation) (P : PlanRows) (s n : ℕ) (legs passengers : Items Move) → LegsGive I P s n legs → PassengersGive I P s n passengers → legs ++ passengers ≡ shard I P s n }

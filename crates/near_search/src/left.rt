@@ -5,7 +5,7 @@ ghost use Rattle.plan_moves.specs.declared.moves.Move.{Move as Asked};
 ghost use Rattle.desk_data.specs.Situation.{Situation};
 ghost use Rattle.desk_data.specs.PlanRows.{PlanRows};
 ghost use Rattle.desk_data.specs.Valid.{IsPlanFor};
-ghost use Rattle.near_moves.specs.Units.{Unit_};
+ghost use Rattle.near_moves.specs.Units.{MoveUnit};
 ghost use Rattle.near_legs.specs.Walk as legs;
 ghost use Rattle.near_pax.specs.Left as passengers;
 
@@ -24,10 +24,10 @@ pub(crate) trait MovesLeft {
     /// Those that are not given yet, in their order.
     ghost left: { Situation → PlanRows → Self → List Asked };
 
-    /// The units behind the one at hand: `next_left` gives none of their moves.
-    ghost behind: { Situation → PlanRows → Self → List Unit_ };
+    /// The units after the one at hand: `next_left` gives none of their moves.
+    ghost behind: { Situation → PlanRows → Self → List MoveUnit };
 
-    /// The next one, or `None` where all were given. The units behind stay.
+    /// The next one, or `None` where all were given. The units that follow stay.
     fn next_left(
         &mut self,
         alloc: Global,
@@ -58,7 +58,7 @@ impl MovesLeft for LegMoves {
     }
 }
 
-/// The moves of the path at hand, and behind them the paths that are left.
+/// The moves of the path at hand, and after them the paths that are left.
 impl MovesLeft for PaxMoves {
     ghost is_of = { passengers.IsOf };
 

@@ -60,16 +60,16 @@ all_stay I P r (group ∷ groups) carried fit =
       ap (λ (b : Bool). cond b (group ∷ filter (stays I P r) groups) (filter (stays I P r) groups)) stay ∙ ap (λ (gs : List Group). group ∷ gs) rest.1,
     )
 
--- a path that comes behind another is not empty
-behind_carried : (a b : List (Leg × Cabin)) → path_cmp a b ≡ Less → is_carried b ≡ true
-behind_carried a (pair ∷ b) h = refl
-behind_carried [] [] h = absurd cc
-behind_carried (pair ∷ a) [] h = absurd cc
+-- a path that comes after another is not empty
+after_carried : (a b : List (Leg × Cabin)) → path_cmp a b ≡ Less → is_carried b ≡ true
+after_carried a (pair ∷ b) h = refl
+after_carried [] [] h = absurd cc
+after_carried (pair ∷ a) [] h = absurd cc
 
 rest_carried : (group : Group) (groups : List Group) → AllPairs Ascends (group ∷ groups) → AllByRecursion (λ (other : Group). is_carried other.path ≡ true) groups
 rest_carried group groups pairs =
     recursion_from_All (λ (other : Group). is_carried other.path ≡ true) groups
-    (All-weaker (Ascends group) (λ (other : Group). is_carried other.path ≡ true) (λ other less. behind_carried group.path other.path less) groups (pairs_head Ascends group groups pairs))
+    (All-weaker (Ascends group) (λ (other : Group). is_carried other.path ≡ true) (λ other less. after_carried group.path other.path less) groups (pairs_head Ascends group groups pairs))
 
 keeps : (I : Situation) (P : PlanRows) (r : ℕ) (group : Group) (groups : List Group) (path : List (Leg × Cabin)) → group.path ≡ path → 1 ≤ group.count → AllPairs Ascends (group ∷ groups) → list_all (fits_if_carried I P r) (group ∷ groups) ≡ true → group_of (leaving I P r (group ∷ groups)) [] ++ filter (stays I P r) (group ∷ groups) ≡ group ∷ groups
 keeps I P r group groups [] is some pairs fit =

@@ -8,7 +8,7 @@ use Rattle.desk_data.specs.declared.row.Group.{Group}
 use Rattle.desk_data.specs.Situation.{Situation, legs_of, res_at}
 use Rattle.desk_data.specs.PlanRows.{PlanRows, AreGroups}
 use Rattle.desk_data.specs.Valid.{AreGroupsOf}
-use Rattle.desk_model.specs.Rebook.{passengers_on, is_before, is_behind}
+use Rattle.desk_model.specs.Rebook.{passengers_on, is_before, is_after}
 use Rattle.desk_model.specs.Tidy.{stays_carried}
 use Rattle.desk_model.specs.Refill.{is_refilled, refill_count}
 use Rattle.plan_groups.specs.declared.made.Side.{Side}
@@ -31,7 +31,7 @@ everyone groups = sum_by (λ group. group.count) groups
 -- whether a group's path stands on a side of a path
 abbrev pub is_on_side : Side → List (Leg × Cabin) → Group → Bool
 is_on_side Before path group = is_before path group
-is_on_side Behind path group = is_behind path group
+is_on_side Behind path group = is_after path group
 
 -- the passengers of some groups who are on no path that stays carried in a Tidy
 abbrev pub leaving : Situation → PlanRows → ℕ → List Group → ℕ

@@ -13,7 +13,7 @@
 //!
 //! Proved: the groups are those of which desk_model speaks, they ascend by path, and their passengers are
 //! all those of the reservation; the answer is `None` just where nobody goes, or the two paths are one, and
-//! of a Tidy where no path breaks a rule, and there it is never out of memory. It stands on `desk_model`
+//! of a Tidy where no path breaks a rule, and there it is never out of memory. It depends on `desk_model`
 //! and `plan_reads`.
 #![tactic(auto)]
 

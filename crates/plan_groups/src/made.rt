@@ -1,10 +1,10 @@
-//! Groups that are made, and put behind others.
+//! Groups that are made, and put after others.
 
 ghost use Rattle.std.specs.Prelude.{◌≡◌, ◌++◌, filter, IfOk, OnOk};
 ghost use Rattle.desk_model.specs.Rebook.{group_of, with_count};
 ghost use Rattle.plan_groups.specs.Made.{is_on_side};
 
-use crate::order::{is_before, is_behind};
+use crate::order::{is_after, is_before};
 use desk_data::{Cabin, Group, Leg, List, NoMem, Path};
 use std::alloc::Global;
 
@@ -15,7 +15,7 @@ pub(crate) enum Side {
     Behind,
 }
 
-/// The groups with so many passengers on a path, between those before it and those behind it. There
+/// The groups with so many passengers on a path, between those before it and those after it. There
 /// is no group on it where they are none.
 pub(crate) fn with_count(
     alloc: Global,
@@ -32,7 +32,7 @@ pub(crate) fn with_count(
     Ok(made)
 }
 
-/// Puts a group of passengers on a path behind others, unless they are none.
+/// Puts a group of passengers on a path after others, unless they are none.
 pub(crate) fn add_group(
     alloc: Global,
     count: u32,
@@ -52,7 +52,7 @@ pub(crate) fn add_group(
     Ok(())
 }
 
-/// Puts copies of those groups behind others that stand on one side of a path.
+/// Puts copies of those groups after others that stand on one side of a path.
 fn add_side(
     alloc: Global,
     side: Side,
@@ -76,7 +76,7 @@ fn is_on_side(side: Side, path: &[(Leg, Cabin)], group: &Group) -> bool
 {
     match side {
         Side::Before => is_before(path, group),
-        Side::Behind => is_behind(path, group),
+        Side::Behind => is_after(path, group),
     }
 }
 

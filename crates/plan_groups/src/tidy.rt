@@ -92,7 +92,7 @@ fn leaving<P: ReadPlan>(inst: &Instance, plan: &P, res: Res, groups: &[Group]) -
     count
 }
 
-/// Puts copies of those groups of a reservation behind others that stay carried in a Tidy.
+/// Puts copies of those groups of a reservation after others that stay carried in a Tidy.
 fn add_staying<P: ReadPlan>(
     alloc: Global,
     inst: &Instance,

@@ -18,7 +18,7 @@ pub enum Step {
         was: Row,
         new: Row,
     },
-    /// The movable legs of the aircraft that stand behind the leg `after`, or all of them where it is
+    /// The movable legs of the aircraft that come after the leg `after`, or all of them where it is
     /// `None`, are placed anew, one by one, each at the first moment at which it may depart.
     Push {
         plane: Plane,

@@ -11,8 +11,8 @@
 //! memory runs out, the pages are as before. It hands out the page that stood, and to put that back takes no
 //! memory. Now the pages hold one plan, and to share is to copy it.
 //!
-//! Proved: each call gives what it says of the rows and the groups, and changes nothing else. It stands on
-//! `desk_data` and `plan_reads`, by whose trait pages are read as a plan is; `desk_eval` stands on it.
+//! Proved: each call gives what it says of the rows and the groups, and changes nothing else. It depends on
+//! `desk_data` and `plan_reads`, by whose trait pages are read as a plan is; `desk_eval` depends on it.
 #![tactic(auto)]
 
 mod page;

@@ -130,7 +130,7 @@ impl Pages {
         })
     }
 
-    /// Puts back what stood before a change, in the plan as it stood right behind that. It takes no memory.
+    /// Puts back what stood before a change, in the plan as it stood right after that. It takes no memory.
     #[tactic(auto, unfolding(crate::specs::Pages::with_page, crate::specs::Pages::IsPageOf))]
     pub fn put_back(&mut self, page: Page)
         requires { IsPageOf self.old page }

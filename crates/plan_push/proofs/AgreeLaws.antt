@@ -15,15 +15,15 @@ same_head : (P : PlanRows) (x y : ℕ) (xs ys : List ℕ) → All (Precedes P x)
 same_head P x y xs ys a b to back =
     elim (Contains-cases y x ys to) [
       | inl same ↦ sym same
-      | inr behind_y ↦ elim (Contains-cases x y xs back) [
+      | inr after_y ↦ elim (Contains-cases x y xs back) [
         | inl same ↦ same
-        | inr behind_x ↦ absurd (precedes-itself P x (precedes-trans P x y x (All-contains (Precedes P x) xs y a behind_x) (All-contains (Precedes P y) ys x b behind_y)))
+        | inr after_x ↦ absurd (precedes-itself P x (precedes-trans P x y x (All-contains (Precedes P x) xs y a after_x) (All-contains (Precedes P y) ys x b after_y)))
       ]
     ]
 
--- so are the legs behind them
-behind_head : (P : PlanRows) (x y z : ℕ) (xs ys : List ℕ) → x ≡ y → All (Precedes P x) xs → Contains (y ∷ ys) z → Contains xs z → Contains ys z
-behind_head P x y z xs ys same a to has =
+-- so are the legs after them
+after_head : (P : PlanRows) (x y z : ℕ) (xs ys : List ℕ) → x ≡ y → All (Precedes P x) xs → Contains (y ∷ ys) z → Contains xs z → Contains ys z
+after_head P x y z xs ys same a to has =
     elim (Contains-cases y z ys to) [
       | inl first ↦ absurd (precedes-itself P x (subst (Precedes P x) (sym (same ∙ first)) (All-contains (Precedes P x) xs z a has)))
       | inr behind ↦ behind
@@ -38,6 +38,6 @@ same_ordered P (x ∷ xs) (y ∷ ys) a b to back =
     let first_y = pairs_head (Precedes P) y ys b in
     let same : x ≡ y = same_head P x y xs ys first_x first_y (to x (Contains-head x xs)) (back y (Contains-head y ys)) in
     let rest : xs ≡ ys = same_ordered P xs ys (pairs_tail (Precedes P) x xs a) (pairs_tail (Precedes P) y ys b)
-    (λ z has. behind_head P x y z xs ys same first_x (to z (Contains-tail x z xs has)) has)
-    (λ z has. behind_head P y x z ys xs (sym same) first_y (back z (Contains-tail y z ys has)) has) in
+    (λ z has. after_head P x y z xs ys same first_x (to z (Contains-tail x z xs has)) has)
+    (λ z has. after_head P y x z ys xs (sym same) first_y (back z (Contains-tail y z ys has)) has) in
     ap (λ (k : ℕ). k ∷ xs) same ∙ ap (λ (zs : List ℕ). y ∷ zs) rest

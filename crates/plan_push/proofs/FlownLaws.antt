@@ -15,7 +15,7 @@ use Rattle.desk_data.specs.PlanRows.{PlanRows, row_at, with_row}
 use Rattle.desk_rules.specs.Numbers.{numbers}
 use Rattle.desk_rules.specs.Maintenance.{is_flown_by, flies}
 use Rattle.desk_rules.proofs.MaintenanceLaws.{flies-holds}
-use Rattle.desk_model.specs.Push.{rotation, comes_behind, pushed_legs, with_departure, first_departure, after_placing, after_push}
+use Rattle.desk_model.specs.Push.{rotation, comes_after, pushed_legs, with_departure, first_departure, after_placing, after_push}
 use Rattle.desk_model.proofs.RotationOrder.{rotation-flown}
 use Rattle.plan_push.specs.Flown.{AreFlown, AreFlownOfFirst}
 
@@ -118,7 +118,7 @@ unfolding after_push pushed_legs
 pushed-flies I P p after q y =
     placed-flies I P P p q y (pushed_legs I P p after) (λ z. refl)
     (recursion_from_All (λ x. flies P p x ≡ true) (pushed_legs I P p after)
-    (All-filter (λ x. not (fixed I x) && comes_behind P after x) (λ x. flies P p x ≡ true) (rotation I P p)
+    (All-filter (λ x. not (fixed I x) && comes_after P after x) (λ x. flies P p x ≡ true) (rotation I P p)
     (All-weaker (λ x. (x < legs_of I) × (flies P p x ≡ true)) (λ x. flies P p x ≡ true) (λ x both. both.1) (rotation I P p) (rotation-flown I P p))))
 
 -- the legs of each aircraft are those that they were

@@ -108,7 +108,7 @@ none_left I P p v lt within =
       | inr other ↦ other
     ]
 
--- a leg before that at place k is not behind the leg to the left of place k
+-- a leg before that at place k is not after the leg to the left of place k
 none_between : (I : Situation) (P : PlanRows) (p k z : ℕ) → 0 < k → k < length (rotation I P p) → z < legs_of I → precedes P z (leg_in (rotation I P p) k) ≡ true → precedes P (leg_in (rotation I P p) (k - 1)) z ≡ false
 none_between I P p k z some lt within before =
     let legs = rotation I P p in

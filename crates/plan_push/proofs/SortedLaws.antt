@@ -29,7 +29,7 @@ use Rattle.desk_model.specs.Push.{rotation}
 use Rattle.desk_model.proofs.RotationOrder.{Contains-filter, rotation-ordered, rotation-flown, rotation-each}
 use Rattle.plan_reads.specs.declared.rotation_leg.RotationLeg.{RotationLeg}
 use Rattle.plan_push.specs.Flown.{flown_legs}
-use Rattle.plan_push.specs.Turns.{turn}
+use Rattle.plan_push.specs.RotationLegs.{rotation_leg}
 use Rattle.plan_push.proofs.AgreeLaws.{same_ordered}
 
 -- ---- the legs of an aircraft, by leg
@@ -70,34 +70,34 @@ flown-apart P p (suc n) =
 
 -- ---- their rotation legs
 
-abbrev turns : PlanRows → ℕ → ℕ → List RotationLeg
-turns P p n = map (turn P) (flown P p n)
+abbrev rotation_legs : PlanRows → ℕ → ℕ → List RotationLeg
+rotation_legs P p n = map (rotation_leg P) (flown P p n)
 
 abbrev pub leg_of : RotationLeg → ℕ
 leg_of t = t.leg.0
 
 -- t is the rotation leg of one of the first n legs, which aircraft p flies
-record IsTurn (P : PlanRows) (p n : ℕ) (t : RotationLeg) : Type 0 where
+record IsRotationLeg (P : PlanRows) (p n : ℕ) (t : RotationLeg) : Type 0 where
   within : t.leg.0 < n
   flown : flies P p t.leg.0 ≡ true
   departs : t.dep.0 ≡ dep P t.leg.0
 
-turns-sound : (P : PlanRows) (p n : ℕ) → All (IsTurn P p n) (turns P p n)
-turns-sound P p n =
+rotation_legs-sound : (P : PlanRows) (p n : ℕ) → All (IsRotationLeg P p n) (rotation_legs P p n)
+rotation_legs-sound P p n =
     let below = All-filter (flies P p) (λ x. x < n) (numbers n) (numbers-below n) in
     let passed = filter_passes (flies P p) (numbers n) in
-    All-map (IsTurn P p n) (turn P) (flown P p n) (λ k d lt. record { within = below k d lt; flown = passed k d lt; departs = refl })
+    All-map (IsRotationLeg P p n) (rotation_leg P) (flown P p n) (λ k d lt. record { within = below k d lt; flown = passed k d lt; departs = refl })
 
-turns-legs : (P : PlanRows) (p n : ℕ) → map leg_of (turns P p n) ≡ flown P p n
-turns-legs P p n = map-map leg_of (turn P) (flown P p n) ∙ map-id (flown P p n)
+rotation_legs-legs : (P : PlanRows) (p n : ℕ) → map leg_of (rotation_legs P p n) ≡ flown P p n
+rotation_legs-legs P p n = map-map leg_of (rotation_leg P) (flown P p n) ∙ map-id (flown P p n)
 
 -- ---- sorted
 
-abbrev turn_cmp : RotationLeg → RotationLeg → Ordering
-turn_cmp s t = ordering_then (nat_cmp s.dep.0 t.dep.0) (nat_cmp s.leg.0 t.leg.0)
+abbrev rotation_leg_cmp : RotationLeg → RotationLeg → Ordering
+rotation_leg_cmp s t = ordering_then (nat_cmp s.dep.0 t.dep.0) (nat_cmp s.leg.0 t.leg.0)
 
-turn_total : IsTotalOrder turn_cmp
-turn_total = then_total (on_total (λ t. t.dep.0) nat_cmp_total) (on_total (λ t. t.leg.0) nat_cmp_total)
+rotation_leg_total : IsTotalOrder rotation_leg_cmp
+rotation_leg_total = then_total (on_total (λ t. t.dep.0) nat_cmp_total) (on_total (λ t. t.leg.0) nat_cmp_total)
 
 ordered_so : (p x d y e : ℕ) → is_lt (ordering_then (nat_cmp e d) (nat_cmp y x)) ≡ false → eqb x y ≡ false → in_order p x d p y e ≡ true
 ordered_so p x d y e h apart = grind (arith, nat_tests)
@@ -106,51 +106,51 @@ precedes_at : (P : PlanRows) (p x d y e : ℕ) → Flies P x p d → Flies P y p
 precedes_at P p x d y e first second h = rw (first, second) h
 
 -- the rotation leg at a place, and else a rotation leg of nothing
-abbrev no_turn : RotationLeg
-no_turn = record { dep = record { 0 = 0 }; leg = record { 0 = 0 } }
+abbrev no_rotation_leg : RotationLeg
+no_rotation_leg = record { dep = record { 0 = 0 }; leg = record { 0 = 0 } }
 
-abbrev turn_in : List RotationLeg → ℕ → RotationLeg
-turn_in ts k = get_or ts k no_turn
+abbrev rotation_leg_in : List RotationLeg → ℕ → RotationLeg
+rotation_leg_in ts k = get_or ts k no_rotation_leg
 
-rising : (P : PlanRows) (p n : ℕ) (ts : List RotationLeg) → All (IsTurn P p n) ts → IsSorted turn_cmp ts → IsDistinct eqb (map leg_of ts) → (i j : ℕ) → i < j → j < length ts → Precedes P (turn_in ts i).leg.0 (turn_in ts j).leg.0
+rising : (P : PlanRows) (p n : ℕ) (ts : List RotationLeg) → All (IsRotationLeg P p n) ts → IsSorted rotation_leg_cmp ts → IsDistinct eqb (map leg_of ts) → (i j : ℕ) → i < j → j < length ts → Precedes P (rotation_leg_in ts i).leg.0 (rotation_leg_in ts j).leg.0
 rising P p n ts sound up apart i j less within =
-    let s = turn_in ts i in
-    let t = turn_in ts j in
+    let s = rotation_leg_in ts i in
+    let t = rotation_leg_in ts j in
     let in_i : i < length ts = omega (arith, less, within) in
-    let of_s : IsTurn P p n s = sound i no_turn in_i in
-    let of_t : IsTurn P p n t = sound j no_turn within in
+    let of_s : IsRotationLeg P p n s = sound i no_rotation_leg in_i in
+    let of_t : IsRotationLeg P p n t = sound j no_rotation_leg within in
     let x = s.leg.0 in
     let y = t.leg.0 in
-    let far : is_lt (turn_cmp t s) ≡ false = sorted_far (λ s t. is_lt (turn_cmp s t)) (ranks_by turn_total (λ t. t)) ts up i j no_turn (omega (arith, less)) within in
+    let far : is_lt (rotation_leg_cmp t s) ≡ false = sorted_far (λ s t. is_lt (rotation_leg_cmp s t)) (ranks_by rotation_leg_total (λ t. t)) ts up i j no_rotation_leg (omega (arith, less)) within in
     let cmp : is_lt (ordering_then (nat_cmp (dep P y) (dep P x)) (nat_cmp y x)) ≡ false = rw (sym of_s.departs, sym of_t.departs) far in
     let long : j < length (map leg_of ts) = rw (length-map ts leg_of) within in
     let other : eqb x y ≡ false =
-    subst (λ (k : ℕ). eqb x k ≡ false) (get_or-map leg_of ts j no_turn 0 within)
-    (subst (λ (k : ℕ). eqb k (get_or (map leg_of ts) j 0) ≡ false) (get_or-map leg_of ts i no_turn 0 in_i) (apart_from_distinct eqb (map leg_of ts) i j 0 apart less long)) in
+    subst (λ (k : ℕ). eqb x k ≡ false) (get_or-map leg_of ts j no_rotation_leg 0 within)
+    (subst (λ (k : ℕ). eqb k (get_or (map leg_of ts) j 0) ≡ false) (get_or-map leg_of ts i no_rotation_leg 0 in_i) (apart_from_distinct eqb (map leg_of ts) i j 0 apart less long)) in
     precedes-holds P x y (precedes_at P p x (dep P x) y (dep P y) (flies-holds P p x of_s.flown) (flies-holds P p y of_t.flown) (ordered_so p x (dep P x) y (dep P y) cmp other))
 
 -- the rotation legs of all legs of the aircraft, sorted
 record AreSorted (P : PlanRows) (p n : ℕ) (ts : List RotationLeg) : Type 0 where
-  sound : All (IsTurn P p n) ts
+  sound : All (IsRotationLeg P p n) ts
   ordered : AllPairs (Precedes P) (map leg_of ts)
   each : (x : ℕ) → x < n → flies P p x ≡ true → Contains (map leg_of ts) x
 
-sorted : (P : PlanRows) (p n : ℕ) (made ts : List RotationLeg) → made ≡ turns P p n → IsPermutation made ts → IsSorted turn_cmp ts → AreSorted P p n ts
+sorted : (P : PlanRows) (p n : ℕ) (made ts : List RotationLeg) → made ≡ rotation_legs P p n → IsPermutation made ts → IsSorted rotation_leg_cmp ts → AreSorted P p n ts
 sorted P p n made ts is shuffled up =
-    let moved : IsPermutation (turns P p n) ts = subst (λ xs. IsPermutation xs ts) is shuffled in
-    let legs : IsPermutation (flown P p n) (map leg_of ts) = subst (λ (xs : List ℕ). IsPermutation xs (map leg_of ts)) (turns-legs P p n) (IsPermutation-map leg_of (turns P p n) ts moved) in
-    let sound = All-permutation (IsTurn P p n) (turns P p n) ts moved (turns-sound P p n) in
+    let moved : IsPermutation (rotation_legs P p n) ts = subst (λ xs. IsPermutation xs ts) is shuffled in
+    let legs : IsPermutation (flown P p n) (map leg_of ts) = subst (λ (xs : List ℕ). IsPermutation xs (map leg_of ts)) (rotation_legs-legs P p n) (IsPermutation-map leg_of (rotation_legs P p n) ts moved) in
+    let sound = All-permutation (IsRotationLeg P p n) (rotation_legs P p n) ts moved (rotation_legs-sound P p n) in
     let apart = IsDistinct-IsPermutation eqb nat_eq_equiv.symm (flown P p n) (map leg_of ts) legs (flown-apart P p n) in
     record {
       sound = sound;
       ordered = λ i j d less within.
           let in_j : j < length ts = rw (sym (length-map ts leg_of)) within in
           let in_i : i < length ts = omega (arith, less, in_j) in
-          rw (get_or-map leg_of ts i no_turn d in_i, get_or-map leg_of ts j no_turn d in_j) (rising P p n ts sound up apart i j less in_j);
+          rw (get_or-map leg_of ts i no_rotation_leg d in_i, get_or-map leg_of ts j no_rotation_leg d in_j) (rising P p n ts sound up apart i j less in_j);
       each = λ x lt here. Contains-permutation (flown P p n) (map leg_of ts) x legs (Contains-filter (flies P p) (numbers n) x (numbers-each n x lt) here);
     }
 
-rotation-sorted : (I : Situation) (P : PlanRows) (p : ℕ) (made ts : List RotationLeg) → made ≡ turns P p (legs_of I) → IsPermutation made ts → IsSorted turn_cmp ts → map leg_of ts ≡ rotation I P p
+rotation-sorted : (I : Situation) (P : PlanRows) (p : ℕ) (made ts : List RotationLeg) → made ≡ rotation_legs P p (legs_of I) → IsPermutation made ts → IsSorted rotation_leg_cmp ts → map leg_of ts ≡ rotation I P p
 rotation-sorted I P p made ts is shuffled up =
     let own = sorted P p (legs_of I) made ts is shuffled up in
     same_ordered P (map leg_of ts) (rotation I P p) own.ordered (rotation-ordered I P p)
@@ -161,13 +161,13 @@ rotation-sorted I P p made ts is shuffled up =
     let here = All-contains (λ x. (x < legs_of I) × (flies P p x ≡ true)) (rotation I P p) z (rotation-flown I P p) has in
     own.each z here.0 here.1)
 
-pub sorted-rotation : (I : Situation) (P : PlanRows) (p : ℕ) (legs : List Leg) (made ts : List RotationLeg) → map (λ (leg : Leg). leg.0) legs ≡ flown_legs I P p → made ≡ map (λ (leg : Leg). turn P leg.0) legs → IsPermutation made ts → IsSorted turn_cmp ts → map leg_of ts ≡ rotation I P p
+pub sorted-rotation : (I : Situation) (P : PlanRows) (p : ℕ) (legs : List Leg) (made ts : List RotationLeg) → map (λ (leg : Leg). leg.0) legs ≡ flown_legs I P p → made ≡ map (λ (leg : Leg). rotation_leg P leg.0) legs → IsPermutation made ts → IsSorted rotation_leg_cmp ts → map leg_of ts ≡ rotation I P p
 sorted-rotation I P p legs made ts are is =
-    rotation-sorted I P p made ts (is ∙ sym (map-map (turn P) (λ (leg : Leg). leg.0) legs) ∙ ap (map (turn P)) are)
+    rotation-sorted I P p made ts (is ∙ sym (map-map (rotation_leg P) (λ (leg : Leg). leg.0) legs) ∙ ap (map (rotation_leg P)) are)
 
-pub sorted-within : (P : PlanRows) (n : ℕ) (legs : List Leg) (made ts : List RotationLeg) → All (λ (leg : Leg). leg.0 < n) legs → made ≡ map (λ (leg : Leg). turn P leg.0) legs → IsPermutation made ts → All (λ (t : RotationLeg). t.leg.0 < n) ts
+pub sorted-within : (P : PlanRows) (n : ℕ) (legs : List Leg) (made ts : List RotationLeg) → All (λ (leg : Leg). leg.0 < n) legs → made ≡ map (λ (leg : Leg). rotation_leg P leg.0) legs → IsPermutation made ts → All (λ (t : RotationLeg). t.leg.0 < n) ts
 sorted-within P n legs made ts within is shuffled =
-    All-permutation (λ (t : RotationLeg). t.leg.0 < n) made ts shuffled (subst (All (λ (t : RotationLeg). t.leg.0 < n)) (sym is) (All-map (λ (t : RotationLeg). t.leg.0 < n) (λ (leg : Leg). turn P leg.0) legs within))
+    All-permutation (λ (t : RotationLeg). t.leg.0 < n) made ts shuffled (subst (All (λ (t : RotationLeg). t.leg.0 < n)) (sym is) (All-map (λ (t : RotationLeg). t.leg.0 < n) (λ (leg : Leg). rotation_leg P leg.0) legs within))
 
 -- the legs of an aircraft are legs of the day
 pub flown-within : (I : Situation) (P : PlanRows) (p : ℕ) (legs : List Leg) → map (λ (leg : Leg). leg.0) legs ≡ flown_legs I P p → All (λ (leg : Leg). leg.0 < legs_of I) legs

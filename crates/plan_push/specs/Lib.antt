@@ -1,5 +1,5 @@
 pub mod RuledOut
 pub mod Placings
 pub mod Room
-pub mod Turns
+pub mod RotationLegs
 pub mod Flown

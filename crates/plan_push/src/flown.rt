@@ -6,7 +6,7 @@ ghost use Rattle.desk_data.specs.Valid.{IsPlanFor};
 ghost use Rattle.desk_model.specs.Push.{rotation};
 ghost use Rattle.plan_push.specs.Flown.{AreFlown, AreFlownOfFirst};
 
-use crate::rotation_legs::{legs_of, sorted_turns};
+use crate::rotation_legs::{legs_of, sorted_rotation_legs};
 use desk_data::{Instance, Leg, NoMem, Plane, Row};
 use plan_reads::ReadPlan;
 use std::alloc::Global;
@@ -58,8 +58,8 @@ impl FlownLegs {
     {
         // there are as many rows as legs
         let _ = inst.legs();
-        let turns = sorted_turns(alloc, plan, self.legs(plane))?;
-        legs_of(alloc, turns.as_slice())
+        let rotation_legs = sorted_rotation_legs(alloc, plan, self.legs(plane))?;
+        legs_of(alloc, rotation_legs.as_slice())
     }
 
     /// Those of an aircraft, by leg.

@@ -19,7 +19,7 @@
 //! the moment is `first_departure` of desk_model.
 //!
 //! The search jumps over spans, the maintenance and full hours, and asks the counts of an hour only where
-//! it has a cap: it walks over no legs. No clause says so. It stands on `desk_data`, `desk_rules`,
+//! it has a cap: it walks over no legs. No clause says so. It depends on `desk_data`, `desk_rules`,
 //! `desk_model`, `plan_reads` and `hour_counts`.
 #![tactic(auto)]
 

@@ -5,7 +5,7 @@ ghost use Rattle.std.specs.Option.{ForSome};
 ghost use Rattle.desk_data.specs.Situation.{legs_of};
 ghost use Rattle.desk_data.specs.Valid.{IsPlanFor};
 ghost use Rattle.desk_rules.specs.Rotations.{comes_before, is_earlier};
-ghost use Rattle.desk_model.specs.Push.{comes_behind, pushed_legs, rotation};
+ghost use Rattle.desk_model.specs.Push.{comes_after, pushed_legs, rotation};
 ghost use Rattle.plan_push.specs.Placings.{IsPlacing, is_placed};
 
 use desk_data::{Instance, Leg, Minute, NoMem, Row};
@@ -20,8 +20,8 @@ pub struct Placing {
     pub before: Option<Leg>,
 }
 
-/// The legs that a Push of an aircraft places, in their order: the movable legs that it flies, behind
-/// the leg `after` where one is named. None is behind a leg that the aircraft does not fly. All legs that
+/// The legs that a Push of an aircraft places, in their order: the movable legs that it flies, after
+/// the leg `after` where one is named. None is after a leg that the aircraft does not fly. All legs that
 /// it flies are handed in, in their order; no others are walked over. The only error is out of memory.
 pub fn placings<P: ReadPlan>(
     alloc: Global,
@@ -48,21 +48,21 @@ pub fn placings<P: ReadPlan>(
     Ok(all)
 }
 
-/// Whether a leg of the aircraft is placed: it is movable, and behind the leg `after` where one is named.
+/// Whether a leg of the aircraft is placed: it is movable, and after the leg `after` where one is named.
 fn is_placed<P: ReadPlan>(inst: &Instance, plan: &P, after: Option<Leg>, leg: Leg) -> bool
     requires plan { IsPlanFor inst.now (P.plan_of plan.now) }
     requires after { ForSome after (λ earlier. earlier.0 < legs_of inst.now) }
     requires leg { leg.0 < legs_of inst.now }
     ensures { result ≡ is_placed inst.now (P.plan_of plan.now) after leg.0 }
 {
-    !inst.fixed(leg) && comes_behind(plan, after, leg)
+    !inst.fixed(leg) && comes_after(plan, after, leg)
 }
 
-/// Whether a leg comes behind another on its aircraft; behind none each does.
-fn comes_behind<P: ReadPlan>(plan: &P, after: Option<Leg>, leg: Leg) -> bool
+/// Whether a leg comes after another on its aircraft; after none each does.
+fn comes_after<P: ReadPlan>(plan: &P, after: Option<Leg>, leg: Leg) -> bool
     requires after { ForSome after (λ earlier. earlier.0 < length (P.plan_of plan.now).rows) }
     requires leg { leg.0 < length (P.plan_of plan.now).rows }
-    ensures { result ≡ comes_behind (P.plan_of plan.now) after leg.0 }
+    ensures { result ≡ comes_after (P.plan_of plan.now) after leg.0 }
 {
     match after {
         Some(earlier) => comes_before(earlier, plan.read_row(earlier), leg, plan.read_row(leg)),

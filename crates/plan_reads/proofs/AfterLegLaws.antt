@@ -31,17 +31,17 @@ unfolding keeps_c5
 keeps_c5-behind I P y before row is h =
     sym (ap (c5_location I P y) is ∙ row-leaves I P y before row h)
 
-row-turns : (I : Situation) (P : PlanRows) (y : ℕ) (before : Option RotationLeg) (row : Row) → IsAfterLeg I P y before → c6_ground_time I P y row ≡ c6_ground_time_after I y before row
-row-turns I P y None (Flown p d) h =
+row-rotation_legs : (I : Situation) (P : PlanRows) (y : ℕ) (before : Option RotationLeg) (row : Row) → IsAfterLeg I P y before → c6_ground_time I P y row ≡ c6_ground_time_after I y before row
+row-rotation_legs I P y None (Flown p d) h =
     rw (none_follows I P y (λ x. leb (arr I P x + ground_time I p.0 x y) d.0) h.leg) refl
-row-turns I P y (Some at) (Flown p d) h =
+row-rotation_legs I P y (Some at) (Flown p d) h =
     rw (nearest_asked I P y at.leg.0 (λ x. leb (arr I P x + ground_time I p.0 x y) d.0) h.leg, h.departs at refl) refl
-row-turns I P y before Cancelled h = refl
+row-rotation_legs I P y before Cancelled h = refl
 
 pub keeps_c6-behind : (I : Situation) (P : PlanRows) (y : ℕ) (before : Option RotationLeg) (row : Row) → row_at P y ≡ row → IsAfterLeg I P y before → c6_ground_time_after I y before row ≡ keeps_c6 I P y
 unfolding keeps_c6
 keeps_c6-behind I P y before row is h =
-    sym (ap (c6_ground_time I P y) is ∙ row-turns I P y before row h)
+    sym (ap (c6_ground_time I P y) is ∙ row-rotation_legs I P y before row h)
 
 -- ---- the leg before a leg, with its departure
 

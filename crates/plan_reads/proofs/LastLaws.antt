@@ -122,7 +122,7 @@ last_asked I P p at x test h =
     (λ met. each_below-from (legs_of I) (λ z. implies (is_last_before I P p at z) (test z)) (λ z lt.
     implies-from (is_last_before I P p at z) (test z) (λ last. subst (λ (k : ℕ). test k ≡ true) (only_last I P p at x z h lt last) met)))
 
--- the aircraft is left where it stands behind its last leg
+-- the aircraft is left where it stands after its last leg
 pub left_asked : (I : Situation) (P : PlanRows) (p at airport : ℕ) (last : Option Leg) → IsLastOf P p at (legs_of I) last → is_left_at I P p at airport ≡ eqb (stand I p last).0 airport
 left_asked I P p at airport None h =
     let no_last : each_below (legs_of I) (λ x. implies (is_last_before I P p at x) (eqb (leg_at I x).dest.0 airport)) ≡ true =

@@ -3,4 +3,4 @@ pub mod AfterLegLaws
 pub mod LastLaws
 pub mod OrderLaws
 pub mod PathLaws
-pub mod TurnLaws
+pub mod RotationLegLaws

@@ -21,8 +21,8 @@ and_true true = refl
 and_true false = refl
 
 -- the order of leg x of aircraft p at d and leg y of aircraft q at e: as sorted, and as tests
-abbrev pub turns_cmp : ℕ → ℕ → ℕ → ℕ → ℕ → ℕ → Ordering
-turns_cmp p x d q y e = ordering_then (nat_cmp p q) (ordering_then (nat_cmp d e) (nat_cmp x y))
+abbrev pub rotation_legs_cmp : ℕ → ℕ → ℕ → ℕ → ℕ → ℕ → Ordering
+rotation_legs_cmp p x d q y e = ordering_then (nat_cmp p q) (ordering_then (nat_cmp d e) (nat_cmp x y))
 
 abbrev pub is_ahead : ℕ → ℕ → ℕ → ℕ → ℕ → ℕ → Bool
 is_ahead p x d q y e = ltb p q || (eqb p q && is_earlier x d y e)
@@ -31,7 +31,7 @@ is_ahead p x d q y e = ltb p q || (eqb p q && is_earlier x d y e)
 abbrev pub in_order : ℕ → ℕ → ℕ → ℕ → ℕ → ℕ → Bool
 in_order p x d q y e = eqb p q && is_earlier x d y e
 
-pub ahead-from_cmp : (p x d q y e : ℕ) → is_lt (turns_cmp q y e p x d) ≡ false → eqb x y ≡ false → is_ahead p x d q y e ≡ true
+pub ahead-from_cmp : (p x d q y e : ℕ) → is_lt (rotation_legs_cmp q y e p x d) ≡ false → eqb x y ≡ false → is_ahead p x d q y e ≡ true
 ahead-from_cmp p x d q y e h apart = grind (arith, nat_tests)
 
 pub ahead-asymmetric : (p x d q y e : ℕ) → is_ahead p x d q y e ≡ true → is_ahead q y e p x d ≡ false

@@ -23,7 +23,7 @@ pub record AreLasts (I : Situation) (P : PlanRows) (moment : ℕ → ℕ) (n : �
   pub planes : length lasts ≡ planes_of I
   pub each : (p : ℕ) → p < planes_of I → IsLastOf P p (moment p) n (slice_index_or lasts p None)
 
--- where aircraft p stands behind a leg: where it arrives, or with no leg where the aircraft stands at first
+-- where aircraft p stands after a leg: where it arrives, or with no leg where the aircraft stands at first
 abbrev pub stand : Situation → ℕ → Option Leg → Airport
 stand I p None = (plane_at I p).origin
 stand I p (Some leg) = (leg_at I leg.0).dest

@@ -103,7 +103,7 @@ fn has_ground_time_after(
 }
 
 /// The ground time of an aircraft between two legs, at most 2,880 minutes, of which C6 and Push speak:
-/// its transit time where the first is the previous leg of the second, else its turn-round time.
+/// its transit time where the first is the previous leg of the second, else its turnaround time.
 pub fn ground_time(inst: &Instance, plane: Plane, earlier: Leg, leg: Leg) -> u32
     requires plane { plane.0 < planes_of inst.now }
     requires leg { leg.0 < legs_of inst.now }
@@ -114,7 +114,7 @@ pub fn ground_time(inst: &Instance, plane: Plane, earlier: Leg, leg: Leg) -> u32
     if inst.leg(leg).prev == Some(earlier) {
         flying.transit
     } else {
-        flying.turn
+        flying.turnaround
     }
 }
 

@@ -18,7 +18,7 @@ pub fn the_leg_before_a_leg_is_followed_by_it()
 
 /// The last leg of an aircraft before a moment is the one of which the rules speak; where there is
 /// none, no leg of the aircraft departs before the moment. The aircraft is left where it stands
-/// behind that leg.
+/// after that leg.
 pub fn the_last_leg_is_the_last_that_departs_before_a_moment()
     ensures last { (I : Situation) (P : PlanRows) (p at : ℕ) (leg : Leg) → IsLastOf P p at (legs_of I) (Some leg) → is_last_before I P p at leg.0 ≡ true }
     ensures none { (I : Situation) (P : PlanRows) (p at : ℕ) → IsLastOf P p at (legs_of I) None → none_below (legs_of I) (departs_before P p at) ≡ true }

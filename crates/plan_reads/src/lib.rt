@@ -16,7 +16,7 @@
 //!
 //! Proved: each call is the definition of desk_rules that it is named for, and two laws say in words
 //! what the leg before a leg and the last leg before a moment are. The flown legs are sorted once; all
-//! other calls walk over what they are asked about. It stands on `desk_data` and `desk_rules`.
+//! other calls walk over what they are asked about. It depends on `desk_data` and `desk_rules`.
 #![tactic(auto)]
 
 mod after_leg;

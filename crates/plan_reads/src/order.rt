@@ -2,7 +2,7 @@
 
 ghost use Rattle.std.specs.Prelude.{◌≡◌, ◌<◌, ◌≤◌, length, IfOk};
 ghost use Rattle.plan_reads.specs.Before.{AreBefore};
-ghost use Rattle.plan_reads.specs.Order.{turns, neighbour};
+ghost use Rattle.plan_reads.specs.Order.{rotation_legs, neighbour};
 
 use crate::reads::ReadPlan;
 use crate::rotation_leg::RotationLeg;
@@ -41,7 +41,7 @@ pub fn legs_before<P: ReadPlan>(
 /// The rotation legs of the flown legs, by leg.
 fn rotation_legs_of<P: ReadPlan>(alloc: Global, plan: &P, legs: u32) -> Result<Vec<FlownLeg>, NoMem>
     requires { length (P.plan_of plan.now).rows ≡ legs }
-    ensures { IfOk result (λ all. all.items ≡ turns (P.plan_of plan.now).rows legs) }
+    ensures { IfOk result (λ all. all.items ≡ rotation_legs (P.plan_of plan.now).rows legs) }
 {
     let mut flown = Vec::with_capacity(alloc, legs as usize)?;
     for x in 0..legs {

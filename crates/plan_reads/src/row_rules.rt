@@ -5,7 +5,7 @@ ghost use Rattle.std.specs.Prelude.{◌≡◌, ◌<◌, ◌||◌};
 ghost use Rattle.std.specs.List.{list_any};
 ghost use Rattle.desk_data.specs.Situation.{legs_of, planes_of, fixed, due};
 ghost use Rattle.desk_data.specs.Valid.{IsRowOf};
-ghost use Rattle.desk_rules.specs.Rules.{c1_due, c2_in_time, c3_family, c4_range, c7_service, meets_span};
+ghost use Rattle.desk_rules.specs.Rules.{c1_due, departs_in_time, c3_family, c4_range, c7_service, meets_span};
 
 use desk_data::{Instance, Leg, Minute, Row};
 
@@ -24,7 +24,7 @@ pub fn c1_due(inst: &Instance, leg: Leg, row: Row) -> bool
 /// its earliest to its latest departure.
 pub fn c2_in_time(inst: &Instance, leg: Leg, row: Row) -> bool
     requires leg { leg.0 < legs_of inst.now }
-    ensures { result ≡ (fixed inst.now leg.0 || c2_in_time inst.now leg.0 row) }
+    ensures { result ≡ (fixed inst.now leg.0 || departs_in_time inst.now leg.0 row) }
 {
     if inst.fixed(leg) {
         return true;

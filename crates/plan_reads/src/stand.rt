@@ -7,7 +7,7 @@ ghost use Rattle.plan_reads.specs.Last.{stand};
 
 use desk_data::{Airport, Instance, Leg, Plane};
 
-/// Where an aircraft stands behind a leg: where the leg arrives, or else, with no leg, where the
+/// Where an aircraft stands after a leg: where the leg arrives, or else, with no leg, where the
 /// aircraft stands at first.
 pub fn stand_of(inst: &Instance, plane: Plane, last: Option<Leg>) -> Airport
     requires plane { plane.0 < planes_of inst.now }

@@ -9,19 +9,19 @@ use Rattle.desk_text.specs.Fields.{number_of}
 use Rattle.desk_text.specs.Rows.{◌>>=◌, RowOf}
 use Rattle.comma_rows.specs.Records.{printed, comma_rows}
 use Rattle.read_alt.specs.Orders.{flight_row, aircraft_row, airport_row}
-use Rattle.read_alt.specs.declared.feed.Kind.{Kind}
-use Rattle.read_alt.specs.declared.feed.Kind.TheVariants as kinds
+use Rattle.read_alt.specs.declared.feed.OrderKind.{OrderKind}
+use Rattle.read_alt.specs.declared.feed.OrderKind.TheVariants as kinds
 
 -- what a record is about, by its second word
-abbrev pub kind_of : List ℕ → Result Kind Cause
+abbrev pub kind_of : List ℕ → Result OrderKind Cause
 kind_of word =
     if bytes_eq word (codes "flight") then Ok kinds.Flight else (
     if bytes_eq word (codes "aircraft") then Ok kinds.Aircraft else (
     if bytes_eq word (codes "airport") then Ok kinds.Airport else (
     if bytes_eq word (codes "none") then Ok kinds.Nothing else Err Word)))
 
--- how many fields stand behind the word
-abbrev pub width_of : Kind → ℕ
+-- how many fields come after the word
+abbrev pub width_of : OrderKind → ℕ
 width_of kinds.Flight = 3
 width_of kinds.Aircraft = 5
 width_of kinds.Airport = 7
@@ -31,8 +31,8 @@ width_of kinds.Nothing = 0
 abbrev pub exactly : ℕ → List (List ℕ) → Result (List (List ℕ)) Cause
 exactly width fields = if length fields == width then Ok fields else Err Fields
 
--- the order of the fields behind the word: that of the text file of its kind, or none
-abbrev pub order_of : Kind → RowOf AltRow
+-- the order of the fields after the word: that of the text file of its kind, or none
+abbrev pub order_of : OrderKind → RowOf AltRow
 order_of kinds.Flight line fields = flight_row line fields
 order_of kinds.Aircraft line fields = aircraft_row line fields
 order_of kinds.Airport line fields = airport_row line fields

@@ -1,4 +1,4 @@
--- The orders of the files of disruptions: what a flight, an aircraft or an airport is told.
+-- The orders of the files of disruptions: what is ordered of a flight, an aircraft or an airport.
 use Rattle.std.specs.Prelude.{ℕ, List, Option, Some, None, Result, Ok, bytes_eq, codes, if◌then◌else◌}
 use Rattle.file_rows.specs.declared.cause.Cause.{Cause}
 use Rattle.file_rows.specs.declared.disruptions.AltRow.{AltRow}
@@ -11,7 +11,7 @@ use Rattle.desk_text.specs.Rows.{◌>>=◌, RowOf, next_field}
 unfoldable pub delay_of : List ℕ → Result (Option ℕ) Cause
 delay_of field = if bytes_eq field (codes "-1") then Ok None else (number_of 0 2880 field >>= λ minutes. Ok (Some minutes))
 
--- what a flight is told
+-- what is ordered of a flight
 unfoldable pub flight_order : ℕ → List ℕ → List ℕ → List ℕ → Result AltRow Cause
 flight_order line flight date delay = do
   flight ← name_of flight
@@ -19,7 +19,7 @@ flight_order line flight date delay = do
   delay ← delay_of delay
   Ok (alt.Flight line flight day delay)
 
--- what an aircraft is told: the first moment, and the last
+-- what is ordered of an aircraft: the first moment, and the last
 unfoldable pub aircraft_order : ℕ → List ℕ → List ℕ × List ℕ → List ℕ × List ℕ → Result AltRow Cause
 aircraft_order line aircraft first last = do
   aircraft ← name_of aircraft
@@ -27,7 +27,7 @@ aircraft_order line aircraft first last = do
   to ← moment_of last.0 last.1
   Ok (alt.Aircraft line aircraft from to)
 
--- what an airport is told: the first moment and the last, and its departures and arrivals per hour
+-- what is ordered of an airport: the first moment and the last, and its departures and arrivals per hour
 unfoldable pub airport_order : ℕ → List ℕ → List ℕ × List ℕ → List ℕ × List ℕ → List ℕ × List ℕ → Result AltRow Cause
 airport_order line airport first last caps = do
   airport ← name_of airport

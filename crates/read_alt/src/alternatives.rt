@@ -80,7 +80,7 @@ impl Grammar<AltRow> for AirportLine {
 /// first line that is refused.
 ///
 /// A line is `FLIGHT DATE DELAY`, the delay from 0 to 2,880 minutes, or `-1` for a leg that is not
-/// flown; what stands behind these is passed over. The causes, of which the first one counts: `Byte`
+/// flown; what comes after these is passed over. The causes, of which the first one counts: `Byte`
 /// for a byte that no line may have, `Fields` where one is missing, `Size` for a name that is not 1
 /// to 32 bytes, `Date` and `Number`, from the left. A file of more than 67,108,864 bytes is refused
 /// at line 0 with `Size`.
@@ -94,7 +94,7 @@ pub fn read_alt_flights(alloc: Global, bytes: &[u8]) -> Result<Vec<AltRow>, Read
 /// The orders of a file of aircraft that are out of service, in the order of their lines, or the
 /// first line that is refused.
 ///
-/// A line is `AIRCRAFT DATE TIME DATE TIME`: from when on, and up to when; what stands behind these
+/// A line is `AIRCRAFT DATE TIME DATE TIME`: from when on, and up to when; what comes after these
 /// is passed over. Whether the end comes after the start is not looked at. The causes, of which the
 /// first one counts: `Byte` for a byte that no line may have, `Fields` where one is missing, `Size`
 /// for a name that is not 1 to 32 bytes, `Date` and `Time`, from the left. A file of more than
@@ -110,7 +110,7 @@ pub fn read_alt_aircraft(alloc: Global, bytes: &[u8]) -> Result<Vec<AltRow>, Rea
 /// that is refused.
 ///
 /// A line is `AIRPORT DATE TIME DATE TIME DEPARTURES ARRIVALS`: from when on, up to when, and how
-/// many an hour from 0 to 100,000; what stands behind these is passed over. Whether the end comes
+/// many an hour from 0 to 100,000; what comes after these is passed over. Whether the end comes
 /// after the start is not looked at. The causes, of which the first one counts: `Byte` for a byte
 /// that no line may have, `Fields` where one is missing, `Size` for a name that is not 1 to 32
 /// bytes, `Date`, `Time` and `Number`, from the left. A file of more than 67,108,864 bytes is

@@ -18,45 +18,45 @@ const MOST_BATCH: u32 = 999_999_999;
 
 /// What a record of the feed is about.
 #[derive(Clone, Copy, Debug)]
-enum Kind {
+enum OrderKind {
     Flight,
     Aircraft,
     Airport,
     Nothing,
 }
 
-impl Kind {
+impl OrderKind {
     /// The kind that a word names, else `Word`.
-    fn named(word: &[u8]) -> Result<Kind, Cause>
+    fn named(word: &[u8]) -> Result<OrderKind, Cause>
         ensures { result ≡ kind_of word.now }
     {
         if word == b"flight".as_slice() {
-            Ok(Kind::Flight)
+            Ok(OrderKind::Flight)
         } else if word == b"aircraft".as_slice() {
-            Ok(Kind::Aircraft)
+            Ok(OrderKind::Aircraft)
         } else if word == b"airport".as_slice() {
-            Ok(Kind::Airport)
+            Ok(OrderKind::Airport)
         } else if word == b"none".as_slice() {
-            Ok(Kind::Nothing)
+            Ok(OrderKind::Nothing)
         } else {
             Err(Cause::Word)
         }
     }
 
-    /// How many fields stand behind the word.
+    /// How many fields come after the word.
     fn width(self) -> usize
         ensures { result ≡ width_of self }
     {
         match self {
-            Kind::Flight => 3,
-            Kind::Aircraft => 5,
-            Kind::Airport => 7,
-            Kind::Nothing => 0,
+            OrderKind::Flight => 3,
+            OrderKind::Aircraft => 5,
+            OrderKind::Airport => 7,
+            OrderKind::Nothing => 0,
         }
     }
 }
 
-/// What a flight is told, by its fields.
+/// What is ordered of a flight, by its fields.
 #[tactic(auto, unfolding(crate::specs::Orders::flight_row))]
 fn flight(line: u32, mut columns: Columns<'_>) -> Result<AltRow, Cause>
     ensures exact { result ≡ flight_row line columns.entry }
@@ -68,7 +68,7 @@ fn flight(line: u32, mut columns: Columns<'_>) -> Result<AltRow, Cause>
     flight_order(line, flight, day, delay)
 }
 
-/// What an aircraft is told, by its fields.
+/// What is ordered of an aircraft, by its fields.
 #[tactic(auto, unfolding(crate::specs::Orders::aircraft_row))]
 fn aircraft(line: u32, mut columns: Columns<'_>) -> Result<AltRow, Cause>
     ensures exact { result ≡ aircraft_row line columns.entry }
@@ -87,7 +87,7 @@ fn aircraft(line: u32, mut columns: Columns<'_>) -> Result<AltRow, Cause>
     )
 }
 
-/// What an airport is told, by its fields.
+/// What is ordered of an airport, by its fields.
 #[tactic(auto, unfolding(crate::specs::Orders::airport_row))]
 fn airport(line: u32, mut columns: Columns<'_>) -> Result<AltRow, Cause>
     ensures exact { result ≡ airport_row line columns.entry }
@@ -109,16 +109,16 @@ fn airport(line: u32, mut columns: Columns<'_>) -> Result<AltRow, Cause>
     )
 }
 
-/// The order of a kind, by the fields behind its word.
-fn order(kind: Kind, line: u32, columns: Columns<'_>) -> Result<AltRow, Cause>
+/// The order of a kind, by the fields after its word.
+fn order(kind: OrderKind, line: u32, columns: Columns<'_>) -> Result<AltRow, Cause>
     ensures exact { result ≡ order_of kind line columns.entry }
     ensures facts { IfOk result IsAlt }
 {
     match kind {
-        Kind::Flight => flight(line, columns),
-        Kind::Aircraft => aircraft(line, columns),
-        Kind::Airport => airport(line, columns),
-        Kind::Nothing => Ok(AltRow::Nothing { line }),
+        OrderKind::Flight => flight(line, columns),
+        OrderKind::Aircraft => aircraft(line, columns),
+        OrderKind::Airport => airport(line, columns),
+        OrderKind::Nothing => Ok(AltRow::Nothing { line }),
     }
 }
 
@@ -130,7 +130,7 @@ fn fed(line: u32, mut columns: Columns<'_>) -> Result<(u32, AltRow), Cause>
 {
     let batch = columns.take()?;
     let word = columns.take()?;
-    let kind = Kind::named(word)?;
+    let kind = OrderKind::named(word)?;
     if columns.count() != kind.width() {
         return Err(Cause::Fields);
     }

@@ -27,7 +27,7 @@ fn delay(field: &[u8]) -> Result<Option<u32>, Cause>
     Ok(Some(minutes))
 }
 
-/// What a flight is told on a day.
+/// What is ordered of a flight on a day.
 #[tactic(auto, unfolding(crate::specs::Orders::flight_order))]
 pub(crate) fn flight_order(
     line: u32,
@@ -49,7 +49,7 @@ pub(crate) fn flight_order(
     })
 }
 
-/// What an aircraft is told, from a date and a time on, up to a date and a time.
+/// What is ordered of an aircraft, from a date and a time on, up to a date and a time.
 #[tactic(auto, unfolding(crate::specs::Orders::aircraft_order))]
 pub(crate) fn aircraft_order(
     line: u32,
@@ -71,7 +71,7 @@ pub(crate) fn aircraft_order(
     })
 }
 
-/// What an airport is told, from a date and a time on, up to a date and a time: its departures and
+/// What is ordered of an airport, from a date and a time on, up to a date and a time: its departures and
 /// its arrivals per hour.
 #[tactic(auto, unfolding(crate::specs::Orders::airport_order))]
 pub(crate) fn airport_order(

@@ -3,7 +3,7 @@ use Rattle.std.proofs.Common.{List, ◌++◌, Result, Ok, Err}
 use Rattle.file_rows.specs.declared.cause.Cause.{Cause}
 use Rattle.file_rows.specs.declared.fleet.PositionGroup.{PositionGroup}
 
--- these groups, and behind them those that are read
+-- these groups, and after them those that are read
 abbrev pub behind : List PositionGroup → Result (List PositionGroup) Cause → Result (List PositionGroup) Cause
 behind before (Ok groups) = Ok (before ++ groups)
 behind before (Err cause) = Err cause

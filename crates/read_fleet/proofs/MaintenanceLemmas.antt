@@ -1,4 +1,4 @@
--- The last dash of a field, found from behind.
+-- The last dash of a field, found from the end.
 use Rattle.std.proofs.Common.{◌≡◌, ℕ, suc, ◌+◌, ◌-◌, Bool, true, false, cond, ltb, ◌||◌, not, List, [], ◌∷◌, length, take, drop, reverse, Some, None, refl, sym, ◌∙◌, arith, position}
 use Rattle.std.specs.List.{list_any, position_or_len}
 use Rattle.std.proofs.lemmas.Bool.Decides.{nat_tests}
@@ -15,7 +15,7 @@ any_is_before_end : (p : ℕ → Bool) (xs : List ℕ) → list_any p xs ≡ ltb
 any_is_before_end p [] = refl
 any_is_before_end p (x ∷ xs) = one_more (p x) (list_any p xs) (position_or_len p xs) (length xs) (any_is_before_end p xs)
 
--- there is a dash where one is found from behind
+-- there is a dash where one is found from the end
 found : (bytes : List ℕ) → list_any is_dash bytes ≡ ltb (position_or_len is_dash (reverse bytes)) (length (reverse bytes))
 found bytes = list_any-IsPermutation is_dash bytes (reverse bytes) (IsPermutation-reverse bytes) ∙ any_is_before_end is_dash (reverse bytes)
 

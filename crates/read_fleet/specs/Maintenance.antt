@@ -13,7 +13,7 @@ use Rattle.file_rows.specs.declared.fleet.MaintRow.{MaintRow}
 abbrev pub is_dash : ℕ → Bool
 is_dash byte = byte == dash
 
--- the bytes before the last dash and those behind it, where there is a dash
+-- the bytes before the last dash and those after it, where there is a dash
 unfoldable pub cut_at_last_dash : List ℕ → Option (List ℕ × List ℕ)
 cut_at_last_dash bytes = if list_any is_dash bytes then Some (before_last is_dash bytes, after_last is_dash bytes) else None
 

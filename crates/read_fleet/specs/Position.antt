@@ -31,7 +31,7 @@ groups_of _ = Err causes.Fields
 abbrev pub are_groups : List (List ℕ) → Bool
 are_groups fields = nat_lt 0 (length fields) && (length fields % 3 == 0)
 
--- AIRPORT, and what stands behind it
+-- AIRPORT, and what comes after it
 abbrev pub position_of : ℕ → List ℕ → List (List ℕ) → Result PositionRow Cause
 position_of line airport others = do
   name ← name_of airport

@@ -27,7 +27,7 @@ fn aircraft_of(line: u32, mut fields: Fields<'_>) -> Result<AircraftRow, Cause>
         seats: seats(fields.take()?)?,
         range: number(fields.take()?, 0, 100_000)?,
         hourly: price(fields.take()?)?,
-        turn: number(fields.take()?, 0, 2_880)?,
+        turnaround: number(fields.take()?, 0, 2_880)?,
         transit: number(fields.take()?, 0, 2_880)?,
         origin: name(fields.take()?)?,
         maint: maint(fields.take()?)?,
@@ -55,7 +55,7 @@ impl Grammar<AircraftRow> for Aircraft {
 /// The aircraft, in the order of their lines, or the first line that is refused.
 ///
 /// A line is `AIRCRAFT MODEL FAMILY SEATS RANGE HOURLY TURN TRANSIT ORIGIN MAINTENANCE`; fields
-/// behind these are passed over. The maintenance is `NULL` for none, or
+/// after these are passed over. The maintenance is `NULL` for none, or
 /// `AIRPORT-DATE-TIME-DATE-TIME-MINUTES`.
 ///
 /// # Errors

@@ -7,18 +7,18 @@ ghost use Rattle.file_rows.specs.Facts.{IsMaint};
 use desk_text::{Cause, moment, name, number};
 use file_rows::{DASH, MaintRow};
 
-/// How many bytes stand behind the last dash.
-fn behind_last_dash(bytes: &[u8]) -> Option<usize>
+/// How many bytes come after the last dash.
+fn after_last_dash(bytes: &[u8]) -> Option<usize>
     ensures { result ≡ position is_dash (reverse bytes.now) }
 {
     bytes.iter().rev().position(|byte| *byte == DASH)
 }
 
-/// The bytes before the last dash and those behind it, or `None` where there is no dash.
+/// The bytes before the last dash and those after it, or `None` where there is no dash.
 fn cut_at_last_dash(bytes: &[u8]) -> Option<(&[u8], &[u8])>
     ensures { option_map (λ parts. (parts.0.now, parts.1.now)) result ≡ cut_at_last_dash bytes.now }
 {
-    let behind = behind_last_dash(bytes)?;
+    let behind = after_last_dash(bytes)?;
     let end = bytes.len() - behind;
     Some((&bytes[..end - 1], &bytes[end..]))
 }

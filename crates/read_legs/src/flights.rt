@@ -121,8 +121,8 @@ impl Grammar<FlightRow> for FlightLine {
 /// The rows of a file of flights, in the order of their lines, or the first line that is refused.
 ///
 /// A line is a flight, its origin and destination, its departure and arrival, and the flight before
-/// it or `0`; what stands behind these is passed over. A departure is a time of the flight's date,
-/// or so many days later as stand behind a plus sign. An arrival with days is counted from the same
+/// it or `0`; what comes after these is passed over. A departure is a time of the flight's date,
+/// or so many days later as come after a plus sign. An arrival with days is counted from the same
 /// midnight and must be 1 to 2,880 minutes after the departure; one without is the first moment
 /// after the departure that shows its time.
 ///

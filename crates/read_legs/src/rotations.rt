@@ -43,7 +43,7 @@ impl Grammar<RotationRow> for RotationLine {
 
 /// The rows of a file of rotations, in the order of their lines, or the first line that is refused.
 ///
-/// A line is a flight, a date and an aircraft; what stands behind these is passed over. The causes,
+/// A line is a flight, a date and an aircraft; what comes after these is passed over. The causes,
 /// of which the first one counts: `Byte` for a byte that no line may have, `Fields` where one is
 /// missing, `Size` for a name that is not 1 to 32 bytes and `Date`, from the left. A file of more
 /// than 67,108,864 bytes is refused at line 0 with `Size`.

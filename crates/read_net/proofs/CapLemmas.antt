@@ -3,7 +3,7 @@ use Rattle.std.proofs.Common.{List, ◌++◌, Result, Ok, Err}
 use Rattle.file_rows.specs.declared.cause.Cause.{Cause}
 use Rattle.file_rows.specs.declared.network.CapRow.{CapRow}
 
--- these caps, and behind them those that are read
+-- these caps, and after them those that are read
 abbrev pub behind : List CapRow → Result (List CapRow) Cause → Result (List CapRow) Cause
 behind before (Ok caps) = Ok (before ++ caps)
 behind before (Err cause) = Err cause

@@ -27,9 +27,19 @@ legs_of (flight ∷ date ∷ class ∷ others) = do
   before_all leg (legs_of others)
 legs_of _ = Err causes.Fields
 
--- the fields, where they are one or more whole groups of three
-abbrev pub groups_of_three : List (List ℕ) → Result (List (List ℕ)) Cause
-groups_of_three fields = if nat_lt 0 (length fields) && (length fields % 3 == 0) then Ok fields else Err causes.Fields
+-- this row, where the fields of its legs are one or more whole groups of three
+abbrev pub in_groups : List (List ℕ) → Result ItineraryRow Cause → Result ItineraryRow Cause
+in_groups fields row = if nat_lt 0 (length fields) && (length fields % 3 == 0) then row else Err causes.Fields
+
+-- the row of its first four fields and of those of its legs
+unfoldable pub fields_row : ℕ → List ℕ → List ℕ → List ℕ → List ℕ → List (List ℕ) → Result ItineraryRow Cause
+fields_row line reservation kind paid passengers groups = do
+  name ← name_of reservation
+  inbound ← inbound_of kind
+  price ← price_of paid
+  count ← number_of 1 999999999 passengers
+  legs ← legs_of groups
+  Ok (record { line = line; name = name; inbound = inbound; price = price; count = count; legs = legs })
 
 -- RESERVATION TYPE PRICE COUNT, and one or more groups
 unfoldable pub itinerary_row : RowOf ItineraryRow
@@ -38,10 +48,4 @@ itinerary_row line fields = do
   second ← next_field first.1
   third ← next_field second.1
   fourth ← next_field third.1
-  groups ← groups_of_three fourth.1
-  name ← name_of first.0
-  inbound ← inbound_of second.0
-  price ← price_of third.0
-  count ← number_of 1 999999999 fourth.0
-  legs ← legs_of groups
-  Ok (record { line = line; name = name; inbound = inbound; price = price; count = count; legs = legs })
+  in_groups fourth.1 (fields_row line first.0 second.0 third.0 fourth.0 fourth.1)

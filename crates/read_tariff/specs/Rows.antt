@@ -1,4 +1,4 @@
--- The rows of the tariff: a kind, and the fields that it names; those behind them are passed over.
+-- The rows of the tariff: a kind, and the fields that it names; those after them are passed over.
 use Rattle.std.specs.Prelude.{ℕ, List, [], ◌∷◌, Option, Some, None, Result, Ok, Err, bytes_eq, codes, nat_lt, if◌then◌else◌}
 use Rattle.desk_units.specs.declared.numbers.Cabin.{Cabin}
 use Rattle.desk_units.specs.declared.numbers.Haul.{Haul}
@@ -13,11 +13,11 @@ use Rattle.file_rows.specs.declared.cause.Cause.TheVariants.{Word, Fields}
 use Rattle.desk_text.specs.Fields.{name_of, number_of, price_of, weight_of, haul_of, cabin_of}
 use Rattle.desk_text.specs.Rows.{◌>>=◌, RowOf}
 use Rattle.comma_rows.specs.Records.{printed}
-use Rattle.read_tariff.specs.declared.kinds.Kind.{Kind}
-use Rattle.read_tariff.specs.declared.kinds.Kind.TheVariants as kinds
+use Rattle.read_tariff.specs.declared.kinds.TariffKind.{TariffKind}
+use Rattle.read_tariff.specs.declared.kinds.TariffKind.TheVariants as kinds
 
 -- the kind of a row, by its first word
-abbrev pub kind_of : List ℕ → Result Kind Cause
+abbrev pub kind_of : List ℕ → Result TariffKind Cause
 kind_of word =
     if bytes_eq word (codes "surface") then Ok kinds.Surface else (
     if bytes_eq word (codes "weight") then Ok kinds.Weight else (
@@ -97,7 +97,7 @@ position_row (first ∷ others) = do
 position_row [] = Err Fields
 
 -- the row of a kind
-abbrev pub row_of : Kind → List (List ℕ) → Result TariffRow Cause
+abbrev pub row_of : TariffKind → List (List ℕ) → Result TariffRow Cause
 row_of kinds.Surface fields = surface_row fields
 row_of kinds.Weight fields = weight_row fields
 row_of kinds.Delay fields = cabin_price fields >>= λ parts. Ok (Delay parts.0 parts.1 parts.2)

@@ -7,7 +7,7 @@ use desk_text::Cause;
 
 /// What a row is about.
 #[derive(Clone, Copy, Debug)]
-pub(crate) enum Kind {
+pub(crate) enum TariffKind {
     Surface,
     Weight,
     Delay,
@@ -19,25 +19,25 @@ pub(crate) enum Kind {
 }
 
 /// The kind of a row, by its first word, else `Word`.
-pub(crate) fn kind_named(word: &[u8]) -> Result<Kind, Cause>
+pub(crate) fn kind_named(word: &[u8]) -> Result<TariffKind, Cause>
     ensures { result ≡ kind_of word.now }
 {
     if word == b"surface".as_slice() {
-        Ok(Kind::Surface)
+        Ok(TariffKind::Surface)
     } else if word == b"weight".as_slice() {
-        Ok(Kind::Weight)
+        Ok(TariffKind::Weight)
     } else if word == b"delay".as_slice() {
-        Ok(Kind::Delay)
+        Ok(TariffKind::Delay)
     } else if word == b"cancel".as_slice() {
-        Ok(Kind::Cancel)
+        Ok(TariffKind::Cancel)
     } else if word == b"downgrade".as_slice() {
-        Ok(Kind::Downgrade)
+        Ok(TariffKind::Downgrade)
     } else if word == b"care".as_slice() {
-        Ok(Kind::Care)
+        Ok(TariffKind::Care)
     } else if word == b"compensation".as_slice() {
-        Ok(Kind::Compensation)
+        Ok(TariffKind::Compensation)
     } else if word == b"position".as_slice() {
-        Ok(Kind::Position)
+        Ok(TariffKind::Position)
     } else {
         Err(Cause::Word)
     }

@@ -6,7 +6,7 @@ ghost use Rattle.desk_units.specs.Ranks.{cabin_rank};
 ghost use Rattle.tariff_prices.specs.Rows.{IsPrice, IsThreshold, IsTariffRow};
 ghost use Rattle.read_tariff.specs.Rows.{term_of, threshold_of, below_of, cabin_price, threshold_price, surface_row, weight_row, downgrade_row, position_row, row_of, tariff_row, record_row};
 
-use crate::kinds::{Kind, kind_named};
+use crate::kinds::{TariffKind, kind_named};
 use comma_rows::{Columns, CommaGrammar};
 use desk_text::{Cause, RowFault, cabin, haul, name, number, price, weight};
 use desk_units::{Cabin, Haul, Price, TariffRow, Term};
@@ -146,23 +146,23 @@ fn position(mut columns: Columns<'_>) -> Result<TariffRow, Cause>
 }
 
 /// The row of a kind whose fields are these.
-fn row_of(kind: Kind, columns: Columns<'_>) -> Result<TariffRow, Cause>
+fn row_of(kind: TariffKind, columns: Columns<'_>) -> Result<TariffRow, Cause>
     ensures exact { result ≡ row_of kind columns.entry }
     ensures facts { IfOk result IsTariffRow }
 {
     match kind {
-        Kind::Surface => surface(columns),
-        Kind::Weight => weight_of_term(columns),
-        Kind::Delay => {
+        TariffKind::Surface => surface(columns),
+        TariffKind::Weight => weight_of_term(columns),
+        TariffKind::Delay => {
             let (haul, cabin, price) = cabin_price(columns)?;
             Ok(TariffRow::Delay { haul, cabin, price })
         }
-        Kind::Cancel => {
+        TariffKind::Cancel => {
             let (haul, cabin, price) = cabin_price(columns)?;
             Ok(TariffRow::Cancel { haul, cabin, price })
         }
-        Kind::Downgrade => downgrade(columns),
-        Kind::Care => {
+        TariffKind::Downgrade => downgrade(columns),
+        TariffKind::Care => {
             let (haul, threshold, price) = threshold_price(columns)?;
             Ok(TariffRow::Care {
                 haul,
@@ -170,7 +170,7 @@ fn row_of(kind: Kind, columns: Columns<'_>) -> Result<TariffRow, Cause>
                 price,
             })
         }
-        Kind::Compensation => {
+        TariffKind::Compensation => {
             let (haul, threshold, price) = threshold_price(columns)?;
             Ok(TariffRow::Compensation {
                 haul,
@@ -178,7 +178,7 @@ fn row_of(kind: Kind, columns: Columns<'_>) -> Result<TariffRow, Cause>
                 price,
             })
         }
-        Kind::Position => position(columns),
+        TariffKind::Position => position(columns),
     }
 }
 

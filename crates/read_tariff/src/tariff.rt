@@ -26,7 +26,7 @@ use std::alloc::Global;
 ///   `none`.
 /// - `position,P`.
 ///
-/// Fields behind these are passed over. Prices are at most 999,999,999.9999, and weights at most
+/// Fields after these are passed over. Prices are at most 999,999,999.9999, and weights at most
 /// 999,999.999. A file without records is an empty tariff. How many rows there are, and whether two
 /// say the same, is not looked at.
 ///

@@ -6,7 +6,7 @@
 //! passengers are counted in one walk over their groups, and each path is looked at once, so the time is
 //! linear in the legs and the groups of passengers.
 //!
-//! Proved: the answer is `least_pax` of desk_rules. It stands on `desk_rules` and on `plan_reads`, which
+//! Proved: the answer is `least_pax` of desk_rules. It depends on `desk_rules` and on `plan_reads`, which
 //! knows whether a path keeps C13 and C14.
 #![tactic(auto)]
 

@@ -25,7 +25,7 @@ breaks-keeps I P C7Service n = refl
 breaks-keeps I P C8Maintenance n = refl
 breaks-keeps I P C9Minutes n = refl
 
--- the first of the rules that are left: an item of the next one, or the first of those behind it
+-- the first of the rules that are left: an item of the next one, or the first of those after it
 pub next_rule : {R X : Type 0} (p : X → Bool) (items : R → List X) (rules : List R) (i : ℕ) (rule : R) → i < length rules → find p (flat_map items (drop i rules)) ≡ option_or (find p (items (get_or rules i rule))) (find p (flat_map items (drop (i + 1) rules)))
 next_rule {R = R} p items rules i rule lt =
     let e : drop i rules ≡ get_or rules i rule ∷ drop (i + 1) rules = rw add-one (drop-cons rules i rule lt) in

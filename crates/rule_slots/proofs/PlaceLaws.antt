@@ -30,7 +30,7 @@ run_passed p d (x ∷ xs) (suc i) n room all =
     let rest : n ≤ passed p xs = run_passed p d xs i n (omega arith) (λ j up below. all (suc j) (omega arith) (omega arith)) in
     omega (arith, rest, passed_more p x xs)
 
--- two places pass, the one at least n places behind the other
+-- two places pass, the one at least n places after the other
 pub record AreApart {X : Type 0} (p : X → Bool) (d : X) (xs : List X) (n : ℕ) : Type 0 where
   pub low : ℕ
   pub high : ℕ

@@ -1,4 +1,4 @@
--- The slots that legs take tell how many depart from an airport in an hour, and how many arrive.
+-- The slots that legs take say how many depart from an airport in an hour, and how many arrive.
 use Rattle.std.proofs.Common.{◌≡◌, ℕ, zero, suc, ◌+◌, inl, inr, Bool, true, false, ◌&&◌, not, eqb, List, [], ◌∷◌, ◌++◌, length, refl, sym, ap, ◌∙◌, cond, length-append, add-one}
 use Rattle.std.specs.Prelude.{Some, None}
 use Rattle.std.specs.List.{filter, filter_map}

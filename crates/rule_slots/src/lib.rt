@@ -6,7 +6,7 @@
 //! by arrival, and walked once: so only hours in which a leg is counted are looked at, and the time is near
 //! linear in the legs.
 //!
-//! Proved: the answer is `least_slots` of desk_rules, which looks at every hour of a century. It stands on
+//! Proved: the answer is `least_slots` of desk_rules, which looks at every hour of a century. It depends on
 //! `desk_data` and `desk_rules`.
 #![tactic(auto)]
 

@@ -1,5 +1,5 @@
 pub mod Chains
-pub mod TellingLemmas
+pub mod StatementLemmas
 pub mod LineLemmas
 pub mod PathLemmas
 pub mod PartyLemmas

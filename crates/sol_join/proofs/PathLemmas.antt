@@ -11,12 +11,12 @@ use Rattle.desk_text.specs.declared.fault.RowFault.{RowFault}
 use Rattle.desk_text.specs.declared.fault.RowFault.TheVariants as row_fault
 use Rattle.desk_text.specs.Rows.{◌>>=◌, GivesRow}
 use Rattle.desk_data.specs.Situation.{Situation}
-use Rattle.sol_join.specs.Told.{seat_of, path_of}
+use Rattle.sol_join.specs.Stated.{seat_of, path_of}
 
 abbrev Seats : Type 0
 Seats = List (Leg × Cabin)
 
--- these legs, and behind them those that are still joined
+-- these legs, and after them those that are still joined
 abbrev pub behind : Seats → Result Seats Cause → Result Seats Cause
 behind before (Ok seats) = Ok (before ++ seats)
 behind before (Err e) = Err e
@@ -67,6 +67,6 @@ module _ (I : Situation) (rows : List LegRow) where
   -- an answer that is the fault of one that is refused
   pub stops : (result : Result Seats RowFault) (before : Seats) (k : ℕ) (row : LegRow) (e : Cause) (total : Result Seats Cause) → k < length rows → row ≡ get_or rows k row → seat_of I row ≡ Err e
       → IsErrAnd result (λ fault. fault ≡ row_fault.Refused e) → behind before (path_of I (drop k rows)) ≡ total → GivesRow result total
-  stops (Ok x) before k row e total below is gives told so_far = absurd told
-  stops (Err fault) before k row e total below is gives told so_far =
-      subst (λ (f : RowFault). GivesRow {Row = Seats} (Err f) total) (sym told) (refused before k row e total below is gives so_far)
+  stops (Ok x) before k row e total below is gives stated so_far = absurd stated
+  stops (Err fault) before k row e total below is gives stated so_far =
+      subst (λ (f : RowFault). GivesRow {Row = Seats} (Err f) total) (sym stated) (refused before k row e total below is gives so_far)

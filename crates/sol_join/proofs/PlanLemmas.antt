@@ -1,4 +1,4 @@
--- What the lines tell is a plan for the day.
+-- What the lines say is a plan for the day.
 use Rattle.std.proofs.Common.{◌≡◌, ℕ, zero, suc, ◌<◌, ◌≤◌, true, List, [], ◌∷◌, length, map, get_or, Option, Some, None, Result, Ok, Err, refl, sym, ap, subst, ◌∙◌, arith, leb}
 use Rattle.std.specs.Prelude.{sum_by, is_some, unwrap_or, ok_or}
 use Rattle.std.specs.List.{All, AllPairs, AllByRecursion, list_all, zip, range_with_len}
@@ -39,13 +39,13 @@ use Rattle.sol_rows.specs.declared.rows.PlannedFlight.{PlannedFlight}
 use Rattle.sol_rows.specs.declared.rows.PlannedLeg.{PlannedLeg}
 use Rattle.sol_rows.specs.declared.rows.PlannedGroup.{PlannedGroup}
 use Rattle.sol_rows.specs.Facts.{IsPlannedGroup}
-use Rattle.sol_join.specs.Told.{leg_of, row_of, is_in_time, told_leg, seat_of, path_of, group_of, told_group}
-use Rattle.sol_join.specs.Telling.{entry_among, first_refused, unless, entries_told}
-use Rattle.sol_join.specs.Legs.{legs_telling, rows_told, all_rows}
-use Rattle.sol_join.specs.Groups.{Passengers, groups_telling, passengers_told, groups_in, is_whole, all_groups}
-use Rattle.sol_join.specs.Solution.{in_file, plan_told}
+use Rattle.sol_join.specs.Stated.{leg_of, row_of, is_in_time, stated_leg, seat_of, path_of, group_of, stated_group}
+use Rattle.sol_join.specs.Statement.{entry_among, first_refused, unless, entries_stated}
+use Rattle.sol_join.specs.Legs.{legs_telling, rows_stated, all_rows}
+use Rattle.sol_join.specs.Groups.{Passengers, groups_telling, passengers_stated, groups_in, is_whole, all_groups}
+use Rattle.sol_join.specs.Solution.{in_file, plan_stated}
 use Rattle.sol_join.proofs.Chains.{bind_ok, if_ok, ok_or_some}
-use Rattle.sol_join.proofs.TellingLemmas.{entry_among-holds}
+use Rattle.sol_join.proofs.StatementLemmas.{entry_among-holds}
 
 -- ---- rows
 
@@ -60,12 +60,12 @@ row_in_range I (Some flown) row e early =
     let is : Flown at.0 flown.dep ≡ row = cc in
     in_time_row I at.0 row flown.dep.0 (plane_named-lt I flown.aircraft at.0 (ok_or_some (plane_named I flown.aircraft) cause.Unknown at.0 at.1)) (sym is) early
 
-told_in_range : (I : Situation) (line : PlannedLeg) (told : Leg × Row) → told_leg I line ≡ Ok told → IsRowOf (planes_of I) told.1
-unfolding told_leg
-told_in_range I line told e =
-    let leg = bind_ok (leg_of I line.flight line.day) _ told e in
-    let row = bind_ok (row_of I line.flown) _ told leg.2 in
-    let test = if_ok (is_in_time row.0) (leg.0, row.0) told cause.Limit row.2 in
+stated_in_range : (I : Situation) (line : PlannedLeg) (stated : Leg × Row) → stated_leg I line ≡ Ok stated → IsRowOf (planes_of I) stated.1
+unfolding stated_leg
+stated_in_range I line stated e =
+    let leg = bind_ok (leg_of I line.flight line.day) _ stated e in
+    let row = bind_ok (row_of I line.flown) _ stated leg.2 in
+    let test = if_ok (is_in_time row.0) (leg.0, row.0) stated cause.Limit row.2 in
     subst (IsRowOf (planes_of I)) (ap (λ (t : Leg × Row). t.1) test.1) (row_in_range I line.flown row.0 row.1 test.0)
 
 -- a row that is said is one for the day's aircraft
@@ -83,7 +83,7 @@ or_good I (Some row) other good is = good
 
 row_good : (I : Situation) (lines : List PlannedLeg) (x : ℕ) → IsGoodRow I (entry_among (legs_telling I) lines x)
 row_good I lines x =
-    entry_among-holds (legs_telling I) (λ _. Unit {0}) (IsGoodRow I) tt (λ row line told _ is good. or_good I row told.1 good (told_in_range I line told is)) lines x (all_lines lines)
+    entry_among-holds (legs_telling I) (λ _. Unit {0}) (IsGoodRow I) tt (λ row line stated _ is good. or_good I row stated.1 good (stated_in_range I line stated is)) lines x (all_lines lines)
 
 or_cancelled : (I : Situation) (row : Option Row) → IsGoodRow I row → IsRowOf (planes_of I) (unwrap_or row Cancelled)
 or_cancelled I None good = tt
@@ -121,15 +121,15 @@ pub record IsOn (I : Situation) (on : List (Leg × Cabin) × ℕ) : Type 0 where
   pub short : length on.0 ≤ 8
   pub some : 1 ≤ on.1
 
-group_in_range : (I : Situation) (line : PlannedGroup) (told : Res × Group) → IsPlannedGroup line → told_group I line ≡ Ok told → IsOn I (told.1.path, told.1.count)
-unfolding told_group group_of
-group_in_range I line told row e =
-    let res = bind_ok (ok_or (res_named I line.name line.inbound) cause.Unknown) _ told e in
-    let path = bind_ok (path_of I line.legs) _ told res.2 in
-    let group = bind_ok (group_of line.count path.0) _ told path.2 in
+group_in_range : (I : Situation) (line : PlannedGroup) (stated : Res × Group) → IsPlannedGroup line → stated_group I line ≡ Ok stated → IsOn I (stated.1.path, stated.1.count)
+unfolding stated_group group_of
+group_in_range I line stated row e =
+    let res = bind_ok (ok_or (res_named I line.name line.inbound) cause.Unknown) _ stated e in
+    let path = bind_ok (path_of I line.legs) _ stated res.2 in
+    let group = bind_ok (group_of line.count path.0) _ stated path.2 in
     let made : Group = record { count = line.count; path = path.0 } in
     let test = if_ok (leb (length path.0) 8) made group.0 cause.Limit group.1 in
-    let is : (res.0, group.0) ≡ told = cc in
+    let is : (res.0, group.0) ≡ stated = cc in
     let on : IsOn I (path.0, line.count) = record {
       path = All-from_recursion (λ (pair : Leg × Cabin). pair.0.0 < legs_of I) path.0 (path_in_range I line.legs path.0 path.1);
       short = leb-true (length path.0) 8 test.0;
@@ -195,7 +195,7 @@ one_kept I passengers group on kept = record {
 
 passengers_kept : (I : Situation) (lines : List PlannedGroup) (r : ℕ) → AllByRecursion IsPlannedGroup lines → AreKept I (entry_among (groups_telling I) lines r)
 passengers_kept I lines r all =
-    entry_among-holds (groups_telling I) IsPlannedGroup (AreKept I) (none_kept I) (λ passengers line told row is kept. one_kept I passengers told.1 (group_in_range I line told row is) kept) lines r all
+    entry_among-holds (groups_telling I) IsPlannedGroup (AreKept I) (none_kept I) (λ passengers line stated row is kept. one_kept I passengers stated.1 (group_in_range I line stated row is) kept) lines r all
 
 Ascends : Group → Group → Type 0
 Ascends a b = path_cmp a.path b.path ≡ Less
@@ -241,22 +241,22 @@ in_file_ok file (Ok y) x e = cc
 in_file_ok file (Err refusal) x e = absurd cc
 
 module _ (I : Situation) (legs : List PlannedLeg) (groups : List PlannedGroup) where
-  rows_are : (told : List (Option Row)) → rows_told I legs ≡ Ok told → map (entry_among (legs_telling I) legs) (range_with_len 0 (legs_of I)) ≡ told
-  unfolding entries_told
-  rows_are told e = unless_ok (first_refused (legs_telling I) legs) _ told e
+  rows_are : (stated : List (Option Row)) → rows_stated I legs ≡ Ok stated → map (entry_among (legs_telling I) legs) (range_with_len 0 (legs_of I)) ≡ stated
+  unfolding entries_stated
+  rows_are stated e = unless_ok (first_refused (legs_telling I) legs) _ stated e
 
-  parties_are : (parties : List Passengers) → passengers_told I groups ≡ Ok parties → map (entry_among (groups_telling I) groups) (range_with_len 0 (reservations_of I)) ≡ parties
-  unfolding entries_told
+  parties_are : (parties : List Passengers) → passengers_stated I groups ≡ Ok parties → map (entry_among (groups_telling I) groups) (range_with_len 0 (reservations_of I)) ≡ parties
+  unfolding entries_stated
   parties_are parties e = unless_ok (first_refused (groups_telling I) groups) _ parties e
 
-  good_rows : (told : List (Option Row)) (rows : List Row) → rows_told I legs ≡ Ok told → all_rows told ≡ Ok rows → (length rows ≡ legs_of I) × AllByRecursion (IsRowOf (planes_of I)) rows
+  good_rows : (stated : List (Option Row)) (rows : List Row) → rows_stated I legs ≡ Ok stated → all_rows stated ≡ Ok rows → (length rows ≡ legs_of I) × AllByRecursion (IsRowOf (planes_of I)) rows
   unfolding all_rows
-  good_rows told rows e all =
-      let test = if_ok (list_all is_some told) (map (λ row. unwrap_or row Cancelled) told) rows (0, cause.Missing) all in
-      let made = rows_are told e in
-      let good : AllByRecursion (IsGoodRow I) told = subst (AllByRecursion (IsGoodRow I)) made (all_made (IsGoodRow I) (entry_among (legs_telling I) legs) (row_good I legs) (range_with_len 0 (legs_of I))) in (
-        sym (ap length test.1) ∙ length-map told (λ row. unwrap_or row Cancelled) ∙ sym (ap length made) ∙ length-map-range_with_len (entry_among (legs_telling I) legs) 0 (legs_of I),
-        subst (AllByRecursion (IsRowOf (planes_of I))) test.1 (all_mapped (IsGoodRow I) (IsRowOf (planes_of I)) (λ row. unwrap_or row Cancelled) (or_cancelled I) told good),
+  good_rows stated rows e all =
+      let test = if_ok (list_all is_some stated) (map (λ row. unwrap_or row Cancelled) stated) rows (0, cause.Missing) all in
+      let made = rows_are stated e in
+      let good : AllByRecursion (IsGoodRow I) stated = subst (AllByRecursion (IsGoodRow I)) made (all_made (IsGoodRow I) (entry_among (legs_telling I) legs) (row_good I legs) (range_with_len 0 (legs_of I))) in (
+        sym (ap length test.1) ∙ length-map stated (λ row. unwrap_or row Cancelled) ∙ sym (ap length made) ∙ length-map-range_with_len (entry_among (legs_telling I) legs) 0 (legs_of I),
+        subst (AllByRecursion (IsRowOf (planes_of I))) test.1 (all_mapped (IsGoodRow I) (IsRowOf (planes_of I)) (λ row. unwrap_or row Cancelled) (or_cancelled I) stated good),
       )
 
   -- the groups of all reservations
@@ -266,7 +266,7 @@ module _ (I : Situation) (legs : List PlannedLeg) (groups : List PlannedGroup) w
     pub paths : AllByRecursion (λ (gs : List Group). AllByRecursion (λ (group : Group). IsPathOf (legs_of I) group.path) gs) of
     pub whole : list_all is_whole (zip I.parts.res of) ≡ true
 
-  good_groups : (parties : List Passengers) (of : List (List Group)) → AllByRecursion IsPlannedGroup groups → passengers_told I groups ≡ Ok parties → all_groups I (map groups_in parties) ≡ Ok of → AreParties of
+  good_groups : (parties : List Passengers) (of : List (List Group)) → AllByRecursion IsPlannedGroup groups → passengers_stated I groups ≡ Ok parties → all_groups I (map groups_in parties) ≡ Ok of → AreParties of
   unfolding all_groups
   good_groups parties of lines e all =
       let test = if_ok (list_all is_whole (zip I.parts.res (map groups_in parties))) (map groups_in parties) of (0, cause.Count) all in
@@ -294,15 +294,15 @@ module _ (I : Situation) (legs : List PlannedLeg) (groups : List PlannedGroup) w
     };
   }
 
-  -- the plan that lines tell
-  pub told_is_plan : (P : PlanRows) → All IsPlannedGroup groups → plan_told I legs groups ≡ Ok P → IsPlanFor I P
-  unfolding plan_told
-  told_is_plan P lines e =
-      let told = bind_ok (in_file SolRotations (rows_told I legs)) _ P e in
-      let parties = bind_ok (in_file SolItineraries (passengers_told I groups)) _ P told.2 in
-      let rows = bind_ok (in_file SolRotations (all_rows told.0)) _ P parties.2 in
+  -- the plan that lines give
+  pub stated_is_plan : (P : PlanRows) → All IsPlannedGroup groups → plan_stated I legs groups ≡ Ok P → IsPlanFor I P
+  unfolding plan_stated
+  stated_is_plan P lines e =
+      let stated = bind_ok (in_file SolRotations (rows_stated I legs)) _ P e in
+      let parties = bind_ok (in_file SolItineraries (passengers_stated I groups)) _ P stated.2 in
+      let rows = bind_ok (in_file SolRotations (all_rows stated.0)) _ P parties.2 in
       let of = bind_ok (in_file SolItineraries (all_groups I (map groups_in parties.0))) _ P rows.2 in
       let is : record { rows = rows.0; groups = of.0 } ≡ P = cc in
-      let good = good_rows told.0 rows.0 (in_file_ok SolRotations (rows_told I legs) told.0 told.1) (in_file_ok SolRotations (all_rows told.0) rows.0 rows.1) in
+      let good = good_rows stated.0 rows.0 (in_file_ok SolRotations (rows_stated I legs) stated.0 stated.1) (in_file_ok SolRotations (all_rows stated.0) rows.0 rows.1) in
       subst (IsPlanFor I) is (is_plan rows.0 of.0 good.0 good.1
-      (good_groups parties.0 of.0 (recursion_from_All IsPlannedGroup groups lines) (in_file_ok SolItineraries (passengers_told I groups) parties.0 parties.1) (in_file_ok SolItineraries (all_groups I (map groups_in parties.0)) of.0 of.1)))
+      (good_groups parties.0 of.0 (recursion_from_All IsPlannedGroup groups lines) (in_file_ok SolItineraries (passengers_stated I groups) parties.0 parties.1) (in_file_ok SolItineraries (all_groups I (map groups_in parties.0)) of.0 of.1)))

@@ -1,4 +1,4 @@
--- What is left of the two files once all lines are told.
+-- What is left of the two files once all lines are read.
 use Rattle.std.specs.Prelude.{Result, Ok, Err}
 use Rattle.desk_text.specs.declared.fault.ReadFault.{ReadFault}
 use Rattle.desk_folder.specs.declared.files.File.TheVariants.{SolRotations, SolItineraries}

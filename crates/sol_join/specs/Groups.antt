@@ -1,4 +1,4 @@
--- What the lines of sol_itineraries.csv tell of each reservation.
+-- What the lines of sol_itineraries.csv say of each reservation.
 use Rattle.std.specs.Prelude.{ℕ, Bool, ◌==◌, List, [], map, sum_by, is_some, Result, Ok, Err, if◌then◌else◌}
 use Rattle.std.specs.List.{list_all, zip}
 use Rattle.std.specs.Map.{lookup}
@@ -13,8 +13,8 @@ use Rattle.desk_data.specs.declared.info.ResInfo.{ResInfo}
 use Rattle.desk_data.specs.PlanRows.{path_cmp}
 use Rattle.desk_data.specs.Situation.{Situation, reservations_of}
 use Rattle.sol_rows.specs.declared.rows.PlannedGroup.{PlannedGroup}
-use Rattle.sol_join.specs.Told.{told_group}
-use Rattle.sol_join.specs.Telling.{Telling, entries_told}
+use Rattle.sol_join.specs.Stated.{stated_group}
+use Rattle.sol_join.specs.Statement.{Statement, entries_stated}
 
 -- passengers by their paths, in the order of paths
 abbrev pub Passengers : Type 0
@@ -25,19 +25,19 @@ abbrev pub has_path : List (Leg × Cabin) → Passengers → Bool
 has_path path passengers = is_some (lookup (is_at (path_cmp path)) passengers)
 
 -- a line puts passengers of its reservation on a path, at its place in their order, where no line before it has
-abbrev pub groups_telling : Situation → Telling PlannedGroup (Res × Group) Passengers
+abbrev pub groups_telling : Situation → Statement PlannedGroup (Res × Group) Passengers
 groups_telling I = record {
   number = λ line. line.line;
-  told = told_group I;
-  about = λ told. told.0.0;
+  stated = stated_group I;
+  about = λ stated. stated.0.0;
   none = [];
-  again = λ told passengers. has_path told.1.path passengers;
-  add = λ passengers told. insert_entry path_cmp passengers told.1.path told.1.count;
+  again = λ stated passengers. has_path stated.1.path passengers;
+  add = λ passengers stated. insert_entry path_cmp passengers stated.1.path stated.1.count;
 }
 
 -- the passengers of each reservation, or the first line that is refused
-abbrev pub passengers_told : Situation → List PlannedGroup → Result (List Passengers) (ℕ × Cause)
-passengers_told I lines = entries_told (groups_telling I) (reservations_of I) lines
+abbrev pub passengers_stated : Situation → List PlannedGroup → Result (List Passengers) (ℕ × Cause)
+passengers_stated I lines = entries_stated (groups_telling I) (reservations_of I) lines
 
 -- the groups of passengers, in the order of their paths
 abbrev pub groups_in : Passengers → List Group

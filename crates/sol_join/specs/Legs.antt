@@ -1,4 +1,4 @@
--- What the lines of sol_rotations.csv tell of each leg.
+-- What the lines of sol_rotations.csv say of each leg.
 use Rattle.std.specs.Prelude.{ℕ, List, map, Option, Some, None, is_some, unwrap_or, Result, Ok, Err, if◌then◌else◌}
 use Rattle.std.specs.List.{list_all}
 use Rattle.std.specs.Option.{option_or}
@@ -9,24 +9,24 @@ use Rattle.desk_data.specs.declared.row.Row.{Row}
 use Rattle.desk_data.specs.declared.row.Row.TheVariants.{Cancelled}
 use Rattle.desk_data.specs.Situation.{Situation, legs_of}
 use Rattle.sol_rows.specs.declared.rows.PlannedLeg.{PlannedLeg}
-use Rattle.sol_join.specs.Told.{told_leg}
-use Rattle.sol_join.specs.Telling.{Telling, entries_told}
+use Rattle.sol_join.specs.Stated.{stated_leg}
+use Rattle.sol_join.specs.Statement.{Statement, entries_stated}
 
 -- a line gives its leg a row, where no line before it has
-abbrev pub legs_telling : Situation → Telling PlannedLeg (Leg × Row) (Option Row)
+abbrev pub legs_telling : Situation → Statement PlannedLeg (Leg × Row) (Option Row)
 legs_telling I = record {
   number = λ line. line.line;
-  told = told_leg I;
-  about = λ told. told.0.0;
+  stated = stated_leg I;
+  about = λ stated. stated.0.0;
   none = None;
-  again = λ told row. is_some row;
-  add = λ row told. option_or row (Some told.1);
+  again = λ stated row. is_some row;
+  add = λ row stated. option_or row (Some stated.1);
 }
 
 -- the rows that the lines give, by leg, or the first line that is refused
-abbrev pub rows_told : Situation → List PlannedLeg → Result (List (Option Row)) (ℕ × Cause)
-rows_told I lines = entries_told (legs_telling I) (legs_of I) lines
+abbrev pub rows_stated : Situation → List PlannedLeg → Result (List (Option Row)) (ℕ × Cause)
+rows_stated I lines = entries_stated (legs_telling I) (legs_of I) lines
 
 -- the rows, where each leg has one
 unfoldable pub all_rows : List (Option Row) → Result (List Row) (ℕ × Cause)
-all_rows told = if list_all is_some told then Ok (map (λ row. unwrap_or row Cancelled) told) else Err (0, Missing)
+all_rows stated = if list_all is_some stated then Ok (map (λ row. unwrap_or row Cancelled) stated) else Err (0, Missing)

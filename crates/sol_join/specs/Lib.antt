@@ -1,5 +1,5 @@
-pub mod Told
-pub mod Telling
+pub mod Stated
+pub mod Statement
 pub mod Legs
 pub mod Groups
 pub mod Solution

@@ -1,4 +1,4 @@
--- The plan that two files tell.
+-- The plan that two files give.
 use Rattle.std.specs.Prelude.{◌≡◌, ℕ, List, map, Result, Ok, Err}
 use Rattle.file_rows.specs.declared.cause.Cause.{Cause}
 use Rattle.desk_text.specs.declared.fault.ReadFault.{ReadFault}
@@ -14,8 +14,8 @@ use Rattle.sol_rows.specs.declared.rows.PlannedLeg.{PlannedLeg}
 use Rattle.sol_rows.specs.declared.rows.PlannedGroup.{PlannedGroup}
 use Rattle.sol_rows.specs.Legs.{rotation_rows}
 use Rattle.sol_rows.specs.Groups.{itinerary_rows}
-use Rattle.sol_join.specs.Legs.{rows_told, all_rows}
-use Rattle.sol_join.specs.Groups.{passengers_told, groups_in, all_groups}
+use Rattle.sol_join.specs.Legs.{rows_stated, all_rows}
+use Rattle.sol_join.specs.Groups.{passengers_stated, groups_in, all_groups}
 
 -- a refusal in this file
 abbrev pub in_file : {Given : Type 0} → File → Result Given (ℕ × Cause) → Result Given (File × ℕ × Cause)
@@ -23,11 +23,11 @@ in_file file (Ok given) = Ok given
 in_file file (Err refusal) = Err (file, refusal.0, refusal.1)
 
 -- the plan of the rows: the lines of both files are tried, and then whether there are lines for all legs and all passengers
-unfoldable pub plan_told : Situation → List PlannedLeg → List PlannedGroup → Result PlanRows (File × ℕ × Cause)
-plan_told I legs groups = do
-  told ← in_file SolRotations (rows_told I legs)
-  parties ← in_file SolItineraries (passengers_told I groups)
-  each_leg ← in_file SolRotations (all_rows told)
+unfoldable pub plan_stated : Situation → List PlannedLeg → List PlannedGroup → Result PlanRows (File × ℕ × Cause)
+plan_stated I legs groups = do
+  stated ← in_file SolRotations (rows_stated I legs)
+  parties ← in_file SolItineraries (passengers_stated I groups)
+  each_leg ← in_file SolRotations (all_rows stated)
   each_party ← in_file SolItineraries (all_groups I (map groups_in parties))
   Ok (record { rows = each_leg; groups = each_party })
 
@@ -36,13 +36,13 @@ unfoldable pub solution_of : Situation → List ℕ → List ℕ → Result Plan
 solution_of I rotations itineraries = do
   legs ← in_file SolRotations (rotation_rows rotations)
   groups ← in_file SolItineraries (itinerary_rows itineraries)
-  plan_told I legs groups
+  plan_stated I legs groups
 
 -- a reader gives this value, or refuses that line of that file; out of memory may come at any time
 abbrev pub SolutionGives : {Answer Value : Type 0} → (Answer → Value) → Result Answer BuildFault → Result Value (File × ℕ × Cause) → Type 0
-SolutionGives value (Ok answer) told = told ≡ Ok (value answer)
-SolutionGives value (Err (Refused file line cause)) told = told ≡ Err (file, line, cause)
-SolutionGives value (Err Memory) told = Unit {0}
+SolutionGives value (Ok answer) stated = stated ≡ Ok (value answer)
+SolutionGives value (Err (Refused file line cause)) stated = stated ≡ Err (file, line, cause)
+SolutionGives value (Err Memory) stated = Unit {0}
 
 -- the fault of a file
 abbrev pub fault_in : File → ReadFault → BuildFault

@@ -6,12 +6,12 @@ ghost use Rattle.std.specs.BTreeMap.{insert_entry};
 ghost use Rattle.desk_text.specs.Rows.{Gives};
 ghost use Rattle.desk_data.specs.PlanRows.{path_cmp};
 ghost use Rattle.desk_data.specs.Situation.{reservations_of};
-ghost use Rattle.sol_join.specs.Told.{told_group};
-ghost use Rattle.sol_join.specs.Telling.{Adds, cause_of};
-ghost use Rattle.sol_join.specs.Groups.{all_groups, groups_in, groups_telling, has_path, is_whole, passengers_told};
+ghost use Rattle.sol_join.specs.Stated.{stated_group};
+ghost use Rattle.sol_join.specs.Statement.{Adds, cause_of};
+ghost use Rattle.sol_join.specs.Groups.{all_groups, groups_in, groups_telling, has_path, is_whole, passengers_stated};
 ghost use Rattle.sol_join.specs.Parties.{Tried, parties_in, passengers_in};
 
-use crate::told::told_group;
+use crate::stated::stated_group;
 use day_names::DayNames;
 use desk_data::{Group, Instance, Path, Res, ResInfo};
 use desk_text::{ReadFault, RowFault};
@@ -21,16 +21,16 @@ use sol_rows::PlannedGroup;
 use std::alloc::Global;
 use std::collections::BTreeMap;
 
-/// The passengers of each reservation by their paths, as the lines tell them, or the first line that
+/// The passengers of each reservation by their paths, as the lines give them, or the first line that
 /// is refused.
-pub(crate) fn passengers_told(
+pub(crate) fn passengers_stated(
     alloc: Global,
     names: &DayNames<'_>,
     reservations: u32,
     lines: &[PlannedGroup],
 ) -> Result<Vec<BTreeMap<Vec<(Leg, Cabin)>, u32>>, ReadFault>
     requires { reservations ≡ reservations_of names.now }
-    ensures { Gives (λ parties. parties_in parties.items) result (passengers_told names.now lines.now) }
+    ensures { Gives (λ parties. parties_in parties.items) result (passengers_stated names.now lines.now) }
 {
     let mut parties = no_parties(alloc, reservations)?;
     for line in lines {
@@ -56,7 +56,7 @@ fn no_parties(
     Ok(parties)
 }
 
-/// Adds the group of a line to those of its reservation, or tells why the line is refused.
+/// Adds the group of a line to those of its reservation, or says why the line is refused.
 fn put_line(
     alloc: Global,
     names: &DayNames<'_>,
@@ -64,10 +64,10 @@ fn put_line(
     parties: &mut [BTreeMap<Vec<(Leg, Cabin)>, u32>],
 ) -> Result<(), RowFault>
     requires { length parties.old ≡ reservations_of names.now }
-    ensures exact { Tried result (cause_of (λ told. has_path told.1.path (slice_index_or (parties_in parties.old) told.0.0 [])) (told_group names.now line.now)) }
-    ensures put { OnOk result (Adds (groups_telling names.now) (told_group names.now line.now) (parties_in parties.old) (parties_in parties.new)) }
+    ensures exact { Tried result (cause_of (λ stated. has_path stated.1.path (slice_index_or (parties_in parties.old) stated.0.0 [])) (stated_group names.now line.now)) }
+    ensures put { OnOk result (Adds (groups_telling names.now) (stated_group names.now line.now) (parties_in parties.old) (parties_in parties.new)) }
 {
-    let (res, group) = told_group(alloc, names, line)?;
+    let (res, group) = stated_group(alloc, names, line)?;
     if put_group(res, group, parties)? {
         Ok(())
     } else {
@@ -156,7 +156,7 @@ fn is_whole(res: &ResInfo, groups: &[Group]) -> bool
     count_all(groups) == u64::from(res.count)
 }
 
-/// How many passengers there are in these groups; more than 2^64 - 1 are told as that many.
+/// How many passengers there are in these groups; more than 2^64 - 1 are given as that many.
 fn count_all(groups: &[Group]) -> u64
     ensures { result ≡ min (2 ^ 64 - 1) (sum_by (λ group. group.count) groups.now) }
 {

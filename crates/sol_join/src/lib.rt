@@ -1,4 +1,4 @@
-//! The plan that sol_rotations.csv and sol_itineraries.csv tell, for a day.
+//! The plan that sol_rotations.csv and sol_itineraries.csv give, for a day.
 //!
 //!     match read_solution(alloc, &inst, &rotations, &itineraries) {
 //!         Ok(plan) => ..,
@@ -14,14 +14,14 @@
 //! of their paths as they come, so the time is near linear in the day and the lines.
 //!
 //! Proved: the plan, or the refusal, is that of the definition `solution_of` in `specs/` (`exact`), and the
-//! plan is one for the day (`plan`). It stands on `sol_rows` for the rows, on `day_names` for the names, and
+//! plan is one for the day (`plan`). It depends on `sol_rows` for the rows, on `day_names` for the names, and
 //! on `desk_build` for the fault.
 #![tactic(auto)]
 
 mod groups;
 mod legs;
 mod solution;
-mod told;
+mod stated;
 
 pub use desk_build::BuildFault;
 pub use desk_data::{Instance, Plan};

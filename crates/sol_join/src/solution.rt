@@ -4,10 +4,10 @@ ghost use Rattle.std.specs.Prelude.{◌≡◌, All, IfOk, map};
 ghost use Rattle.desk_data.specs.Valid.{IsPlanFor};
 ghost use Rattle.sol_rows.specs.Facts.{IsPlannedGroup};
 ghost use Rattle.sol_join.specs.Both.{both};
-ghost use Rattle.sol_join.specs.Solution.{SolutionGives, fault_in, plan_told, solution_of};
+ghost use Rattle.sol_join.specs.Solution.{SolutionGives, fault_in, plan_stated, solution_of};
 
-use crate::groups::{all_groups, groups_of, passengers_told};
-use crate::legs::{all_rows, rows_told};
+use crate::groups::{all_groups, groups_of, passengers_stated};
+use crate::legs::{all_rows, rows_stated};
 use day_names::DayNames;
 use desk_build::BuildFault;
 use desk_data::{Group, Instance, Plan, Row};
@@ -26,7 +26,7 @@ fn in_file(file: File, fault: ReadFault) -> BuildFault
     }
 }
 
-/// What both files give once all their lines are told, or a fault: the first file's comes first.
+/// What both files give once all their lines are read, or a fault: the first file's comes first.
 fn both(
     rows: Result<Vec<Row>, ReadFault>,
     groups: Result<Vec<Vec<Group>>, ReadFault>,
@@ -42,8 +42,8 @@ fn both(
     }
 }
 
-/// The rows and the groups that the lines tell, by the names of the day, or the first refusal.
-fn told_by(
+/// The rows and the groups that the lines give, by the names of the day, or the first refusal.
+fn stated_by(
     alloc: Global,
     inst: &Instance,
     names: &DayNames<'_>,
@@ -51,13 +51,13 @@ fn told_by(
     groups: &[PlannedGroup],
 ) -> Result<(Vec<Row>, Vec<Vec<Group>>), BuildFault>
     requires { names.now ≡ inst.now }
-    ensures { SolutionGives (λ told. record { rows = told.0.items; groups = map (λ of. of.items) told.1.items }) result (plan_told inst.now legs.now groups.now) }
+    ensures { SolutionGives (λ stated. record { rows = stated.0.items; groups = map (λ of. of.items) stated.1.items }) result (plan_stated inst.now legs.now groups.now) }
 {
-    let rows = match rows_told(alloc, names, inst.legs(), legs) {
+    let rows = match rows_stated(alloc, names, inst.legs(), legs) {
         Ok(rows) => rows,
         Err(fault) => return Err(in_file(File::SolRotations, fault)),
     };
-    let parties = match passengers_told(alloc, names, inst.reservations(), groups) {
+    let parties = match passengers_stated(alloc, names, inst.reservations(), groups) {
         Ok(parties) => parties,
         Err(fault) => return Err(in_file(File::SolItineraries, fault)),
     };
@@ -66,20 +66,20 @@ fn told_by(
     both(each_leg, each_party)
 }
 
-/// The rows and the groups that the lines tell, or the first refusal.
-fn plan_told(
+/// The rows and the groups that the lines give, or the first refusal.
+fn plan_stated(
     alloc: Global,
     inst: &Instance,
     legs: &[PlannedLeg],
     groups: &[PlannedGroup],
 ) -> Result<(Vec<Row>, Vec<Vec<Group>>), BuildFault>
-    ensures { SolutionGives (λ told. record { rows = told.0.items; groups = map (λ of. of.items) told.1.items }) result (plan_told inst.now legs.now groups.now) }
+    ensures { SolutionGives (λ stated. record { rows = stated.0.items; groups = map (λ of. of.items) stated.1.items }) result (plan_stated inst.now legs.now groups.now) }
 {
     let names = DayNames::of(alloc, inst)?;
-    told_by(alloc, inst, &names, legs, groups)
+    stated_by(alloc, inst, &names, legs, groups)
 }
 
-/// The plan that the lines tell, or the first refusal.
+/// The plan that the lines give, or the first refusal.
 fn plan_of(
     alloc: Global,
     inst: &Instance,
@@ -87,14 +87,14 @@ fn plan_of(
     groups: &[PlannedGroup],
 ) -> Result<Plan, BuildFault>
     requires { All IsPlannedGroup groups.now }
-    ensures exact { SolutionGives (λ plan. plan) result (plan_told inst.now legs.now groups.now) }
+    ensures exact { SolutionGives (λ plan. plan) result (plan_stated inst.now legs.now groups.now) }
     ensures plan { IfOk result (λ plan. IsPlanFor inst.now plan) }
 {
-    let (rows, groups) = plan_told(alloc, inst, legs, groups)?;
+    let (rows, groups) = plan_stated(alloc, inst, legs, groups)?;
     Ok(Plan::of(rows, groups))
 }
 
-/// The plan that the bytes of sol_rotations.csv and of sol_itineraries.csv tell for a day. Lines may
+/// The plan that the bytes of sol_rotations.csv and of sol_itineraries.csv give for a day. Lines may
 /// come in any order.
 ///
 /// # Errors

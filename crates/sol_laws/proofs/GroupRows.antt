@@ -39,7 +39,7 @@ append_none : (field : List ℕ) → field ++ [] ≡ field
 append_none [] = refl
 append_none (b ∷ field) = ap (λ (bs : List ℕ). b ∷ bs) (append_none field)
 
--- the text of a path behind a field
+-- the text of a path after a field
 path_is : (I : Situation) (field : List ℕ) (path : List (Leg × Cabin)) → field ++ flat_map (seat_text I) path ≡ spaced field (path_fields I path)
 unfolding seat_text
 path_is I field [] = append_none field
@@ -69,7 +69,7 @@ line_is I res group =
     ∙ ap (λ (text : List ℕ). res.name ++ 32 ∷ (way ++ 32 ∷ text)) (sym (append_assoc count (flat_map (seat_text I) group.path) (10 ∷ [])) ∙ ap (λ (text : List ℕ). text ++ 10 ∷ []) (path_is I count group.path))
     ∙ sym (spaced_then res.name way (count ∷ seats) (10 ∷ []) ∙ ap (λ (text : List ℕ). res.name ++ 32 ∷ text) (spaced_then way count seats (10 ∷ [])))
 
--- the groups of all reservations, one behind the other, each with its reservation
+-- the groups of all reservations, one after the other, each with its reservation
 abbrev pub with_res : ResInfo → List Group → List (ResInfo × Group)
 with_res res groups = map (λ group. (res, group)) groups
 
@@ -103,14 +103,14 @@ abbrev pub seat_row : Situation → Leg × Cabin → LegRow
 seat_row I pair = record { flight = (leg_at I pair.0.0).flight; day = (leg_at I pair.0.0).day; cabin = pair.1 }
 
 -- the row of a line
-abbrev pub group_told : Situation → ℕ → ResInfo × Group → PlannedGroup
-group_told I n pair = record { line = n; name = pair.0.name; inbound = pair.0.inbound; count = pair.1.count; legs = map (seat_row I) pair.1.path }
+abbrev pub group_stated : Situation → ℕ → ResInfo × Group → PlannedGroup
+group_stated I n pair = record { line = n; name = pair.0.name; inbound = pair.0.inbound; count = pair.1.count; legs = map (seat_row I) pair.1.path }
 
 -- what is known of each leg of a day
 abbrev pub KnownLegs : Situation → Type 0
 KnownLegs I = (x : ℕ) → x < legs_of I → IsNameLength (length (leg_at I x).flight) × IsSeen (leg_at I x).flight × ((leg_at I x).day < 36525)
 
-pub record IsTold (I : Situation) (pair : ResInfo × Group) : Type 0 where
+pub record IsStated (I : Situation) (pair : ResInfo × Group) : Type 0 where
   pub size : IsNameLength (length pair.0.name)
   pub seen : IsSeen pair.0.name
   pub plain : is_last pair.0.name ≡ false
@@ -159,17 +159,17 @@ whole_path I path =
     let rest : length (path_fields I path) % 3 ≡ 0 = omega (arith, three_each I path) in
     ap (λ t. cond t (Ok (path_fields I path)) (Err causes.Fields)) (eq-eqb (length (path_fields I path) % 3) 0 rest)
 
-line_reads : (I : Situation) (pair : ResInfo × Group) → IsTold I pair → Reads planned_group (party_line I) (group_told I) pair
+line_reads : (I : Situation) (pair : ResInfo × Group) → IsStated I pair → Reads planned_group (party_line I) (group_stated I) pair
 unfolding planned_group
-line_reads I pair told =
+line_reads I pair stated =
     let others = direction_text pair.0.inbound ∷ decimal pair.1.count ∷ path_fields I pair.1.path in
-    let name = name_field pair.0.name told.size told.seen in
-    let fit : AllByRecursion IsField others = (way_field pair.0.inbound, (number_field pair.1.count told.most, path_fits I pair.1.path told.legs told.path)) in
+    let name = name_field pair.0.name stated.size stated.seen in
+    let fit : AllByRecursion IsField others = (way_field pair.0.inbound, (number_field pair.1.count stated.most, path_fits I pair.1.path stated.legs stated.path)) in
     record {
-      is_line = spaced_line pair.0.name others name told.plain fit;
+      is_line = spaced_line pair.0.name others name stated.plain fit;
       reads = λ n.
           ap (planned_group n) (fields_of_spaced pair.0.name others name fit)
-          ∙ rw (whole_path I pair.1.path) (rw (name_back pair.0.name told.size) (rw (way_back pair.0.inbound) (rw (number_back 1 1000 pair.1.count told.some told.most (omega arith)) (rw (path_back I pair.1.path told.legs told.path) refl))));
+          ∙ rw (whole_path I pair.1.path) (rw (name_back pair.0.name stated.size) (rw (way_back pair.0.inbound) (rw (number_back 1 1000 pair.1.count stated.some stated.most (omega arith)) (rw (path_back I pair.1.path stated.legs stated.path) refl))));
     }
 
 -- ---- the file
@@ -181,7 +181,7 @@ pub record AreKnown (I : Situation) (res : ResInfo) (groups : List Group) : Type
   pub plain : is_last res.name ≡ false
   pub groups_are : AllByRecursion (λ (group : Group). (1 ≤ group.count) × (group.count ≤ 1000) × AllByRecursion (λ (seat : Leg × Cabin). seat.0.0 < legs_of I) group.path) groups
 
-groups_read : (I : Situation) (res : ResInfo) (groups : List Group) → KnownLegs I → AreKnown I res groups → AllByRecursion (Reads planned_group (party_line I) (group_told I)) (with_res res groups)
+groups_read : (I : Situation) (res : ResInfo) (groups : List Group) → KnownLegs I → AreKnown I res groups → AllByRecursion (Reads planned_group (party_line I) (group_stated I)) (with_res res groups)
 groups_read I res [] legs known = tt
 groups_read I res (group ∷ groups) legs known =
     let first = known.groups_are.0 in (
@@ -189,13 +189,13 @@ groups_read I res (group ∷ groups) legs known =
       groups_read I res groups legs (record { size = known.size; seen = known.seen; plain = known.plain; groups_are = known.groups_are.1 }),
     )
 
-reads_append : (I : Situation) (xs ys : List (ResInfo × Group)) → AllByRecursion (Reads planned_group (party_line I) (group_told I)) xs → AllByRecursion (Reads planned_group (party_line I) (group_told I)) ys
-    → AllByRecursion (Reads planned_group (party_line I) (group_told I)) (xs ++ ys)
+reads_append : (I : Situation) (xs ys : List (ResInfo × Group)) → AllByRecursion (Reads planned_group (party_line I) (group_stated I)) xs → AllByRecursion (Reads planned_group (party_line I) (group_stated I)) ys
+    → AllByRecursion (Reads planned_group (party_line I) (group_stated I)) (xs ++ ys)
 reads_append I [] ys first second = second
 reads_append I (x ∷ xs) ys first second = (first.0, reads_append I xs ys first.1 second)
 
 parties_read : (I : Situation) (reservations : List ResInfo) (of : List (List Group)) → KnownLegs I → ((r : ℕ) → r < length reservations → (d : ResInfo) → AreKnown I (get_or reservations r d) (get_or of r []))
-    → AllByRecursion (Reads planned_group (party_line I) (group_told I)) (parties reservations of)
+    → AllByRecursion (Reads planned_group (party_line I) (group_stated I)) (parties reservations of)
 parties_read I [] of legs known = tt
 parties_read I (res ∷ reservations) [] legs known = tt
 parties_read I (res ∷ reservations) (groups ∷ of) legs known =
@@ -204,10 +204,10 @@ parties_read I (res ∷ reservations) (groups ∷ of) legs known =
 
 -- the rows of the written file
 pub itineraries_read : (I : Situation) (P : PlanRows) → KnownLegs I → ((r : ℕ) → r < length I.parts.res → (d : ResInfo) → AreKnown I (get_or I.parts.res r d) (get_or P.groups r [])) → length (itineraries_text I P) ≤ 67108864
-    → itinerary_rows (itineraries_text I P) ≡ Ok (numbered planned_group (party_line I) (group_told I) 1 (parties I.parts.res P.groups))
+    → itinerary_rows (itineraries_text I P) ≡ Ok (numbered planned_group (party_line I) (group_stated I) 1 (parties I.parts.res P.groups))
 unfolding itineraries_text
 itineraries_read I P legs known few =
     let same = lines_are I I.parts.res P.groups in
     ap itinerary_rows same
-    ∙ text_reads planned_group (party_line I) (group_told I) 67108864 (parties I.parts.res P.groups) (parties_read I I.parts.res P.groups legs known)
+    ∙ text_reads planned_group (party_line I) (group_stated I) 67108864 (parties I.parts.res P.groups) (parties_read I I.parts.res P.groups legs known)
     (subst (λ (text : List ℕ). length text ≤ 67108864) same few)

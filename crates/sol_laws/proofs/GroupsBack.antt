@@ -21,14 +21,14 @@ use Rattle.desk_data.specs.PlanRows.{path_cmp}
 use Rattle.desk_data.specs.Situation.{Situation, legs_of, reservations_of, res_at, no_res}
 use Rattle.desk_data.specs.Valid.{AreDistinct}
 use Rattle.sol_rows.specs.Groups.{planned_group}
-use Rattle.sol_join.specs.Told.{seat_of, path_of, group_of, told_group}
-use Rattle.sol_join.specs.Groups.{Passengers, has_path, groups_telling, passengers_told, groups_in, is_whole, all_groups}
+use Rattle.sol_join.specs.Stated.{seat_of, path_of, group_of, stated_group}
+use Rattle.sol_join.specs.Groups.{Passengers, has_path, groups_telling, passengers_stated, groups_in, is_whole, all_groups}
 use Rattle.sol_laws.proofs.TextLemmas.{numbered}
-use Rattle.sol_laws.proofs.GroupRows.{seat_row, party_line, group_told, with_res, parties}
+use Rattle.sol_laws.proofs.GroupRows.{seat_row, party_line, group_stated, with_res, parties}
 use Rattle.token_laws.proofs.NameBack.{leg_back, res_back}
-use Rattle.sol_laws.proofs.TellingBack.{get_behind, set_behind, first_left, within_left, left_then, Runs, runs_append, runs_back}
+use Rattle.sol_laws.proofs.StatementBack.{get_after, set_after, first_left, within_left, left_then, Runs, runs_append, runs_back}
 
--- ---- one more path, behind all others
+-- ---- one more path, after all others
 
 -- the passengers of groups
 abbrev pub passengers_of : List Group → Passengers
@@ -59,7 +59,7 @@ not_there path (on ∷ kept) all =
 abbrev Ascends : Group → Group → Type 0
 Ascends a b = path_cmp a.path b.path ≡ Less
 
--- a group behind others that ascend with it comes behind each of them
+-- a group after others that ascend with it comes after each of them
 pairs_tail : {X : Type 0} (R : X → X → Type 0) (x : X) (xs : List X) → AllPairs R (x ∷ xs) → AllPairs R xs
 pairs_tail R x xs pairs i j d before within = pairs (suc i) (suc j) d (omega (arith, before)) (omega (arith, within))
 
@@ -68,7 +68,7 @@ come_before [] group rest pairs = tt
 come_before (first ∷ kept) group rest pairs =
     let within : suc (length kept) < length (first ∷ (kept ++ group ∷ rest)) = omega (arith, length-append kept (group ∷ rest)) in
     let here : path_cmp first.path (get_or (kept ++ group ∷ rest) (length kept) first).path ≡ Less = pairs 0 (suc (length kept)) first (omega arith) within in (
-      subst (λ (g : Group). path_cmp first.path g.path ≡ Less) (get_behind kept group rest first) here,
+      subst (λ (g : Group). path_cmp first.path g.path ≡ Less) (get_after kept group rest first) here,
       come_before kept group rest (pairs_tail Ascends first (kept ++ group ∷ rest) pairs),
     )
 
@@ -85,14 +85,14 @@ module _ (I : Situation) (distinct : AreDistinct I.parts) where
     pub short : length group.path ≤ 8
     pub path : AllByRecursion (λ (seat : Leg × Cabin). seat.0.0 < legs_of I) group.path
 
-  group_is_told : (n r : ℕ) (group : Group) → r < reservations_of I → IsKnown group → told_group I (group_told I n (res_at I r, group)) ≡ Ok (record { 0 = r }, group)
-  unfolding told_group group_of
-  group_is_told n r group below known =
+  group_is_stated : (n r : ℕ) (group : Group) → r < reservations_of I → IsKnown group → stated_group I (group_stated I n (res_at I r, group)) ≡ Ok (record { 0 = r }, group)
+  unfolding stated_group group_of
+  group_is_stated n r group below known =
       rw (res_back I (record { 0 = r }) distinct below) (rw (path_back group.path known.path) (rw (le-leb (length group.path) 8 known.short) refl))
 
   -- the lines of a reservation's groups
   groups_run : (n r : ℕ) (res : ResInfo) (groups kept : List Group) (done rest : List Passengers) → length done ≡ r → r < reservations_of I → res ≡ res_at I r → AllByRecursion IsKnown groups → AllPairs Ascends (kept ++ groups)
-      → Runs (groups_telling I) (reservations_of I) (done ++ passengers_of kept ∷ rest) (numbered planned_group (party_line I) (group_told I) n (with_res res groups)) (done ++ passengers_of (kept ++ groups) ∷ rest)
+      → Runs (groups_telling I) (reservations_of I) (done ++ passengers_of kept ∷ rest) (numbered planned_group (party_line I) (group_stated I) n (with_res res groups)) (done ++ passengers_of (kept ++ groups) ∷ rest)
   groups_run n r res [] kept done rest at below is known pairs = ap (λ (gs : List Group). done ++ passengers_of gs ∷ rest) (sym (append_none kept))
     where
       append_none : (gs : List Group) → gs ++ [] ≡ gs
@@ -100,18 +100,18 @@ module _ (I : Situation) (distinct : AreDistinct I.parts) where
       append_none (g ∷ gs) = ap (λ (hs : List Group). g ∷ hs) (append_none gs)
   groups_run n r res (group ∷ groups) kept done rest at below is known pairs =
       let entries : List Passengers = done ++ passengers_of kept ∷ rest in
-      let told : Res × Group = (record { 0 = r }, group) in
-      let says : told_group I (group_told I n (res, group)) ≡ Ok told = subst (λ x. told_group I (group_told I n (x, group)) ≡ Ok told) (sym is) (group_is_told n r group below known.0) in
-      let here : get_or entries r [] ≡ passengers_of kept = subst (λ k. get_or entries k [] ≡ passengers_of kept) at (get_behind done (passengers_of kept) rest []) in
+      let stated : Res × Group = (record { 0 = r }, group) in
+      let says : stated_group I (group_stated I n (res, group)) ≡ Ok stated = subst (λ x. stated_group I (group_stated I n (x, group)) ≡ Ok stated) (sym is) (group_is_stated n r group below known.0) in
+      let here : get_or entries r [] ≡ passengers_of kept = subst (λ k. get_or entries k [] ≡ passengers_of kept) at (get_after done (passengers_of kept) rest []) in
       let first = come_before kept group groups pairs in
       let longer : insert_entry path_cmp (passengers_of kept) group.path group.count ≡ passengers_of (kept ++ group ∷ []) = put_last group.path group.count (passengers_of kept) first ∙ sym (map-append (λ (g : Group). (g.path, g.count)) kept (group ∷ [])) in
-      let put : set entries r (passengers_of (kept ++ group ∷ [])) ≡ done ++ passengers_of (kept ++ group ∷ []) ∷ rest = subst (λ k. set entries k (passengers_of (kept ++ group ∷ [])) ≡ done ++ passengers_of (kept ++ group ∷ []) ∷ rest) at (set_behind done (passengers_of kept) (passengers_of (kept ++ group ∷ [])) rest) in
+      let put : set entries r (passengers_of (kept ++ group ∷ [])) ≡ done ++ passengers_of (kept ++ group ∷ []) ∷ rest = subst (λ k. set entries k (passengers_of (kept ++ group ∷ [])) ≡ done ++ passengers_of (kept ++ group ∷ []) ∷ rest) at (set_after done (passengers_of kept) (passengers_of (kept ++ group ∷ [])) rest) in
       let next : set entries r (insert_entry path_cmp (get_or entries r []) group.path group.count) ≡ done ++ passengers_of (kept ++ group ∷ []) ∷ rest =
       ap (λ ps. set entries r (insert_entry path_cmp ps group.path group.count)) here ∙ ap (set entries r) longer ∙ put in
-      let lines = numbered planned_group (party_line I) (group_told I) (n + 1) (with_res res groups) in
+      let lines = numbered planned_group (party_line I) (group_stated I) (n + 1) (with_res res groups) in
       let moved : (kept ++ group ∷ []) ++ groups ≡ kept ++ group ∷ groups = append_assoc kept (group ∷ []) groups in
       let later = groups_run (n + 1) r res groups (kept ++ group ∷ []) done rest at below is known.1 (subst (AllPairs Ascends) (sym moved) pairs) in (
-        told,
+        stated,
         says,
         below,
         ap (has_path group.path) here ∙ not_there group.path (passengers_of kept) first,
@@ -119,16 +119,16 @@ module _ (I : Situation) (distinct : AreDistinct I.parts) where
             (subst (λ gs. Runs (groups_telling I) (reservations_of I) (done ++ passengers_of (kept ++ group ∷ []) ∷ rest) lines (done ++ passengers_of gs ∷ rest)) moved later),
       )
 
-  numbered_append : (n : ℕ) (xs ys : List (ResInfo × Group)) → numbered planned_group (party_line I) (group_told I) n (xs ++ ys) ≡ numbered planned_group (party_line I) (group_told I) n xs ++ numbered planned_group (party_line I) (group_told I) (n + length xs) ys
-  numbered_append n [] ys = let e : n ≡ n + 0 = omega arith in ap (λ k. numbered planned_group (party_line I) (group_told I) k ys) e
+  numbered_append : (n : ℕ) (xs ys : List (ResInfo × Group)) → numbered planned_group (party_line I) (group_stated I) n (xs ++ ys) ≡ numbered planned_group (party_line I) (group_stated I) n xs ++ numbered planned_group (party_line I) (group_stated I) (n + length xs) ys
+  numbered_append n [] ys = let e : n ≡ n + 0 = omega arith in ap (λ k. numbered planned_group (party_line I) (group_stated I) k ys) e
   numbered_append n (x ∷ xs) ys =
       let e : n + 1 + length xs ≡ n + suc (length xs) = omega arith in
-      ap (λ rows. group_told I n x ∷ rows) (numbered_append (n + 1) xs ys ∙ ap (λ k. numbered planned_group (party_line I) (group_told I) (n + 1) xs ++ numbered planned_group (party_line I) (group_told I) k ys) e)
+      ap (λ rows. group_stated I n x ∷ rows) (numbered_append (n + 1) xs ys ∙ ap (λ k. numbered planned_group (party_line I) (group_stated I) (n + 1) xs ++ numbered planned_group (party_line I) (group_stated I) k ys) e)
 
   -- the lines of all reservations
   parties_run : (n r : ℕ) (reservations : List ResInfo) (of : List (List Group)) (done : List Passengers) → drop r I.parts.res ≡ reservations → length done ≡ r → length of ≡ length reservations
       → AllByRecursion (λ (groups : List Group). AllByRecursion IsKnown groups × AllPairs Ascends groups) of
-      → Runs (groups_telling I) (reservations_of I) (done ++ replicate (length reservations) []) (numbered planned_group (party_line I) (group_told I) n (parties reservations of)) (done ++ map passengers_of of)
+      → Runs (groups_telling I) (reservations_of I) (done ++ replicate (length reservations) []) (numbered planned_group (party_line I) (group_stated I) n (parties reservations of)) (done ++ map passengers_of of)
   parties_run n r [] [] done left at same known = refl
   parties_run n r [] (groups ∷ of) done left at same known = absurd (omega (arith, same))
   parties_run n r (res ∷ reservations) [] done left at same known = absurd (omega (arith, same))
@@ -142,18 +142,18 @@ module _ (I : Situation) (distinct : AreDistinct I.parts) where
       let later = parties_run (n + size) (r + 1) reservations of (done ++ passengers_of groups ∷ []) (left_then I.parts.res r res reservations left) longer (omega (arith, same)) known.1 in
       let front : (done ++ passengers_of groups ∷ []) ++ rest ≡ done ++ passengers_of groups ∷ rest = append_assoc done (passengers_of groups ∷ []) rest in
       let end : (done ++ passengers_of groups ∷ []) ++ map passengers_of of ≡ done ++ passengers_of groups ∷ map passengers_of of = append_assoc done (passengers_of groups ∷ []) (map passengers_of of) in
-      let lines = numbered planned_group (party_line I) (group_told I) (n + size) (parties reservations of) in
+      let lines = numbered planned_group (party_line I) (group_stated I) (n + size) (parties reservations of) in
       let second : Runs (groups_telling I) (reservations_of I) (done ++ passengers_of groups ∷ rest) lines (done ++ passengers_of groups ∷ map passengers_of of) =
       subst (λ es. Runs (groups_telling I) (reservations_of I) es lines (done ++ passengers_of groups ∷ map passengers_of of)) front
       (subst (λ es. Runs (groups_telling I) (reservations_of I) ((done ++ passengers_of groups ∷ []) ++ rest) lines es) end later) in
       subst (λ ls. Runs (groups_telling I) (reservations_of I) (done ++ [] ∷ rest) ls (done ++ passengers_of groups ∷ map passengers_of of)) (sym (numbered_append n (with_res res groups) (parties reservations of)))
-      (runs_append (groups_telling I) (reservations_of I) (numbered planned_group (party_line I) (group_told I) n (with_res res groups)) lines (done ++ [] ∷ rest) (done ++ passengers_of groups ∷ rest) (done ++ passengers_of groups ∷ map passengers_of of) first second)
+      (runs_append (groups_telling I) (reservations_of I) (numbered planned_group (party_line I) (group_stated I) n (with_res res groups)) lines (done ++ [] ∷ rest) (done ++ passengers_of groups ∷ rest) (done ++ passengers_of groups ∷ map passengers_of of) first second)
 
-  -- all groups are told
+  -- all groups are read
   pub parties_back : (of : List (List Group)) → length of ≡ reservations_of I → AllByRecursion (λ (groups : List Group). AllByRecursion IsKnown groups × AllPairs Ascends groups) of
-      → passengers_told I (numbered planned_group (party_line I) (group_told I) 1 (parties I.parts.res of)) ≡ Ok (map passengers_of of)
+      → passengers_stated I (numbered planned_group (party_line I) (group_stated I) 1 (parties I.parts.res of)) ≡ Ok (map passengers_of of)
   parties_back of same known =
-      runs_back (groups_telling I) (reservations_of I) (numbered planned_group (party_line I) (group_told I) 1 (parties I.parts.res of)) (map passengers_of of)
+      runs_back (groups_telling I) (reservations_of I) (numbered planned_group (party_line I) (group_stated I) 1 (parties I.parts.res of)) (map passengers_of of)
       (parties_run 1 0 I.parts.res of [] refl refl same known)
 
 groups_again : (groups : List Group) → groups_in (passengers_of groups) ≡ groups

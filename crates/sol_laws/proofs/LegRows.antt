@@ -28,7 +28,7 @@ name_field name size seen = record { some = size.least; seen = recursion_from_Al
 
 -- ---- lines
 
--- fields, and what is behind them
+-- fields, and what is after them
 pub spaced_then : (field next : List ℕ) (others : List (List ℕ)) (end : List ℕ) → spaced field (next ∷ others) ++ end ≡ field ++ 32 ∷ (spaced next others ++ end)
 spaced_then field next others end = append_assoc field (32 ∷ spaced next others) end
 
@@ -72,16 +72,16 @@ lines_are I (pair ∷ pairs) =
 
 -- ---- rows
 
-abbrev pub flown_told : Situation → Row → Option PlannedFlight
-flown_told I (Flown plane dep) = Some (record { aircraft = (plane_at I plane.0).name; dep = dep })
-flown_told I Cancelled = None
+abbrev pub flown_stated : Situation → Row → Option PlannedFlight
+flown_stated I (Flown plane dep) = Some (record { aircraft = (plane_at I plane.0).name; dep = dep })
+flown_stated I Cancelled = None
 
 -- the row of a line
-abbrev pub leg_told : Situation → ℕ → LegInfo × Row → PlannedLeg
-leg_told I n pair = record { line = n; flight = pair.0.flight; day = pair.0.day; flown = flown_told I pair.1 }
+abbrev pub leg_stated : Situation → ℕ → LegInfo × Row → PlannedLeg
+leg_stated I n pair = record { line = n; flight = pair.0.flight; day = pair.0.day; flown = flown_stated I pair.1 }
 
 -- what is known of a leg and its row
-pub record IsTold (I : Situation) (pair : LegInfo × Row) : Type 0 where
+pub record IsStated (I : Situation) (pair : LegInfo × Row) : Type 0 where
   pub size : IsNameLength (length pair.0.flight)
   pub seen : IsSeen pair.0.flight
   pub plain : is_last pair.0.flight ≡ false
@@ -100,7 +100,7 @@ row_fields_fit I (Flown plane dep) is planes =
 row_fields_fit I Cancelled is planes = (cancelled_field, tt)
 
 flown_back : (I : Situation) (row : Row) → IsRowOf (planes_of I) row → ((p : ℕ) → p < planes_of I → IsNameLength (length (plane_at I p).name) × IsSeen (plane_at I p).name)
-    → (departure : Option (List ℕ × List ℕ)) → departure_of (departure_fields row) ≡ Ok departure → flown_of (row_field I row) departure ≡ Ok (flown_told I row)
+    → (departure : Option (List ℕ × List ℕ)) → departure_of (departure_fields row) ≡ Ok departure → flown_of (row_field I row) departure ≡ Ok (flown_stated I row)
 unfolding flown_of
 flown_back I (Flown plane dep) is planes departure e =
     let known = planes plane.0 is.0 in
@@ -116,32 +116,32 @@ departure_there : (row : Row) → (departure : Option (List ℕ × List ℕ)) ×
 departure_there (Flown plane dep) = (Some (date_text (dep.0 / 1440), time_text (dep.0 % 1440)), refl)
 departure_there Cancelled = (None, refl)
 
-line_reads : (I : Situation) (pair : LegInfo × Row) → IsTold I pair → Reads planned_leg (leg_line I) (leg_told I) pair
+line_reads : (I : Situation) (pair : LegInfo × Row) → IsStated I pair → Reads planned_leg (leg_line I) (leg_stated I) pair
 unfolding planned_leg
-line_reads I pair told =
-    let flight = name_field pair.0.flight told.size told.seen in
-    let date = date_field pair.0.day told.day in
-    let row = row_fields_fit I pair.1 told.row told.planes in
+line_reads I pair stated =
+    let flight = name_field pair.0.flight stated.size stated.seen in
+    let date = date_field pair.0.day stated.day in
+    let row = row_fields_fit I pair.1 stated.row stated.planes in
     let departure = departure_there pair.1 in
     let cut : fields (leg_line I pair) ≡ pair.0.flight ∷ date_text pair.0.day ∷ row_field I pair.1 ∷ departure_fields pair.1 =
     fields_of_spaced pair.0.flight (date_text pair.0.day ∷ row_field I pair.1 ∷ departure_fields pair.1) flight (date, (row.0, row.1)) in
     record {
-      is_line = spaced_line pair.0.flight (date_text pair.0.day ∷ row_field I pair.1 ∷ departure_fields pair.1) flight told.plain (date, (row.0, row.1));
+      is_line = spaced_line pair.0.flight (date_text pair.0.day ∷ row_field I pair.1 ∷ departure_fields pair.1) flight stated.plain (date, (row.0, row.1));
       reads = λ n.
           ap (planned_leg n) cut
-          ∙ rw departure.1 (rw (name_back pair.0.flight told.size) (rw (date_back pair.0.day told.day) (rw (flown_back I pair.1 told.row told.planes departure.0 departure.1) refl)));
+          ∙ rw departure.1 (rw (name_back pair.0.flight stated.size) (rw (date_back pair.0.day stated.day) (rw (flown_back I pair.1 stated.row stated.planes departure.0 departure.1) refl)));
     }
 
 -- ---- the file
 
-zip_told : (I : Situation) (legs : List LegInfo) (rows : List Row) → ((p : ℕ) → p < planes_of I → IsNameLength (length (plane_at I p).name) × IsSeen (plane_at I p).name)
+zip_stated : (I : Situation) (legs : List LegInfo) (rows : List Row) → ((p : ℕ) → p < planes_of I → IsNameLength (length (plane_at I p).name) × IsSeen (plane_at I p).name)
     → AllByRecursion (λ (leg : LegInfo). IsNameLength (length leg.flight)) legs → AllByRecursion (λ (leg : LegInfo). is_last leg.flight ≡ false) legs
-    → AllByRecursion (λ (leg : LegInfo). IsSeen leg.flight × (leg.day < 36525)) legs → AllByRecursion (IsRowOf (planes_of I)) rows → AllByRecursion (Reads planned_leg (leg_line I) (leg_told I)) (zip legs rows)
-zip_told I [] rows planes sizes plain valid good = tt
-zip_told I (leg ∷ legs) [] planes sizes plain valid good = tt
-zip_told I (leg ∷ legs) (row ∷ rows) planes sizes plain valid good = (
+    → AllByRecursion (λ (leg : LegInfo). IsSeen leg.flight × (leg.day < 36525)) legs → AllByRecursion (IsRowOf (planes_of I)) rows → AllByRecursion (Reads planned_leg (leg_line I) (leg_stated I)) (zip legs rows)
+zip_stated I [] rows planes sizes plain valid good = tt
+zip_stated I (leg ∷ legs) [] planes sizes plain valid good = tt
+zip_stated I (leg ∷ legs) (row ∷ rows) planes sizes plain valid good = (
   line_reads I (leg, row) (record { size = sizes.0; seen = valid.0.0; plain = plain.0; day = valid.0.1; row = good.0; planes = planes }),
-  zip_told I legs rows planes sizes.1 plain.1 valid.1 good.1,
+  zip_stated I legs rows planes sizes.1 plain.1 valid.1 good.1,
 )
 
 legs_seen : (airports planes n : ℕ) (legs : List LegInfo) → AllByRecursion (IsLeg airports planes n) legs → AllByRecursion (λ (leg : LegInfo). IsSeen leg.flight × (leg.day < 36525)) legs
@@ -149,14 +149,14 @@ legs_seen airports planes n [] all = tt
 legs_seen airports planes n (leg ∷ legs) all = ((all.0.flight, all.0.day), legs_seen airports planes n legs all.1)
 
 -- the rows of the written file
-pub rotations_read : (I : Situation) (P : PlanRows) → IsValid I → HasNames I → ArePlain I → IsPlanFor I P → length (rotations_text I P) ≤ 67108864 → rotation_rows (rotations_text I P) ≡ Ok (numbered planned_leg (leg_line I) (leg_told I) 1 (zip I.parts.legs P.rows))
+pub rotations_read : (I : Situation) (P : PlanRows) → IsValid I → HasNames I → ArePlain I → IsPlanFor I P → length (rotations_text I P) ≤ 67108864 → rotation_rows (rotations_text I P) ≡ Ok (numbered planned_leg (leg_line I) (leg_stated I) 1 (zip I.parts.legs P.rows))
 unfolding rotations_text
 rotations_read I P valid names plain plan few =
     let same = lines_are I (zip I.parts.legs P.rows) in
     let parts = valid.parts in
     let planes : (p : ℕ) → p < planes_of I → IsNameLength (length (plane_at I p).name) × IsSeen (plane_at I p).name = λ p below. (names.planes p no_plane below, (parts.planes p no_plane below).name) in
     ap rotation_rows same
-    ∙ text_reads planned_leg (leg_line I) (leg_told I) 67108864 (zip I.parts.legs P.rows)
-    (zip_told I I.parts.legs P.rows planes (recursion_from_All (λ (leg : LegInfo). IsNameLength (length leg.flight)) I.parts.legs names.legs) (recursion_from_All (λ (leg : LegInfo). is_last leg.flight ≡ false) I.parts.legs plain.flights)
+    ∙ text_reads planned_leg (leg_line I) (leg_stated I) 67108864 (zip I.parts.legs P.rows)
+    (zip_stated I I.parts.legs P.rows planes (recursion_from_All (λ (leg : LegInfo). IsNameLength (length leg.flight)) I.parts.legs names.legs) (recursion_from_All (λ (leg : LegInfo). is_last leg.flight ≡ false) I.parts.legs plain.flights)
     (legs_seen _ _ _ I.parts.legs (recursion_from_All (IsLeg _ _ _) I.parts.legs parts.legs)) (recursion_from_All (IsRowOf (planes_of I)) P.rows plan.rows))
     (subst (λ (text : List ℕ). length text ≤ 67108864) same few)

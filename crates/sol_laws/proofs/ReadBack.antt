@@ -16,9 +16,9 @@ use Rattle.sol_rows.specs.declared.rows.PlannedLeg.{PlannedLeg}
 use Rattle.sol_rows.specs.declared.rows.PlannedGroup.{PlannedGroup}
 use Rattle.sol_text.specs.Rotations.{rotations_text}
 use Rattle.sol_text.specs.Itineraries.{itineraries_text}
-use Rattle.sol_join.specs.Legs.{rows_told}
-use Rattle.sol_join.specs.Groups.{passengers_told, groups_in, all_groups}
-use Rattle.sol_join.specs.Solution.{plan_told, solution_of}
+use Rattle.sol_join.specs.Legs.{rows_stated}
+use Rattle.sol_join.specs.Groups.{passengers_stated, groups_in, all_groups}
+use Rattle.sol_join.specs.Solution.{plan_stated, solution_of}
 use Rattle.token_laws.specs.Lengths.{HasNames}
 use Rattle.sol_laws.specs.Plain.{ArePlain}
 use Rattle.sol_laws.proofs.LegRows.{rotations_read}
@@ -74,8 +74,8 @@ module _ (I : Situation) (P : PlanRows) (valid : IsValid I) (names : HasNames I)
       each [] are paths = tt
       each (group ∷ groups) are paths = (record { short = are.0.short; path = recursion_from_All (λ (seat : Leg × Cabin). seat.0.0 < legs_of I) group.path paths.0 }, each groups are.1 paths.1)
 
-  plan_back : (legs : List PlannedLeg) (lines : List PlannedGroup) → rows_told I legs ≡ Ok (map (λ row. Some row) P.rows) → passengers_told I lines ≡ Ok (map passengers_of P.groups) → plan_told I legs lines ≡ Ok P
-  unfolding plan_told
+  plan_back : (legs : List PlannedLeg) (lines : List PlannedGroup) → rows_stated I legs ≡ Ok (map (λ row. Some row) P.rows) → passengers_stated I lines ≡ Ok (map passengers_of P.groups) → plan_stated I legs lines ≡ Ok P
+  unfolding plan_stated
   plan_back legs lines rows groups =
       let whole : all_groups I (map groups_in (map passengers_of P.groups)) ≡ Ok P.groups =
       ap (all_groups I) (all_again P.groups) ∙ all_groups_back I P.groups (λ r below d. subst (λ (res : ResInfo). sum_by (λ group. group.count) (get_or P.groups r []) ≡ res.count) (any_default I.parts.res r no_res d below) (plan.groups r below).all) in

@@ -20,15 +20,15 @@ use Rattle.desk_text.proofs.RowLemmas.{short_enough}
 
 -- ---- cuts
 
--- where nothing in front passes, the place is behind it
+-- where nothing in front passes, the place is after it
 place_is : (p : ℕ → Bool) (front : List ℕ) (b : ℕ) (back : List ℕ) → AllByRecursion (λ x. p x ≡ false) front → p b ≡ true → prefix_len (λ x. not (p x)) (front ++ b ∷ back) ≡ length front
 place_is p [] b back none is = ap (λ t. cond (not t) (1 + prefix_len (λ x. not (p x)) back) 0) is
 place_is p (x ∷ front) b back none is =
     let rest = place_is p front b back none.1 is in
     ap (λ t. cond (not t) (1 + prefix_len (λ x. not (p x)) (front ++ b ∷ back)) 0) none.0 ∙ omega (arith, rest)
 
-pub cut_behind : (p : ℕ → Bool) (front : List ℕ) (b : ℕ) (back : List ℕ) → AllByRecursion (λ x. p x ≡ false) front → p b ≡ true → cut_where p (front ++ b ∷ back) ≡ Some (front, back)
-cut_behind p front b back none is =
+pub cut_after : (p : ℕ → Bool) (front : List ℕ) (b : ℕ) (back : List ℕ) → AllByRecursion (λ x. p x ≡ false) front → p b ≡ true → cut_where p (front ++ b ∷ back) ≡ Some (front, back)
+cut_after p front b back none is =
     let bytes : List ℕ = front ++ b ∷ back in
     let within : length front < length bytes = omega (arith, length-append front (b ∷ back)) in
     let there : position p bytes ≡ Some (length front) =
@@ -80,7 +80,7 @@ no_blanks field seen = weaker IsSeenByte (λ b. is_blank b ≡ false) not_blank 
 
 field_then : (field rest : List ℕ) → IsField field → fields (field ++ 32 ∷ rest) ≡ field ∷ fields rest
 field_then field rest is =
-    field_cut (field ++ 32 ∷ rest) field rest (sym (cut_behind is_blank field 32 rest (no_blanks field is.seen) refl))
+    field_cut (field ++ 32 ∷ rest) field rest (sym (cut_after is_blank field 32 rest (no_blanks field is.seen) refl))
     (ne_eqb (length field) 0 (λ e. let some = is.some in omega (arith, e, some)))
 
 field_alone : (field : List ℕ) → IsField field → fields field ≡ field ∷ []
@@ -168,7 +168,7 @@ all_text (b ∷ line) all = and_from (is_text b) (list_all is_text line) (text_b
 
 line_back : (n : ℕ) (line rest : List ℕ) → IsLine line → lines_from n (line ++ 10 ∷ rest) ≡ (n, line) ∷ lines_from (n + 1) rest
 line_back n line rest is =
-    lines_cut n (line ++ 10 ∷ rest) line rest line (sym (cut_behind (λ b. eqb b 10) line 10 rest (no_line_feeds line is.bytes) refl)) (sym (kept_whole line is.bytes))
+    lines_cut n (line ++ 10 ∷ rest) line rest line (sym (cut_after (λ b. eqb b 10) line 10 rest (no_line_feeds line is.bytes) refl)) (sym (kept_whole line is.bytes))
     ∙ ap (λ t. cond t [] (cond (list_all is_blank line) (lines_from (n + 1) rest) ((n, line) ∷ lines_from (n + 1) rest))) is.goes_on
     ∙ ap (λ t. cond t (lines_from (n + 1) rest) ((n, line) ∷ lines_from (n + 1) rest)) is.full
 

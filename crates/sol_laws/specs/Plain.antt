@@ -1,4 +1,4 @@
--- Names with which the files that tell a plan can be read again.
+-- Names with which the files that give a plan can be read again.
 use Rattle.std.specs.Prelude.{◌≡◌, false, All}
 use Rattle.desk_data.specs.Situation.{Situation}
 use Rattle.desk_text.specs.Lines.{is_last}

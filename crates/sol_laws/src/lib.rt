@@ -2,7 +2,7 @@
 //!
 //! `written_plans_read_back` has no code: its clause is the law. Names have to be plain, since a line that
 //! begins with `#` ends a file, and neither file may be longer than a file may be. The law asks that each
-//! name of the day has 1 to 32 bytes, with which `walk_names` of `token_laws` ends. It stands on that crate
+//! name of the day has 1 to 32 bytes, with which `walk_names` of `token_laws` ends. It depends on that crate
 //! for what a line is made of, and on `sol_text` and `sol_join`, whose definitions it compares.
 #![tactic(auto)]
 

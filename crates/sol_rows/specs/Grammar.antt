@@ -1,4 +1,4 @@
--- Which line of a file that tells a plan is refused first.
+-- Which line of a file of a plan is refused first.
 use Rattle.std.specs.Prelude.{◌≡◌, ◌⊎◌, ℕ, List, Option, Some, None, Result, Ok, Err}
 use Rattle.file_rows.specs.declared.cause.Cause.{Cause}
 use Rattle.desk_text.specs.declared.fault.ReadFault.{ReadFault}
@@ -8,7 +8,7 @@ use Rattle.desk_folder.specs.declared.files.File.TheVariants.{SolRotations, SolI
 use Rattle.sol_rows.specs.Legs.{rotation_rows}
 use Rattle.sol_rows.specs.Groups.{itinerary_rows}
 
--- the file is one of the two that tell a plan
+-- the file is one of the two of a plan
 abbrev pub IsSolution : File → Type 0
 IsSolution file = (file ≡ SolRotations) ⊎ (file ≡ SolItineraries)
 

@@ -9,7 +9,7 @@ use Rattle.desk_text.specs.Rows.{◌>>=◌, RowOf, next_field, text_rows}
 use Rattle.sol_rows.specs.declared.rows.PlannedFlight.{PlannedFlight}
 use Rattle.sol_rows.specs.declared.rows.PlannedLeg.{PlannedLeg}
 
--- what stands behind the third field: nothing, or a date and a time, and whatever follows them
+-- what comes after the third field: nothing, or a date and a time, and whatever follows them
 abbrev pub departure_of : List (List ℕ) → Result (Option (List ℕ × List ℕ)) Cause
 departure_of [] = Ok None
 departure_of (date ∷ time ∷ others) = Ok (Some (date, time))
@@ -23,7 +23,7 @@ flown_of field (Some departure) = do
   dep ← moment_of departure.0 departure.1
   Ok (Some (record { aircraft = aircraft; dep = dep }))
 
--- FLIGHT DATE cancelled, or FLIGHT DATE AIRCRAFT DATE TIME with any fields behind them
+-- FLIGHT DATE cancelled, or FLIGHT DATE AIRCRAFT DATE TIME with any fields after them
 unfoldable pub planned_leg : RowOf PlannedLeg
 planned_leg line fields = do
   first ← next_field fields

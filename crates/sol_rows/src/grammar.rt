@@ -1,4 +1,4 @@
-//! Whether a file that tells a plan is in its form.
+//! Whether a file of a plan is in its form.
 
 ghost use Rattle.sol_rows.specs.Grammar.{IsSolution, Tries, refusal_in};
 
@@ -8,7 +8,7 @@ use desk_folder::File;
 use desk_text::ReadFault;
 use std::alloc::Global;
 
-/// Tries the lines of a file that tells a plan, which is one of the two.
+/// Tries the lines of a file of a plan, which is one of the two.
 ///
 /// # Errors
 ///

@@ -49,7 +49,7 @@ impl Grammar<PlannedGroup> for Itineraries {
 /// The groups of passengers, in the order of their lines, or the first line that is refused.
 ///
 /// A line is `RESERVATION TYPE COUNT`, and then `FLIGHT DATE CABIN` for each leg of the path, of which
-/// there may be none. The type is `A` on the way out and `R` on the way back; the passengers are 1 to
+/// there may be none. The type is `A` outbound and `R` inbound; the passengers are 1 to
 /// 1,000; a cabin is `F`, `B` or `E`.
 ///
 /// # Errors

@@ -12,7 +12,7 @@ use desk_text::{
 };
 use std::alloc::Global;
 
-/// The date and the time behind the third field, or `None` where nothing stands there.
+/// The date and the time after the third field, or `None` where nothing stands there.
 fn departure<'a>(fields: &mut Fields<'a>) -> Result<Option<(&'a [u8], &'a [u8])>, Cause>
     ensures { MatchResult result (λ found. departure_of fields.old ≡ Ok (option_map (λ parts. (parts.0.now, parts.1.now)) found)) (λ cause. departure_of fields.old ≡ Err cause) }
 {
@@ -71,7 +71,7 @@ impl Grammar<PlannedLeg> for Rotations {
 
 /// What becomes of legs, in the order of the lines, or the first line that is refused.
 ///
-/// A line is `FLIGHT DATE cancelled`, or `FLIGHT DATE AIRCRAFT DATE TIME`, behind which other fields
+/// A line is `FLIGHT DATE cancelled`, or `FLIGHT DATE AIRCRAFT DATE TIME`, after which other fields
 /// may stand.
 ///
 /// # Errors

@@ -1,4 +1,4 @@
-//! The rows of the files that tell a plan.
+//! The rows of the files of a plan.
 
 use desk_units::{List, Minute, Name};
 use file_rows::LegRow;
@@ -32,7 +32,7 @@ pub struct PlannedGroup {
     pub line: u32,
     /// The reservation's name, 1 to 32 bytes.
     pub name: Name,
-    /// Whether this is the way back of a return trip (`R`), and not a way out (`A`).
+    /// Whether this is the inbound half of a return trip (`R`), and not an outbound trip (`A`).
     pub inbound: bool,
     /// The passengers: 1 to 1,000.
     pub count: u32,

@@ -9,7 +9,7 @@ use Rattle.desk_data.specs.Situation.{Situation, leg_at}
 use Rattle.desk_data.specs.PlanRows.{PlanRows}
 use Rattle.desk_text.specs.Texts.{date_text, cabin_text, direction_text}
 
--- a leg of a path with its cabin, behind a space: FLIGHT DATE CABIN
+-- a leg of a path with its cabin, after a space: FLIGHT DATE CABIN
 unfoldable pub seat_text : Situation → Leg × Cabin → List ℕ
 seat_text I pair = codes " " ++ (leg_at I pair.0.0).flight ++ codes " " ++ date_text (leg_at I pair.0.0).day ++ codes " " ++ cabin_text pair.1
 

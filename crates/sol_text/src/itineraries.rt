@@ -8,7 +8,7 @@ ghost use Rattle.sol_text.specs.Itineraries.{seat_text, group_line, group_lines,
 ghost use Rattle.desk_text.specs.Texts.{direction_text};
 
 use desk_data::{Cabin, Group, Instance, Leg, NoMem, Res, ResInfo};
-use desk_text::{cabin_letter, date_text, direction_letter, push_all, push_number};
+use desk_text::{LastDate, cabin_letter, push_all, push_number};
 use plan_pages::Pages;
 use std::alloc::Global;
 
@@ -22,9 +22,10 @@ pub fn itineraries_text(alloc: Global, inst: &Instance, plan: &Pages) -> Result<
 {
     let reservations = inst.parts().res.as_slice();
     let mut text = Vec::new(alloc);
+    let mut dates = LastDate::new();
     for (r, res) in reservations.iter().enumerate() {
         let groups = plan.groups(Res(r as u32));
-        push_groups(&mut text, inst, res, groups)?;
+        push_groups(&mut text, &mut dates, inst, res, groups)?;
     }
     Ok(text)
 }
@@ -33,6 +34,7 @@ pub fn itineraries_text(alloc: Global, inst: &Instance, plan: &Pages) -> Result<
 #[tactic(auto, unfolding(crate::specs::Itineraries::group_lines))]
 fn push_groups(
     text: &mut Vec<u8>,
+    dates: &mut LastDate,
     inst: &Instance,
     res: &ResInfo,
     groups: &[Group],
@@ -41,7 +43,7 @@ fn push_groups(
     ensures { OnOk result (text.new.items ≡ text.old.items ++ group_lines inst.now res.now groups.now) }
 {
     for group in groups {
-        push_group(text, inst, res, group)?;
+        push_group(text, dates, inst, res, group)?;
     }
     Ok(())
 }
@@ -50,6 +52,7 @@ fn push_groups(
 #[tactic(auto, unfolding(crate::specs::Itineraries::group_line))]
 pub(crate) fn push_group(
     text: &mut Vec<u8>,
+    dates: &mut LastDate,
     inst: &Instance,
     res: &ResInfo,
     group: &Group,
@@ -59,40 +62,58 @@ pub(crate) fn push_group(
 {
     push_reservation(text, res)?;
     push_number(text, u128::from(group.count))?;
-    push_seats(text, inst, group.path.as_slice())?;
+    push_seats(text, dates, inst, group.path.as_slice())?;
     push_all(text, &[b"\n"])
 }
 
-/// Adds the name and the direction of a reservation, and a space behind each.
+/// Adds the name and the direction of a reservation, each followed by a space.
 fn push_reservation(text: &mut Vec<u8>, res: &ResInfo) -> Result<(), NoMem>
     ensures { OnOk result (
         text.new.items ≡ text.old.items
         ++ (res.now.name ++ codes " " ++ direction_text res.now.inbound ++ codes " ")) }
 {
-    let direction = direction_letter(res.inbound);
-    push_all(text, &[res.name.as_slice(), b" ", &direction, b" "])
+    let direction = direction_in_spaces(res.inbound);
+    push_all(text, &[res.name.as_slice(), &direction])
 }
 
-/// Adds the legs of a path with their cabins, each behind a space.
-fn push_seats(text: &mut Vec<u8>, inst: &Instance, legs: &[(Leg, Cabin)]) -> Result<(), NoMem>
+/// The letter of a direction between two spaces.
+fn direction_in_spaces(inbound: bool) -> [u8; 3]
+    ensures { result ≡ codes " " ++ direction_text inbound ++ codes " " }
+{
+    if inbound { *b" R " } else { *b" A " }
+}
+
+/// Adds the legs of a path with their cabins, each after a space.
+fn push_seats(
+    text: &mut Vec<u8>,
+    dates: &mut LastDate,
+    inst: &Instance,
+    legs: &[(Leg, Cabin)],
+) -> Result<(), NoMem>
     requires { IsPathOf (legs_of inst.now) legs.now }
     ensures { OnOk result (
         text.new.items ≡ text.old.items ++ flat_map (seat_text inst.now) legs.now) }
 {
     for (leg, cabin) in legs {
-        push_seat(text, inst, *leg, *cabin)?;
+        push_seat(text, dates, inst, *leg, *cabin)?;
     }
     Ok(())
 }
 
-/// Adds a leg of a path with its cabin, behind a space.
+/// Adds a leg of a path with its cabin, after a space.
 #[tactic(auto, unfolding(crate::specs::Itineraries::seat_text))]
-fn push_seat(text: &mut Vec<u8>, inst: &Instance, leg: Leg, cabin: Cabin) -> Result<(), NoMem>
+fn push_seat(
+    text: &mut Vec<u8>,
+    dates: &mut LastDate,
+    inst: &Instance,
+    leg: Leg,
+    cabin: Cabin,
+) -> Result<(), NoMem>
     requires { leg.0 < legs_of inst.now }
     ensures { OnOk result (text.new.items ≡ text.old.items ++ seat_text inst.now (leg, cabin)) }
 {
     let info = inst.leg(leg);
-    let date = date_text(info.day);
+    let date = dates.text(info.day);
     let cabin = cabin_letter(cabin);
     push_all(
         text,

@@ -1,4 +1,4 @@
-//! The files that tell a plan: sol_rotations.csv and sol_itineraries.csv.
+//! The files of a plan: sol_rotations.csv and sol_itineraries.csv.
 //!
 //! Lines end with LF, and fields are separated by one space. sol_rotations.csv has a line for each leg, in
 //! the order of rotations.csv: `F1 01/03/08 P1 01/03/08 08:00` or `F3 01/03/08 cancelled`.
@@ -8,7 +8,7 @@
 //!
 //! `rotations_text(alloc, &inst, &plan)` and `itineraries_text(alloc, &inst, &plan)` give the bytes of the
 //! whole file. Proved: they are those of the definitions in `specs/`, leg by leg and group by group. It
-//! stands on `desk_data`, on `plan_pages` and, for dates, on `desk_text`.
+//! depends on `desk_data`, on `plan_pages` and, for dates, on `desk_text`.
 #![tactic(auto)]
 
 mod itineraries;

@@ -78,9 +78,9 @@ rows_head x xs h = λ k d below. h 0 (suc k) d (omega arith) (omega arith)
 pub rows_tail : (x : TariffRow) (xs : List TariffRow) → AllPairs (λ a b. same_key a b ≡ false) (x ∷ xs) → AllPairs (λ a b. same_key a b ≡ false) xs
 rows_tail x xs h = λ i j d less below. h (suc i) (suc j) d (omega arith) (omega arith)
 
--- a step of a row is apart from those of the rows behind it
-apart_behind : (l : Ladder) (row : TariffRow) (rows : List TariffRow) (g : Rate) (x : Step) → rate_of row ≡ Some g → step_on l g ≡ Some x → All (λ y. same_key row y ≡ false) rows → All (λ y. eqb x.from y.from ≡ false) (steps_by l rows)
-apart_behind l row rows g x e f h =
+-- a step of a row is apart from those of the rows after it
+apart_after : (l : Ladder) (row : TariffRow) (rows : List TariffRow) (g : Rate) (x : Step) → rate_of row ≡ Some g → step_on l g ≡ Some x → All (λ y. same_key row y ≡ false) rows → All (λ y. eqb x.from y.from ≡ false) (steps_by l rows)
+apart_after l row rows g x e f h =
     let P : TariffRow → Type 0 = λ other. ForRate (rate_of other) (λ u. ForSome (step_on l u) (λ y. eqb x.from y.from ≡ false)) in
     each_step (λ y. eqb x.from y.from ≡ false) l rows (recursion_from_All P rows (All-weaker (λ (y : TariffRow). same_key row y ≡ false) P (λ other k u eu y ey. step_apart l g u x y f ey (apart_purposes row other g u e eu k)) rows h))
 
@@ -88,4 +88,4 @@ pub steps_apart : (l : Ladder) (rows : List TariffRow) → AllPairs (λ a b. sam
 unfolding steps_by
 steps_apart l [] h = λ i j d less below. absurd (omega arith)
 steps_apart l (row ∷ rows) h =
-    apart_rate l (rate_of row) (filter_map rate_of rows) (λ g e x f. apart_behind l row rows g x e f (rows_head row rows h)) (steps_apart l rows (rows_tail row rows h))
+    apart_rate l (rate_of row) (filter_map rate_of rows) (λ g e x f. apart_after l row rows g x e f (rows_head row rows h)) (steps_apart l rows (rows_tail row rows h))

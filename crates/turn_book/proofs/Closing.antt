@@ -29,17 +29,17 @@ all_places (suc n) a (x ∷ xs) up few all =
     (λ k l r. ⊎_elim (λ (e : (k == x) ≡ true). let same : k ≡ x = grind (arith, nat_tests) in absurd (omega arith)) (λ (e : has k xs ≡ true). e) (or_cases (k == x) (has k xs) (all k (omega arith) (omega arith)))) in
     λ i. first i ∷ rest i
 
-get_behind : {I : Type 0} (xs : List I) (y : I) (ys : List I) → slice_get (xs ++ y ∷ ys) (length xs) ≡ Some y
-get_behind [] y ys = refl
-get_behind (x ∷ xs) y ys = get_behind xs y ys
+get_after : {I : Type 0} (xs : List I) (y : I) (ys : List I) → slice_get (xs ++ y ∷ ys) (length xs) ≡ Some y
+get_after [] y ys = refl
+get_after (x ∷ xs) y ys = get_after xs y ys
 
-pub items_behind : {I : Type 0} (ys xs : List I) → items_at (xs ++ ys) (places_from (length xs) (length ys)) ≡ ys
-items_behind [] xs = refl
-items_behind (y ∷ ys) xs =
+pub items_after : {I : Type 0} (ys xs : List I) → items_at (xs ++ ys) (places_from (length xs) (length ys)) ≡ ys
+items_after [] xs = refl
+items_after (y ∷ ys) xs =
     let same : (xs ++ y ∷ []) ++ ys ≡ xs ++ y ∷ ys = append_assoc xs (y ∷ []) ys in
     let long : length (xs ++ y ∷ []) ≡ suc (length xs) = omega (arith, length-append xs (y ∷ [])) in
-    let rest : items_at (xs ++ y ∷ ys) (places_from (suc (length xs)) (length ys)) ≡ ys = subst (λ (z : _ × ℕ). items_at z.0 (places_from z.1 (length ys)) ≡ ys) (λ i. (same i, long i)) (items_behind ys (xs ++ y ∷ [])) in
-    (λ i. listed (get_behind xs y ys i) ++ rest i)
+    let rest : items_at (xs ++ y ∷ ys) (places_from (suc (length xs)) (length ys)) ≡ ys = subst (λ (z : _ × ℕ). items_at z.0 (places_from z.1 (length ys)) ≡ ys) (λ i. (same i, long i)) (items_after ys (xs ++ y ∷ [])) in
+    (λ i. listed (get_after xs y ys i) ++ rest i)
 
 module _ {B O I : Type 0} (opening : B → O) (journal : B → List I) (legal : O → List I → Type 0) where
   first_fits : (o : O) (start : List I) → ViewRule o start start 0 0 (λ _. 0) 0 (opened o start)
@@ -128,7 +128,7 @@ module _ {B O I : Type 0} (opening : B → O) (journal : B → List I) (legal : 
       (λ k y. let m = f.made k y in (m.1, omega (arith, m.2, size)))
       (λ k l r. mine k l (omega (arith, r, size, ap length whole))) in (
         record { book = x.book; there = x.there; same = x.same; all = x.all ∙ sym whole },
-        sym is ∙ ap (λ (l : List I). start ++ l) (sym (items_behind rest start) ∙ (λ i. items_at (is i) (sym made i))),
+        sym is ∙ ap (λ (l : List I). start ++ l) (sym (items_after rest start) ∙ (λ i. items_at (is i) (sym made i))),
         made ∙ ap (λ (n : ℕ). places_from (length start) n) (omega (arith, size)),
       )
 

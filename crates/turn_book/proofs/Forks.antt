@@ -177,7 +177,7 @@ module _ {B O I : Type 0} (opening : B → O) (journal : B → List I) (legal : 
       go true e = inr (prefix_shorter ys xs log q p (grind (arith, nat_tests)))
       go false e = inl (prefix_shorter xs ys log p q (grind (arith, nat_tests)))
 
-  -- a pass is told what the rule says of it, where each beginning of a legal history is legal
+  -- a pass learns what the rule says of it, where each beginning of a legal history is legal
   pub tells_allowed : ((o : O) (xs ys : List I) → IsPrefix xs ys → legal o ys → legal o xs) → (n seat : ℕ) (m : Me (Option B) (View O I)) → IsLive m.0
       → Allows (TurnRule opening journal legal key) n seat m 0 (λ x. x) (tells_rule legal (step n 0 0 0 none) m)
   tells_allowed shorter n seat m live s h wide at small =

@@ -1,12 +1,12 @@
 -- Journals of a book, and histories of a turn, as lists.
 use Rattle.std.specs.Prelude.{◌≡◌, ℕ, zero, suc, Bool, List, [], ◌∷◌, ◌++◌, Option, Some, None, is_some, length, take, slice_get}
 
--- what an answer puts behind a journal: its item, or nothing
+-- what an answer puts after a journal: its item, or nothing
 abbrev pub listed : {I : Type 0} → Option I → List I
 listed (Some x) = x ∷ []
 listed None = []
 
--- the place of an item that is added behind a history, if one is
+-- the place of an item that is added after a history, if one is
 abbrev pub placed : {I : Type 0} → List I → Option I → List ℕ
 placed before (Some x) = length before ∷ []
 placed before None = []
@@ -28,6 +28,6 @@ module _ {O A R I : Type 0} (may_ask : O → A → Type 0) (answers : O → List
       → (caller : ℕ) × (ask : A) × (reply : R) × may_ask o ask × answers o (take k xs) caller ask reply (Some x)
 
 module _ {O A R I : Type 0} (answers : O → List I → ℕ → A → R → Option I → Type 0) (tells : R → Bool) where
-  -- The reply is one at the journal before, and behind that journal stands the item of the answer, or none, as the reply tells.
+  -- The reply is one at the journal before, and after that journal stands the item of the answer, or none, as the reply says.
   abbrev pub Served : O → List I → ℕ → A → R → List I → Type 0
   Served o before caller ask reply after = (added : Option I) × answers o before caller ask reply added × (after ≡ before ++ listed added) × (is_some added ≡ tells reply)

@@ -42,7 +42,7 @@ module _ {S O I : Type 0} where
     pub counted : (seat : ℕ) (v : View O I) → Lives s seat v → (k : ℕ) → (knows (v.tags.name ++ k ∷ []) given ≡ true) ↔ ((1 ≤ k) × (k ≤ v.tags.splits))
     pub out : (seat : ℕ) (v : View O I) → Lives s seat v → (n : Name) → (knows n v.tags.out ≡ true) ↔ ((knows n given ≡ true) × (knows n v.tags.names ≡ false) × IsChild v.tags.names n)
 
--- The rule as docs/TURN.md tells it.
+-- The rule as docs/TURN.md gives it.
 pub record RuleInWords {B O I : Type 0} (opening : B → O) (journal : B → List I) (legal : O → List I → Type 0) (key : B) (s : State (Option B) (View O I)) : Type 0 where
   pub turn : OneHasTurn s ⊎ NoneHasTurn s
   -- the one history

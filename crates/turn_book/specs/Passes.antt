@@ -52,7 +52,7 @@ pub record Looked {O I : Type 0} (v w : View O I) : Type 0 where
   pub tags : w.tags ≡ v.tags
 
 module _ {O A R I : Type 0} (answers : O → List I → ℕ → A → R → Option I → Type 0) (tells : R → Bool) (o : O) where
-  -- A call. Before is the history that stood at its turn. It begins with all that was seen, and the reply is one at it, and tells whether there is an item; that stands behind it, and its place is made.
+  -- A call. Before is the history that stood at its turn. It begins with all that was seen, and the reply is one at it, and says whether there is an item; that comes after it, and its place is made.
   pub record Called (v : View O I) (caller : ℕ) (ask : A) (reply : R) (w : View O I) : Type 0 where
     pub before : List I
     pub added : Option I

@@ -10,7 +10,7 @@ has k (x ∷ xs) = (k == x) || has k xs
 abbrev pub IsBeforeAll : ℕ → List ℕ → Type 0
 IsBeforeAll k xs = (j : ℕ) → has j xs ≡ true → k < j
 
--- each place is before those behind it
+-- each place is before those after it
 abbrev pub Ascends : List ℕ → Type 0
 Ascends [] = Unit {0}
 Ascends (x ∷ xs) = IsBeforeAll x xs × Ascends xs

@@ -1,4 +1,4 @@
--- The rule of a turn, which holds between any two steps of its threads, and what each step tells the thread that makes it.
+-- The rule of a turn, which holds between any two steps of its threads, and what each step shows the thread that makes it.
 -- The word held is 1 while a pass has the turn, and the word front is the length of the history. The slot has the book, except while a pass has read the front in its turn.
 use Rattle.std.specs.Prelude.{◌≡◌, ◌≢◌, ℕ, zero, suc, ◌<◌, ◌≤◌, true, false, List, [], ◌∷◌, ◌++◌, length, Option, Some}
 use mathlib.Core.Option.{some}
@@ -103,7 +103,7 @@ module _ {B O I : Type 0} (opening : B → O) (journal : B → List I) (legal : 
   abbrev pub reads_front : Step (Option B) → Me (Option B) (View O I) → ℕ → Me (Option B) (View O I) → Type 0
   reads_front st m r n = IsReading m r n
 
--- An entry is counted: it stands behind what was seen, and its place is made.
+-- An entry is counted: it comes after what was seen, and its place is made.
 abbrev pub counts_entry : {S O I : Type 0} → List I → Step S → Me S (View O I) → ℕ → Me S (View O I) → Type 0
 counts_entry added st m r n = n ≡ (view m.0.from true true (m.0.seen ++ added) (m.0.made ++ length m.0.seen ∷ []) m.0.tags, m.1)
 
@@ -112,8 +112,8 @@ abbrev pub gives_turn : {S O I : Type 0} → Step S → Me S (View O I) → ℕ 
 gives_turn st m r n = (n ≡ (view m.0.from false false m.0.seen m.0.made m.0.tags, rest m.1)) × IsSound n.0
 
 module _ {O I : Type 0} (legal : O → List I → Type 0) where
-  -- Nothing changes, and a pass is told what the rule says of it, and of the two passes of its last join.
-  pub record IsTold {S : Type 0} (m n : Me S (View O I)) : Type 0 where
+  -- Nothing changes, and a pass learns what the rule says of it, and of the two passes of its last join.
+  pub record LearnsRule {S : Type 0} (m n : Me S (View O I)) : Type 0 where
     pub after : n ≡ m
     pub sound : IsSound m.0
     pub lawful : (o : O) → m.0.from ≡ Some o → legal o m.0.seen
@@ -121,4 +121,4 @@ module _ {O I : Type 0} (legal : O → List I → Type 0) where
     pub apart : AreApart m.0.tags.left_made m.0.tags.right_made
 
   abbrev pub tells_rule : {S : Type 0} → Step S → Me S (View O I) → ℕ → Me S (View O I) → Type 0
-  tells_rule st m r n = IsTold m n
+  tells_rule st m r n = LearnsRule m n

@@ -60,7 +60,7 @@ impl<B: SharedBook> Turn<B> {
         }
     }
 
-    /// Asks the book, once it is this pass's turn. The reply tells whether an entry was added. Where none
+    /// Asks the book, once it is this pass's turn. The reply says whether an entry was added. Where none
     /// was, as after `NoMem`, the pass has seen more, and its places are as they were.
     pub fn call<R: Wait>(
         &self,

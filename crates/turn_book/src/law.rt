@@ -1,4 +1,4 @@
-//! The rule of a turn's table, and what each kind of step tells the thread that makes it.
+//! The rule of a turn's table, and what each kind of step shows the thread that makes it.
 
 use crate::shared_book::SharedBook;
 use crate::view::View;
@@ -95,7 +95,7 @@ impl<O, I> Join<View<O, I>> for Cut {
     ghost spent = { spent };
 }
 
-/// Tells a pass what the rule says of it, and of the two passes of its last join.
+/// Gives a pass what the rule says of it, and of the two passes of its last join.
 pub struct Tell<B> {
     of: PhantomData<B>,
 }

@@ -12,7 +12,7 @@ use crate::view::View;
 
 /// The rule that holds between any two steps says of the live passes: of one history each has seen a
 /// beginning, and the word front is its length; held is 1 where just one has the turn, else 0; the book
-/// is in the slot, except where that one has read the front; each place behind the journal at `open` is
+/// is in the slot, except where that one has read the front; each place after the journal at `open` is
 /// in the list of just one pass; and each name that a split gave is among the names of just one.
 pub fn the_rule_in_words<B: SharedBook>()
     ensures { (key : B) (s : State (Option B) (View B.Opening B.Item)) → TurnRule B.opening B.journal (IsLegal B.may_ask B.answers) key s

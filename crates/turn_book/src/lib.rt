@@ -7,7 +7,7 @@
 //!     turn.join(&mut pass, other);                           // the other thread is done
 //!     let book = turn.close(pass);                           // and the book comes back
 //!
-//! It stands on `atomic_table`, and serves any `SharedBook`. A `Pass` stands for what a thread knows:
+//! It depends on `atomic_table`, and serves any `SharedBook`. A `Pass` stands for what a thread knows:
 //! the history that it has seen, the places in it of the entries that its calls added, and which passes were
 //! split from it. Proved: a call's reply is one of the book at a history that begins with all that its pass
 //! had seen, and its entry is the next one; each history is legal, and of two passes of a turn one has seen

@@ -34,7 +34,7 @@ pub trait SharedBook: Send {
     /// the item that is added, or none.
     ghost answers: { Self.Opening → List Self.Item → ℕ → Self.Ask → Self.Reply → Option Self.Item → Type 0 };
 
-    /// Whether a reply tells that an item was added.
+    /// Whether a reply says that an item was added.
     ghost tells: { Self.Reply → Bool };
 
     /// How many items the journal has: at most 4,294,967,295. The journal is legal.
@@ -43,7 +43,7 @@ pub trait SharedBook: Send {
         ensures limit { length (journal self.now) ≤ 4294967295 }
         ensures legal { IsLegal may_ask answers (opening self.now) (journal self.now) };
 
-    /// Answers an ask. It adds one item to the journal or none, as the reply tells; none on a journal
+    /// Answers an ask. It adds one item to the journal or none, as the reply says; none on a journal
     /// of 4,294,967,295 items. After `NoMem` the journal is as before.
     fn serve(&mut self, alloc: Global, caller: u32, ask: &Self::Ask) -> Result<Self::Reply, NoMem>
         requires { may_ask (opening self.old) ask.now }

@@ -5,7 +5,7 @@ ghost use Rattle.turn_book.specs.Passes.{tags, IsPassOf};
 ghost use Rattle.turn_tests.specs.Rooms.{room};
 
 use crate::sums::Sums;
-use crate::threads::{Told, ask_and_look, ask_hundred, ask_two_books};
+use crate::threads::{Answered, ask_and_look, ask_hundred, ask_two_books, look_after_a_call};
 use desk_units::NoMem;
 use std::test::Fail;
 use std::thread::join;
@@ -17,10 +17,10 @@ fn sum_up_to(numbers: &[u16], place: u32) -> u64 {
     up_to.fold(0u64, |total, n| total.saturating_add(u64::from(*n)))
 }
 
-/// Whether a hundred calls, one number after another, were told what the book has.
-fn are_told(numbers: &[u16], told: &[Told], first: u16) -> bool {
+/// Whether a hundred calls, one number after another, were given what the book has.
+fn are_as_given(numbers: &[u16], calls: &[Answered], first: u16) -> bool {
     let mut number = first;
-    for call in told {
+    for call in calls {
         if call.number != number
             || numbers.get(call.place as usize) != Some(&call.number)
             || sum_up_to(numbers, call.place) != call.total
@@ -29,7 +29,7 @@ fn are_told(numbers: &[u16], told: &[Told], first: u16) -> bool {
         }
         number = number.saturating_add(1);
     }
-    told.len() == 100
+    calls.len() == 100
 }
 
 #[test]
@@ -44,13 +44,13 @@ fn calls_of_two_threads_make_one_history(rt: HostRuntime) -> Result<(), Fail> {
     let third = turn.split(&mut pass);
     let ((first, one), ((second, two), (third, looked))) = join(
         &rt,
-        || -> (Pass<Sums>, Result<Vec<Told>, NoMem>)
+        || -> (Pass<Sums>, Result<Vec<Answered>, NoMem>)
             requires { IsPassOf room turn first }
             ensures of { IsPassOf room turn result.0 }
             ensures tags { tags result.0 ≡ tags first }
         { ask_hundred(&rt, alloc, &turn, first, 1, 1) },
         || -> (
-            (Pass<Sums>, Result<Vec<Told>, NoMem>),
+            (Pass<Sums>, Result<Vec<Answered>, NoMem>),
             (Pass<Sums>, Result<Vec<u16>, NoMem>),
         )
             requires { IsPassOf room turn second × IsPassOf room turn third }
@@ -67,8 +67,8 @@ fn calls_of_two_threads_make_one_history(rt: HostRuntime) -> Result<(), Fail> {
     let one = one?;
     let two = two?;
     let looked = looked?;
-    assert!(rt; are_told(book.numbers(), one.as_slice(), 1));
-    assert!(rt; are_told(book.numbers(), two.as_slice(), 1001));
+    assert!(rt; are_as_given(book.numbers(), one.as_slice(), 1));
+    assert!(rt; are_as_given(book.numbers(), two.as_slice(), 1001));
     assert!(rt; book.numbers().starts_with(looked.as_slice()));
     Ok(())
 }
@@ -85,5 +85,13 @@ fn a_full_book_takes_nothing(rt: HostRuntime) -> Result<(), Fail> {
     assert_eq!(rt; replies, [Ok(Some(7)), Ok(None), Ok(Some(7)), Ok(Some(15))]);
     assert_eq!(rt; first.numbers(), [7].as_slice());
     assert_eq!(rt; second.numbers(), [7, 8].as_slice());
+    Ok(())
+}
+
+#[test]
+fn a_look_sees_what_another_pass_added(rt: HostRuntime) -> Result<(), Fail> {
+    let alloc = rt.alloc();
+    let (looked, _book) = look_after_a_call(&rt, alloc, Sums::new(alloc, 10))?;
+    assert_eq!(rt; looked?.as_slice(), [7].as_slice());
     Ok(())
 }

@@ -11,15 +11,15 @@ use std::sync::Wait;
 use std::thread::{Threads, join};
 use turn_book::{Pass, SharedBook, Turn};
 
-/// What a call was told: the number that it asked for, its place, and the sum there.
+/// What a call was given: the number that it asked for, its place, and the sum there.
 #[derive(Clone, Copy)]
-pub struct Told {
+pub struct Answered {
     pub number: u16,
     pub place: u32,
     pub total: u64,
 }
 
-/// Asks for a hundred numbers, one after another, and writes down what it was told.
+/// Asks for a hundred numbers, one after another, and writes down what it was given.
 pub fn ask_hundred<R: Wait>(
     rt: &R,
     alloc: Global,
@@ -27,21 +27,21 @@ pub fn ask_hundred<R: Wait>(
     mut pass: Pass<Sums>,
     caller: u32,
     first: u16,
-) -> (Pass<Sums>, Result<Vec<Told>, NoMem>)
+) -> (Pass<Sums>, Result<Vec<Answered>, NoMem>)
     requires small { first ≤ 10000 }
     requires of { IsPassOf room turn.now pass }
     ensures of { IsPassOf room turn.now result.0 }
     ensures tags { tags result.0 ≡ tags pass }
 {
-    let mut told = Vec::new(alloc);
+    let mut calls = Vec::new(alloc);
     for i in 0..100u16 {
         let number = first + i;
         let Ok(Some(total)) = turn.call(rt, alloc, &mut pass, caller, &number) else {
             return (pass, Err(NoMem));
         };
         let place = pass.seen().saturating_sub(1);
-        if told
-            .push(Told {
+        if calls
+            .push(Answered {
                 number,
                 place,
                 total,
@@ -51,7 +51,7 @@ pub fn ask_hundred<R: Wait>(
             return (pass, Err(NoMem));
         }
     }
-    (pass, Ok(told))
+    (pass, Ok(calls))
 }
 
 /// Looks fifty times, each time from where it is, and writes down all that it saw.
@@ -86,7 +86,7 @@ pub fn ask_and_look<R: Threads + Wait + Sync>(
     asking: Pass<Sums>,
     looking: Pass<Sums>,
 ) -> (
-    (Pass<Sums>, Result<Vec<Told>, NoMem>),
+    (Pass<Sums>, Result<Vec<Answered>, NoMem>),
     (Pass<Sums>, Result<Vec<u16>, NoMem>),
 )
     requires of { IsPassOf room turn.now asking × IsPassOf room turn.now looking }
@@ -95,7 +95,7 @@ pub fn ask_and_look<R: Threads + Wait + Sync>(
 {
     join(
         rt,
-        || -> (Pass<Sums>, Result<Vec<Told>, NoMem>)
+        || -> (Pass<Sums>, Result<Vec<Answered>, NoMem>)
             requires { IsPassOf room turn.now asking }
             ensures of { IsPassOf room turn.entry.now result.0 }
             ensures tags { tags result.0 ≡ tags asking }
@@ -138,4 +138,23 @@ pub fn ask_two_books<R: Wait>(
     one.join(&mut of_one, more_of_one);
     two.join(&mut of_two, more_of_two);
     Ok((replies, one.close(of_one), two.close(of_two)))
+}
+
+/// One pass asks for 7, and another that has not seen it looks at all that there is. It answers what that saw, and the book.
+pub fn look_after_a_call<R: Wait>(
+    rt: &R,
+    alloc: Global,
+    book: Sums,
+) -> Result<(Result<Vec<u16>, NoMem>, Sums), NoMem> {
+    let (turn, mut pass) = match Turn::open(alloc, book) {
+        Ok(opened) => opened,
+        Err(_) => return Err(NoMem),
+    };
+    let mut other = turn.split(&mut pass);
+    let reply = turn.call(rt, alloc, &mut pass, 1, &7);
+    let looked = turn.look(rt, alloc, &mut other, 0);
+    turn.join(&mut pass, other);
+    let book = turn.close(pass);
+    reply?;
+    Ok((looked, book))
 }

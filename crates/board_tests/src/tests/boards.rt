@@ -69,7 +69,7 @@ pub(super) fn said(alloc: Global, inst: &Instance, boards: &Boards) -> Result<Sa
     Ok((rot, slot, beside))
 }
 
-/// Gives a leg another row, and tells what is said then.
+/// Gives a leg another row, and reports what is said then.
 pub(super) fn changed<L: Ledger>(
     alloc: Global,
     inst: &Instance,
@@ -97,7 +97,7 @@ pub(super) fn changed<L: Ledger>(
     said(alloc, inst, boards)
 }
 
-/// Takes the last change back, before which a leg had a row, and tells what is said then.
+/// Takes the last change back, before which a leg had a row, and reports what is said then.
 pub(super) fn back(
     alloc: Global,
     inst: &Instance,

@@ -33,7 +33,7 @@ fn plane_of(name: &[u8], surface: bool) -> Result<PlaneInfo, Fail> {
         seats: Seats { f: 0, b: 0, e: 9 },
         range: 600,
         hourly: Price(0),
-        turn: 30,
+        turnaround: 30,
         transit: 20,
         origin: Airport(0),
         maint: None,

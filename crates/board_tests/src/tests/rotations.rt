@@ -1,4 +1,4 @@
-//! Two aircraft exchange their legs, behind a closure that a delay mends.
+//! Two aircraft exchange their legs, after a closure that a delay mends.
 
 ghost use Rattle.std.specs.Prelude.{◌≡◌, ◌<◌, OnOk};
 ghost use Rattle.desk_data.specs.Situation.{legs_of, planes_of};
@@ -56,7 +56,7 @@ fn back_again(alloc: Global, inst: &Instance, boards: &mut Boards) -> Result<[Sa
 }
 
 #[test]
-fn a_swap_and_a_closure_are_told_and_taken_back(rt: HostRuntime) -> Result<(), Fail> {
+fn a_swap_and_a_closure_are_reported_and_taken_back(rt: HostRuntime) -> Result<(), Fail> {
     let alloc = rt.alloc();
     let inst = small_day(alloc)?;
     let mut boards = boards_of(alloc, &inst)?;

@@ -40,7 +40,7 @@ fn there_and_back<L: Ledger>(
 }
 
 #[test]
-fn a_closure_and_a_full_hour_are_told(rt: HostRuntime) -> Result<(), Fail> {
+fn a_closure_and_a_full_hour_are_reported(rt: HostRuntime) -> Result<(), Fail> {
     let alloc = rt.alloc();
     let inst = small_day(alloc)?;
     let mut boards = boards_of(alloc, &inst)?;

@@ -99,7 +99,7 @@ fn rows_of(book: &Book) -> Option<[Row; 3]> {
 }
 
 /// Who proposed the last of five entries, what was answered, and the leg whose row was to change, with its
-/// rows before and behind; `None` where the entries from the fifth one on are others than that.
+/// rows before and after; `None` where the entries from the fifth one on are others than that.
 type Last = Option<(u32, Told, (Leg, Row, Row))>;
 
 fn last_of(alloc: Global, book: &Book) -> Result<Last, Fail> {

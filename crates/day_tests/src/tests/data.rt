@@ -57,7 +57,7 @@ fn edge_plane(name: &[u8]) -> Result<PlaneInfo, Fail> {
     Ok(PlaneInfo {
         seats: Seats { f: 0, b: 0, e: 999 },
         range: 100_000,
-        turn: 2_880,
+        turnaround: 2_880,
         transit: 0,
         origin: Airport(1),
         ..plane_of(name, 9_999_999_999_999)?

@@ -45,7 +45,7 @@ pub(super) fn plane_of(name: &[u8], hourly: u64) -> Result<PlaneInfo, Fail> {
         seats: Seats { f: 0, b: 0, e: 9 },
         range: 600,
         hourly: Price(hourly),
-        turn: 30,
+        turnaround: 30,
         transit: 20,
         origin: Airport(0),
         maint: None,

@@ -1,4 +1,4 @@
-//! What orders say that no file can give or no run can tell: moments out of order, hours at the end of a
+//! What orders say that no file can give or no run can show: moments out of order, hours at the end of a
 //! century, and what a path is bound to.
 
 use super::data::{EARLY, sample_parts};
@@ -55,32 +55,6 @@ fn closure(airport: u32, from: u32, to: u32, deps: u32) -> Order {
         deps,
         arrs: 100,
     }
-}
-
-/// Of leg 1, scheduled at minute 1,000: its earliest departure, and whether it is off.
-fn asked_of_leg(inst: &Instance) -> Option<(u32, bool)> {
-    if inst.legs() < 2 {
-        return None;
-    }
-    Some((inst.earliest(Leg(1)).0, inst.ordered_off(Leg(1))))
-}
-
-/// The same of a copy of the early day with these orders.
-fn asked_of_copy(alloc: Global, orders: &[Order]) -> Result<Option<(u32, bool)>, Fail> {
-    let copy = disrupted(alloc, orders)?.copy(alloc)?;
-    Ok(asked_of_leg(&copy))
-}
-
-#[test]
-fn a_copy_has_the_orders(rt: HostRuntime) -> Result<(), Fail> {
-    let restored = [late(1, None), late(0, Some(7)), late(1, Some(30))];
-    let called_off = [late(1, Some(2_880)), late(1, None)];
-    assert_eq!(rt; asked_of_copy(rt.alloc(), &restored)?, Some((1_030, false)));
-    assert_eq!(rt;
-        asked_of_copy(rt.alloc(), &called_off)?,
-        Some((1_000, true))
-    );
-    Ok(())
 }
 
 /// Whether the early day takes a batch of three orders, about this leg, aircraft and airport, and with this delay.
@@ -172,7 +146,7 @@ fn caps_after(
 }
 
 #[test]
-fn spans_without_a_minute_and_a_whole_century_are_told(rt: HostRuntime) -> Result<(), Fail> {
+fn caps_of_spans_without_a_minute_and_of_a_century(rt: HostRuntime) -> Result<(), Fail> {
     // a span, an hour, and its departures
     for (span, hour, deps) in [
         ((660, 660), 11, None),

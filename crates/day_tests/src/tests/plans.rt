@@ -4,11 +4,10 @@ ghost use Rattle.std.specs.Prelude.{◌≡◌, ◌+◌, ◌<◌, length};
 
 use super::data::{USUAL, sample_parts};
 use super::days::{OFF, flown, instance_of, priced_day};
-use desk_data::{Instance, Leg, List, Minute, NoMem, Plan, Plane, Price, Res, Row};
+use desk_data::{Instance, Leg, List, NoMem, Plan, Price, Res, Row};
 use desk_units::Steps;
 use plan_moves::{Move, Step, fits};
 use plan_pages::Pages;
-use plan_reads::legs_before;
 use std::alloc::Global;
 use std::marker::Brand;
 use std::sync::ledger::{Blank, Ledger};
@@ -16,7 +15,7 @@ use std::test::Fail;
 
 /// The rows of the second leg in a plan, in a copy of it, and once it is cancelled in the plan; and how many
 /// rows there are.
-fn rows_told(alloc: Global, plan: &mut Plan) -> Result<([Row; 4], usize), Fail> {
+fn rows_read(alloc: Global, plan: &mut Plan) -> Result<([Row; 4], usize), Fail> {
     if plan.rows().len() < 2 {
         return Err(Fail::new("not two legs"));
     }
@@ -33,10 +32,10 @@ fn rows_told(alloc: Global, plan: &mut Plan) -> Result<([Row; 4], usize), Fail> 
 }
 
 /// The same of the usual day, and the price of a missing aircraft in a copy of the day.
-fn schedule_told(alloc: Global) -> Result<([Row; 4], usize, Price), Fail> {
+fn schedule_read(alloc: Global) -> Result<([Row; 4], usize, Price), Fail> {
     let inst = instance_of(alloc, sample_parts(alloc, &USUAL)?)?;
     let price = inst.copy(alloc)?.prices().position();
-    let (rows, count) = rows_told(alloc, &mut inst.schedule(alloc)?)?;
+    let (rows, count) = rows_read(alloc, &mut inst.schedule(alloc)?)?;
     Ok((rows, count, price))
 }
 
@@ -44,7 +43,7 @@ fn schedule_told(alloc: Global) -> Result<([Row; 4], usize, Price), Fail> {
 fn plans_follow_the_schedule(rt: HostRuntime) -> Result<(), Fail> {
     let scheduled = flown(1, 52_480_000);
     let rows = [scheduled, OFF, scheduled, flown(1, 0)];
-    assert!(rt; schedule_told(rt.alloc())? == (rows, 2, Price(500)));
+    assert!(rt; schedule_read(rt.alloc())? == (rows, 2, Price(500)));
     Ok(())
 }
 
@@ -127,44 +126,6 @@ fn rows_counted(alloc: Global) -> Result<(Row, Row), Fail> {
 fn rows_are_read_in_counted_steps(rt: HostRuntime) -> Result<(), Fail> {
     let rows = rows_counted(rt.alloc())?;
     assert!(rt; rows == (flown(1, 0), flown(1, 52_480_000)));
-    Ok(())
-}
-
-/// Whether these are the legs before those of a plan of three.
-fn before_is(alloc: Global, plan: &Plan, expected: &[Option<Leg>]) -> Result<bool, NoMem>
-    requires { length plan.now.rows ≡ 3 }
-{
-    let before = legs_before(alloc, plan, 3)?;
-    Ok(before.as_slice() == expected)
-}
-
-/// Whether the legs before are found as scheduled, where the first leg departs with the second, where the last
-/// goes before both on their aircraft, and where the second is cancelled.
-fn found_before(alloc: Global, plan: &mut Plan) -> Result<[bool; 4], NoMem>
-    requires { length plan.old.rows ≡ 3 }
-{
-    let (first, plane) = (Some(Leg(0)), Plane(0));
-    let scheduled = before_is(alloc, plan, [None, first, None].as_slice())?;
-    let dep = Minute(570);
-    plan.put_row(Leg(0), Row::Flown { plane, dep });
-    let together = before_is(alloc, plan, [None, first, None].as_slice())?;
-    let dep = Minute(10);
-    plan.put_row(Leg(2), Row::Flown { plane, dep });
-    let earlier = before_is(alloc, plan, [Some(Leg(2)), first, None].as_slice())?;
-    plan.put_row(Leg(1), OFF);
-    let cancelled = before_is(alloc, plan, [Some(Leg(2)), None, None].as_slice())?;
-    Ok([scheduled, together, earlier, cancelled])
-}
-
-/// The same of the priced day.
-fn found_on_the_priced_day(alloc: Global) -> Result<[bool; 4], Fail> {
-    let mut plan = priced_day(alloc)?.schedule(alloc)?;
-    Ok(found_before(alloc, &mut plan)?)
-}
-
-#[test]
-fn legs_before_are_found(rt: HostRuntime) -> Result<(), Fail> {
-    assert!(rt; found_on_the_priced_day(rt.alloc())? == [true, true, true, true]);
     Ok(())
 }
 

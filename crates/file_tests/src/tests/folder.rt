@@ -4,42 +4,49 @@ use desk_folder::FolderFault::Failed;
 use desk_folder::{File, Folder, FolderFault, HostFolder, HostSink, MemFolder, MemSink, Sink};
 use std::alloc::Global;
 use std::fs;
-use std::process::Abort;
-use std::rt::Files;
 use std::test::Fail;
 
-/// Each row is a call of `next`, with a buffer of four bytes, and the bytes that it gives.
-fn reads<F: Folder>(
-    rt: &impl Abort,
+/// A call of a folder, and what it is to give.
+#[derive(Clone, Copy)]
+enum Call<'a> {
+    /// A read of a file into four bytes, and the bytes that it gives.
+    Next(File, Result<&'a str, FolderFault>),
+    /// A piece that is put to a file, and how many bytes of it are taken.
+    Put(File, &'a str, Result<usize, FolderFault>),
+}
+
+/// Whether a read into four bytes gives this.
+fn gives<F: Folder>(
     alloc: Global,
     folder: &mut F,
-    rows: &[(File, Result<&str, FolderFault>)],
-) {
+    file: File,
+    want: Result<&str, FolderFault>,
+) -> bool {
     let mut into = [0; 4];
-    for (file, want) in rows {
-        match (folder.next(alloc, *file, &mut into), want) {
-            (Ok(count), Ok(text)) => {
-                let (front, _) = into.split_at(count);
-                assert_eq!(rt; front, text.as_bytes(), "{file}");
-            }
-            (answer, _) => assert_eq!(rt; answer.err(), want.err(), "{file}"),
+    match (folder.next(alloc, file, &mut into), want) {
+        (Ok(count), Ok(text)) => into.get(..count) == Some(text.as_bytes()),
+        (answer, _) => answer.err() == want.err(),
+    }
+}
+
+/// Whether a call gives what it is to give. No piece is empty.
+fn is_as_said<F: Folder>(alloc: Global, folder: &mut F, call: Call<'_>) -> bool {
+    match call {
+        Call::Next(file, want) => gives(alloc, folder, file, want),
+        Call::Put(file, piece, want) => {
+            !piece.is_empty() && folder.put(alloc, file, piece.as_bytes()) == want
         }
     }
 }
 
-/// Each row is a call of `put` with a piece, and its answer.
-fn puts<F: Folder>(
-    rt: &impl Abort,
-    alloc: Global,
-    folder: &mut F,
-    rows: &[(File, &str, Result<usize, FolderFault>)],
-) {
-    for (file, piece, want) in rows {
-        if !piece.is_empty() {
-            let answer = folder.put(alloc, *file, piece.as_bytes());
-            assert_eq!(rt; answer, *want, "{file}");
+/// The number of the first call that gives something else.
+fn first_other<F: Folder>(alloc: Global, folder: &mut F, calls: &[Call<'_>]) -> Option<usize> {
+    for at in 0..calls.len() {
+        if !is_as_said(alloc, folder, calls[at]) {
+            return Some(at);
         }
     }
+    None
 }
 
 #[test]
@@ -54,15 +61,15 @@ fn a_folder_in_memory_reads_the_first_entry_of_a_file(rt: HostRuntime) -> Result
         inputs.push((file, Vec::from_slice(alloc, text.as_bytes())?))?;
     }
     let mut folder = MemFolder::new(inputs, vec![in alloc; 2u64]?, Vec::new(alloc));
-    let rows = [
-        (File::Config, Ok("abcd")),
-        (File::Config, Err(Failed)),
-        (File::Config, Ok("e")),
-        (File::Config, Ok("")),
-        (File::Flights, Ok("")),
-        (File::Feed, Ok("1")),
+    let calls = [
+        Call::Next(File::Config, Ok("abcd")),
+        Call::Next(File::Config, Err(Failed)),
+        Call::Next(File::Config, Ok("e")),
+        Call::Next(File::Config, Ok("")),
+        Call::Next(File::Flights, Ok("")),
+        Call::Next(File::Feed, Ok("1")),
     ];
-    reads(&rt, alloc, &mut folder, &rows);
+    assert_eq!(rt; first_other(alloc, &mut folder, &calls), None);
     Ok(())
 }
 
@@ -71,17 +78,15 @@ fn a_folder_in_memory_keeps_what_is_put(rt: HostRuntime) -> Result<(), Fail> {
     let alloc = rt.alloc();
     let mut folder = MemFolder::new(Vec::new(alloc), Vec::new(alloc), vec![in alloc; 2u64]?);
     folder.place(alloc, "in", "out")?;
-    let rows = [
-        (File::Journal, "0,batch\n", Ok(8)),
-        (File::SolRotations, "lost\n", Err(Failed)),
-        (File::Journal, "0,move\n", Ok(7)),
+    let calls = [
+        Call::Put(File::Journal, "0,batch\n", Ok(8)),
+        Call::Put(File::SolRotations, "lost\n", Err(Failed)),
+        Call::Put(File::Journal, "0,move\n", Ok(7)),
     ];
-    puts(&rt, alloc, &mut folder, &rows);
-    assert_eq!(rt;
-        folder.written(File::Journal),
-        b"0,batch\n0,move\n".as_slice()
-    );
-    assert_eq!(rt; folder.written(File::SolRotations), b"".as_slice());
+    assert_eq!(rt; first_other(alloc, &mut folder, &calls), None);
+    let journal = folder.written(File::Journal);
+    assert_eq!(rt; journal, b"0,batch\n0,move\n".as_slice());
+    assert!(rt; folder.written(File::SolRotations).is_empty());
     Ok(())
 }
 
@@ -106,21 +111,7 @@ fn a_folder_in_memory_fails_the_next_naming(rt: HostRuntime) -> Result<(), Fail>
     Ok(())
 }
 
-/// What a folder is asked in turn: reads of files, pieces to put, and which files are settled.
-#[derive(Clone, Copy)]
-struct Asked<'a> {
-    reads: &'a [(File, Result<&'a str, FolderFault>)],
-    puts: &'a [(File, &'a str, Result<usize, FolderFault>)],
-    settles: &'a [(File, bool)],
-}
-
-const NOTHING: Asked<'static> = Asked {
-    reads: &[],
-    puts: &[],
-    settles: &[],
-};
-
-/// A folder whose outputs are three files.
+/// A folder of the host whose outputs are three files.
 fn folder_of(rt: HostRuntime, input: &str, output: &str) -> Result<HostFolder<HostRuntime>, Fail> {
     let outputs = [File::SolRotations, File::SolItineraries, File::Journal];
     let mut folder = HostFolder::new(rt, rt.alloc()).with_outputs(&outputs);
@@ -128,140 +119,151 @@ fn folder_of(rt: HostRuntime, input: &str, output: &str) -> Result<HostFolder<Ho
     Ok(folder)
 }
 
-/// Asks such a folder of the host, which is gone then.
-fn ask(
-    rt: &impl Abort,
-    host: HostRuntime,
+/// Asks such a folder, which is gone then, and settles each of these files, with this answer. The number of
+/// the first call that gives something else; those that settle come after the others.
+fn first_other_of_host(
+    rt: HostRuntime,
     between: (&str, &str),
-    asked: &Asked<'_>,
-) -> Result<(), Fail> {
-    let alloc = host.alloc();
-    let mut folder = folder_of(host, between.0, between.1)?;
-    reads(rt, alloc, &mut folder, asked.reads);
-    puts(rt, alloc, &mut folder, asked.puts);
-    for (file, is_settled) in asked.settles {
-        assert_eq!(rt; folder.settle(alloc, *file), *is_settled, "{file}");
+    calls: &[Call<'_>],
+    settles: &[(File, bool)],
+) -> Result<Option<usize>, Fail> {
+    let alloc = rt.alloc();
+    let mut folder = folder_of(rt, between.0, between.1)?;
+    if let Some(other) = first_other(alloc, &mut folder, calls) {
+        return Ok(Some(other));
     }
-    Ok(())
+    for at in 0..settles.len() {
+        let (file, is_settled) = settles[at];
+        if folder.settle(alloc, file) != is_settled {
+            return Ok(Some(calls.len().saturating_add(at)));
+        }
+    }
+    Ok(None)
 }
+
+/// What a folder wrote in a directory of its input, which holds that of its output, is there to be read.
+const VISITS: [(&str, &[Call<'static>]); 4] = [
+    (
+        "folder_of_a_test",
+        &[
+            Call::Put(File::SolRotations, "a\n", Ok(2)),
+            Call::Put(File::Journal, "b\n", Ok(2)),
+            Call::Put(File::Journal, "c\n", Ok(2)),
+        ],
+    ),
+    (
+        "folder_of_a_test",
+        &[
+            Call::Next(File::SolRotations, Ok("a\n")),
+            Call::Next(File::SolRotations, Ok("")),
+            Call::Next(File::SolItineraries, Err(Failed)),
+            Call::Next(File::Config, Err(Failed)),
+            Call::Next(File::Feed, Ok("")),
+            Call::Next(File::Journal, Ok("")),
+        ],
+    ),
+    (
+        "folder_of_a_test/out",
+        &[
+            Call::Next(File::Journal, Ok("b\nc\n")),
+            Call::Put(File::Journal, "d\n", Ok(2)),
+        ],
+    ),
+    (
+        "folder_of_a_test/out",
+        &[
+            Call::Next(File::SolRotations, Ok("")),
+            Call::Next(File::Journal, Ok("d\n")),
+        ],
+    ),
+];
 
 #[test]
 fn the_host_reads_what_it_wrote(rt: HostRuntime) -> Result<(), Fail> {
-    let (outer, inner) = ("folder_of_a_test", "folder_of_a_test/out");
-    let first = [
-        (File::SolRotations, "a\n", Ok(2)),
-        (File::Journal, "b\n", Ok(2)),
-        (File::Journal, "c\n", Ok(2)),
-    ];
-    let written = [
-        (File::SolRotations, Ok("a\n")),
-        (File::SolRotations, Ok("")),
-        (File::SolItineraries, Err(Failed)),
-        (File::Config, Err(Failed)),
-        (File::Feed, Ok("")),
-        (File::Journal, Ok("")),
-    ];
-    let journal = [(File::Journal, Ok("b\nc\n"))];
-    let second = [(File::Journal, "d\n", Ok(2))];
-    let emptied = [(File::SolRotations, Ok("")), (File::Journal, Ok("d\n"))];
-    for (input, reads, puts) in [
-        (outer, [].as_slice(), first.as_slice()),
-        (outer, written.as_slice(), [].as_slice()),
-        (inner, journal.as_slice(), second.as_slice()),
-        (inner, emptied.as_slice(), [].as_slice()),
-    ] {
-        let asked = Asked {
-            reads,
-            puts,
-            ..NOTHING
-        };
-        ask(&rt, rt, (input, inner), &asked)?;
+    for at in 0..VISITS.len() {
+        let (input, calls) = VISITS[at];
+        let other = first_other_of_host(rt, (input, "folder_of_a_test/out"), calls, &[])?;
+        assert_eq!(rt; other, None, "visit {at}");
     }
-    fs::remove_dir_all(&rt, outer)?;
+    fs::remove_dir_all(&rt, "folder_of_a_test")?;
     Ok(())
 }
 
 /// A directory of a test, with an old text in each of these files.
-fn old_files<R: Files + Alloc<A = Global>>(
-    rt: &R,
-    directory: &str,
-    files: &[File],
-) -> Result<(), Fail> {
-    fs::create_dir_all(rt, directory)?;
-    for file in files {
-        let path = format!(in rt.alloc(); "{directory}/{file}")?;
-        fs::write(rt, path.as_str(), "old\n")?;
+fn old_files(rt: HostRuntime, directory: &str, paths: &[&str]) -> Result<(), Fail> {
+    fs::create_dir_all(&rt, directory)?;
+    for path in paths {
+        fs::write(&rt, *path, "old\n")?;
     }
     Ok(())
 }
 
-/// Each row is a file of a directory and its text, none where there is no such file. The directory is gone then.
-fn holds<R: Abort + Files + Alloc<A = Global>>(
-    rt: &R,
+/// The number of the first file whose text is another, or that is there and has none. The directory is gone then.
+fn first_other_file(
+    rt: HostRuntime,
     directory: &str,
-    rows: &[(File, Option<&str>)],
-) -> Result<(), Fail> {
-    for (file, want) in rows {
-        let path = format!(in rt.alloc(); "{directory}/{file}")?;
-        let text = fs::read_to_string(rt, path.as_str()).ok();
-        assert_eq!(rt; text.as_deref(), *want, "{file}");
+    files: &[(&str, Option<&str>)],
+) -> Result<Option<usize>, Fail> {
+    let mut other = None;
+    for at in 0..files.len() {
+        let (path, want) = files[at];
+        let text = fs::read_to_string(&rt, path).ok();
+        if text.as_deref() != want {
+            other = other.or(Some(at));
+        }
     }
-    fs::remove_dir_all(rt, directory)?;
-    Ok(())
+    fs::remove_dir_all(&rt, directory)?;
+    Ok(other)
 }
 
 #[test]
 fn the_first_put_empties_the_outputs_of_an_earlier_run(rt: HostRuntime) -> Result<(), Fail> {
     let directory = "emptied_by_put";
-    old_files(
-        &rt,
-        directory,
-        &[File::SolRotations, File::Journal, File::Position],
-    )?;
-    let asked = Asked {
-        puts: &[(File::SolRotations, "a\n", Ok(2))],
-        ..NOTHING
-    };
-    ask(&rt, rt, ("other", directory), &asked)?;
-    let after = [
-        (File::SolRotations, Some("a\n")),
-        (File::SolItineraries, None),
-        (File::Journal, Some("")),
-        (File::Position, Some("old\n")),
+    let old = [
+        "emptied_by_put/sol_rotations.csv",
+        "emptied_by_put/journal.csv",
+        "emptied_by_put/position.csv",
     ];
-    holds(&rt, directory, &after)
+    old_files(rt, directory, &old)?;
+    let calls = [Call::Put(File::SolRotations, "a\n", Ok(2))];
+    let other = first_other_of_host(rt, ("other", directory), &calls, &[])?;
+    assert_eq!(rt; other, None);
+    let after = [
+        ("emptied_by_put/sol_rotations.csv", Some("a\n")),
+        ("emptied_by_put/sol_itineraries.csv", None),
+        ("emptied_by_put/journal.csv", Some("")),
+        ("emptied_by_put/position.csv", Some("old\n")),
+    ];
+    assert_eq!(rt; first_other_file(rt, directory, &after)?, None);
+    Ok(())
 }
 
 #[test]
 fn a_run_that_writes_nothing_is_settled(rt: HostRuntime) -> Result<(), Fail> {
     let directory = "emptied_at_the_end";
-    old_files(
-        &rt,
-        directory,
-        &[File::SolRotations, File::Journal, File::Position],
-    )?;
-    let asked = Asked {
-        settles: &[
-            (File::SolRotations, true),
-            (File::SolItineraries, true),
-            (File::Journal, true),
-            (File::Position, true),
-        ],
-        ..NOTHING
-    };
-    ask(&rt, rt, ("other", directory), &asked)?;
-    let after = [
-        (File::SolRotations, Some("")),
-        (File::SolItineraries, None),
-        (File::Journal, Some("")),
-        (File::Position, Some("old\n")),
+    let old = [
+        "emptied_at_the_end/sol_rotations.csv",
+        "emptied_at_the_end/journal.csv",
+        "emptied_at_the_end/position.csv",
     ];
-    holds(&rt, directory, &after)?;
-    let asked = Asked {
-        settles: &[(File::SolRotations, true)],
-        ..NOTHING
-    };
-    ask(&rt, rt, ("other", directory), &asked)?;
+    old_files(rt, directory, &old)?;
+    let settles = [
+        (File::SolRotations, true),
+        (File::SolItineraries, true),
+        (File::Journal, true),
+        (File::Position, true),
+    ];
+    let other = first_other_of_host(rt, ("other", directory), &[], &settles)?;
+    assert_eq!(rt; other, None);
+    let after = [
+        ("emptied_at_the_end/sol_rotations.csv", Some("")),
+        ("emptied_at_the_end/sol_itineraries.csv", None),
+        ("emptied_at_the_end/journal.csv", Some("")),
+        ("emptied_at_the_end/position.csv", Some("old\n")),
+    ];
+    assert_eq!(rt; first_other_file(rt, directory, &after)?, None);
+    let other = first_other_of_host(rt, ("other", directory), &[], &[(File::SolRotations, true)])?;
+    assert_eq!(rt; other, None);
     assert!(rt; fs::metadata(&rt, directory).is_err());
     Ok(())
 }
@@ -269,39 +271,44 @@ fn a_run_that_writes_nothing_is_settled(rt: HostRuntime) -> Result<(), Fail> {
 #[test]
 fn an_output_that_cannot_be_emptied_fails_no_other(rt: HostRuntime) -> Result<(), Fail> {
     let directory = "not_emptied";
-    old_files(&rt, directory, &[File::Journal])?;
+    old_files(rt, directory, &["not_emptied/journal.csv"])?;
     fs::create_dir_all(&rt, "not_emptied/sol_itineraries.csv")?;
-    let asked = Asked {
-        puts: &[
-            (File::SolRotations, "a\n", Ok(2)),
-            (File::SolItineraries, "b\n", Err(Failed)),
-        ],
-        settles: &[
-            (File::SolRotations, true),
-            (File::SolItineraries, false),
-            (File::Journal, true),
-        ],
-        ..NOTHING
-    };
-    ask(&rt, rt, ("other", directory), &asked)?;
-    let after = [(File::SolRotations, Some("a\n")), (File::Journal, Some(""))];
-    holds(&rt, directory, &after)
+    let calls = [
+        Call::Put(File::SolRotations, "a\n", Ok(2)),
+        Call::Put(File::SolItineraries, "b\n", Err(Failed)),
+    ];
+    let settles = [
+        (File::SolRotations, true),
+        (File::SolItineraries, false),
+        (File::Journal, true),
+    ];
+    let other = first_other_of_host(rt, ("other", directory), &calls, &settles)?;
+    assert_eq!(rt; other, None);
+    let after = [
+        ("not_emptied/sol_rotations.csv", Some("a\n")),
+        ("not_emptied/journal.csv", Some("")),
+    ];
+    assert_eq!(rt; first_other_file(rt, directory, &after)?, None);
+    Ok(())
 }
 
 #[test]
 fn an_output_that_was_read_is_not_emptied(rt: HostRuntime) -> Result<(), Fail> {
     let directory = "read_before";
-    old_files(&rt, directory, &[File::SolRotations, File::Journal])?;
-    let asked = Asked {
-        reads: &[(File::Journal, Ok("old\n"))],
-        puts: &[(File::SolItineraries, "b\n", Ok(2))],
-        settles: &[(File::Journal, true)],
-    };
-    ask(&rt, rt, (directory, directory), &asked)?;
-    let after = [
-        (File::SolRotations, Some("")),
-        (File::SolItineraries, Some("b\n")),
-        (File::Journal, Some("old\n")),
+    let old = ["read_before/sol_rotations.csv", "read_before/journal.csv"];
+    old_files(rt, directory, &old)?;
+    let calls = [
+        Call::Next(File::Journal, Ok("old\n")),
+        Call::Put(File::SolItineraries, "b\n", Ok(2)),
     ];
-    holds(&rt, directory, &after)
+    let settles = [(File::Journal, true)];
+    let other = first_other_of_host(rt, (directory, directory), &calls, &settles)?;
+    assert_eq!(rt; other, None);
+    let after = [
+        ("read_before/sol_rotations.csv", Some("")),
+        ("read_before/sol_itineraries.csv", Some("b\n")),
+        ("read_before/journal.csv", Some("old\n")),
+    ];
+    assert_eq!(rt; first_other_file(rt, directory, &after)?, None);
+    Ok(())
 }

@@ -1,5 +1,5 @@
 use Rattle.std.proofs.Common.{not, ◌∙◌}
-use Rattle.board_rot.specs.Sheets.{same_item}
+use Rattle.board_rot.specs.Summaries.{same_item}
 use Rattle.board_rot.proofs.TestLaws.{has_is, turned_set, twice}
 use Rattle.board_rot.proofs.ItemLaws.{items_same}
 use Rattle.board_rot.proofs.undo_log.toggle.Goals as goal

@@ -2,14 +2,14 @@ use Rattle.std.proofs.Common.{◌≡◌, ℕ, List, sym, ap, subst, ◌∙◌}
 use Rattle.std.specs.Prelude.{IfOk}
 use Rattle.desk_model.specs.declared.answer.Entry.{Entry}
 use Rattle.journal_text.specs.Lines.{journal_text}
-use Rattle.journal_text.proofs.Told.{legal-told-of}
+use Rattle.journal_text.proofs.WritableLaws.{legal-written-of}
 use Rattle.journal_text.proofs.PartsLaws.{journal-same}
 use Rattle.book_texts.proofs.texts.book_journal.Goals as goal
 
 pub journal_text-requires : goal.journal_text-requires
 journal_text-requires c =
     rw c.journal.ensures.entries
-    (legal-told-of c.args.book.now.opening c.instance.result.now (sym c.instance.ensures.parts) c.args.book.now.journal c.journal.ensures.legal)
+    (legal-written-of c.args.book.now.opening c.instance.result.now (sym c.instance.ensures.parts) c.args.book.now.journal c.journal.ensures.legal)
 
 pub returns : goal.returns
 returns c =

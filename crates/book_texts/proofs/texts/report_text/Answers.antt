@@ -1,14 +1,14 @@
 use Rattle.std.proofs.Common.{ℕ, List, ◌++◌, sym, ap, ◌∙◌}
 use Rattle.desk_model.specs.declared.answer.Entry.{Entry}
 use Rattle.desk_tasks.specs.Play.{batch_lines, search_line, end_lines, report_text}
-use Rattle.journal_text.proofs.Told.{legal-told-of}
+use Rattle.journal_text.proofs.WritableLaws.{legal-written-of}
 use Rattle.book_texts.proofs.BatchLaws.{lines-same}
 use Rattle.book_texts.proofs.texts.report_text.Goals as goal
 
 pub push_batches-requires : goal.push_batches-requires
 push_batches-requires c =
     rw c.journal.ensures.entries
-    (legal-told-of c.args.book.now.opening c.instance.result.now (sym c.instance.ensures.parts) c.args.book.now.journal c.journal.ensures.legal)
+    (legal-written-of c.args.book.now.opening c.instance.result.now (sym c.instance.ensures.parts) c.args.book.now.journal c.journal.ensures.legal)
 
 pub returns : goal.returns
 unfolding report_text

@@ -1,6 +1,6 @@
 use Rattle.std.proofs.Common.{◌++◌, map, ap, ◌∙◌}
 use Rattle.build_day.specs.Day.{position_info, positions_of}
-use Rattle.build_day.proofs.PositionLemmas.{flat_map_next}
+use Rattle.build_tables.proofs.RowLemmas.{flat_map_next}
 use Rattle.build_day.proofs.positions.positions.Goals as goal
 
 pub loop-row-preserved : goal.loop-row-preserved

@@ -34,7 +34,7 @@ loop-fed-preserved c =
     let why : None ≡ cause at fed = c.in_default.ensures ∙ ap (λ full. fed_cause x c.loop-fed.before full fed) full ∙ ap (λ before. fed_cause x before (leb c.args.room (count_by (λ (f : ℕ × AltRow). is_order f.1) (take at rows))) fed) c.loop-fed.invariant.last in
     record {
       so_far = refused_more cause (of_row line) rows at fed (first_refusal_in cause line rows) c.loop-fed-test.true c.fed-item.is why c.loop-fed.invariant.so_far;
-      more = c.room_behind_row-left.ensures ∙ room_more (λ (f : ℕ × AltRow). is_order f.1) rows c.args.room at c.loop-fed.left fed c.loop-fed-test.true c.fed-item.is c.loop-fed.invariant.more;
+      more = c.room_after_row-left.ensures ∙ room_more (λ (f : ℕ × AltRow). is_order f.1) rows c.args.room at c.loop-fed.left fed c.loop-fed-test.true c.fed-item.is c.loop-fed.invariant.more;
       last = sym (number_of_next rows at fed c.loop-fed-test.true c.fed-item.is);
     }
 

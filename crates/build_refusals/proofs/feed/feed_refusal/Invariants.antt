@@ -6,7 +6,7 @@ use Rattle.build_refusals.specs.Orders.{line_of, is_order}
 use Rattle.build_refusals.specs.Feed.{feed_cause}
 use Rattle.build_refusals.proofs.feed.feed_refusal.Given as goal
 
--- the first that is refused among the rows that are left is the first of all; so many more may come behind the rows so far, and the last of them is of this batch
+-- the first that is refused among the rows that are left is the first of all; so many more may come after the rows so far, and the last of them is of this batch
 abbrev pub invariant-loop-fed : goal.invariant-loop-fed
 invariant-loop-fed l = record {
   so_far : refusal_from (feed_cause l.tables.files.now l.room l.rows) (λ n fed. line_of fed.1) l.fed-index (drop l.fed-index l.rows) ≡ first_refusal_in (feed_cause l.tables.files.now l.room l.rows) (λ fed. line_of fed.1) l.rows;

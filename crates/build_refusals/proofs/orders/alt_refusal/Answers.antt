@@ -29,7 +29,7 @@ loop-row-preserved c =
     let why : None ≡ cause at row = c.in_default.ensures ∙ ap (λ full. order_cause x full row) full in
     record {
       so_far = refused_more cause (of_row line_of) rows at row (first_refusal_in cause line_of rows) c.loop-row-test.true c.row-item.is why c.loop-row.invariant.so_far;
-      more = c.room_behind_row-left.ensures ∙ room_more is_order rows c.args.room at c.loop-row.left row c.loop-row-test.true c.row-item.is c.loop-row.invariant.more;
+      more = c.room_after_row-left.ensures ∙ room_more is_order rows c.args.room at c.loop-row.left row c.loop-row-test.true c.row-item.is c.loop-row.invariant.more;
     }
 
 pub returns : goal.returns

@@ -1,13 +1,14 @@
-use Rattle.std.proofs.Common.{◌≡◌, ◌+◌, ◌≤◌, drop, length}
+use Rattle.std.proofs.Common.{◌≡◌, ◌+◌, ◌≤◌, true, drop, length}
 use Rattle.std.specs.Prelude.{option_map}
-use Rattle.build_tables.specs.Keys.{Key, key_place}
+use Rattle.build_tables.specs.Keys.{Key, key_place, AreApart}
 use Rattle.build_tables.specs.Found.{place_in}
 use Rattle.build_tables.proofs.places.places_of.Given as goal
 
--- the places of the rows from here on
+-- the places of the rows from here on, and whether these are apart
 abbrev pub invariant-loop-place : goal.invariant-loop-place
 invariant-loop-place g l = record {
-  kept : (key : Key) → place_in (record { places = l.places }) key ≡ option_map (λ n. l.place + n) (key_place g.T.Keyed.key_of (drop l.place l.rows) key);
+  kept : (key : Key) → place_in (record { places = l.places; apart = l.apart }) key ≡ option_map (λ n. l.place + n) (key_place g.T.Keyed.key_of (drop l.place l.rows) key);
+  apart : l.apart ≡ true → AreApart g.T.Keyed.key_of (drop l.place l.rows);
   within : l.place ≤ length l.rows;
 }
 

@@ -5,7 +5,7 @@ use Rattle.comma_rows.specs.Records.{rows_from, comma_rows}
 use Rattle.comma_rows.specs.Readers.{IsReading, records_left}
 use Rattle.comma_rows.proofs.rows.read_records.Given as goal
 
--- the rows so far, and those of the records that are left behind them, are the rows of all
+-- the rows so far, and those of the records that are left after them, are the rows of all
 abbrev pub invariant-loop-record : goal.invariant-loop-record
 invariant-loop-record g l = record {
   reading : IsReading l.reader;

@@ -1,6 +1,6 @@
 use Rattle.std.proofs.Common.{◌≡◌, ℕ, ◌+◌, ◌*◌, length, arith, ap, sym, ◌∙◌, subst}
 use Rattle.desk_gen.specs.Draws.{state_after}
-use Rattle.desk_gen.specs.Demand.{behind_tours, lines_of}
+use Rattle.desk_gen.specs.Demand.{after_tours, lines_of}
 use Rattle.desk_gen.specs.Seats.{IsTripWithin}
 use Rattle.desk_gen.proofs.DrawLaws.{after_step}
 use Rattle.desk_gen.proofs.LineLaws.{left_next, text_next}
@@ -8,7 +8,7 @@ use Rattle.desk_gen.proofs.itineraries.itineraries_text.Goals as goal
 
 pub loop-number-init : goal.loop-number-init
 unfolding state_after lines_of
-loop-number-init c = record { words = c.behind_tours-words.ensures; left = c.in_ok-rows.ensures; text = c.new-text.ensures.items }
+loop-number-init c = record { words = c.after_tours-words.ensures; left = c.in_ok-rows.ensures; text = c.new-text.ensures.items }
 
 pub serve-requires-clause-within : goal.serve-requires-clause-within
 serve-requires-clause-within c = subst (λ n. IsTripWithin n c.next_request-request.result.trip) (sym c.loop-number.invariant.left.legs) c.next_request-request.ensures.within
@@ -20,7 +20,7 @@ loop-number-preserved c =
     record {
       words =
           c.next_request-request.ensures.moved
-          ∙ after_step (behind_tours c.args.seed c.args.size) c.loop-number.words (5 * c.loop-number.number) (5 * (c.loop-number.number + 1)) 5 c.loop-number.invariant.words (omega arith);
+          ∙ after_step (after_tours c.args.seed c.args.size) c.loop-number.words (5 * c.loop-number.number) (5 * (c.loop-number.number + 1)) 5 c.loop-number.invariant.words (omega arith);
       left =
           left_next c.args.seed c.args.size c.loop-number.number c.loop-number.words c.next_request-request.result c.loop-number.rows.items c.serve.new.rows.items
           c.loop-number.invariant.words c.next_request-request.ensures.request c.loop-number.invariant.left within c.in_ok-serve.ensures.rows;

@@ -5,7 +5,7 @@ use Rattle.desk_text.proofs.FitLemmas.{lines_fit}
 use Rattle.desk_text.proofs.RowLemmas.{behind}
 use Rattle.desk_text.proofs.rows.read_rows.Given as goal
 
--- the rows so far, and those of the lines that are left behind them, are the rows of all
+-- the rows so far, and those of the lines that are left after them, are the rows of all
 abbrev pub invariant-loop-line : goal.invariant-loop-line
 invariant-loop-line g l = record {
   read : behind l.rows.items (rows_of_lines (g.G.Grammar.row_of l.grammar) l.lines) ≡ text_rows l.limit (g.G.Grammar.row_of l.grammar) l.bytes;

@@ -8,7 +8,7 @@ use Rattle.desk_runs.specs.Inputs.{Inputs}
 use Rattle.desk_runs.specs.Runs.{world}
 use Rattle.desk_runs.proofs.PromisedLaw.{runs-as-promised}
 use Rattle.desk_top.specs.Desk.{meanings, RunsAsPromised}
-use Rattle.desk_top.proofs.Commands.{done-by, replayed, recovered-day, tried-day, checked, generated}
+use Rattle.desk_top.proofs.Commands.{done-by, replayed, recovered-day, recovered-by-team, tried-day, checked, generated}
 use Rattle.desk_top.proofs.desk.desk_main.Goals as goal
 
 -- the bytes of no file
@@ -21,12 +21,13 @@ returns g c =
     let these = command words in
     let ask = asked_by words in
     let before = world (g.F.Folder.outside c.args.folder.now) (g.O.Sink.report c.args.out.now) in
-    let now = world (g.F.Folder.outside c.told_run.new.folder) (g.O.Sink.report c.told_run.new.out) in
-    let code = c.told_run.result in
-    let kept : RunsAsPromised ask before now code = runs-as-promised meanings ask before now code c.told_run.ensures in
+    let now = world (g.F.Folder.outside c.reported_run.new.folder) (g.O.Sink.report c.reported_run.new.out) in
+    let code = c.reported_run.result in
+    let kept : RunsAsPromised ask before now code = runs-as-promised meanings ask before now code c.reported_run.ensures in
     record {
       headline = λ dirs is x tells done. replayed kept.work before now x code (done-by these (command_is.Replay, Some dirs) before now x code kept is tells done);
       recovered = λ moves dirs is x tells done. recovered-day kept.work before now moves x code (done-by these (command_is.Recover 0 moves false, Some dirs) before now x code kept is tells done);
+      searched = λ workers moves live dirs is some x tells done. recovered-by-team kept.work before now workers moves live x code some (done-by these (command_is.Recover workers moves live, Some dirs) before now x code kept is tells done);
       tried = λ seed size is done. tried-day kept.work before now seed size no_inputs code (done-by these (command_is.Trial seed size, None) before now no_inputs code kept is (λ f among. absurd cc) done);
       checked = λ dirs is x tells done. checked kept.work before now x code (done-by these (command_is.Check, Some dirs) before now x code kept is tells done);
       generated = λ seed size dirs is done. generated kept.work before now seed size no_inputs code (done-by these (command_is.Gen seed size, Some dirs) before now no_inputs code kept is (λ f among. absurd cc) done);

@@ -1,8 +1,8 @@
-use Rattle.std.proofs.Common.{sym, subst}
+use Rattle.std.proofs.Common.{sym, subst, ◌∙◌}
 use Rattle.desk_runs.specs.declared.ending.Ending.{Ending}
 use Rattle.desk_runs.specs.Runs.{world}
 use Rattle.desk_runs.proofs.Composed.{here}
-use Rattle.desk_tasks.specs.Tasks.{nothing}
+use Rattle.desk_tasks.specs.Team.{nothing}
 use Rattle.desk_top.specs.Desk.{Obeys}
 use Rattle.desk_top.proofs.Obeyed.{obeyed-fault, obeyed-task}
 use Rattle.desk_top.proofs.plain.obey.Goals as goal
@@ -19,4 +19,4 @@ pub returns-in-Ok : goal.returns-in-Ok
 returns-in-Ok g c =
     let outside = g.F.Folder.outside in
     obeyed-task c.args.command.now (outside c.args.folder.now) (outside c.read_task.new.folder) (outside c.do_task.new.folder) (g.O.Sink.report c.args.out.now) (g.O.Sink.report c.do_task.new.out)
-    c.in-Ok.task c.do_task.result c.read_task.ensures.only c.read_task.ensures.in_order c.in-Ok.ensures.read c.in-Ok.ensures.exact c.in-Ok.ensures.sound c.in-Ok.ensures.files c.do_task.ensures
+    c.in-Ok.task c.do_task.result c.read_task.ensures.only c.read_task.ensures.in_order c.in-Ok.ensures.read c.in-Ok.ensures.exact c.in-Ok.ensures.sound (c.in-Ok.ensures.team ∙ c.requires.alone) c.in-Ok.ensures.files c.do_task.ensures

@@ -1,6 +1,7 @@
 use Rattle.desk_runs.specs.Commands.{asked_here}
 use Rattle.desk_runs.specs.Runs.{world}
 use Rattle.desk_runs.proofs.PromisedLaw.{runs-as-promised}
+use Rattle.desk_tasks.specs.Team.{nothing}
 use Rattle.desk_top.specs.Desk.{meanings}
 use Rattle.desk_top.proofs.Commands.{here-no-usage}
 use Rattle.desk_top.proofs.Placed.{with-nothing}
@@ -8,10 +9,10 @@ use Rattle.desk_top.proofs.plain.run_plain.Goals as goal
 
 pub returns : goal.returns
 returns g c =
-    let ask = asked_here c.args.command.now in
+    let command = c.args.command.now in
     let before = world (g.F.Folder.outside c.args.folder.now) (g.O.Sink.report c.args.out.now) in
     let now = world (g.F.Folder.outside c.told.new.folder) (g.O.Sink.report c.told.new.out) in
     record {
-      promise = runs-as-promised meanings ask before now c.told.result (with-nothing ask before now c.told.result c.told.ensures);
-      no_usage = here-no-usage c.args.command.now before now c.told.result c.told.ensures;
+      promise = runs-as-promised meanings (asked_here command) before now c.told.result (with-nothing command before now c.told.result c.requires.alone c.told.ensures);
+      no_usage = here-no-usage nothing command before now c.told.result c.told.ensures;
     }

@@ -1,7 +1,7 @@
 use Rattle.desk_runs.specs.Commands.{asked_here}
 use Rattle.desk_runs.specs.Runs.{world}
 use Rattle.desk_runs.proofs.Composed.{runs-told}
-use Rattle.desk_tasks.specs.Tasks.{nothing}
+use Rattle.desk_tasks.specs.Team.{nothing}
 use Rattle.desk_top.specs.Desk.{meaning_at}
 use Rattle.desk_top.proofs.plain.told.Goals as goal
 

@@ -1,11 +1,11 @@
 use Rattle.std.proofs.Common.{ap, sym, ◌∙◌}
 use Rattle.std.specs.Option.{option_map}
-use Rattle.desk_words.specs.Read.{kept_of, kept_behind, arguments_by}
+use Rattle.desk_words.specs.Read.{kept_of, kept_after, arguments_by}
 use Rattle.desk_words.proofs.WordLaws.{read_stops, read_goes}
 use Rattle.desk_words.proofs.read.+read_words.Goals as goal
 
 pub returns-in-None : goal.returns-in-None
-returns-in-None t c = c.at_end.ensures ∙ ap (λ l. kept_behind (kept_of c.args.read) (arguments_by c.args.expected l)) (sym c.in-None.ensures)
+returns-in-None t c = c.at_end.ensures ∙ ap (λ l. kept_after (kept_of c.args.read) (arguments_by c.args.expected l)) (sym c.in-None.ensures)
 
 pub returns-in-None-read_word : goal.returns-in-None-read_word
 returns-in-None-read_word t c = read_stops c.args.expected (kept_of c.args.read) c.in-Some.word.now _ _ c.in-Some.ensures c.in-None-read_word.ensures

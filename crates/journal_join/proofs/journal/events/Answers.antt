@@ -1,7 +1,7 @@
 use Rattle.std.proofs.Common.{ℕ, Vec, Global, [], take, refl, arith}
 use Rattle.desk_model.specs.declared.answer.Event.{Event}
-use Rattle.journal_join.specs.Join.{all_behind, asked_of}
-use Rattle.journal_join.proofs.AllBehind.{begins, goes_on, ends}
+use Rattle.journal_join.specs.Join.{all_after, asked_of}
+use Rattle.journal_join.proofs.AllAfter.{begins, goes_on, ends}
 use Rattle.journal_join.proofs.RowLemmas.{due_next, row_gives, row_stops}
 use Rattle.journal_join.proofs.journal.events.Goals as goal
 
@@ -16,9 +16,9 @@ loop-row-preserved c =
     let here = c.loop-row in
     let row = c.row-item.result in
     let k = here.row-index in
-    let all = all_behind (asked_of I batches) [] rows in
+    let all = all_after (asked_of I batches) [] rows in
     rw c.in_ok-push-in-Ok.ensures.items (record {
-      count = due_next rows k row here.due c.due_behind-due.result c.loop-row-test.true c.row-item.is here.invariant.count c.due_behind-due.ensures;
+      count = due_next rows k row here.due c.due_after-due.result c.loop-row-test.true c.row-item.is here.invariant.count c.due_after-due.ensures;
       joined = goes_on (asked_of I batches) rows here.events.items k row (row.caller, c.in-Ok.event) all c.loop-row-test.true c.row-item.is (row_gives I batches here.due (take k rows) row here.invariant.count c.in-Ok.event c.in-Ok.ensures) here.invariant.joined;
     })
 
@@ -29,7 +29,7 @@ returns-in-Err c =
     let rows = c.args.rows.now in
     let here = c.loop-row in
     let row = c.row-item.result in
-    row_stops {Answer = Vec (ℕ × Event) Global} (λ v. v.items) I batches rows here.events.items here.row-index here.due row (all_behind (asked_of I batches) [] rows) c.in-Err.fault c.fault_at.result c.loop-row-test.true c.row-item.is here.invariant.count c.in-Err.ensures c.fault_at.ensures here.invariant.joined
+    row_stops {Answer = Vec (ℕ × Event) Global} (λ v. v.items) I batches rows here.events.items here.row-index here.due row (all_after (asked_of I batches) [] rows) c.in-Err.fault c.fault_at.result c.loop-row-test.true c.row-item.is here.invariant.count c.in-Err.ensures c.fault_at.ensures here.invariant.joined
 
 pub returns : goal.returns
 returns c =
@@ -37,4 +37,4 @@ returns c =
     let batches = c.args.batches.now in
     let rows = c.args.rows.now in
     let here = c.loop-row in
-    ends (asked_of I batches) rows here.events.items here.row-index (all_behind (asked_of I batches) [] rows) (omega arith) here.invariant.joined
+    ends (asked_of I batches) rows here.events.items here.row-index (all_after (asked_of I batches) [] rows) (omega arith) here.invariant.joined

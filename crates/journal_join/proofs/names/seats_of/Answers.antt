@@ -1,7 +1,7 @@
 use Rattle.std.proofs.Common.{sym, arith}
 use Rattle.journal_join.specs.Join.{all_of, seat_of}
 use Rattle.desk_text.specs.declared.fault.RowFault.TheVariants as row_fault
-use Rattle.journal_join.proofs.AllOf.{begins, goes_on, stops, ends, told_fault}
+use Rattle.journal_join.proofs.AllOf.{begins, goes_on, stops, ends, reported_fault}
 use Rattle.journal_join.proofs.names.seats_of.Goals as goal
 
 pub loop-seat-init : goal.loop-seat-init
@@ -20,7 +20,7 @@ returns-in_err-seat_of c =
     let named = c.args.named.now in
     let here = c.loop-seat in
     let fault = row_fault.Refused c.in_err-seat_of.field-0.0 in
-    told_fault c.from_residual-in_err-seat_of.result fault (all_of join named) c.from_residual-in_err-seat_of.ensures.1
+    reported_fault c.from_residual-in_err-seat_of.result fault (all_of join named) c.from_residual-in_err-seat_of.ensures.1
     (stops join named here.seats.items here.seat-index c.seat-item.result (all_of join named) fault c.loop-seat-test.true c.seat-item.is (sym c.in_err-seat_of.ensures) here.invariant)
 
 pub returns : goal.returns

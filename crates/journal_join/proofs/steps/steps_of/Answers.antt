@@ -1,6 +1,6 @@
 use Rattle.std.proofs.Common.{arith}
 use Rattle.journal_join.specs.Join.{all_of, step_of}
-use Rattle.journal_join.proofs.AllOf.{begins, goes_on, stops, ends, told_fault}
+use Rattle.journal_join.proofs.AllOf.{begins, goes_on, stops, ends, reported_fault}
 use Rattle.journal_join.proofs.steps.steps_of.Goals as goal
 
 pub loop-step-init : goal.loop-step-init
@@ -19,7 +19,7 @@ returns-in_err-step_of c =
     let named = c.args.named.now in
     let here = c.loop-step in
     let fault = c.in_err-step_of.field-0.0 in
-    told_fault c.from_residual-in_err-step_of.result fault (all_of join named) c.from_residual-in_err-step_of.ensures.1
+    reported_fault c.from_residual-in_err-step_of.result fault (all_of join named) c.from_residual-in_err-step_of.ensures.1
     (stops join named here.steps.items here.step-index c.step-item.result (all_of join named) fault c.loop-step-test.true c.step-item.is c.in_err-step_of.ensures here.invariant)
 
 pub returns : goal.returns

@@ -1,6 +1,6 @@
 use Rattle.std.proofs.Common.{None, ap}
 use Rattle.desk_model.specs.States.{opening}
-use Rattle.desk_tasks.specs.Play.{history, search_told, history_outcome}
+use Rattle.desk_tasks.specs.Play.{history, search_remarks, history_outcome}
 use Rattle.journal_laws.proofs.Whole.{rows_are_read, rows_are_joined}
 use Rattle.journal_laws.proofs.EventsBack.{run_back}
 use Rattle.journal_laws.proofs.laws.written_journals_read_back.Goals as goal
@@ -16,8 +16,8 @@ returns-clause-run c = λ I h legal. run_back (opening I) h legal
 
 pub returns-clause-replayed : goal.returns-clause-replayed
 unfolding history
-returns-clause-replayed c = λ I h legal. ap (history_outcome I (search_told None)) (run_back (opening I) h legal)
+returns-clause-replayed c = λ I h legal. ap (history_outcome I (search_remarks None)) (run_back (opening I) h legal)
 
 pub returns-clause-searched : goal.returns-clause-searched
 unfolding history history_outcome
-returns-clause-searched c = λ I remarks h legal. ap (λ g. (history_outcome I (search_told None) g).texts.files) (run_back (opening I) h legal)
+returns-clause-searched c = λ I remarks h legal. ap (λ g. (history_outcome I (search_remarks None) g).texts.files) (run_back (opening I) h legal)

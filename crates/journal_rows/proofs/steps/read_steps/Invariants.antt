@@ -5,7 +5,7 @@ use Rattle.journal_rows.specs.Facts.{IsNamedStep}
 use Rattle.journal_rows.proofs.StepLemmas.{behind}
 use Rattle.journal_rows.proofs.steps.read_steps.Given as goal
 
--- the steps so far, and behind them those of the tokens that are left, are the steps of all
+-- the steps so far, and after them those of the tokens that are left, are the steps of all
 abbrev pub invariant-loop-word : goal.invariant-loop-word
 invariant-loop-word g l = record {
   read : behind l.steps.items (steps_of (g.F.TokenForm.readers l.form) l.tokens) ≡ steps_of (g.F.TokenForm.readers l.form) (fields l.detail);

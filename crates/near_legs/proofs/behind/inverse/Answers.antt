@@ -1,5 +1,5 @@
 use Rattle.std.proofs.Common.{refl}
-use Rattle.near_legs.proofs.BehindLaws.{inverse_more, inverse_same}
+use Rattle.near_legs.proofs.AfterLaws.{inverse_more, inverse_same}
 use Rattle.near_legs.proofs.behind.inverse.Goals as goal
 use Rattle.near_legs.proofs.behind.inverse.Goals.{in-Some, in_default}
 

@@ -1,5 +1,5 @@
 use Rattle.std.proofs.Common.{◌≡◌, map, ap, ◌∙◌}
-use Rattle.near_moves.specs.Places.{minute}
+use Rattle.near_moves.specs.MoveParts.{minute}
 use Rattle.near_legs.specs.declared.choice.Choice.TheVariants.{Exchange}
 use Rattle.near_legs.proofs.RunLaws.{all_taken}
 use Rattle.near_legs.proofs.ChoiceLaws.{exchanges-are, exchanges-sound}

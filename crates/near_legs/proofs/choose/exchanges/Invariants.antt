@@ -1,6 +1,6 @@
 use Rattle.std.proofs.Common.{◌≡◌, map, take}
 use Rattle.near_legs.specs.declared.choice.Choice.TheVariants.{Exchange}
-use Rattle.near_moves.specs.Places.{minute}
+use Rattle.near_moves.specs.MoveParts.{minute}
 use Rattle.near_legs.proofs.choose.exchanges.Given as goal
 
 abbrev pub invariant-loop-at : goal.invariant-loop-at

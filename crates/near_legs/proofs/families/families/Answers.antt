@@ -3,7 +3,7 @@ use Rattle.std.proofs.lemmas.Simd.{map-map}
 use Rattle.desk_units.specs.declared.numbers.Plane.{Plane}
 use Rattle.desk_data.specs.Situation.{planes_of}
 use Rattle.desk_rules.specs.Numbers.{numbers}
-use Rattle.near_moves.specs.Places.{family_of}
+use Rattle.near_moves.specs.MoveParts.{family_of}
 use Rattle.near_legs.proofs.ListsLaws.{families-are}
 use Rattle.near_legs.proofs.families.families.Goals as goal
 

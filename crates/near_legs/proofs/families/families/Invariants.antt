@@ -1,7 +1,7 @@
 use Rattle.std.proofs.Common.{◌≡◌, ◌<◌, map}
 use Rattle.std.specs.List.{All}
 use Rattle.desk_rules.specs.Numbers.{numbers}
-use Rattle.near_moves.specs.Places.{family_of}
+use Rattle.near_moves.specs.MoveParts.{family_of}
 use Rattle.near_legs.proofs.families.families.Given as goal
 
 abbrev pub invariant-loop-p : goal.invariant-loop-p

@@ -5,7 +5,7 @@ use Rattle.std.proofs.lemmas.List.{map_push}
 use Rattle.desk_units.specs.declared.numbers.Plane.{Plane}
 use Rattle.desk_data.specs.Situation.{plane_at, planes_of}
 use Rattle.desk_rules.specs.Numbers.{numbers}
-use Rattle.near_moves.specs.Places.{family_of}
+use Rattle.near_moves.specs.MoveParts.{family_of}
 use Rattle.near_moves.proofs.ListLaws.{filter_yes, filter_no}
 use Rattle.near_legs.proofs.families.family_of.Goals as goal
 use Rattle.near_legs.proofs.families.family_of.Goals.{then-are_of_one_family+in_ok-push, else-are_of_one_family}

@@ -3,7 +3,7 @@ use Rattle.std.specs.List.{All}
 use Rattle.std.proofs.lemmas.Result.{IfOk-weaker}
 use Rattle.std.proofs.lemmas.Simd.{map-map}
 use Rattle.desk_units.specs.declared.numbers.Plane.{Plane}
-use Rattle.near_moves.specs.Places.{family_of}
+use Rattle.near_moves.specs.MoveParts.{family_of}
 use Rattle.near_legs.proofs.ListsLaws.{families-long, family-copied, firsts_wider}
 use Rattle.near_legs.proofs.families.next_family.Goals as goal
 

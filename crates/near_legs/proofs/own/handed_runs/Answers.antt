@@ -1,6 +1,6 @@
 use Rattle.std.proofs.Common.{◌≡◌, ◌++◌, List, map, get_or, sym, ap, ◌∙◌, arith}
 use Rattle.desk_units.specs.declared.numbers.Plane.{Plane}
-use Rattle.near_moves.specs.Places.{family_of, is_run}
+use Rattle.near_moves.specs.MoveParts.{family_of, is_run}
 use Rattle.near_moves.specs.LegMoves.{run_lengths}
 use Rattle.near_legs.specs.declared.unit.LegUnit.{LegUnit}
 use Rattle.near_legs.proofs.ListsLaws.{families-within}

@@ -1,7 +1,7 @@
 use Rattle.std.proofs.Common.{◌≡◌, not, nat_eq, map, take}
 use Rattle.std.specs.Prelude.{filter}
 use Rattle.std.specs.List.{flat_map}
-use Rattle.near_moves.specs.Places.{is_run}
+use Rattle.near_moves.specs.MoveParts.{is_run}
 use Rattle.near_moves.specs.LegMoves.{run_lengths}
 use Rattle.near_legs.specs.declared.unit.LegUnit.TheVariants.{Handed}
 use Rattle.near_legs.proofs.own.handed_runs.Given as goal

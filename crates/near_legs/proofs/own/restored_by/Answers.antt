@@ -4,7 +4,7 @@ use Rattle.std.proofs.lemmas.Result.{IfOk-weaker}
 use Rattle.desk_units.specs.declared.numbers.Plane.{Plane}
 use Rattle.desk_data.specs.declared.info.LegInfo.{LegInfo}
 use Rattle.desk_data.specs.Situation.{leg_at}
-use Rattle.near_moves.specs.Places.{family_of, is_restorable}
+use Rattle.near_moves.specs.MoveParts.{family_of, is_restorable}
 use Rattle.near_moves.specs.Units.{restored}
 use Rattle.near_legs.specs.declared.unit.LegUnit.TheVariants as units
 use Rattle.near_legs.specs.Choices.{unit_of, AreInRange}

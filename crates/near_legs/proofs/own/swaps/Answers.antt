@@ -5,7 +5,7 @@ use Rattle.std.proofs.lemmas.Result.{IfOk-weaker}
 use Rattle.desk_units.specs.declared.numbers.Plane.{Plane}
 use Rattle.desk_data.specs.declared.info.PlaneInfo.{PlaneInfo}
 use Rattle.desk_data.specs.Situation.{plane_at}
-use Rattle.near_moves.specs.Places.{family_of}
+use Rattle.near_moves.specs.MoveParts.{family_of}
 use Rattle.near_moves.specs.Units.{swapped}
 use Rattle.near_moves.specs.LegMoves.{later_of_family}
 use Rattle.near_legs.specs.declared.unit.LegUnit.TheVariants as units

@@ -4,7 +4,7 @@ use Rattle.std.proofs.lemmas.Bool.{eq-eqb}
 use Rattle.desk_units.specs.declared.numbers.Leg.{Leg}
 use Rattle.desk_data.specs.declared.info.LegInfo.{LegInfo}
 use Rattle.desk_data.specs.Situation.{leg_at}
-use Rattle.near_moves.specs.Places.{is_run}
+use Rattle.near_moves.specs.MoveParts.{is_run}
 use Rattle.near_legs.proofs.RunLaws.{run-enough, comes_round-at, no_round, apart_test, none_test}
 use Rattle.near_legs.proofs.runs.comes_round.Goals as goal
 

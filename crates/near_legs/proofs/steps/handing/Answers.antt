@@ -3,7 +3,7 @@ use Rattle.std.specs.Prelude.{Some, None}
 use Rattle.desk_units.specs.declared.numbers.Leg.{Leg}
 use Rattle.plan_moves.specs.declared.moves.Step.{Step}
 use Rattle.plan_moves.specs.declared.moves.Step.TheVariants.{Push, Tidy}
-use Rattle.near_moves.specs.Places.{flier}
+use Rattle.near_moves.specs.MoveParts.{flier}
 use Rattle.near_legs.specs.Choices.{run_step}
 use Rattle.near_legs.proofs.ChoiceLaws.{handing-is}
 use Rattle.near_legs.proofs.steps.handing.Goals as goal

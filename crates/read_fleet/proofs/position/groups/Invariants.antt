@@ -5,7 +5,7 @@ use Rattle.file_rows.specs.Facts.{IsGroup}
 use Rattle.read_fleet.proofs.GroupLemmas.{behind}
 use Rattle.read_fleet.proofs.position.groups.Given as goal
 
--- the groups so far, and those of the fields that are left behind them, are the groups of all
+-- the groups so far, and those of the fields that are left after them, are the groups of all
 abbrev pub invariant-loop-groups : goal.invariant-loop-groups
 invariant-loop-groups l = record {
   read : behind l.groups.items (groups_of l.fields) ≡ groups_of l.fn.fields;

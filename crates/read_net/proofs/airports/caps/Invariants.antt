@@ -5,7 +5,7 @@ use Rattle.file_rows.specs.Facts.{IsCap}
 use Rattle.read_net.proofs.CapLemmas.{behind}
 use Rattle.read_net.proofs.airports.caps.Given as goal
 
--- the caps so far, and those of the fields that are left behind them, are the caps of all
+-- the caps so far, and those of the fields that are left after them, are the caps of all
 abbrev pub invariant-loop-caps : goal.invariant-loop-caps
 invariant-loop-caps l = record {
   read : behind l.caps.items (caps_of l.fields) ≡ caps_of l.fn.fields;

@@ -5,7 +5,7 @@ use Rattle.file_rows.specs.Facts.{IsLeg}
 use Rattle.read_pax.proofs.LegLemmas.{behind}
 use Rattle.read_pax.proofs.itineraries.legs.Given as goal
 
--- the legs so far, and those of the fields that are left behind them, are the legs of all
+-- the legs so far, and those of the fields that are left after them, are the legs of all
 abbrev pub invariant-loop-legs : goal.invariant-loop-legs
 invariant-loop-legs l = record {
   read : behind l.legs.items (legs_of l.fields) ≡ legs_of l.fn.fields;

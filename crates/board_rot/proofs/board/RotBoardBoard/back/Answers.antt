@@ -1,6 +1,6 @@
 use Rattle.std.proofs.Common.{◌≡◌, ◌∙◌, ap, sym, subst, length, List, ℕ, ◌++◌, [], ◌∷◌}
 use Rattle.std.proofs.lemmas.List.{length-take-le}
-use Rattle.board_rot.specs.Sheets.{Edited}
+use Rattle.board_rot.specs.Summaries.{Edited}
 use Rattle.board_rot.specs.Boards.{AreSavepoints}
 use Rattle.board_rot.proofs.BoardLaws.{board_less, savepoint_within, savepoints_less}
 use Rattle.board_rot.proofs.board.RotBoardBoard.back.Goals as goal

@@ -4,7 +4,7 @@ use Rattle.desk_data.specs.declared.broken.Broken.{Broken}
 use Rattle.std.specs.Prelude.{if◌then◌else◌}
 use Rattle.kept_set.specs.Kept.{AreSet}
 use Rattle.board_rot.specs.declared.edit.Edit.TheVariants.{OfItem}
-use Rattle.board_rot.specs.Sheets.{LedTo, same_item, with_edit}
+use Rattle.board_rot.specs.Summaries.{LedTo, same_item, with_edit}
 use Rattle.board_rot.specs.Kept.{Lists, seen, has_item}
 use Rattle.board_rot.proofs.TestLaws.{has_is, same_set, set_test, turned_set, same_bool, other_bool}
 use Rattle.board_rot.proofs.ItemLaws.{items_same}

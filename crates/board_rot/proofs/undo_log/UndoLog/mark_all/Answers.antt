@@ -10,6 +10,6 @@ returns-in_err-mark-clause-led c = led_both (seen c.args.self.now) (seen c.loop-
 pub loop-item-preserved : goal.loop-item-preserved
 loop-item-preserved c = (
   led_both (seen c.args.self.now) (seen c.loop-item.self) (seen c.mark.new.self) c.loop-item.invariant.0 c.mark.ensures.led,
-  c.mark.ensures.turns ∙ c.loop-item.invariant.1,
-  marked_more c.args.marks.now c.loop-item.item-index (seen c.args.self.now).sheet.broken (seen c.loop-item.self).sheet.broken (seen c.mark.new.self).sheet.broken c.loop-item-test.true c.loop-item.invariant.2 c.in_ok-mark.ensures.broken,
+  c.mark.ensures.rotation_legs ∙ c.loop-item.invariant.1,
+  marked_more c.args.marks.now c.loop-item.item-index (seen c.args.self.now).summary.broken (seen c.loop-item.self).summary.broken (seen c.mark.new.self).summary.broken c.loop-item-test.true c.loop-item.invariant.2 c.in_ok-mark.ensures.broken,
 )

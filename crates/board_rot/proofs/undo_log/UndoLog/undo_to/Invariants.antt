@@ -1,5 +1,5 @@
 use Rattle.std.proofs.Common.{◌≡◌, ◌+◌, length}
-use Rattle.board_rot.specs.Sheets.{back_to}
+use Rattle.board_rot.specs.Summaries.{back_to}
 use Rattle.board_rot.specs.Kept.{seen}
 use Rattle.board_rot.proofs.undo_log.UndoLog.undo_to.Given as goal
 

@@ -7,6 +7,6 @@ use Rattle.board_seats.proofs.board.SeatBoardBoard.forget.Goals as goal
 pub returns : goal.returns
 returns c I P Ps is =
     let none : reverse c.clear.new.self.items ≡ [] = ap reverse c.clear.ensures.items in
-    subst (λ (ns : List ℕ). IsBoardOf I P [] (record { lists = c.forget.new.self; past = ns })) (sym none)
-    (subst (λ (l : Lists). IsBoardOf I P [] (record { lists = l; past = [] })) (sym c.forget.ensures)
-    (forgotten I P Ps c.self.inside.log (reverse c.self.inside.past.items) (subst (IsBoardOf I P Ps) (sym c.self.view_is) is)))
+    subst (λ (ns : List ℕ). IsBoardOf I P [] (record { lists = c.forget.new.self; savepoints = ns })) (sym none)
+    (subst (λ (l : Lists). IsBoardOf I P [] (record { lists = l; savepoints = [] })) (sym c.forget.ensures)
+    (forgotten I P Ps c.self.inside.log (reverse c.self.inside.savepoints.items) (subst (IsBoardOf I P Ps) (sym c.self.view_is) is)))

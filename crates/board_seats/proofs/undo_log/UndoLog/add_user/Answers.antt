@@ -3,7 +3,7 @@ use Rattle.desk_data.specs.declared.broken.Broken.{Broken}
 use Rattle.leg_users.specs.Users.{has_user}
 use Rattle.board_seats.specs.declared.edit.Edit.{Edit}
 use Rattle.board_seats.specs.declared.edit.Edit.TheVariants.{OfUser}
-use Rattle.board_seats.specs.Sheets.{LedTo}
+use Rattle.board_seats.specs.Summaries.{LedTo}
 use Rattle.board_seats.specs.Kept.{Lists, seen}
 use Rattle.board_seats.proofs.LogLaws.{user_led}
 use Rattle.board_seats.proofs.UserLaws.{is_not, popped, user_kept}

@@ -1,7 +1,7 @@
 use Rattle.std.proofs.Common.{◌≡◌, ap, subst, ◌∙◌, List}
 use Rattle.desk_data.specs.declared.broken.Broken.{Broken}
 use Rattle.kept_set.specs.Kept.{AreSet}
-use Rattle.board_seats.specs.Sheets.{LedTo, marked_at}
+use Rattle.board_seats.specs.Summaries.{LedTo, marked_at}
 use Rattle.board_seats.specs.Kept.{Lists, seen, has_item}
 use Rattle.board_seats.proofs.TestLaws.{has_is, marked_set, marked_same, turned_mark, same_bool, other_bool}
 use Rattle.board_seats.proofs.LogLaws.{item_led}

@@ -16,5 +16,5 @@ loop-item-preserved c = record {
   taken = c.mark.ensures.taken ∙ c.loop-item.invariant.taken;
   faults = c.mark.ensures.faults ∙ c.loop-item.invariant.faults;
   users = c.mark.ensures.users ∙ c.loop-item.invariant.users;
-  broken = marked_more c.args.marks.now c.loop-item.item-index (seen c.args.self.now).sheet.broken (seen c.loop-item.self).sheet.broken (seen c.mark.new.self).sheet.broken c.loop-item-test.true c.loop-item.invariant.broken c.in_ok-mark.ensures.broken;
+  broken = marked_more c.args.marks.now c.loop-item.item-index (seen c.args.self.now).summary.broken (seen c.loop-item.self).summary.broken (seen c.mark.new.self).summary.broken c.loop-item-test.true c.loop-item.invariant.broken c.in_ok-mark.ensures.broken;
 }

@@ -1,5 +1,5 @@
 use Rattle.std.proofs.Common.{◌≡◌, take}
-use Rattle.board_seats.specs.Sheets.{LedTo, marked}
+use Rattle.board_seats.specs.Summaries.{LedTo, marked}
 use Rattle.board_seats.specs.Kept.{seen}
 use Rattle.board_seats.proofs.undo_log.UndoLog.mark_all.Given as goal
 
@@ -9,5 +9,5 @@ invariant-loop-item l = record {
   taken : l.self.taken ≡ l.fn.self.taken;
   faults : l.self.faults ≡ l.fn.self.faults;
   users : l.self.users ≡ l.fn.self.users;
-  broken : (seen l.self).sheet.broken ≡ marked (take l.item-index l.marks) (seen l.fn.self).sheet.broken;
+  broken : (seen l.self).summary.broken ≡ marked (take l.item-index l.marks) (seen l.fn.self).summary.broken;
 }

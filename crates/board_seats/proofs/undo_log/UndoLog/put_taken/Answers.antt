@@ -1,7 +1,7 @@
 use Rattle.std.proofs.Common.{◌<◌, ap, sym, subst, ◌∙◌, arith, length, get_or, set, List}
 use Rattle.std.proofs.lemmas.List.{get_or_default}
 use Rattle.desk_data.specs.declared.broken.Broken.{Broken}
-use Rattle.board_seats.specs.Sheets.{LedTo, with_at}
+use Rattle.board_seats.specs.Summaries.{LedTo, with_at}
 use Rattle.board_seats.specs.Kept.{Lists, no_seats, seen}
 use Rattle.board_seats.proofs.TestLaws.{set_at}
 use Rattle.board_seats.proofs.LogLaws.{taken_led}

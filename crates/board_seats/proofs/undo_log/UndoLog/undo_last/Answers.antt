@@ -1,7 +1,7 @@
 use Rattle.std.proofs.Common.{◌≡◌, ◌-◌, ap, ◌∙◌, arith, length, [], ◌∷◌, ◌++◌}
 use Rattle.board_seats.specs.declared.edit.Edit.{Edit}
 use Rattle.board_seats.specs.declared.edit.Edit.TheVariants.{OfSeats, OfFaults}
-use Rattle.board_seats.specs.Sheets.{back_to}
+use Rattle.board_seats.specs.Summaries.{back_to}
 use Rattle.board_seats.specs.Kept.{Lists, seen}
 use Rattle.board_seats.proofs.LogLaws.{last_place, taken_undone, faults_undone}
 use Rattle.board_seats.proofs.undo_log.UndoLog.undo_last.Goals as goal

@@ -1,6 +1,6 @@
 use Rattle.std.proofs.Common.{◌≡◌, ◌-◌, ◌<◌, ◌≤◌, ap, sym, ◌∙◌, arith, length}
 use Rattle.std.proofs.lemmas.List.{length-take-le}
-use Rattle.board_seats.specs.Sheets.{Edited, back_to}
+use Rattle.board_seats.specs.Summaries.{Edited, back_to}
 use Rattle.board_seats.specs.Kept.{Lists, seen}
 use Rattle.board_seats.proofs.EditLaws.{back_twice, back_none}
 use Rattle.board_seats.proofs.undo_log.UndoLog.undo_to.Goals as goal

@@ -1,5 +1,5 @@
 use Rattle.std.proofs.Common.{◌≡◌, ◌+◌, length}
-use Rattle.board_seats.specs.Sheets.{back_to}
+use Rattle.board_seats.specs.Summaries.{back_to}
 use Rattle.board_seats.specs.Kept.{seen}
 use Rattle.board_seats.proofs.undo_log.UndoLog.undo_to.Given as goal
 

@@ -1,7 +1,7 @@
 use Rattle.std.proofs.Common.{sym, subst}
 use Rattle.std.specs.Prelude.{Result, Ok, Err, IfOk}
 use Rattle.board_rot.specs.Boards.{IsBoardOf as IsRotBoardOf}
-use Rattle.desk_eval.proofs.TurnLaws.{numbers_are, legs_within}
+use Rattle.desk_eval.proofs.RotationLegLaws.{numbers_are, legs_within}
 use Rattle.desk_eval.proofs.boards.Boards.rotation.Goals as goal
 
 if_ok : {X E : Type 0} (r : Result X E) (A B : X → Type 0) → ((x : X) → A x → B x) → IfOk r A → IfOk r B

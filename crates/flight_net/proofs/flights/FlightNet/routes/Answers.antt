@@ -24,8 +24,8 @@ returns c =
     let alone = others I P r (start ∷ []) in
     let empty : c.new-routes.result.items ≡ [] = c.new-routes.ensures.items in
     let one : c.take_scheduled.new.routes.items ≡ first = c.in_ok-take_scheduled.ensures ∙ ap (λ (paths : List (List (Leg × Cabin))). paths ++ first) empty in
-    let two = c.in_ok-take_behind.ensures ∙ ap (λ (path : List (Leg × Cabin)). c.take_scheduled.new.routes.items ++ others I P r (path ∷ [])) (append-nil start) in
-    three_taken first c.take_behind.new.routes.items c.take_singles.new.routes.items c.take_doubles.new.routes.items alone (others I P r singles) (others I P r doubles)
+    let two = c.in_ok-take_after.ensures ∙ ap (λ (path : List (Leg × Cabin)). c.take_scheduled.new.routes.items ++ others I P r (path ∷ [])) (append-nil start) in
+    three_taken first c.take_after.new.routes.items c.take_singles.new.routes.items c.take_doubles.new.routes.items alone (others I P r singles) (others I P r doubles)
     (two ∙ ap (λ (paths : List (List (Leg × Cabin))). paths ++ alone) one)
     c.in_ok-take_singles.ensures c.in_ok-take_doubles.ensures
     ∙ ap (λ (paths : List (List (Leg × Cabin))). first ++ (alone ++ paths)) (sym (filter-append (is_other_route I P r) singles doubles))

@@ -9,10 +9,10 @@ use Rattle.desk_rules.specs.Numbers.{numbers}
 use Rattle.near_moves.specs.Routes.{stem}
 use Rattle.flight_net.specs.declared.sought.Sought.{Sought}
 use Rattle.flight_net.specs.Sought.{is_sought}
-use Rattle.flight_net.specs.Start.{place_behind, ready_behind}
+use Rattle.flight_net.specs.Start.{place_after, ready_after}
 use Rattle.flight_net.specs.Tried.{others, doubles_of}
 use Rattle.flight_net.proofs.TriedLaws.{doubles-picked}
-use Rattle.flight_net.proofs.StartLaws.{SeeksBehind, first-sought}
+use Rattle.flight_net.proofs.StartLaws.{SeeksAfter, first-sought}
 use Rattle.flight_net.proofs.flights.FlightNet.take_doubles.Goals as goal
 
 pub returns : goal.returns
@@ -22,11 +22,11 @@ returns c =
     let r = c.args.res.0 in
     let none = c.args.routes.now.items in
     let items = c.deref-leg-items.result.now in
-    let sought : Sought = record { from = c.start_behind-earliest.result.0; to = None; earliest = c.start_behind-earliest.result.1; until = c.due_before.result } in
+    let sought : Sought = record { from = c.start_after-earliest.result.0; to = None; earliest = c.start_after-earliest.result.1; until = c.due_before.result } in
     let start = c.stem.ensures.stem in
-    let seeks : SeeksBehind I P r (stem I r) sought = record {
-      from = c.start_behind-earliest.ensures.place ∙ ap (λ (path : List (Leg × Cabin)). place_behind I r path) start;
-      earliest = c.start_behind-earliest.ensures.ready ∙ ap (λ (path : List (Leg × Cabin)). ready_behind I P r path) start;
+    let seeks : SeeksAfter I P r (stem I r) sought = record {
+      from = c.start_after-earliest.ensures.place ∙ ap (λ (path : List (Leg × Cabin)). place_after I r path) start;
+      earliest = c.start_after-earliest.ensures.ready ∙ ap (λ (path : List (Leg × Cabin)). ready_after I P r path) start;
       until = c.due_before.ensures;
     } in
     let f : ℕ → List (List (Leg × Cabin)) = λ x. others I P r (doubles_of I r x (numbers (legs_of I))) in

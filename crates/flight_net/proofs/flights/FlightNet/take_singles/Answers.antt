@@ -7,10 +7,10 @@ use Rattle.desk_units.specs.declared.numbers.Cabin.{Cabin}
 use Rattle.near_moves.specs.Routes.{stem}
 use Rattle.flight_net.specs.declared.sought.Sought.{Sought}
 use Rattle.flight_net.specs.Sought.{is_sought}
-use Rattle.flight_net.specs.Start.{place_behind, ready_behind}
+use Rattle.flight_net.specs.Start.{place_after, ready_after}
 use Rattle.flight_net.specs.Tried.{others, singles_of}
 use Rattle.flight_net.proofs.TriedLaws.{singles-picked}
-use Rattle.flight_net.proofs.StartLaws.{SeeksBehind, single-sought}
+use Rattle.flight_net.proofs.StartLaws.{SeeksAfter, single-sought}
 use Rattle.flight_net.proofs.flights.FlightNet.take_singles.Goals as goal
 
 pub returns : goal.returns
@@ -21,11 +21,11 @@ returns c =
     let none = c.args.routes.now.items in
     let items = c.deref-leg-items.result.now in
     let dest = c.booked.result.now.dest in
-    let sought : Sought = record { from = c.start_behind-earliest.result.0; to = Some dest; earliest = c.start_behind-earliest.result.1; until = c.due_before.result } in
+    let sought : Sought = record { from = c.start_after-earliest.result.0; to = Some dest; earliest = c.start_after-earliest.result.1; until = c.due_before.result } in
     let start = c.stem.ensures.stem in
-    let seeks : SeeksBehind I P r (stem I r) sought = record {
-      from = c.start_behind-earliest.ensures.place ∙ ap (λ (path : List (Leg × Cabin)). place_behind I r path) start;
-      earliest = c.start_behind-earliest.ensures.ready ∙ ap (λ (path : List (Leg × Cabin)). ready_behind I P r path) start;
+    let seeks : SeeksAfter I P r (stem I r) sought = record {
+      from = c.start_after-earliest.ensures.place ∙ ap (λ (path : List (Leg × Cabin)). place_after I r path) start;
+      earliest = c.start_after-earliest.ensures.ready ∙ ap (λ (path : List (Leg × Cabin)). ready_after I P r path) start;
       until = c.due_before.ensures;
     } in
     let f : ℕ → List (List (Leg × Cabin)) = λ x. others I P r (singles_of I r x) in

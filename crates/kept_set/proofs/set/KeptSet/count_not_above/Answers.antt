@@ -1,6 +1,6 @@
 use Rattle.std.proofs.Common.{subst, ap}
 use Rattle.kept_set.specs.Kept.{AreRising}
-use Rattle.kept_set.proofs.NeighbourLaws.{found_behind, found_not_above}
+use Rattle.kept_set.proofs.NeighbourLaws.{found_after, found_not_above}
 use Rattle.kept_set.proofs.set.KeptSet.count_not_above.Goals as goal
 
 pub returns-in-Ok-clause-before : goal.returns-in-Ok-clause-before
@@ -10,5 +10,5 @@ returns-in-Ok-clause-before g c =
 
 pub returns-in-Ok-clause-rest : goal.returns-in-Ok-clause-rest
 returns-in-Ok-clause-rest g c =
-    found_behind g.met.K.Ord.total c.args.self.now.items c.in-Ok.at c.args.item (subst (AreRising g.K.Ord.cmp) (ap (λ k. k.items) c.self.view_is) c.self.invariant)
+    found_after g.met.K.Ord.total c.args.self.now.items c.in-Ok.at c.args.item (subst (AreRising g.K.Ord.cmp) (ap (λ k. k.items) c.self.view_is) c.self.invariant)
     c.in-Ok.ensures.found

@@ -1,32 +1,13 @@
-use Rattle.std.proofs.Common.{Ok, Err, not, refl, ap, sym, subst, ◌∙◌, List}
-use Rattle.std.specs.Prelude.{Result, OnErr, true}
-use Rattle.desk_units.specs.declared.numbers.Res.{Res}
-use Rattle.kept_set.specs.Kept.{AreSet}
+use Rattle.std.proofs.Common.{not, ap, sym, ◌∙◌}
 use Rattle.leg_users.specs.Users.{has_user}
-use Rattle.leg_users.proofs.UserLaws.{res_exact, kept_told, kept_more, kept_same, user_known}
+use Rattle.leg_users.proofs.UserLaws.{res_exact, kept_reported, user_known}
 use Rattle.leg_users.proofs.users.LegUsers.add.Goals as goal
-
-on_err : {X E : Type 0} (r : Result X E) (T : Type 0) → T → OnErr r T
-on_err (Ok x) T is = tt
-on_err (Err e) T is = is
 
 pub returns-then-has-clause-ok : goal.returns-then-has-clause-ok
 returns-then-has-clause-ok c =
-    let ls = c.self.inside.legs.items in
-    let kept = c.index_mut-kept.result.now in
-    ap has_user (kept_same ls c.args.self.now c.args.leg.0 kept kept c.self.view_is c.index_mut-kept.ensures.value refl)
-    ∙ user_known (has_user c.args.self.now) c.args.leg.0 c.args.res.0
-    (kept_told ls c.args.self.now c.args.leg.0 kept c.args.res c.has.result c.self.view_is c.requires c.index_mut-kept.ensures.value (c.has.ensures res_exact) ∙ c.if-has.true)
-
-pub returns-in_err-reserve-clause-err : goal.returns-in_err-reserve-clause-err
-returns-in_err-reserve-clause-err c = on_err c.from_residual.result _
-    (kept_same c.self.inside.legs.items c.args.self.now c.args.leg.0 c.index_mut-kept.result.now c.reserve.new.self c.self.view_is c.index_mut-kept.ensures.value c.in_err-reserve.ensures.items)
-
-pub returns-clause-ok : goal.returns-clause-ok
-returns-clause-ok c =
-    kept_more c.self.inside.legs.items c.args.self.now c.args.leg.0 c.index_mut-kept.result.now c.put.new.self c.args.res c.self.view_is c.requires c.index_mut-kept.ensures.value
-    (subst (λ (xs : List Res). AreSet xs c.put.new.self.items c.args.res true) c.in_ok-reserve.ensures.items (c.put.ensures.set res_exact))
+    user_known (has_user c.args.self.now) c.args.leg.0 c.args.res.0
+    (kept_reported c.self.inside.legs.items c.args.self.now c.args.leg.0 c.index.result.now c.args.res c.has.result c.self.view_is c.requires c.index.ensures (c.has.ensures res_exact) ∙ c.if-has.true)
 
 pub returns-clause-added : goal.returns-clause-added
 returns-clause-added c =
-    sym (ap not (kept_told c.self.inside.legs.items c.args.self.now c.args.leg.0 c.index_mut-kept.result.now c.args.res c.has.result c.self.view_is c.requires c.index_mut-kept.ensures.value (c.has.ensures res_exact) ∙ c.if-has.false))
+    sym (ap not (kept_reported c.self.inside.legs.items c.args.self.now c.args.leg.0 c.index.result.now c.args.res c.has.result c.self.view_is c.requires c.index.ensures (c.has.ensures res_exact) ∙ c.if-has.false))

@@ -8,8 +8,8 @@ use Rattle.desk_model.specs.Push.{rotation}
 use Rattle.plan_push.proofs.SortedLaws.{leg_of, flown-within, rotation-within}
 use Rattle.plan_push.proofs.flown.FlownLegs.rotation.Goals as goal
 
-pub sorted_turns-requires : goal.sorted_turns-requires
-sorted_turns-requires g c =
+pub sorted_rotation_legs-requires : goal.sorted_rotation_legs-requires
+sorted_rotation_legs-requires g c =
     let I = c.args.inst.now in
     let P = g.P.ReadPlan.plan_of c.args.plan.now in
     let legs = c.legs-2.result.now in
@@ -23,6 +23,6 @@ returns-clause-within g c =
     let P = g.P.ReadPlan.plan_of c.args.plan.now in
     let p = c.args.plane.0 in
     let are = ap (map (λ (leg : Leg). leg.0)) c.legs-2.ensures ∙ c.requires.flown.each p c.requires.plane in
-    let order : map leg_of c.as_slice.result.now ≡ rotation I P p = ap (map leg_of) c.as_slice.ensures.value ∙ c.in_ok-turns.ensures.order I p are in
+    let order : map leg_of c.as_slice.result.now ≡ rotation I P p = ap (map leg_of) c.as_slice.ensures.value ∙ c.in_ok-rotation_legs.ensures.order I p are in
     IfOk-weaker c.legs_of.result (λ legs. map (λ (leg : Leg). leg.0) legs.items ≡ map leg_of c.as_slice.result.now) (λ legs. All (λ (leg : Leg). leg.0 < legs_of I) legs.items)
     (λ legs same. rotation-within I P p legs.items (same ∙ order)) c.legs_of.ensures

@@ -1,0 +1,120 @@
+#!/usr/bin/env python3
+"""Recovers days that are made up with workers, and replays each journal that was written.
+
+Usage: bench/workers.py [--workers 1,2,7,64] [--sizes 1,2] [--seeds 3] [--rounds 1] [--moves N]
+
+Each day is recovered with each number of workers, in turn and live, as often as --rounds says; which entries a run has depends on the
+threads. Its journal is replayed, and has to give the same status, the same files, and the same report but for the line that begins with
+`ended`. The batches of the journal have to be those of the day, in their order and from caller 0, and each move has to come from
+a worker that there is. A run with one worker, in turn, has to give what the desk gives alone, but for the callers. Build the desk first:
+it is crates/desk/out/desk.
+
+Prints a line a day; the status is 1 where a run gave something else.
+"""
+import argparse
+import os
+import sys
+import tempfile
+
+from recover import PROGRAM, WRITTEN, make_day, timed
+
+FILES = ("sol_rotations.csv", "sol_itineraries.csv", "journal.csv")
+
+
+def read(path):
+    """The bytes of a file; none where it isn't there."""
+    if not os.path.exists(path):
+        return b""
+    with open(path, "rb") as file:
+        return file.read()
+
+
+def run(words, out):
+    """What the desk gives: its status, its report, its files and its seconds of the processor."""
+    status, report, took = timed(PROGRAM + words)
+    return status, report, [read(os.path.join(out, name)) for name in FILES], took
+
+
+def without_end(report):
+    return b"".join(line for line in report.splitlines(True) if not line.startswith(b"ended "))
+
+
+def replayed(day, journal):
+    """What the desk gives for a journal on a day."""
+    with tempfile.TemporaryDirectory() as room:
+        given = os.path.join(room, "in")
+        os.mkdir(given)
+        for name in os.listdir(day):
+            os.symlink(os.path.join(os.path.abspath(day), name), os.path.join(given, name))
+        path = os.path.join(given, "journal.csv")
+        if os.path.lexists(path):
+            os.remove(path)
+        with open(path, "wb") as file:
+            file.write(journal)
+        out = os.path.join(room, "out")
+        os.mkdir(out)
+        return run(["replay", given, out], out)
+
+
+def faults_of_journal(journal, workers):
+    """What is wrong with the callers and the batches of a journal."""
+    batches = 0
+    for line in journal.decode().splitlines():
+        caller, kind, detail = line.split(",")[:3]
+        if kind == "batch":
+            if int(caller) != 0 or int(detail) != batches:
+                yield "batch %s of caller %s where batch %d is next" % (detail, caller, batches)
+            batches += 1
+        elif not 1 <= int(caller) <= workers:
+            yield "a move of caller %s" % caller
+
+
+def faults_of_run(day, workers, live, moves, alone):
+    """What is wrong with one run, and its seconds."""
+    with tempfile.TemporaryDirectory() as out:
+        words = ["recover", day, out, "--workers", str(workers)] + (["--live"] if live else []) + moves
+        status, report, files, took = run(words, out)
+    faults = list(faults_of_journal(files[2], workers))
+    other = replayed(day, files[2])
+    if (status, without_end(report), files) != (other[0], other[1], other[2]):
+        faults.append("its journal replays to something else")
+    if workers == 1 and not live:
+        as_desk = b"".join(b"0," + line.partition(b",")[2] for line in files[2].splitlines(True))
+        if (status, report, files[:2], as_desk) != (alone[0], alone[1], alone[2][:2], alone[2][2]):
+            faults.append("one worker gives something else than the desk alone")
+    return faults, took
+
+
+def main():
+    words = argparse.ArgumentParser(description=__doc__.split("\n")[0])
+    words.add_argument("--workers", default="1,2,7,64")
+    words.add_argument("--sizes", default="1,2")
+    words.add_argument("--seeds", type=int, default=3)
+    words.add_argument("--rounds", type=int, default=1)
+    words.add_argument("--moves", type=int)
+    asked = words.parse_args()
+    assert set(FILES) == set(WRITTEN)
+    moves = ["--moves", str(asked.moves)] if asked.moves else []
+    wrong = 0
+    with tempfile.TemporaryDirectory() as room:
+        for size in map(int, asked.sizes.split(",")):
+            for seed in range(1, asked.seeds + 1):
+                day = make_day(room, seed, size)
+                with tempfile.TemporaryDirectory() as out:
+                    alone = run(["recover", day, out] + moves, out)
+                told = []
+                for workers in map(int, asked.workers.split(",")):
+                    for live in (False, True):
+                        for _ in range(asked.rounds):
+                            faults, took = faults_of_run(day, workers, live, moves, alone)
+                            told.append("%d%s %.2f" % (workers, " live" if live else "", took))
+                            for fault in faults:
+                                wrong += 1
+                                print("size %d seed %d, %d workers%s: %s" % (size, seed, workers, ", live" if live else "", fault))
+                print("size %d seed %d: alone %.2f s; %s" % (size, seed, alone[3], ", ".join(told)), flush=True)
+    print("%d faults" % wrong)
+    return 1 if wrong else 0
+
+
+if __name__ == "__main__":
+    sys.exit(main())

@@ -1,5 +1,0 @@
-use Rattle.desk_core.proofs.TurnedLaws.{told_of}
-use Rattle.desk_core.proofs.turned.a_pass_is_told_the_answer_at_the_history_of_its_turn.Goals as goal
-
-pub returns : goal.returns
-returns c = λ I v w caller e told called. told_of I v caller e told w called

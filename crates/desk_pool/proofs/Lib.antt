@@ -1,0 +1,9 @@
+pub mod Following
+pub mod Reporting
+pub mod Noting
+pub mod Proposing
+pub mod Rounding
+pub mod Voting
+pub mod Lapping
+pub mod Gaining
+pub mod Opening

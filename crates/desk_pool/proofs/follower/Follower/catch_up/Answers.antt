@@ -1,0 +1,42 @@
+use Rattle.std.proofs.Common.{◌∙◌, arith}
+use Rattle.std.proofs.lemmas.Option.{slice_get_within}
+use Rattle.turn_book.specs.Passes.{first_book, seen}
+use Rattle.desk_core.proofs.TurnedLaws.{desk_legal}
+use Rattle.desk_pool.proofs.Following.{entry_after, asked_at, reported_at, next_stands, changes_within, accepted_within}
+use Rattle.desk_pool.proofs.follower.Follower.catch_up.Goals as goal
+
+pub follow-requires-clause-asked : goal.follow-requires-clause-asked
+follow-requires-clause-asked g c =
+    let h = seen c.look.new.pass in
+    let I = (first_book c.args.turn.now).opening in
+    let at = entry_after h c.as_slice-entry-items.result.now c.args.self.now.followed c.loop-entry.entry-index c.loop-entry.self.followed c.entry-item.result (c.as_slice-entry-items.ensures.value ∙ c.in_ok-items.ensures.items) c.loop-entry-test.true c.entry-item.is c.loop-entry.invariant.followed in
+    asked_at I c.loop-entry.self h c.entry-item.result c.loop-entry.invariant.stands (desk_legal I h c.look.ensures.legal) at
+
+pub follow-requires-clause-answered : goal.follow-requires-clause-answered
+follow-requires-clause-answered g c =
+    let h = seen c.look.new.pass in
+    let I = (first_book c.args.turn.now).opening in
+    let at = entry_after h c.as_slice-entry-items.result.now c.args.self.now.followed c.loop-entry.entry-index c.loop-entry.self.followed c.entry-item.result (c.as_slice-entry-items.ensures.value ∙ c.in_ok-items.ensures.items) c.loop-entry-test.true c.entry-item.is c.loop-entry.invariant.followed in
+    reported_at I c.loop-entry.self h c.entry-item.result c.loop-entry.invariant.stands (desk_legal I h c.look.ensures.legal) at
+
+pub follow-requires-clause-few : goal.follow-requires-clause-few
+follow-requires-clause-few g c =
+    let h = seen c.look.new.pass in
+    let I = (first_book c.args.turn.now).opening in
+    let at = entry_after h c.as_slice-entry-items.result.now c.args.self.now.followed c.loop-entry.entry-index c.loop-entry.self.followed c.entry-item.result (c.as_slice-entry-items.ensures.value ∙ c.in_ok-items.ensures.items) c.loop-entry-test.true c.entry-item.is c.loop-entry.invariant.followed in
+    let lt = slice_get_within h c.loop-entry.self.followed c.entry-item.result at in
+    let long = c.seen-seen.ensures in
+    (omega (arith, lt, long), changes_within c.loop-entry.self I h c.loop-entry.invariant.stands, accepted_within c.loop-entry.self I h c.loop-entry.invariant.stands)
+
+pub loop-entry-preserved : goal.loop-entry-preserved
+loop-entry-preserved g c =
+    let h = seen c.look.new.pass in
+    let I = (first_book c.args.turn.now).opening in
+    let at = entry_after h c.as_slice-entry-items.result.now c.args.self.now.followed c.loop-entry.entry-index c.loop-entry.self.followed c.entry-item.result (c.as_slice-entry-items.ensures.value ∙ c.in_ok-items.ensures.items) c.loop-entry-test.true c.entry-item.is c.loop-entry.invariant.followed in
+    let behind = c.in_ok-follow.ensures.ok in
+    let on = c.loop-entry.invariant.followed in
+    let one = behind.followed in
+    record {
+      followed = omega (arith, one, on);
+      stands = next_stands I c.loop-entry.self c.follow.new.self h c.entry-item.result c.loop-entry.invariant.stands at behind;
+    }

@@ -1,0 +1,93 @@
+//! Batches that the desk has taken.
+
+ghost use Rattle.std.specs.Prelude.{◌≡◌, All, IfOk};
+ghost use mathlib.Core.List.{IsPrefix};
+ghost use Rattle.desk_data.specs.Valid.{IsBatch};
+ghost use Rattle.turn_book.specs.Passes.{known, seen, tags, IsPassOf};
+ghost use Rattle.desk_core.specs.Turned.{opening_of};
+ghost use Rattle.desk_core.specs.Turned.{is_full};
+ghost use Rattle.desk_pool.specs.Workers.{day_of};
+ghost use Rattle.desk_search.specs.Brought.{HasBrought, HasBroughtAll};
+
+use desk_core::{Answer, Book, Event};
+use desk_data::{Batch, NoMem};
+use desk_folder::Gate;
+use std::alloc::Global;
+use std::sync::Wait;
+use turn_book::{Pass, Turn};
+
+/// What became of a batch.
+#[derive(Clone, Copy, Debug, PartialEq, Eq)]
+pub enum Brought {
+    /// It has an entry.
+    Taken,
+    /// The journal takes no batch more.
+    Full,
+}
+
+// Whether an answer is that there is no room.
+fn is_full(reply: &Answer) -> bool
+    ensures { result ≡ is_full reply.now }
+{
+    match reply {
+        Answer::Full { entries: _ } => true,
+        _ => false,
+    }
+}
+
+/// Has a batch taken, as caller 0. The only error is out of memory, and then the batch has no entry.
+pub(crate) fn bring<R: Wait>(
+    rt: &R,
+    alloc: Global,
+    turn: &Turn<Book>,
+    pass: &mut Pass<Book>,
+    batch: &Batch,
+) -> Result<Brought, NoMem>
+    requires of { IsPassOf opening_of turn.now pass.old }
+    requires asked { IsBatch (day_of turn.now).parts batch.now }
+    ensures of { IsPassOf opening_of turn.now pass.new }
+    ensures tags { tags pass.new ≡ tags pass.old }
+    ensures began { IsPrefix (seen pass.old) (seen pass.new) }
+    ensures brought { HasBrought (day_of turn.now) batch.now (known pass.old) (known pass.new) result }
+{
+    let copied = batch.copy(alloc)?;
+    let event = Event::Batch(copied);
+    let reply = turn.call(rt, alloc, pass, 0, &event)?;
+    if is_full(&reply) {
+        Ok(Brought::Full)
+    } else {
+        Ok(Brought::Taken)
+    }
+}
+
+/// Has batches taken one after another, and enters the gate as worker 0 with the number of each, from 1 on, before it. It stops
+/// at the first one that is not taken.
+pub(crate) fn bring_all<R: Wait, G: Gate>(
+    rt: &R,
+    alloc: Global,
+    turn: &Turn<Book>,
+    mut pass: Pass<Book>,
+    gate: &G,
+    batches: &[Batch],
+) -> (Pass<Book>, Result<Brought, NoMem>)
+    requires of { IsPassOf opening_of turn.now pass }
+    requires asked { All (IsBatch (day_of turn.now).parts) batches.now }
+    ensures of { IsPassOf opening_of turn.now result.0 }
+    ensures tags { tags result.0 ≡ tags pass }
+    ensures began { IsPrefix (seen pass) (seen result.0) }
+    ensures brought { IfOk result.1 (HasBroughtAll batches.now (known pass) (known result.0)) }
+{
+    let mut number: u32 = 1;
+    for batch in batches {
+        gate.enter(0, number);
+        number = number.saturating_add(1);
+        let Ok(came) = bring(rt, alloc, turn, &mut pass, batch) else {
+            return (pass, Err(NoMem));
+        };
+        match came {
+            Brought::Taken => {}
+            Brought::Full => return (pass, Ok(Brought::Full)),
+        }
+    }
+    (pass, Ok(Brought::Taken))
+}

@@ -1,0 +1,169 @@
+//! Batches that arrive while the workers make rounds.
+
+ghost use Rattle.std.specs.Prelude.{◌≡◌, ◌<◌, true, [], ◌∷◌, List as Items, length, All, vec_len, IfOk, MatchOption};
+ghost use mathlib.Core.List.{IsPrefix};
+ghost use Rattle.day_orders.specs.declared.orders.Batch.{Batch as Taken};
+ghost use Rattle.desk_data.specs.Valid.{IsBatch};
+ghost use Rattle.turn_book.specs.Passes.{known, seen, made, tags, IsPassOf};
+ghost use Rattle.desk_core.specs.Turned.{opening_of};
+ghost use Rattle.desk_pool.specs.Workers.{day_of, AreAllShards, CanAllSearch};
+ghost use Rattle.desk_pool.specs.Laps.{HasGained, IsReturned};
+ghost use Rattle.desk_pool.specs.Voted.{IsVoteOf};
+ghost use Rattle.desk_search.specs.Brought.{HasBroughtAll};
+ghost use Rattle.desk_search.specs.Running.{LiveSoFar, IsLiveRun, IsTeamRun};
+
+use crate::batches::{Brought, bring, bring_all};
+use crate::searched::Searched;
+use desk_core::Book;
+use desk_data::{Batch, NoMem};
+use desk_folder::Gate;
+use desk_pool::{Vote, Worker, rounds};
+use std::alloc::Global;
+use std::sync::Wait;
+use std::thread::{Threads, join};
+use turn_book::{Pass, Turn};
+
+/// The rounds of workers, with a pass of their own.
+pub(crate) fn own_rounds<R: Threads + Wait + Sync, G: Gate>(
+    rt: &R,
+    alloc: Global,
+    mut workers: Vec<Worker>,
+    turn: &Turn<Book>,
+    mut pass: Pass<Book>,
+    gate: &G,
+    budget: u32,
+) -> (Vec<Worker>, Pass<Book>, Result<Vote, NoMem>)
+    requires some { 0 < vec_len workers }
+    requires shards { AreAllShards workers.items }
+    requires of { IsPassOf opening_of turn.now pass }
+    requires ready { CanAllSearch (day_of turn.now) workers.items (seen pass) }
+    ensures len { vec_len result.0 ≡ vec_len workers }
+    ensures shards { AreAllShards result.0.items }
+    ensures of { IsPassOf opening_of turn.now result.1 }
+    ensures ready { CanAllSearch (day_of turn.now) result.0.items (seen result.1) }
+    ensures returned { IsReturned (known pass) (known result.1) }
+    ensures began { IsPrefix (seen pass) (seen result.1) }
+    ensures gained { HasGained (length (seen pass)) (known pass) (known result.1) workers.items result.0.items }
+    ensures voted { IfOk result.2 (IsVoteOf budget (day_of turn.now) (vec_len workers) (seen result.1)) }
+{
+    let voted = rounds(
+        rt,
+        alloc,
+        workers.as_mut_slice(),
+        turn,
+        &mut pass,
+        gate,
+        budget,
+    );
+    (workers, pass, voted)
+}
+
+/// Has batches taken while the workers make rounds, and goes on with rounds until the workers agree.
+fn beside<R: Threads + Wait + Sync, G: Gate>(
+    rt: &R,
+    alloc: Global,
+    workers: Vec<Worker>,
+    turn: &Turn<Book>,
+    mut pass: Pass<Book>,
+    gate: &G,
+    batches: &[Batch],
+    budget: u32,
+) -> (Pass<Book>, Result<Searched, NoMem>)
+    requires some { 0 < vec_len workers }
+    requires shards { AreAllShards workers.items }
+    requires of { IsPassOf opening_of turn.now pass }
+    requires ready { CanAllSearch (day_of turn.now) workers.items (seen pass) }
+    requires asked { All (IsBatch (day_of turn.now).parts) batches.now }
+    ensures of { IsPassOf opening_of turn.now result.0 }
+    ensures returned { IsReturned (known pass) (known result.0) }
+    ensures run { (done : Items Taken) → LiveSoFar (known pass) workers.items done →
+        IfOk result.1 (IsLiveRun (vec_len workers) budget (day_of turn.now) done batches.now (known result.0)) }
+{
+    let mine = turn.split(&mut pass);
+    let ((mine, brought), (workers, mut pass, searched)) = join(
+        rt,
+        || -> (Pass<Book>, Result<Brought, NoMem>)
+            requires of { IsPassOf opening_of turn.now mine }
+            requires asked { All (IsBatch (day_of turn.now).parts) batches.now }
+            ensures of { IsPassOf opening_of turn.entry.now result.0 }
+            ensures tags { tags result.0 ≡ tags mine }
+            ensures brought { IfOk result.1 (HasBroughtAll batches.entry.now (known mine) (known result.0)) }
+        { bring_all(rt, alloc, turn, mine, gate, batches) },
+        || -> (Vec<Worker>, Pass<Book>, Result<Vote, NoMem>)
+            requires some { 0 < vec_len workers }
+            requires shards { AreAllShards workers.items }
+            requires of { IsPassOf opening_of turn.now pass }
+            requires ready { CanAllSearch (day_of turn.now) workers.items (seen pass) }
+            ensures len { vec_len result.0 ≡ vec_len workers }
+            ensures shards { AreAllShards result.0.items }
+            ensures of { IsPassOf opening_of turn.entry.now result.1 }
+            ensures ready { CanAllSearch (day_of turn.entry.now) result.0.items (seen result.1) }
+            ensures returned { IsReturned (known pass) (known result.1) }
+            ensures gained { HasGained (length (seen pass)) (known pass) (known result.1) workers.items result.0.items }
+        { own_rounds(rt, alloc, workers, turn, pass, gate, budget) },
+    );
+    turn.join(&mut pass, mine);
+    if searched.is_err() {
+        return (pass, Err(NoMem));
+    }
+    let Ok(came) = brought else {
+        return (pass, Err(NoMem));
+    };
+    match came {
+        Brought::Taken => {
+            let (_workers, pass, voted) = own_rounds(rt, alloc, workers, turn, pass, gate, budget);
+            match voted {
+                Ok(vote) => (pass, Ok(Searched::Voted(vote))),
+                Err(_) => (pass, Err(NoMem)),
+            }
+        }
+        Brought::Full => (pass, Ok(Searched::Full)),
+    }
+}
+
+// The first batch and the others.
+fn first_and_others(batches: &[Batch]) -> Option<(&Batch, &[Batch])>
+    ensures { MatchOption result (batches.now ≡ []) (λ parts. batches.now ≡ parts.0.now ∷ parts.1.now) }
+{
+    match batches {
+        [] => None,
+        [first, others @ ..] => Some((first, others)),
+    }
+}
+
+/// Has the first batch taken, the others while the workers make rounds, and goes on with rounds until the workers
+/// agree.
+pub(crate) fn live<R: Threads + Wait + Sync, G: Gate>(
+    rt: &R,
+    alloc: Global,
+    workers: Vec<Worker>,
+    turn: &Turn<Book>,
+    mut pass: Pass<Book>,
+    gate: &G,
+    batches: &[Batch],
+    budget: u32,
+) -> (Pass<Book>, Result<Searched, NoMem>)
+    requires some { 0 < vec_len workers }
+    requires shards { AreAllShards workers.items }
+    requires of { IsPassOf opening_of turn.now pass }
+    requires ready { CanAllSearch (day_of turn.now) workers.items (seen pass) }
+    requires asked { All (IsBatch (day_of turn.now).parts) batches.now }
+    requires batches { 0 < length batches.now }
+    requires start { (seen pass ≡ []) × (made pass ≡ []) }
+    ensures of { IsPassOf opening_of turn.now result.0 }
+    ensures returned { IsReturned (known pass) (known result.0) }
+    ensures run { IfOk result.1 (IsTeamRun (vec_len workers) budget true (day_of turn.now) batches.now (known result.0)) }
+{
+    match first_and_others(batches) {
+        None => unreachable!(),
+        Some((first, others)) => {
+            let Ok(came) = bring(rt, alloc, turn, &mut pass, first) else {
+                return (pass, Err(NoMem));
+            };
+            match came {
+                Brought::Taken => beside(rt, alloc, workers, turn, pass, gate, others, budget),
+                Brought::Full => (pass, Ok(Searched::Full)),
+            }
+        }
+    }
+}

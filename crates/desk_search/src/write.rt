@@ -1,0 +1,48 @@
+//! Recovering a day by a team, and writing what came of it.
+
+ghost use Rattle.std.specs.Prelude.{◌≡◌, ◌≤◌, length, All};
+ghost use Rattle.desk_data.specs.Situation.{fresh_day};
+ghost use Rattle.desk_data.specs.Valid.{IsBatch};
+ghost use Rattle.desk_runs.specs.Runs.{Between};
+ghost use Rattle.desk_tasks.specs.Tasks.{team as by_team};
+ghost use Rattle.desk_tasks.specs.Done.{IsDoneSomehow};
+ghost use Rattle.desk_search.specs.Closing.{team_of};
+
+use crate::team::{Team, search_day};
+use book_texts::write_history;
+use desk_data::{Batch, Instance};
+use desk_folder::{Folder, Gate, Sink};
+use desk_runs::Ending;
+use std::alloc::Global;
+use std::sync::Wait;
+use std::thread::Threads;
+
+/// Takes these batches on a day, 1 to 1,001 of them, has a team search for a cheaper plan after each, or while they
+/// arrive, and writes the rotations and the itineraries of the last plan where there is one, the journal, and
+/// the report.
+///
+/// It ends with `Done` or `NoPlan` when all is written. A write that fails ends it with that fault, and
+/// `Memory` may come at any time: what is written by then is a beginning of the texts, in their order.
+pub fn recover_by_team<R: Threads + Wait + Sync, F: Folder, O: Sink, G: Gate>(
+    rt: &R,
+    alloc: Global,
+    inst: Instance,
+    batches: &[Batch],
+    team: Team,
+    folder: &mut F,
+    out: &mut O,
+    gate: &G,
+) -> Ending
+    requires fresh { inst ≡ fresh_day inst.parts }
+    requires asked { All (IsBatch inst.parts) batches.now }
+    requires some { 1 ≤ length batches.now }
+    requires few { length batches.now ≤ 1001 }
+    requires team { (1 ≤ team.workers) × (team.workers ≤ 64) }
+    ensures { Between F.outside O.report folder.old out.old folder.new out.new
+        (λ before now. IsDoneSomehow before now (by_team (team_of inst batches.now team)) result) }
+{
+    match search_day(rt, alloc, inst, batches, team, gate) {
+        Ok(done) => write_history(alloc, &done.book, done.ended, folder, out),
+        Err(_) => Ending::Memory,
+    }
+}

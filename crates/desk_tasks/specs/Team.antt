@@ -1,0 +1,50 @@
+-- Recovering a day by a team: a desk takes its batches, and workers search for a cheaper plan after each, side by side. What that comes to depends on the history that they make.
+use Rattle.std.specs.Prelude.{◌≡◌, ◌↔◌, ℕ, ◌≤◌, Bool, true, List, [], Option, Some, None, IsSome}
+use Rattle.desk_data.specs.Situation.{Situation}
+use Rattle.desk_model.specs.declared.answer.Entry.{Entry}
+use Rattle.desk_model.specs.States.{opening}
+use Rattle.desk_model.specs.Histories.{IsLegal, state}
+use Rattle.near_moves.specs.Descent.{IsQuiet, is_spent}
+use Rattle.near_moves.specs.declared.ended.SearchEnd.{SearchEnd}
+use Rattle.near_moves.specs.declared.ended.SearchEnd.TheVariants as ended
+use Rattle.desk_teams.specs.Teams.{IsTeamwork}
+use Rattle.desk_runs.specs.Outcome.{Outcome}
+use Rattle.desk_tasks.specs.Play.{search_remarks, history_outcome}
+use Rattle.desk_tasks.specs.Recover.{Recovery}
+
+-- a day, its batches and how many proposals may be accepted after each; how many workers search; and whether the batches but the first arrive while they do
+pub record TeamRecovery : Type 0 where
+  pub recovery : Recovery
+  pub workers : ℕ
+  pub live : Bool
+
+abbrev pub team_on : Recovery → ℕ → Bool → TeamRecovery
+team_on recovery workers live = record { recovery = recovery; workers = workers; live = live }
+
+-- what a run of a task makes, where it depends on this what the task comes to: the history of a team, and why its search is reported to have ended
+pub record Work : Type 0 where
+  pub history : List Entry
+  pub ended : Option SearchEnd
+
+-- the work of a run whose task comes to the same whatever it makes
+abbrev pub nothing : Work
+nothing = record { history = []; ended = None }
+
+-- what may be reported of the end of a team's search: the budget only where there is a plan and the history is spent, quiet only where
+-- no move near the plan is better, and one of the two exactly where there is a plan
+pub record IsTeamEnd (I : Situation) (most : ℕ) (h : List Entry) (reported : Option SearchEnd) : Type 0 where
+  pub budget : reported ≡ Some ended.Budget → ((state (opening I) h).broken ≡ None) × (is_spent most h ≡ true)
+  pub quiet : reported ≡ Some ended.Quiet → IsQuiet (state (opening I) h)
+  pub unplanned : reported ≡ None ↔ IsSome (state (opening I) h).broken
+
+-- a team may make this of a day
+pub record IsTeamWork (t : TeamRecovery) (w : Work) : Type 0 where
+  -- the history is legal from the opening of the day
+  pub legal : IsLegal (opening t.recovery.day) w.history
+  -- the desk takes the batches, and each proposal is the first better move of its worker's shard as that saw the history
+  pub teamwork : IsTeamwork t.workers t.recovery.moves t.live (opening t.recovery.day) t.recovery.batches w.history
+  pub ended : IsTeamEnd t.recovery.day t.recovery.moves w.history w.ended
+
+-- what it comes to then
+abbrev pub recovered_by_team : TeamRecovery → Work → Outcome
+recovered_by_team t w = history_outcome t.recovery.day (search_remarks w.ended) w.history

@@ -1,0 +1,3 @@
+pub mod TrailLaws
+pub mod TeamLaws
+pub mod RoomLaws

@@ -1,0 +1,6 @@
+//! The tests, by what they ask.
+
+mod beside;
+mod day;
+mod gates;
+mod searches;

@@ -1,9 +1,0 @@
-use Rattle.desk_data.specs.Situation.{reservations_of}
-use Rattle.sol_join.specs.Groups.{groups_telling}
-use Rattle.sol_join.specs.Parties.{parties_in}
-use Rattle.sol_join.proofs.TellingLemmas.{AreAfter}
-use Rattle.sol_join.proofs.groups.passengers_told.Given as goal
-
--- the passengers behind the lines so far
-abbrev pub invariant-loop-line : goal.invariant-loop-line
-invariant-loop-line l = AreAfter (groups_telling l.names) (reservations_of l.names) l.lines l.line-index (parties_in l.parties.items)

@@ -1,8 +1,0 @@
-use Rattle.desk_data.specs.Situation.{legs_of}
-use Rattle.sol_join.specs.Legs.{legs_telling}
-use Rattle.sol_join.proofs.TellingLemmas.{AreAfter}
-use Rattle.sol_join.proofs.legs.rows_told.Given as goal
-
--- the rows behind the lines so far
-abbrev pub invariant-loop-line : goal.invariant-loop-line
-invariant-loop-line l = AreAfter (legs_telling l.names) (legs_of l.names) l.lines l.line-index l.rows.items
