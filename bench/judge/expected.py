@@ -1,0 +1,138 @@
+"""What is expected of a whole run: its status, its report and its files (docs/FORMATS.md, "The report" and "Faults and statuses")."""
+from typing import NamedTuple
+
+from judge import files as readers
+from judge.day import join
+from judge.fallback import State
+from judge.files import DAY_FILES, MAY_BE_MISSING, SOLUTION_FILES
+from judge.generated import generate
+from judge.journal import join_journal, join_solution, record
+from judge.moves import moved
+from judge.near import descend
+from judge.plan import Plan
+from judge.cost import cost
+from judge.rows import Refused
+from judge.rules import first_broken
+from judge.situation import Situation
+from judge.texts import Texts
+
+WRITTEN = ("sol_rotations.csv", "sol_itineraries.csv", "journal.csv")
+
+
+class Outcome(NamedTuple):
+    """What a run gives: a status, a report, and the files that it writes, by name; none where OUT stays as it was."""
+    status: int
+    report: bytes
+    files: dict | None
+
+
+class Fault(Exception):
+    """A file that is not there."""
+
+
+def read_all(names, given):
+    """The rows of files by name, read one after another."""
+    read = {}
+    for name in names:
+        if given.get(name) is None and name not in MAY_BE_MISSING:
+            raise Fault(name)
+        read[name] = readers.rows_of(name, given.get(name) or b"", record if name == "journal.csv" else readers.READERS[name])
+    return read
+
+
+def read_day(given, more=()):
+    """The day of the files, and the rows of more files."""
+    read = read_all(DAY_FILES + more, given)
+    return join({name: read[name] for name in DAY_FILES}), [read[name] for name in more]
+
+
+class Run:
+    """A run that takes events, one after another, and keeps what it writes."""
+
+    def __init__(self, day):
+        self.state, self.texts = State(day), Texts(day)
+        self.lines, self.entries, self.end = [], [], None
+
+    def take(self, who, what):
+        """Takes a batch or a move."""
+        if isinstance(what, int):
+            answer = self.state.take_batch(what)
+            self.lines.append(b"batch %d %s\n" % (what, self.texts.answer(answer)))
+        else:
+            answer = self.state.propose(what)
+        if answer:
+            self.entries.append(self.texts.entry(who, what, answer))
+
+    def outcome(self):
+        state = self.state
+        lines = list(self.lines)
+        if self.end and not state.item:
+            lines.append(b"ended %s\n" % self.end.encode())
+        lines.append(b"changes %d\n" % state.changes)
+        last = b"no plan %s\n" % self.texts.item(state.item) if state.item else b"cost %d\n" % state.cost
+        files = dict.fromkeys(WRITTEN, b"")
+        files["journal.csv"] = b"".join(self.entries)
+        if not state.item:
+            files["sol_rotations.csv"] = self.texts.rotations(state.plan)
+            files["sol_itineraries.csv"] = self.texts.itineraries(state.plan)
+        return Outcome(1 if state.item else 0, b"".join(lines) + last, files)
+
+
+def guarded(run):
+    """A run, with what refuses it and the file that is missing."""
+
+    def ended(*asked):
+        try:
+            return run(*asked)
+        except Refused as refused:
+            return Outcome(3, b"refused %s %d %s\n" % (refused.file.encode(), refused.line, refused.cause.encode()), None)
+        except Fault as fault:
+            return Outcome(4, b"read fault %s\n" % fault.args[0].encode(), None)
+
+    return ended
+
+
+@guarded
+def replay(given):
+    """What `replay` gives for files by name."""
+    day, (records,) = read_day(given, ("journal.csv",))
+    events = join_journal(day, records)
+    run = Run(day)
+    for who, what in events:
+        run.take(who, what)
+    return run.outcome()
+
+
+@guarded
+def recover(given, most):
+    """What `recover` without workers gives, with at most so many accepted moves after each batch."""
+    day, _ = read_day(given)
+    run = Run(day)
+    for number in range(len(day.batches)):
+        run.take(0, number)
+        run.end = descend(run.state, most, lambda steps: run.take(0, steps))
+    return run.outcome()
+
+
+@guarded
+def check(given, out):
+    """What `check` gives for the files of a day and those of OUT."""
+    solution = {name: out.get(name) for name in SOLUTION_FILES}
+    day, (rotations, itineraries) = read_day({**given, **solution}, SOLUTION_FILES)
+    plan = Plan(day, *join_solution(day, rotations, itineraries))
+    situation = Situation(day)
+    for number in range(len(day.batches)):
+        situation = situation.with_batch(number)
+    item = first_broken(situation, plan)
+    judged = b"broken %s\n" % Texts(day).item(item) if item else b"feasible\n"
+    return Outcome(7 if item else 0, judged + b"cost %d\n" % cost(plan), {})
+
+
+def gen(seed, size):
+    """What `gen` gives."""
+    return Outcome(0, b"written 13\n", generate(seed, size))
+
+
+def trial(seed, size):
+    """What `trial` gives."""
+    return recover(generate(seed, size), 1_000)._replace(files={})
