@@ -1,7 +1,9 @@
 #!/usr/bin/env python3
 """Runs cases of crates/desk_rows by hand, with ./desk over a folder of the disk.
 
-Usage: bench/row.py NAME ..
+Usage: bench/row.py [--second] NAME ..
+
+With --second the cases are played by the package bench/judge.
 
 Prints each transcript as it comes, and ends with 1 where one is not as it stands in the case. A run
 whose calls are to fail, or whose sink has little room, can't be made so: it is left out, with its answer.
@@ -12,6 +14,8 @@ import shutil
 import subprocess
 import sys
 import tempfile
+
+from judge import disk
 
 TOP = os.path.dirname(os.path.dirname(os.path.abspath(__file__)))
 DATA = os.path.join(TOP, "crates", "desk_rows", "data")
@@ -85,8 +89,8 @@ def directories_of(words):
             dirs += rest
         elif not word.startswith("-"):
             dirs.append(word)
-        elif "=" not in word:
-            next(rest, None)
+        elif "=" not in word and word != "--live":
+            next(rest, None)  # the number of the option
     if words[:1] == ["gen"]:
         return "", dirs[0] if len(dirs) == 1 else ""
     return tuple(dirs) if len(dirs) == 2 else ("", "")
@@ -99,7 +103,13 @@ def file_told(name, text, sizes):
     return name.encode() + b":\n" + shown(text)
 
 
-def desk(day, words, sizes):
+def run_desk(words, day):
+    """The status and the report of the desk in a folder."""
+    done = subprocess.run([os.path.join(TOP, "desk")] + words, cwd=day, stdout=subprocess.PIPE)
+    return done.returncode, done.stdout
+
+
+def played(run, day, words, sizes):
     """What a run gives, and what it wrote. A check finds the files of the solution in its output directory."""
     words = ["" if word == "''" else word for word in words.split()]
     given, out = directories_of(words)
@@ -111,10 +121,10 @@ def desk(day, words, sizes):
     if given:
         os.rename(os.path.join(day, "in"), os.path.join(day, given))
     stood = {name: read(os.path.join(day, out, name)) for name in FILES}
-    done = subprocess.run([os.path.join(TOP, "desk")] + words, cwd=day, stdout=subprocess.PIPE)
+    status, report = run(words, day)
     texts = {name: read(os.path.join(day, out, name)) for name in FILES}
     written = {name: texts[name] for name in FILES if texts[name] and texts[name] != stood[name]}
-    told = b"status %d\n" % done.returncode + shown(done.stdout)
+    told = b"status %d\n" % status + shown(report)
     for name, text in written.items():
         told += file_told(name, text, sizes)
     return told, written
@@ -128,37 +138,39 @@ def given_below(lines, at):
     return "".join(line + "\n" for line in lines[at:end]).encode()
 
 
-def play(case, folder):
+def play(case, folder, run):
     """The transcript of a case as it comes."""
     lines = read(os.path.join(case, "transcript")).decode().splitlines()
-    played, before, changes = b"", {}, []
+    text, before, changes = b"", {}, []
     for at, line in enumerate(lines):
         if not line or line.startswith(("#", "$ ")):
-            played += line.encode() + b"\n"
+            text += line.encode() + b"\n"
         if line.startswith("$ ./desk"):
             by_hand = not any(words.startswith(("fail ", "room ")) for words in changes)
             if by_hand:
                 day = new_day(case, folder)
                 for words in changes:
                     change(day, before, words)
-                told, before = desk(day, line[len("$ ./desk"):], "sizes" in changes)
-            played += told if by_hand else given_below(lines, at + 1)
+                told, before = played(run, day, line[len("$ ./desk"):], "sizes" in changes)
+            text += told if by_hand else given_below(lines, at + 1)
             changes = []
         elif line.startswith("$ "):
             changes.append(line[2:])
-    return played
+    return text
 
 
 def main():
-    others = 0
-    for name in sys.argv[1:]:
+    others, names = 0, sys.argv[1:]
+    run = disk.run if names[:1] == ["--second"] else run_desk
+    names = names[1:] if run == disk.run else names
+    for name in names:
         case = os.path.join(DATA, name)
         with tempfile.TemporaryDirectory() as folder:
-            played = play(case, folder)
-        is_other = played != read(os.path.join(case, "transcript"))
+            text = play(case, folder, run)
+        is_other = text != read(os.path.join(case, "transcript"))
         others += is_other
-        print(played.decode(errors="replace") + ("other than expected" if is_other else "as expected"))
-    sys.exit(1 if others or len(sys.argv) == 1 else 0)
+        print(text.decode(errors="replace") + ("other than expected" if is_other else "as expected"))
+    sys.exit(1 if others or not names else 0)
 
 
 if __name__ == "__main__":

@@ -14,7 +14,7 @@ use Rattle.desk_rules.specs.Rotations.{departure, dep, is_earlier, comes_before}
 use Rattle.desk_rules.specs.Maintenance.{is_flown_by, departs_before}
 use Rattle.board_cost.specs.declared.rotation_leg.ArrivingLeg.{ArrivingLeg}
 use Rattle.board_cost.specs.declared.rotation_leg.Placed.{Placed}
-use Rattle.board_cost.specs.RotationLegs.{placed_of, IsRotationLegOf, IsPlacedSet, rotation_leg_cmp}
+use Rattle.board_cost.specs.RotationLegs.{placed_of, IsArrivingLegOf, IsPlacedSet, rotation_leg_cmp}
 use Rattle.board_cost.specs.Passengers.{IsBut}
 
 pub nat_cases : (p q : ℕ) → (p ≡ q) ⊎ (p ≢ q)
@@ -113,10 +113,10 @@ by_row I p x (Flown plane at) h =
     ap (λ (b : Bool). cond b (Some (made plane.0)) None) parts.1 ∙ ap (λ (q : ℕ). Some (made q)) (eqb-true plane.0 p parts.0)
 by_row I p x Cancelled h = absurd (true≢false (sym h))
 
-pub rotation_leg_of_leg : (I : Situation) (P : PlanRows) (p x : ℕ) → x < legs_of I → departs_before P p I.parts.to.0 x ≡ true → IsRotationLegOf I P p (the_rotation_leg I P x)
+pub rotation_leg_of_leg : (I : Situation) (P : PlanRows) (p x : ℕ) → x < legs_of I → departs_before P p I.parts.to.0 x ≡ true → IsArrivingLegOf I P p (the_rotation_leg I P x)
 rotation_leg_of_leg I P p x lt h = record { within = lt; is = by_row I p x (row_at P x) h }
 
-pub leg_of_rotation_leg : (I : Situation) (P : PlanRows) (p : ℕ) (t : ArrivingLeg) → IsRotationLegOf I P p t → (departs_before P p I.parts.to.0 t.leg.0 ≡ true) × (dep P t.leg.0 ≡ t.dep.0) × (t.dest ≡ (leg_at I t.leg.0).dest)
+pub leg_of_rotation_leg : (I : Situation) (P : PlanRows) (p : ℕ) (t : ArrivingLeg) → IsArrivingLegOf I P p t → (departs_before P p I.parts.to.0 t.leg.0 ≡ true) × (dep P t.leg.0 ≡ t.dep.0) × (t.dest ≡ (leg_at I t.leg.0).dest)
 leg_of_rotation_leg I P p t is =
     let all = of_row I t.leg.0 (row_at P t.leg.0) (record { plane = record { 0 = p }; rotation_leg = t }) is.is in
     (and_from (is_flown_by p (row_at P t.leg.0)) (ltb (dep P t.leg.0) I.parts.to.0) all.1 all.3, all.2, all.4)
@@ -134,26 +134,26 @@ rows_not_before x y Cancelled s h = refl
 -- ---- another row
 
 -- the rotation legs of other legs are the same
-same_rotation_legs : (I : Situation) (P Q : PlanRows) (p : ℕ) (t : ArrivingLeg) → row_at Q t.leg.0 ≡ row_at P t.leg.0 → IsRotationLegOf I Q p t → IsRotationLegOf I P p t
+same_rotation_legs : (I : Situation) (P Q : PlanRows) (p : ℕ) (t : ArrivingLeg) → row_at Q t.leg.0 ≡ row_at P t.leg.0 → IsArrivingLegOf I Q p t → IsArrivingLegOf I P p t
 same_rotation_legs I P Q p t same is = record { within = is.within; is = sym (ap (placed_of I t.leg.0) same) ∙ is.is }
 
 -- a leg that is cancelled is no rotation leg
-no_rotation_leg_of : (I : Situation) (P : PlanRows) (p x : ℕ) (t : ArrivingLeg) → row_at P x ≡ Cancelled → t.leg.0 ≡ x → IsRotationLegOf I P p t → ⊥
+no_rotation_leg_of : (I : Situation) (P : PlanRows) (p x : ℕ) (t : ArrivingLeg) → row_at P x ≡ Cancelled → t.leg.0 ≡ x → IsArrivingLegOf I P p t → ⊥
 no_rotation_leg_of I P p x t off here is =
     none_some (record { plane = record { 0 = p }; rotation_leg = t }) (sym (ap (placed_of I t.leg.0) (ap (row_at P) here ∙ off)) ∙ is.is)
 
 -- a rotation leg of leg x is that of its row
-rotation_leg_is : (I : Situation) (P : PlanRows) (p x : ℕ) (t : ArrivingLeg) → t.leg.0 ≡ x → IsRotationLegOf I P p t → placed_of I x (row_at P x) ≡ Some (record { plane = record { 0 = p }; rotation_leg = t })
+rotation_leg_is : (I : Situation) (P : PlanRows) (p x : ℕ) (t : ArrivingLeg) → t.leg.0 ≡ x → IsArrivingLegOf I P p t → placed_of I x (row_at P x) ≡ Some (record { plane = record { 0 = p }; rotation_leg = t })
 rotation_leg_is I P p x t here is = subst (λ (y : ℕ). placed_of I y (row_at P y) ≡ Some (record { plane = record { 0 = p }; rotation_leg = t })) here is.is
 
 -- plan R is plan P with leg x cancelled: a rotation leg of R is one of P, and a rotation leg of P that is not that of leg x is one of R
-down : (I : Situation) (P R : PlanRows) (x p : ℕ) (t : ArrivingLeg) → IsBut P R x → row_at R x ≡ Cancelled → IsRotationLegOf I R p t → IsRotationLegOf I P p t
+down : (I : Situation) (P R : PlanRows) (x p : ℕ) (t : ArrivingLeg) → IsBut P R x → row_at R x ≡ Cancelled → IsArrivingLegOf I R p t → IsArrivingLegOf I P p t
 down I P R x p t but off is = elim (nat_cases t.leg.0 x) [
   | inl here ↦ absurd (no_rotation_leg_of I R p x t off here is)
   | inr there ↦ same_rotation_legs I P R p t (but t.leg.0 there) is
 ]
 
-up : (I : Situation) (P R : PlanRows) (x p : ℕ) (t : ArrivingLeg) → IsBut P R x → (placed_of I x (row_at P x) ≡ Some (record { plane = record { 0 = p }; rotation_leg = t }) → ⊥) → IsRotationLegOf I P p t → IsRotationLegOf I R p t
+up : (I : Situation) (P R : PlanRows) (x p : ℕ) (t : ArrivingLeg) → IsBut P R x → (placed_of I x (row_at P x) ≡ Some (record { plane = record { 0 = p }; rotation_leg = t }) → ⊥) → IsArrivingLegOf I P p t → IsArrivingLegOf I R p t
 up I P R x p t but other is = elim (nat_cases t.leg.0 x) [
   | inl here ↦ absurd (other (rotation_leg_is I P p x t here is))
   | inr there ↦ same_rotation_legs I R P p t (sym (but t.leg.0 there)) is

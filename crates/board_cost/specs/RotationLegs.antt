@@ -1,5 +1,5 @@
 -- The rotation legs of each aircraft before the window's end, and where it ends.
-use Rattle.std.specs.Prelude.{◌≡◌, ◌≢◌, ℕ, ◌-◌, ◌<◌, ◌≤◌, ◌⊎◌, Bool, false, IsTrue, ◌↔◌, nat_lt, ◌==◌, if◌then◌else◌, List, [], length, Option, None, Some, slice_index_or}
+use Rattle.std.specs.Prelude.{◌≡◌, ◌≢◌, ℕ, ◌-◌, ◌<◌, ◌≤◌, ◌⊎◌, Bool, true, false, IsTrue, ◌↔◌, nat_lt, ◌==◌, if◌then◌else◌, List, [], length, Option, None, Some, slice_index_or}
 use Rattle.std.specs.List.{Contains}
 use Rattle.std.specs.Ordering.{nat_cmp, ordering_then}
 use Rattle.std.specs.declared.cmp.Ordering.{Ordering}
@@ -22,22 +22,22 @@ placed_of I x (Flown plane dep) =
 placed_of I x Cancelled = None
 
 -- aircraft p flies a rotation leg before the window's end
-pub record IsRotationLegOf (I : Situation) (P : PlanRows) (p : ℕ) (rotation_leg : ArrivingLeg) : Type 0 where
+pub record IsArrivingLegOf (I : Situation) (P : PlanRows) (p : ℕ) (rotation_leg : ArrivingLeg) : Type 0 where
   pub within : rotation_leg.leg.0 < legs_of I
   pub is : placed_of I rotation_leg.leg.0 (row_at P rotation_leg.leg.0) ≡ Some (record { plane = record { 0 = p }; rotation_leg = rotation_leg })
 
 -- these are all such rotation legs of aircraft p
-abbrev pub AreRotationLegsOf : Situation → PlanRows → ℕ → List ArrivingLeg → Type 0
-AreRotationLegsOf I P p rotation_legs = (rotation_leg : ArrivingLeg) → Contains rotation_legs rotation_leg ↔ IsRotationLegOf I P p rotation_leg
+abbrev pub AreArrivingLegsOf : Situation → PlanRows → ℕ → List ArrivingLeg → Type 0
+AreArrivingLegsOf I P p rotation_legs = (rotation_leg : ArrivingLeg) → Contains rotation_legs rotation_leg ↔ IsArrivingLegOf I P p rotation_leg
 
 -- plan Q has the rotation legs of plan P, but that one rotation leg of one aircraft is among them exactly where a test says so
 pub record IsRotationLegSet (I : Situation) (P Q : PlanRows) (placed : Placed) (is_in : Bool) : Type 0 where
-  pub here : IsTrue is_in ↔ IsRotationLegOf I Q placed.plane.0 placed.rotation_leg
-  pub others : (p : ℕ) (rotation_leg : ArrivingLeg) → (p ≢ placed.plane.0) ⊎ (rotation_leg ≢ placed.rotation_leg) → IsRotationLegOf I Q p rotation_leg ↔ IsRotationLegOf I P p rotation_leg
+  pub here : IsTrue is_in ↔ IsArrivingLegOf I Q placed.plane.0 placed.rotation_leg
+  pub others : (p : ℕ) (rotation_leg : ArrivingLeg) → (p ≢ placed.plane.0) ⊎ (rotation_leg ≢ placed.rotation_leg) → IsArrivingLegOf I Q p rotation_leg ↔ IsArrivingLegOf I P p rotation_leg
 
 -- the same of a rotation leg, if there is one
 abbrev pub IsPlacedSet : Situation → PlanRows → PlanRows → Option Placed → Bool → Type 0
-IsPlacedSet I P Q None is_in = (p : ℕ) (rotation_leg : ArrivingLeg) → IsRotationLegOf I Q p rotation_leg ↔ IsRotationLegOf I P p rotation_leg
+IsPlacedSet I P Q None is_in = (p : ℕ) (rotation_leg : ArrivingLeg) → IsArrivingLegOf I Q p rotation_leg ↔ IsArrivingLegOf I P p rotation_leg
 IsPlacedSet I P Q (Some placed) is_in = IsRotationLegSet I P Q placed is_in
 
 -- ---- as they are kept
@@ -88,7 +88,7 @@ pub record IsRotationOf (I : Situation) (P : PlanRows) (p : ℕ) (rotation : Rot
   pub origin : rotation.origin ≡ (plane_at I p).origin
   pub model : rotation.kind.model ≡ (plane_at I p).model
   pub seats : rotation.kind.seats ≡ (plane_at I p).seats
-  pub rotation_legs : AreRotationLegsOf I P p rotation.rotation_legs
+  pub rotation_legs : AreArrivingLegsOf I P p rotation.rotation_legs
   pub rising : AreInOrder rotation.rotation_legs
 
 -- the same, with more room
@@ -96,8 +96,20 @@ pub record IsRoomier (old new : RotationRow) : Type 0 where
   pub same : new ≡ record old { room = new.room }
   pub room : old.room ≤ new.room
 
+-- the same rotation legs, but that one goes and then another comes
+pub record AreExchanged (old new : List ArrivingLeg) (gone come : ArrivingLeg) : Type 0 where
+  pub mid : List ArrivingLeg
+  pub left : AreSet old mid gone false
+  pub joined : AreSet mid new come true
+
 -- an aircraft of which one rotation leg is among its rotation legs exactly where a test says so
 pub record IsSetOne (rotation_leg : ArrivingLeg) (is_in : Bool) (old new : RotationRow) : Type 0 where
   pub same : new ≡ record old { rotation_legs = new.rotation_legs; edits = new.edits; room = new.room }
   pub rotation_legs : AreSet old.rotation_legs new.rotation_legs rotation_leg is_in
+  pub rising : AreInOrder new.rotation_legs
+
+-- an aircraft from which one rotation leg goes, and to which another comes
+pub record IsExchanged (gone come : ArrivingLeg) (old new : RotationRow) : Type 0 where
+  pub same : new ≡ record old { rotation_legs = new.rotation_legs; edits = new.edits; room = new.room }
+  pub rotation_legs : AreExchanged old.rotation_legs new.rotation_legs gone come
   pub rising : AreInOrder new.rotation_legs

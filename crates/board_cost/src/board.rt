@@ -7,7 +7,7 @@ ghost use Rattle.desk_data.specs.Situation.{Situation, legs_of, planes_of, reser
 ghost use Rattle.desk_data.specs.Valid.{AreGroupsOf, IsPlanFor, IsRowOf};
 ghost use Rattle.desk_rules.specs.Cost.{cost, grains};
 ghost use Rattle.leg_users.specs.Users.{HasUsers, has_user, users};
-ghost use Rattle.board_kit.specs.Boards.{CanGoBack, IsChanged, IsDepth, IsForgotten, IsReady, IsTakenBack, IsUnchanged};
+ghost use Rattle.board_kit.specs.Boards.{CanGoBack, IsChanged, IsForgotten, IsReady, IsTakenBack, IsUnchanged};
 ghost use Rattle.board_cost.specs.Board.{HasFewEdits, HasPlace, HasRoomFor, IsBoardOf, IsRoomierFleet};
 
 use crate::balance::Balance;
@@ -29,7 +29,6 @@ use std::sync::ledger::Ledger;
 /// What a plan costs, kept up to date while it changes place by place. The board keeps its past, so that changes are
 /// taken back. It holds neither the instance nor the plan: contracts say of which it is the board. Who uses
 /// a leg it does not keep: whoever changes the leg's row lends it the list.
-#[derive(Debug)]
 pub struct CostBoard {
     total: Grains,
     fleet: Fleet,
@@ -37,7 +36,7 @@ pub struct CostBoard {
     past: Vec<CostChange>,
 }
 
-/// In one call, so that whoever lets a board go does not prove anew that each part of it may go.
+/// Dropped in one call, so that a function that owns one proves it once, and not part by part.
 impl Drop for CostBoard {
     fn drop(self) {
         let CostBoard {
@@ -79,16 +78,6 @@ impl CostBoard {
         ensures { (I : Situation) (P : PlanRows) (Ps : Items PlanRows) → IsBoardOf I P Ps self.now → result ≡ grains (cost I P) }
     {
         self.total
-    }
-}
-
-impl CostBoard {
-    /// How many changes can be taken back: the length of the past, at most 2,000,000,000.
-    pub fn depth(&self) -> u32
-        ensures limit { result ≤ 2000000000 }
-        ensures plans { IsDepth IsBoardOf result self.now }
-    {
-        self.past.len() as u32
     }
 
     /// Gives a leg another row: the total changes by what the leg, its aircraft and those who use it cost
@@ -169,8 +158,8 @@ impl CostBoard {
         ensures { IsTakenBack IsBoardOf self.old self.new }
     {
         if let Some(change) = self.past.pop() {
-            self.fleet.undo(change.come, false);
-            self.fleet.undo(change.gone, true);
+            let (gone, come) = (change.come, change.gone);
+            self.fleet.undo_both(RotationLegs { gone, come });
             self.total = change.total;
         }
     }

@@ -1,16 +1,16 @@
 //! The rotation legs of aircraft before the window's end.
 
-ghost use Rattle.std.specs.Prelude.{◌≡◌, ◌<◌};
+ghost use Rattle.std.specs.Prelude.{◌≡◌, ◌<◌, IfSome};
 ghost use Rattle.desk_data.specs.Situation.{legs_of, planes_of};
 ghost use Rattle.desk_data.specs.Valid.{IsRowOf};
 ghost use Rattle.board_cost.specs.RotationLegs.{placed_of};
-ghost use Rattle.board_cost.specs.Board.{HasPlace};
+ghost use Rattle.board_cost.specs.Board.{HasPlace, IsExchange};
 
 use crate::paths::RowChange;
 use desk_data::{Airport, Instance, Leg, Minute, Plane, Row};
 
 /// A flown leg, as it stands in the order of its aircraft: by departure, then by leg.
-#[derive(Clone, Copy, Debug, PartialEq, Eq, PartialOrd, Ord)]
+#[derive(Clone, Copy, PartialEq, Eq, PartialOrd, Ord)]
 pub(crate) struct ArrivingLeg {
     /// When it departs.
     pub dep: Minute,
@@ -21,7 +21,7 @@ pub(crate) struct ArrivingLeg {
 }
 
 /// A rotation leg, and the aircraft that flies it.
-#[derive(Clone, Copy, Debug)]
+#[derive(Clone, Copy)]
 pub(crate) struct Placed {
     pub plane: Plane,
     pub rotation_leg: ArrivingLeg,
@@ -56,6 +56,33 @@ pub(crate) fn placed_of(inst: &Instance, leg: Leg, row: Row) -> Option<Placed>
 pub(crate) struct RotationLegs {
     pub gone: Option<Placed>,
     pub come: Option<Placed>,
+}
+
+/// A rotation leg that goes from an aircraft, and another that comes to the same one.
+#[derive(Clone, Copy)]
+pub(crate) struct Exchange {
+    pub plane: Plane,
+    pub gone: ArrivingLeg,
+    pub come: ArrivingLeg,
+}
+
+impl RotationLegs {
+    /// The exchange on one aircraft that the change is, if it is one.
+    pub(crate) fn as_exchange(self) -> Option<Exchange>
+        ensures { IfSome result (IsExchange self.gone self.come) }
+    {
+        let Some(gone) = self.gone else {
+            return None;
+        };
+        match self.come {
+            Some(come) if come.plane.0 == gone.plane.0 => Some(Exchange {
+                plane: gone.plane,
+                gone: gone.rotation_leg,
+                come: come.rotation_leg,
+            }),
+            _ => None,
+        }
+    }
 }
 
 /// The rotation legs of a change.

@@ -4,13 +4,13 @@ use Rattle.std.specs.Prelude.{find, None, Some}
 use Rattle.std.specs.List.{AllPairs, Contains}
 use Rattle.std.proofs.lemmas.Bool.{cases_Bool}
 use Rattle.kept_set.specs.Kept.{first}
-pub use Rattle.kept_set.proofs.ListLaws.{contains-cons, contains-first, contains-behind, pairs-first, pairs-behind, none_in}
+pub use Rattle.kept_set.proofs.ListLaws.{contains-cons, contains-first, contains-rest, pairs-first, pairs-rest, none_in}
 use Rattle.board_items.specs.Items.{AreThose}
 
 -- nothing passes
 pub find-nothing : {X : Type 0} (p : X → Bool) (xs : List X) → ((y : X) → Contains xs y → p y ≡ false) → find p xs ≡ None
 find-nothing p [] fails = refl
-find-nothing p (x ∷ xs) fails = rw (fails x (contains-first x xs)) (find-nothing p xs (λ y in_xs. fails y (contains-behind x y xs in_xs)))
+find-nothing p (x ∷ xs) fails = rw (fails x (contains-first x xs)) (find-nothing p xs (λ y in_xs. fails y (contains-rest x y xs in_xs)))
 
 -- in a list in order, what passes and comes before all others that pass is found
 pub find-least : {X : Type 0} (R : X → X → Type 0) (p : X → Bool) (xs : List X) (x : X) → ((a b : X) → R a b → R b a → ⊥) → AllPairs R xs → Contains xs x → p x ≡ true → ((y : X) → Contains xs y → p y ≡ true → (y ≡ x) ⊎ R x y) → find p xs ≡ Some x
@@ -21,14 +21,14 @@ find-least R p (z ∷ xs) x asym order in_xs here least =
         | inl same ↦ same
         | inr before ↦ elim (contains-cons z x xs in_xs) [
           | inl same ↦ sym same
-          | inr behind ↦ absurd (asym x z before (pairs-first R z x xs order behind))
+          | inr later ↦ absurd (asym x z before (pairs-first R z x xs order later))
         ]
       ]))
-      | inr fails ↦ rw fails (find-least R p xs x asym (pairs-behind R z xs order)
+      | inr fails ↦ rw fails (find-least R p xs x asym (pairs-rest R z xs order)
           (elim (contains-cons z x xs in_xs) [
             | inl same ↦ absurd cc
-            | inr behind ↦ behind
-          ]) here (λ y in_after. least y (contains-behind z y xs in_after)))
+            | inr later ↦ later
+          ]) here (λ y in_after. least y (contains-rest z y xs in_after)))
     ]
 
 none_kept : {X : Type 0} (y : X) → Contains [] y → ⊥
@@ -48,5 +48,5 @@ first_is_find R p xs (x ∷ kept) asym order kept_so those =
     sym (find-least R p xs x asym order is.0 is.1
     (λ y in_xs passes. elim (contains-cons x y kept ((those y).1 (in_xs, passes))) [
       | inl same ↦ inl same
-      | inr behind ↦ inr (pairs-first R x y kept kept_so behind)
+      | inr later ↦ inr (pairs-first R x y kept kept_so later)
     ]))

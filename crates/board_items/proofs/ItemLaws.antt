@@ -10,12 +10,12 @@ use Rattle.std.proofs.lemmas.List.{length-map, get_or-map, get_or_default}
 use Rattle.desk_units.specs.declared.numbers.Cabin.TheVariants.{F, B, E}
 use Rattle.desk_data.specs.declared.broken.Broken.{Broken}
 use Rattle.desk_data.specs.declared.broken.Broken.TheVariants.{C1, C2, C3, C4, C5, C6, C7, C8, C9, C10, C11, C12, C13, C14, C15}
-use Rattle.desk_rules.specs.Order.{rule_of, named_by, part_of, IsLess, IsReportedBefore}
+use Rattle.desk_rules.specs.Order.{rule_of, named_by, part_of, IsLess, ComesBefore}
 use Rattle.kept_set.specs.Kept.{AreSet, AreRising, IsExact}
 use Rattle.board_items.specs.declared.key.ItemKey.{ItemKey}
 use Rattle.board_items.specs.Items.{AreThose, AreKeys, key_of, item_of}
 use Rattle.board_items.specs.contracts.key.ItemKeyOrd.TheImpl as keys
-use Rattle.board_items.proofs.FirstLaws.{contains-cons, contains-first, contains-behind}
+use Rattle.board_items.proofs.FirstLaws.{contains-cons, contains-first, contains-rest}
 
 -- ---- keys
 
@@ -86,8 +86,8 @@ less_numbers a b c d e f h = grind (arith, nat_tests)
 asym_numbers : (a b c d e f : ℕ) → (a < d) ⊎ ((a ≡ d) × IsLess b c e f) → (d < a) ⊎ ((d ≡ a) × IsLess e f b c) → ⊥
 asym_numbers a b c d e f low high = grind arith
 
-pub told-asym : (a b : Broken) → IsReportedBefore a b → IsReportedBefore b a → ⊥
-told-asym a b low high = asym_numbers (rule_of a) (named_by a) (part_of a) (rule_of b) (named_by b) (part_of b) low high
+pub comes_before-asym : (a b : Broken) → ComesBefore a b → ComesBefore b a → ⊥
+comes_before-asym a b low high = asym_numbers (rule_of a) (named_by a) (part_of a) (rule_of b) (named_by b) (part_of b) low high
 
 abbrev reported_by : ItemKey → ItemKey → Type 0
 reported_by a b = (a.rule < b.rule) ⊎ ((a.rule ≡ b.rule) × IsLess a.named a.part b.named b.part)
@@ -99,14 +99,14 @@ image_of : {X Y : Type 0} (f : X → Y) (xs : List X) (y : Y) → Contains (map 
 image_of f [] y (k, lt, is) = absurd (omega arith)
 image_of f (x ∷ xs) y is = elim (contains-cons (f x) y (map f xs) is) [
   | inl same ↦ (x, contains-first x xs, sym same)
-  | inr behind ↦ let at = image_of f xs y behind in (at.0, contains-behind x at.0 xs at.1, at.2)
+  | inr later ↦ let at = image_of f xs y later in (at.0, contains-rest x at.0 xs at.1, at.2)
 ]
 
 image_in : {X Y : Type 0} (f : X → Y) (xs : List X) (x : X) → Contains xs x → Contains (map f xs) (f x)
 image_in f [] x (k, lt, is) = absurd (omega arith)
 image_in f (z ∷ xs) x is = elim (contains-cons z x xs is) [
   | inl same ↦ subst (λ w. Contains (map f (z ∷ xs)) (f w)) (sym same) (contains-first (f z) (map f xs))
-  | inr behind ↦ contains-behind (f z) (f x) (map f xs) (image_in f xs x behind)
+  | inr later ↦ contains-rest (f z) (f x) (map f xs) (image_in f xs x later)
 ]
 
 -- an item is among the items of some keys where its key is among these
@@ -133,13 +133,13 @@ items_set old new item is_in are set =
           (λ is. holds old y ((set.others (key_of y) apart).0 (held new y are_new is)), λ is. holds new y ((set.others (key_of y) apart).1 (held old y are is)));
     }
 
-reported_so : (a b : ItemKey) → key_of (item_of a) ≡ a → key_of (item_of b) ≡ b → keys.cmp-value.it a b ≡ Less → IsReportedBefore (item_of a) (item_of b)
+reported_so : (a b : ItemKey) → key_of (item_of a) ≡ a → key_of (item_of b) ≡ b → keys.cmp-value.it a b ≡ Less → ComesBefore (item_of a) (item_of b)
 reported_so a b first second less =
-    let told : reported_by a b = less_numbers a.rule a.named a.part b.rule b.named b.part less in
-    subst (reported_by (key_of (item_of a))) (sym second) (subst (λ (k : ItemKey). reported_by k b) (sym first) told)
+    let given : reported_by a b = less_numbers a.rule a.named a.part b.rule b.named b.part less in
+    subst (reported_by (key_of (item_of a))) (sym second) (subst (λ (k : ItemKey). reported_by k b) (sym first) given)
 
 -- the items of rising keys are in the order in which they are reported
-pub items_rise : (ks : List ItemKey) → AreKeys ks → AreRising keys.cmp-value.it ks → AllPairs IsReportedBefore (map item_of ks)
+pub items_rise : (ks : List ItemKey) → AreKeys ks → AreRising keys.cmp-value.it ks → AllPairs ComesBefore (map item_of ks)
 items_rise ks are rising i j d lt within =
     let len = length-map ks item_of in
     let k = key_of d in

@@ -6,10 +6,10 @@ use Rattle.std.proofs.lemmas.List.{map-append, length-append, get_or_append_left
 use Rattle.std.proofs.lemmas.List.Concat.{flat_map-append}
 use Rattle.std.proofs.lemmas.List.Elements.{Contains-append_left, Contains-append_right, Contains-append_cases}
 pub use Rattle.kept_set.proofs.ListLaws.{none_in}
-use Rattle.kept_set.proofs.ListLaws.{contains-cons, contains-first, pairs-behind}
+use Rattle.kept_set.proofs.ListLaws.{contains-cons, contains-first, pairs-rest}
 use Rattle.desk_data.specs.Situation.{Situation}
 use Rattle.desk_rules.specs.Numbers.{numbers}
-use Rattle.desk_rules.specs.Order.{IsReportedBefore}
+use Rattle.desk_rules.specs.Order.{ComesBefore}
 use Rattle.desk_rules.specs.Least.{rotation_items, slot_items, pax_items, items}
 use Rattle.desk_rules.proofs.OrderLaws.{items-ascend}
 
@@ -56,20 +56,20 @@ of_lists f (suc n) y is =
 -- parts of a list in order
 pub pairs_right : {X : Type 0} (R : X → X → Type 0) (xs ys : List X) → AllPairs R (xs ++ ys) → AllPairs R ys
 pairs_right R [] ys pairs = pairs
-pairs_right R (x ∷ xs) ys pairs = pairs_right R xs ys (pairs-behind R x (xs ++ ys) pairs)
+pairs_right R (x ∷ xs) ys pairs = pairs_right R xs ys (pairs-rest R x (xs ++ ys) pairs)
 
 pub pairs_left : {X : Type 0} (R : X → X → Type 0) (xs ys : List X) → AllPairs R (xs ++ ys) → AllPairs R xs
 pairs_left R xs ys pairs i j d lt within =
     rw (sym (get_or_append_left xs ys d i (omega arith)), sym (get_or_append_left xs ys d j within)) (pairs i j d lt (omega (arith, length-append xs ys)))
 
-pub rotations_ascend : (I : Situation) → AllPairs IsReportedBefore (rotation_items I)
+pub rotations_ascend : (I : Situation) → AllPairs ComesBefore (rotation_items I)
 unfolding items
-rotations_ascend I = pairs_left IsReportedBefore (rotation_items I) (slot_items I) (pairs_left IsReportedBefore (rotation_items I ++ slot_items I) (pax_items I) (items-ascend I))
+rotations_ascend I = pairs_left ComesBefore (rotation_items I) (slot_items I) (pairs_left ComesBefore (rotation_items I ++ slot_items I) (pax_items I) (items-ascend I))
 
-pub slots_ascend : (I : Situation) → AllPairs IsReportedBefore (slot_items I)
+pub slots_ascend : (I : Situation) → AllPairs ComesBefore (slot_items I)
 unfolding items
-slots_ascend I = pairs_right IsReportedBefore (rotation_items I) (slot_items I) (pairs_left IsReportedBefore (rotation_items I ++ slot_items I) (pax_items I) (items-ascend I))
+slots_ascend I = pairs_right ComesBefore (rotation_items I) (slot_items I) (pairs_left ComesBefore (rotation_items I ++ slot_items I) (pax_items I) (items-ascend I))
 
-pub passengers_ascend : (I : Situation) → AllPairs IsReportedBefore (pax_items I)
+pub passengers_ascend : (I : Situation) → AllPairs ComesBefore (pax_items I)
 unfolding items
-passengers_ascend I = pairs_right IsReportedBefore (rotation_items I ++ slot_items I) (pax_items I) (items-ascend I)
+passengers_ascend I = pairs_right ComesBefore (rotation_items I ++ slot_items I) (pax_items I) (items-ascend I)

@@ -3,7 +3,7 @@
 ghost use Rattle.std.specs.Prelude.{◌≡◌, ◌+◌, ◌<◌, ◌≤◌, Bool, List as Items, [], find, length, OnOk, IsTrue, ◌↔◌};
 ghost use Rattle.std.specs.List.{AllPairs, Contains, HoldsAt};
 ghost use Rattle.desk_data.specs.declared.broken.Broken.{Broken as Item};
-ghost use Rattle.desk_rules.specs.Order.{IsReportedBefore};
+ghost use Rattle.desk_rules.specs.Order.{ComesBefore};
 ghost use Rattle.kept_set.specs.Kept.{AreSet};
 ghost use Rattle.board_items.specs.Items.{AreThose};
 
@@ -15,7 +15,7 @@ use std::marker::Model;
 
 /// Items in the order in which they are reported, none twice. Contracts see them, and how many there is
 /// room for.
-#[derive(Debug, Drop)]
+#[derive(Drop)]
 pub struct BrokenItems {
     keys: KeptSet<ItemKey>,
 }
@@ -57,7 +57,7 @@ impl BrokenItems {
     /// The first item in the order in which they are reported. Where the items are those of a list in this
     /// order that pass a test, it is the first of the list that does.
     pub fn first(&self) -> Option<Broken>
-        ensures { (test : Item → Bool) (all : Items Item) → AllPairs IsReportedBefore all → AreThose test all self.now.items → result ≡ find test all }
+        ensures { (test : Item → Bool) (all : Items Item) → AllPairs ComesBefore all → AreThose test all self.now.items → result ≡ find test all }
     {
         match self.keys.first() {
             Some(key) => Some(item_of(key)),

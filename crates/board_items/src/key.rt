@@ -7,7 +7,7 @@ use desk_data::{Airport, Broken, Cabin, Leg, Plane, Res};
 
 /// The number of an item's rule; of the leg, aircraft, airport or reservation that it names; and its
 /// hour or the rank of its cabin, 0 where it names none.
-#[derive(Clone, Copy, Debug, PartialEq, Eq, PartialOrd, Ord)]
+#[derive(Clone, Copy, PartialEq, Eq, PartialOrd, Ord)]
 pub(crate) struct ItemKey {
     pub rule: u32,
     pub named: u32,

@@ -7,13 +7,12 @@ use std::alloc::Global;
 use std::sync::ledger::Ledger;
 
 /// Two boards of one plan, changed together.
-#[derive(Debug)]
 pub struct Both<A, B> {
     pub first: A,
     pub second: B,
 }
 
-/// In one call, so that whoever lets two boards go does not prove anew that each part of them may go.
+/// Dropped in one call, so that a function that owns one proves it once, and not part by part.
 impl<A: Drop, B: Drop> Drop for Both<A, B> {
     fn drop(self) {
         let Both {

@@ -22,14 +22,13 @@ use std::sync::ledger::Ledger;
 /// The legs of each aircraft in their order, and what a plan breaks of C1 to C9, kept up to date while it changes
 /// place by place. The board keeps its past, so that changes are taken back. It holds neither the
 /// instance nor the plan: contracts say of which it is the board.
-#[derive(Debug)]
 pub struct RotBoard {
     log: UndoLog,
     /// For each change how many edits of the summary there were before it.
     savepoints: Vec<usize>,
 }
 
-/// In one call, so that whoever lets a board go does not prove anew that each part of it may go.
+/// Dropped in one call, so that a function that owns one proves it once, and not part by part.
 impl Drop for RotBoard {
     fn drop(self) {
         let RotBoard {
@@ -57,9 +56,9 @@ impl RotBoard {
         requires { IsPlanFor inst.now (P.plan_of plan.now) }
         ensures { IfOk result (λ board. IsBoardOf inst.now (P.plan_of plan.now) [] board) }
     {
-        let summary = make_summary(alloc, inst, plan)?;
+        let log = make_summary(alloc, inst, plan)?;
         Ok(RotBoard {
-            log: summary,
+            log,
             savepoints: Vec::new(alloc),
         })
     }

@@ -14,20 +14,19 @@ use crate::edit::Edit;
 use crate::rotation::Rotation;
 use board_items::BrokenItems;
 use desk_data::{Broken, NoMem, Plane};
-use kept_set::Neighbours;
+use kept_set::NextItem;
 use plan_reads::RotationLeg;
 use std::alloc::Global;
 use std::marker::Model;
 
 /// Which legs the aircraft fly and what is broken, with a log of edits that can be taken back.
-#[derive(Debug)]
 pub(crate) struct UndoLog {
     rotations: Vec<Rotation>,
     broken: BrokenItems,
     edits: Vec<Edit>,
 }
 
-/// In one call, so that whoever lets a summary go does not prove anew that each part of it may go.
+/// Dropped in one call, so that a function that owns one proves it once, and not part by part.
 impl Drop for UndoLog {
     fn drop(self) {
         let UndoLog {
@@ -88,27 +87,27 @@ impl UndoLog {
     }
 
     /// Has a rotation leg of an aircraft depart at another moment, where it keeps its place: gives the
-    /// rotation legs next to it. `None` where it does not keep it. Then, and after an error, which is out
+    /// rotation leg after it. `None` where it does not keep it. Then, and after an error, which is out
     /// of memory, the summary is as before.
-    pub(crate) fn shift(
+    pub(crate) fn retime(
         &mut self,
         plane: Plane,
         from: RotationLeg,
         to: RotationLeg,
-    ) -> Result<Option<Neighbours<RotationLeg>>, NoMem>
+    ) -> Result<Option<NextItem<RotationLeg>>, NoMem>
         requires { plane.0 < (seen self.old).planes }
-        ensures some { IfOk result (λ moved. IfSome moved (λ around. IsMoved (seen self.old) (seen self.new) plane from to around.after)) }
+        ensures some { IfOk result (λ moved. IfSome moved (λ next. IsMoved (seen self.old) (seen self.new) plane from to next.item)) }
         ensures none { IfOk result (λ moved. IsNone moved → seen self.new ≡ seen self.old) }
         ensures err { OnErr result (seen self.new ≡ seen self.old) }
     {
         self.broken.reserve(self.edits.len() + 3)?;
         self.edits.reserve(2)?;
-        match self.rotations[plane.0 as usize].shift(from, to)? {
-            Some(around) => {
+        match self.rotations[plane.0 as usize].retime(from, to)? {
+            Some(next) => {
                 // there is room, so they are not refused
                 let _from = self.edits.push(Edit::OfLeg(plane, from));
                 let _to = self.edits.push(Edit::OfLeg(plane, to));
-                Ok(Some(around))
+                Ok(Some(next))
             }
             None => Ok(None),
         }

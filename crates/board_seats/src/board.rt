@@ -32,14 +32,13 @@ use std::sync::ledger::Ledger;
 /// and C15, and the first item of C12 to C15 that the plan breaks, kept up to date while it changes place by place.
 /// The board keeps its past, so that changes are taken back. It holds neither the instance nor the plan:
 /// contracts say of which it is the board.
-#[derive(Debug)]
 pub struct SeatBoard {
     log: UndoLog,
     /// How many edits the summary had before each change since the past was last empty.
     savepoints: Vec<usize>,
 }
 
-/// In one call, so that whoever lets one go does not prove anew that each part of it may go.
+/// Dropped in one call, so that a function that owns one proves it once, and not part by part.
 impl Drop for SeatBoard {
     fn drop(self) {
         let SeatBoard {
@@ -68,12 +67,12 @@ impl SeatBoard {
         ensures { IfOk result (λ board. IsBoardOf inst.now (P.plan_of plan.now) [] board) }
     {
         let users = LegUsers::open(alloc, inst, plan)?;
-        let mut summary = UndoLog::blank(alloc, inst.legs(), inst.reservations(), users)?;
-        enter_all(&mut summary, inst, plan)?;
-        judge_legs(&mut summary, inst, plan)?;
-        judge_reservations(&mut summary, inst, plan)?;
+        let mut log = UndoLog::blank(alloc, inst.legs(), inst.reservations(), users)?;
+        enter_all(&mut log, inst, plan)?;
+        judge_legs(&mut log, inst, plan)?;
+        judge_reservations(&mut log, inst, plan)?;
         Ok(SeatBoard {
-            log: summary,
+            log,
             savepoints: Vec::new(alloc),
         })
     }
@@ -193,7 +192,7 @@ impl Board for SeatBoard {
 
 /// Gives a leg another row in a summary.
 fn with_row<L: Ledger>(
-    summary: &mut UndoLog,
+    log: &mut UndoLog,
     inst: &Instance,
     plan: &Pages,
     leg: Leg,
@@ -201,20 +200,20 @@ fn with_row<L: Ledger>(
     steps: &mut Steps<L>,
 ) -> Result<(), NoMem>
     requires plan { IsPlanFor inst.now plan.now }
-    requires stands { Stands inst.now plan.now (seen summary.old) }
+    requires stands { Stands inst.now plan.now (seen log.old) }
     requires leg { leg.0 < legs_of inst.now }
     requires row { IsRowOf (planes_of inst.now) row }
-    ensures led { LedTo (seen summary.old) (seen summary.new) }
-    ensures ok { OnOk result (Stands inst.now (with_row plan.now leg.0 row) (seen summary.new)) }
+    ensures led { LedTo (seen log.old) (seen log.new) }
+    ensures ok { OnOk result (Stands inst.now (with_row plan.now leg.0 row) (seen log.new)) }
     ensures reads { steps.new ≤ steps.old + 8 * users plan.now leg.0 }
 {
-    judge_leg(summary, inst, leg, row)?;
-    rejudge_users(summary, inst, plan, leg, row, steps)
+    judge_leg(log, inst, leg, row)?;
+    rejudge_users(log, inst, plan, leg, row, steps)
 }
 
 /// Gives a reservation other groups in a summary.
 fn with_groups<L: Ledger>(
-    summary: &mut UndoLog,
+    log: &mut UndoLog,
     inst: &Instance,
     plan: &Pages,
     res: Res,
@@ -222,22 +221,22 @@ fn with_groups<L: Ledger>(
     steps: &mut Steps<L>,
 ) -> Result<(), NoMem>
     requires plan { IsPlanFor inst.now plan.now }
-    requires stands { Stands inst.now plan.now (seen summary.old) }
+    requires stands { Stands inst.now plan.now (seen log.old) }
     requires res { res.0 < reservations_of inst.now }
     requires groups { AreGroups groups.now }
     requires passengers { AreGroupsOf (legs_of inst.now) (res_at inst.now res.0).count groups.now }
-    ensures led { LedTo (seen summary.old) (seen summary.new) }
-    ensures ok { OnOk result (Stands inst.now (with_groups plan.now res.0 groups.now) (seen summary.new)) }
+    ensures led { LedTo (seen log.old) (seen log.new) }
+    ensures ok { OnOk result (Stands inst.now (with_groups plan.now res.0 groups.now) (seen log.new)) }
     ensures reads { steps.new ≤ steps.old + 8 * (length (groups_at plan.now res.0) + length groups.now) }
 {
     // a reservation has at most 1,000 passengers, so its groups can be counted
-    prove!(inst.res(res).count <= 1_000);
+    let _few = inst.res(res);
     // and those aboard a leg fit
     let _rows = inst.parts();
     let before = plan.groups(res);
-    enter_groups(summary, res, groups)?;
-    leave_groups(summary, before)?;
-    judge_seats(summary, inst, plan, before, steps)?;
-    let faults = judge_groups(summary, inst, plan, res, groups, steps)?;
-    judge_faults(summary, res, faults)
+    enter_groups(log, res, groups)?;
+    leave_groups(log, before)?;
+    judge_seats(log, inst, plan, before, steps)?;
+    let faults = judge_groups(log, inst, plan, res, groups, steps)?;
+    judge_faults(log, res, faults)
 }

@@ -4,7 +4,7 @@ ghost use Rattle.std.specs.Prelude.{◌≡◌, ℕ, ◌+◌, ◌-◌, ◌<◌, �
 ghost use Rattle.std.specs.List.{AllPairs, list_any};
 ghost use Rattle.desk_data.specs.declared.broken.Broken.{Broken as Item};
 ghost use Rattle.desk_data.specs.PlanRows.{PlanRows};
-ghost use Rattle.desk_rules.specs.Order.{IsReportedBefore};
+ghost use Rattle.desk_rules.specs.Order.{ComesBefore};
 ghost use Rattle.board_items.specs.Items.{AreThose};
 ghost use Rattle.leg_users.specs.Users.{HasUsers, has_user, users_at, with_user};
 ghost use Rattle.board_seats.specs.PathFaults.{no_faults};
@@ -24,7 +24,6 @@ use std::marker::Model;
 
 /// The passengers aboard each leg, the faults of each reservation, what is broken and who uses which
 /// leg, with a log of edits that can be taken back.
-#[derive(Debug)]
 pub(crate) struct UndoLog {
     taken: Vec<Seats>,
     faults: Vec<PathFaults>,
@@ -33,7 +32,7 @@ pub(crate) struct UndoLog {
     edits: Vec<Edit>,
 }
 
-/// In one call, so that whoever lets one go does not prove anew that each part of it may go.
+/// Dropped in one call, so that a function that owns one proves it once, and not part by part.
 impl Drop for UndoLog {
     fn drop(self) {
         let UndoLog {
@@ -83,7 +82,7 @@ impl UndoLog {
 
     /// The first item in the order in which they are reported.
     pub(crate) fn first(&self) -> Option<Broken>
-        ensures { (test : Item → Bool) (all : Items Item) → AllPairs IsReportedBefore all → AreThose test all self.now.broken → result ≡ find test all }
+        ensures { (test : Item → Bool) (all : Items Item) → AllPairs ComesBefore all → AreThose test all self.now.broken → result ≡ find test all }
     {
         self.broken.first()
     }

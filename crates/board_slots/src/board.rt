@@ -25,14 +25,13 @@ use std::sync::ledger::Ledger;
 /// of C10 and C11 that the plan breaks, kept up to date while it changes place by place. The board keeps its past,
 /// so that changes are taken back. It holds neither the instance nor the plan: contracts say of which it
 /// is the board.
-#[derive(Debug)]
 pub struct SlotBoard {
     loads: Loads,
     /// The changes since the past was last empty.
     past: Vec<SlotChange>,
 }
 
-/// In one call, so that whoever lets a board go does not prove anew that each part of it may go.
+/// Dropped in one call, so that a function that owns one proves it once, and not part by part.
 impl Drop for SlotBoard {
     fn drop(self) {
         let SlotBoard { loads: _, past: _ } = self;

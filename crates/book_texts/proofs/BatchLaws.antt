@@ -55,35 +55,35 @@ pub record IsReported (I : Situation) (before now : List ℕ) (number i : ℕ) (
   pub number_is : number ≡ length (batch_entries (take i h))
   pub small : number ≤ i
 
-pub told-start : (I : Situation) (before : List ℕ) (h : List Entry) → IsReported I before before 0 0 h
+pub reported-start : (I : Situation) (before : List ℕ) (h : List Entry) → IsReported I before before 0 0 h
 unfolding batch_lines
-told-start I before h = record { text = sym (append-nil before); number_is = refl; small = omega arith }
+reported-start I before h = record { text = sym (append-nil before); number_is = refl; small = omega arith }
 
 one_more : (h : List Entry) (i : ℕ) (entry : Entry) → i < length h → entry ≡ get_or h i entry → take (i + 1) h ≡ take i h ++ entry ∷ []
 one_more h i entry lt at = take_more h i entry lt ∙ ap (λ (e : Entry). take i h ++ e ∷ []) (sym at)
 
-pub told-batch : (I : Situation) (before mid now : List ℕ) (number i : ℕ) (h : List Entry) (entry : Entry) → i < length h → entry ≡ get_or h i entry → is_batch entry.event ≡ true → now ≡ mid ++ batch_line I number entry.answer → IsReported I before mid number i h → IsReported I before now (number + 1) (i + 1) h
-told-batch I before mid now number i h entry lt at is text told =
-    let n = told.number_is in
+pub reported-batch : (I : Situation) (before mid now : List ℕ) (number i : ℕ) (h : List Entry) (entry : Entry) → i < length h → entry ≡ get_or h i entry → is_batch entry.event ≡ true → now ≡ mid ++ batch_line I number entry.answer → IsReported I before mid number i h → IsReported I before now (number + 1) (i + 1) h
+reported-batch I before mid now number i h entry lt at is text given =
+    let n = given.number_is in
     let more = one_more h i entry lt at in
     record {
       text = text
-          ∙ ap (λ (t : List ℕ). t ++ batch_line I number entry.answer) told.text
+          ∙ ap (λ (t : List ℕ). t ++ batch_line I number entry.answer) given.text
           ∙ append_assoc before (batch_lines I (take i h)) (batch_line I number entry.answer)
           ∙ ap (λ (k : ℕ). before ++ (batch_lines I (take i h) ++ batch_line I k entry.answer)) n
           ∙ ap (λ (t : List ℕ). before ++ t) (sym (lines-batch I (take i h) entry is))
           ∙ ap (λ (t : List Entry). before ++ batch_lines I t) (sym more);
       number_is = ap (λ (k : ℕ). k + 1) n ∙ sym (length-append (batch_entries (take i h)) (entry ∷ [])) ∙ ap length (sym (batches-batch (take i h) entry is)) ∙ ap (λ (t : List Entry). length (batch_entries t)) (sym more);
-      small = omega (arith, told.small);
+      small = omega (arith, given.small);
     }
 
-pub told-move : (I : Situation) (before now : List ℕ) (number i : ℕ) (h : List Entry) (entry : Entry) → i < length h → entry ≡ get_or h i entry → is_batch entry.event ≡ false → IsReported I before now number i h → IsReported I before now number (i + 1) h
-told-move I before now number i h entry lt at is told =
+pub reported-move : (I : Situation) (before now : List ℕ) (number i : ℕ) (h : List Entry) (entry : Entry) → i < length h → entry ≡ get_or h i entry → is_batch entry.event ≡ false → IsReported I before now number i h → IsReported I before now number (i + 1) h
+reported-move I before now number i h entry lt at is given =
     let more = one_more h i entry lt at in
     record {
-      text = told.text ∙ ap (λ (t : List ℕ). before ++ t) (sym (lines-move I (take i h) entry is)) ∙ ap (λ (t : List Entry). before ++ batch_lines I t) (sym more);
-      number_is = told.number_is ∙ ap length (sym (batches-move (take i h) entry is)) ∙ ap (λ (t : List Entry). length (batch_entries t)) (sym more);
-      small = omega (arith, told.small);
+      text = given.text ∙ ap (λ (t : List ℕ). before ++ t) (sym (lines-move I (take i h) entry is)) ∙ ap (λ (t : List Entry). before ++ batch_lines I t) (sym more);
+      number_is = given.number_is ∙ ap length (sym (batches-move (take i h) entry is)) ∙ ap (λ (t : List Entry). length (batch_entries t)) (sym more);
+      small = omega (arith, given.small);
     }
 
 -- the orders taken make no difference to the lines
@@ -91,4 +91,4 @@ pub lines-same : (I J : Situation) → I.parts ≡ J.parts → (h : List Entry) 
 unfolding batch_lines
 lines-same I J same h =
     ap (λ (text : ℕ × Entry → List ℕ). flat_map text (zip (numbers (length (batch_entries h))) (batch_entries h)))
-    (fun_ext (λ (numbered : ℕ × Entry). ap (λ (told : List ℕ). line (codes "batch " ++ decimal numbered.0 ++ codes " " ++ told)) (answer-same I J same numbered.1.answer)))
+    (fun_ext (λ (numbered : ℕ × Entry). ap (λ (given : List ℕ). line (codes "batch " ++ decimal numbered.0 ++ codes " " ++ given)) (answer-same I J same numbered.1.answer)))

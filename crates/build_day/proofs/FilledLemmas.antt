@@ -75,16 +75,16 @@ module _ (x : Files) (feed : List (ℕ × AltRow)) (fed : ℕ × AltRow) where
 
 -- no row is of a batch after the last
 empty_batch : (x : Files) (feed : List (ℕ × AltRow)) (number k : ℕ) → All (λ fed. fed.0 ≤ number) feed → number < k → orders_in_batch x feed k ≡ []
-empty_batch x [] number k most behind = refl
-empty_batch x (fed ∷ feed) number k most behind =
+empty_batch x [] number k most later = refl
+empty_batch x (fed ∷ feed) number k most later =
     let first : fed.0 ≤ number = All-head (λ (f : ℕ × AltRow). f.0 ≤ number) fed feed most in
-    let differs : eqb fed.0 k ≡ false = ne_eqb fed.0 k (λ is. absurd (omega (arith, is, first, behind))) in
+    let differs : eqb fed.0 k ≡ false = ne_eqb fed.0 k (λ is. absurd (omega (arith, is, first, later))) in
     ap (λ b. orders_fed x (cond b (fed ∷ filter (λ f. eqb f.0 k) feed) (filter (λ f. eqb f.0 k) feed))) differs
-    ∙ empty_batch x feed number k (All-tail (λ (f : ℕ × AltRow). f.0 ≤ number) fed feed most) behind
+    ∙ empty_batch x feed number k (All-tail (λ (f : ℕ × AltRow). f.0 ≤ number) fed feed most) later
 
 empty_orders : (x : Files) (feed : List (ℕ × AltRow)) (number k : ℕ) → All (λ fed. fed.0 ≤ number) feed → number < k → orders_at x feed k ≡ []
-empty_orders x feed number zero most behind = absurd (omega (arith, behind))
-empty_orders x feed number (suc k) most behind = empty_batch x feed number (suc k) most behind
+empty_orders x feed number zero most later = absurd (omega (arith, later))
+empty_orders x feed number (suc k) most later = empty_batch x feed number (suc k) most later
 
 module _ (x : Files) (feed : List (ℕ × AltRow)) (fed : ℕ × AltRow) (number : ℕ) (done : List Batch) (orders : List Order) (filled : AreFilled x feed number done orders)
     (some : 1 ≤ fed.0) (least : number ≤ fed.0) (next : fed.0 ≤ number + 1) (last : fed.0 ≡ last_batch (feed ++ fed ∷ [])) where

@@ -19,5 +19,5 @@ past_at rows k left row below is so_far past n =
     let here : groups_in (k + 1) rows ≡ groups_in k rows + length row.groups = sum_by_more (λ (r : PositionRow). length r.groups) rows k row below ∙ ap (λ (r : PositionRow). groups_in k rows + length r.groups) (sym is) in
     elim (cases_lt n k) [
       | inl before ↦ (let few : groups_in (n + 1) rows ≤ groups_in k rows = fewer rows (n + 1) k (omega arith) in lt-leb k n before ∙ sym (le-ltb most_groups (groups_in (n + 1) rows) (omega arith)))
-      | inr behind ↦ (let many : groups_in (k + 1) rows ≤ groups_in (n + 1) rows = fewer rows (k + 1) (n + 1) (omega arith) in le-leb k n behind ∙ sym (lt-ltb most_groups (groups_in (n + 1) rows) (omega arith)))
+      | inr later ↦ (let many : groups_in (k + 1) rows ≤ groups_in (n + 1) rows = fewer rows (k + 1) (n + 1) (omega arith) in le-leb k n later ∙ sym (lt-ltb most_groups (groups_in (n + 1) rows) (omega arith)))
     ]

@@ -33,6 +33,7 @@ pub(crate) struct Positions<'a> {
 }
 
 impl<'a> Positions<'a> {
+    /// What decides it for the rows of these tables, in one walk over them.
     pub(crate) fn of(tables: &'a NameTables<'a>) -> Positions<'a>
         ensures { result.tables.now ≡ tables.now }
     {

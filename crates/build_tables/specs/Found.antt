@@ -14,7 +14,7 @@ key_of_borrowed (borrowed.OnDay flight day) = on_day flight.0.now day
 key_of_borrowed (borrowed.Between origin dest) = between origin.0.now dest.0.now
 key_of_borrowed (borrowed.Booked name inbound) = by_reservation name.0.now inbound
 
--- what is hashed of a key: its names, and the day or the way beside them
+-- what is hashed of a key: its names, and the day or the direction beside them
 abbrev pub hash_input : Borrowed → HashWrites
 hash_input (borrowed.Named name) = name.0.now ∷ []
 hash_input (borrowed.OnDay flight day) = (flight.0.now ∷ []) ++ u32 day

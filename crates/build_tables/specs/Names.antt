@@ -35,6 +35,6 @@ aircraft_place aircraft name = position (λ a. bytes_eq name a.name) aircraft
 abbrev pub is_between : List ℕ → List ℕ → DistRow → Bool
 is_between origin dest row = bytes_eq origin row.origin && bytes_eq dest row.dest
 
--- the distance between two airports: the first row from the one to the other, else the first row the other way
+-- the distance between two airports: the first row from the one to the other, else the first row in the opposite direction
 abbrev pub distance_between : List DistRow → List ℕ → List ℕ → Option DistRow
 distance_between dist origin dest = option_or (find (is_between origin dest) dist) (find (is_between dest origin) dist)

@@ -8,7 +8,6 @@ use file_rows::{
 
 /// The rows of the input files, each list in the order of its file's lines. A day takes at most as many
 /// as each field says; a row past that is refused with `Limit` when the rows are joined.
-#[derive(Debug)]
 pub struct Files {
     /// Of config.csv.
     pub config: Window,
@@ -38,7 +37,7 @@ pub struct Files {
     pub feed: List<(u32, AltRow)>,
 }
 
-/// In one call, so that whoever lets them go does not prove anew that each part of them may go.
+/// Dropped in one call, so that a function that owns one proves it once, and not part by part.
 impl Drop for Files {
     fn drop(self) {
         let Files {

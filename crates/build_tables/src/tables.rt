@@ -34,7 +34,7 @@ pub struct NameTables<'a> {
     ghost legs_placed: { legs.items ≡ flat_map (leg_places files.now.rotations) files.now.itineraries },
 }
 
-/// In one call, so that whoever lets them go does not prove anew that each part of them may go.
+/// Dropped in one call, so that a function that owns one proves it once, and not part by part.
 impl<'a> Drop for NameTables<'a> {
     fn drop(self) {
         let NameTables {

@@ -7,7 +7,7 @@ use Rattle.std.proofs.lemmas.Slice.Eq.{bytes_eq-Decides}
 use Rattle.day_names.specs.contracts.places.KeyPartialEq.TheImpl.{eq-value}
 use Rattle.day_names.specs.declared.places.Key.{Key as Borrowed}
 use Rattle.day_names.specs.declared.places.Key.TheVariants as borrowed
-use Rattle.day_names.specs.Keys.{Key, named, on_day, booked, same_way, is_key, key_in, with_key}
+use Rattle.day_names.specs.Keys.{Key, named, on_day, booked, same_direction, is_key, key_in, with_key}
 
 -- what a test finds, it finds of what the elements are seen as
 any_map : {A B : Type 0} (seen : A → B) (test : B → Bool) (xs : List A) → list_any (λ x. test (seen x)) xs ≡ list_any test (map seen xs)
@@ -56,7 +56,7 @@ seen_with keys k =
     ∙ ap (λ b. cond b (map key_in keys) (map key_in keys ++ key_in k ∷ [])) (ap (λ (t : Borrowed → Bool). list_any t keys) (tests_seen k) ∙ any_map key_in (is_key (key_in k)) keys)
 
 -- a key that passes is the same
-way : (a b : Bool) → same_way a b ≡ true → a ≡ b
+way : (a b : Bool) → same_direction a b ≡ true → a ≡ b
 way true true h = refl
 way false false h = refl
 way true false h = absurd (false≢true h)
@@ -70,7 +70,7 @@ same_key (on_day a n) (on_day b m) h =
     let second = eqb-true n m parts.1 in
     λ i. on_day (first i) (second i)
 same_key (booked a n) (booked b m) h =
-    let parts = and_parts (bytes_eq a b) (same_way n m) h in
+    let parts = and_parts (bytes_eq a b) (same_direction n m) h in
     let first = (bytes_eq-Decides a b).0 parts.0 in
     let second = way n m parts.1 in
     λ i. booked (first i) (second i)

@@ -11,7 +11,7 @@ use Rattle.desk_data.specs.declared.info.LegInfo.{LegInfo}
 use Rattle.desk_data.specs.declared.info.PlaneInfo.{PlaneInfo}
 use Rattle.desk_data.specs.declared.info.ResInfo.{ResInfo}
 use Rattle.desk_data.specs.Situation.{Situation, legs_of, planes_of, reservations_of, no_leg, no_plane, no_res}
-use Rattle.day_names.specs.Keys.{same_way}
+use Rattle.day_names.specs.Keys.{same_direction}
 use Rattle.day_names.specs.Names.{leg_named, plane_named, res_named}
 
 number_within : {Row N : Type 0} (number : ℕ → N) (value : N → ℕ) → ((n : ℕ) → value (number n) ≡ n) → (test : Row → Bool) (rows : List Row) (row : Row) (x : N) (o : Option ℕ) → position test rows ≡ o → option_map number o ≡ Some x → value x < length rows
@@ -32,4 +32,4 @@ plane_named-lt I name plane e =
 pub res_named-lt : (I : Situation) (name : List ℕ) (inbound : Bool) (res : Res) → res_named I name inbound ≡ Some res → res.0 < reservations_of I
 unfolding res_named
 res_named-lt I name inbound res e =
-    number_within (λ r. let q : Res = record { 0 = r } in q) (λ (q : Res). q.0) (λ n. refl) (λ (r : ResInfo). bytes_eq name r.name && same_way inbound r.inbound) I.parts.res no_res res _ refl e
+    number_within (λ r. let q : Res = record { 0 = r } in q) (λ (q : Res). q.0) (λ n. refl) (λ (r : ResInfo). bytes_eq name r.name && same_direction inbound r.inbound) I.parts.res no_res res _ refl e

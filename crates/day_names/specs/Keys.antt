@@ -16,16 +16,16 @@ pub data Key : Type 0 where
   booked : List ℕ → Bool → Key
 
 -- whether both are outbound, or both inbound
-abbrev pub same_way : Bool → Bool → Bool
-same_way true true = true
-same_way false false = true
-same_way true false = false
-same_way false true = false
+abbrev pub same_direction : Bool → Bool → Bool
+same_direction true true = true
+same_direction false false = true
+same_direction true false = false
+same_direction false true = false
 
 abbrev pub is_key : Key → Key → Bool
 is_key (named a) (named b) = bytes_eq a b
 is_key (on_day flight day) (on_day other date) = bytes_eq flight other && (day == date)
-is_key (booked name inbound) (booked other back) = bytes_eq name other && same_way inbound back
+is_key (booked name inbound) (booked other back) = bytes_eq name other && same_direction inbound back
 is_key a b = false
 
 -- the keys, with one more where it is new

@@ -5,7 +5,7 @@ use Rattle.desk_units.specs.declared.numbers.Leg.{Leg}
 use Rattle.desk_units.specs.declared.numbers.Plane.{Plane}
 use Rattle.desk_units.specs.declared.numbers.Res.{Res}
 use Rattle.desk_data.specs.Situation.{Situation, legs_of, planes_of, airports_of, reservations_of}
-use Rattle.day_names.specs.Keys.{Key, same_way, leg_key, plane_key, res_key, airport_key}
+use Rattle.day_names.specs.Keys.{Key, same_direction, leg_key, plane_key, res_key, airport_key}
 
 -- the leg of a flight on a day
 unfoldable pub leg_named : Situation → List ℕ → ℕ → Option Leg
@@ -15,9 +15,9 @@ leg_named I flight day = option_map (λ x. record { 0 = x }) (position (λ leg. 
 unfoldable pub plane_named : Situation → List ℕ → Option Plane
 plane_named I name = option_map (λ p. record { 0 = p }) (position (λ plane. bytes_eq name plane.name) I.parts.planes)
 
--- the reservation of a name and a way, out or back
+-- the reservation of a name and a direction, outbound or inbound
 unfoldable pub res_named : Situation → List ℕ → Bool → Option Res
-res_named I name inbound = option_map (λ r. record { 0 = r }) (position (λ r. bytes_eq name r.name && same_way inbound r.inbound) I.parts.res)
+res_named I name inbound = option_map (λ r. record { 0 = r }) (position (λ r. bytes_eq name r.name && same_direction inbound r.inbound) I.parts.res)
 
 -- the airport of a name
 unfoldable pub airport_named : Situation → List ℕ → Option Airport

@@ -19,7 +19,7 @@ pub struct DayNames<'a> {
     airports: NamePlaces<'a>,
 }
 
-/// In one call, so that whoever lets them go does not prove anew that each part of them may go.
+/// Dropped in one call, so that a function that owns one proves it once, and not part by part.
 impl<'a> Drop for DayNames<'a> {
     fn drop(self) {
         let DayNames {

@@ -35,7 +35,7 @@ pub(crate) struct NamePlaces<'a> {
     keys: IndexSet<Key<'a>>,
 }
 
-/// In one call, so that whoever lets one go does not prove anew that each part of its set may go.
+/// Dropped in one call, so that a function that owns one proves it once, and not part by part.
 impl<'a> Drop for NamePlaces<'a> {
     fn drop(self) {
         let NamePlaces { keys: _ } = self;

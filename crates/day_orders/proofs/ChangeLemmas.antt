@@ -81,80 +81,80 @@ kept_cap_after xs ys zs h e =
 one : (P : CapChange → Type 0) (c : CapChange) → P c → All P (c ∷ [])
 one P c h = All-cons P c [] h (All-nil P)
 
--- the changes with a cap from `first` up to `behind`: `start` stand before the one hour, and `stop` at or before the other
-abbrev pub spanned : (xs : List CapChange) (start stop first behind : ℕ) (cap : HourCap) → List CapChange
-spanned xs start stop first behind cap =
-    ((take start xs ++ (record { hour = first; cap = Some cap }) ∷ []) ++ (record { hour = behind; cap = kept_cap xs behind }) ∷ []) ++ drop stop xs
+-- the changes with a cap from `first` up to `after_last`: `start` stand before the one hour, and `stop` at or before the other
+abbrev pub spanned : (xs : List CapChange) (start stop first after_last : ℕ) (cap : HourCap) → List CapChange
+spanned xs start stop first after_last cap =
+    ((take start xs ++ (record { hour = first; cap = Some cap }) ∷ []) ++ (record { hour = after_last; cap = kept_cap xs after_last }) ∷ []) ++ drop stop xs
 
-pub record IsCut (xs : List CapChange) (start stop first behind : ℕ) : Type 0 where
-  pub up : first < behind
+pub record IsCut (xs : List CapChange) (start stop first after_last : ℕ) : Type 0 where
+  pub up : first < after_last
   pub before : All (λ c. c.hour < first) (take start xs)
   pub from : All (λ c. first ≤ c.hour) (drop start xs)
-  pub until : All (λ c. c.hour ≤ behind) (take stop xs)
-  pub after : All (λ c. behind < c.hour) (drop stop xs)
+  pub until : All (λ c. c.hour ≤ after_last) (take stop xs)
+  pub after : All (λ c. after_last < c.hour) (drop stop xs)
 
-pub spanned_in_order : (xs : List CapChange) (start stop first behind : ℕ) (cap : HourCap) → IsCut xs start stop first behind → AreInOrder xs → AreInOrder (spanned xs start stop first behind cap)
-spanned_in_order xs start stop first behind cap cut order =
+pub spanned_in_order : (xs : List CapChange) (start stop first after_last : ℕ) (cap : HourCap) → IsCut xs start stop first after_last → AreInOrder xs → AreInOrder (spanned xs start stop first after_last cap)
+spanned_in_order xs start stop first after_last cap cut order =
     let front : List CapChange = take start xs in
     let from : CapChange = record { hour = first; cap = Some cap } in
-    let to : CapChange = record { hour = behind; cap = kept_cap xs behind } in
+    let to : CapChange = record { hour = after_last; cap = kept_cap xs after_last } in
     let front_le : All (λ (c : CapChange). c.hour ≤ first) front = All-weaker (λ (c : CapChange). c.hour < first) (λ (c : CapChange). c.hour ≤ first) (λ c k. omega arith) front cut.before in
     let two : AreInOrder (front ++ from ∷ [])
     = in_order-append front (from ∷ []) first (IsNonDecreasingBy-take (λ (c : CapChange). c.hour) start xs order) (IsNonDecreasingBy-short (λ (c : CapChange). c.hour) (from ∷ []) (omega arith)) front_le (one (λ (c : CapChange). first ≤ c.hour) from (omega arith)) in
-    let two_le : All (λ (c : CapChange). c.hour ≤ behind) (front ++ from ∷ [])
-    = All-append (λ (c : CapChange). c.hour ≤ behind) front (from ∷ []) (All-weaker (λ (c : CapChange). c.hour ≤ first) (λ (c : CapChange). c.hour ≤ behind) (λ c k. omega (arith, cut.up)) front front_le) (one (λ (c : CapChange). c.hour ≤ behind) from (omega (arith, cut.up))) in
+    let two_le : All (λ (c : CapChange). c.hour ≤ after_last) (front ++ from ∷ [])
+    = All-append (λ (c : CapChange). c.hour ≤ after_last) front (from ∷ []) (All-weaker (λ (c : CapChange). c.hour ≤ first) (λ (c : CapChange). c.hour ≤ after_last) (λ c k. omega (arith, cut.up)) front front_le) (one (λ (c : CapChange). c.hour ≤ after_last) from (omega (arith, cut.up))) in
     let three : AreInOrder ((front ++ from ∷ []) ++ to ∷ [])
-    = in_order-append (front ++ from ∷ []) (to ∷ []) behind two (IsNonDecreasingBy-short (λ (c : CapChange). c.hour) (to ∷ []) (omega arith)) two_le (one (λ (c : CapChange). behind ≤ c.hour) to (omega arith)) in
-    let three_le : All (λ (c : CapChange). c.hour ≤ behind) ((front ++ from ∷ []) ++ to ∷ [])
-    = All-append (λ (c : CapChange). c.hour ≤ behind) (front ++ from ∷ []) (to ∷ []) two_le (one (λ (c : CapChange). c.hour ≤ behind) to (omega arith)) in
-    in_order-append ((front ++ from ∷ []) ++ to ∷ []) (drop stop xs) behind three (IsNonDecreasingBy-drop (λ (c : CapChange). c.hour) stop xs order) three_le (All-weaker (λ (c : CapChange). behind < c.hour) (λ (c : CapChange). behind ≤ c.hour) (λ c k. omega arith) (drop stop xs) cut.after)
+    = in_order-append (front ++ from ∷ []) (to ∷ []) after_last two (IsNonDecreasingBy-short (λ (c : CapChange). c.hour) (to ∷ []) (omega arith)) two_le (one (λ (c : CapChange). after_last ≤ c.hour) to (omega arith)) in
+    let three_le : All (λ (c : CapChange). c.hour ≤ after_last) ((front ++ from ∷ []) ++ to ∷ [])
+    = All-append (λ (c : CapChange). c.hour ≤ after_last) (front ++ from ∷ []) (to ∷ []) two_le (one (λ (c : CapChange). c.hour ≤ after_last) to (omega arith)) in
+    in_order-append ((front ++ from ∷ []) ++ to ∷ []) (drop stop xs) after_last three (IsNonDecreasingBy-drop (λ (c : CapChange). c.hour) stop xs order) three_le (All-weaker (λ (c : CapChange). after_last < c.hour) (λ (c : CapChange). after_last ≤ c.hour) (λ c k. omega arith) (drop stop xs) cut.after)
 
 later_than : (xs : List CapChange) (t h : ℕ) → h ≤ t → All (λ c. t < c.hour) xs → All (λ c. h < c.hour) xs
 later_than xs t h le later = All-weaker (λ (c : CapChange). t < c.hour) (λ (c : CapChange). h < c.hour) (λ c k. omega arith) xs later
 
 -- before the span
-spanned_before : (xs : List CapChange) (start stop first behind : ℕ) (cap : HourCap) → IsCut xs start stop first behind → (h : ℕ) → h < first → kept_cap (spanned xs start stop first behind cap) h ≡ kept_cap xs h
-spanned_before xs start stop first behind cap cut h lt =
+spanned_before : (xs : List CapChange) (start stop first after_last : ℕ) (cap : HourCap) → IsCut xs start stop first after_last → (h : ℕ) → h < first → kept_cap (spanned xs start stop first after_last cap) h ≡ kept_cap xs h
+spanned_before xs start stop first after_last cap cut h lt =
     let front : List CapChange = take start xs in
     let from : CapChange = record { hour = first; cap = Some cap } in
-    let to : CapChange = record { hour = behind; cap = kept_cap xs behind } in
+    let to : CapChange = record { hour = after_last; cap = kept_cap xs after_last } in
     let old : kept_cap (front ++ drop start xs) h ≡ kept_cap front h
     = kept_cap_front front (drop start xs) h (All-weaker (λ (c : CapChange). first ≤ c.hour) (λ (c : CapChange). h < c.hour) (λ c k. omega (arith, lt)) (drop start xs) cut.from) in
-    kept_cap_front ((front ++ from ∷ []) ++ to ∷ []) (drop stop xs) h (later_than (drop stop xs) behind h (omega (arith, cut.up)) cut.after)
+    kept_cap_front ((front ++ from ∷ []) ++ to ∷ []) (drop stop xs) h (later_than (drop stop xs) after_last h (omega (arith, cut.up)) cut.after)
     ∙ (kept_cap_front (front ++ from ∷ []) (to ∷ []) h (one (λ (c : CapChange). h < c.hour) to (omega (arith, cut.up)))
     ∙ (kept_cap_front front (from ∷ []) h (one (λ (c : CapChange). h < c.hour) from lt)
     ∙ (sym old ∙ ap (λ l. kept_cap l h) (take-append-drop start xs))))
 
 -- in the span
-spanned_within : (xs : List CapChange) (start stop first behind : ℕ) (cap : HourCap) → IsCut xs start stop first behind → (h : ℕ) → first ≤ h → h < behind → kept_cap (spanned xs start stop first behind cap) h ≡ Some cap
-spanned_within xs start stop first behind cap cut h le lt =
+spanned_within : (xs : List CapChange) (start stop first after_last : ℕ) (cap : HourCap) → IsCut xs start stop first after_last → (h : ℕ) → first ≤ h → h < after_last → kept_cap (spanned xs start stop first after_last cap) h ≡ Some cap
+spanned_within xs start stop first after_last cap cut h le lt =
     let front : List CapChange = take start xs in
     let from : CapChange = record { hour = first; cap = Some cap } in
-    let to : CapChange = record { hour = behind; cap = kept_cap xs behind } in
-    kept_cap_front ((front ++ from ∷ []) ++ to ∷ []) (drop stop xs) h (later_than (drop stop xs) behind h (omega arith) cut.after)
+    let to : CapChange = record { hour = after_last; cap = kept_cap xs after_last } in
+    kept_cap_front ((front ++ from ∷ []) ++ to ∷ []) (drop stop xs) h (later_than (drop stop xs) after_last h (omega arith) cut.after)
     ∙ (kept_cap_front (front ++ from ∷ []) (to ∷ []) h (one (λ (c : CapChange). h < c.hour) to lt) ∙ kept_cap_last front from h le)
 
 -- after the span
-spanned_after : (xs : List CapChange) (start stop first behind : ℕ) (cap : HourCap) → IsCut xs start stop first behind → (h : ℕ) → behind ≤ h → kept_cap (spanned xs start stop first behind cap) h ≡ kept_cap xs h
-spanned_after xs start stop first behind cap cut h le =
+spanned_after : (xs : List CapChange) (start stop first after_last : ℕ) (cap : HourCap) → IsCut xs start stop first after_last → (h : ℕ) → after_last ≤ h → kept_cap (spanned xs start stop first after_last cap) h ≡ kept_cap xs h
+spanned_after xs start stop first after_last cap cut h le =
     let most : List CapChange = take start xs ++ (record { hour = first; cap = Some cap }) ∷ [] in
-    let to : CapChange = record { hour = behind; cap = kept_cap xs behind } in
+    let to : CapChange = record { hour = after_last; cap = kept_cap xs after_last } in
     let whole : take stop xs ++ drop stop xs ≡ xs = take-append-drop stop xs in
-    let at_after : kept_cap xs behind ≡ kept_cap (take stop xs) behind
-    = ap (λ l. kept_cap l behind) (sym whole) ∙ kept_cap_front (take stop xs) (drop stop xs) behind cut.after in
+    let at_after : kept_cap xs after_last ≡ kept_cap (take stop xs) after_last
+    = ap (λ l. kept_cap l after_last) (sym whole) ∙ kept_cap_front (take stop xs) (drop stop xs) after_last cut.after in
     let same : kept_cap (most ++ to ∷ []) h ≡ kept_cap (take stop xs) h
-    = kept_cap_last most to h le ∙ (at_after ∙ kept_cap_stays (take stop xs) behind h le cut.until) in
+    = kept_cap_last most to h le ∙ (at_after ∙ kept_cap_stays (take stop xs) after_last h le cut.until) in
     kept_cap_after (most ++ to ∷ []) (take stop xs) (drop stop xs) h same ∙ ap (λ l. kept_cap l h) whole
 
 -- what the changes then say of each hour
-pub spanned_caps : (xs : List CapChange) (start stop first behind : ℕ) (cap : HourCap) → IsCut xs start stop first behind → (h : ℕ) → kept_cap (spanned xs start stop first behind cap) h ≡ (if leb first h && ltb h behind then Some cap else kept_cap xs h)
-spanned_caps xs start stop first behind cap cut h =
+pub spanned_caps : (xs : List CapChange) (start stop first after_last : ℕ) (cap : HourCap) → IsCut xs start stop first after_last → (h : ℕ) → kept_cap (spanned xs start stop first after_last cap) h ≡ (if leb first h && ltb h after_last then Some cap else kept_cap xs h)
+spanned_caps xs start stop first after_last cap cut h =
     ⊎_elim
-    (λ (lt : h < first). rw (lt-leb first h lt) (spanned_before xs start stop first behind cap cut h lt))
+    (λ (lt : h < first). rw (lt-leb first h lt) (spanned_before xs start stop first after_last cap cut h lt))
     (λ (le : first ≤ h).
     rw (le-leb first h le)
     (⊎_elim
-    (λ (lt : h < behind). rw (lt-ltb h behind lt) (spanned_within xs start stop first behind cap cut h le lt))
-    (λ (far : behind ≤ h). rw (le-ltb h behind far) (spanned_after xs start stop first behind cap cut h far))
-    (cases_lt h behind)))
+    (λ (lt : h < after_last). rw (lt-ltb h after_last lt) (spanned_within xs start stop first after_last cap cut h le lt))
+    (λ (far : after_last ≤ h). rw (le-ltb h after_last far) (spanned_after xs start stop first after_last cap cut h far))
+    (cases_lt h after_last)))
     (cases_lt h first)

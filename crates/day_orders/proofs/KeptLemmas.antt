@@ -62,9 +62,9 @@ over : (b : Bool) (cap : HourCap) (kept : Option HourCap) → (if b then Some ca
 over true cap kept = refl
 over false cap kept = refl
 
-pub adds_field : (old : KeptLists) (airport : Airport) (from to : Minute) (cap : HourCap) (first behind : ℕ) (changes : List CapChange) → airport.0 < length old.hours → All AreInOrder old.hours → ((h : ℕ) → touches h from.0 to.0 ≡ (leb first h && ltb h behind)) → AreInOrder changes → ((h : ℕ) → kept_cap changes h ≡ (if leb first h && ltb h behind then Some cap else kept_cap (kept_hours old airport.0) h)) → Adds (Field airport from to cap.deps cap.arrs ∷ []) old (record old { hours = set old.hours airport.0 changes })
+pub adds_field : (old : KeptLists) (airport : Airport) (from to : Minute) (cap : HourCap) (first after_last : ℕ) (changes : List CapChange) → airport.0 < length old.hours → All AreInOrder old.hours → ((h : ℕ) → touches h from.0 to.0 ≡ (leb first h && ltb h after_last)) → AreInOrder changes → ((h : ℕ) → kept_cap changes h ≡ (if leb first h && ltb h after_last then Some cap else kept_cap (kept_hours old airport.0) h)) → Adds (Field airport from to cap.deps cap.arrs ∷ []) old (record old { hours = set old.hours airport.0 changes })
 unfolding last_order_on_leg last_word
-adds_field old airport from to cap first behind changes within order hours up caps = record {
+adds_field old airport from to cap first after_last changes within order hours up caps = record {
   all_legs = refl;
   all_planes = refl;
   all_airports = length-set old.hours airport.0 changes;
@@ -75,7 +75,7 @@ adds_field old airport from to cap first behind changes within order hours up ca
       ⊎_elim
       (λ (same : airport.0 ≡ a).
       rw (eq-eqb airport.0 a same, put_same old.hours airport.0 a changes [] within same, hours h)
-      (caps h ∙ (over (leb first h && ltb h behind) cap (kept_cap (kept_hours old airport.0) h) ∙ ap (λ (k : ℕ). option_or (if leb first h && ltb h behind then Some cap else None) (kept_cap (kept_hours old k) h)) same)))
+      (caps h ∙ (over (leb first h && ltb h after_last) cap (kept_cap (kept_hours old airport.0) h) ∙ ap (λ (k : ℕ). option_or (if leb first h && ltb h after_last then Some cap else None) (kept_cap (kept_hours old k) h)) same)))
       (λ (other : airport.0 ≡ a → ⊥). rw (ne_eqb airport.0 a other, put_other old.hours airport.0 a changes [] other))
       (cases_eq airport.0 a);
 }

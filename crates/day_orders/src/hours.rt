@@ -8,7 +8,7 @@ use desk_units::{Minute, NoMem};
 use std::alloc::Global;
 
 /// What an airport takes in an hour.
-#[derive(Clone, Copy, Debug)]
+#[derive(Clone, Copy)]
 pub struct HourCap {
     /// Departures.
     pub deps: u32,
@@ -17,7 +17,7 @@ pub struct HourCap {
 }
 
 /// What the orders say of an airport from an hour on, up to the hour of the next change.
-#[derive(Clone, Copy, Debug)]
+#[derive(Clone, Copy)]
 pub struct CapChange {
     pub hour: u32,
     /// `None` where they say nothing.
@@ -77,24 +77,24 @@ pub fn with_cap(
     alloc: Global,
     changes: &[CapChange],
     first: u32,
-    behind: u32,
+    after_last: u32,
     cap: HourCap,
 ) -> Result<Vec<CapChange>, NoMem>
     requires order { AreInOrder changes.now }
-    requires up { first < behind }
+    requires up { first < after_last }
     ensures order { IfOk result (λ new. AreInOrder new.items) }
-    ensures caps { IfOk result (λ new. (h : ℕ) → kept_cap new.items h ≡ (if nat_le first h && nat_lt h behind then Some cap else kept_cap changes.now h)) }
+    ensures caps { IfOk result (λ new. (h : ℕ) → kept_cap new.items h ≡ (if nat_le first h && nat_lt h after_last then Some cap else kept_cap changes.now h)) }
 {
     let start = count_before(changes, first);
-    let end = count_up_to(changes, behind);
-    let resumed = cap_at(changes, behind);
+    let end = count_up_to(changes, after_last);
+    let resumed = cap_at(changes, after_last);
     let mut new = Vec::from_slice(alloc, &changes[..start])?;
     new.push(CapChange {
         hour: first,
         cap: Some(cap),
     })?;
     new.push(CapChange {
-        hour: behind,
+        hour: after_last,
         cap: resumed,
     })?;
     new.extend_from_slice(&changes[end..])?;

@@ -10,7 +10,6 @@ use std::alloc::Global;
 use std::marker::Model;
 
 /// What is kept of the orders.
-#[derive(Debug)]
 pub struct OrderTables {
     /// By leg, what its last order says: a delay in minutes, or `None` inside where it is off.
     legs: Vec<Option<Option<u32>>>,
@@ -20,7 +19,7 @@ pub struct OrderTables {
     hours: Vec<Vec<CapChange>>,
 }
 
-/// In one call, so that whoever lets it go does not prove anew that each part of it may go.
+/// Dropped in one call, so that a function that owns one proves it once, and not part by part.
 impl Drop for OrderTables {
     fn drop(self) {
         let OrderTables {
@@ -201,8 +200,8 @@ impl OrderTables {
         ensures { IfOk result (λ _. Adds (Order.Field airport from to cap.deps cap.arrs ∷ []) self.old self.new) }
     {
         match hours_of(from, to) {
-            Some((first, behind)) => {
-                let changes = with_cap(alloc, self.hours(airport), first, behind, cap)?;
+            Some((first, after_last)) => {
+                let changes = with_cap(alloc, self.hours(airport), first, after_last, cap)?;
                 self.put_hours(airport, changes);
                 Ok(())
             }

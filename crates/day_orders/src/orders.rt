@@ -6,7 +6,7 @@ use desk_units::{Airport, Leg, List, Minute, NoMem, Plane};
 use std::alloc::Global;
 
 /// One disruption.
-#[derive(Clone, Copy, Debug)]
+#[derive(Clone, Copy)]
 pub enum Order {
     /// A leg departs that many minutes late, at most 2,880; or it is off, where the delay is `None`.
     Flight {
@@ -34,7 +34,7 @@ pub enum Order {
 
 /// Disruptions that become known together, and the moment at which they do, where that is given. No
 /// batch gives one yet.
-#[derive(Debug, Drop)]
+#[derive(Drop)]
 pub struct Batch {
     /// The moment at which they become known, where it is given.
     pub at: Option<Minute>,

@@ -21,11 +21,14 @@ use desk_top::desk_main;
 use desk_words::command;
 use folder_io::put_report;
 use std::alloc::Global;
-use std::env;
 use std::env::Env;
 use std::io::ErrorKind;
 use std::process::ExitCode;
 use std::rt::Files;
+use std::{env, fs};
+
+// What reads as nothing and can't be written.
+const NULL_DEVICE: &str = "/dev/null";
 
 // The words after the program's name; none where one of them is no text.
 fn words_of<R: Env + Alloc<A = Global>>(rt: &R) -> Result<Vec<String>, NoMem> {
@@ -80,6 +83,11 @@ fn out_of_memory<P: Print + Drop>(alloc: Global, out: &mut HostSink<P>) -> u8 {
 
 fn main(rt: HostRuntime) -> ExitCode {
     let alloc = rt.alloc();
+    // where standard input, output or error is closed, its place would go to the first file that is opened, and what is
+    // printed into that file: these take such a place, and can't be written
+    let _input = fs::open(&rt, NULL_DEVICE);
+    let _output = fs::open(&rt, NULL_DEVICE);
+    let _error = fs::open(&rt, NULL_DEVICE);
     let mut out = HostSink::new(rt);
     let Ok(words) = words_of(&rt) else {
         return ExitCode::from(out_of_memory(alloc, &mut out));

@@ -16,7 +16,7 @@ use desk_units::List;
 use std::alloc::Global;
 
 /// What the rows of the input files make.
-#[derive(Debug, Drop)]
+#[derive(Drop)]
 pub struct Built {
     /// The joined day, before any batch.
     pub inst: Instance,

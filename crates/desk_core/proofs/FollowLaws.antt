@@ -15,22 +15,22 @@ use Rattle.desk_eval.specs.Evaluated.{Evaluated}
 use Rattle.desk_core.specs.Judged.{state_in}
 
 -- the state after an accepted move
-pub followed_move : (E F : Evaluated) (m : Move) (told : Answer) (cost : Grains) → told ≡ Accepted cost → told ≡ answer (state_in E) (event.Move m) → F.inst ≡ E.inst → F.rows ≡ after_move E.inst E.rows m → state_in F ≡ after (state_in E) (event.Move m)
-followed_move E F m told cost is at inst rows =
+pub followed_move : (E F : Evaluated) (m : Move) (given : Answer) (cost : Grains) → given ≡ Accepted cost → given ≡ answer (state_in E) (event.Move m) → F.inst ≡ E.inst → F.rows ≡ after_move E.inst E.rows m → state_in F ≡ after (state_in E) (event.Move m)
+followed_move E F m given cost is at inst rows =
     let S = state_in E in
     let accepted : answer S (event.Move m) ≡ Accepted cost = sym at ∙ is in
     let cause = accepted-cause S m cost accepted in
-    let behind : after S (event.Move m) ≡ record { inst = S.inst; plan = after_move S.inst S.plan m; broken = None } = after-accepted S m cost accepted in
+    let later : after S (event.Move m) ≡ record { inst = S.inst; plan = after_move S.inst S.plan m; broken = None } = after-accepted S m cost accepted in
     let here : state_in F ≡ record { inst = S.inst; plan = after_move S.inst S.plan m; broken = None } = rw (inst, rows, cause.feasible) refl in
-    here ∙ sym behind
+    here ∙ sym later
 
 -- and after one that was not accepted
-pub followed_none : (E : Evaluated) (m : Move) (told : Answer) → told ≡ answer (state_in E) (event.Move m) → is_accepted told ≡ false → state_in E ≡ after (state_in E) (event.Move m)
-followed_none E m told at is = sym (after-unchanged (state_in E) (event.Move m) (ap is_accepted (sym at) ∙ is))
+pub followed_none : (E : Evaluated) (m : Move) (given : Answer) → given ≡ answer (state_in E) (event.Move m) → is_accepted given ≡ false → state_in E ≡ after (state_in E) (event.Move m)
+followed_none E m given at is = sym (after-unchanged (state_in E) (event.Move m) (ap is_accepted (sym at) ∙ is))
 
-pub not_accepted : (told : Answer) → ((cost : Grains) → told ≡ Accepted cost → ⊥) → is_accepted told ≡ false
-not_accepted told lacks =
-    elim (cases_Bool (is_accepted told)) [
-      | inl some ↦ absurd (let is = accepted-known told some in lacks is.0 is.1)
+pub not_accepted : (given : Answer) → ((cost : Grains) → given ≡ Accepted cost → ⊥) → is_accepted given ≡ false
+not_accepted given lacks =
+    elim (cases_Bool (is_accepted given)) [
+      | inl some ↦ absurd (let is = accepted-known given some in lacks is.0 is.1)
       | inr refused ↦ refused
     ]

@@ -32,8 +32,8 @@ answer_is : (E A : Evaluated) (m : Move) (now : Grains) → IsApplied E A m now 
 unfolding answer
 answer_is E A m now h = rw (h.published, h.costs, h.inst, h.rows) refl
 
-pub judged_refused : (E A F : Evaluated) (m : Move) (now : Grains) (told : Answer) → IsApplied E A m now → IsVerdict (verdict (least A.inst A.rows) now.0 (cost A.inst A.rows)) (cost A.inst A.rows) (Some told) → F ≡ E → IsRefused E m F told
-judged_refused E A F m now told h is same = record {
+pub judged_refused : (E A F : Evaluated) (m : Move) (now : Grains) (given : Answer) → IsApplied E A m now → IsVerdict (verdict (least A.inst A.rows) now.0 (cost A.inst A.rows)) (cost A.inst A.rows) (Some given) → F ≡ E → IsRefused E m F given
+judged_refused E A F m now given h is same = record {
   answered = answer_is E A m now h ∙ is.0;
   refused = is.1;
   same = same;

@@ -75,30 +75,30 @@ since-push h entry b proposal is =
 -- ---- one entry more
 
 entry_at : ℕ → Event → Answer → Entry
-entry_at caller e told = record { caller = caller; event = e; answer = told }
+entry_at caller e given = record { caller = caller; event = e; answer = given }
 
-stands : (E : Evaluated) (h : List Entry) (caller : ℕ) (e : Event) (told : Answer) → state (opening (undisturbed E.inst)) h ≡ state_in E → has_room (length h) e ≡ true → IsAskable E.inst e → answer (state_in E) e ≡ told → Stands (opening (undisturbed E.inst)) h (entry_at caller e told)
+stands : (E : Evaluated) (h : List Entry) (caller : ℕ) (e : Event) (given : Answer) → state (opening (undisturbed E.inst)) h ≡ state_in E → has_room (length h) e ≡ true → IsAskable E.inst e → answer (state_in E) e ≡ given → Stands (opening (undisturbed E.inst)) h (entry_at caller e given)
 unfolding entry_at
-stands E h caller e told reached room asked is = record {
+stands E h caller e given reached room asked is = record {
   room = room;
   asked = rw reached asked;
-  told = rw reached (sym is);
+  answered = rw reached (sym is);
 }
 
 -- the entry of a move
 abbrev entry_of_move : ℕ → Move → Answer → Entry
-entry_of_move caller m told = record { caller = caller; event = event.Move m; answer = told }
+entry_of_move caller m given = record { caller = caller; event = event.Move m; answer = given }
 
-stands_move : (E : Evaluated) (h : List Entry) (caller : ℕ) (m : Move) (told : Answer) → state (opening (undisturbed E.inst)) h ≡ state_in E → length h < proposal_limit → Fits E.inst m → answer (state_in E) (event.Move m) ≡ told → Stands (opening (undisturbed E.inst)) h (entry_of_move caller m told)
+stands_move : (E : Evaluated) (h : List Entry) (caller : ℕ) (m : Move) (given : Answer) → state (opening (undisturbed E.inst)) h ≡ state_in E → length h < proposal_limit → Fits E.inst m → answer (state_in E) (event.Move m) ≡ given → Stands (opening (undisturbed E.inst)) h (entry_of_move caller m given)
 unfolding entry_at
-stands_move E h caller m told reached few fits is = stands E h caller (event.Move m) told reached (lt-ltb (length h) proposal_limit few) fits is
+stands_move E h caller m given reached few fits is = stands E h caller (event.Move m) given reached (lt-ltb (length h) proposal_limit few) fits is
 
-pub kept_refused : (E : Evaluated) (counted accepted : ℕ) (h : List Entry) (caller : ℕ) (m : Move) (told : Answer) → IsBook E counted accepted h → length h < proposal_limit → Fits E.inst m → answer (state_in E) (event.Move m) ≡ told → is_accepted told ≡ false → IsBook E counted accepted (h ++ entry_of_move caller m told ∷ [])
-kept_refused E counted accepted h caller m told kept few fits is refused =
-    let entry = entry_of_move caller m told in
+pub kept_refused : (E : Evaluated) (counted accepted : ℕ) (h : List Entry) (caller : ℕ) (m : Move) (given : Answer) → IsBook E counted accepted h → length h < proposal_limit → Fits E.inst m → answer (state_in E) (event.Move m) ≡ given → is_accepted given ≡ false → IsBook E counted accepted (h ++ entry_of_move caller m given ∷ [])
+kept_refused E counted accepted h caller m given kept few fits is refused =
+    let entry = entry_of_move caller m given in
     record {
       settled = kept.settled;
-      legal = legal-append (opening (undisturbed E.inst)) h entry kept.legal (stands_move E h caller m told kept.reached few fits is);
+      legal = legal-append (opening (undisturbed E.inst)) h entry kept.legal (stands_move E h caller m given kept.reached few fits is);
       reached = state-append (opening (undisturbed E.inst)) h (entry ∷ []) ∙ rw kept.reached (after-unchanged (state_in E) (event.Move m) (ap is_accepted is ∙ refused));
       changed = kept.changed ∙ sym (changes-push h entry false refused ∙ (let none : changes h + 0 ≡ changes h = omega arith in none));
       since = kept.since ∙ sym (since-push h entry false refl refused ∙ (let none : accepted_since_batch h + 0 ≡ accepted_since_batch h = omega arith in none));
@@ -106,18 +106,18 @@ kept_refused E counted accepted h caller m told kept few fits is refused =
       few = omega (arith, few, length-append h (entry ∷ []));
     }
 
-pub kept_moved : (E : Evaluated) (counted accepted : ℕ) (h : List Entry) (caller : ℕ) (m : Move) (told : Grains) → IsBook E counted accepted h → length h < proposal_limit → Fits E.inst m → answer (state_in E) (event.Move m) ≡ Accepted told → IsBook (settled_at E.inst (after_move E.inst E.rows m)) (counted + 1) (accepted + 1) (h ++ entry_of_move caller m (Accepted told) ∷ [])
-kept_moved E counted accepted h caller m told kept few fits is =
+pub kept_moved : (E : Evaluated) (counted accepted : ℕ) (h : List Entry) (caller : ℕ) (m : Move) (given : Grains) → IsBook E counted accepted h → length h < proposal_limit → Fits E.inst m → answer (state_in E) (event.Move m) ≡ Accepted given → IsBook (settled_at E.inst (after_move E.inst E.rows m)) (counted + 1) (accepted + 1) (h ++ entry_of_move caller m (Accepted given) ∷ [])
+kept_moved E counted accepted h caller m given kept few fits is =
     let S = state_in E in
-    let entry = entry_of_move caller m (Accepted told) in
-    let cause = accepted-cause S m told is in
+    let entry = entry_of_move caller m (Accepted given) in
+    let cause = accepted-cause S m given is in
     let F = settled_at E.inst (after_move E.inst E.rows m) in
-    let here : after (state (opening (undisturbed E.inst)) h) (event.Move m) ≡ record { inst = F.inst; plan = F.rows; broken = None } = rw kept.reached (after-accepted S m told is) in
+    let here : after (state (opening (undisturbed E.inst)) h) (event.Move m) ≡ record { inst = F.inst; plan = F.rows; broken = None } = rw kept.reached (after-accepted S m given is) in
     let there : state_in F ≡ record { inst = F.inst; plan = F.rows; broken = None } = rw cause.feasible refl in
     let grown = kept.within in
     record {
       settled = refl;
-      legal = legal-append (opening (undisturbed E.inst)) h entry kept.legal (stands_move E h caller m (Accepted told) kept.reached few fits is);
+      legal = legal-append (opening (undisturbed E.inst)) h entry kept.legal (stands_move E h caller m (Accepted given) kept.reached few fits is);
       reached = state-append (opening (undisturbed E.inst)) h (entry ∷ []) ∙ here ∙ sym there;
       changed = ap (λ n. n + 1) kept.changed ∙ sym (changes-push h entry true refl);
       since = ap (λ n. n + 1) kept.since ∙ sym (since-push h entry true refl refl);
@@ -127,17 +127,17 @@ kept_moved E counted accepted h caller m told kept few fits is =
 
 -- the entry of a batch
 abbrev entry_of_batch : ℕ → Batch → Answer → Entry
-entry_of_batch caller B told = record { caller = caller; event = event.Batch B; answer = told }
+entry_of_batch caller B given = record { caller = caller; event = event.Batch B; answer = given }
 
-stands_batch : (E : Evaluated) (h : List Entry) (caller : ℕ) (B : Batch) (told : Answer) → state (opening (undisturbed E.inst)) h ≡ state_in E → length h < batch_limit → IsBatch E.inst.parts B → answer (state_in E) (event.Batch B) ≡ told → Stands (opening (undisturbed E.inst)) h (entry_of_batch caller B told)
+stands_batch : (E : Evaluated) (h : List Entry) (caller : ℕ) (B : Batch) (given : Answer) → state (opening (undisturbed E.inst)) h ≡ state_in E → length h < batch_limit → IsBatch E.inst.parts B → answer (state_in E) (event.Batch B) ≡ given → Stands (opening (undisturbed E.inst)) h (entry_of_batch caller B given)
 unfolding entry_at
-stands_batch E h caller B told reached few batch is = stands E h caller (event.Batch B) told reached (lt-ltb (length h) batch_limit few) batch is
+stands_batch E h caller B given reached few batch is = stands E h caller (event.Batch B) given reached (lt-ltb (length h) batch_limit few) batch is
 
-pub kept_taken : (E F : Evaluated) (counted accepted : ℕ) (h : List Entry) (caller : ℕ) (B : Batch) (told : Answer) → IsBook E counted accepted h → length h < batch_limit → IsBatch E.inst.parts B → IsTaken E B F told → IsBook F (counted + 1) 0 (h ++ entry_of_batch caller B told ∷ [])
-kept_taken E F counted accepted h caller B told kept few batch taken =
-    let entry = entry_of_batch caller B told in
+pub kept_taken : (E F : Evaluated) (counted accepted : ℕ) (h : List Entry) (caller : ℕ) (B : Batch) (given : Answer) → IsBook E counted accepted h → length h < batch_limit → IsBatch E.inst.parts B → IsTaken E B F given → IsBook F (counted + 1) 0 (h ++ entry_of_batch caller B given ∷ [])
+kept_taken E F counted accepted h caller B given kept few batch taken =
+    let entry = entry_of_batch caller B given in
     let same : undisturbed E.inst ≡ undisturbed F.inst = sym (ap undisturbed taken.inst) in
-    let legal = legal-append (opening (undisturbed E.inst)) h entry kept.legal (stands_batch E h caller B told kept.reached few batch taken.answered) in
+    let legal = legal-append (opening (undisturbed E.inst)) h entry kept.legal (stands_batch E h caller B given kept.reached few batch taken.answered) in
     let reached : state (opening (undisturbed E.inst)) (h ++ entry ∷ []) ≡ state_in F
     = state-append (opening (undisturbed E.inst)) h (entry ∷ []) ∙ ap (λ (S : State). after S (event.Batch B)) kept.reached ∙ taken.reached in
     record {

@@ -36,8 +36,8 @@ left_after E B item Q is = rw is refl
 
 -- the state after it is that of an evaluator with its instance and its rows, since the item is the first that the rows break
 after_is : (S : State) (F : Evaluated) (b : Option Broken) → KnowsBroken S → S ≡ record { inst = F.inst; plan = F.rows; broken = b } → S ≡ state_in F
-after_is S F b told is =
-    let item : b ≡ least F.inst F.rows = sym (ap (λ (T : State). T.broken) is) ∙ told ∙ ap (λ (T : State). least T.inst T.plan) is in
+after_is S F b given is =
+    let item : b ≡ least F.inst F.rows = sym (ap (λ (T : State). T.broken) is) ∙ given ∙ ap (λ (T : State). least T.inst T.plan) is in
     is ∙ ap (λ (o : Option Broken). let at : State = record { inst = F.inst; plan = F.rows; broken = o } in at) item
 
 pub taken_chosen : (E F : Evaluated) (B : Batch) (which : Which) → fallback (with_batch E.inst E.rows B) E.rows ≡ fallen.Chosen which F.rows → F.inst ≡ with_batch E.inst E.rows B → F.past ≡ [] → IsTaken E B F (Taken which (grains (cost F.inst F.rows)))

@@ -65,18 +65,18 @@ journal_grows R caller e =
       | inr full ↦ rw full (sym (append-nil R.journal))
     ]
 
-pub served : (R Q : Recorded) (caller : ℕ) (e : Event) (told : Answer) → told ≡ reply R e → Q ≡ with_entry R caller e → turn.Served Replies tells_entry R.opening R.journal caller e told Q.journal
-served R Q caller e told is behind = (
+pub served : (R Q : Recorded) (caller : ℕ) (e : Event) (given : Answer) → given ≡ reply R e → Q ≡ with_entry R caller e → turn.Served Replies tells_entry R.opening R.journal caller e given Q.journal
+served R Q caller e given is later = (
   entry_added R.opening R.journal caller e,
   record { answered = is; recorded = refl },
-  ap (λ (S : Recorded). S.journal) behind ∙ journal_grows R caller e,
+  ap (λ (S : Recorded). S.journal) later ∙ journal_grows R caller e,
   reply_tells R.opening R.journal caller e ∙ sym (ap tells_entry is),
 )
 
 -- and of a call that is Ok or not
-pub served_call : {E : Type 0} (R Q : Recorded) (caller : ℕ) (e : Event) (result : Result Answer E) → IfOk result (λ told. told ≡ reply R e) → OnOk result (Q ≡ with_entry R caller e) → IfOk result (λ told. turn.Served Replies tells_entry R.opening R.journal caller e told Q.journal)
-served_call R Q caller e (Ok told) is behind = served R Q caller e told is behind
-served_call R Q caller e (Err error) is behind = tt
+pub served_call : {E : Type 0} (R Q : Recorded) (caller : ℕ) (e : Event) (result : Result Answer E) → IfOk result (λ given. given ≡ reply R e) → OnOk result (Q ≡ with_entry R caller e) → IfOk result (λ given. turn.Served Replies tells_entry R.opening R.journal caller e given Q.journal)
+served_call R Q caller e (Ok given) is later = served R Q caller e given is later
+served_call R Q caller e (Err error) is later = tt
 
 -- ---- legal histories
 
@@ -84,8 +84,8 @@ answered_at : (I : Situation) (g : List Entry) (entry : Entry) → Stands (openi
 answered_at I g entry s =
     let S = state (opening I) g in
     record {
-      answered = rw s.room s.told;
-      recorded = rw s.room (ap (λ (a : Answer). let at : Entry = record { caller = entry.caller; event = entry.event; answer = a } in Some at) s.told);
+      answered = rw s.room s.answered;
+      recorded = rw s.room (ap (λ (a : Answer). let at : Entry = record { caller = entry.caller; event = entry.event; answer = a } in Some at) s.answered);
     }
 
 -- a legal history of the desk is one that turns have
@@ -102,10 +102,10 @@ added_is I g caller e entry false room is =
     let none : Some entry ≡ None = rw room at is in
     absurd cc
 
-stands_at : (I : Situation) (g : List Entry) (caller : ℕ) (e : Event) (told : Answer) (entry : Entry) → IsAskable I e → Replies I g caller e told (Some entry) → Stands (opening I) g entry
-stands_at I g caller e told entry asked replies =
+stands_at : (I : Situation) (g : List Entry) (caller : ℕ) (e : Event) (given : Answer) (entry : Entry) → IsAskable I e → Replies I g caller e given (Some entry) → Stands (opening I) g entry
+stands_at I g caller e given entry asked replies =
     let facts = added_is I g caller e entry (has_room (length g) e) refl replies.recorded in
-    let made : Stands (opening I) g (entry_of (state (opening I) g) caller e) = record { room = facts.0; asked = (askable_along I g e).1 asked; told = refl } in
+    let made : Stands (opening I) g (entry_of (state (opening I) g) caller e) = record { room = facts.0; asked = (askable_along I g e).1 asked; answered = refl } in
     subst (λ (x : Entry). Stands (opening I) g x) (sym facts.1) made
 
 -- and what turns have is a legal history of the desk
@@ -126,8 +126,8 @@ full_is I g e =
       | inr full ↦ rw full refl
     ]
 
-pub reported_of : (I : Situation) (v : View Situation Entry) (caller : ℕ) (e : Event) (told : Answer) (w : View Situation Entry) → Called Replies tells_entry I v caller e told w → GetsAnswer I v caller e told w
-reported_of I v caller e told w called = record {
+pub reported_of : (I : Situation) (v : View Situation Entry) (caller : ℕ) (e : Event) (given : Answer) (w : View Situation Entry) → Called Replies tells_entry I v caller e given w → GetsAnswer I v caller e given w
+reported_of I v caller e given w called = record {
   history = called.before;
   began = called.began;
   room = λ room.

@@ -21,23 +21,23 @@ state_in E = record { inst = E.inst; plan = E.rows; broken = least E.inst E.rows
 
 -- whether a verdict refuses: where it does, this is the answer; else the move is accepted at this cost
 abbrev pub IsVerdict : Answer → ℕ → Option Answer → Type 0
-IsVerdict verdict would (Some told) = (verdict ≡ told) × (is_accepted told ≡ false)
+IsVerdict verdict would (Some given) = (verdict ≡ given) × (is_accepted given ≡ false)
 IsVerdict verdict would None = verdict ≡ Accepted (grains would)
 
 -- the move is accepted at this cost; the moved plan stands in the evaluator, and is taken back by this
-pub record IsMoved (before : Evaluated) (m : Move) (behind : Evaluated) (undo : WayBack) (cost : Grains) : Type 0 where
+pub record IsMoved (before : Evaluated) (m : Move) (now : Evaluated) (undo : WayBack) (cost : Grains) : Type 0 where
   pub answered : answer (state_in before) (event.Move m) ≡ Accepted cost
-  pub inst : behind.inst ≡ before.inst
-  pub rows : behind.rows ≡ after_move before.inst before.rows m
-  pub back : back_to undo.depth behind ≡ before
+  pub inst : now.inst ≡ before.inst
+  pub rows : now.rows ≡ after_move before.inst before.rows m
+  pub back : back_to undo.depth now ≡ before
 
 -- the move is refused with this answer, and the evaluator is as before
-pub record IsRefused (before : Evaluated) (m : Move) (behind : Evaluated) (told : Answer) : Type 0 where
-  pub answered : answer (state_in before) (event.Move m) ≡ told
-  pub refused : is_accepted told ≡ false
-  pub same : behind ≡ before
+pub record IsRefused (before : Evaluated) (m : Move) (now : Evaluated) (given : Answer) : Type 0 where
+  pub answered : answer (state_in before) (event.Move m) ≡ given
+  pub refused : is_accepted given ≡ false
+  pub same : now ≡ before
 
 -- what becomes of a move, between the evaluator before it and the one after it
 abbrev pub IsJudged : Evaluated → Move → Evaluated → Judged → Type 0
-IsJudged before m behind (Moved undo cost) = IsMoved before m behind undo cost
-IsJudged before m behind (Refused told) = IsRefused before m behind told
+IsJudged before m now (Moved undo cost) = IsMoved before m now undo cost
+IsJudged before m now (Refused given) = IsRefused before m now given

@@ -9,8 +9,8 @@ use Rattle.desk_eval.specs.Evaluated.{Evaluated}
 use Rattle.desk_core.specs.Judged.{state_in}
 
 -- the batch is answered with this at the state of the evaluator before it, and the evaluator after it holds the state after the batch
-pub record IsTaken (before : Evaluated) (B : Batch) (behind : Evaluated) (told : Answer) : Type 0 where
-  pub answered : answer (state_in before) (event.Batch B) ≡ told
-  pub inst : behind.inst ≡ with_batch before.inst before.rows B
-  pub reached : after (state_in before) (event.Batch B) ≡ state_in behind
-  pub settled : behind.past ≡ []
+pub record IsTaken (before : Evaluated) (B : Batch) (now : Evaluated) (given : Answer) : Type 0 where
+  pub answered : answer (state_in before) (event.Batch B) ≡ given
+  pub inst : now.inst ≡ with_batch before.inst before.rows B
+  pub reached : after (state_in before) (event.Batch B) ≡ state_in now
+  pub settled : now.past ≡ []

@@ -22,25 +22,25 @@ is_full other = false
 
 -- an answer says that an entry was added unless it is Full
 abbrev pub tells_entry : Answer → Bool
-tells_entry told = not (is_full told)
+tells_entry given = not (is_full given)
 
 -- the entry that an event adds after a history, or none where there is no room for it
 abbrev pub entry_added : Situation → List Entry → ℕ → Event → Option Entry
 entry_added I g caller e = if has_room (length g) e then Some (entry_of (state (opening I) g) caller e) else None
 
 -- at the history g from the opening of an instance a caller's event is answered with this, and this entry is added, or none
-pub record Replies (I : Situation) (g : List Entry) (caller : ℕ) (e : Event) (told : Answer) (added : Option Entry) : Type 0 where
-  pub answered : told ≡ reply (record { opening = I; journal = g }) e
+pub record Replies (I : Situation) (g : List Entry) (caller : ℕ) (e : Event) (given : Answer) (added : Option Entry) : Type 0 where
+  pub answered : given ≡ reply (record { opening = I; journal = g }) e
   pub recorded : added ≡ entry_added I g caller e
 
 -- what a pass learns by a call, and what it then has seen and made
-pub record GetsAnswer (I : Situation) (v : View Situation Entry) (caller : ℕ) (e : Event) (told : Answer) (w : View Situation Entry) : Type 0 where
+pub record GetsAnswer (I : Situation) (v : View Situation Entry) (caller : ℕ) (e : Event) (given : Answer) (w : View Situation Entry) : Type 0 where
   -- the history that stood at its turn
   pub history : List Entry
   pub began : IsPrefix v.seen history
   -- where there is room, the answer is that of the state of that history, the entry comes after it, and its place is made
-  pub room : has_room (length history) e ≡ true → (told ≡ answer (state (opening I) history) e) × (w.seen ≡ history ++ entry_of (state (opening I) history) caller e ∷ []) × (w.made ≡ v.made ++ length history ∷ [])
+  pub room : has_room (length history) e ≡ true → (given ≡ answer (state (opening I) history) e) × (w.seen ≡ history ++ entry_of (state (opening I) history) caller e ∷ []) × (w.made ≡ v.made ++ length history ∷ [])
   -- where there is none, the answer is Full with the length of that history, and nothing is made
-  pub none : has_room (length history) e ≡ false → (told ≡ Full (length history)) × (w.seen ≡ history) × (w.made ≡ v.made)
+  pub none : has_room (length history) e ≡ false → (given ≡ Full (length history)) × (w.seen ≡ history) × (w.made ≡ v.made)
   -- the answer says which of the two it is
-  pub tells : is_full told ≡ not (has_room (length history) e)
+  pub tells : is_full given ≡ not (has_room (length history) e)

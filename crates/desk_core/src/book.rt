@@ -22,7 +22,7 @@ const BATCH_LIMIT: usize = 1_000_000;
 /// The desk's book: the state, and the journal of what arrived, what was proposed and what was
 /// answered. Contracts see it as the instance that it was opened with and its journal: its state is
 /// that of its journal.
-#[derive(Debug, Drop)]
+#[derive(Drop)]
 pub struct Book {
     /// The instance and the plan. Between two calls no change of the plan waits to be taken back.
     eval: Evaluator,
@@ -76,7 +76,7 @@ impl Book {
     /// and one entry is journalled. After `NoMem` the book is as before.
     pub fn intake(&mut self, alloc: Global, caller: u32, batch: &Batch) -> Result<Answer, NoMem>
         requires { IsBatch self.old.opening.parts batch.now }
-        ensures answer { IfOk result (λ told. told ≡ reply self.old (event.Batch batch.now)) }
+        ensures answer { IfOk result (λ given. given ≡ reply self.old (event.Batch batch.now)) }
         ensures after { OnOk result (self.new ≡ with_entry self.old caller (event.Batch batch.now)) }
         ensures err { OnErr result (self.new ≡ self.old) }
         ensures opening { self.new.opening ≡ self.old.opening }
@@ -105,7 +105,7 @@ impl Book {
     /// and one entry is journalled. After `NoMem` the book is as before.
     pub fn propose(&mut self, alloc: Global, caller: u32, m: &Move) -> Result<Answer, NoMem>
         requires { Fits self.old.opening m.now }
-        ensures answer { IfOk result (λ told. told ≡ reply self.old (event.Move m.now)) }
+        ensures answer { IfOk result (λ given. given ≡ reply self.old (event.Move m.now)) }
         ensures after { OnOk result (self.new ≡ with_entry self.old caller (event.Move m.now)) }
         ensures err { OnErr result (self.new ≡ self.old) }
         ensures opening { self.new.opening ≡ self.old.opening }

@@ -15,7 +15,7 @@ use plan_moves::Move;
 use std::alloc::Global;
 
 /// What judging a move finds out.
-#[derive(Debug, Drop)]
+#[derive(Drop)]
 pub(crate) enum Judged {
     /// The moved plan is feasible and cheaper, and stands in the evaluator: what takes it back, and
     /// its cost.

@@ -11,7 +11,7 @@ use desk_model::{Answer, Fallback};
 use std::alloc::Global;
 
 /// What the desk falls back on when a batch arrives.
-#[derive(Debug, Drop)]
+#[derive(Drop)]
 pub(crate) struct Taken {
     /// The instance with the batch's orders, and the plan; or where there is none, the rows that are
     /// left.

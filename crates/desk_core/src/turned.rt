@@ -2,7 +2,7 @@
 
 ghost use Rattle.std.specs.Prelude.{◌≡◌, ℕ, List as Items};
 ghost use Rattle.desk_data.specs.Situation.{Situation};
-ghost use Rattle.desk_model.specs.declared.answer.Answer.{Answer as Told};
+ghost use Rattle.desk_model.specs.declared.answer.Answer.{Answer as Given};
 ghost use Rattle.desk_model.specs.declared.answer.Entry.{Entry as Recorded};
 ghost use Rattle.desk_model.specs.declared.answer.Event.{Event as Asked};
 ghost use Rattle.desk_model.specs.States.{opening};
@@ -70,5 +70,5 @@ pub fn what_a_pass_has_seen_keeps_the_promises()
 /// room for it, the answer is `Full` with the length of that history, and there is no entry. The
 /// answer says which.
 pub fn a_pass_gets_the_answer_at_the_history_of_its_turn()
-    ensures { (I : Situation) (v w : Pass Situation Recorded) (caller : ℕ) (e : Asked) (told : Told) → Called Replies tells_entry I v caller e told w → GetsAnswer I v caller e told w }
+    ensures { (I : Situation) (v w : Pass Situation Recorded) (caller : ℕ) (e : Asked) (given : Given) → Called Replies tells_entry I v caller e given w → GetsAnswer I v caller e given w }
 {}

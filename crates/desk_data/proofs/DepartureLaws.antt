@@ -8,7 +8,7 @@ use Rattle.desk_units.specs.declared.numbers.Minute.{Minute}
 use Rattle.desk_units.specs.declared.numbers.Plane.{Plane}
 use Rattle.desk_data.specs.declared.row.Row.{Row}
 use Rattle.desk_data.specs.declared.row.Row.TheVariants.{Flown, Cancelled}
-use Rattle.desk_data.specs.Situation.{Situation, legs_of, planes_of, airports_of, leg_at, no_leg, fixed, ordered_off, earliest, latest, due}
+use Rattle.desk_data.specs.Situation.{Situation, legs_of, planes_of, airports_of, leg_at, no_leg, fixed, called_off, earliest, latest, due}
 use Rattle.desk_data.specs.Valid.{IsValid, IsLeg, IsRowOf}
 use Rattle.desk_data.proofs.SaidLemmas.{delay_of-last_order_on_leg}
 
@@ -45,7 +45,7 @@ some_if false x = refl
 
 pub due-fixed : (I : Situation) (x : ℕ) → is_some (due I x) ≡ fixed I x
 unfolding due
-due-fixed I x = some_if (fixed I x) (if ordered_off I x then Cancelled else Flown (leg_at I x).plane (record { 0 = earliest I x }))
+due-fixed I x = some_if (fixed I x) (if called_off I x then Cancelled else Flown (leg_at I x).plane (record { 0 = earliest I x }))
 
 pub due-movable : (I : Situation) (x : ℕ) → fixed I x ≡ false → due I x ≡ None
 unfolding due
@@ -61,4 +61,4 @@ pub due-valid : (I : Situation) (x : ℕ) → IsValid I → x < legs_of I → (r
 unfolding due
 due-valid I x valid within row is =
     let leg = All-get_or (IsLeg (airports_of I) (planes_of I) (legs_of I)) I.parts.legs x no_leg within valid.parts.legs in
-    due_by (planes_of I) (fixed I x) (ordered_off I x) (leg_at I x).plane (record { 0 = earliest I x }) leg.plane (earliest-lt I x valid) row is
+    due_by (planes_of I) (fixed I x) (called_off I x) (leg_at I x).plane (record { 0 = earliest I x }) leg.plane (earliest-lt I x valid) row is

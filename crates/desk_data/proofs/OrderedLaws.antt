@@ -12,16 +12,16 @@ use Rattle.day_orders.specs.declared.orders.Batch.{Batch}
 use Rattle.day_orders.specs.LastOrders.{order_on_leg, last_order_on_leg, span_of, last_word, touches, order_on_hour}
 use Rattle.day_orders.proofs.LastLemmas.{last_word-append, last_word_none}
 use Rattle.desk_data.specs.PlanRows.{PlanRows}
-use Rattle.desk_data.specs.Situation.{Situation, with_batch, leg_at, earliest, ordered_off, delay_of, is_off, spans}
+use Rattle.desk_data.specs.Situation.{Situation, with_batch, leg_at, earliest, called_off, delay_of, is_off, spans}
 use Rattle.desk_data.specs.Hours.{hour_cap, dep_cap, arr_cap}
 use Rattle.desk_data.specs.LaterOrders.{IsOfLeg, HasMinuteIn, IsOfHour, ObeysOfLeg, ObeysOfHour, AddsOrders}
 
 -- ---- the last word
 
 -- one row decides where none after it says anything
-word_last : {X Y : Type 0} (says : X → Option Y) (before behind : List X) (x : X) (y : Y) → says x ≡ Some y → All (λ z. says z ≡ None) behind → last_word says (before ++ x ∷ behind) ≡ Some y
+word_last : {X Y : Type 0} (says : X → Option Y) (before after : List X) (x : X) (y : Y) → says x ≡ Some y → All (λ z. says z ≡ None) after → last_word says (before ++ x ∷ after) ≡ Some y
 unfolding last_word
-word_last says before behind x y is silent = last_word-append says before (x ∷ behind) ∙ rw (last_word_none says behind silent, is) refl
+word_last says before after x y is silent = last_word-append says before (x ∷ after) ∙ rw (last_word_none says after silent, is) refl
 
 -- rows that say nothing change nothing
 word_same : {X Y : Type 0} (says : X → Option Y) (xs ys : List X) → All (λ z. says z ≡ None) ys → last_word says (xs ++ ys) ≡ last_word says xs
@@ -53,22 +53,22 @@ silent_on_leg x (Field airport from to deps arrs) other = refl
 silent_on_legs : (x : ℕ) (orders : List Order) → All (λ order. IsOfLeg x order → ⊥) orders → All (λ order. order_on_leg x order ≡ None) orders
 silent_on_legs x orders others = All-weaker (λ (order : Order). IsOfLeg x order → ⊥) (λ (order : Order). order_on_leg x order ≡ None) (silent_on_leg x) orders others
 
-said_of_leg : (x : ℕ) (before behind : List Order) (delay : Option ℕ) → All (λ order. IsOfLeg x order → ⊥) behind → last_order_on_leg x (before ++ Flight (record { 0 = x }) delay ∷ behind) ≡ Some delay
-said_of_leg x before behind delay others =
-    leg_word x (before ++ Flight (record { 0 = x }) delay ∷ behind)
-    ∙ word_last (order_on_leg x) before behind (Flight (record { 0 = x }) delay) delay (rw (eqb-refl x) refl) (silent_on_legs x behind others)
+said_of_leg : (x : ℕ) (before after : List Order) (delay : Option ℕ) → All (λ order. IsOfLeg x order → ⊥) after → last_order_on_leg x (before ++ Flight (record { 0 = x }) delay ∷ after) ≡ Some delay
+said_of_leg x before after delay others =
+    leg_word x (before ++ Flight (record { 0 = x }) delay ∷ after)
+    ∙ word_last (order_on_leg x) before after (Flight (record { 0 = x }) delay) delay (rw (eqb-refl x) refl) (silent_on_legs x after others)
 
-leg_last : (I : Situation) (x : ℕ) (delay : Option ℕ) → last_order_on_leg x I.orders ≡ Some delay → (ordered_off I x ≡ is_none delay) × (earliest I x ≡ (leg_at I x).sched.0 + unwrap_or delay 0)
-unfolding ordered_off earliest is_off delay_of
+leg_last : (I : Situation) (x : ℕ) (delay : Option ℕ) → last_order_on_leg x I.orders ≡ Some delay → (called_off I x ≡ is_none delay) × (earliest I x ≡ (leg_at I x).sched.0 + unwrap_or delay 0)
+unfolding called_off earliest is_off delay_of
 leg_last I x delay is = (ap is_off is, ap (λ o. (leg_at I x).sched.0 + delay_of o) is)
 
-leg_none : (I : Situation) (x : ℕ) → last_order_on_leg x I.orders ≡ None → (ordered_off I x ≡ false) × (earliest I x ≡ (leg_at I x).sched.0)
-unfolding ordered_off earliest is_off delay_of
+leg_none : (I : Situation) (x : ℕ) → last_order_on_leg x I.orders ≡ None → (called_off I x ≡ false) × (earliest I x ≡ (leg_at I x).sched.0)
+unfolding called_off earliest is_off delay_of
 leg_none I x is = (ap is_off is, (let at : earliest I x ≡ (leg_at I x).sched.0 + 0 = ap (λ o. (leg_at I x).sched.0 + delay_of o) is in omega (arith, at)))
 
 pub obeys_of_leg : (I : Situation) (x : ℕ) → ObeysOfLeg I x
 obeys_of_leg I x = record {
-  last = λ before behind delay is others. leg_last I x delay (ap (last_order_on_leg x) is ∙ said_of_leg x before behind delay others);
+  last = λ before after delay is others. leg_last I x delay (ap (last_order_on_leg x) is ∙ said_of_leg x before after delay others);
   none = λ others. leg_none I x (leg_word x I.orders ∙ last_word_none (order_on_leg x) I.orders (silent_on_legs x I.orders others));
 }
 
@@ -95,7 +95,7 @@ touches_not h from to other =
     elim (cases_lt from to) [
       | inr none ↦ rw (le-ltb from to none) refl
       | inl some ↦ elim (cases_lt from (60 * h + 60)) [
-        | inr behind ↦ rw (lt-ltb from to some, le-ltb from (60 * h + 60) behind) refl
+        | inr after ↦ rw (lt-ltb from to some, le-ltb from (60 * h + 60) after) refl
         | inl early ↦ elim (cases_lt (60 * h) to) [
           | inr before ↦ rw (lt-ltb from to some, lt-ltb from (60 * h + 60) early, le-ltb (60 * h) to before) refl
           | inl late ↦ absurd (other (minute_in h from to some early late))
@@ -121,17 +121,17 @@ hour_last I a h cap is = (rw is refl, rw is refl)
 
 pub obeys_of_hour : (I : Situation) (a h : ℕ) → ObeysOfHour I a h
 obeys_of_hour I a h = record {
-  last = λ before behind from to deps arrs is minute others.
+  last = λ before after from to deps arrs is minute others.
       let order : Order = Field (record { 0 = a }) from to deps arrs in
       let cap : HourCap = record { deps = deps; arrs = arrs } in
       let says : order_on_hour a h order ≡ Some cap = rw (eqb-refl a, touches_minute h from.0 to.0 minute) refl in
-      hour_last I a h cap (ap (last_word (order_on_hour a h)) is ∙ word_last (order_on_hour a h) before behind order cap says (silent_on_hours a h behind others));
+      hour_last I a h cap (ap (last_word (order_on_hour a h)) is ∙ word_last (order_on_hour a h) before after order cap says (silent_on_hours a h after others));
 }
 
 -- ---- what a batch adds
 
-leg_same : (I J : Situation) (x : ℕ) → J.parts ≡ I.parts → last_order_on_leg x J.orders ≡ last_order_on_leg x I.orders → (ordered_off J x ≡ ordered_off I x) × (earliest J x ≡ earliest I x)
-unfolding ordered_off earliest
+leg_same : (I J : Situation) (x : ℕ) → J.parts ≡ I.parts → last_order_on_leg x J.orders ≡ last_order_on_leg x I.orders → (called_off J x ≡ called_off I x) × (earliest J x ≡ earliest I x)
+unfolding called_off earliest
 leg_same I J x parts is = (ap is_off is, rw (parts, is) refl)
 
 hour_same : (I J : Situation) (a h : ℕ) → J.parts ≡ I.parts → last_word (order_on_hour a h) J.orders ≡ last_word (order_on_hour a h) I.orders → (dep_cap J a h ≡ dep_cap I a h) × (arr_cap J a h ≡ arr_cap I a h)

@@ -102,23 +102,23 @@ unfoldable pub is_off : Option (Option ℕ) → Bool
 is_off None = false
 is_off (Some said) = is_none said
 
--- the earliest and the latest departure of leg x, and whether it is ordered off
+-- the earliest and the latest departure of leg x, and whether it is called off
 unfoldable pub earliest : Situation → ℕ → ℕ
 earliest I x = (leg_at I x).sched.0 + delay_of (last_order_on_leg x I.orders)
 
 unfoldable pub latest : Situation → ℕ → ℕ
 latest I x = earliest I x + 2880
 
-unfoldable pub ordered_off : Situation → ℕ → Bool
-ordered_off I x = is_off (last_order_on_leg x I.orders)
+unfoldable pub called_off : Situation → ℕ → Bool
+called_off I x = is_off (last_order_on_leg x I.orders)
 
 -- a leg is fixed if its scheduled aircraft is surface transport or it is scheduled before the window
 unfoldable pub fixed : Situation → ℕ → Bool
 fixed I x = (plane_at I (leg_at I x).plane.0).surface || nat_lt (leg_at I x).sched.0 I.parts.from.0
 
--- the row that a fixed leg should have: it is cancelled if it is ordered off, and else flown by its scheduled aircraft at its earliest departure. A movable leg should have none
+-- the row that a fixed leg should have: it is cancelled if it is called off, and else flown by its scheduled aircraft at its earliest departure. A movable leg should have none
 unfoldable pub due : Situation → ℕ → Option Row
-due I x = if fixed I x then Some (if ordered_off I x then Cancelled else Flown (leg_at I x).plane (record { 0 = earliest I x })) else None
+due I x = if fixed I x then Some (if called_off I x then Cancelled else Flown (leg_at I x).plane (record { 0 = earliest I x })) else None
 
 -- the spans in which aircraft p is out of service, in the order of the orders
 unfoldable pub spans : Situation → ℕ → List (Minute × Minute)

@@ -11,7 +11,7 @@ use desk_units::{Airport, Cabin, Haul, Leg, List, Minute, NoMem, Res};
 use std::alloc::Global;
 
 /// What a reservation booked.
-#[derive(Clone, Copy, Debug)]
+#[derive(Clone, Copy)]
 pub struct Booked {
     /// Where its first leg leaves.
     pub origin: Airport,

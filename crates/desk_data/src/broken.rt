@@ -7,7 +7,7 @@ use desk_units::{Airport, Cabin, Leg, Plane, Res};
 pub enum Broken {
     /// A fixed leg has another row than it must have.
     C1(Leg),
-    /// A movable leg flies though it is ordered off, or departs too early or too late.
+    /// A movable leg flies though it is called off, or departs too early or too late.
     C2(Leg),
     /// A leg is flown by an aircraft of another family.
     C3(Leg),

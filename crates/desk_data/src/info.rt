@@ -4,12 +4,15 @@ use crate::path::Path;
 use desk_units::{Airport, Haul, Leg, List, Minute, Name, Plane, Price, Seats};
 
 /// A leg: one flight on one date, as one line of the rotations schedules it.
-#[derive(Clone, Copy, Debug)]
+#[derive(Clone, Copy)]
 pub struct LegInfo {
+    /// The name of its flight.
     pub flight: Name,
     /// The flight's date: days since 2000-01-01, below 36,525.
     pub day: u32,
+    /// Where it leaves.
     pub origin: Airport,
+    /// Where it arrives.
     pub dest: Airport,
     /// The scheduled departure, at most 52,480,000.
     pub sched: Minute,
@@ -17,28 +20,35 @@ pub struct LegInfo {
     pub block: u32,
     /// From origin to destination: at most 100,000 minutes.
     pub distance: u32,
+    /// How far it goes: domestic, continental or intercontinental.
     pub haul: Haul,
     /// The scheduled aircraft.
     pub plane: Plane,
-    /// The leg before it on the same aircraft at its transit time, where its flight names one.
+    /// Its previous leg, after which it needs the transit time alone, whichever aircraft flies both; `None` where its
+    /// flight names none, or the date has no such leg.
     pub prev: Option<Leg>,
 }
 
 /// A maintenance that an aircraft is due at an airport.
-#[derive(Clone, Copy, Debug)]
+#[derive(Clone, Copy)]
 pub struct Maint {
+    /// Where it is.
     pub airport: Airport,
+    /// When it starts, in minutes since 2000-01-01.
     pub from: Minute,
+    /// When it ends: the aircraft may depart from then on.
     pub to: Minute,
     /// The block minutes that the aircraft may fly before it: at most 100,000.
     pub minutes: u32,
 }
 
 /// An aircraft.
-#[derive(Clone, Copy, Debug)]
+#[derive(Clone, Copy)]
 pub struct PlaneInfo {
     pub name: Name,
+    /// Its type, by which positions want it.
     pub model: Name,
+    /// The types that can replace one another on a leg.
     pub family: Name,
     pub seats: Seats,
     /// The longest leg that it can fly: at most 100,000 minutes of distance.
@@ -51,13 +61,14 @@ pub struct PlaneInfo {
     pub transit: u32,
     /// Where the aircraft stands before its first leg.
     pub origin: Airport,
+    /// Its maintenance, if it has one.
     pub maint: Option<Maint>,
-    /// Whether it is no aircraft but surface transport, whose legs nothing moves.
+    /// Whether it is no aircraft but surface transport, a bus or a train, whose legs are fixed.
     pub surface: bool,
 }
 
 /// A reservation: some passengers on one scheduled path.
-#[derive(Debug, Drop)]
+#[derive(Drop)]
 pub struct ResInfo {
     pub name: Name,
     /// Whether this is the inbound half of a return trip.
@@ -71,7 +82,7 @@ pub struct ResInfo {
 }
 
 /// What an airport can take in an hour, in a part of the day.
-#[derive(Clone, Copy, Debug)]
+#[derive(Clone, Copy)]
 pub struct Cap {
     /// Departures in an hour: at most 100,000.
     pub deps: u32,
@@ -84,14 +95,15 @@ pub struct Cap {
 }
 
 /// An airport.
-#[derive(Debug, Drop)]
+#[derive(Drop)]
 pub struct AirportInfo {
     pub name: Name,
+    /// What it can take by the time of day: of those that have a minute the last one decides.
     pub caps: List<Cap>,
 }
 
-/// The aircraft of one model and seats that an airport should have at the day's end.
-#[derive(Clone, Copy, Debug)]
+/// The aircraft of one model and seats that are wanted at an airport at the window's end.
+#[derive(Clone, Copy)]
 pub struct PositionInfo {
     pub airport: Airport,
     pub model: Name,

@@ -5,7 +5,7 @@ ghost use Rattle.day_orders.specs.KeptLists.{nothing_kept};
 ghost use Rattle.day_orders.specs.LastOrders.{last_order_on_leg};
 ghost use Rattle.desk_data.specs.Booked.{IsBooked};
 ghost use Rattle.desk_data.specs.Hours.{hour_cap, dep_cap, arr_cap};
-ghost use Rattle.desk_data.specs.Situation.{fresh_day, with_batch, legs_of, planes_of, airports_of, reservations_of, leg_at, plane_at, res_at, airport_at, earliest, latest, ordered_off, fixed, due, spans, begun, bound, delay_of, scheduled_row, groups_of, schedule};
+ghost use Rattle.desk_data.specs.Situation.{fresh_day, with_batch, legs_of, planes_of, airports_of, reservations_of, leg_at, plane_at, res_at, airport_at, earliest, latest, called_off, fixed, due, spans, begun, bound, delay_of, scheduled_row, groups_of, schedule};
 ghost use Rattle.desk_data.specs.Valid.{AreParts, IsValid, IsLeg, IsPlane, IsReservation, IsAirport, IsBatch, IsRowOf, IsPlanFor};
 
 use crate::booked::{Booked, bookings_of};
@@ -25,7 +25,6 @@ use tariff_prices::Prices;
 
 /// A day with the orders taken so far. Contracts see it as its rows, its list of orders and its progress.
 /// No batch moves its progress yet: it is always that of the day before any batch, so nothing is kept of it.
-#[derive(Debug)]
 pub struct Instance {
     parts: Arc<Parts>,
     prices: Arc<Prices>,
@@ -36,7 +35,7 @@ pub struct Instance {
     kept: OrderTables,
 }
 
-/// In one call, so that whoever lets a day go does not prove anew that each part of it may go.
+/// Dropped in one call, so that a function that owns one proves it once, and not part by part.
 impl Drop for Instance {
     fn drop(self) {
         let Instance {
@@ -183,10 +182,10 @@ impl Instance {
     }
 
     /// Whether the last flight order of a leg takes it out of the plan.
-    #[tactic(auto, unfolding(crate::specs::Situation::ordered_off, crate::specs::Situation::is_off))]
-    pub fn ordered_off(&self, leg: Leg) -> bool
+    #[tactic(auto, unfolding(crate::specs::Situation::called_off, crate::specs::Situation::is_off))]
+    pub fn called_off(&self, leg: Leg) -> bool
         requires { leg.0 < legs_of self.now }
-        ensures { result ≡ ordered_off self.now leg.0 }
+        ensures { result ≡ called_off self.now leg.0 }
     {
         self.last_order_on_leg(leg) == Some(None)
     }
@@ -202,7 +201,7 @@ impl Instance {
         self.plane(info.plane).surface || info.sched.0 < self.parts.from.0
     }
 
-    /// The row that a fixed leg should have: cancelled if it is ordered off, else flown by its
+    /// The row that a fixed leg should have: cancelled if it is called off, else flown by its
     /// scheduled aircraft at its earliest departure. `None` for a leg that may move.
     #[tactic(auto, unfolding(crate::specs::Situation::due))]
     pub fn due(&self, leg: Leg) -> Option<Row>
@@ -213,7 +212,7 @@ impl Instance {
         if !self.fixed(leg) {
             return None;
         }
-        if self.ordered_off(leg) {
+        if self.called_off(leg) {
             return Some(Row::Cancelled);
         }
         Some(Row::Flown {

@@ -5,7 +5,6 @@ use desk_units::{List, Minute, Tariff};
 
 /// The rows of a joined day. Airports, aircraft, legs and reservations are numbered by their places
 /// in these lists, from 0.
-#[derive(Debug)]
 pub struct Parts {
     /// At most 500.
     pub airports: List<AirportInfo>,
@@ -25,7 +24,7 @@ pub struct Parts {
     pub tariff: Tariff,
 }
 
-/// In one call, so that whoever lets rows go does not prove anew that each list of them may go.
+/// Dropped in one call, so that a function that owns one proves it once, and not part by part.
 impl Drop for Parts {
     fn drop(self) {
         let Parts {

@@ -10,7 +10,7 @@ use std::marker::Model;
 
 /// The legs that passengers take, each with the cabin they sit in. The empty path means that they
 /// are not carried. Contracts see it as its list of pairs.
-#[derive(Debug, Drop)]
+#[derive(Drop)]
 pub struct Path {
     pub legs: List<(Leg, Cabin)>,
 }

@@ -12,7 +12,7 @@ use std::sync::ledger::Ledger;
 /// A plan. Contracts see it as its rows and its groups. Its departures are below 52,500,000, its
 /// paths have at most 8 legs, its counts are at least 1, and the groups of a reservation ascend by
 /// path, no path twice.
-#[derive(Debug, Drop)]
+#[derive(Drop)]
 pub struct Plan {
     rows: Vec<Row>,
     groups: Vec<Vec<Group>>,

@@ -111,13 +111,13 @@ stopped i most B N M le is none step = step ∙ sym (step-none most N none) ∙ 
 -- ---- the end
 
 quiet_parts : (b : Option Broken) (spent : Bool) → end_by b spent ≡ Some Quiet → (b ≡ None) × (spent ≡ false)
-quiet_parts None true told = absurd cc
-quiet_parts None false told = (refl, refl)
-quiet_parts (Some item) spent told = absurd cc
+quiet_parts None true given = absurd cc
+quiet_parts None false given = (refl, refl)
+quiet_parts (Some item) spent given = absurd cc
 
 pub quiet-end : (most : ℕ) (B N : Recorded) → N ≡ after_descent most B → ending most (state_of N) N.journal ≡ Some Quiet → IsQuiet (state_of N)
 unfolding ending
-quiet-end most B N is told =
+quiet-end most B N is given =
     let none : next_of most N ≡ None = ap (next_of most) is ∙ descent-ends most (opening B.opening) B.journal in
-    let facts = quiet_parts (state_of N).broken (is_spent most N.journal) told in
+    let facts = quiet_parts (state_of N).broken (is_spent most N.journal) given in
     next-quiet most (opening N.opening) N.journal none facts.0 facts.1

@@ -20,4 +20,4 @@ after_steps n most B = record B { journal = descent_of n most (opening B.opening
 -- a book now is the one after some first steps of a descent
 pub record IsUnderWay (most : ℕ) (before now : Recorded) : Type 0 where
   pub steps : ℕ
-  pub behind : now ≡ after_steps steps most before
+  pub reached : now ≡ after_steps steps most before

@@ -13,7 +13,7 @@ use plan_moves::Move;
 use std::alloc::Global;
 
 /// The search of a descent: all moves near a plan are tried.
-#[derive(Debug, Drop)]
+#[derive(Drop)]
 pub(crate) struct FirstBetter {
     pub(crate) finder: Finder,
 }

@@ -27,13 +27,12 @@ use std::alloc::Global;
 pub(crate) type AllBoards = Both<Both<RotBoard, SlotBoard>, PassengerBoards>;
 
 /// What is kept of a plan: its rotations, its hours, its seats and paths, and its cost.
-#[derive(Debug)]
 pub(crate) struct Boards {
     /// All of them, which a change is made on.
     pub all: AllBoards,
 }
 
-/// In one call, so that whoever lets the boards go does not prove anew that each part of them may go.
+/// Dropped in one call, so that a function that owns one proves it once, and not part by part.
 impl Drop for Boards {
     fn drop(self) {
         let Boards { all: _ } = self;

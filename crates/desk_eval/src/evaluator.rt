@@ -23,7 +23,6 @@ use std::sync::ledger::Ledger;
 /// and what the plan costs, as a check and a cost from scratch would say. It keeps its past, the
 /// plans before each change, so that changes are taken back. Contracts see it as the instance, the
 /// plan's rows and groups, and those of its past, the last first.
-#[derive(Debug)]
 pub struct Evaluator {
     inst: Instance,
     pages: Pages,
@@ -34,7 +33,7 @@ pub struct Evaluator {
     past: Vec<Page>,
 }
 
-/// In one call, so that whoever lets an evaluator go does not prove anew that each part of it may go.
+/// Dropped in one call, so that a function that owns one proves it once, and not part by part.
 impl Drop for Evaluator {
     fn drop(self) {
         let Evaluator {

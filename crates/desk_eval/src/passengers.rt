@@ -10,13 +10,14 @@ use std::sync::ledger::Ledger;
 
 /// The boards of the seats and of the cost, changed together. The list of who uses which leg is that of the
 /// seats; it is lent to the cost.
-#[derive(Debug)]
 pub(crate) struct PassengerBoards {
+    /// The seats and the paths, C12 to C15, and who uses which leg.
     pub seats: SeatBoard,
+    /// The sum of the six cost terms.
     pub cost: CostBoard,
 }
 
-/// In one call, so that whoever lets the two go does not prove anew that each part of them may go.
+/// Dropped in one call, so that a function that owns one proves it once, and not part by part.
 impl Drop for PassengerBoards {
     fn drop(self) {
         let PassengerBoards { seats: _, cost: _ } = self;

@@ -1,4 +1,4 @@
--- The first movable leg of each aircraft that is ordered off, and what stands from it on.
+-- The first movable leg of each aircraft that is called off, and what stands from it on.
 use Rattle.std.proofs.Common.{◌≡◌, ◌≢◌, ℕ, suc, ◌+◌, ◌<◌, ◌≤◌, ◌⊎◌, inl, inr, Bool, true, false, ◌&&◌, not, cond, leb, List, length, get_or, set, refl, sym, ap, subst, ◌∙◌, arith, add-one}
 use Rattle.std.specs.Prelude.{Option, Some, None}
 use Rattle.std.proofs.lemmas.Bool.{cases_Bool, true≢false, and_parts, and_from, eq-eqb, not-true, not_from_false}
@@ -8,7 +8,7 @@ use Rattle.desk_units.specs.declared.numbers.Plane.{Plane}
 use Rattle.desk_units.specs.declared.numbers.Minute.{Minute}
 use Rattle.desk_data.specs.declared.row.Row.{Row}
 use Rattle.desk_data.specs.declared.row.Row.TheVariants.{Flown, Cancelled}
-use Rattle.desk_data.specs.Situation.{Situation, legs_of, planes_of, fixed, ordered_off}
+use Rattle.desk_data.specs.Situation.{Situation, legs_of, planes_of, fixed, called_off}
 use Rattle.desk_data.specs.PlanRows.{PlanRows, row_at}
 use Rattle.desk_data.specs.Valid.{IsRowOf, IsPlanFor}
 use Rattle.desk_rules.specs.Rotations.{departure, is_earlier}
@@ -35,8 +35,8 @@ nat_eq_cases p q = grind (arith, nat_tests)
 earlier-itself : (x d y e : ℕ) → x ≡ y → d ≡ e → is_earlier x d y e ≡ false
 earlier-itself x d y e same alike = grind (arith, nat_tests)
 
-earlier-behind : (x d y e : ℕ) → e ≤ d → y < x → is_earlier x d y e ≡ false
-earlier-behind x d y e late greater = grind (arith, nat_tests)
+earlier-not : (x d y e : ℕ) → e ≤ d → y < x → is_earlier x d y e ≡ false
+earlier-not x d y e late greater = grind (arith, nat_tests)
 
 earlier-before : (x d y e z f : ℕ) → is_earlier x d y e ≡ false → f < e → is_earlier x d z f ≡ false
 earlier-before x d y e z f late less = grind (arith, nat_tests)
@@ -94,7 +94,7 @@ module _ (I : Situation) (P : PlanRows) where
           | inl less ↦ h.first y less flown
           | inr same ↦
               let departs : departure (off_row I P y) ≡ stop.dep.0 = ap (λ (k : ℕ). departure (off_row I P k)) same ∙ ap departure on in
-              earlier-behind y (departure (off_row I P y)) other.leg.0 other.dep.0 (omega (arith, late, departs)) (omega (arith, h.within, same))
+              earlier-not y (departure (off_row I P y)) other.leg.0 other.dep.0 (omega (arith, late, departs)) (omega (arith, h.within, same))
         ];
       }
   pick p n other stop false is leg on h =
@@ -181,7 +181,7 @@ module _ (I : Situation) (P : PlanRows) (x : ℕ) (plane : Plane) (at : Minute) 
   after_stopped (Some stop) h is =
       let parts = and_parts (not (fixed I x)) (not (is_earlier x at.0 stop.leg.0 stop.dep.0)) is in
       let on = off_of I P stop.leg.0 plane stop.dep h.row in
-      let off = and_parts (not (fixed I stop.leg.0)) (ordered_off I stop.leg.0) on.0 in
+      let off = and_parts (not (fixed I stop.leg.0)) (called_off I stop.leg.0) on.0 in
       let late : is_earlier x at.0 stop.leg.0 stop.dep.0 ≡ false = not-true (is_earlier x at.0 stop.leg.0 stop.dep.0) parts.1 in
       is_stopped-from I P x (record {
         movable = not-true (fixed I x) parts.0;
@@ -217,12 +217,12 @@ module _ (I : Situation) (P : PlanRows) (x : ℕ) (plane : Plane) (at : Minute) 
   stopped_after : (o : Option Stop) → IsFirstOf I P plane.0 (legs_of I) o → IsStopped I P x → is_at_or_after o x at.0 ≡ true
   stopped_after None h is =
       let cause = cause_of is.cause is.place in
-      let off : is_movable_off I is.cause ≡ true = and_from (not (fixed I is.cause)) (ordered_off I is.cause) (not_from_false (fixed I is.cause) is.off_movable) is.off in
+      let off : is_movable_off I is.cause ≡ true = and_from (not (fixed I is.cause)) (called_off I is.cause) (not_from_false (fixed I is.cause) is.off_movable) is.off in
       absurd (not_both (is_flown_by plane.0 (off_row I P is.cause)) (flown_by plane cause.at_y (off_row I P is.cause) (off_row-is I P is.cause off ∙ cause.flown)) (h is.cause is.leg))
   stopped_after (Some stop) h is =
       let y = is.cause in
       let cause = cause_of y is.place in
-      let off : is_movable_off I y ≡ true = and_from (not (fixed I y)) (ordered_off I y) (not_from_false (fixed I y) is.off_movable) is.off in
+      let off : is_movable_off I y ≡ true = and_from (not (fixed I y)) (called_off I y) (not_from_false (fixed I y) is.off_movable) is.off in
       let there : off_row I P y ≡ Flown plane cause.at_y = off_row-is I P y off ∙ cause.flown in
       let late : is_earlier y (departure (off_row I P y)) stop.leg.0 stop.dep.0 ≡ false = h.first y is.leg (flown_by plane cause.at_y (off_row I P y) there) in
       let own_late : is_earlier y cause.at_y.0 stop.leg.0 stop.dep.0 ≡ false = subst (λ (row : Row). is_earlier y (departure row) stop.leg.0 stop.dep.0 ≡ false) there late in

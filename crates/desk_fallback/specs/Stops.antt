@@ -1,4 +1,4 @@
--- The first movable leg of an aircraft that is ordered off, and the legs from it on.
+-- The first movable leg of an aircraft that is called off, and the legs from it on.
 use Rattle.std.specs.Prelude.{◌≡◌, ℕ, ◌<◌, Bool, true, false, ◌&&◌, not, nat_le, if◌then◌else◌, List, length, Option, Some, None, slice_index_or}
 use Rattle.desk_data.specs.declared.row.Row.{Row}
 use Rattle.desk_data.specs.declared.row.Row.TheVariants.{Flown, Cancelled}
@@ -9,7 +9,7 @@ use Rattle.desk_rules.specs.Maintenance.{is_flown_by}
 use Rattle.desk_model.specs.Fallback.{is_movable_off}
 use Rattle.desk_fallback.specs.declared.firsts.Stop.{Stop}
 
--- the row of leg x if it is movable and ordered off, and no flight of any other leg
+-- the row of leg x if it is movable and called off, and no flight of any other leg
 unfoldable pub off_row : Situation → PlanRows → ℕ → Row
 off_row I P x = if is_movable_off I x then row_at P x else Cancelled
 
@@ -18,7 +18,7 @@ abbrev pub first_with : Option Stop → Stop → Stop
 first_with None stop = stop
 first_with (Some other) stop = if nat_le other.dep.0 stop.dep.0 then other else stop
 
--- the stop is the first of the first n legs that aircraft p flies, and that are movable and ordered off
+-- the stop is the first of the first n legs that aircraft p flies, and that are movable and called off
 pub record IsFirst (I : Situation) (P : PlanRows) (p n : ℕ) (stop : Stop) : Type 0 where
   pub within : stop.leg.0 < n
   pub row : off_row I P stop.leg.0 ≡ Flown (record { 0 = p }) stop.dep

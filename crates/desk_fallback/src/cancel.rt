@@ -35,7 +35,7 @@ fn cancel_if_movable(inst: &Instance, plan: &mut Plan, leg: Leg)
     }
 }
 
-/// Cancels, of each aircraft that flies a movable leg ordered off, the first such leg and all later
+/// Cancels, of each aircraft that flies a movable leg called off, the first such leg and all later
 /// movable legs. The only error is out of memory, and then the plan is as it was.
 pub(crate) fn stop_legs(alloc: Global, inst: &Instance, plan: &mut Plan) -> Result<(), NoMem>
     requires { IsPlanFor inst.now plan.old }

@@ -1,4 +1,4 @@
-//! The first movable leg of each aircraft that is ordered off.
+//! The first movable leg of each aircraft that is called off.
 
 ghost use Rattle.std.specs.Prelude.{◌≡◌, ◌+◌, ◌<◌, IfOk};
 ghost use Rattle.desk_data.specs.Situation.{legs_of, planes_of};
@@ -9,7 +9,7 @@ ghost use Rattle.desk_fallback.specs.Stops.{AreFirsts, first_with, off_row};
 use desk_data::{Instance, Leg, Minute, NoMem, Plan, Row};
 use std::alloc::Global;
 
-/// A movable leg ordered off that an aircraft flies, and when it departs.
+/// A movable leg called off that an aircraft flies, and when it departs.
 #[derive(Clone, Copy)]
 pub(crate) struct Stop {
     pub(crate) dep: Minute,
@@ -49,7 +49,7 @@ fn take_leg(inst: &Instance, plan: &Plan, leg: Leg, firsts: &mut Vec<Option<Stop
     }
 }
 
-/// The row of a leg if it is movable and ordered off, and no flight of any other leg.
+/// The row of a leg if it is movable and called off, and no flight of any other leg.
 #[tactic(auto, unfolding(crate::specs::Stops::off_row))]
 fn off_row(inst: &Instance, plan: &Plan, leg: Leg) -> Row
     requires plan { IsPlanFor inst.now plan.now }
@@ -57,7 +57,7 @@ fn off_row(inst: &Instance, plan: &Plan, leg: Leg) -> Row
     ensures row { result ≡ off_row inst.now plan.now leg.0 }
     ensures plane { IsRowOf (planes_of inst.now) result }
 {
-    if !inst.fixed(leg) && inst.ordered_off(leg) {
+    if !inst.fixed(leg) && inst.called_off(leg) {
         plan.read_row(leg)
     } else {
         Row::Cancelled

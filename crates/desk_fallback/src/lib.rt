@@ -6,7 +6,7 @@
 //!     }
 //!
 //! It tries the plan as it stands, then a Shift, then Ground. A Shift gives fixed legs the rows that they
-//! are due, cancels an aircraft's movable legs from the first on that is ordered off, pushes every aircraft
+//! are due, cancels an aircraft's movable legs from the first on that is called off, pushes every aircraft
 //! and tidies. Ground cancels every movable leg and tidies. The plan is handed in, and a Shift is made in it; its
 //! pages are lent, and copied only for Ground.
 //!

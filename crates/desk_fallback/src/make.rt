@@ -11,7 +11,7 @@ use crate::tidy::tidy;
 use desk_data::{Instance, NoMem, Plan};
 use std::alloc::Global;
 
-/// The plan that is handed in settled, an aircraft's movable legs cancelled from the first on that is ordered off, every
+/// The plan that is handed in settled, an aircraft's movable legs cancelled from the first on that is called off, every
 /// aircraft pushed, and tidied.
 #[tactic(auto, unfolding(desk_model::specs::Fallback::shifted))]
 pub(crate) fn shifted(alloc: Global, inst: &Instance, plan: Plan) -> Result<Plan, NoMem>

@@ -32,7 +32,7 @@ pub struct HostFolder<R: Files + Drop> {
     put_faults: [u64; FILES],
 }
 
-/// In one call, so that whoever lets one go does not prove anew that each part of it may go.
+/// Dropped in one call, so that a function that owns one proves it once, and not part by part.
 impl<R: Files + Drop> Drop for HostFolder<R> {
     fn drop(self) {
         let HostFolder {
@@ -93,7 +93,7 @@ impl<R: Files + Drop> HostFolder<R> {
     /// output that this run has not begun, and answers whether nothing is left. It makes no file and no
     /// directory. The directories and counts that the folder shows stay as they were.
     pub fn settle(&mut self, alloc: Global, file: File) -> bool
-        ensures told { host_outside self.new ≡ host_outside self.old }
+        ensures stays { host_outside self.new ≡ host_outside self.old }
     {
         self.empty_output(alloc, file)
     }

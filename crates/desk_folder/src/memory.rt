@@ -24,7 +24,7 @@ pub struct MemFolder {
     put_faults: [u64; FILES],
 }
 
-/// In one call, so that whoever lets one go does not prove anew that each part of it may go.
+/// Dropped in one call, so that a function that owns one proves it once, and not part by part.
 impl Drop for MemFolder {
     fn drop(self) {
         let MemFolder {

@@ -12,7 +12,7 @@ pub struct MemSink {
     faults: u64,
 }
 
-/// In one call, so that whoever lets one go does not prove anew that each part of it may go.
+/// Dropped in one call, so that a function that owns one proves it once, and not part by part.
 impl Drop for MemSink {
     fn drop(self) {
         let MemSink {

@@ -42,16 +42,18 @@ pub trait Sink {
         ensures { PutsToSink (report self.old) (report self.new) piece.now result };
 }
 
-/// What each worker passes before its turns. It answers nothing, and may wait.
+/// What each worker enters in each of its rounds, once it has looked and before it searches, and the desk before each batch
+/// that it takes live. It answers nothing, and may wait.
 pub trait Gate: Sync {
-    /// Worker `worker` enters its turn `turn`. The live desk enters as worker 0, with a batch's number.
-    fn enter(&self, worker: u32, turn: u32);
+    /// Worker `worker`, by its number from 1 on, enters with how many rounds it has made before. The live desk enters as
+    /// worker 0, with the number of a batch from 1 on.
+    fn enter(&self, worker: u32, round: u32);
 }
 
 /// A gate that is always open: entering returns at once.
-#[derive(Clone, Copy, Debug)]
+#[derive(Clone, Copy)]
 pub struct FreeGate;
 
 impl Gate for FreeGate {
-    fn enter(&self, _worker: u32, _turn: u32) {}
+    fn enter(&self, _worker: u32, _round: u32) {}
 }

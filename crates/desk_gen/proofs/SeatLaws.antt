@@ -127,8 +127,8 @@ trip_length rows c count (Two x y) =
     length-set (row_without rows c count x) y (fewer (row_at (row_without rows c count x) y) c count) ∙ length-set rows x (fewer (row_at rows x) c count)
 
 -- a table after one line more
-pub left_behind : (size : ℕ) (lines : List Line) (rows : List Seats) (request : Request) (count : ℕ) → AreLeft size lines rows → IsTripWithin (length rows) request.trip → AreLeft size (lines ++ line_of request count ∷ []) (rows_without rows request count)
-left_behind size lines rows request count h within = record {
+pub left_over : (size : ℕ) (lines : List Line) (rows : List Seats) (request : Request) (count : ℕ) → AreLeft size lines rows → IsTripWithin (length rows) request.trip → AreLeft size (lines ++ line_of request count ∷ []) (rows_without rows request count)
+left_over size lines rows request count h within = record {
   legs = trip_length rows request.cabin count request.trip ∙ h.legs;
   each = λ x less.
       trip_after rows request.cabin count request.trip x within
@@ -164,7 +164,7 @@ left_served size lines rows request h within =
     subst (λ l. AreLeft size l (rows_served rows request)) (sym (some_line lines request n (granted_left size lines rows request h within)))
     (elim (cases_Bool (eqb n 0)) [
       | inl none ↦ rw none h
-      | inr some ↦ rw some (left_behind size lines rows request n h within)
+      | inr some ↦ rw some (left_over size lines rows request n h within)
     ])
 
 -- and its line

@@ -11,14 +11,14 @@ use desk_units::Cabin;
 use rand_xoshiro::Xoshiro256PlusPlus;
 
 /// One leg or two, by their places in rotations.csv, from 0.
-#[derive(Clone, Copy, Debug, PartialEq, Eq)]
+#[derive(Clone, Copy, PartialEq, Eq)]
 pub enum Trip {
     One(u32),
     Two(u32, u32),
 }
 
 /// What a reservation asks for.
-#[derive(Clone, Copy, Debug, PartialEq, Eq)]
+#[derive(Clone, Copy, PartialEq, Eq)]
 pub struct Request {
     /// its number, from 0
     pub number: u32,

@@ -9,7 +9,7 @@ use itoa::Buffer;
 use std::alloc::Global;
 
 /// The kinds of aircraft: surface transport, and two kinds that fly.
-#[derive(Clone, Copy, Debug, PartialEq, Eq)]
+#[derive(Clone, Copy, PartialEq, Eq)]
 pub enum Vehicle {
     Bus,
     Large,

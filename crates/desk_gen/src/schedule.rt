@@ -12,7 +12,7 @@ use rand_xoshiro::Xoshiro256PlusPlus;
 use std::alloc::Global;
 
 /// The airports beside the hub.
-#[derive(Clone, Copy, Debug, PartialEq, Eq)]
+#[derive(Clone, Copy, PartialEq, Eq)]
 pub enum Outstation {
     Aaa,
     Bbb,
@@ -45,7 +45,7 @@ impl Outstation {
 }
 
 /// The tour of an aircraft: from the hub to an outstation and back, and to another one and back.
-#[derive(Clone, Copy, Debug, PartialEq, Eq)]
+#[derive(Clone, Copy, PartialEq, Eq)]
 pub struct Tour {
     /// the minute of the day of the first departure, 360 to 420
     pub start: u32,

@@ -29,12 +29,12 @@ pub report-is : (I : Situation) (P : PlanRows) (o : Option Broken) (report : Lis
 report-is I P o report found is same = is ∙ ap (λ (g : Grains). verdict_report I o g.0) same
 
 -- these texts of files, and a report
-abbrev pub told : List FileText → List ℕ → Texts
-told files report = record { files = files; report = report }
+abbrev pub texts_with : List FileText → List ℕ → Texts
+texts_with files report = record { files = files; report = report }
 
-texts_are : (I : Situation) (P : PlanRows) (o : Option Broken) (files : List FileText) (report : List ℕ) → o ≡ least I P → files ≡ [] → report ≡ verdict_report I o (cost I P) → told files report ≡ (verdict I P).texts
+texts_are : (I : Situation) (P : PlanRows) (o : Option Broken) (files : List FileText) (report : List ℕ) → o ≡ least I P → files ≡ [] → report ≡ verdict_report I o (cost I P) → texts_with files report ≡ (verdict I P).texts
 unfolding verdict
-texts_are I P o files report e none is = ap (λ (fs : List FileText). told fs report) none ∙ ap (λ (r : List ℕ). told [] r) (is ∙ ap (λ (o : Option Broken). verdict_report I o (cost I P)) e)
+texts_are I P o files report e none is = ap (λ (fs : List FileText). texts_with fs report) none ∙ ap (λ (r : List ℕ). texts_with [] r) (is ∙ ap (λ (o : Option Broken). verdict_report I o (cost I P)) e)
 
 no_files : (I : Situation) (P : PlanRows) → files_of (verdict I P).texts.files ≡ []
 unfolding verdict
@@ -48,10 +48,10 @@ end_is : (I : Situation) (P : PlanRows) (o : Option Broken) → (verdict I P).st
 end_is I P None e = e
 end_is I P (Some item) e = e
 
-pub judged-all : (before now : World) (I : Situation) (P : PlanRows) (o : Option Broken) (files : List FileText) (report : List ℕ) (ok : Unit {0}) → o ≡ least I P → files ≡ [] → report ≡ verdict_report I o (cost I P) → PutsOutputs before now (told files report) (all_done ok) → Completes [] before now (verdict I P) (verdict_end o)
+pub judged-all : (before now : World) (I : Situation) (P : PlanRows) (o : Option Broken) (files : List FileText) (report : List ℕ) (ok : Unit {0}) → o ≡ least I P → files ≡ [] → report ≡ verdict_report I o (cost I P) → PutsOutputs before now (texts_with files report) (all_done ok) → Completes [] before now (verdict I P) (verdict_end o)
 judged-all before now I P o files report ok e none is put =
-    completes-all [] before now (verdict I P) (told files report) (verdict_end o) ok (no_files I P) (texts_are I P o files report e none is) (end_is I P o (status_is I P o e)) put
+    completes-all [] before now (verdict I P) (texts_with files report) (verdict_end o) ok (no_files I P) (texts_are I P o files report e none is) (end_is I P o (status_is I P o e)) put
 
-pub judged-short : (before now : World) (I : Situation) (P : PlanRows) (o : Option Broken) (files : List FileText) (report : List ℕ) (how : Ending) → o ≡ least I P → files ≡ [] → report ≡ verdict_report I o (cost I P) → PutsOutputs before now (told files report) (ended_by how) → Completes [] before now (verdict I P) how
+pub judged-short : (before now : World) (I : Situation) (P : PlanRows) (o : Option Broken) (files : List FileText) (report : List ℕ) (how : Ending) → o ≡ least I P → files ≡ [] → report ≡ verdict_report I o (cost I P) → PutsOutputs before now (texts_with files report) (ended_by how) → Completes [] before now (verdict I P) how
 judged-short before now I P o files report how e none is put =
-    completes-short [] before now (verdict I P) (told files report) how (no_files I P) (texts_are I P o files report e none is) put
+    completes-short [] before now (verdict I P) (texts_with files report) how (no_files I P) (texts_are I P o files report e none is) put

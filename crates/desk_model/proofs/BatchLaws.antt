@@ -21,7 +21,7 @@ use Rattle.desk_model.specs.declared.fallbacks.Which.{Which}
 use Rattle.desk_model.specs.declared.fallbacks.Which.TheVariants.{Keep, Shift, Ground}
 use Rattle.desk_model.specs.Fallback.{fallback, shifted, grounded, chosen_or, last_choice, rows_of, rows_named}
 use Rattle.desk_model.specs.States.{State, fallback_on, batch_answer, answer}
-use Rattle.desk_model.specs.Batches.{TellsOfBatch}
+use Rattle.desk_model.specs.Batches.{AnswersBatch}
 use Rattle.desk_model.proofs.FallbackLaws.{infeasible}
 
 -- ---- the first item
@@ -40,12 +40,12 @@ least-from I P item h =
       | inr met ↦ absurd (h.broken (breaks-holds I P item met))
     ] in
     ap (find (breaks I P)) h.place
-    ∙ find-append (breaks I P) h.before (item ∷ h.behind)
+    ∙ find-append (breaks I P) h.before (item ∷ h.after)
     ∙ rw (none_found I P h.before (recursion_from_All (Meets I P) h.before h.kept), broken) refl
 
 -- ---- the answer to a batch
 
-tells_by : (J : Situation) (P : PlanRows) (a b c : Option Broken) → least J P ≡ a → least J (shifted J P) ≡ b → least J (grounded J P) ≡ c → TellsOfBatch J P (batch_answer J (chosen_or Keep P a (chosen_or Shift (shifted J P) b (last_choice (grounded J P) c))))
+tells_by : (J : Situation) (P : PlanRows) (a b c : Option Broken) → least J P ≡ a → least J (shifted J P) ≡ b → least J (grounded J P) ≡ c → AnswersBatch J P (batch_answer J (chosen_or Keep P a (chosen_or Shift (shifted J P) b (last_choice (grounded J P) c))))
 tells_by J P None b c p s g = record {
   keep = λ price. ((λ h. (feasible-holds J P p, cc)), (λ both. ap (Taken Keep) (sym both.1)));
   shift = λ price. ((λ h. absurd cc), (λ all. absurd (all.0 (feasible-holds J P p))));
@@ -74,9 +74,9 @@ tells_by J P (Some i) (Some j) (Some k) p s g = record {
   );
 }
 
-pub tells_of_batch : (S : State) (B : Batch) → TellsOfBatch (with_batch S.inst S.plan B) S.plan (answer S (event.Batch B))
+pub answers_batch : (S : State) (B : Batch) → AnswersBatch (with_batch S.inst S.plan B) S.plan (answer S (event.Batch B))
 unfolding answer fallback_on fallback
-tells_of_batch S B =
+answers_batch S B =
     let J = with_batch S.inst S.plan B in
     tells_by J S.plan (least J S.plan) (least J (shifted J S.plan)) (least J (grounded J S.plan)) refl refl refl
 

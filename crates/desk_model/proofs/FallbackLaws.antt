@@ -10,7 +10,7 @@ use Rattle.std.proofs.lemmas.List.Sums.{fold-append}
 use Rattle.desk_data.specs.declared.row.Row.{Row}
 use Rattle.desk_data.specs.declared.row.Row.TheVariants.{Cancelled}
 use Rattle.desk_data.specs.declared.broken.Broken.{Broken}
-use Rattle.desk_data.specs.Situation.{Situation, legs_of, planes_of, reservations_of, fixed, ordered_off, due}
+use Rattle.desk_data.specs.Situation.{Situation, legs_of, planes_of, reservations_of, fixed, called_off, due}
 use Rattle.desk_data.specs.PlanRows.{PlanRows, IsRow, row_at}
 use Rattle.desk_data.specs.Valid.{IsRowOf, IsValid, IsPlanFor}
 use Rattle.desk_data.proofs.DepartureLaws.{due-movable, due-valid}
@@ -163,7 +163,7 @@ is_stopped-holds I P x is =
     let found = some_passes (is_cause I P x) (legs_of I) parts.1 in
     let y = found.number in
     let inner = and_parts (is_movable_off I y) (is_at_or_before P y x) found.holds in
-    let off = and_parts (not (fixed I y)) (ordered_off I y) inner.0 in
+    let off = and_parts (not (fixed I y)) (called_off I y) inner.0 in
     record {
       movable = not-true (fixed I x) parts.0;
       cause = y;
@@ -181,7 +181,7 @@ pub is_stopped-from : (I : Situation) (P : PlanRows) (x : ℕ) → IsStopped I P
 unfolding is_stopped
 is_stopped-from I P x h =
     let y = h.cause in
-    let off = and_from (not (fixed I y)) (ordered_off I y) (not_from_false (fixed I y) h.off_movable) h.off in
+    let off = and_from (not (fixed I y)) (called_off I y) (not_from_false (fixed I y) h.off_movable) h.off in
     let cause : is_cause I P x y ≡ true = and_from (is_movable_off I y) (is_at_or_before P y x) off (at_place P y x h.place) in
     let listed : get_or (numbers (legs_of I)) y 0 ≡ y = numbers-at (legs_of I) y 0 h.leg in
     and_from (not (fixed I x)) (list_any (is_cause I P x) (numbers (legs_of I))) (not_from_false (fixed I x) h.movable)
@@ -212,7 +212,7 @@ unfolding stopped
 stopped-fixed I P x within is =
     cancelled-kept I (is_stopped I P) P x within (not_stopped I P x (λ h. true≢false (sym is ∙ h.movable)))
 
-stopped-off : (I : Situation) (P : PlanRows) (x : ℕ) → x < legs_of I → fixed I x ≡ false → ordered_off I x ≡ true → row_at (stopped I P) x ≡ Cancelled
+stopped-off : (I : Situation) (P : PlanRows) (x : ℕ) → x < legs_of I → fixed I x ≡ false → called_off I x ≡ true → row_at (stopped I P) x ≡ Cancelled
 stopped-off I P x within movable off =
     stopped-holds I P x (record { movable = movable; cause = x; leg = within; off_movable = movable; off = off; place = inl refl })
 
@@ -328,7 +328,7 @@ shifted-due I P x within row is =
     ∙ stopped-fixed I (settled I P) x within own
     ∙ settled-due I P x within row is
 
-pub shifted-off : (I : Situation) (P : PlanRows) (x : ℕ) → x < legs_of I → fixed I x ≡ false → ordered_off I x ≡ true → row_at (shifted I P) x ≡ Cancelled
+pub shifted-off : (I : Situation) (P : PlanRows) (x : ℕ) → x < legs_of I → fixed I x ≡ false → called_off I x ≡ true → row_at (shifted I P) x ≡ Cancelled
 unfolding shifted
 shifted-off I P x within movable off =
     tidy-row I (all_pushed I (stopped I (settled I P))) x

@@ -34,8 +34,8 @@ use Rattle.desk_model.specs.States.{State, opening, fallback_on, answer, after}
 use Rattle.desk_model.specs.Histories.{state, has_room, IsAskable, AreAskable, Stands, IsLegal, is_batch, is_accepted, is_change, changes, since_batch, orders_in, orders_of, entry_of, entries, run}
 use Rattle.desk_model.specs.Promises.{state_at, cost_of, IsHonest, Improves, IsTakenIn, HadNoPlan, BreaksFirst, IsDearer, IsKept, AreProposals, KeepsPromises}
 use Rattle.desk_model.specs.Fallback.{grounded, rows_of, rows_named}
-use Rattle.desk_model.specs.Batches.{TellsOfBatch}
-use Rattle.desk_model.proofs.BatchLaws.{tells_of_batch, rows_of_name, rows_left}
+use Rattle.desk_model.specs.Batches.{AnswersBatch}
+use Rattle.desk_model.proofs.BatchLaws.{answers_batch, rows_of_name, rows_left}
 use Rattle.desk_model.proofs.StateLaws.{accepted-cause, accepted-from, batch-not-accepted, batch-priced, batch-published, batch-unplanned, move-not-taken, move-unplanned, move-broken, dearer-cause, after-batch-inst, after-batch-plan, KnowsBroken, after-known, opening-known, after-move-inst, after-parts, after-progress, after-unchanged, after-accepted, accepted-known, after-falls}
 
 -- ---- the state after a history
@@ -45,8 +45,8 @@ state-append S [] g = refl
 state-append S (entry ∷ h) g = state-append (after S entry.event) h g
 
 pub state-known : (S : State) (h : List Entry) → KnowsBroken S → KnowsBroken (state S h)
-state-known S [] told = told
-state-known S (entry ∷ h) told = state-known (after S entry.event) h (after-known S entry.event told)
+state-known S [] stated = stated
+state-known S (entry ∷ h) stated = state-known (after S entry.event) h (after-known S entry.event stated)
 
 -- a history leaves the joined rows
 pub state-parts : (S : State) (h : List Entry) → (state S h).inst.parts ≡ S.inst.parts
@@ -88,17 +88,17 @@ kept_taken S entry B is by =
     let given : entry.answer ≡ answer S (event.Batch B) = by ∙ ap (answer S) is in
     record {
       orders = orders;
-      told = subst (λ (J : Situation). TellsOfBatch J S.plan entry.answer) (sym orders) (subst (TellsOfBatch (with_batch S.inst S.plan B) S.plan) (sym given) (tells_of_batch S B));
+      answered = subst (λ (J : Situation). AnswersBatch J S.plan entry.answer) (sym orders) (subst (AnswersBatch (with_batch S.inst S.plan B) S.plan) (sym given) (answers_batch S B));
       rows = rows;
       named = λ which price h. rows ∙ rows_of_name S B which price (sym given ∙ h) ∙ ap (λ (J : Situation). rows_named J S.plan which) (sym orders);
       left = λ item h. rows ∙ rows_left S B item (sym given ∙ h) ∙ ap (λ (J : Situation). grounded J S.plan) (sym orders);
     }
 
-kept_priced : (S : State) (entry : Entry) (e : Event) (which : Which) (told : Grains) → entry.event ≡ e → entry.answer ≡ answer S entry.event → entry.answer ≡ Taken which told → (told ≡ grains (cost_of (after S entry.event))) × ((after S entry.event).broken ≡ None)
-kept_priced S entry (event.Batch B) which told is by h =
-    let own : answer S (event.Batch B) ≡ Taken which told = sym (by ∙ ap (answer S) is) ∙ h in
-    (batch-priced S B which told own ∙ ap (λ (e : Event). grains (cost_of (after S e))) (sym is), ap (λ (e : Event). (after S e).broken) is ∙ batch-published S B which told own)
-kept_priced S entry (event.Move m) which told is by h = absurd (move-not-taken S m which told (sym (by ∙ ap (answer S) is) ∙ h))
+kept_priced : (S : State) (entry : Entry) (e : Event) (which : Which) (stated : Grains) → entry.event ≡ e → entry.answer ≡ answer S entry.event → entry.answer ≡ Taken which stated → (stated ≡ grains (cost_of (after S entry.event))) × ((after S entry.event).broken ≡ None)
+kept_priced S entry (event.Batch B) which stated is by h =
+    let own : answer S (event.Batch B) ≡ Taken which stated = sym (by ∙ ap (answer S) is) ∙ h in
+    (batch-priced S B which stated own ∙ ap (λ (e : Event). grains (cost_of (after S e))) (sym is), ap (λ (e : Event). (after S e).broken) is ∙ batch-published S B which stated own)
+kept_priced S entry (event.Move m) which stated is by h = absurd (move-not-taken S m which stated (sym (by ∙ ap (answer S) is) ∙ h))
 
 kept_unmoved : (S : State) (entry : Entry) (m : Move) (item : Broken) → entry.event ≡ event.Move m → entry.answer ≡ answer S entry.event → entry.answer ≡ NoPlan item → HadNoPlan S item (after S entry.event)
 kept_unmoved S entry m item is by h =
@@ -122,39 +122,39 @@ kept_dearer S entry m now would is by h =
     record { had = cause.had_plan; feasible = feasible-holds _ _ cause.feasible; no_cheaper = cause.dearer; now_costs = cause.now_costs; would_cost = cause.would_cost }
 
 kept_accepted : (S : State) (entry : Entry) (m : Move) → entry.event ≡ event.Move m → entry.answer ≡ answer S entry.event → S.broken ≡ None → is_accepted entry.answer ≡ true ↔ Improves S m
-kept_accepted S entry m is told had = (
+kept_accepted S entry m is stated had = (
   (λ accepted.
       let by = accepted-known entry.answer accepted in
-      let cause = accepted-cause S m by.0 (sym (told ∙ ap (answer S) is) ∙ by.1) in
+      let cause = accepted-cause S m by.0 (sym (stated ∙ ap (answer S) is) ∙ by.1) in
       record { feasible = feasible-holds _ _ cause.feasible; cheaper = cause.cheaper }),
-  (λ better. ap is_accepted (told ∙ ap (answer S) is ∙ accepted-from S m had (feasible-from _ _ better.feasible) better.cheaper)),
+  (λ better. ap is_accepted (stated ∙ ap (answer S) is ∙ accepted-from S m had (feasible-from _ _ better.feasible) better.cheaper)),
 )
 
-kept_stored : (S : State) (entry : Entry) (e : Event) (told : Grains) → entry.event ≡ e → entry.answer ≡ answer S entry.event → entry.answer ≡ Accepted told → (told ≡ grains (cost_of (after S entry.event))) × (cost_of (after S entry.event) < cost_of S)
-kept_stored S entry (event.Batch B) told is by h = absurd (batch-not-accepted S B told (sym (by ∙ ap (answer S) is) ∙ h))
-kept_stored S entry (event.Move m) told is by h =
-    let cause = accepted-cause S m told (sym (by ∙ ap (answer S) is) ∙ h) in
-    let there = ap (after S) is ∙ after-accepted S m told (sym (by ∙ ap (answer S) is) ∙ h) in
+kept_stored : (S : State) (entry : Entry) (e : Event) (stated : Grains) → entry.event ≡ e → entry.answer ≡ answer S entry.event → entry.answer ≡ Accepted stated → (stated ≡ grains (cost_of (after S entry.event))) × (cost_of (after S entry.event) < cost_of S)
+kept_stored S entry (event.Batch B) stated is by h = absurd (batch-not-accepted S B stated (sym (by ∙ ap (answer S) is) ∙ h))
+kept_stored S entry (event.Move m) stated is by h =
+    let cause = accepted-cause S m stated (sym (by ∙ ap (answer S) is) ∙ h) in
+    let there = ap (after S) is ∙ after-accepted S m stated (sym (by ∙ ap (answer S) is) ∙ h) in
     rw there (cause.stored, cause.cheaper)
 
 kept_moved : (S : State) (entry : Entry) (m : Move) → entry.event ≡ event.Move m → entry.answer ≡ answer S entry.event → is_accepted entry.answer ≡ true → ((after S entry.event).inst ≡ S.inst) × ((after S entry.event).plan ≡ after_move S.inst S.plan m) × ((after S entry.event).broken ≡ None)
-kept_moved S entry m is told accepted =
+kept_moved S entry m is stated accepted =
     let by = accepted-known entry.answer accepted in
-    let there = ap (after S) is ∙ after-accepted S m by.0 (sym (told ∙ ap (answer S) is) ∙ by.1) in
+    let there = ap (after S) is ∙ after-accepted S m by.0 (sym (stated ∙ ap (answer S) is) ∙ by.1) in
     (ap (λ (T : State). T.inst) there, ap (λ (T : State). T.plan) there, ap (λ (T : State). T.broken) there)
 
 pub kept : (S : State) (entry : Entry) → entry.answer ≡ answer S entry.event → IsKept S entry (after S entry.event)
-kept S entry told = record {
-  taken = λ B is. kept_taken S entry B is told;
-  priced = λ which cost is. kept_priced S entry entry.event which cost refl told is;
-  unplanned = λ item is. kept_unplanned S entry entry.event item refl told is;
-  unmoved = λ m item is no_plan. kept_unmoved S entry m item is told no_plan;
-  breaking = λ m item is breaks. kept_breaking S entry m item is told breaks;
-  dearer = λ m now would is dear. kept_dearer S entry m now would is told dear;
-  accepted = λ m is had. kept_accepted S entry m is told had;
-  stored = λ cost is. kept_stored S entry entry.event cost refl told is;
-  moved_to = λ m is accepted. kept_moved S entry m is told accepted;
-  refused = λ change. after-unchanged S entry.event (ap (is_change entry.event) (sym told) ∙ change);
+kept S entry stated = record {
+  taken = λ B is. kept_taken S entry B is stated;
+  priced = λ which cost is. kept_priced S entry entry.event which cost refl stated is;
+  unplanned = λ item is. kept_unplanned S entry entry.event item refl stated is;
+  unmoved = λ m item is no_plan. kept_unmoved S entry m item is stated no_plan;
+  breaking = λ m item is breaks. kept_breaking S entry m item is stated breaks;
+  dearer = λ m now would is dear. kept_dearer S entry m now would is stated dear;
+  accepted = λ m is had. kept_accepted S entry m is stated had;
+  stored = λ cost is. kept_stored S entry entry.event cost refl stated is;
+  moved_to = λ m is accepted. kept_moved S entry m is stated accepted;
+  refused = λ change. after-unchanged S entry.event (ap (is_change entry.event) (sym stated) ∙ change);
 }
 
 -- ---- prefixes
@@ -220,7 +220,7 @@ same_step S h i legal lt same =
     let step = changes_step h i at.0 (is_change at.0.event at.0.answer) at.1 refl in
     elim (cases_Bool (is_change at.0.event at.0.answer)) [
       | inl change ↦ let none : changes (take (i + 1) h) ≡ changes (take i h) + 1 = step ∙ ap (λ (b : Bool). changes (take i h) + cond b 1 0) change in absurd (omega (arith, none, same))
-      | inr stays ↦ sym (state-next S h i at.0 at.1 ∙ after-unchanged (state S (take i h)) at.0.event (ap (is_change at.0.event) (sym (legal i at.0 at.1).told) ∙ stays))
+      | inr stays ↦ sym (state-next S h i at.0 at.1 ∙ after-unchanged (state S (take i h)) at.0.event (ap (is_change at.0.event) (sym (legal i at.0 at.1).answered) ∙ stays))
     ]
 
 same_state : (S : State) (h : List Entry) (i n : ℕ) → IsLegal S h → i + n ≤ length h → changes (take i h) ≡ changes (take (i + n) h) → state S (take i h) ≡ state S (take (i + n) h)
@@ -238,14 +238,14 @@ same_state S h i (suc n) legal le same =
 -- ---- the promises
 
 known_is_honest : (S : State) → KnowsBroken S → IsHonest S
-known_is_honest S told = record {
-  published = λ none. feasible-holds S.inst S.plan (sym told ∙ none);
-  unpublished = λ item is. least-holds S.inst S.plan item (sym told ∙ is);
+known_is_honest S stated = record {
+  published = λ none. feasible-holds S.inst S.plan (sym stated ∙ none);
+  unpublished = λ item is. least-holds S.inst S.plan item (sym stated ∙ is);
 }
 
 pub legal-kept : (S : State) (h : List Entry) → IsLegal S h → (i : ℕ) (entry : Entry) → slice_get h i ≡ Some entry → IsKept (state S (take i h)) entry (state S (take (i + 1) h))
 legal-kept S h legal i entry at =
-    subst (λ (T : State). IsKept (state S (take i h)) entry T) (sym (state-next S h i entry at)) (kept (state S (take i h)) entry (legal i entry at).told)
+    subst (λ (T : State). IsKept (state S (take i h)) entry T) (sym (state-next S h i entry at)) (kept (state S (take i h)) entry (legal i entry at).answered)
 
 pub promises : (I : Situation) (h : List Entry) → IsLegal (opening I) h → KeepsPromises I h
 promises I h legal = record {
@@ -329,7 +329,7 @@ with_event-legal : (S : State) (h : List Entry) (e : ℕ × Event) → IsLegal S
 with_event-legal S h e legal asked =
     elim (cases_Bool (has_room (length h) e.1)) [
       | inl room ↦
-          let stands : Stands S h (entry_of (state S h) e.0 e.1) = record { room = room; asked = askable-parts S.inst (state S h).inst e.1 (sym (state-parts S h)) asked; told = refl } in
+          let stands : Stands S h (entry_of (state S h) e.0 e.1) = record { room = room; asked = askable-parts S.inst (state S h).inst e.1 (sym (state-parts S h)) asked; answered = refl } in
           rw room (legal-append S h (entry_of (state S h) e.0 e.1) legal stands)
       | inr full ↦ rw full legal
     ]

@@ -31,7 +31,7 @@ use Rattle.desk_model.specs.Push.{rotation, comes_after, pushed_legs, leg_before
 use Rattle.desk_model.specs.Fallback.{IsFlownBy}
 use Rattle.desk_model.proofs.ChoiceLaws.{FirstAt, found_first, first_within-holds, first_within-none}
 use Rattle.desk_model.proofs.ValidLaws.{with_row-valid}
-use Rattle.desk_model.proofs.RotationOrder.{flown_once, precedes-itself, precedes-total, Contains-filter, All-behind, pairs_across, pairs_after, rotation-ordered, rotation-flown, rotation-each}
+use Rattle.desk_model.proofs.RotationOrder.{flown_once, precedes-itself, precedes-total, Contains-filter, All-suffix, pairs_across, pairs_after, rotation-ordered, rotation-flown, rotation-each}
 use Rattle.desk_model.proofs.PathOrder.{pairs_head}
 
 -- ---- the leg before
@@ -205,20 +205,20 @@ pub pushed-ordered : (I : Situation) (P : PlanRows) (p : ℕ) (after : Option Le
 unfolding pushed_legs
 pushed-ordered I P p after = AllPairs-filter (Precedes P) (λ x. not (fixed I x) && comes_after P after x) (rotation I P p) (rotation-ordered I P p)
 
-behind-holds : (P : PlanRows) (o : Option Leg) (x : ℕ) (leg : Leg) → comes_after P o x ≡ true → o ≡ Some leg → Precedes P leg.0 x
-behind-holds P None x leg holds is = absurd cc
-behind-holds P (Some other) x leg holds is =
+comes_after-holds : (P : PlanRows) (o : Option Leg) (x : ℕ) (leg : Leg) → comes_after P o x ≡ true → o ≡ Some leg → Precedes P leg.0 x
+comes_after-holds P None x leg holds is = absurd cc
+comes_after-holds P (Some other) x leg holds is =
     let same : other ≡ leg = cc in
     subst (λ (l : Leg). Precedes P l.0 x) same (precedes-holds P other.0 x holds)
 
-behind-from : (P : PlanRows) (o : Option Leg) (x : ℕ) → ((leg : Leg) → o ≡ Some leg → Precedes P leg.0 x) → comes_after P o x ≡ true
-behind-from P None x behind = refl
-behind-from P (Some leg) x behind = precedes-from P leg.0 x (behind leg refl)
+comes_after-from : (P : PlanRows) (o : Option Leg) (x : ℕ) → ((leg : Leg) → o ≡ Some leg → Precedes P leg.0 x) → comes_after P o x ≡ true
+comes_after-from P None x further = refl
+comes_after-from P (Some leg) x further = precedes-from P leg.0 x (further leg refl)
 
 pushed_of : (I : Situation) (P : PlanRows) (p : ℕ) (after : Option Leg) (x : ℕ) → (x < legs_of I) × (flies P p x ≡ true) → (not (fixed I x) && comes_after P after x) ≡ true → IsPushed I P p after x
 pushed_of I P p after x leg passes =
     let parts = and_parts (not (fixed I x)) (comes_after P after x) passes in
-    record { leg = leg.0; dep = dep P x; flown = flies-holds P p x leg.1; movable = not-true (fixed I x) parts.0; behind = λ l is. behind-holds P after x l parts.1 is }
+    record { leg = leg.0; dep = dep P x; flown = flies-holds P p x leg.1; movable = not-true (fixed I x) parts.0; is_later = λ l is. comes_after-holds P after x l parts.1 is }
 
 both_all : {X : Type 0} (A B C : X → Type 0) → ((x : X) → A x → B x → C x) → (xs : List X) → All A xs → All B xs → All C xs
 both_all A B C joined xs a b k d within = joined _ (a k d within) (b k d within)
@@ -236,7 +236,7 @@ pub pushed-each : (I : Situation) (P : PlanRows) (p : ℕ) (after : Option Leg) 
 unfolding pushed_legs
 pushed-each I P p after x is =
     Contains-filter (λ x. not (fixed I x) && comes_after P after x) (rotation I P p) x (rotation-each I P p x is.leg (flies-from P p x is.dep is.flown))
-    (and_from (not (fixed I x)) (comes_after P after x) (not_from_false (fixed I x) is.movable) (behind-from P after x is.behind))
+    (and_from (not (fixed I x)) (comes_after P after x) (not_from_false (fixed I x) is.movable) (comes_after-from P after x is.is_later))
 
 -- ---- the step
 
@@ -265,7 +265,7 @@ after_push-other_plane I P p leg none =
     (recursion_from_All (λ (x : ℕ). ⊥) (pushed_legs I P p (Some leg))
     (All-weaker (IsPushed I P p (Some leg)) (λ (x : ℕ). ⊥)
     (λ x is.
-    let before = is.behind leg refl in
+    let before = is.is_later leg refl in
     let plane : before.plane ≡ p = flown_once P x before.plane p before.later is.dep before.second is.flown in
     none before.dep (subst (λ (q : ℕ). Flies P leg.0 q before.dep) plane before.first))
     (pushed_legs I P p (Some leg)) (pushed-all I P p (Some leg))))
@@ -280,8 +280,8 @@ places I P p done x rest ordered within =
     let R = place_all I P p P (done ++ x ∷ rest) in
     let whole : R ≡ place_all I P p Q (x ∷ rest) = fold-append (after_placing I P p) P done (x ∷ rest) in
     let across = pairs_across (Precedes P) done (x ∷ rest) ordered in
-    let behind : All (Precedes P x) rest = pairs_head (Precedes P) x rest (pairs_after (Precedes P) done (x ∷ rest) ordered) in
-    let not_again : AllByRecursion (λ y. x ≡ y → ⊥) rest = recursion_from_All (λ y. x ≡ y → ⊥) rest (All-weaker (Precedes P x) (λ y. x ≡ y → ⊥) (λ y more. apart P x y more) rest behind) in
+    let further : All (Precedes P x) rest = pairs_head (Precedes P) x rest (pairs_after (Precedes P) done (x ∷ rest) ordered) in
+    let not_again : AllByRecursion (λ y. x ≡ y → ⊥) rest = recursion_from_All (λ y. x ≡ y → ⊥) rest (All-weaker (Precedes P x) (λ y. x ≡ y → ⊥) (λ y more. apart P x y more) rest further) in
     let not_before : AllByRecursion (λ y. x ≡ y → ⊥) done =
     recursion_from_All (λ y. x ≡ y → ⊥) done
     (All-weaker (λ y. All (Precedes P y) (x ∷ rest)) (λ y. x ≡ y → ⊥)
@@ -303,7 +303,7 @@ places I P p done x rest ordered within =
 pub after_push-places : (I : Situation) (P : PlanRows) (p : ℕ) (after : Option Leg) (done : List ℕ) (x : ℕ) (rest : List ℕ) → IsPlanFor I P → pushed_legs I P p after ≡ done ++ x ∷ rest → PlacesLeg I P (after_push I P p after) p done x
 unfolding after_push
 after_push-places I P p after done x rest plan is =
-    let pushed : All (IsPushed I P p after) (x ∷ rest) = All-behind (IsPushed I P p after) done (x ∷ rest) (subst (All (IsPushed I P p after)) is (pushed-all I P p after)) in
+    let pushed : All (IsPushed I P p after) (x ∷ rest) = All-suffix (IsPushed I P p after) done (x ∷ rest) (subst (All (IsPushed I P p after)) is (pushed-all I P p after)) in
     let own : IsPushed I P p after x = pushed 0 x (omega arith) in
     let within : x < length P.rows = let legs = plan.legs in let leg = own.leg in omega (arith, legs, leg) in
     subst (λ (xs : List ℕ). PlacesLeg I P (place_all I P p P xs) p done x) (sym is)

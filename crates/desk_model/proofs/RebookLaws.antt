@@ -74,11 +74,11 @@ one_group test path n =
 pub with_count-adds : (test : List (Leg × Cabin) → Bool) (path : List (Leg × Cabin)) (n : ℕ) (groups : List Group) → passengers_on test (with_count path n groups) + cond (test path) (count_on path groups) 0 ≡ passengers_on test groups + cond (test path) n 0
 with_count-adds test path n groups =
     let all = sum_by-append (amount test) (filter (is_before path) groups) (group_of n path ++ filter (is_after path) groups) in
-    let behind = sum_by-append (amount test) (group_of n path) (filter (is_after path) groups) in
+    let later = sum_by-append (amount test) (group_of n path) (filter (is_after path) groups) in
     let one = one_group test path n in
     let on = on_path test path (test path) groups refl in
     let parts = parts_add test path groups in
-    omega (arith, all, behind, one, on, parts)
+    omega (arith, all, later, one, on, parts)
 
 fewer-adds : (test : List (Leg × Cabin) → Bool) (path : List (Leg × Cabin)) (n : ℕ) (groups : List Group) → n ≤ count_on path groups → passengers_on test (with_fewer path n groups) + cond (test path) n 0 ≡ passengers_on test groups
 fewer-adds test path n groups few =
@@ -183,9 +183,9 @@ all_after-before : (path : List (Leg × Cabin)) (groups : List Group) → AllByR
 all_after-before path [] all = refl
 all_after-before path (group ∷ groups) all = rw all.0 (all_after-before path groups all.1)
 
-all_after-behind : (path : List (Leg × Cabin)) (groups : List Group) → AllByRecursion (λ (group : Group). path_cmp group.path path ≡ Greater) groups → filter (is_after path) groups ≡ groups
-all_after-behind path [] all = refl
-all_after-behind path (group ∷ groups) all = rw all.0 (ap (λ (rest : List Group). group ∷ rest) (all_after-behind path groups all.1))
+all_after-after : (path : List (Leg × Cabin)) (groups : List Group) → AllByRecursion (λ (group : Group). path_cmp group.path path ≡ Greater) groups → filter (is_after path) groups ≡ groups
+all_after-after path [] all = refl
+all_after-after path (group ∷ groups) all = rw all.0 (ap (λ (rest : List Group). group ∷ rest) (all_after-after path groups all.1))
 
 all_after-count : (path : List (Leg × Cabin)) (groups : List Group) → AllByRecursion (λ (group : Group). path_cmp group.path path ≡ Greater) groups → count_on path groups ≡ 0
 all_after-count path [] all = refl
@@ -221,14 +221,14 @@ with_count-own path (group ∷ groups) each pairs =
     let one : group_of group.count path ≡ group ∷ [] =
     rw (ne_eqb group.count 0 not_none) (ap (λ (p : List (Leg × Cabin)). let g : Group = record { count = group.count; path = p } in g ∷ []) (sym is)) in
     let front : filter (is_before path) (group ∷ groups) ≡ [] = rw same (all_after-before path groups rest) in
-    let back : filter (is_after path) (group ∷ groups) ≡ groups = rw same (all_after-behind path groups rest) in
+    let back : filter (is_after path) (group ∷ groups) ≡ groups = rw same (all_after-after path groups rest) in
     ap (λ (n : ℕ). with_count path n (group ∷ groups)) count ∙ rw (front, one, back) refl)
     (λ more.
     let rest = rest_after path group groups pairs (λ other less. path_total.trans path group.path other.path (path_after group.path path more) less) in
     let none : amount (λ other. same_path other path) group ≡ 0 = rw more refl in
     let count : count_on path (group ∷ groups) ≡ 0 = omega (arith, counts, none, all_after-count path groups rest) in
     let front : filter (is_before path) (group ∷ groups) ≡ [] = rw more (all_after-before path groups rest) in
-    let back : filter (is_after path) (group ∷ groups) ≡ group ∷ groups = rw more (ap (λ (gs : List Group). group ∷ gs) (all_after-behind path groups rest)) in
+    let back : filter (is_after path) (group ∷ groups) ≡ group ∷ groups = rw more (ap (λ (gs : List Group). group ∷ gs) (all_after-after path groups rest)) in
     ap (λ (n : ℕ). with_count path n (group ∷ groups)) count ∙ rw (front, back) refl)
 
 filter_again : (p : Group → Bool) (groups : List Group) → filter p (filter p groups) ≡ filter p groups
@@ -271,8 +271,8 @@ with_count-before path n groups =
     )
     (append-nil (filter (is_before path) groups))
 
-with_count-behind : (path : List (Leg × Cabin)) (n : ℕ) (groups : List Group) → filter (is_after path) (with_count path n groups) ≡ filter (is_after path) groups
-with_count-behind path n groups =
+with_count-after : (path : List (Leg × Cabin)) (n : ℕ) (groups : List Group) → filter (is_after path) (with_count path n groups) ≡ filter (is_after path) groups
+with_count-after path n groups =
     filter-append (is_after path) (filter (is_before path) groups) (group_of n path ++ filter (is_after path) groups)
     ∙ rw (
       filter_other (is_before path) (is_after path) (λ group passes. ap is_gt (is_lt-holds (path_cmp group.path path) passes)) groups,
@@ -286,7 +286,7 @@ with_count-behind path n groups =
 with_count-twice : (path : List (Leg × Cabin)) (m n : ℕ) (groups : List Group) → with_count path m (with_count path n groups) ≡ with_count path m groups
 with_count-twice path m n groups =
     ap (λ (front : List Group). front ++ (group_of m path ++ filter (is_after path) (with_count path n groups))) (with_count-before path n groups)
-    ∙ ap (λ (back : List Group). filter (is_before path) groups ++ (group_of m path ++ back)) (with_count-behind path n groups)
+    ∙ ap (λ (back : List Group). filter (is_before path) groups ++ (group_of m path ++ back)) (with_count-after path n groups)
 
 with_count-count : (path : List (Leg × Cabin)) (n : ℕ) (groups : List Group) → count_on path (with_count path n groups) ≡ n
 with_count-count path n groups =

@@ -61,15 +61,15 @@ seats-more : (I : Situation) (Q R : PlanRows) (path : List (Leg × Cabin)) (n : 
 unfolding has_seats_for
 seats-more I Q R path n rows more lacks =
     let before : Leg × Cabin → Bool = λ pair. leb (aboard Q pair.0.0 pair.1 + n) (seats_of I pair.1 (row_at Q pair.0.0)) in
-    let behind : Leg × Cabin → Bool = λ pair. leb (aboard R pair.0.0 pair.1 + n) (seats_of I pair.1 (row_at R pair.0.0)) in
-    elim (cases_Bool (list_all behind path)) [
+    let after : Leg × Cabin → Bool = λ pair. leb (aboard R pair.0.0 pair.1 + n) (seats_of I pair.1 (row_at R pair.0.0)) in
+    elim (cases_Bool (list_all after path)) [
       | inl has ↦
-          let all = All-weaker (λ (pair : Leg × Cabin). behind pair ≡ true) (λ (pair : Leg × Cabin). before pair ≡ true)
+          let all = All-weaker (λ (pair : Leg × Cabin). after pair ≡ true) (λ (pair : Leg × Cabin). before pair ≡ true)
           (λ pair fits.
           let seats : seats_of I pair.1 (row_at R pair.0.0) ≡ seats_of I pair.1 (row_at Q pair.0.0) = ap (λ (rows : List Row). let S : PlanRows = record { rows = rows; groups = [] } in seats_of I pair.1 (row_at S pair.0.0)) rows in
           let le : aboard R pair.0.0 pair.1 + n ≤ seats_of I pair.1 (row_at R pair.0.0) = leb-true _ _ fits in
           le-leb _ _ (omega (arith, more pair.0.0 pair.1, le, seats)))
-          path (AllPass-from_list_all behind path has) in
+          path (AllPass-from_list_all after path has) in
           absurd (true≢false (sym (list_all-from_AllPass before path all) ∙ lacks))
       | inr none ↦ none
     ]
@@ -146,10 +146,10 @@ refills-full I Q R r n within some refills =
       | inr more ↦
           let before : Leg × Cabin → Bool = λ pair. leb (aboard Q pair.0.0 pair.1 + (n + 1)) (seats_of I pair.1 (row_at Q pair.0.0)) in
           let lacks : list_all before path ≡ false = refills.greatest.greatest (n + 1) (omega arith) (omega arith) in
-          let behind : Leg × Cabin → Bool = λ pair. leb (aboard R pair.0.0 pair.1 + 1) (seats_of I pair.1 (row_at R pair.0.0)) in
-          let same : AllByRecursion (λ (pair : Leg × Cabin). behind pair ≡ before pair) path =
-          recursion_from_All (λ (pair : Leg × Cabin). behind pair ≡ before pair) path
-          (All-weaker (λ (pair : Leg × Cabin). takes pair.0.0 pair.1 path ≡ true) (λ (pair : Leg × Cabin). behind pair ≡ before pair)
+          let after : Leg × Cabin → Bool = λ pair. leb (aboard R pair.0.0 pair.1 + 1) (seats_of I pair.1 (row_at R pair.0.0)) in
+          let same : AllByRecursion (λ (pair : Leg × Cabin). after pair ≡ before pair) path =
+          recursion_from_All (λ (pair : Leg × Cabin). after pair ≡ before pair) path
+          (All-weaker (λ (pair : Leg × Cabin). takes pair.0.0 pair.1 path ≡ true) (λ (pair : Leg × Cabin). after pair ≡ before pair)
           (λ pair has.
           let aboard_is : aboard R pair.0.0 pair.1 ≡ aboard Q pair.0.0 pair.1 + n =
           ap (λ (S : PlanRows). aboard S pair.0.0 pair.1) refills.is ∙ rebook-aboard Q r path n pair.0.0 pair.1 within few ∙ rw has refl in
@@ -157,7 +157,7 @@ refills-full I Q R r n within some refills =
           let sum : aboard R pair.0.0 pair.1 + 1 ≡ aboard Q pair.0.0 pair.1 + (n + 1) = omega (arith, aboard_is) in
           rw (sum, row_is) refl)
           path (takes_each path)) in
-          inr (agree_all behind before path same ∙ lacks)
+          inr (agree_all after before path same ∙ lacks)
     ]
 
 -- the path's legs are within their seats then, where anyone goes to it
@@ -193,7 +193,7 @@ record RefilledTo (I : Situation) (x : ℕ) (P Q : PlanRows) (k : ℕ) : Type 0 
   plan : IsPlanFor I Q
   rows : Q.rows ≡ P.rows
   ahead : (r : ℕ) → k ≤ r → groups_at Q r ≡ groups_at P r
-  behind : (r : ℕ) → r < k → RefillsReservation I P Q x r
+  done : (r : ℕ) → r < k → RefillsReservation I P Q x r
   seats : (y : ℕ) (c : Cabin) → IsNotOverfilled I P Q y c
 
 -- whether a reservation is refilled depends on the rows and on its own groups
@@ -234,8 +234,8 @@ step-no I x P Q k fails is = record {
   plan = is.plan;
   rows = is.rows;
   ahead = λ r le. is.ahead r (omega arith);
-  behind = λ r lt. elim (below_more r k lt) [
-    | inl less ↦ is.behind r less
+  done = λ r lt. elim (below_more r k lt) [
+    | inl less ↦ is.done r less
     | inr same ↦ subst (RefillsReservation I P Q x) (sym same) (record {
       count = 0;
       going = λ test. ap (λ (gs : List Group). passengers_on test gs + cond (test []) 0 0) (is.ahead k (omega arith)) ∙ nobody_goes (test []) (test (booked_path I k)) (passengers_on test (groups_at P k));
@@ -260,8 +260,8 @@ step-yes I x P Q R k n plan within has holds refills is =
       plan = plan;
       rows = rows ∙ is.rows;
       ahead = λ r le. own r (λ e. omega (arith, e, le)) ∙ is.ahead r (omega arith);
-      behind = λ r lt. elim (below_more r k lt) [
-        | inl less ↦ refills-later I P Q R x r (is.behind r less) rows (own r (λ e. omega (arith, e, less))) more
+      done = λ r lt. elim (below_more r k lt) [
+        | inl less ↦ refills-later I P Q R x r (is.done r less) rows (own r (λ e. omega (arith, e, less))) more
         | inr same ↦ subst (RefillsReservation I P R x) (sym same) (record {
           count = n;
           going = λ test.
@@ -285,7 +285,7 @@ step-yes I x P Q R k n plan within has holds refills is =
     }
 
 refilled_to : (I : Situation) (x : ℕ) (P : PlanRows) (k : ℕ) → IsValid I → IsPlanFor I P → k ≤ reservations_of I → RefilledTo I x P (plan_to I x P k) k
-refilled_to I x P zero valid plan le = record { plan = plan; rows = refl; ahead = λ r le. refl; behind = λ r lt. absurd (omega arith); seats = λ y c. inl refl }
+refilled_to I x P zero valid plan le = record { plan = plan; rows = refl; ahead = λ r le. refl; done = λ r lt. absurd (omega arith); seats = λ y c. inl refl }
 refilled_to I x P (suc k) valid plan le =
     let Q = plan_to I x P k in
     let is : RefilledTo I x P Q k = refilled_to I x P k valid plan (omega arith) in
@@ -319,7 +319,7 @@ module _ (I : Situation) (P : PlanRows) (x : ℕ) (valid : IsValid I) (plan : Is
 
   pub after_refill-refills : (r : ℕ) → r < reservations_of I → RefillsReservation I P (after_refill I P x) x r
   unfolding after_refill
-  after_refill-refills r within = whole.behind r within
+  after_refill-refills r within = whole.done r within
 
   pub after_refill-seats : (y : ℕ) (c : Cabin) → IsNotOverfilled I P (after_refill I P x) y c
   unfolding after_refill

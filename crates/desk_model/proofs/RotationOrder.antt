@@ -97,21 +97,21 @@ Contains-filter p [] x has passes = absurd (let lt = has.1 in omega (arith, lt))
 Contains-filter p (y ∷ xs) x has passes =
     elim (Contains-cases y x xs has) [
       | inl same ↦ rw (subst (λ (k : ℕ). p k ≡ true) (sym same) passes) (subst (λ (k : ℕ). Contains (y ∷ filter p xs) k) same (Contains-head y (filter p xs)))
-      | inr behind ↦
-          let more = Contains-filter p xs x behind passes in
+      | inr after ↦
+          let more = Contains-filter p xs x after passes in
           elim (cases_Bool (p y)) [
             | inl front ↦ rw front (Contains-tail y x (filter p xs) more)
             | inr fails ↦ rw fails more
           ]
     ]
 
-pub All-behind : {X : Type 0} (P : X → Type 0) (xs ys : List X) → All P (xs ++ ys) → All P ys
-All-behind P xs ys all = subst (All P) (drop_at xs ys (length xs) refl) (All-drop P (length xs) (xs ++ ys) all)
+pub All-suffix : {X : Type 0} (P : X → Type 0) (xs ys : List X) → All P (xs ++ ys) → All P ys
+All-suffix P xs ys all = subst (All P) (drop_at xs ys (length xs) refl) (All-drop P (length xs) (xs ++ ys) all)
 
 pub pairs_across : {X : Type 0} (R : X → X → Type 0) (xs ys : List X) → AllPairs R (xs ++ ys) → All (λ x. All (R x) ys) xs
 pairs_across R [] ys pairs = All-nil (λ x. All (R x) ys)
 pairs_across R (x ∷ xs) ys pairs =
-    All-cons (λ z. All (R z) ys) x xs (All-behind (R x) xs ys (pairs_head R x (xs ++ ys) pairs)) (pairs_across R xs ys (pairs_tail R x (xs ++ ys) pairs))
+    All-cons (λ z. All (R z) ys) x xs (All-suffix (R x) xs ys (pairs_head R x (xs ++ ys) pairs)) (pairs_across R xs ys (pairs_tail R x (xs ++ ys) pairs))
 
 pub pairs_after : {X : Type 0} (R : X → X → Type 0) (xs ys : List X) → AllPairs R (xs ++ ys) → AllPairs R ys
 pairs_after R [] ys pairs = pairs
@@ -122,15 +122,15 @@ pairs_after R (x ∷ xs) ys pairs = pairs_after R xs ys (pairs_tail R x (xs ++ y
 with_leg-pairs : (P : PlanRows) (legs : List ℕ) (x : ℕ) → AllPairs (Precedes P) legs → AllPairs (Precedes P) (with_leg P legs x)
 with_leg-pairs P legs x pairs =
     let before = filter (λ y. precedes P y x) legs in
-    let behind = filter (λ y. precedes P x y) legs in
-    let all_after : All (Precedes P x) behind = All-weaker (λ y. precedes P x y ≡ true) (Precedes P x) (λ y is. precedes-holds P x y is) behind (filter_passes (λ y. precedes P x y) legs) in
-    pairs_append (Precedes P) before (x ∷ behind)
+    let after = filter (λ y. precedes P x y) legs in
+    let all_after : All (Precedes P x) after = All-weaker (λ y. precedes P x y ≡ true) (Precedes P x) (λ y is. precedes-holds P x y is) after (filter_passes (λ y. precedes P x y) legs) in
+    pairs_append (Precedes P) before (x ∷ after)
     (AllPairs-filter (Precedes P) (λ y. precedes P y x) legs pairs)
-    (AllPairs-cons (Precedes P) x behind all_after (AllPairs-filter (Precedes P) (λ y. precedes P x y) legs pairs))
-    (All-weaker (λ y. precedes P y x ≡ true) (λ y. All (Precedes P y) (x ∷ behind))
+    (AllPairs-cons (Precedes P) x after all_after (AllPairs-filter (Precedes P) (λ y. precedes P x y) legs pairs))
+    (All-weaker (λ y. precedes P y x ≡ true) (λ y. All (Precedes P y) (x ∷ after))
     (λ y is.
     let less = precedes-holds P y x is in
-    All-cons (Precedes P y) x behind less (All-weaker (Precedes P x) (Precedes P y) (λ z more. precedes-trans P y x z less more) behind all_after))
+    All-cons (Precedes P y) x after less (All-weaker (Precedes P x) (Precedes P y) (λ z more. precedes-trans P y x z less more) after all_after))
     before (filter_passes (λ y. precedes P y x) legs))
 
 -- the legs of an aircraft among the first k
@@ -145,22 +145,22 @@ below_cases x k lt = grind arith
 first_legs-more : (P : PlanRows) (p k : ℕ) (legs : List ℕ) → flies P p k ≡ true → AreFirstLegs P p k legs → AreFirstLegs P p (suc k) (with_leg P legs k)
 first_legs-more P p k legs here is =
     let before = filter (λ y. precedes P y k) legs in
-    let behind = filter (λ y. precedes P k y) legs in
+    let after = filter (λ y. precedes P k y) legs in
     let wide : All (λ x. (x < suc k) × (flies P p x ≡ true)) legs =
     All-weaker (λ x. (x < k) × (flies P p x ≡ true)) (λ x. (x < suc k) × (flies P p x ≡ true)) (λ x both. (let lt = both.0 in let l : x < suc k = omega (arith, lt) in l, both.1)) legs is.flown in
     let own : (k < suc k) × (flies P p k ≡ true) = (let l : k < suc k = omega arith in l, here) in
     record {
       ordered = with_leg-pairs P legs k is.ordered;
-      flown = All-append (λ x. (x < suc k) × (flies P p x ≡ true)) before (k ∷ behind)
+      flown = All-append (λ x. (x < suc k) × (flies P p x ≡ true)) before (k ∷ after)
           (All-filter (λ y. precedes P y k) (λ x. (x < suc k) × (flies P p x ≡ true)) legs wide)
-          (All-cons (λ x. (x < suc k) × (flies P p x ≡ true)) k behind own (All-filter (λ y. precedes P k y) (λ x. (x < suc k) × (flies P p x ≡ true)) legs wide));
+          (All-cons (λ x. (x < suc k) × (flies P p x ≡ true)) k after own (All-filter (λ y. precedes P k y) (λ x. (x < suc k) × (flies P p x ≡ true)) legs wide));
       each = λ x lt flown. elim (below_cases x k lt) [
-        | inr last ↦ subst (λ (j : ℕ). Contains (before ++ k ∷ behind) j) (sym last) (Contains-append_right before (k ∷ behind) k (Contains-head k behind))
+        | inr last ↦ subst (λ (j : ℕ). Contains (before ++ k ∷ after) j) (sym last) (Contains-append_right before (k ∷ after) k (Contains-head k after))
         | inl less ↦
             let has = is.each x less flown in
             elim (precedes-total P p x k (dep P x) (dep P k) (flies-holds P p x flown) (flies-holds P p k here) (λ e. omega (arith, e, less))) [
-              | inl first ↦ Contains-append_left before (k ∷ behind) x (Contains-filter (λ y. precedes P y k) legs x has (precedes-from P x k first))
-              | inr second ↦ Contains-append_right before (k ∷ behind) x (Contains-tail k x behind (Contains-filter (λ y. precedes P k y) legs x has (precedes-from P k x second)))
+              | inl first ↦ Contains-append_left before (k ∷ after) x (Contains-filter (λ y. precedes P y k) legs x has (precedes-from P x k first))
+              | inr second ↦ Contains-append_right before (k ∷ after) x (Contains-tail k x after (Contains-filter (λ y. precedes P k y) legs x has (precedes-from P k x second)))
             ]
       ];
     }

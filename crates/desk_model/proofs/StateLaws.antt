@@ -26,31 +26,31 @@ use Rattle.desk_model.specs.Histories.{is_batch, is_accepted, is_change}
 use Rattle.desk_model.specs.Promises.{cost_of}
 
 -- why a move was accepted
-pub record Cause (S : State) (m : Move) (told : Grains) : Type 0 where
+pub record Cause (S : State) (m : Move) (given : Grains) : Type 0 where
   pub had_plan : S.broken ≡ None
   pub feasible : least S.inst (after_move S.inst S.plan m) ≡ None
   pub cheaper : cost S.inst (after_move S.inst S.plan m) < cost_of S
-  pub stored : told ≡ grains (cost S.inst (after_move S.inst S.plan m))
+  pub stored : given ≡ grains (cost S.inst (after_move S.inst S.plan m))
 
-judged_accepted : (b : Option Broken) (now would : ℕ) (told : Grains) (dear : Bool) → leb now would ≡ dear → verdict b now would ≡ Accepted told → (b ≡ None) × (would < now) × (told ≡ grains would)
-judged_accepted (Some item) now would told dear test h = absurd cc
-judged_accepted None now would told true test h =
-    let now_is : cond true (Dearer (grains now) (grains would)) (Accepted (grains would)) ≡ Accepted told = rw test at h in
+judged_accepted : (b : Option Broken) (now would : ℕ) (given : Grains) (dear : Bool) → leb now would ≡ dear → verdict b now would ≡ Accepted given → (b ≡ None) × (would < now) × (given ≡ grains would)
+judged_accepted (Some item) now would given dear test h = absurd cc
+judged_accepted None now would given true test h =
+    let now_is : cond true (Dearer (grains now) (grains would)) (Accepted (grains would)) ≡ Accepted given = rw test at h in
     absurd cc
-judged_accepted None now would told false test h =
-    let now_is : cond false (Dearer (grains now) (grains would)) (Accepted (grains would)) ≡ Accepted told = rw test at h in
+judged_accepted None now would given false test h =
+    let now_is : cond false (Dearer (grains now) (grains would)) (Accepted (grains would)) ≡ Accepted given = rw test at h in
     (refl, leb-false now would test, cc)
 
-proposed_accepted : (S : State) (m : Move) (b : Option Broken) (told : Grains) → S.broken ≡ b → move_answer S m b ≡ Accepted told → Cause S m told
-proposed_accepted S m (Some item) told here h = absurd cc
-proposed_accepted S m None told here h =
+proposed_accepted : (S : State) (m : Move) (b : Option Broken) (given : Grains) → S.broken ≡ b → move_answer S m b ≡ Accepted given → Cause S m given
+proposed_accepted S m (Some item) given here h = absurd cc
+proposed_accepted S m None given here h =
     let moved_plan = after_move S.inst S.plan m in
-    let facts = judged_accepted (least S.inst moved_plan) (cost S.inst S.plan) (cost S.inst moved_plan) told (leb (cost S.inst S.plan) (cost S.inst moved_plan)) refl h in
+    let facts = judged_accepted (least S.inst moved_plan) (cost S.inst S.plan) (cost S.inst moved_plan) given (leb (cost S.inst S.plan) (cost S.inst moved_plan)) refl h in
     record { had_plan = here; feasible = facts.0; cheaper = facts.1; stored = facts.2 }
 
-pub accepted-cause : (S : State) (m : Move) (told : Grains) → answer S (event.Move m) ≡ Accepted told → Cause S m told
+pub accepted-cause : (S : State) (m : Move) (given : Grains) → answer S (event.Move m) ≡ Accepted given → Cause S m given
 unfolding answer
-accepted-cause S m told h = proposed_accepted S m S.broken told refl h
+accepted-cause S m given h = proposed_accepted S m S.broken given refl h
 
 -- where there is a plan, and the moved one is feasible and cheaper, the move is accepted
 pub accepted-from : (S : State) (m : Move) → S.broken ≡ None → least S.inst (after_move S.inst S.plan m) ≡ None → cost S.inst (after_move S.inst S.plan m) < cost_of S → answer S (event.Move m) ≡ Accepted (grains (cost S.inst (after_move S.inst S.plan m)))
@@ -62,31 +62,31 @@ accepted-from S m had feasible cheaper =
 -- ---- batches
 
 -- a batch is answered Taken or NoPlan
-batch_accepted : (J : Situation) (F : Fallback) (told : Grains) → batch_answer J F ≡ Accepted told → ⊥
-batch_accepted J (fallen.Chosen which Q) told h = absurd cc
-batch_accepted J (fallen.NoPlan item Q) told h = absurd cc
+batch_accepted : (J : Situation) (F : Fallback) (given : Grains) → batch_answer J F ≡ Accepted given → ⊥
+batch_accepted J (fallen.Chosen which Q) given h = absurd cc
+batch_accepted J (fallen.NoPlan item Q) given h = absurd cc
 
-pub batch-not-accepted : (S : State) (B : Batch) (told : Grains) → answer S (event.Batch B) ≡ Accepted told → ⊥
+pub batch-not-accepted : (S : State) (B : Batch) (given : Grains) → answer S (event.Batch B) ≡ Accepted given → ⊥
 unfolding answer
-batch-not-accepted S B told h = batch_accepted (with_batch S.inst S.plan B) (fallback_on S B) told h
+batch-not-accepted S B given h = batch_accepted (with_batch S.inst S.plan B) (fallback_on S B) given h
 
-batch_priced : (J : Situation) (F : Fallback) (which : Which) (told : Grains) → batch_answer J F ≡ Taken which told → told ≡ grains (cost_of (fallen_state J F))
-batch_priced J (fallen.Chosen w Q) which told h = cc
-batch_priced J (fallen.NoPlan item Q) which told h = absurd cc
+batch_priced : (J : Situation) (F : Fallback) (which : Which) (given : Grains) → batch_answer J F ≡ Taken which given → given ≡ grains (cost_of (fallen_state J F))
+batch_priced J (fallen.Chosen w Q) which given h = cc
+batch_priced J (fallen.NoPlan item Q) which given h = absurd cc
 
 -- the cost that is reported of a batch is that of the rows after it
-pub batch-priced : (S : State) (B : Batch) (which : Which) (told : Grains) → answer S (event.Batch B) ≡ Taken which told → told ≡ grains (cost_of (after S (event.Batch B)))
+pub batch-priced : (S : State) (B : Batch) (which : Which) (given : Grains) → answer S (event.Batch B) ≡ Taken which given → given ≡ grains (cost_of (after S (event.Batch B)))
 unfolding answer after
-batch-priced S B which told h = batch_priced (with_batch S.inst S.plan B) (fallback_on S B) which told h
+batch-priced S B which given h = batch_priced (with_batch S.inst S.plan B) (fallback_on S B) which given h
 
-batch_published : (J : Situation) (F : Fallback) (which : Which) (told : Grains) → batch_answer J F ≡ Taken which told → (fallen_state J F).broken ≡ None
-batch_published J (fallen.Chosen w Q) which told h = refl
-batch_published J (fallen.NoPlan item Q) which told h = absurd cc
+batch_published : (J : Situation) (F : Fallback) (which : Which) (given : Grains) → batch_answer J F ≡ Taken which given → (fallen_state J F).broken ≡ None
+batch_published J (fallen.Chosen w Q) which given h = refl
+batch_published J (fallen.NoPlan item Q) which given h = absurd cc
 
 -- and they are published
-pub batch-published : (S : State) (B : Batch) (which : Which) (told : Grains) → answer S (event.Batch B) ≡ Taken which told → (after S (event.Batch B)).broken ≡ None
+pub batch-published : (S : State) (B : Batch) (which : Which) (given : Grains) → answer S (event.Batch B) ≡ Taken which given → (after S (event.Batch B)).broken ≡ None
 unfolding answer after
-batch-published S B which told h = batch_published (with_batch S.inst S.plan B) (fallback_on S B) which told h
+batch-published S B which given h = batch_published (with_batch S.inst S.plan B) (fallback_on S B) which given h
 
 batch_unplanned : (J : Situation) (F : Fallback) (item : Broken) → batch_answer J F ≡ NoPlan item → (fallen_state J F).broken ≡ Some item
 batch_unplanned J (fallen.Chosen which Q) item h = absurd cc
@@ -167,25 +167,25 @@ pub dearer-cause : (S : State) (m : Move) (now would : Grains) → answer S (eve
 unfolding answer
 dearer-cause S m now would h = proposed_dearer S m S.broken now would refl h
 
-verdict_taken : (b : Option Broken) (now would : ℕ) (dear : Bool) (which : Which) (told : Grains) → leb now would ≡ dear → verdict b now would ≡ Taken which told → ⊥
-verdict_taken (Some item) now would dear which told test h = absurd cc
-verdict_taken None now would true which told test h =
-    let now_is : cond true (Dearer (grains now) (grains would)) (Accepted (grains would)) ≡ Taken which told = rw test at h in
+verdict_taken : (b : Option Broken) (now would : ℕ) (dear : Bool) (which : Which) (given : Grains) → leb now would ≡ dear → verdict b now would ≡ Taken which given → ⊥
+verdict_taken (Some item) now would dear which given test h = absurd cc
+verdict_taken None now would true which given test h =
+    let now_is : cond true (Dearer (grains now) (grains would)) (Accepted (grains would)) ≡ Taken which given = rw test at h in
     absurd cc
-verdict_taken None now would false which told test h =
-    let now_is : cond false (Dearer (grains now) (grains would)) (Accepted (grains would)) ≡ Taken which told = rw test at h in
+verdict_taken None now would false which given test h =
+    let now_is : cond false (Dearer (grains now) (grains would)) (Accepted (grains would)) ≡ Taken which given = rw test at h in
     absurd cc
 
-proposed_taken : (S : State) (m : Move) (b : Option Broken) (which : Which) (told : Grains) → move_answer S m b ≡ Taken which told → ⊥
-proposed_taken S m (Some item) which told h = absurd cc
-proposed_taken S m None which told h =
+proposed_taken : (S : State) (m : Move) (b : Option Broken) (which : Which) (given : Grains) → move_answer S m b ≡ Taken which given → ⊥
+proposed_taken S m (Some item) which given h = absurd cc
+proposed_taken S m None which given h =
     let moved_plan = after_move S.inst S.plan m in
-    verdict_taken (least S.inst moved_plan) (cost S.inst S.plan) (cost S.inst moved_plan) (leb (cost S.inst S.plan) (cost S.inst moved_plan)) which told refl h
+    verdict_taken (least S.inst moved_plan) (cost S.inst S.plan) (cost S.inst moved_plan) (leb (cost S.inst S.plan) (cost S.inst moved_plan)) which given refl h
 
 -- no proposal is answered Taken
-pub move-not-taken : (S : State) (m : Move) (which : Which) (told : Grains) → answer S (event.Move m) ≡ Taken which told → ⊥
+pub move-not-taken : (S : State) (m : Move) (which : Which) (given : Grains) → answer S (event.Move m) ≡ Taken which given → ⊥
 unfolding answer
-move-not-taken S m which told h = proposed_taken S m S.broken which told h
+move-not-taken S m which given h = proposed_taken S m S.broken which given h
 
 fallen_inst : (J : Situation) (F : Fallback) → (fallen_state J F).inst ≡ J
 fallen_inst J (fallen.Chosen which Q) = refl
@@ -212,8 +212,8 @@ abbrev pub KnowsBroken : State → Type 0
 KnowsBroken S = S.broken ≡ least S.inst S.plan
 
 published-known : (S : State) (m : Move) (a : Answer) → answer S (event.Move m) ≡ a → KnowsBroken S → KnowsBroken (answered_state S m a)
-published-known S m (Accepted told) e h = sym (accepted-cause S m told e).feasible
-published-known S m (Taken which told) e h = h
+published-known S m (Accepted given) e h = sym (accepted-cause S m given e).feasible
+published-known S m (Taken which given) e h = h
 published-known S m (Breaks item) e h = h
 published-known S m (Dearer now would) e h = h
 published-known S m (NoPlan item) e h = h
@@ -239,8 +239,8 @@ unfolding opening
 opening-known I = refl
 
 published-inst : (S : State) (m : Move) (a : Answer) → (answered_state S m a).inst ≡ S.inst
-published-inst S m (Accepted told) = refl
-published-inst S m (Taken which told) = refl
+published-inst S m (Accepted given) = refl
+published-inst S m (Taken which given) = refl
 published-inst S m (Breaks item) = refl
 published-inst S m (Dearer now would) = refl
 published-inst S m (NoPlan item) = refl
@@ -270,8 +270,8 @@ unfolding opening
 opening-plan I = refl
 
 published-unchanged : (S : State) (m : Move) (a : Answer) → is_accepted a ≡ false → answered_state S m a ≡ S
-published-unchanged S m (Accepted told) h = absurd (true≢false h)
-published-unchanged S m (Taken which told) h = refl
+published-unchanged S m (Accepted given) h = absurd (true≢false h)
+published-unchanged S m (Taken which given) h = refl
 published-unchanged S m (Breaks item) h = refl
 published-unchanged S m (Dearer now would) h = refl
 published-unchanged S m (NoPlan item) h = refl
@@ -284,25 +284,25 @@ after-unchanged S (event.Batch B) h = absurd (true≢false h)
 after-unchanged S (event.Move m) h = published-unchanged S m (answer S (event.Move m)) h
 
 -- an accepted move is published
-pub after-accepted : (S : State) (m : Move) (told : Grains) → answer S (event.Move m) ≡ Accepted told → after S (event.Move m) ≡ record { inst = S.inst; plan = after_move S.inst S.plan m; broken = None }
+pub after-accepted : (S : State) (m : Move) (given : Grains) → answer S (event.Move m) ≡ Accepted given → after S (event.Move m) ≡ record { inst = S.inst; plan = after_move S.inst S.plan m; broken = None }
 unfolding after
-after-accepted S m told h = ap (answered_state S m) h
+after-accepted S m given h = ap (answered_state S m) h
 
-accepted_is : (a : Answer) → is_accepted a ≡ true → (told : Grains) × (a ≡ Accepted told)
-accepted_is (Accepted told) h = (told, refl)
-accepted_is (Taken which told) h = absurd (true≢false (sym h))
+accepted_is : (a : Answer) → is_accepted a ≡ true → (given : Grains) × (a ≡ Accepted given)
+accepted_is (Accepted given) h = (given, refl)
+accepted_is (Taken which given) h = absurd (true≢false (sym h))
 accepted_is (Breaks item) h = absurd (true≢false (sym h))
 accepted_is (Dearer now would) h = absurd (true≢false (sym h))
 accepted_is (NoPlan item) h = absurd (true≢false (sym h))
 accepted_is (Full entries) h = absurd (true≢false (sym h))
 
 -- an answer that accepts names a cost
-pub accepted-known : (a : Answer) → is_accepted a ≡ true → (told : Grains) × (a ≡ Accepted told)
+pub accepted-known : (a : Answer) → is_accepted a ≡ true → (given : Grains) × (a ≡ Accepted given)
 accepted-known = accepted_is
 
 falls_by : (S : State) (m : Move) (a : Answer) → answer S (event.Move m) ≡ a → cost_of (answered_state S m a) ≤ cost_of S
-falls_by S m (Accepted told) e = let cause = accepted-cause S m told e in omega (arith, cause.cheaper)
-falls_by S m (Taken which told) e = omega arith
+falls_by S m (Accepted given) e = let cause = accepted-cause S m given e in omega (arith, cause.cheaper)
+falls_by S m (Taken which given) e = omega arith
 falls_by S m (Breaks item) e = omega arith
 falls_by S m (Dearer now would) e = omega arith
 falls_by S m (NoPlan item) e = omega arith

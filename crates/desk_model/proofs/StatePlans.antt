@@ -32,13 +32,13 @@ use Rattle.desk_model.proofs.HistoryLaws.{state-known, state-parts, state-orders
 
 pub planned : (I : Situation) (h : List Entry) → (state (opening I) h).broken ≡ None ↔ IsFeasible (state (opening I) h).inst (state (opening I) h).plan
 planned I h =
-    let told = state-known (opening I) h (opening-known I) in
-    ((λ none. feasible-holds _ _ (sym told ∙ none)), (λ feasible. told ∙ feasible-from _ _ feasible))
+    let given = state-known (opening I) h (opening-known I) in
+    ((λ none. feasible-holds _ _ (sym given ∙ none)), (λ feasible. given ∙ feasible-from _ _ feasible))
 
 pub unplanned : (I : Situation) (h : List Entry) (item : Broken) → (state (opening I) h).broken ≡ Some item ↔ IsLeast (state (opening I) h).inst (state (opening I) h).plan item
 unplanned I h item =
-    let told = state-known (opening I) h (opening-known I) in
-    ((λ some. least-holds _ _ item (sym told ∙ some)), (λ first. told ∙ least-from _ _ item first))
+    let given = state-known (opening I) h (opening-known I) in
+    ((λ some. least-holds _ _ item (sym given ∙ some)), (λ first. given ∙ least-from _ _ item first))
 
 -- ---- the instance of a state
 
@@ -60,8 +60,8 @@ askable_along I h e =
 -- ---- plans for instances
 
 published_plan : (S : State) (m : Move) (a : Answer) → Fits S.inst m → HasPlanRows S → HasPlanRows (answered_state S m a)
-published_plan S m (Accepted told) fits h = record { inst = h.inst; plan = after_move-valid S.inst S.plan m h.inst fits h.plan }
-published_plan S m (Taken which told) fits h = h
+published_plan S m (Accepted given) fits h = record { inst = h.inst; plan = after_move-valid S.inst S.plan m h.inst fits h.plan }
+published_plan S m (Taken which given) fits h = h
 published_plan S m (Breaks item) fits h = h
 published_plan S m (Dearer now would) fits h = h
 published_plan S m (NoPlan item) fits h = h

@@ -1,10 +1,10 @@
--- What the desk falls back on when a disruption arrives: the plan as it stands; else the plan with the legs cancelled that come after one that is ordered off, and all others pushed; else the plan in which no movable leg is flown.
+-- What the desk falls back on when a disruption arrives: the plan as it stands; else the plan with the legs cancelled that come after one that is called off, and all others pushed; else the plan in which no movable leg is flown.
 use Rattle.std.specs.Prelude.{◌≡◌, ◌↔◌, ℕ, ◌<◌, ◌⊎◌, Bool, true, false, ◌&&◌, ◌||◌, not, ◌==◌, if◌then◌else◌, Option, None, Some, unwrap_or, map, fold}
 use Rattle.std.specs.List.{list_any}
 use Rattle.desk_data.specs.declared.row.Row.{Row}
 use Rattle.desk_data.specs.declared.row.Row.TheVariants.{Cancelled}
 use Rattle.desk_data.specs.declared.broken.Broken.{Broken}
-use Rattle.desk_data.specs.Situation.{Situation, legs_of, planes_of, fixed, ordered_off, due}
+use Rattle.desk_data.specs.Situation.{Situation, legs_of, planes_of, fixed, called_off, due}
 use Rattle.desk_data.specs.PlanRows.{PlanRows, row_at}
 use Rattle.desk_rules.specs.Numbers.{numbers}
 use Rattle.desk_rules.specs.Rotations.{precedes}
@@ -33,19 +33,19 @@ cancelled I test P = with_each_row I (λ x. if test x then Cancelled else row_at
 
 -- ---- shift
 
--- whether leg x is movable and ordered off
+-- whether leg x is movable and called off
 abbrev pub is_movable_off : Situation → ℕ → Bool
-is_movable_off I x = not (fixed I x) && ordered_off I x
+is_movable_off I x = not (fixed I x) && called_off I x
 
 -- whether leg y is leg x, or comes before it on its aircraft
 abbrev pub is_at_or_before : PlanRows → ℕ → ℕ → Bool
 is_at_or_before P y x = (y == x) || precedes P y x
 
--- whether leg x is movable, and it or a leg before it on its aircraft is a movable leg ordered off: it is the first such leg of its aircraft, or comes after that
+-- whether leg x is movable, and it or a leg before it on its aircraft is a movable leg called off: it is the first such leg of its aircraft, or comes after that
 unfoldable pub is_stopped : Situation → PlanRows → ℕ → Bool
 is_stopped I P x = not (fixed I x) && list_any (λ y. is_movable_off I y && is_at_or_before P y x) (numbers (legs_of I))
 
--- of each aircraft that flies a movable leg ordered off, the first such leg and all later movable legs are cancelled. All aircraft are judged on the plan as it is given
+-- of each aircraft that flies a movable leg called off, the first such leg and all later movable legs are cancelled. All aircraft are judged on the plan as it is given
 unfoldable pub stopped : Situation → PlanRows → PlanRows
 stopped I P = cancelled I (is_stopped I P) P
 
@@ -57,7 +57,7 @@ first_pushed I P n = fold (λ Q p. after_push I Q p None) P (numbers n)
 unfoldable pub all_pushed : Situation → PlanRows → PlanRows
 all_pushed I P = first_pushed I P (planes_of I)
 
--- Shift: the plan is settled; legs are cancelled from the first on that is ordered off; what is left is pushed; then a Tidy
+-- Shift: the plan is settled; legs are cancelled from the first on that is called off; what is left is pushed; then a Tidy
 unfoldable pub shifted : Situation → PlanRows → PlanRows
 shifted I P = after_tidy I (all_pushed I (stopped I (settled I P)))
 
@@ -99,13 +99,13 @@ rows_named I P Ground = grounded I P
 
 -- ---- in words
 
--- leg x is movable, and it, or a leg before it on its aircraft, is a movable leg ordered off
+-- leg x is movable, and it, or a leg before it on its aircraft, is a movable leg called off
 pub record IsStopped (I : Situation) (P : PlanRows) (x : ℕ) : Type 0 where
   pub movable : fixed I x ≡ false
   pub cause : ℕ
   pub leg : cause < legs_of I
   pub off_movable : fixed I cause ≡ false
-  pub off : ordered_off I cause ≡ true
+  pub off : called_off I cause ≡ true
   pub place : (cause ≡ x) ⊎ Precedes P cause x
 
 -- aircraft p flies leg x, whenever it departs

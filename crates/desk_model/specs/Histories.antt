@@ -42,7 +42,7 @@ AreAskable I events = All (λ asked. IsAskable I asked.1) events
 pub record Stands (S : State) (before : List Entry) (entry : Entry) : Type 0 where
   pub room : has_room (length before) entry.event ≡ true
   pub asked : IsAskable (state S before).inst entry.event
-  pub told : entry.answer ≡ answer (state S before) entry.event
+  pub answered : entry.answer ≡ answer (state S before) entry.event
 
 -- each entry comes after those before it
 abbrev pub IsLegal : State → List Entry → Type 0
@@ -60,8 +60,8 @@ is_accepted other = false
 
 -- whether the event with its answer changed the state: each batch does, and a proposal that was accepted
 abbrev pub is_change : Event → Answer → Bool
-is_change (event.Batch B) told = true
-is_change (event.Move m) told = is_accepted told
+is_change (event.Batch B) given = true
+is_change (event.Move m) given = is_accepted given
 
 -- the orders that an event brings
 abbrev pub orders_in : Event → List Order

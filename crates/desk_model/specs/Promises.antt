@@ -15,7 +15,7 @@ use Rattle.desk_model.specs.declared.answer.Event.TheVariants as event
 use Rattle.desk_model.specs.declared.answer.Entry.{Entry}
 use Rattle.desk_model.specs.Steps.{after_move}
 use Rattle.desk_model.specs.States.{State, opening, fallback_on}
-use Rattle.desk_model.specs.Batches.{TellsOfBatch}
+use Rattle.desk_model.specs.Batches.{AnswersBatch}
 use Rattle.desk_model.specs.Histories.{state, changes, is_batch, is_accepted, is_change}
 
 -- the state after the first i entries
@@ -37,17 +37,17 @@ pub record Improves (S : State) (m : Move) : Type 0 where
   pub cheaper : cost S.inst (after_move S.inst S.plan m) < cost_of S
 
 -- a batch and the answer to it, between the state before it and the state after it: its orders are taken after the others. The answer names the first of the three that is feasible, made of the rows as they stood, under the orders that there are then, or it is the first item that the rows of Ground break. The rows are those that the desk falls back on: those that the name stands for, or where no name is given those of Ground
-pub record IsTakenIn (before : State) (B : Batch) (given : Answer) (behind : State) : Type 0 where
-  pub orders : behind.inst ≡ with_batch before.inst before.plan B
-  pub told : TellsOfBatch behind.inst before.plan given
-  pub rows : behind.plan ≡ rows_of (fallback_on before B)
-  pub named : (which : Which) (price : Grains) → given ≡ Taken which price → behind.plan ≡ rows_named behind.inst before.plan which
-  pub left : (item : Broken) → given ≡ NoPlan item → behind.plan ≡ grounded behind.inst before.plan
+pub record IsTakenIn (before : State) (B : Batch) (given : Answer) (after : State) : Type 0 where
+  pub orders : after.inst ≡ with_batch before.inst before.plan B
+  pub answered : AnswersBatch after.inst before.plan given
+  pub rows : after.plan ≡ rows_of (fallback_on before B)
+  pub named : (which : Which) (price : Grains) → given ≡ Taken which price → after.plan ≡ rows_named after.inst before.plan which
+  pub left : (item : Broken) → given ≡ NoPlan item → after.plan ≡ grounded after.inst before.plan
 
 -- there was no plan to move, and nothing changes: the item reported is the one that was reported before
-pub record HadNoPlan (before : State) (item : Broken) (behind : State) : Type 0 where
+pub record HadNoPlan (before : State) (item : Broken) (after : State) : Type 0 where
   pub had : before.broken ≡ Some item
-  pub stays : behind ≡ before
+  pub stays : after ≡ before
 
 -- there was a plan to move, and the item reported is the first that the moved plan breaks
 pub record BreaksFirst (before : State) (m : Move) (item : Broken) : Type 0 where
@@ -63,25 +63,25 @@ pub record IsDearer (before : State) (m : Move) (now would : Grains) : Type 0 wh
   pub would_cost : would ≡ grains (cost before.inst (after_move before.inst before.plan m))
 
 -- entry i of the history, between the state before it and the state after it
-pub record IsKept (before : State) (entry : Entry) (behind : State) : Type 0 where
-  pub taken : (B : Batch) → entry.event ≡ event.Batch B → IsTakenIn before B entry.answer behind
+pub record IsKept (before : State) (entry : Entry) (after : State) : Type 0 where
+  pub taken : (B : Batch) → entry.event ≡ event.Batch B → IsTakenIn before B entry.answer after
   -- the cost that is reported of a batch is the cost of the rows after it, under the new orders, and they are published
-  pub priced : (which : Which) (told : Grains) → entry.answer ≡ Taken which told → (told ≡ grains (cost_of behind)) × (behind.broken ≡ None)
+  pub priced : (which : Which) (price : Grains) → entry.answer ≡ Taken which price → (price ≡ grains (cost_of after)) × (after.broken ≡ None)
   -- where the answer is that there is no plan, there is none after the event, and the item reported is the one that the rows break
-  pub unplanned : (item : Broken) → entry.answer ≡ NoPlan item → behind.broken ≡ Some item
+  pub unplanned : (item : Broken) → entry.answer ≡ NoPlan item → after.broken ≡ Some item
   -- a proposal is answered so where there was none before it
-  pub unmoved : (m : Move) (item : Broken) → entry.event ≡ event.Move m → entry.answer ≡ NoPlan item → HadNoPlan before item behind
+  pub unmoved : (m : Move) (item : Broken) → entry.event ≡ event.Move m → entry.answer ≡ NoPlan item → HadNoPlan before item after
   -- what is reported of a proposal that is refused
   pub breaking : (m : Move) (item : Broken) → entry.event ≡ event.Move m → entry.answer ≡ Breaks item → BreaksFirst before m item
   pub dearer : (m : Move) (now would : Grains) → entry.event ≡ event.Move m → entry.answer ≡ Dearer now would → IsDearer before m now would
   -- a proposal to a published plan is accepted exactly where the moved plan is feasible and cheaper
   pub accepted : (m : Move) → entry.event ≡ event.Move m → before.broken ≡ None → is_accepted entry.answer ≡ true ↔ Improves before m
   -- the cost that is reported of an accepted proposal is the cost of the rows after it, and less than before
-  pub stored : (told : Grains) → entry.answer ≡ Accepted told → (told ≡ grains (cost_of behind)) × (cost_of behind < cost_of before)
+  pub stored : (price : Grains) → entry.answer ≡ Accepted price → (price ≡ grains (cost_of after)) × (cost_of after < cost_of before)
   -- an accepted proposal publishes the moved plan
-  pub moved_to : (m : Move) → entry.event ≡ event.Move m → is_accepted entry.answer ≡ true → (behind.inst ≡ before.inst) × (behind.plan ≡ after_move before.inst before.plan m) × (behind.broken ≡ None)
+  pub moved_to : (m : Move) → entry.event ≡ event.Move m → is_accepted entry.answer ≡ true → (after.inst ≡ before.inst) × (after.plan ≡ after_move before.inst before.plan m) × (after.broken ≡ None)
   -- every other answer leaves the state
-  pub refused : is_change entry.event entry.answer ≡ false → behind ≡ before
+  pub refused : is_change entry.event entry.answer ≡ false → after ≡ before
 
 -- none of the entries from place i up to but not including place j is a batch
 abbrev pub AreProposals : List Entry → ℕ → ℕ → Type 0

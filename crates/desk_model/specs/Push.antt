@@ -145,7 +145,7 @@ pub record IsPushed (I : Situation) (P : PlanRows) (p : ℕ) (after : Option Leg
   pub dep : ℕ
   pub flown : Flies P x p dep
   pub movable : fixed I x ≡ false
-  pub behind : (leg : Leg) → after ≡ Some leg → Precedes P leg.0 x
+  pub is_later : (leg : Leg) → after ≡ Some leg → Precedes P leg.0 x
 
 -- leg x of aircraft p may depart at moment t
 pub record MayDepart (I : Situation) (P Q : PlanRows) (p x t : ℕ) : Type 0 where

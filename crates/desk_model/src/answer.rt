@@ -8,7 +8,7 @@ use desk_data::{Batch, Broken, Grains};
 use plan_moves::Move;
 
 /// What happens at the desk.
-#[derive(Debug, Drop)]
+#[derive(Drop)]
 pub enum Event {
     /// Disruptions become known.
     Batch(Batch),
@@ -48,7 +48,7 @@ pub enum Answer {
 }
 
 /// An entry of the journal.
-#[derive(Debug, Drop)]
+#[derive(Drop)]
 pub struct Entry {
     /// Who asked: 0 is the desk itself, and 1 to 64 are searchers.
     pub caller: u32,

@@ -2,7 +2,7 @@
 
 ghost use Rattle.std.specs.Prelude.{◌≡◌, ℕ, ◌<◌, None, false, not, true};
 ghost use Rattle.desk_data.specs.declared.row.Row.TheVariants.{Cancelled};
-ghost use Rattle.desk_data.specs.Situation.{Situation, fixed, legs_of, ordered_off, planes_of, reservations_of};
+ghost use Rattle.desk_data.specs.Situation.{Situation, fixed, legs_of, called_off, planes_of, reservations_of};
 ghost use Rattle.desk_data.specs.PlanRows.{PlanRows, row_at};
 ghost use Rattle.desk_data.specs.Valid.{IsPlanFor, IsValid};
 ghost use Rattle.desk_rules.specs.Words.{MeetsC1};
@@ -17,14 +17,14 @@ use desk_data::{Broken, Plan};
 pub enum Which {
     /// The plan as it stands.
     Keep,
-    /// Legs are cancelled from the first on that is ordered off, and all others are pushed.
+    /// Legs are cancelled from the first on that is called off, and all others are pushed.
     Shift,
     /// No movable leg is flown.
     Ground,
 }
 
 /// What becomes of a plan under a disruption.
-#[derive(Debug, Drop)]
+#[derive(Drop)]
 pub enum Fallback {
     /// The first that is feasible.
     Chosen { which: Which, plan: Plan },
@@ -49,10 +49,10 @@ pub fn a_settled_plan_has_each_fixed_leg_as_it_is_due()
     ensures groups { (I : Situation) (P : PlanRows) → (settled I P).groups ≡ P.groups }
 {}
 
-/// Before aircraft are pushed, a Shift cancels each movable leg that is ordered off, and each movable
+/// Before aircraft are pushed, a Shift cancels each movable leg that is called off, and each movable
 /// leg that comes after such a leg on its aircraft. All others keep their rows, and each reservation
 /// its groups.
-pub fn a_shift_cancels_legs_from_the_first_ordered_off_on()
+pub fn a_shift_cancels_legs_from_the_first_called_off_on()
     ensures stopped { (I : Situation) (P : PlanRows) (x : ℕ) → IsStopped I P x → row_at (stopped I P) x ≡ Cancelled }
     ensures others { (I : Situation) (P : PlanRows) (x : ℕ) → IsPlanFor I P → (IsStopped I P x → ⊥) → row_at (stopped I P) x ≡ row_at P x }
     ensures groups { (I : Situation) (P : PlanRows) → (stopped I P).groups ≡ P.groups }
@@ -71,14 +71,14 @@ pub fn a_shift_pushes_all_aircraft_in_turn()
 {}
 
 /// A Shift leaves the rows that the pushes make of a settled plan in which legs are cancelled from the
-/// first on that is ordered off. So each fixed leg is as it is due, each movable leg that is ordered off
+/// first on that is called off. So each fixed leg is as it is due, each movable leg that is called off
 /// or comes after such a leg on its aircraft is cancelled, and each other movable leg that was flown is
 /// flown by the same aircraft. Each reservation is tidied: the passengers on a carried path that meets
 /// C13, C14 and C15 stay on it, and there is none on another carried path.
-pub fn a_shift_keeps_what_is_due_and_flies_no_leg_ordered_off()
+pub fn a_shift_keeps_what_is_due_and_flies_no_leg_called_off()
     ensures rows { (I : Situation) (P : PlanRows) → (shifted I P).rows ≡ (all_pushed I (stopped I (settled I P))).rows }
     ensures due { (I : Situation) (P : PlanRows) (x : ℕ) → x < legs_of I → MeetsC1 I (shifted I P) x }
-    ensures off { (I : Situation) (P : PlanRows) (x : ℕ) → x < legs_of I → fixed I x ≡ false → ordered_off I x ≡ true → row_at (shifted I P) x ≡ Cancelled }
+    ensures off { (I : Situation) (P : PlanRows) (x : ℕ) → x < legs_of I → fixed I x ≡ false → called_off I x ≡ true → row_at (shifted I P) x ≡ Cancelled }
     ensures stopped { (I : Situation) (P : PlanRows) (x : ℕ) → IsStopped I (settled I P) x → row_at (shifted I P) x ≡ Cancelled }
     ensures flown { (I : Situation) (P : PlanRows) (x p : ℕ) → x < legs_of I → fixed I x ≡ false → (IsStopped I (settled I P) x → ⊥) → IsFlownBy P x p → IsFlownBy (shifted I P) x p }
     ensures tidied { (I : Situation) (P : PlanRows) (r : ℕ) → r < reservations_of I → TidiesReservation I (all_pushed I (stopped I (settled I P))) (shifted I P) r }

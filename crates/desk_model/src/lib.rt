@@ -24,8 +24,8 @@ pub use desk_data::{Batch, Broken, Grains};
 pub use fallbacks::{
     Fallback, Which, a_ground_plan_flies_no_movable_leg,
     a_settled_plan_has_each_fixed_leg_as_it_is_due,
-    a_shift_cancels_legs_from_the_first_ordered_off_on,
-    a_shift_keeps_what_is_due_and_flies_no_leg_ordered_off, a_shift_pushes_all_aircraft_in_turn,
+    a_shift_cancels_legs_from_the_first_called_off_on,
+    a_shift_keeps_what_is_due_and_flies_no_leg_called_off, a_shift_pushes_all_aircraft_in_turn,
     fallbacks_make_valid_plans, the_fallback_is_the_first_that_is_feasible,
 };
 pub use histories::{

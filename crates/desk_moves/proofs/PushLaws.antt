@@ -43,11 +43,11 @@ length-filters p q (x ∷ xs) apart =
     ]
 
 not_both : (P : PlanRows) (x y : ℕ) → precedes P y x ≡ true → precedes P x y ≡ true → ⊥
-not_both P x y before behind = precedes-itself P x (precedes-trans P x y x (precedes-holds P x y behind) (precedes-holds P y x before))
+not_both P x y before later = precedes-itself P x (precedes-trans P x y x (precedes-holds P x y later) (precedes-holds P y x before))
 
 length-with_leg : (P : PlanRows) (legs : List ℕ) (x : ℕ) → length (with_leg P legs x) ≤ length legs + 1
 length-with_leg P legs x =
-    let both = length-filters (λ y. precedes P y x) (λ y. precedes P x y) legs (λ y before behind. not_both P x y before behind) in
+    let both = length-filters (λ y. precedes P y x) (λ y. precedes P x y) legs (λ y before later. not_both P x y before later) in
     let all = length-append (filter (λ y. precedes P y x) legs) (x ∷ filter (λ y. precedes P x y) legs) in
     omega (arith, both, all)
 

@@ -14,7 +14,7 @@ use desk_eval::Evaluator;
 use std::alloc::Global;
 
 /// Two aircraft, and the moment from which they fly each other's legs.
-#[derive(Clone, Copy, Debug)]
+#[derive(Clone, Copy)]
 pub(crate) struct Exchange {
     pub first: Plane,
     pub second: Plane,

@@ -4,7 +4,7 @@ use std::marker::Model;
 
 /// What takes an applied move back: spent by `undo` or `keep`. Contracts see it as the depth that the
 /// evaluator's past had when the move was applied.
-#[derive(Debug, Drop)]
+#[derive(Drop)]
 pub struct Undo {
     pub(crate) depth: u32,
 }

@@ -42,7 +42,7 @@ pub asked_at : (I : Situation) (f : Follower) (h : List Entry) (entry : Entry) �
 asked_at I f h entry stands legal at = subst (λ (S : State). IsAskable S.inst entry.event) (sym stands.state) (legal f.followed entry at).asked
 
 pub reported_at : (I : Situation) (f : Follower) (h : List Entry) (entry : Entry) → StandsAt I f h → IsLegal (opening I) h → slice_get h f.followed ≡ Some entry → entry.answer ≡ answer (state_in f.eval) entry.event
-reported_at I f h entry stands legal at = (legal f.followed entry at).told ∙ ap (λ (S : State). answer S entry.event) (sym stands.state)
+reported_at I f h entry stands legal at = (legal f.followed entry at).answered ∙ ap (λ (S : State). answer S entry.event) (sym stands.state)
 
 since_is : (h : List Entry) (entry : Entry) → since_batch (h ++ entry ∷ []) ≡ cond (not (is_batch entry.event)) (entry ∷ since_batch h) []
 since_is h entry =

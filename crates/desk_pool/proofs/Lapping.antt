@@ -17,12 +17,12 @@ use Rattle.desk_data.specs.Situation.{Situation}
 use Rattle.desk_model.specs.declared.answer.Entry.{Entry}
 use Rattle.desk_model.specs.States.{opening}
 use Rattle.desk_teams.specs.declared.trail.Trail.{Trail}
-use Rattle.desk_teams.proofs.TrailLaws.{trail-longer}
-use Rattle.desk_pool.specs.declared.report.Report.{Report}
+use Rattle.desk_teams.proofs.TrailLaws.{trail-longer, budget-longer}
+use Rattle.desk_teams.specs.declared.report.Report.{Report}
 use Rattle.desk_pool.specs.declared.searcher.Searcher.{Searcher}
 use Rattle.desk_pool.specs.declared.worker.Worker.{Worker}
 use Rattle.desk_pool.specs.Reports.{report_at}
-use Rattle.desk_pool.specs.Rounds.{Knows, IsReady, IsSameShard, HasWorked, place_of}
+use Rattle.desk_pool.specs.Rounds.{Knows, IsReady, IsSameShard, HasNoted, HasWorked, place_of}
 use Rattle.desk_pool.specs.Workers.{DeskTurn, day_of, trail_of, CanSearch, AreAllShards, CanAllSearch, HasPass, WorksOn, IsSameWorker}
 use Rattle.desk_pool.specs.Laps.{new_items, new_places, GoesOn, SomeNew, HasGained, IsReturned, ReportsOf}
 use Rattle.desk_pool.proofs.Following.{stands_longer}
@@ -106,54 +106,64 @@ pub record HasLapped (most : ℕ) (I : Situation) (v : Knows) (i : ℕ) (old new
   pub started : IsPrefix v.seen start.seen
   pub worked : HasWorked most I old start t old.trail.items new.trail.items told
 
-items_are : (low : ℕ) (v w : Knows) (old new : Worker) (h : Rattle.desk_pool.specs.Rounds.HasNoted low v w (trail_of old) (trail_of new)) → new_items old new ≡ h.added
-items_are low v w old new h = ap (drop (length (trail_of old))) h.trail ∙ drop_at (trail_of old) h.added (length (trail_of old)) refl
+items_are : (most low : ℕ) (v w : Knows) (old new : Worker) (h : HasNoted most low v w (trail_of old) (trail_of new)) → new_items old new ≡ h.added
+items_are most low v w old new h = ap (drop (length (trail_of old))) h.trail ∙ drop_at (trail_of old) h.added (length (trail_of old)) refl
 
 pub places_are : (most : ℕ) (I : Situation) (v : Knows) (i : ℕ) (old new : Worker) (t : Knows) → HasLapped most I v i old.searcher new.searcher new.report t → new_places old new ≡ t.made
 places_are most I v i old new t h =
     let noted = h.worked.noted in
-    ap (map place_of) (items_are (length h.start.seen) h.start t old new noted) ∙ ap (λ (l : List ℕ). l ++ map place_of noted.added) (sym h.made) ∙ sym noted.made
+    ap (map place_of) (items_are most (length h.start.seen) h.start t old new noted) ∙ ap (λ (l : List ℕ). l ++ map place_of noted.added) (sym h.made) ∙ sym noted.made
 
-pub goes_on : (most : ℕ) (I : Situation) (v : Knows) (i : ℕ) (old new : Worker) (t : Knows) → HasLapped most I v i old.searcher new.searcher new.report t → GoesOn (length v.seen) old new
+pub goes_on : (most : ℕ) (I : Situation) (v : Knows) (i : ℕ) (old new : Worker) (t : Knows) → HasLapped most I v i old.searcher new.searcher new.report t → GoesOn most (length v.seen) t.seen old new
 goes_on most I v i old new t h =
     let noted = h.worked.noted in
-    let is = items_are (length h.start.seen) h.start t old new noted in
+    let is = items_are most (length h.start.seen) h.start t old new noted in
     let low = prefix_length v.seen h.start.seen h.started in
     record {
+      same = h.same;
       trail = noted.trail ∙ ap (λ (l : List Trail). trail_of old ++ l) (sym is);
       since = λ k u at. (let more = noted.since k u (subst (λ (l : List Trail). slice_get l k ≡ Some u) is at) in omega (arith, low, more));
+      in_budget = λ k u at. noted.in_budget k u (subst (λ (l : List Trail). slice_get l k ≡ Some u) is at);
     }
+
+goes_on_longer : (most low : ℕ) (h g : List Entry) (old new : Worker) → IsPrefix h g → GoesOn most low h old new → GoesOn most low g old new
+goes_on_longer most low h g old new more on = record {
+  same = on.same;
+  trail = on.trail;
+  since = on.since;
+  in_budget = λ k u at. budget-longer most h g u more (on.in_budget k u at);
+}
 
 -- ---- a whole lap
 
 -- each worker lapped, and its pass is among those that were joined
-pub record Lapped (most : ℕ) (I : Situation) (v w : Knows) (olds news : List Worker) : Type 0 where
-  pub len : length news ≡ length olds
+pub record Lapped (most : ℕ) (I : Situation) (v w : Knows) (workers_before workers_after : List Worker) : Type 0 where
+  pub len : length workers_after ≡ length workers_before
   pub taken : List Knows
-  pub count : length taken ≡ length olds
-  pub gathered : AreJoined (length olds) v w taken
-  pub each : (i : ℕ) (d : Worker) (t : Knows) → slice_get taken i ≡ Some t → HasLapped most I v i (get_or olds i d).searcher (get_or news i d).searcher (get_or news i d).report t
+  pub count : length taken ≡ length workers_before
+  pub gathered : AreJoined (length workers_before) v w taken
+  pub each : (i : ℕ) (d : Worker) (t : Knows) → slice_get taken i ≡ Some t → HasLapped most I v i (get_or workers_before i d).searcher (get_or workers_after i d).searcher (get_or workers_after i d).report t
 
 some_taken : (taken : List Knows) (i : ℕ) → i < length taken → (t : Knows) × (slice_get taken i ≡ Some t)
 some_taken [] i lt = absurd (omega arith)
 some_taken (t ∷ taken) i lt = (get_or (t ∷ taken) i t, slice_get-get_or (t ∷ taken) i t lt)
 
-module _ (most : ℕ) (I : Situation) (v w : Knows) (olds news : List Worker) (h : Lapped most I v w olds news) where
+module _ (most : ℕ) (I : Situation) (v w : Knows) (workers_before workers_after : List Worker) (h : Lapped most I v w workers_before workers_after) where
   -- a new place of a worker is one that its pass made
-  made_of : (k : ℕ) → SomeNew olds news k → SomeMade h.taken k
+  made_of : (k : ℕ) → SomeNew workers_before workers_after k → SomeMade h.taken k
   made_of k new =
       let t = some_taken h.taken new.0 (let lt = new.2 in omega (arith, h.count, lt)) in
-      (new.0, t.0, t.1, ap (has k) (sym (places_are most I v new.0 (get_or olds new.0 new.1) (get_or news new.0 new.1) t.0 (h.each new.0 new.1 t.0 t.1))) ∙ new.3)
+      (new.0, t.0, t.1, ap (has k) (sym (places_are most I v new.0 (get_or workers_before new.0 new.1) (get_or workers_after new.0 new.1) t.0 (h.each new.0 new.1 t.0 t.1))) ∙ new.3)
 
-  new_of : (d : Worker) (k : ℕ) → SomeMade h.taken k → SomeNew olds news k
+  new_of : (d : Worker) (k : ℕ) → SomeMade h.taken k → SomeNew workers_before workers_after k
   new_of d k some =
-      (some.0, d, (let lt = slice_get_within h.taken some.0 some.1 some.2 in omega (arith, h.count, lt)), ap (has k) (places_are most I v some.0 (get_or olds some.0 d) (get_or news some.0 d) some.1 (h.each some.0 d some.1 some.2)) ∙ some.3)
+      (some.0, d, (let lt = slice_get_within h.taken some.0 some.1 some.2 in omega (arith, h.count, lt)), ap (has k) (places_are most I v some.0 (get_or workers_before some.0 d) (get_or workers_after some.0 d) some.1 (h.each some.0 d some.1 some.2)) ∙ some.3)
 
-  pub lap_gained : Worker → HasGained (length v.seen) v w olds news
+  pub lap_gained : Worker → HasGained most (length v.seen) v w workers_before workers_after
   lap_gained d = record {
     began = h.gathered.began;
     workers = h.len;
-    trails = λ i e lt. (let t = some_taken h.taken i (omega (arith, h.count, lt)) in goes_on most I v i (get_or olds i e) (get_or news i e) t.0 (h.each i e t.0 t.1));
+    trails = λ i e lt. (let t = some_taken h.taken i (omega (arith, h.count, lt)) in goes_on_longer most (length v.seen) t.0.seen w.seen (get_or workers_before i e) (get_or workers_after i e) (h.gathered.all i t.0 t.1) (goes_on most I v i (get_or workers_before i e) (get_or workers_after i e) t.0 (h.each i e t.0 t.1)));
     made_only = λ k is. ⊎_elim
         (λ (old : has k v.made ≡ true). inl old)
         (λ (some : SomeMade h.taken k). inr (new_of d k some))
@@ -163,18 +173,18 @@ module _ (most : ℕ) (I : Situation) (v w : Knows) (olds news : List Worker) (h
     apart = λ i j e k ne low high is.
         let t = some_taken h.taken i (omega (arith, h.count, low)) in
         let u = some_taken h.taken j (omega (arith, h.count, high)) in
-        ap (has k) (places_are most I v j (get_or olds j e) (get_or news j e) u.0 (h.each j e u.0 u.1)) ∙ h.gathered.apart i j t.0 u.0 k ne t.1 u.1 (ap (has k) (sym (places_are most I v i (get_or olds i e) (get_or news i e) t.0 (h.each i e t.0 t.1))) ∙ is);
+        ap (has k) (places_are most I v j (get_or workers_before j e) (get_or workers_after j e) u.0 (h.each j e u.0 u.1)) ∙ h.gathered.apart i j t.0 u.0 k ne t.1 u.1 (ap (has k) (sym (places_are most I v i (get_or workers_before i e) (get_or workers_after i e) t.0 (h.each i e t.0 t.1))) ∙ is);
   }
 
-  pub lap_returned : 0 < length olds → IsReturned v w
-  lap_returned some = record { name = h.gathered.name; out = all_back (length olds) v w h.taken some h.count h.gathered }
+  pub lap_returned : 0 < length workers_before → IsReturned v w
+  lap_returned some = record { name = h.gathered.name; out = all_back (length workers_before) v w h.taken some h.count h.gathered }
 
-  pub lap_ready : CanAllSearch I news w.seen
+  pub lap_ready : CanAllSearch I workers_after w.seen
   lap_ready i d lt =
       let t = some_taken h.taken i (omega (arith, h.count, h.len, lt)) in
-      ready_longer I (get_or news i d).searcher t.0.seen w.seen (h.each i d t.0 t.1).ready (h.gathered.all i t.0 t.1)
+      ready_longer I (get_or workers_after i d).searcher t.0.seen w.seen (h.each i d t.0 t.1).ready (h.gathered.all i t.0 t.1)
 
-  pub lap_shards : AreAllShards olds → AreAllShards news
+  pub lap_shards : AreAllShards workers_before → AreAllShards workers_after
   lap_shards shards = record {
     shards = λ i d lt. (let t = some_taken h.taken i (omega (arith, h.count, h.len, lt)) in (h.each i d t.0 t.1).same.shards ∙ shards.shards i d (omega (arith, h.len, lt)) ∙ sym h.len);
     each = λ s d lt. (let at = shards.each s d (omega (arith, h.len, lt)) in let low = at.1 in let t = some_taken h.taken at.0 (omega (arith, h.count, low)) in
@@ -186,26 +196,26 @@ module _ (most : ℕ) (I : Situation) (v w : Knows) (olds news : List Worker) (h
   }
 
   -- what a worker reported, by the number that it has now
-  reported_by : (i : ℕ) (d : Worker) (t : Knows) → AreAllShards olds → i < length olds → slice_get h.taken i ≡ Some t → IfSome (get_or news i d).report (λ r. (r ≡ report_at most ((get_or news i d).searcher.number - 1) (length news) (opening I) t.seen) × (r.end ≢ Rattle.desk_pool.specs.declared.report.End.TheVariants.Answered))
+  reported_by : (i : ℕ) (d : Worker) (t : Knows) → AreAllShards workers_before → i < length workers_before → slice_get h.taken i ≡ Some t → IfSome (get_or workers_after i d).report (λ r. (r ≡ report_at most ((get_or workers_after i d).searcher.number - 1) (length workers_after) (opening I) t.seen) × (r.end ≢ Rattle.desk_teams.specs.declared.report.End.TheVariants.Answered))
   reported_by i d t shards lt at =
       let each = h.each i d t at in
-      if_some (get_or news i d).report _ _ (λ r told. (told.0 ∙ (λ k. report_at most (sym each.same.number k - 1) ((shards.shards i d lt ∙ sym h.len) k) (opening I) t.seen), told.1)) each.worked.rests
+      if_some (get_or workers_after i d).report _ _ (λ r told. (told.0 ∙ (λ k. report_at most (sym each.same.number k - 1) ((shards.shards i d lt ∙ sym h.len) k) (opening I) t.seen), told.1)) each.worked.rests
 
-  pub lap_reported : 0 < length olds → AreAllShards olds → ReportsOf most I news w.seen
+  pub lap_reported : 0 < length workers_before → AreAllShards workers_before → ReportsOf most I workers_after w.seen
   lap_reported some shards = record {
     each = λ i d lt.
         let t = some_taken h.taken i (omega (arith, h.count, h.len, lt)) in
-        if_some (get_or news i d).report _ _ (λ r told. record { saw = t.0.seen; begins = h.gathered.all i t.0 t.1; report = told.0; rests = told.1 }) (reported_by i d t.0 shards (omega (arith, h.len, lt)) t.1);
+        if_some (get_or workers_after i d).report _ _ (λ r told. record { saw = t.0.seen; begins = h.gathered.all i t.0 t.1; report = told.0; rests = told.1 }) (reported_by i d t.0 shards (omega (arith, h.len, lt)) t.1);
     whole = λ d. ⊎_elim
         (λ (start : w.seen ≡ v.seen).
         let t = some_taken h.taken 0 (omega (arith, h.count, some)) in
         let first = (h.each 0 d t.0 t.1).from.began in
         let all = h.gathered.all 0 t.0 t.1 in
         let same : t.0.seen ≡ w.seen = prefix_whole t.0.seen w.seen all (let low = prefix_length v.seen t.0.seen first in omega (arith, low, ap length start)) in
-        (0, omega (arith, h.len, some), if_some (get_or news 0 d).report _ _ (λ r told. told.0 ∙ ap (report_at most ((get_or news 0 d).searcher.number - 1) (length news) (opening I)) same) (reported_by 0 d t.0 shards some t.1)))
+        (0, omega (arith, h.len, some), if_some (get_or workers_after 0 d).report _ _ (λ r told. told.0 ∙ ap (report_at most ((get_or workers_after 0 d).searcher.number - 1) (length workers_after) (opening I)) same) (reported_by 0 d t.0 shards some t.1)))
         (λ (at : (j : ℕ) × (t : Knows) × (slice_get h.taken j ≡ Some t) × (w.seen ≡ t.seen)).
         let lt = slice_get_within h.taken at.0 at.1 at.2 in
-        (at.0, omega (arith, h.len, h.count, lt), if_some (get_or news at.0 d).report _ _ (λ r told. told.0 ∙ ap (report_at most ((get_or news at.0 d).searcher.number - 1) (length news) (opening I)) (sym at.3)) (reported_by at.0 d at.1 shards (omega (arith, h.count, lt)) at.2)))
+        (at.0, omega (arith, h.len, h.count, lt), if_some (get_or workers_after at.0 d).report _ _ (λ r told. told.0 ∙ ap (report_at most ((get_or workers_after at.0 d).searcher.number - 1) (length workers_after) (opening I)) (sym at.3)) (reported_by at.0 d at.1 shards (omega (arith, h.count, lt)) at.2)))
         h.gathered.whose;
   }
 
@@ -230,24 +240,24 @@ one_lapped most turn v t i fresh mid from works knew =
       worked = worked;
     })
 
-pub lapped : (most : ℕ) (turn : DeskTurn) (v w : Knows) (olds fresh mid now : List Worker) → length fresh ≡ length olds → length mid ≡ length fresh
-    → ((i : ℕ) (d : Worker) → i < length olds → IsSameWorker (get_or olds i d) (get_or fresh i d))
-    → ((i : ℕ) (d : Worker) → i < length olds → HasPass turn v i (get_or fresh i d))
+pub lapped : (most : ℕ) (turn : DeskTurn) (v w : Knows) (workers_before fresh mid now : List Worker) → length fresh ≡ length workers_before → length mid ≡ length fresh
+    → ((i : ℕ) (d : Worker) → i < length workers_before → IsSameWorker (get_or workers_before i d) (get_or fresh i d))
+    → ((i : ℕ) (d : Worker) → i < length workers_before → HasPass turn v i (get_or fresh i d))
     → ((i : ℕ) (d : Worker) → i < length fresh → WorksOn most turn (get_or fresh i d) (get_or mid i d))
-    → LapSoFar v (length mid) mid now w → Lapped most (day_of turn) v w olds now
-lapped most turn v w olds fresh mid now few more same from works lap = record {
+    → LapSoFar v (length mid) mid now w → Lapped most (day_of turn) v w workers_before now
+lapped most turn v w workers_before fresh mid now few more same from works lap = record {
   len = lap.len ∙ more ∙ few;
   taken = lap.taken;
   count = lap.count ∙ more ∙ few;
   gathered = subst (λ (n : ℕ). AreJoined n v w lap.taken) (more ∙ few) lap.gathered;
   each = λ i d t at.
       let lt = slice_get_within lap.taken i t at in
-      let low : i < length olds = omega (arith, lt, lap.count, more, few) in
+      let low : i < length workers_before = omega (arith, lt, lap.count, more, few) in
       let one = one_lapped most turn v t i (get_or fresh i d) (get_or mid i d) (from i d low) (works i d (omega (arith, low, few))) (lap.hands i d t at) in
       let back = lap.same i d (omega (arith, low, more, few)) in
       let there = subst (λ (s : Searcher). HasLapped most (day_of turn) v i s (get_or mid i d).searcher (get_or mid i d).report t) (same i d low).searcher one in
-      let moved = subst (λ (s : Searcher). HasLapped most (day_of turn) v i (get_or olds i d).searcher s (get_or mid i d).report t) (sym back.searcher) there in
-      subst (λ (o : Option Report). HasLapped most (day_of turn) v i (get_or olds i d).searcher (get_or now i d).searcher o t) (sym back.report) moved;
+      let moved = subst (λ (s : Searcher). HasLapped most (day_of turn) v i (get_or workers_before i d).searcher s (get_or mid i d).report t) (sym back.searcher) there in
+      subst (λ (o : Option Report). HasLapped most (day_of turn) v i (get_or workers_before i d).searcher (get_or now i d).searcher o t) (sym back.report) moved;
 }
 
 -- ---- the steps of the last part of a lap
@@ -302,9 +312,9 @@ each_set_at P xs i a d long each here k lt =
     (λ (ne : k ≢ i). subst (P k) (sym (get_or-set_other xs i k a d ne)) (each k (omega (arith, length-set xs i a, lt))))
 
 -- a worker gets its pass
-pub same_given : (olds now : List Worker) (i : ℕ) (a e : Worker) → i < length now → ((k : ℕ) (d : Worker) → k < length now → IsSameWorker (get_or olds k d) (get_or now k d)) → IsSameWorker (get_or now i e) a → (k : ℕ) (d : Worker) → k < length (set now i a) → IsSameWorker (get_or olds k d) (get_or (set now i a) k d)
-same_given olds now i a e long same here k d lt =
+pub same_given : (workers_before now : List Worker) (i : ℕ) (a e : Worker) → i < length now → ((k : ℕ) (d : Worker) → k < length now → IsSameWorker (get_or workers_before k d) (get_or now k d)) → IsSameWorker (get_or now i e) a → (k : ℕ) (d : Worker) → k < length (set now i a) → IsSameWorker (get_or workers_before k d) (get_or (set now i a) k d)
+same_given workers_before now i a e long same here k d lt =
     let at = Rattle.std.proofs.lemmas.List.get_or_default now i e d long in
     let before = same i d long in
-    each_set_at (λ (j : ℕ) (x : Worker). IsSameWorker (get_or olds j d) x) now i a d long (λ j low. same j d low)
+    each_set_at (λ (j : ℕ) (x : Worker). IsSameWorker (get_or workers_before j d) x) now i a d long (λ j low. same j d low)
     (record { searcher = here.searcher ∙ ap (λ (x : Worker). x.searcher) at ∙ before.searcher; report = here.report ∙ ap (λ (x : Worker). x.report) at ∙ before.report }) k lt

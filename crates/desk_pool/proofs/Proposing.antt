@@ -1,6 +1,6 @@
 -- What a call of a proposal comes to.
-use Rattle.std.proofs.Common.{◌≡◌, ℕ, ◌+◌, ◌-◌, ◌≤◌, true, false, List, [], ◌∷◌, ◌++◌, length, slice_get, refl, sym, ap, ◌∙◌, arith, inl, inr, length-append, ltb}
-use Rattle.std.specs.Prelude.{Ok, Err, not}
+use Rattle.std.proofs.Common.{◌≡◌, ℕ, ◌+◌, ◌-◌, ◌≤◌, true, false, List, [], ◌∷◌, ◌++◌, length, slice_get, refl, sym, ap, ◌∙◌, arith, inl, inr, ⊎_elim, ◌⊎◌, length-append, ltb}
+use Rattle.std.specs.Prelude.{Result, Ok, Err, not}
 use Rattle.std.proofs.lemmas.Bool.{cases_Bool, true≢false}
 use Rattle.std.proofs.lemmas.Bool.Decides.{nat_tests}
 use mathlib.Core.List.{IsPrefix}
@@ -62,7 +62,7 @@ pub proposed_noted : {E : Type 0} (I : Situation) (s : Searcher) (m : Move) (v w
     → new ≡ s.trail.items ++ (let t : Trail = record { place = place; saw = s.follower.followed } in t) ∷ [] → HasProposed {E = E} I s m v w new (Ok tt)
 proposed_noted I s m v w reply new place called began lacks is noted =
     let by = noted_by I s m v w reply new place (reported_of I v s.number (event.Move m) reply w called) (not_full reply lacks) is noted in
-    record { began = began; noted = inr by; answered = inl by }
+    record { began = began; unnoted = tt; answered = inl by }
 
 pub proposed_full : {E : Type 0} (I : Situation) (s : Searcher) (m : Move) (v w : Knows) (reply : Answer) (n : ℕ) (new : List Trail) → Called Replies tells_entry I v s.number (event.Move m) reply w → IsPrefix v.seen w.seen → reply ≡ Full n → new ≡ s.trail.items → HasProposed {E = E} I s m v w new (Ok tt)
 proposed_full I s m v w reply n new called began is same =
@@ -75,7 +75,15 @@ proposed_full I s m v w reply n new called began is same =
     ] in
     let none = told.none room in
     let notes : NotesNone v w s.trail.items new = record { made = none.2; trail = same } in
-    record { began = began; noted = inl notes; answered = inr (notes, (let low = limit_reached (length g) room in omega (arith, low, ap length none.1))) }
+    record { began = began; unnoted = tt; answered = inr (notes, (let low = limit_reached (length g) room in omega (arith, low, ap length none.1))) }
 
 pub proposed_err : {E : Type 0} (I : Situation) (s : Searcher) (m : Move) (v w : Knows) (new : List Trail) (e : E) → Looked v w → new ≡ s.trail.items → HasProposed I s m v w new (Err e)
-proposed_err I s m v w new e looked same = record { began = looked.began; noted = inl (record { made = looked.made; trail = same }); answered = tt }
+proposed_err I s m v w new e looked same = record { began = looked.began; unnoted = record { made = looked.made; trail = same }; answered = tt }
+
+-- a proposal got an entry and was noted, or it got none
+pub noted_or_none : {E : Type 0} (I : Situation) (s : Searcher) (m : Move) (v w : Knows) (new : List Trail) (r : Result (Unit {0}) E) → HasProposed I s m v w new r → NotesNone v w s.trail.items new ⊎ IsNoted s m v w new
+noted_or_none I s m v w new (Ok x) h = ⊎_elim
+    (λ (by : IsNoted s m v w new). inr by)
+    (λ (none : NotesNone v w s.trail.items new × (proposal_limit ≤ length w.seen)). inl none.0)
+    h.answered
+noted_or_none I s m v w new (Err e) h = inl h.unnoted

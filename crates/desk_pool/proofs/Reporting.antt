@@ -1,6 +1,6 @@
--- What a round end_of, of a history that it saw.
-use Rattle.std.proofs.Common.{◌≡◌, ℕ, ◌-◌, List, length, take, sym, ap, ◌∙◌, subst, arith}
-use Rattle.std.specs.Prelude.{◌||◌, nat_le}
+-- What a round reports of the history that it saw.
+use Rattle.std.proofs.Common.{◌≡◌, ℕ, ◌-◌, Bool, true, false, List, length, take, refl, sym, ap, ◌∙◌, subst, arith}
+use Rattle.std.specs.Prelude.{◌||◌, nat_le, Option, Some, None}
 use Rattle.std.proofs.lemmas.List.{take_all, take-append-le}
 use mathlib.Core.List.{IsPrefix}
 use Rattle.plan_moves.specs.declared.moves.Move.{Move}
@@ -13,8 +13,10 @@ use Rattle.desk_core.specs.Judged.{state_in}
 use Rattle.desk_teams.specs.declared.trail.Trail.{Trail}
 use Rattle.desk_teams.specs.Trails.{IsTrueItem, IsTrueTrail}
 use Rattle.desk_teams.proofs.TrailLaws.{trail-longer, trail-snoc, trail-below}
-use Rattle.desk_pool.specs.declared.report.End.{End}
-use Rattle.desk_pool.specs.declared.report.Report.{Report}
+use Rattle.desk_data.specs.declared.broken.Broken.{Broken}
+use Rattle.desk_teams.specs.declared.report.End.{End}
+use Rattle.desk_teams.specs.declared.report.End.TheVariants.{Answered}
+use Rattle.desk_teams.specs.declared.report.Report.{Report}
 use Rattle.desk_pool.specs.declared.follower.Follower.{Follower}
 use Rattle.desk_pool.specs.declared.searcher.Searcher.{Searcher}
 use Rattle.desk_pool.specs.declared.searcher.Next.{Next}
@@ -55,6 +57,16 @@ pub report_is : (most : ℕ) (I : Situation) (s : Searcher) (h : List Entry) (en
 report_is most I s h end e is =
     let told : end ≡ end_at most (s.number - 1) s.shards (opening I) h = is ∙ end_is most (s.number - 1) s.shards I s.follower h e in
     λ i. record { shard = s.number - 1; shards = s.shards; changes = e.changes i; end = told i }
+
+-- a round proposes only after a history that is not spent
+unspent_by : (b : Option Broken) (spent : Bool) (found : Option Move) → end_by b spent found ≡ Answered → spent ≡ false
+unspent_by (Some item) spent found is = absurd cc
+unspent_by None true found is = absurd cc
+unspent_by None false found is = refl
+
+pub unspent_at : (most s n : ℕ) (S : State) (h : List Entry) → end_at most s n S h ≡ Answered → is_spent most h ≡ false
+unfolding end_at
+unspent_at most s n S h is = unspent_by _ _ _ is
 
 -- ---- a noted proposal
 

@@ -1,6 +1,6 @@
 -- What a round comes to.
-use Rattle.std.proofs.Common.{◌≡◌, ℕ, ◌-◌, ◌≤◌, List, [], ◌∷◌, ◌++◌, length, refl, sym, ap, ◌∙◌, subst, arith, inl, inr, ⊎_elim, ◌⊎◌}
-use Rattle.std.specs.Prelude.{Result, Ok, Err, IfOk, IsErr}
+use Rattle.std.proofs.Common.{◌≡◌, ℕ, ◌-◌, ◌≤◌, List, [], ◌∷◌, ◌++◌, length, refl, sym, ap, ◌∙◌, subst, arith, inl, inr, ⊎_elim}
+use Rattle.std.specs.Prelude.{Result, Ok, Err, IfOk, OnErr, IsErr}
 use mathlib.Core.List.{IsPrefix}
 use Rattle.turn_book.specs.Passes.{Looked}
 use Rattle.turn_book.proofs.Bools.{off}
@@ -16,9 +16,9 @@ use Rattle.desk_model.proofs.StateLaws.{opening-inst}
 use Rattle.desk_teams.specs.declared.trail.Trail.{Trail}
 use Rattle.desk_teams.specs.Trails.{IsTrueTrail}
 use Rattle.desk_teams.proofs.TrailLaws.{trail-longer}
-use Rattle.desk_pool.specs.declared.report.End.{End}
-use Rattle.desk_pool.specs.declared.report.End.TheVariants.{Answered}
-use Rattle.desk_pool.specs.declared.report.Report.{Report}
+use Rattle.desk_teams.specs.declared.report.End.{End}
+use Rattle.desk_teams.specs.declared.report.End.TheVariants.{Answered}
+use Rattle.desk_teams.specs.declared.report.Report.{Report}
 use Rattle.desk_pool.specs.declared.follower.Follower.{Follower}
 use Rattle.desk_pool.specs.declared.searcher.Searcher.{Searcher}
 use Rattle.desk_pool.specs.declared.searcher.Next.{Next}
@@ -28,6 +28,11 @@ use Rattle.desk_pool.specs.Follows.{StandsAt}
 use Rattle.desk_pool.specs.Rounds.{Knows, IsReady, IsSameShard, IsSameSearcher, NotesNone, NotesOne, IsReportedBy, HasRound, IsFound, IsNoted, HasProposed, end_of}
 use Rattle.desk_pool.proofs.Following.{stands_longer}
 use Rattle.desk_pool.proofs.Reporting.{StandsAtEnd, report_is, trail_noted}
+use Rattle.desk_pool.proofs.Proposing.{noted_or_none}
+
+pub on_err : {T E : Type 0} (r : Result T E) (P : Type 0) → P → OnErr r P
+on_err (Ok x) P p = tt
+on_err (Err e) P p = p
 
 pub if_err : {T E : Type 0} (r : Result T E) (P : T → Type 0) → IsErr r → IfOk r P
 if_err (Ok x) P is = absurd (off is)
@@ -69,12 +74,6 @@ one_on v u w old mid new found saw looked same is one = record {
   saw = one.saw ∙ is;
 }
 
-noted_on : (s : Searcher) (m : Move) (v u w : Knows) (old new : List Trail) → Looked v u → s.trail.items ≡ old → s.follower.followed ≡ length u.seen → NotesNone u w s.trail.items new ⊎ IsNoted s m u w new → NotesNone v w old new ⊎ NotesOne v w old new (length u.seen)
-noted_on s m v u w old new looked same all noted = ⊎_elim
-    (λ (none : NotesNone u w s.trail.items new). inl (none_on v u w old s.trail.items new looked same none))
-    (λ (by : IsNoted s m u w new). inr (one_on v u w old s.trail.items new s.follower.followed (length u.seen) looked same all by.note))
-    noted
-
 -- ---- rounds
 
 pub round_err : {E : Type 0} (most : ℕ) (I : Situation) (s : Searcher) (v w : Knows) (old new : List Trail) (r : Result Report E) → Looked v w → new ≡ old → IsErr r → HasRound most I s v w old new r
@@ -82,16 +81,16 @@ round_err most I s v w old new r looked same is = record {
   saw = w.seen;
   began = looked.began;
   ended = prefix_self w.seen;
-  noted = inl (record { made = looked.made; trail = same });
+  unnoted = on_err r (NotesNone v w old new) (record { made = looked.made; trail = same });
   reported = if_err r (IsReportedBy most I s w.seen v w old new) is;
 }
 
-pub round_proposed_err : {E F : Type 0} (most : ℕ) (I : Situation) (s t : Searcher) (m : Move) (v u w : Knows) (old new : List Trail) (p : Result (Unit {0}) F) (r : Result Report E) → Looked v u → t.trail.items ≡ old → t.follower.followed ≡ length u.seen → HasProposed I t m u w new p → IsErr r → HasRound most I s v w old new r
-round_proposed_err most I s t m v u w old new p r looked same all proposed is = record {
+pub round_proposed_err : {E : Type 0} (most : ℕ) (I : Situation) (s t : Searcher) (v u w : Knows) (old new : List Trail) (r : Result Report E) → Looked v u → t.trail.items ≡ old → IsPrefix u.seen w.seen → NotesNone u w t.trail.items new → IsErr r → HasRound most I s v w old new r
+round_proposed_err most I s t v u w old new r looked same began none is = record {
   saw = u.seen;
   began = looked.began;
-  ended = proposed.began;
-  noted = noted_on t m v u w old new looked same all proposed.noted;
+  ended = began;
+  unnoted = on_err r (NotesNone v w old new) (none_on v u w old t.trail.items new looked same none);
   reported = if_err r (IsReportedBy most I s u.seen v w old new) is;
 }
 
@@ -103,7 +102,7 @@ round_ends most I s t next end v w old new r looked same kept e found is told =
       saw = w.seen;
       began = looked.began;
       ended = prefix_self w.seen;
-      noted = inl none;
+      unnoted = tt;
       reported = record {
         report = told ∙ report_is most I t w.seen end e (ap end_of (sym is) ∙ found.end) ∙ (λ i. report_at most (same.number i - 1) (same.shards i) (opening I) w.seen);
         rests = λ ne. (refl, none);
@@ -118,7 +117,7 @@ round_proposes most I s t next m v u w old new r looked same kept e found is pro
       saw = u.seen;
       began = looked.began;
       ended = proposed.began;
-      noted = noted_on t m v u w old new looked kept e.followed proposed.noted;
+      unnoted = tt;
       reported = record {
         report = told ∙ report_is most I t u.seen Answered e (ap end_of (sym is) ∙ found.end) ∙ (λ i. report_at most (same.number i - 1) (same.shards i) (opening I) u.seen);
         rests = λ ne. absurd (ne (ap (λ (x : Report). x.end) told));
@@ -138,5 +137,5 @@ ready_proposed most I t x next m u w p ready e found is proposed same follower =
   trail = rw (same.number, same.shards) (⊎_elim
       (λ (none : NotesNone u w t.trail.items x.trail.items). subst (λ (l : List Trail). IsTrueTrail t.number t.shards (opening I) l w.seen) (sym none.trail) (trail-longer t.number t.shards (opening I) t.trail.items u.seen w.seen proposed.began ready.trail))
       (λ (by : IsNoted t m u w x.trail.items). trail_noted most I t next m u w x.trail.items by e proposed.began found is ready.trail)
-      proposed.noted);
+      (noted_or_none I t m u w x.trail.items p proposed));
 }

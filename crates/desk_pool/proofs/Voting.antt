@@ -1,8 +1,11 @@
 -- What a vote says of the history that was seen.
-use Rattle.std.proofs.Common.{◌≡◌, ℕ, ◌+◌, ◌-◌, ◌<◌, ◌≤◌, Bool, true, false, List, ◌++◌, length, take, get_or, refl, sym, ap, ◌∙◌, arith}
-use Rattle.std.specs.Prelude.{Some, None, Option, IsSome, IfSome}
-use Rattle.std.proofs.lemmas.List.{take_all, take-append-le}
+use Rattle.std.proofs.Common.{◌≡◌, ◌≢◌, ℕ, ◌+◌, ◌-◌, ◌<◌, ◌≤◌, Bool, true, false, List, [], ◌∷◌, ◌++◌, length, take, get_or, slice_get, refl, sym, ap, ◌∙◌, subst, arith}
+use Rattle.std.specs.Prelude.{Some, None, Option, IfSome, All}
+use Rattle.std.proofs.lemmas.List.{take_all, take-append-le, get_or_default}
+use Rattle.std.proofs.lemmas.Option.{slice_get-get_or}
 use mathlib.Core.List.{IsPrefix}
+use mathlib.Core.Logic.{dite}
+use native.Mathlib.Decide.{ℕ_discrete}
 use Rattle.turn_book.proofs.Prefixes.{prefix_length}
 use Rattle.plan_moves.specs.declared.moves.Move.{Move}
 use Rattle.desk_data.specs.Situation.{Situation}
@@ -14,16 +17,18 @@ use Rattle.std.proofs.lemmas.List.Sums.{sum_by-append}
 use Rattle.desk_model.proofs.HistoryLaws.{promises}
 use Rattle.near_moves.specs.Descent.{first_better, is_spent}
 use Rattle.desk_teams.proofs.TeamLaws.{equal-since, spent-longer, shards-quiet}
-use Rattle.desk_pool.specs.declared.report.End.TheVariants as end
-use Rattle.desk_pool.specs.declared.report.Report.{Report}
-use Rattle.desk_pool.specs.declared.report.Vote.{Vote}
-use Rattle.desk_pool.specs.declared.report.Vote.TheVariants.{Quiet, Spent, NoPlan}
+use Rattle.desk_teams.proofs.TrailLaws.{get-left, get-last}
+use Rattle.desk_teams.specs.declared.report.End.{End}
+use Rattle.desk_teams.specs.declared.report.End.TheVariants as end
+use Rattle.desk_teams.specs.declared.report.Report.{Report}
+use Rattle.desk_teams.specs.declared.report.Vote.{Vote}
+use Rattle.desk_teams.specs.declared.report.Vote.TheVariants.{Quiet, Spent, NoPlan}
 use Rattle.desk_pool.specs.declared.worker.Worker.{Worker}
 use Rattle.desk_pool.specs.Reports.{end_found, end_by, end_at, report_at}
-use Rattle.desk_pool.specs.Workers.{AreAllShards}
-use Rattle.desk_pool.specs.Votes.{AllReported, EachReported, OneReportedLast, HasVote}
+use Rattle.desk_pool.specs.Workers.{AreAllShards, CanAllSearch}
+use Rattle.desk_teams.specs.Votes.{OneReportedLast, HasVote}
 use Rattle.desk_pool.specs.Laps.{IsReportOf, ReportsOf}
-use Rattle.desk_pool.specs.Voted.{WasQuiet, AllWereQuiet, IsVoteOf}
+use Rattle.desk_pool.specs.Voted.{AreReports, WasReported, SomeReported, AllWereQuiet, OneWasSpent, OneHadNoPlan, IsVoteOf}
 
 -- ---- what an end means
 
@@ -90,68 +95,139 @@ fewer_changes h g p = (let sum : changes (h ++ p.0) ≡ changes h + changes p.0 
 
 -- ---- what a worker reported
 
-reported_is : (o : Option Report) (P Q : Report → Type 0) (C : Type 0) → IsSome o → IfSome o P → IfSome o Q → ((r : Report) → P r → Q r → C) → C
-reported_is (Some r) P Q C some p q go = go r p q
-reported_is None P Q C some p q go = absurd (Rattle.turn_book.proofs.Bools.off some)
+-- the report of worker i is report i
+reported_is : (o : Option Report) (r : Report) (Q : Report → Type 0) → o ≡ Some r → IfSome o Q → Q r
+reported_is (Some x) r Q is q = (let same : x ≡ r = cc is in subst Q same q)
+reported_is None r Q is q = absurd cc
 
--- the worker that saw the whole history reported its changes
-whole_changes : (most : ℕ) (I : Situation) (workers : List Worker) (h : List Entry) (d : Worker) (P : Report → Type 0) (C : Type 0) → ReportsOf most I workers h → AllReported workers → EachReported workers P → ((r : Report) → P r → r.changes ≡ changes h → C) → C
-whole_changes most I workers h d P C tells all each go =
-    let w = tells.whole d in
-    reported_is (get_or workers w.0 d).report P (λ r. r ≡ report_at most ((get_or workers w.0 d).searcher.number - 1) (length workers) (opening I) h) C
-    (all w.0 d w.1) (each w.0 d w.1) w.2 (λ r p is. go r p (ap (λ (x : Report). x.changes) is))
+-- one worker more, and its report
+pub reports_more : (workers : List Worker) (reports : List Report) (n : ℕ) (w : Worker) (r : Report) → length reports ≡ n → n < length workers → w ≡ get_or workers n w → w.report ≡ Some r → ((i : ℕ) (d : Worker) → i < n → (get_or workers i d).report ≡ slice_get reports i) → (i : ℕ) (d : Worker) → i < n + 1 → (get_or workers i d).report ≡ slice_get (reports ++ r ∷ []) i
+reports_more workers reports n w r len low is told each i d lt =
+    dite (ℕ_discrete i n)
+    (λ (e : i ≡ n).
+    let same : get_or workers i d ≡ w = ap (λ (k : ℕ). get_or workers k d) e ∙ get_or_default workers n d w low ∙ sym is in
+    let there : slice_get (reports ++ r ∷ []) i ≡ Some r = ap (slice_get (reports ++ r ∷ [])) (e ∙ sym len) ∙ get-last reports r in
+    ap (λ (x : Worker). x.report) same ∙ told ∙ sym there)
+    (λ (ne : i ≢ n).
+    let below : i < n = omega (arith, ne, lt) in
+    let old : slice_get reports i ≡ Some (get_or reports i r) = slice_get-get_or reports i r (omega (arith, below, len)) in
+    each i d below ∙ old ∙ sym (get-left reports (r ∷ []) i (get_or reports i r) old))
 
--- a report of the last plan, and what it saw
-last_reported : (most : ℕ) (I : Situation) (workers : List Worker) (h : List Entry) (d : Worker) (P : Report → Type 0) → ReportsOf most I workers h → AllReported workers → (one : OneReportedLast workers P)
-    → (s : ℕ) × (saw : List Entry) × IsPrefix saw h × (changes saw ≡ changes h) × (one.report ≡ report_at most s (length workers) (opening I) saw)
-last_reported most I workers h d P tells all one =
-    let k = one.index in
-    reported_is (get_or workers k d).report (λ r. r ≡ one.report) (IsReportOf most I ((get_or workers k d).searcher.number - 1) (length workers) h)
-    ((s : ℕ) × (saw : List Entry) × IsPrefix saw h × (changes saw ≡ changes h) × (one.report ≡ report_at most s (length workers) (opening I) saw))
-    (all k d one.within) (one.reported d) (tells.each k d one.within)
-    (λ r same is.
-    let here : one.report ≡ report_at most ((get_or workers k d).searcher.number - 1) (length workers) (opening I) is.saw = sym same ∙ is.report in
-    let counted : one.report.changes ≡ changes is.saw = ap (λ (x : Report). x.changes) here in
-    let more : changes h ≤ one.report.changes = whole_changes most I workers h d (λ x. x.changes ≤ one.report.changes) (changes h ≤ one.report.changes) tells all one.last (λ x le e. omega (arith, le, e)) in
-    let less = fewer_changes is.saw h is.begins in
-    ((get_or workers k d).searcher.number - 1, is.saw, is.begins, (omega (arith, counted, more, less)), here))
+module _ (workers : List Worker) (reports : List Report) (are : AreReports workers reports) where
+  -- the report of a worker, and that it is one of the list
+  pub report_of : (i : ℕ) (d : Worker) (e : Report) → i < length workers → (get_or workers i d).report ≡ Some (get_or reports i e)
+  report_of i d e lt = are.each i d lt ∙ slice_get-get_or reports i e (let len = are.len in omega (arith, len, lt))
+
+  -- what holds of the report of a worker, by what holds of each
+  pub of_worker : (i : ℕ) (d : Worker) (e : Report) (Q : Report → Type 0) → i < length workers → IfSome (get_or workers i d).report Q → Q (get_or reports i e)
+  of_worker i d e Q lt q = reported_is (get_or workers i d).report (get_or reports i e) Q (report_of i d e lt) q
+
+-- a report is of a history with no more changes than the one that was seen, and one of them is of all
+module _ (most : ℕ) (I : Situation) (workers : List Worker) (reports : List Report) (h : List Entry) (d : Worker) (e : Report) (are : AreReports workers reports) (tells : ReportsOf most I workers h) where
+  -- what worker i reports
+  told_by : (i : ℕ) → i < length workers → IsReportOf most I ((get_or workers i d).searcher.number - 1) (length workers) h (get_or reports i e)
+  told_by i lt = of_worker workers reports are i d e (IsReportOf most I ((get_or workers i d).searcher.number - 1) (length workers) h) lt (tells.each i d lt)
+
+  -- the worker that saw the whole history reports its changes
+  whole_changes : (i : ℕ) × (i < length reports) × ((get_or reports i e).changes ≡ changes h)
+  whole_changes =
+      let w = tells.whole d in
+      let is = of_worker workers reports are w.0 d e (λ r. r ≡ report_at most ((get_or workers w.0 d).searcher.number - 1) (length workers) (opening I) h) w.1 w.2 in
+      (w.0, (let len = are.len in let lt = w.1 in omega (arith, len, lt)), ap (λ (x : Report). x.changes) is)
+
+  -- what a worker reports of as many changes as the history has was reported of its shard at the last plan
+  reported_at : (i : ℕ) (ended : End) → (lt : i < length workers) → (get_or reports i e).changes ≡ changes h → (get_or reports i e).end ≡ ended → WasReported most I ((get_or workers i d).searcher.number - 1) (length workers) h ended
+  reported_at i ended lt same is =
+      let told = told_by i lt in
+      record {
+        saw = told.saw;
+        begins = told.begins;
+        same = sym (ap (λ (x : Report). x.changes) told.report) ∙ same;
+        report = sym (ap (λ (x : Report). x.end) told.report) ∙ is;
+      }
+
+  -- a report that none has more changes than has those of the history
+  last_changes : (r : Report) (i : ℕ) → (lt : i < length workers) → get_or reports i e ≡ r → All (λ (x : Report). x.changes ≤ r.changes) reports → r.changes ≡ changes h
+  last_changes r i lt is last =
+      let told = told_by i lt in
+      let whole = whole_changes in
+      let counted : r.changes ≡ changes told.saw = ap (λ (x : Report). x.changes) (sym is ∙ told.report) in
+      let less = fewer_changes told.saw h told.begins in
+      let more = last whole.0 e whole.1 in
+      omega (arith, counted, less, more, whole.2)
+
+  -- one that reports so of the last plan
+  some_reported : (ended : End) → CanAllSearch I workers h → AreAllShards workers → OneReportedLast reports (λ r. r.end ≡ ended) → SomeReported most I (length workers) h ended
+  some_reported ended ready shards one =
+      let i = one.index in
+      let lt : i < length workers = (let len = are.len in let within = one.within in omega (arith, len, within)) in
+      let can = ready i d lt in
+      let few = can.few in
+      let some = can.some in
+      let all = shards.shards i d lt in
+      let same = one.there e in
+      record {
+        shard = (get_or workers i d).searcher.number - 1;
+        within = omega (arith, few, some, all);
+        was = reported_at i ended lt (ap (λ (x : Report). x.changes) same ∙ last_changes one.report i lt same one.last) (ap (λ (x : Report). x.end) same ∙ one.says);
+      }
+
+  -- where each reports of one plan that its shard is quiet, each shard was reported to be quiet at the last plan
+  all_quiet : (counted : ℕ) → AreAllShards workers → All (λ (r : Report). (r.end ≡ end.Quiet) × (r.changes ≡ counted)) reports → (counted ≡ changes h) × ((s : ℕ) → s < length workers → WasReported most I s (length workers) h end.Quiet)
+  all_quiet counted shards each =
+      let whole = whole_changes in
+      let is : counted ≡ changes h = sym (each whole.0 e whole.1).1 ∙ whole.2 in (
+        is,
+        λ s lt.
+            let at = shards.each s d lt in
+            let low = at.1 in
+            let own = each at.0 e (let len = are.len in omega (arith, len, low)) in
+            let number : (get_or workers at.0 d).searcher.number - 1 ≡ s = (let n = at.2 in omega (arith, n)) in
+            subst (λ (k : ℕ). WasReported most I k (length workers) h end.Quiet) number (reported_at at.0 end.Quiet low (own.1 ∙ is) own.0),
+      )
 
 -- ---- votes
 
-was_quiet : (most : ℕ) (I : Situation) (workers : List Worker) (h : List Entry) (d : Worker) (counted : ℕ) → ReportsOf most I workers h → AllReported workers → AreAllShards workers → EachReported workers (λ r. (r.end ≡ end.Quiet) × (r.changes ≡ counted)) → counted ≡ changes h → (s : ℕ) → s < length workers → WasQuiet most I s (length workers) h
-was_quiet most I workers h d counted tells all shards each is s lt =
-    let at = shards.each s d lt in
-    let number : (get_or workers at.0 d).searcher.number - 1 ≡ s = (let e = at.2 in omega (arith, e)) in
-    reported_is (get_or workers at.0 d).report (λ r. (r.end ≡ end.Quiet) × (r.changes ≡ counted)) (IsReportOf most I ((get_or workers at.0 d).searcher.number - 1) (length workers) h)
-    (WasQuiet most I s (length workers) h)
-    (all at.0 d at.1) (each at.0 d at.1) (tells.each at.0 d at.1)
-    (λ r quiet told.
-    let here : r ≡ report_at most s (length workers) (opening I) told.saw = told.report ∙ ap (λ (k : ℕ). report_at most k (length workers) (opening I) told.saw) number in
-    record {
-      saw = told.saw;
-      begins = told.begins;
-      same = sym (ap (λ (x : Report). x.changes) here) ∙ quiet.1 ∙ is;
-      quiet = sym (ap (λ (x : Report). x.end) here) ∙ quiet.0;
-    })
-
-quiet_vote : (most : ℕ) (I : Situation) (workers : List Worker) (h : List Entry) (d : Worker) (counted : ℕ) → IsLegal (opening I) h → 0 < length workers → ReportsOf most I workers h → AllReported workers → AreAllShards workers → EachReported workers (λ r. (r.end ≡ end.Quiet) × (r.changes ≡ counted)) → AllWereQuiet most I (length workers) h counted
-quiet_vote most I workers h d counted legal some tells all shards each =
-    let is : counted ≡ changes h = whole_changes most I workers h d (λ r. (r.end ≡ end.Quiet) × (r.changes ≡ counted)) (counted ≡ changes h) tells all each (λ r p e. sym p.1 ∙ e) in
-    let were = was_quiet most I workers h d counted tells all shards each is in
-    let at : (s : ℕ) → s < length workers → ((state (opening I) h).broken ≡ None) × (first_better (state (opening I) h).inst (state (opening I) h).plan s (length workers) ≡ None) = λ s lt. (let w = were s lt in let q = quiet_at most s (length workers) (opening I) w.saw w.quiet in let same = same_state I w.saw h legal w.begins w.same in
-    (sym (ap (λ (S : State). S.broken) same) ∙ q.0, sym (ap (λ (S : State). first_better S.inst S.plan s (length workers)) same) ∙ q.1)) in
+quiet_vote : (most : ℕ) (I : Situation) (n : ℕ) (h : List Entry) (counted : ℕ) → IsLegal (opening I) h → 0 < n → counted ≡ changes h → ((s : ℕ) → s < n → WasReported most I s n h end.Quiet) → AllWereQuiet most I n h counted
+quiet_vote most I n h counted legal some is were =
+    let at : (s : ℕ) → s < n → ((state (opening I) h).broken ≡ None) × (first_better (state (opening I) h).inst (state (opening I) h).plan s n ≡ None) = λ s lt. (let w = were s lt in let q = quiet_at most s n (opening I) w.saw w.report in let same = same_state I w.saw h legal w.begins w.same in
+    (sym (ap (λ (S : State). S.broken) same) ∙ q.0, sym (ap (λ (S : State). first_better S.inst S.plan s n) same) ∙ q.1)) in
     record {
       counted = is;
       shards = were;
-      quiet = shards-quiet (length workers) (state (opening I) h) some (at 0 some).0 (λ s lt. (at s lt).1);
+      quiet = shards-quiet n (state (opening I) h) some (at 0 some).0 (λ s lt. (at s lt).1);
     }
 
-pub vote_is : (most : ℕ) (I : Situation) (workers : List Worker) (h : List Entry) (d : Worker) (vote : Vote) → IsLegal (opening I) h → 0 < length workers → ReportsOf most I workers h → AllReported workers → AreAllShards workers → HasVote workers vote → IsVoteOf most I (length workers) h vote
-vote_is most I workers h d (Quiet counted) legal some tells all shards each = quiet_vote most I workers h d counted legal some tells all shards each
-vote_is most I workers h d Spent legal some tells all shards one =
-    let last = last_reported most I workers h d (λ r. r.end ≡ end.Spent) tells all one in
-    let spent = spent_at most last.0 (length workers) (opening I) last.1 (sym (ap (λ (x : Report). x.end) last.4) ∙ one.holds) in
-    (sym (ap (λ (S : State). S.broken) (same_state I last.1 h legal last.2 last.3)) ∙ spent.0, same_spent most last.1 h last.2 last.3 spent.1)
-vote_is most I workers h d (NoPlan item) legal some tells all shards one =
-    let last = last_reported most I workers h d (λ r. r.end ≡ end.NoPlan item) tells all one in
-    sym (ap (λ (S : State). S.broken) (same_state I last.1 h legal last.2 last.3)) ∙ broken_at most last.0 (length workers) (opening I) last.1 item (sym (ap (λ (x : Report). x.end) last.4) ∙ one.holds)
+spent_vote : (most : ℕ) (I : Situation) (n : ℕ) (h : List Entry) → IsLegal (opening I) h → SomeReported most I n h end.Spent → OneWasSpent most I n h
+spent_vote most I n h legal reported =
+    let was = reported.was in
+    let spent = spent_at most reported.shard n (opening I) was.saw was.report in
+    record {
+      reported = reported;
+      planned = sym (ap (λ (S : State). S.broken) (same_state I was.saw h legal was.begins was.same)) ∙ spent.0;
+      spent = same_spent most was.saw h was.begins was.same spent.1;
+    }
+
+broken_vote : (most : ℕ) (I : Situation) (n : ℕ) (h : List Entry) (item : Broken) → IsLegal (opening I) h → SomeReported most I n h (end.NoPlan item) → OneHadNoPlan most I n h item
+broken_vote most I n h item legal reported =
+    let was = reported.was in
+    record {
+      reported = reported;
+      broken = sym (ap (λ (S : State). S.broken) (same_state I was.saw h legal was.begins was.same)) ∙ broken_at most reported.shard n (opening I) was.saw item was.report;
+    }
+
+a_report : (reports : List Report) → 0 < length reports → Report
+a_report [] lt = absurd (omega arith)
+a_report (r ∷ reports) lt = r
+
+pub vote_is : (most : ℕ) (I : Situation) (workers : List Worker) (reports : List Report) (h : List Entry) (d : Worker) (vote : Vote) → IsLegal (opening I) h → 0 < length workers → CanAllSearch I workers h → ReportsOf most I workers h → AreReports workers reports → AreAllShards workers → HasVote reports vote → IsVoteOf most I (length workers) h vote
+vote_is most I workers reports h d (Quiet counted) legal some ready tells are shards each =
+    let e = a_report reports (let len = are.len in omega (arith, len, some)) in
+    let all = all_quiet most I workers reports h d e are tells counted shards each in
+    quiet_vote most I (length workers) h counted legal some all.0 all.1
+vote_is most I workers reports h d Spent legal some ready tells are shards one =
+    let e = a_report reports (let len = are.len in omega (arith, len, some)) in
+    spent_vote most I (length workers) h legal (some_reported most I workers reports h d e are tells end.Spent ready shards one)
+vote_is most I workers reports h d (NoPlan item) legal some ready tells are shards one =
+    let e = a_report reports (let len = are.len in omega (arith, len, some)) in
+    broken_vote most I (length workers) h item legal (some_reported most I workers reports h d e are tells (end.NoPlan item) ready shards one)

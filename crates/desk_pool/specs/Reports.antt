@@ -6,9 +6,9 @@ use Rattle.desk_model.specs.declared.answer.Entry.{Entry}
 use Rattle.desk_model.specs.States.{State}
 use Rattle.desk_model.specs.Histories.{state, changes}
 use Rattle.near_moves.specs.Descent.{first_better, is_spent}
-use Rattle.desk_pool.specs.declared.report.End.{End}
-use Rattle.desk_pool.specs.declared.report.End.TheVariants.{Quiet, Answered, Spent, NoPlan}
-use Rattle.desk_pool.specs.declared.report.Report.{Report}
+use Rattle.desk_teams.specs.declared.report.End.{End}
+use Rattle.desk_teams.specs.declared.report.End.TheVariants.{Quiet, Answered, Spent, NoPlan}
+use Rattle.desk_teams.specs.declared.report.Report.{Report}
 
 -- the first better move is proposed, and where there is none it is quiet
 abbrev pub end_found : Option Move → End

@@ -1,5 +1,5 @@
 -- What rounds do.
-use Rattle.std.specs.Prelude.{◌≡◌, ◌≢◌, ◌⊎◌, ℕ, ◌-◌, ◌≤◌, ◌||◌, nat_le, None, Some, List, [], ◌∷◌, ◌++◌, length, map, slice_get, Result, IfOk, OnOk, Option, IfSome}
+use Rattle.std.specs.Prelude.{◌≡◌, ◌≢◌, ◌⊎◌, ℕ, ◌-◌, ◌≤◌, ◌||◌, nat_le, None, Some, List, [], ◌∷◌, ◌++◌, length, map, slice_get, Result, IfOk, OnOk, OnErr, Option, IfSome}
 use mathlib.Core.List.{IsPrefix}
 use Rattle.plan_moves.specs.declared.moves.Move.{Move}
 use Rattle.plan_moves.specs.Fits.{Fits}
@@ -11,10 +11,10 @@ use Rattle.desk_model.specs.Histories.{proposal_limit}
 use Rattle.near_moves.specs.Descent.{first_better}
 use Rattle.turn_book.specs.declared.view.View.{View}
 use Rattle.desk_teams.specs.declared.trail.Trail.{Trail}
-use Rattle.desk_teams.specs.Trails.{IsTrueTrail}
-use Rattle.desk_pool.specs.declared.report.End.{End}
-use Rattle.desk_pool.specs.declared.report.End.TheVariants.{Answered}
-use Rattle.desk_pool.specs.declared.report.Report.{Report}
+use Rattle.desk_teams.specs.Trails.{IsTrueTrail, IsInBudget}
+use Rattle.desk_teams.specs.declared.report.End.{End}
+use Rattle.desk_teams.specs.declared.report.End.TheVariants.{Answered}
+use Rattle.desk_teams.specs.declared.report.Report.{Report}
 use Rattle.desk_pool.specs.declared.searcher.Searcher.{Searcher}
 use Rattle.desk_pool.specs.declared.searcher.Next.{Next}
 use Rattle.desk_pool.specs.declared.searcher.Next.TheVariants.{Ends, Proposes}
@@ -62,28 +62,29 @@ pub record IsReportedBy (most : ℕ) (I : Situation) (s : Searcher) (saw : List 
   pub rests : r.end ≢ Answered → (w.seen ≡ saw) × NotesNone v w old new
   pub answered : r.end ≡ Answered → NotesOne v w old new (length saw) ⊎ (NotesNone v w old new × (proposal_limit ≤ length w.seen))
 
--- a round, also one that ran out of memory: what it saw when it looked, and at most one proposal
+-- a round: what it saw when it looked, and at most one proposal. Where memory ran out, none got an entry
 pub record HasRound {E : Type 0} (most : ℕ) (I : Situation) (s : Searcher) (v w : Knows) (old new : List Trail) (result : Result Report E) : Type 0 where
   pub saw : List Entry
   pub began : IsPrefix v.seen saw
   pub ended : IsPrefix saw w.seen
-  pub noted : NotesNone v w old new ⊎ NotesOne v w old new (length saw)
+  pub unnoted : OnErr result (NotesNone v w old new)
   pub reported : IfOk result (IsReportedBy most I s saw v w old new)
 
 abbrev pub place_of : Trail → ℕ
 place_of t = t.place
 
--- some proposals got entries, each found at a history of at least this length, and their places are made
-pub record HasNoted (low : ℕ) (v w : Knows) (old new : List Trail) : Type 0 where
+-- some proposals got entries, each found at a history of at least this length and within the budget, and their places are made
+pub record HasNoted (most low : ℕ) (v w : Knows) (old new : List Trail) : Type 0 where
   pub added : List Trail
   pub trail : new ≡ old ++ added
   pub made : w.made ≡ v.made ++ map place_of added
   pub since : (i : ℕ) (t : Trail) → slice_get added i ≡ Some t → low ≤ t.saw
+  pub in_budget : (i : ℕ) (t : Trail) → slice_get added i ≡ Some t → IsInBudget most w.seen t
 
 -- rounds, until one ends without a proposal, or memory ran out
 pub record HasWorked (most : ℕ) (I : Situation) (s : Searcher) (v w : Knows) (old new : List Trail) (report : Option Report) : Type 0 where
   pub began : IsPrefix v.seen w.seen
-  pub noted : HasNoted (length v.seen) v w old new
+  pub noted : HasNoted most (length v.seen) v w old new
   pub rests : IfSome report (λ r. (r ≡ report_at most (s.number - 1) s.shards (opening I) w.seen) × (r.end ≢ Answered))
 
 -- what a search came to at the state where a searcher stands: the round ends, or the first better move is to be proposed. That move fits
@@ -107,8 +108,8 @@ pub record IsNoted (s : Searcher) (m : Move) (v w : Knows) (new : List Trail) : 
   pub caller : entry.caller ≡ s.number
   pub proposed : entry.event ≡ event.Move m
 
--- a call of a proposal: it got an entry and was noted, or it got none. Where memory did not run out, it got none only because the journal was full
+-- a call of a proposal: it got an entry and was noted; or it got none, since memory ran out or the journal was full
 pub record HasProposed {E : Type 0} (I : Situation) (s : Searcher) (m : Move) (v w : Knows) (new : List Trail) (result : Result (Unit {0}) E) : Type 0 where
   pub began : IsPrefix v.seen w.seen
-  pub noted : NotesNone v w s.trail.items new ⊎ IsNoted s m v w new
+  pub unnoted : OnErr result (NotesNone v w s.trail.items new)
   pub answered : OnOk result (IsNoted s m v w new ⊎ (NotesNone v w s.trail.items new × (proposal_limit ≤ length w.seen)))

@@ -1,6 +1,6 @@
 //! Rounds of all workers, side by side.
 
-ghost use Rattle.std.specs.Prelude.{◌≡◌, ℕ, ◌<◌, length, true, All, IfOk, slice_index_or};
+ghost use Rattle.std.specs.Prelude.{◌≡◌, ℕ, ◌<◌, length, All, IfOk, slice_index_or};
 ghost use Rattle.desk_model.specs.States.{opening};
 ghost use Rattle.desk_model.specs.Histories.{IsLegal};
 ghost use Rattle.turn_book.specs.Passes.{known, seen, IsPassOf};
@@ -9,15 +9,13 @@ ghost use Rattle.desk_pool.specs.declared.worker.Worker.{Worker as Known};
 ghost use Rattle.desk_core.specs.Turned.{opening_of};
 ghost use Rattle.desk_pool.specs.Workers.{day_of, AreAllShards, CanAllSearch, CanWork, HasPass, WorksOn, IsSameWorker};
 ghost use Rattle.desk_pool.specs.Laps.{HasGained, ReportsOf, IsReturned};
-ghost use Rattle.desk_pool.specs.Votes.{AllReported};
-ghost use Rattle.desk_pool.specs.Voted.{IsVoteOf};
+ghost use Rattle.desk_pool.specs.Voted.{AreReports, HaveVoted, IsVoteOf};
 
-use crate::report::Vote;
-use crate::vote::vote;
 use crate::worker::Worker;
 use desk_core::Book;
 use desk_data::NoMem;
 use desk_folder::Gate;
+use desk_teams::{Report, Vote, vote_on};
 use std::alloc::Global;
 use std::sync::Wait;
 use std::thread::{Threads, for_each_mut};
@@ -81,7 +79,7 @@ fn lap<R: Threads + Wait + Sync, G: Gate>(
     ensures of { IsPassOf opening_of turn.now pass.new }
     ensures shards { AreAllShards workers.new }
     ensures ready { CanAllSearch (day_of turn.now) workers.new (seen pass.new) }
-    ensures gained { HasGained (length (seen pass.old)) (known pass.old) (known pass.new) workers.old workers.new }
+    ensures gained { HasGained budget (length (seen pass.old)) (known pass.old) (known pass.new) workers.old workers.new }
     ensures returned { IsReturned (known pass.old) (known pass.new) }
     ensures reports { ReportsOf budget (day_of turn.now) workers.new (seen pass.new) }
     ensures legal { IsLegal (opening (day_of turn.now)) (seen pass.new) }
@@ -96,16 +94,25 @@ fn lap<R: Threads + Wait + Sync, G: Gate>(
     }
 }
 
-/// Whether each worker has a report: one that ran out of memory has none.
-fn all_report(workers: &[Worker]) -> bool
-    ensures { result ≡ true → AllReported workers.now }
+/// The report of each worker, in their order. The only error is out of memory: here, or in a worker, which then has none.
+fn reports_of(alloc: Global, workers: &[Worker]) -> Result<Vec<Report>, NoMem>
+    ensures { IfOk result (λ reports. AreReports workers.now reports.items) }
 {
-    workers.iter().all(|worker| worker.report.is_some())
+    let mut reports = Vec::with_capacity(alloc, workers.len())?;
+    for worker in workers {
+        let Some(report) = worker.report else {
+            return Err(NoMem);
+        };
+        reports.push(report)?;
+    }
+    Ok(reports)
 }
 
 /// Rounds of all workers side by side, each in a thread of its own where one can be started, until they agree on the last plan:
 /// that each shard is quiet, or that the history is spent, or that there is no plan. The workers are those of all shards, each
-/// once. The only error is out of memory, in one of the workers; all passes are then joined again too, and rounds can go on.
+/// once; the one at a place is afterwards of the same shard, and its trail goes on. What they agree on is the vote of the reports
+/// that they then have, each of a round of its worker. The only error is out of memory, here or in one of the workers; all passes
+/// are then joined again too, and rounds can go on.
 pub fn rounds<R: Threads + Wait + Sync, G: Gate>(
     rt: &R,
     alloc: Global,
@@ -122,16 +129,16 @@ pub fn rounds<R: Threads + Wait + Sync, G: Gate>(
     ensures of { IsPassOf opening_of turn.now pass.new }
     ensures shards { AreAllShards workers.new }
     ensures ready { CanAllSearch (day_of turn.now) workers.new (seen pass.new) }
-    ensures gained { HasGained (length (seen pass.old)) (known pass.old) (known pass.new) workers.old workers.new }
+    ensures gained { HasGained budget (length (seen pass.old)) (known pass.old) (known pass.new) workers.old workers.new }
     ensures returned { IsReturned (known pass.old) (known pass.new) }
+    ensures legal { IsLegal (opening (day_of turn.now)) (seen pass.new) }
+    ensures reported { IfOk result (HaveVoted budget (day_of turn.now) workers.new (seen pass.new)) }
     ensures voted { IfOk result (IsVoteOf budget (day_of turn.now) (length workers.old) (seen pass.new)) }
 {
     for _ in rt.forever() {
         lap(rt, alloc, workers, turn, pass, gate, budget);
-        if !all_report(workers) {
-            return Err(NoMem);
-        }
-        if let Some(agreed) = vote(workers) {
+        let reports = reports_of(alloc, workers)?;
+        if let Some(agreed) = vote_on(reports.as_slice()) {
             return Ok(agreed);
         }
     }

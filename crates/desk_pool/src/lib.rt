@@ -9,28 +9,26 @@
 //! A worker follows the history outside of the turn (`Follower`), searches its shard there, and has the turn only to look and
 //! to propose. Before each search it enters a gate, so that a test decides who goes when. `rounds` gives each worker a pass
 //! and a thread of its own. A worker goes on until a round ends without a proposal; once all have, their passes are
-//! joined and they vote: it is quiet where all report of one plan, the last, that their shard is. Where a thread can't be
-//! started, the caller does its work.
+//! joined and they vote (`vote_on` of desk_teams): it is quiet where all report of one plan, the last, that their shard is.
+//! Where a thread can't be started, the caller does its work.
 //!
 //! Proved, of each round: it reports `NoPlan`, `Spent`, `Quiet` or `Answered` exactly where the definitions say so of the
-//! history that it saw, and it adds at most one entry, which its trail then names. Proved of `rounds`: what is voted holds
-//! of the last history, after which no move near the plan is better if it is quiet; and whatever happened, the places made
-//! since are just those that the trails name.
+//! history that it saw, and it adds at most one entry, which its trail then names, and none where memory runs out. Proved of
+//! `rounds`: what is voted was reported at the last plan and holds of the last history, after which no move near the plan is
+//! better if it is quiet; and whatever happened, the places made since are just those that the trails name, and each was
+//! proposed within the budget.
 #![tactic(auto)]
 
 mod all_workers;
 mod follower;
 mod laps;
 mod laws;
-mod report;
 mod searcher;
-mod vote;
 mod worker;
 
 pub use all_workers::open_workers;
 pub use desk_core::Book;
-pub use desk_teams::Trail;
+pub use desk_teams::{End, Report, Trail, Vote};
 pub use laps::rounds;
 pub use laws::passes_that_came_back_leave_nothing_out;
-pub use report::{End, Report, Vote};
 pub use worker::Worker;

@@ -9,11 +9,10 @@ ghost use Rattle.turn_book.specs.Passes.{first_book, known, seen, tags, IsPassOf
 ghost use Rattle.desk_pool.specs.Rounds.{IsReady, IsSameShard, IsSameSearcher, HasRound, HasWorked, HasProposed, IsFound};
 
 use crate::follower::Follower;
-use crate::report::{End, Report};
 use desk_core::{Answer, Book, Event, Move};
 use desk_data::NoMem;
 use desk_folder::Gate;
-use desk_teams::Trail;
+use desk_teams::{End, Report, Trail};
 use near_search::{Finder, first_better};
 use std::alloc::Global;
 use std::sync::Wait;
@@ -26,19 +25,19 @@ pub(crate) struct Searcher {
     pub shards: u32,
     pub follower: Follower,
     /// How many rounds it has made.
-    pub turns: u32,
+    pub rounds: u32,
     pub trail: Vec<Trail>,
     pub finder: Finder,
 }
 
-/// In one call, so that whoever lets a searcher go does not prove anew that each part of it may go.
+/// Dropped in one call, so that a function that owns one proves it once, and not part by part.
 impl Drop for Searcher {
     fn drop(self) {
         let Searcher {
             number: _,
             shards: _,
             follower: _,
-            turns: _,
+            rounds: _,
             trail: _,
             finder: _,
         } = self;
@@ -130,8 +129,8 @@ impl Searcher {
         ensures round { HasRound budget (first_book turn.now).opening self.old (known pass.old) (known pass.new) self.old.trail.items self.new.trail.items result }
     {
         self.follower.catch_up(rt, alloc, turn, pass)?;
-        gate.enter(self.number, self.turns);
-        self.turns = self.turns.saturating_add(1);
+        gate.enter(self.number, self.rounds);
+        self.rounds = self.rounds.saturating_add(1);
         let changes = self.follower.changes;
         let end = match self.search(alloc, budget)? {
             Next::Ends(end) => end,

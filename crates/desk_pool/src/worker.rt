@@ -7,12 +7,11 @@ ghost use Rattle.desk_pool.specs.Rounds.{IsSameShard, HasRound};
 ghost use Rattle.desk_pool.specs.Workers.{day_of, trail_of, CanSearch, CanWork, WorksOn};
 
 use crate::follower::Follower;
-use crate::report::Report;
 use crate::searcher::Searcher;
 use desk_core::Book;
 use desk_data::NoMem;
 use desk_folder::Gate;
-use desk_teams::Trail;
+use desk_teams::{Report, Trail};
 use near_search::Finder;
 use std::alloc::Global;
 use std::sync::Wait;
@@ -46,7 +45,7 @@ impl Worker {
                 number,
                 shards,
                 follower,
-                turns: 0,
+                rounds: 0,
                 trail: Vec::new(alloc),
                 finder: Finder::new(),
             },

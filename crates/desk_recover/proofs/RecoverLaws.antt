@@ -29,47 +29,47 @@ pub record Continues (I : Situation) (moves : ℕ) (B : Recorded) (ended : Optio
   pub same : B.opening ≡ I
   pub rest : recovery_after moves (opening I) B.journal left ≡ recovery moves (opening I) batches
   pub few : length B.journal ≤ proposal_limit + i
-  pub told : 1 ≤ i → ended ≡ ending moves (state_of B) B.journal
+  pub ended_is : 1 ≤ i → ended ≡ ending moves (state_of B) B.journal
 
 pub continues-start : (I : Situation) (moves : ℕ) (B : Recorded) (ended : Option SearchEnd) (batches : List Batch) → B ≡ record { opening = I; journal = [] } → Continues I moves B ended 0 (drop 0 batches) batches
 continues-start I moves B ended batches is =
     let one : Recorded = record { opening = I; journal = [] } in
     subst (λ (D : Recorded). Continues I moves D ended 0 (drop 0 batches) batches) (sym is)
-    (record { same = refl; rest = refl; few = omega arith; told = λ some. absurd (omega (arith, some)) })
+    (record { same = refl; rest = refl; few = omega arith; ended_is = λ some. absurd (omega (arith, some)) })
 
 -- the book after a batch for which there is room
 taken_in : (B : Recorded) (batch : Batch) → length B.journal < batch_limit → with_entry B 0 (event.Batch batch) ≡ record B { journal = B.journal ++ entry_of (state_of B) 0 (event.Batch batch) ∷ [] }
 taken_in B batch lt = rw (lt-ltb (length B.journal) batch_limit lt) refl
 
 -- the journal after a batch and its descent
-abbrev behind : Situation → ℕ → List Entry → Batch → List Entry
-behind I moves h batch = descent moves (opening I) (h ++ entry_of (state (opening I) h) 0 (event.Batch batch) ∷ [])
+abbrev descended : Situation → ℕ → List Entry → Batch → List Entry
+descended I moves h batch = descent moves (opening I) (h ++ entry_of (state (opening I) h) 0 (event.Batch batch) ∷ [])
 
-after_is : (I : Situation) (moves : ℕ) (B C D : Recorded) (batch : Batch) → B.opening ≡ I → length B.journal < batch_limit → C ≡ with_entry B 0 (event.Batch batch) → D ≡ after_descent moves C → D ≡ record { opening = I; journal = behind I moves B.journal batch }
+after_is : (I : Situation) (moves : ℕ) (B C D : Recorded) (batch : Batch) → B.opening ≡ I → length B.journal < batch_limit → C ≡ with_entry B 0 (event.Batch batch) → D ≡ after_descent moves C → D ≡ record { opening = I; journal = descended I moves B.journal batch }
 after_is I moves B C D batch same lt taken down =
     down ∙ ap (after_descent moves) (taken ∙ taken_in B batch lt)
-    ∙ ap (λ (J : Situation). let E : Recorded = record { opening = J; journal = behind J moves B.journal batch } in E) same
+    ∙ ap (λ (J : Situation). let E : Recorded = record { opening = J; journal = descended J moves B.journal batch } in E) same
 
 pub continues-next : (I : Situation) (moves : ℕ) (B C D : Recorded) (was now : Option SearchEnd) (batch : Batch) (i : ℕ) (batches : List Batch) → i < length batches → length batches ≤ 1001 → batch ≡ get_or batches i batch
     → C ≡ with_entry B 0 (event.Batch batch) → D ≡ after_descent moves C → now ≡ ending moves (state_of D) D.journal
     → Continues I moves B was i (drop i batches) batches → Continues I moves D now (i + 1) (drop (i + 1) batches) batches
 unfolding recovery_after
-continues-next I moves B C D was now batch i batches lt most at taken down told h =
+continues-next I moves B C D was now batch i batches lt most at taken down given h =
     let left : drop i batches ≡ batch ∷ drop (i + 1) batches = rw add-one (drop-cons batches i batch lt ∙ ap (λ (x : Batch). x ∷ drop (suc i) batches) (sym at)) in
     let room : length B.journal < batch_limit = omega (arith, h.few, lt, most) in
-    let is : D ≡ record { opening = I; journal = behind I moves B.journal batch } = after_is I moves B C D batch h.same room taken down in
-    let journal : D.journal ≡ behind I moves B.journal batch = ap (λ (E : Recorded). E.journal) is in
+    let is : D ≡ record { opening = I; journal = descended I moves B.journal batch } = after_is I moves B C D batch h.same room taken down in
+    let journal : D.journal ≡ descended I moves B.journal batch = ap (λ (E : Recorded). E.journal) is in
     let g = B.journal ++ entry_of (state (opening I) B.journal) 0 (event.Batch batch) ∷ [] in
     let one : length g ≡ length B.journal + 1 = length-append B.journal (entry_of (state (opening I) B.journal) 0 (event.Batch batch) ∷ []) in
-    let few : length (behind I moves B.journal batch) ≤ proposal_limit + (i + 1) = descent-length moves moves (proposal_limit + (i + 1)) (opening I) g (omega (arith, one, h.few)) (omega arith) in
-    let length_is : length D.journal ≡ length (behind I moves B.journal batch) = ap length journal in
+    let few : length (descended I moves B.journal batch) ≤ proposal_limit + (i + 1) = descent-length moves moves (proposal_limit + (i + 1)) (opening I) g (omega (arith, one, h.few)) (omega arith) in
+    let length_is : length D.journal ≡ length (descended I moves B.journal batch) = ap length journal in
     record {
       same = ap (λ (E : Recorded). E.opening) is;
       rest = ap (λ (j : List Entry). recovery_after moves (opening I) j (drop (i + 1) batches)) journal
           ∙ ap (λ (bs : List Batch). recovery_after moves (opening I) B.journal bs) (sym left)
           ∙ h.rest;
       few = omega (arith, few, length_is);
-      told = λ some. told;
+      ended_is = λ some. given;
     }
 
 pub continues-end : (I : Situation) (moves : ℕ) (B : Recorded) (search : Option SearchEnd) (i : ℕ) (batches : List Batch) → 1 ≤ length batches → length batches ≤ i → Continues I moves B search i (drop i batches) batches → IsRecoveredBook I batches moves B search
@@ -81,7 +81,7 @@ continues-end I moves B search i batches some le h =
     let book : B ≡ made I (recovery moves (opening I) batches) = ap (λ (J : Situation). made J B.journal) h.same ∙ ap (made I) journal in
     record {
       history = book;
-      ended = h.told (omega (arith, some, le)) ∙ ap (λ (E : Recorded). ending moves (state_of E) E.journal) book;
+      ended = h.ended_is (omega (arith, some, le)) ∙ ap (λ (E : Recorded). ending moves (state_of E) E.journal) book;
     }
 
 -- ---- what is written of it

@@ -154,11 +154,11 @@ pub(crate) fn unescaped(alloc: Global, text: &str) -> Result<Vec<u8>, AllocError
     let mut bytes = Vec::new(alloc);
     let mut at = At::Byte;
     for byte in text.as_bytes() {
-        let (complete, behind) = step(at, *byte);
+        let (complete, after) = step(at, *byte);
         if let Some(complete) = complete {
             bytes.push(complete)?;
         }
-        at = behind;
+        at = after;
     }
     Ok(bytes)
 }

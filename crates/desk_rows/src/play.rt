@@ -18,7 +18,7 @@ struct Faults {
     room: usize,
 }
 
-// In one call, so that whoever lets the faults go does not prove anew that each list of them may go.
+// Dropped in one call, so that a function that owns one proves it once, and not part by part.
 impl Drop for Faults {
     fn drop(self) {
         let Faults {
@@ -82,7 +82,7 @@ struct Player {
     played: Vec<u8>,
 }
 
-/// In one call, so that whoever lets a player go does not prove anew that each part of it may go.
+/// Dropped in one call, so that a function that owns one proves it once, and not part by part.
 impl Drop for Player {
     fn drop(self) {
         let Player {
@@ -267,8 +267,8 @@ impl Player {
 
     // Adds what a run gave, and keeps what it wrote.
     fn tell(&mut self, status: u8, report: &[u8], folder: &MemFolder) -> Result<(), AllocError> {
-        let told = format!(in self.alloc; "status {status}\n")?;
-        self.push(told.as_str())?;
+        let ended = format!(in self.alloc; "status {status}\n")?;
+        self.push(ended.as_str())?;
         self.push_text(report)?;
         for file in ALL_FILES {
             let text = folder.written(file);
@@ -286,8 +286,8 @@ impl Player {
         self.push(file.name())?;
         if self.sizes {
             let bytes = text.len();
-            let told = format!(in self.alloc; ": {bytes} bytes\n")?;
-            return self.push(told.as_str());
+            let size = format!(in self.alloc; ": {bytes} bytes\n")?;
+            return self.push(size.as_str());
         }
         self.push(":\n")?;
         self.push_text(text)

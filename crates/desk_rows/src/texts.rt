@@ -35,12 +35,12 @@ fn push_row(out: &mut Vec<u8>, row: &[u8], place: Option<usize>, n: u64) -> Resu
     let Some(place) = place else {
         return out.extend_from_slice(row);
     };
-    let (front, behind) = row.split_at(place.min(row.len()));
+    let (front, after) = row.split_at(place.min(row.len()));
     out.extend_from_slice(front)?;
     let number = format!(in *out.allocator(); "{n}")?;
     out.extend_from_slice(number.as_bytes())?;
-    let (_, behind) = behind.split_at(behind.len().min(2));
-    out.extend_from_slice(behind)
+    let (_, after) = after.split_at(after.len().min(2));
+    out.extend_from_slice(after)
 }
 
 /// Adds a row for each number from `from` to `to`, which stands in the place of `{}`.

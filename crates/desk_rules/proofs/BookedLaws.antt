@@ -130,7 +130,7 @@ takes-holds x c [] h = absurd (true≢false (sym h))
 takes-holds x c (pair ∷ path) h =
     elim (or_cases (is_pair x c pair) (takes x c path) h) [
       | inl here ↦ record { place = 0; within = omega arith; pair = same_pair-holds pair (record { 0 = x }, c) here }
-      | inr behind ↦ let rest = takes-holds x c path behind in record { place = suc rest.place; within = omega (arith, rest.within); pair = rest.pair }
+      | inr later ↦ let rest = takes-holds x c path later in record { place = suc rest.place; within = omega (arith, rest.within); pair = rest.pair }
     ]
 
 takes_at : (x : ℕ) (c : Cabin) (path : List (Leg × Cabin)) (i : ℕ) → i < length path → slice_index_or path i no_pair ≡ (record { 0 = x }, c) → takes x c path ≡ true

@@ -27,7 +27,7 @@ pub none-cons : {X : Type 0} (p : X → Bool) (x : X) (xs : List X) → find p (
 none-cons p x xs h = let parts = find_none-parts p (x ∷ []) xs h in (one_none (p x) x parts.0, parts.1)
 
 pub cons-none : {X : Type 0} (p : X → Bool) (x : X) (xs : List X) → p x ≡ false → find p xs ≡ None → find p (x ∷ xs) ≡ None
-cons-none p x xs here behind = rw here behind
+cons-none p x xs here after = rw here after
 
 -- where none of the items of the numbers is found, each fails the test
 pub none_of_numbers : {X : Type 0} (p : X → Bool) (f : ℕ → X) (n : ℕ) → find p (map f (numbers n)) ≡ None → (k : ℕ) → k < n → p (f k) ≡ false
@@ -49,18 +49,18 @@ numbers_none p f (suc n) h =
 -- what is found passes the test, and nothing before it does
 pub record Found {X : Type 0} (p : X → Bool) (xs : List X) (x : X) : Type 0 where
   pub before : List X
-  pub behind : List X
-  pub place : xs ≡ before ++ x ∷ behind
+  pub after : List X
+  pub place : xs ≡ before ++ x ∷ after
   pub passed : AllByRecursion (λ y. p y ≡ false) before
   pub holds : p x ≡ true
 
 found_in : {X : Type 0} (p : X → Bool) (y : X) (ys : List X) (x : X) (b : Bool) → p y ≡ b → cond b (Some y) (find p ys) ≡ Some x → (find p ys ≡ Some x → Found p ys x) → Found p (y ∷ ys) x
 found_in p y ys x true test h more =
     let same : y ≡ x = cc in
-    record { before = []; behind = ys; place = ap (λ z. z ∷ ys) same; passed = tt; holds = subst (λ z. p z ≡ true) same test }
+    record { before = []; after = ys; place = ap (λ z. z ∷ ys) same; passed = tt; holds = subst (λ z. p z ≡ true) same test }
 found_in p y ys x false test h more =
     let rest = more h in
-    record { before = y ∷ rest.before; behind = rest.behind; place = ap (λ zs. y ∷ zs) rest.place; passed = (test, rest.passed); holds = rest.holds }
+    record { before = y ∷ rest.before; after = rest.after; place = ap (λ zs. y ∷ zs) rest.place; passed = (test, rest.passed); holds = rest.holds }
 
 pub found : {X : Type 0} (p : X → Bool) (xs : List X) (x : X) → find p xs ≡ Some x → Found p xs x
 found p [] x h = absurd cc

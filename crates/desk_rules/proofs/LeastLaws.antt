@@ -178,7 +178,7 @@ least-holds I P item h =
     let at = found (breaks I P) (items I) item h in
     record {
       before = at.before;
-      behind = at.behind;
+      after = at.after;
       place = at.place;
       kept = All-from_recursion (Meets I P) at.before (all_met I P at.before at.passed);
       broken = λ met. true≢false (sym at.holds ∙ breaks-from I P item met);

@@ -9,7 +9,7 @@ use Rattle.desk_units.specs.declared.numbers.Minute.{Minute}
 use Rattle.desk_units.specs.declared.numbers.Plane.{Plane}
 use Rattle.desk_data.specs.declared.row.Row.{Row}
 use Rattle.desk_data.specs.declared.row.Row.TheVariants.{Flown, Cancelled}
-use Rattle.desk_data.specs.Situation.{Situation, leg_at, plane_at, fixed, ordered_off, earliest, latest, due, spans}
+use Rattle.desk_data.specs.Situation.{Situation, leg_at, plane_at, fixed, called_off, earliest, latest, due, spans}
 use Rattle.desk_data.specs.PlanRows.{PlanRows, row_at}
 use Rattle.desk_rules.specs.Rows.{is_row}
 use Rattle.desk_rules.specs.Rules.{c1_due, departs_in_time, c3_family, c4_range, c7_service, meets_span, keeps_c1, keeps_c2, keeps_c3, keeps_c4, keeps_c7}
@@ -48,18 +48,18 @@ keeps_c1-from I P x h = c1_due-from (due I x) (row_at P x) h
 
 -- ---- C2
 
-departs_in_time-holds : (I : Situation) (P : PlanRows) (x p d : ℕ) → Flies P x p d → departs_in_time I x (row_at P x) ≡ true → (ordered_off I x ≡ false) × (earliest I x ≤ d) × (d ≤ latest I x)
+departs_in_time-holds : (I : Situation) (P : PlanRows) (x p d : ℕ) → Flies P x p d → departs_in_time I x (row_at P x) ≡ true → (called_off I x ≡ false) × (earliest I x ≤ d) × (d ≤ latest I x)
 departs_in_time-holds I P x p d flown h =
-    let here : (not (ordered_off I x) && leb (earliest I x) d && leb d (latest I x)) ≡ true = rw flown at h in
-    let outer = and_parts (not (ordered_off I x) && leb (earliest I x) d) (leb d (latest I x)) here in
-    let inner = and_parts (not (ordered_off I x)) (leb (earliest I x) d) outer.0 in
-    (not-true (ordered_off I x) inner.0, leb-true (earliest I x) d inner.1, leb-true d (latest I x) outer.1)
+    let here : (not (called_off I x) && leb (earliest I x) d && leb d (latest I x)) ≡ true = rw flown at h in
+    let outer = and_parts (not (called_off I x) && leb (earliest I x) d) (leb d (latest I x)) here in
+    let inner = and_parts (not (called_off I x)) (leb (earliest I x) d) outer.0 in
+    (not-true (called_off I x) inner.0, leb-true (earliest I x) d inner.1, leb-true d (latest I x) outer.1)
 
-departs_in_time-from : (I : Situation) (x : ℕ) (r : Row) → ((p d : ℕ) → r ≡ Flown (record { 0 = p }) (record { 0 = d }) → (ordered_off I x ≡ false) × (earliest I x ≤ d) × (d ≤ latest I x)) → departs_in_time I x r ≡ true
+departs_in_time-from : (I : Situation) (x : ℕ) (r : Row) → ((p d : ℕ) → r ≡ Flown (record { 0 = p }) (record { 0 = d }) → (called_off I x ≡ false) × (earliest I x ≤ d) × (d ≤ latest I x)) → departs_in_time I x r ≡ true
 departs_in_time-from I x (Flown p d) h =
     let facts = h p.0 d.0 refl in
-    and_from (not (ordered_off I x) && leb (earliest I x) d.0) (leb d.0 (latest I x))
-    (and_from (not (ordered_off I x)) (leb (earliest I x) d.0) (not_from_false (ordered_off I x) facts.0) (le-leb (earliest I x) d.0 facts.1))
+    and_from (not (called_off I x) && leb (earliest I x) d.0) (leb d.0 (latest I x))
+    (and_from (not (called_off I x)) (leb (earliest I x) d.0) (not_from_false (called_off I x) facts.0) (le-leb (earliest I x) d.0 facts.1))
     (le-leb d.0 (latest I x) facts.2)
 departs_in_time-from I x Cancelled h = refl
 

@@ -14,7 +14,7 @@ use Rattle.desk_data.specs.declared.broken.Broken.TheVariants.{C1, C2, C3, C4, C
 use Rattle.desk_data.specs.Situation.{Situation, legs_of, planes_of, airports_of, reservations_of}
 use Rattle.desk_rules.specs.Numbers.{numbers}
 use Rattle.desk_rules.specs.Least.{all_hours, each_leg, each_plane, each_hour, each_cabin, each_res, rotation_items, slot_items, pax_items, items, leg, plane, airport, res}
-use Rattle.desk_rules.specs.Order.{rule_of, IsLess, IsReportedBefore}
+use Rattle.desk_rules.specs.Order.{rule_of, IsLess, ComesBefore}
 
 -- ---- lists
 
@@ -29,20 +29,20 @@ each_weaker P Q says (x ∷ xs) h = (says x h.0, each_weaker P Q says xs h.1)
 -- each item is reported before all those after it
 Ascends : List Broken → Type 0
 Ascends [] = Unit {0}
-Ascends (item ∷ rest) = AllByRecursion (IsReportedBefore item) rest × Ascends rest
+Ascends (item ∷ rest) = AllByRecursion (ComesBefore item) rest × Ascends rest
 
 AreBefore : List Broken → List Broken → Type 0
-AreBefore xs ys = AllByRecursion (λ item. AllByRecursion (IsReportedBefore item) ys) xs
+AreBefore xs ys = AllByRecursion (λ item. AllByRecursion (ComesBefore item) ys) xs
 
 ascends-append : (xs ys : List Broken) → Ascends xs → Ascends ys → AreBefore xs ys → Ascends (xs ++ ys)
 unfolding Ascends AreBefore
 ascends-append [] ys a b before = b
-ascends-append (x ∷ xs) ys a b before = (each_append (IsReportedBefore x) xs ys a.0 before.0, ascends-append xs ys a.1 b before.1)
+ascends-append (x ∷ xs) ys a b before = (each_append (ComesBefore x) xs ys a.0 before.0, ascends-append xs ys a.1 b before.1)
 
-ascends-pairs : (xs : List Broken) → Ascends xs → AllPairs IsReportedBefore xs
+ascends-pairs : (xs : List Broken) → Ascends xs → AllPairs ComesBefore xs
 unfolding Ascends
 ascends-pairs [] h = λ i j d lt within. absurd (omega arith)
-ascends-pairs (x ∷ xs) h = AllPairs-cons IsReportedBefore x xs (All-from_recursion (IsReportedBefore x) xs h.0) (ascends-pairs xs h.1)
+ascends-pairs (x ∷ xs) h = AllPairs-cons ComesBefore x xs (All-from_recursion (ComesBefore x) xs h.0) (ascends-pairs xs h.1)
 
 -- ---- items of numbers
 
@@ -52,13 +52,13 @@ each_number P f (suc n) h =
     subst (AllByRecursion P) (sym (map-append f (numbers n) (n ∷ [])))
     (each_append P (map f (numbers n)) (f n ∷ []) (each_number P f n (λ k lt. h k (omega arith))) (h n (omega arith), tt))
 
-ascends_numbers : (f : ℕ → Broken) (n : ℕ) → ((i j : ℕ) → i < j → IsReportedBefore (f i) (f j)) → Ascends (map f (numbers n))
+ascends_numbers : (f : ℕ → Broken) (n : ℕ) → ((i j : ℕ) → i < j → ComesBefore (f i) (f j)) → Ascends (map f (numbers n))
 unfolding Ascends AreBefore
 ascends_numbers f zero h = tt
 ascends_numbers f (suc n) h =
     subst Ascends (sym (map-append f (numbers n) (n ∷ [])))
     (ascends-append (map f (numbers n)) (f n ∷ []) (ascends_numbers f n h) (tt, tt)
-    (each_number (λ item. AllByRecursion (IsReportedBefore item) (f n ∷ [])) f n (λ k lt. (h k n lt, tt))))
+    (each_number (λ item. AllByRecursion (ComesBefore item) (f n ∷ [])) f n (λ k lt. (h k n lt, tt))))
 
 -- the lists of the numbers up to n are those below n, and that of n
 one_more : (f : ℕ → List Broken) (n : ℕ) → flat_map f (numbers (suc n)) ≡ flat_map f (numbers n) ++ f n
@@ -76,7 +76,7 @@ ascends_lists f zero each h = tt
 ascends_lists f (suc n) each h =
     subst Ascends (sym (one_more f n))
     (ascends-append (flat_map f (numbers n)) (f n) (ascends_lists f n each h) (each n)
-    (each_list (λ item. AllByRecursion (IsReportedBefore item) (f n)) f n (λ k lt. h k n lt)))
+    (each_list (λ item. AllByRecursion (ComesBefore item) (f n)) f n (λ k lt. h k n lt)))
 
 -- ---- the items of some rules
 
@@ -90,8 +90,8 @@ join : (a b c d : ℕ) (xs ys : List Broken) → a ≤ c → b < c → b ≤ d �
 unfolding AreBefore
 join a b c d xs ys first apart last low high = record {
   ascending = ascends-append xs ys low.ascending high.ascending
-      (each_weaker (λ item. (a ≤ rule_of item) × (rule_of item ≤ b)) (λ item. AllByRecursion (IsReportedBefore item) ys)
-      (λ item is. each_weaker (λ other. (c ≤ rule_of other) × (rule_of other ≤ d)) (IsReportedBefore item)
+      (each_weaker (λ item. (a ≤ rule_of item) × (rule_of item ≤ b)) (λ item. AllByRecursion (ComesBefore item) ys)
+      (λ item is. each_weaker (λ other. (c ≤ rule_of other) × (rule_of other ≤ d)) (ComesBefore item)
       (λ other is_high. let less : rule_of item < rule_of other = omega (arith, is.1, is_high.0) in inl less) ys high.rules)
       xs low.rules);
   rules = each_append (λ item. (a ≤ rule_of item) × (rule_of item ≤ d)) xs ys
@@ -99,19 +99,19 @@ join a b c d xs ys first apart last low high = record {
       (each_weaker (λ item. (c ≤ rule_of item) × (rule_of item ≤ d)) (λ item. (a ≤ rule_of item) × (rule_of item ≤ d)) (λ item is. (omega (arith, is.0), is.1)) ys high.rules);
 }
 
-of_numbers : (rule : ℕ) (f : ℕ → Broken) (n : ℕ) → ((k : ℕ) → rule_of (f k) ≡ rule) → ((i j : ℕ) → i < j → IsReportedBefore (f i) (f j)) → AreOf rule rule (map f (numbers n))
+of_numbers : (rule : ℕ) (f : ℕ → Broken) (n : ℕ) → ((k : ℕ) → rule_of (f k) ≡ rule) → ((i j : ℕ) → i < j → ComesBefore (f i) (f j)) → AreOf rule rule (map f (numbers n))
 of_numbers rule f n is before = record {
   ascending = ascends_numbers f n before;
   rules = each_number (λ item. (rule ≤ rule_of item) × (rule_of item ≤ rule)) f n (λ k lt. (omega (arith, is k), omega (arith, is k)));
 }
 
-of_hours : (I : Situation) (rule : ℕ) (item : Airport → ℕ → Broken) → ((a h : ℕ) → rule_of (item (airport a) h) ≡ rule) → ((a h b g : ℕ) → IsLess a h b g → IsReportedBefore (item (airport a) h) (item (airport b) g)) → AreOf rule rule (each_hour I item)
+of_hours : (I : Situation) (rule : ℕ) (item : Airport → ℕ → Broken) → ((a h : ℕ) → rule_of (item (airport a) h) ≡ rule) → ((a h b g : ℕ) → IsLess a h b g → ComesBefore (item (airport a) h) (item (airport b) g)) → AreOf rule rule (each_hour I item)
 unfolding AreBefore
 of_hours I rule item is before = record {
   ascending = ascends_lists (λ a. map (item (airport a)) (numbers all_hours)) (airports_of I)
       (λ a. ascends_numbers (item (airport a)) all_hours (λ h g lt. before a h a g (inr (refl, lt))))
-      (λ a b lt. each_number (λ here. AllByRecursion (IsReportedBefore here) (map (item (airport b)) (numbers all_hours))) (item (airport a)) all_hours
-      (λ h within. each_number (IsReportedBefore (item (airport a) h)) (item (airport b)) all_hours (λ g there. before a h b g (inl lt))));
+      (λ a b lt. each_number (λ here. AllByRecursion (ComesBefore here) (map (item (airport b)) (numbers all_hours))) (item (airport a)) all_hours
+      (λ h within. each_number (ComesBefore (item (airport a) h)) (item (airport b)) all_hours (λ g there. before a h b g (inl lt))));
   rules = each_list (λ here. (rule ≤ rule_of here) × (rule_of here ≤ rule)) (λ a. map (item (airport a)) (numbers all_hours)) (airports_of I)
       (λ a lt. each_number (λ here. (rule ≤ rule_of here) × (rule_of here ≤ rule)) (item (airport a)) all_hours (λ h within. (omega (arith, is a h), omega (arith, is a h))));
 }
@@ -127,8 +127,8 @@ of_cabins I =
             ((inr (refl, inr (refl, omega arith)), tt), (tt, tt)),
           ))
           (λ x y lt.
-          let behind : (c : Cabin) → AllByRecursion (IsReportedBefore (C12 (leg x) c)) (cabins y) = λ c. (inr (refl, inl lt), (inr (refl, inl lt), (inr (refl, inl lt), tt))) in
-          (behind F, (behind B, (behind E, tt))));
+          let later : (c : Cabin) → AllByRecursion (ComesBefore (C12 (leg x) c)) (cabins y) = λ c. (inr (refl, inl lt), (inr (refl, inl lt), (inr (refl, inl lt), tt))) in
+          (later F, (later B, (later E, tt))));
       rules = each_list (λ here. (12 ≤ rule_of here) × (rule_of here ≤ 12)) cabins (legs_of I)
           (λ x lt. ((omega arith, omega arith), ((omega arith, omega arith), ((omega arith, omega arith), tt))));
     }
@@ -197,7 +197,7 @@ of_passengers I =
     let up_to_c14 = join 12 13 14 14 (each_cabin I C12 ++ each_res I C13) (each_res I C14) (omega arith) (omega arith) (omega arith) up_to_c13 (of_c14 I) in
     join 12 14 15 15 (each_cabin I C12 ++ each_res I C13 ++ each_res I C14) (each_res I C15) (omega arith) (omega arith) (omega arith) up_to_c14 (of_c15 I)
 
-pub items-ascend : (I : Situation) → AllPairs IsReportedBefore (items I)
+pub items-ascend : (I : Situation) → AllPairs ComesBefore (items I)
 unfolding items
 items-ascend I =
     let rows = join 1 9 10 11 (rotation_items I) (slot_items I) (omega arith) (omega arith) (omega arith) (of_rotations I) (of_slots I) in

@@ -50,5 +50,5 @@ abbrev pub IsLess : ℕ → ℕ → ℕ → ℕ → Type 0
 IsLess a b c d = (a < c) ⊎ ((a ≡ c) × (b < d))
 
 -- one item is reported before another: by rule, then by what it names, then by hour or cabin
-abbrev pub IsReportedBefore : Broken → Broken → Type 0
-IsReportedBefore a b = (rule_of a < rule_of b) ⊎ ((rule_of a ≡ rule_of b) × IsLess (named_by a) (part_of a) (named_by b) (part_of b))
+abbrev pub ComesBefore : Broken → Broken → Type 0
+ComesBefore a b = (rule_of a < rule_of b) ⊎ ((rule_of a ≡ rule_of b) × IsLess (named_by a) (part_of a) (named_by b) (part_of b))

@@ -4,7 +4,7 @@ use Rattle.std.specs.List.{list_any}
 use Rattle.desk_units.specs.declared.numbers.Minute.{Minute}
 use Rattle.desk_data.specs.declared.row.Row.{Row}
 use Rattle.desk_data.specs.declared.row.Row.TheVariants.{Flown, Cancelled}
-use Rattle.desk_data.specs.Situation.{Situation, legs_of, leg_at, plane_at, fixed, ordered_off, earliest, latest, due, spans}
+use Rattle.desk_data.specs.Situation.{Situation, legs_of, leg_at, plane_at, fixed, called_off, earliest, latest, due, spans}
 use Rattle.desk_data.specs.PlanRows.{PlanRows, row_at}
 use Rattle.desk_rules.specs.Numbers.{each_below, implies}
 use Rattle.desk_rules.specs.Rotations.{arr, follows, is_first, ground_time}
@@ -18,9 +18,9 @@ c1_due (Some asked) row = is_row asked row
 unfoldable pub keeps_c1 : Situation → PlanRows → ℕ → Bool
 keeps_c1 I P x = c1_due (due I x) (row_at P x)
 
--- C2: a movable leg that is ordered off is cancelled; any other that is flown departs from its earliest to its latest departure
+-- C2: a movable leg that is called off is cancelled; any other that is flown departs from its earliest to its latest departure
 abbrev pub departs_in_time : Situation → ℕ → Row → Bool
-departs_in_time I x (Flown plane dep) = not (ordered_off I x) && nat_le (earliest I x) dep.0 && nat_le dep.0 (latest I x)
+departs_in_time I x (Flown plane dep) = not (called_off I x) && nat_le (earliest I x) dep.0 && nat_le dep.0 (latest I x)
 departs_in_time I x Cancelled = true
 
 unfoldable pub keeps_c2 : Situation → PlanRows → ℕ → Bool

@@ -20,7 +20,7 @@ use Rattle.desk_data.specs.declared.row.Group.{Group}
 use Rattle.desk_data.specs.declared.info.Maint.{Maint}
 use Rattle.desk_data.specs.declared.broken.Broken.{Broken}
 use Rattle.desk_data.specs.declared.broken.Broken.TheVariants.{C1, C2, C3, C4, C5, C6, C7, C8, C9, C10, C11, C12, C13, C14, C15}
-use Rattle.desk_data.specs.Situation.{Situation, legs_of, planes_of, airports_of, reservations_of, leg_at, plane_at, fixed, ordered_off, earliest, latest, due, spans, bound}
+use Rattle.desk_data.specs.Situation.{Situation, legs_of, planes_of, airports_of, reservations_of, leg_at, plane_at, fixed, called_off, earliest, latest, due, spans, bound}
 use Rattle.desk_data.specs.Hours.{dep_cap, arr_cap}
 use Rattle.desk_data.specs.PlanRows.{PlanRows, row_at, groups_at}
 use Rattle.desk_rules.specs.Rotations.{dep, arr, ground_time}
@@ -53,13 +53,13 @@ pub record Follows (I : Situation) (P : PlanRows) (x y : ℕ) : Type 0 where
 abbrev pub IsFirst : Situation → PlanRows → ℕ → Type 0
 IsFirst I P y = (x : ℕ) → x < legs_of I → Precedes P x y → ⊥
 
--- C1: a fixed leg has the row that is due: cancelled if it is ordered off, else flown by its scheduled aircraft at its earliest departure
+-- C1: a fixed leg has the row that is due: cancelled if it is called off, else flown by its scheduled aircraft at its earliest departure
 abbrev pub MeetsC1 : Situation → PlanRows → ℕ → Type 0
 MeetsC1 I P x = (row : Row) → due I x ≡ Some row → row_at P x ≡ row
 
--- C2: a movable leg that is flown is not ordered off, and departs from its earliest to its latest departure
+-- C2: a movable leg that is flown is not called off, and departs from its earliest to its latest departure
 abbrev pub MeetsC2 : Situation → PlanRows → ℕ → Type 0
-MeetsC2 I P x = fixed I x ≡ false → (p d : ℕ) → Flies P x p d → (ordered_off I x ≡ false) × (earliest I x ≤ d) × (d ≤ latest I x)
+MeetsC2 I P x = fixed I x ≡ false → (p d : ℕ) → Flies P x p d → (called_off I x ≡ false) × (earliest I x ≤ d) × (d ≤ latest I x)
 
 -- C3: a flown leg's aircraft is of the family of its scheduled aircraft
 abbrev pub MeetsC3 : Situation → PlanRows → ℕ → Type 0
@@ -249,8 +249,8 @@ pub record IsFeasible (I : Situation) (P : PlanRows) : Type 0 where
 -- the item is broken, and no item before it is
 pub record IsLeast (I : Situation) (P : PlanRows) (item : Broken) : Type 0 where
   pub before : List Broken
-  pub behind : List Broken
-  pub place : items I ≡ before ++ item ∷ behind
+  pub after : List Broken
+  pub place : items I ≡ before ++ item ∷ after
   pub kept : All (Meets I P) before
   pub broken : Meets I P item → ⊥
 

@@ -16,12 +16,12 @@ ghost use Rattle.desk_rules.specs.Slots.{arrives_in, departs_in};
 ghost use Rattle.desk_data.specs.Booked.{booked_path, haul_of, reference_of};
 ghost use Rattle.desk_rules.specs.Passengers.{takes};
 ghost use Rattle.desk_rules.specs.Words.{ArrivesIn, DepartsBefore, DepartsIn, HasLeg, IsFeasible, IsHighestCabin, IsHighestHaul, IsLeast};
-ghost use Rattle.desk_rules.specs.Order.{IsReportedBefore};
+ghost use Rattle.desk_rules.specs.Order.{ComesBefore};
 
 /// A plan breaks no item exactly where it meets each rule, as the rules are written in words:
 ///
 /// - C1: a fixed leg has the row that is due.
-/// - C2: a movable leg that is flown is not ordered off, and departs in time.
+/// - C2: a movable leg that is flown is not called off, and departs in time.
 /// - C3 and C4: a flown leg's aircraft is of the scheduled family, and the leg within its range.
 /// - C5 and C6: a leg leaves where its aircraft is, and after its ground time.
 /// - C7: a leg is flown while its aircraft is in service.
@@ -46,7 +46,7 @@ pub fn the_first_broken_item_is_reported()
 /// The order in which items are reported: by rule, then by the number of the leg, aircraft, airport or
 /// reservation that they name, then by hour or cabin. No item is listed twice.
 pub fn the_items_are_in_order()
-    ensures { (I : Situation) → AllPairs IsReportedBefore (items I) }
+    ensures { (I : Situation) → AllPairs ComesBefore (items I) }
 {}
 
 /// What C9, C10 and C11 count, in words: an aircraft's legs that depart before a moment, and the

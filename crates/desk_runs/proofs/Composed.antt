@@ -61,20 +61,20 @@ pub record Tries {Rows Task : Type 0} (M : Meaning Rows Task) (c : Command) (bef
 pub record Prepares {Rows Task : Type 0} (M : Meaning Rows Task) (c : Command) (before mid : Outside) (t : Task) : Type 0 where
   pub tries : Tries M c before mid
   pub read : AreRead (files_read c) before mid
-  pub told : (x : Inputs) → Tells (files_read c) before x → M.task c x ≡ Ok t
+  pub sets : (x : Inputs) → Tells (files_read c) before x → M.task c x ≡ Ok t
   pub sound : M.IsSound t
 
 finishes_from : {Rows Task : Type 0} (M : Meaning Rows Task) (before mid now : Outside) (sink sink' : SinkSide) (t : Task) (status : ℕ) → SameWritten before mid → M.IsSound t → (M.outcome t).status ≡ status → IsWritten (world mid sink) (world now sink') (M.outcome t).texts → Finishes M (world before sink) (world now sink') t status
 finishes_from M before mid now sink sink' t status same sound e h = record { sound = sound; status_is = e; written = written_from before mid now sink sink' (M.outcome t).texts same h }
 
 does_from : {Rows Task : Type 0} (M : Meaning Rows Task) (c : Command) (before mid now : Outside) (sink sink' : SinkSide) (t : Task) (how : Ending) (x : Inputs) → Prepares M c before mid t → Leaves (world mid sink) (world now sink') (M.outcome t) how → Tells (files_read c) before x → Does M c (world before sink) (world now sink') x how
-does_from M c before mid now sink sink' t ending.Done x p h tells = (t, p.told x tells, finishes_from M before mid now sink sink' t 0 p.tries.only.written p.sound h.0 h.1)
-does_from M c before mid now sink sink' t ending.NoPlan x p h tells = (t, p.told x tells, finishes_from M before mid now sink sink' t 1 p.tries.only.written p.sound h.0 h.1)
-does_from M c before mid now sink sink' t ending.BrokenRule x p h tells = (t, p.told x tells, finishes_from M before mid now sink sink' t 7 p.tries.only.written p.sound h.0 h.1)
-does_from M c before mid now sink sink' t (ending.WriteFault f) x p h tells = (t, p.told x tells, put_from (λ g. (g ≡ f) × Keeps sink.written sink'.written) ⊥ (M.outcome t).texts before mid now p.tries.only.written h)
-does_from M c before mid now sink sink' t ending.ReportFault x p h tells = (t, p.told x tells, put_from (λ f. ⊥) (AppendsPrefix sink.written sink'.written (M.outcome t).texts.report) (M.outcome t).texts before mid now p.tries.only.written h)
+does_from M c before mid now sink sink' t ending.Done x p h tells = (t, p.sets x tells, finishes_from M before mid now sink sink' t 0 p.tries.only.written p.sound h.0 h.1)
+does_from M c before mid now sink sink' t ending.NoPlan x p h tells = (t, p.sets x tells, finishes_from M before mid now sink sink' t 1 p.tries.only.written p.sound h.0 h.1)
+does_from M c before mid now sink sink' t ending.BrokenRule x p h tells = (t, p.sets x tells, finishes_from M before mid now sink sink' t 7 p.tries.only.written p.sound h.0 h.1)
+does_from M c before mid now sink sink' t (ending.WriteFault f) x p h tells = (t, p.sets x tells, put_from (λ g. (g ≡ f) × Keeps sink.written sink'.written) ⊥ (M.outcome t).texts before mid now p.tries.only.written h)
+does_from M c before mid now sink sink' t ending.ReportFault x p h tells = (t, p.sets x tells, put_from (λ f. ⊥) (AppendsPrefix sink.written sink'.written (M.outcome t).texts.report) (M.outcome t).texts before mid now p.tries.only.written h)
 does_from M c before mid now sink sink' t ending.Memory x p (inl h) tells = inl (unreported_from before mid now sink sink' p.tries.only.written h)
-does_from M c before mid now sink sink' t ending.Memory x p (inr h) tells = inr (t, p.told x tells, stops_from before mid now sink sink' (M.outcome t).texts p.tries.only.written h)
+does_from M c before mid now sink sink' t ending.Memory x p (inr h) tells = inr (t, p.sets x tells, stops_from before mid now sink sink' (M.outcome t).texts p.tries.only.written h)
 does_from M c before mid now sink sink' t ending.Usage x p h tells = absurd h
 does_from M c before mid now sink sink' t (ending.Refused r) x p h tells = absurd h
 does_from M c before mid now sink sink' t ending.PlaceFault x p h tells = absurd h
@@ -308,8 +308,8 @@ obeys-placed M c dirs before placed now sink sink' how ok names only run = recor
 
 -- ---- the line that names the ending
 
-pub runs-told : {Rows Task : Type 0} (M : Meaning Rows Task) (ask : Option Ask) (before mid : World) (now : SinkSide) (how : Ending) (code : ℕ) → EndsBy M ask before mid how → TellsEnd how mid.sink now code → Runs M ask before (world mid.folder now) code
-runs-told M ask before mid now how code ends told = record { how = how; sink = mid.sink; ends = ends; answer = told.answer; line = told.line; status = told.status }
+pub runs-tells_end : {Rows Task : Type 0} (M : Meaning Rows Task) (ask : Option Ask) (before mid : World) (now : SinkSide) (how : Ending) (code : ℕ) → EndsBy M ask before mid how → TellsEnd how mid.sink now code → Runs M ask before (world mid.folder now) code
+runs-tells_end M ask before mid now how code ends given = record { how = how; sink = mid.sink; ends = ends; answer = given.answer; line = given.line; status = given.status }
 
 -- a run from the world before its directories were named
 pub runs-placed : {Rows Task : Type 0} (M : Meaning Rows Task) (c : Command) (dirs : Directories) (before placed now : Outside) (sink sink' : SinkSide) (code : ℕ) (ok : Unit {0}) → Names before.directories placed.directories dirs (let r : Result (Unit {0}) FolderFault = Ok ok in r) → PlacesOnly before placed
@@ -329,7 +329,7 @@ unbegun_from : (before mid now : Outside) (sink sink' : SinkSide) → SameWritte
 unbegun_from before mid now sink sink' same h = record { written = λ f. h.written f ∙ same f; how = h.how; line = h.line }
 
 fair_placed : {Rows Task Work : Type 0} (M : Meanings Rows Task Work) (c : Command) (dirs : Directories) (before placed now : Outside) (sink sink' : SinkSide) (work : Work) → PlacesOnly before placed → IsFair M (Some (here c)) (world placed sink) (world now sink') work → IsFair M (Some (at c dirs)) (world before sink) (world now sink') work
-fair_placed M c dirs before placed now sink sink' work only fair x tells t told = elim (fair x (tells_placed (files_read c) before placed x only tells) t told) [
+fair_placed M c dirs before placed now sink sink' work only fair x tells t given = elim (fair x (tells_placed (files_read c) before placed x only tells) t given) [
   | inl unbegun ↦ inl (unbegun_from before placed now sink sink' only.written unbegun)
   | inr work ↦ inr work
 ]

@@ -14,7 +14,7 @@ use Rattle.desk_runs.specs.declared.ending.Ending.TheVariants as ending
 use Rattle.desk_runs.specs.Commands.{Ask, files_read}
 use Rattle.desk_runs.specs.Inputs.{Inputs, Tells}
 use Rattle.desk_runs.specs.Outcome.{Texts, fault_text, status_of}
-use Rattle.desk_runs.specs.Runs.{World, Meaning, Does, Finishes, IsSetTask, IsWritten, Runs}
+use Rattle.desk_runs.specs.Runs.{World, Meaning, Does, Finishes, SetsTask, IsWritten, Runs}
 use Rattle.desk_runs.specs.Causes.{IsDoneAt, IsDone}
 use Rattle.desk_runs.proofs.CausesLaw.{status_cases}
 
@@ -52,11 +52,11 @@ not_done : (code n : ℕ) → code ≡ n → 2 ≤ n → n ≤ 6 → IsDoneAt co
 not_done code n e low high (inl le) = omega (arith, e, low, high, le)
 not_done code n e low high (inr is) = omega (arith, e, low, high, is)
 
-finished : {Rows Task : Type 0} (M : Meaning Rows Task) (c : Command) (before now : World) (sink : SinkSide) (x : Inputs) (t : Task) (answer : Result (Unit {0}) FolderFault) (status code : ℕ) → code ≡ status → IsSetTask M c x t → Finishes M before (record { folder = now.folder; sink = sink }) t status
+finished : {Rows Task : Type 0} (M : Meaning Rows Task) (c : Command) (before now : World) (sink : SinkSide) (x : Inputs) (t : Task) (answer : Result (Unit {0}) FolderFault) (status code : ℕ) → code ≡ status → SetsTask M c x t → Finishes M before (record { folder = now.folder; sink = sink }) t status
     → TextAppends sink.written now.sink.written [] answer → IsDone M c before now x code
-finished M c before now sink x t answer status code e told h more = record {
+finished M c before now sink x t answer status code e given h more = record {
   task = t;
-  told = told;
+  sets = given;
   sound = h.sound;
   status = e ∙ sym h.status_is;
   written = written_after before now sink (M.outcome t).texts answer h.written more;

@@ -20,7 +20,7 @@ use Rattle.desk_runs.specs.Commands.{Ask, files_read, files_written, reads, writ
 use Rattle.desk_runs.specs.Inputs.{Inputs, Tells}
 use Rattle.desk_runs.specs.Reading.{IsUnread, StopsAt}
 use Rattle.desk_runs.specs.Outcome.{Texts, fault_text, status_of}
-use Rattle.desk_runs.specs.Runs.{World, Meaning, AreNamed, IsPlaced, IsUnreported, IsWritten, Stops, StopsIn, StopsInReport, IsSetTask, Does, AreRead, IsUntouched, Obeys, EndsBy, Runs, status_after}
+use Rattle.desk_runs.specs.Runs.{World, Meaning, AreNamed, IsPlaced, IsUnreported, IsWritten, Stops, StopsIn, StopsInReport, SetsTask, Does, AreRead, IsUntouched, Obeys, EndsBy, Runs, status_after}
 use Rattle.desk_runs.specs.Causes.{IsDoneAt}
 use Rattle.desk_runs.specs.Standing.{texts_by, finished_texts, AreBegun, AreWhole, IsRefusedSo, ReportsFault, IsNamedAt, IsUnnamed}
 use Rattle.desk_runs.proofs.CausesLaw.{status_cases, cause_after, caused-by}
@@ -50,8 +50,8 @@ stops_in_report before mid t h =
     (λ f none. absurd none) (λ part. part) h
 
 -- the texts of the task that the inputs set
-stops_reported : {Rows Task : Type 0} (M : Meaning Rows Task) (a : Ask) (before mid : World) (x : Inputs) (t : Task) → IsSetTask M a.command x t → Stops before mid (M.outcome t).texts → Stops before mid (finished_texts M (Some a) x)
-stops_reported {Task = Task} M a before mid x t told h = subst (λ (r : Result Task Refusal). Stops before mid (texts_by M (files_written a.command) r)) (sym told) h
+stops_reported : {Rows Task : Type 0} (M : Meaning Rows Task) (a : Ask) (before mid : World) (x : Inputs) (t : Task) → SetsTask M a.command x t → Stops before mid (M.outcome t).texts → Stops before mid (finished_texts M (Some a) x)
+stops_reported {Task = Task} M a before mid x t given h = subst (λ (r : Result Task Refusal). Stops before mid (texts_by M (files_written a.command) r)) (sym given) h
 
 stops_does : {Rows Task : Type 0} (M : Meaning Rows Task) (a : Ask) (before mid : World) (x : Inputs) (how : Ending) → Obeys M a before mid how → Does M a.command before mid x how → Stops before mid (finished_texts M (Some a) x)
 stops_does M a before mid x ending.Done run does = stops_reported M a before mid x does.0 does.1 (stops_written before mid (M.outcome does.0).texts does.2.written)
@@ -224,7 +224,7 @@ fault-reported M ask before now code run x tells low =
       cause = cause_after (reads ask) (writes ask) before now run.sink run.how run.line.faults.kept (caused-by M ask before mid run.how run.ends);
       refusal = refused_in M ask before mid x run.how tells run.ends;
       reported = report.0.reported;
-      told = line.0;
+      line_bytes = line.0;
       sink = Appends-trans before.sink.written run.sink.written now.sink.written (take report.0.reported (finished_texts M ask x).report) (take line.0 (fault_text run.how)) report.0.sink line.1;
       unreported = report.1;
       files = report.0.files;

@@ -13,7 +13,7 @@ use Rattle.desk_runs.specs.declared.ending.Ending.{Ending}
 use Rattle.desk_runs.specs.Inputs.{Inputs}
 use Rattle.desk_runs.specs.Commands.{Ask, files_read, reads, writes}
 use Rattle.desk_runs.specs.Outcome.{refusal_text, fault_text, status_of}
-use Rattle.desk_runs.specs.Runs.{World, Meaning, IsSetTask, IsWritten, HasCause}
+use Rattle.desk_runs.specs.Runs.{World, Meaning, SetsTask, IsWritten, HasCause}
 
 -- out of memory is the one free answer: the status is this one, unless memory ran out
 abbrev pub IsUnlessMemory : ℕ → ℕ → Type 0
@@ -27,7 +27,7 @@ IsDoneAt code = (code ≤ 1) ⊎ (code ≡ 7)
 -- written, and nothing else is reported
 pub record IsDone {Rows Task : Type 0} (M : Meaning Rows Task) (c : Command) (before now : World) (x : Inputs) (code : ℕ) : Type 0 where
   pub task : Task
-  pub told : IsSetTask M c x task
+  pub sets : SetsTask M c x task
   pub sound : M.IsSound task
   pub status : code ≡ (M.outcome task).status
   pub written : IsWritten before now (M.outcome task).texts

@@ -59,8 +59,8 @@ abbrev pub Stops : World → World → Texts → Type 0
 Stops before now t = ArePut (λ f. Keeps before.sink.written now.sink.written) (AppendsPrefix before.sink.written now.sink.written t.report) t.files before.folder now.folder
 
 -- the task that the inputs set the command
-abbrev pub IsSetTask : {Rows Task : Type 0} → Meaning Rows Task → Command → Inputs → Task → Type 0
-IsSetTask M c x t = M.task c x ≡ Ok t
+abbrev pub SetsTask : {Rows Task : Type 0} → Meaning Rows Task → Command → Inputs → Task → Type 0
+SetsTask M c x t = M.task c x ≡ Ok t
 
 -- what a run that was done did: it wrote all texts that the task comes to
 pub record Finishes {Rows Task : Type 0} (M : Meaning Rows Task) (before now : World) (t : Task) (status : ℕ) : Type 0 where
@@ -70,16 +70,16 @@ pub record Finishes {Rows Task : Type 0} (M : Meaning Rows Task) (before now : W
 
 -- what a run of a command did on these inputs, by its ending; where a file could not be read, no grammar refuses one before it
 abbrev pub Does : {Rows Task : Type 0} → Meaning Rows Task → Command → World → World → Inputs → Ending → Type 0
-Does {Task = Task} M c before now x ending.Done = (t : Task) × IsSetTask M c x t × Finishes M before now t 0
-Does {Task = Task} M c before now x ending.NoPlan = (t : Task) × IsSetTask M c x t × Finishes M before now t 1
-Does {Task = Task} M c before now x ending.BrokenRule = (t : Task) × IsSetTask M c x t × Finishes M before now t 7
+Does {Task = Task} M c before now x ending.Done = (t : Task) × SetsTask M c x t × Finishes M before now t 0
+Does {Task = Task} M c before now x ending.NoPlan = (t : Task) × SetsTask M c x t × Finishes M before now t 1
+Does {Task = Task} M c before now x ending.BrokenRule = (t : Task) × SetsTask M c x t × Finishes M before now t 7
 Does M c before now x ending.Usage = ⊥
 Does M c before now x (ending.Refused r) = M.task c x ≡ Err r
 Does M c before now x ending.PlaceFault = Unit {0}
 Does M c before now x (ending.ReadFault f) = StandsFirst f (M.rows c x)
-Does {Task = Task} M c before now x (ending.WriteFault f) = (t : Task) × IsSetTask M c x t × StopsIn f before now (M.outcome t).texts
-Does {Task = Task} M c before now x ending.ReportFault = (t : Task) × IsSetTask M c x t × StopsInReport before now (M.outcome t).texts
-Does {Task = Task} M c before now x ending.Memory = IsUnreported before now ⊎ ((t : Task) × IsSetTask M c x t × Stops before now (M.outcome t).texts)
+Does {Task = Task} M c before now x (ending.WriteFault f) = (t : Task) × SetsTask M c x t × StopsIn f before now (M.outcome t).texts
+Does {Task = Task} M c before now x ending.ReportFault = (t : Task) × SetsTask M c x t × StopsInReport before now (M.outcome t).texts
+Does {Task = Task} M c before now x ending.Memory = IsUnreported before now ⊎ ((t : Task) × SetsTask M c x t × Stops before now (M.outcome t).texts)
 
 -- only a fault of the outside ends a run so: its count of that very call and file rose, and the file is one of those that are
 -- read or written

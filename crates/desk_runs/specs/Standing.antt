@@ -53,13 +53,13 @@ pub record ReportsFault {Rows Task : Type 0} (M : Meaning Rows Task) (ask : Opti
   pub refusal : (r : Refusal) → how ≡ ending.Refused r → IsRefusedSo M ask x r
   -- so many bytes of the report, and so many of the line
   pub reported : ℕ
-  pub told : ℕ
-  pub sink : Appends before.sink.written now.sink.written (take reported (finished_texts M ask x).report ++ take told (fault_text how))
+  pub line_bytes : ℕ
+  pub sink : Appends before.sink.written now.sink.written (take reported (finished_texts M ask x).report ++ take line_bytes (fault_text how))
   -- at 2, 3 and 4, and where an output file is not whole, none of the report
   pub unreported : code ≤ 4 → reported ≡ 0
   pub files : (reported ≡ 0) ⊎ AreWhole before.folder now.folder (finished_texts M ask x)
   -- all of the line, but at 6 and where the sink failed
-  pub line : (take told (fault_text how) ≡ fault_text how) ⊎ ((code ≡ 6) ⊎ Rose before.sink.faults now.sink.faults)
+  pub line : (take line_bytes (fault_text how) ≡ fault_text how) ⊎ ((code ≡ 6) ⊎ Rose before.sink.faults now.sink.faults)
 
 -- at these statuses the directories are named, where that is asked for
 abbrev pub IsNamedAt : ℕ → Type 0

@@ -6,7 +6,7 @@ use Rattle.desk_runs.specs.Commands.{Ask, files_read}
 use Rattle.desk_runs.specs.Inputs.{Inputs, Tells}
 use Rattle.desk_runs.specs.declared.ending.Ending.{Ending}
 use Rattle.desk_runs.specs.Outcome.{fault_text}
-use Rattle.desk_runs.specs.Runs.{World, Meaning, IsSetTask}
+use Rattle.desk_runs.specs.Runs.{World, Meaning, SetsTask}
 
 -- what inputs mean at each work, and which works a run of a task may have
 pub record Meanings (Rows Task Work : Type 0) : Type 1 where
@@ -23,7 +23,7 @@ pub record IsUnbegun (before now : World) : Type 0 where
 -- they set one; only where nothing is written, and nothing reported but why the run was not done, any other may be it too
 abbrev pub IsFair : {Rows Task Work : Type 0} → Meanings Rows Task Work → Option Ask → World → World → Work → Type 0
 IsFair M None before now work = Unit {0}
-IsFair {Task = Task} M (Some a) before now work = (x : Inputs) → Tells (files_read a.command) before.folder x → (t : Task) → IsSetTask (M.at work) a.command x t → IsUnbegun before now ⊎ M.IsWorkOf t work
+IsFair {Task = Task} M (Some a) before now work = (x : Inputs) → Tells (files_read a.command) before.folder x → (t : Task) → SetsTask (M.at work) a.command x t → IsUnbegun before now ⊎ M.IsWorkOf t work
 
 -- a run has one work, and this holds of the meaning at it
 pub record AtSomeWork {Rows Task Work : Type 0} (M : Meanings Rows Task Work) (ask : Option Ask) (before now : World) (Holds : Meaning Rows Task → Type 0) : Type 0 where

@@ -9,7 +9,7 @@ use desk_folder::File;
 use folder_io::WriteFault;
 
 /// How a run ends.
-#[derive(Clone, Copy, Debug, PartialEq, Eq)]
+#[derive(Clone, Copy, PartialEq, Eq)]
 pub enum Ending {
     /// All was done: of a replay or a recovery with a plan at its end, of a check with a plan that breaks no
     /// rule.

@@ -1,10 +1,10 @@
 -- The turn is closed.
-use Rattle.std.proofs.Common.{◌≡◌, ◌≢◌, ℕ, zero, suc, ◌+◌, ◌-◌, ◌<◌, ◌≤◌, ◌==◌, Bool, true, false, List, [], ◌∷◌, ◌++◌, length, refl, sym, ap, ◌∙◌, subst, arith, inl, inr, ◌⊎◌}
+use Rattle.std.proofs.Common.{◌≡◌, ◌≢◌, ℕ, zero, suc, ◌+◌, ◌-◌, ◌<◌, ◌≤◌, ◌==◌, Bool, true, List, [], length, refl, sym, ap, ◌∙◌, subst, arith}
 use Rattle.std.specs.Prelude.{Option, Some, None, IsSome}
 use Rattle.std.proofs.lemmas.Bool.Decides.{nat_tests}
 use mathlib.Core.Logic.{dite}
 use native.Mathlib.Decide.{ℕ_discrete}
-use Rattle.turn_book.specs.Names.{Name, knows}
+use Rattle.turn_book.specs.Names.{knows}
 use Rattle.turn_book.specs.Places.{has}
 use Rattle.turn_book.specs.Histories.{places_from}
 use Rattle.turn_book.proofs.Bools.{off, or_left, or_right}
@@ -14,20 +14,19 @@ use Rattle.desk_data.specs.Situation.{Situation}
 use Rattle.desk_data.specs.declared.broken.Broken.{Broken}
 use Rattle.desk_model.specs.declared.answer.Entry.{Entry}
 use Rattle.desk_model.specs.States.{opening}
-use Rattle.desk_model.specs.Histories.{IsLegal, state, proposal_limit, batch_limit}
-use Rattle.near_moves.specs.Descent.{IsQuiet, is_spent}
-use Rattle.near_moves.specs.Descents.{batches_in}
+use Rattle.desk_model.specs.Histories.{IsLegal, state}
 use Rattle.desk_core.specs.Recorded.{Recorded}
 use Rattle.desk_teams.proofs.RoomLaws.{few-entries}
-use Rattle.desk_pool.specs.declared.report.Vote.{Vote}
-use Rattle.desk_pool.specs.declared.report.Vote.TheVariants.{Quiet, Spent, NoPlan}
+use Rattle.desk_teams.specs.declared.report.Vote.{Vote}
+use Rattle.desk_teams.specs.declared.report.Vote.TheVariants.{Quiet, Spent, NoPlan}
 use Rattle.desk_pool.specs.Rounds.{Knows}
 use Rattle.desk_pool.specs.Laps.{IsReturned}
+use Rattle.desk_pool.specs.Voted.{IsVoteOf}
 use Rattle.desk_tasks.specs.Team.{IsTeamEnd}
 use Rattle.desk_search.specs.declared.searched.Searched.TheVariants as searched
 use Rattle.desk_search.specs.declared.team.Team.{Team}
-use Rattle.desk_search.specs.Running.{IsCovering, EndsSo, IsTeamRun}
-use Rattle.desk_search.specs.Closing.{end_of, team_of, IsTeamBook}
+use Rattle.desk_search.specs.Running.{HasMadeAll, IsTeamRun}
+use Rattle.desk_search.specs.Closing.{end_of, IsTeamBook}
 
 -- ---- each entry was made by a call
 
@@ -37,8 +36,8 @@ has_places (suc n) a k low high = dite (ℕ_discrete k a)
     (λ (e : k ≡ a). or_left (k == a) (has k (places_from (suc a) n)) (grind (arith, nat_tests)))
     (λ (ne : k ≢ a). or_right (k == a) (has k (places_from (suc a) n)) (has_places n (suc a) k (omega (arith, ne, low)) (omega (arith, high))))
 
-pub covering : (v : Knows) (n : ℕ) → n ≡ 0 → v.made ≡ places_from n (length v.seen - n) → IsCovering v
-covering v n none is k lt =
+pub made_all : (v : Knows) (n : ℕ) → n ≡ 0 → v.made ≡ places_from n (length v.seen - n) → HasMadeAll v
+made_all v n none is k lt =
     let made : v.made ≡ places_from 0 (length v.seen - 0) = subst (λ (m : ℕ). v.made ≡ places_from m (length v.seen - m)) none is in
     ap (has k) made ∙ has_places (length v.seen - 0) 0 k (omega arith) (omega (arith, lt))
 
@@ -52,26 +51,26 @@ planned_some : (o : Option Broken) → o ≡ None → IsSome o → ⊥
 planned_some None e some = off some
 planned_some (Some item) e some = absurd cc
 
-pub team_end : (most : ℕ) (I : Situation) (h : List Entry) (vote : Vote) → EndsSo most I h vote → IsTeamEnd I most h (end_of vote)
-team_end most I h (Quiet c) ends = record {
+pub team_end : (most : ℕ) (I : Situation) (n : ℕ) (h : List Entry) (vote : Vote) → IsVoteOf most I n h vote → IsTeamEnd I most h (end_of vote)
+team_end most I n h (Quiet c) voted = record {
   budget = λ e. absurd cc;
-  quiet = λ e. ends;
-  unplanned = (λ e. absurd cc, λ some. absurd (planned_some (state (opening I) h).broken ends.planned some));
+  quiet = λ e. voted.quiet;
+  unplanned = (λ e. absurd cc, λ some. absurd (planned_some (state (opening I) h).broken voted.quiet.planned some));
 }
-team_end most I h Spent ends = record {
-  budget = λ e. ends;
+team_end most I n h Spent voted = record {
+  budget = λ e. (voted.planned, voted.spent);
   quiet = λ e. absurd cc;
-  unplanned = (λ e. absurd cc, λ some. absurd (planned_some (state (opening I) h).broken ends.0 some));
+  unplanned = (λ e. absurd cc, λ some. absurd (planned_some (state (opening I) h).broken voted.planned some));
 }
-team_end most I h (NoPlan item) ends = record {
+team_end most I n h (NoPlan item) voted = record {
   budget = λ e. absurd cc;
   quiet = λ e. absurd cc;
-  unplanned = (λ e. subst IsSome (sym ends) refl, λ some. refl);
+  unplanned = (λ e. subst IsSome (sym voted.broken) refl, λ some. refl);
 }
 
 -- ---- the book
 
-pub team_book : (I : Situation) (batches : List Batch) (team : Team) (v : Knows) (B : Recorded) (vote : Vote) → B.opening ≡ I → B.journal ≡ v.seen → IsLegal (opening B.opening) B.journal → IsCovering v → IsTeamRun team.workers team.moves team.live I batches v (searched.Voted vote)
+pub team_book : (I : Situation) (batches : List Batch) (team : Team) (v : Knows) (B : Recorded) (vote : Vote) → B.opening ≡ I → B.journal ≡ v.seen → IsLegal (opening B.opening) B.journal → HasMadeAll v → IsTeamRun team.workers team.moves team.live I batches v (searched.Voted vote)
     → IsTeamBook I batches team B (end_of vote)
 team_book I batches team v B vote same seen legal all run =
     let came = run.voted vote refl in
@@ -81,12 +80,12 @@ team_book I batches team v B vote same seen legal all run =
       work = record {
         legal = legal_there;
         teamwork = subst (λ (h : List Entry). Rattle.desk_teams.specs.Teams.IsTeamwork team.workers team.moves team.live (opening I) batches h) (sym seen) (came.0 all);
-        ended = subst (λ (h : List Entry). IsTeamEnd I team.moves h (end_of vote)) (sym seen) (team_end team.moves I v.seen vote came.1);
+        ended = subst (λ (h : List Entry). IsTeamEnd I team.moves h (end_of vote)) (sym seen) (team_end team.moves I team.workers v.seen vote came.1);
       };
     }
 
 -- the journal is never full
-pub never_full : (n most : ℕ) (live : Bool) (I : Situation) (batches : List Batch) (v : Knows) → length batches ≤ 1001 → IsLegal (opening I) v.seen → IsCovering v → IsTeamRun n most live I batches v searched.Full → ⊥
+pub never_full : (n most : ℕ) (live : Bool) (I : Situation) (batches : List Batch) (v : Knows) → length batches ≤ 1001 → IsLegal (opening I) v.seen → HasMadeAll v → IsTeamRun n most live I batches v searched.Full → ⊥
 never_full n most live I batches v few legal all run =
     let came = run.full refl in
     let count = came.0 all in
@@ -99,10 +98,13 @@ never_full n most live I batches v few legal all run =
 pub closed_full : (n most : ℕ) (live : Bool) (I J : Situation) (batches : List Batch) (v : Knows) (h : List Entry) (first : ℕ) → length batches ≤ 1001 → h ≡ v.seen → J ≡ I → IsLegal (opening J) h → first ≡ 0 → v.made ≡ places_from first (length v.seen - first) → IsTeamRun n most live I batches v searched.Full → ⊥
 closed_full n most live I J batches v h first few seen same legal none made run =
     let there : IsLegal (opening I) h = subst (λ (K : Situation). IsLegal (opening K) h) same legal in
-    never_full n most live I batches v few (subst (IsLegal (opening I)) seen there) (covering v first none made) run
+    never_full n most live I batches v few (subst (IsLegal (opening I)) seen there) (made_all v first none made) run
 
 pub closed_book : (n : ℕ) (I D : Situation) (batches : List Batch) (team : Team) (v : Knows) (B : Recorded) (first : ℕ) (vote : Vote) → D ≡ I → n ≡ team.workers → B.opening ≡ D → B.journal ≡ v.seen → IsLegal (opening B.opening) B.journal → first ≡ 0 → v.made ≡ places_from first (length v.seen - first)
     → IsTeamRun n team.moves team.live D batches v (searched.Voted vote) → IsTeamBook I batches team B (end_of vote)
 closed_book n I D batches team v B first vote same size opened seen legal none made run =
     let here : IsTeamRun n team.moves team.live I batches v (searched.Voted vote) = subst (λ (K : Situation). IsTeamRun n team.moves team.live K batches v (searched.Voted vote)) same run in
-    team_book I batches team v B vote (opened ∙ same) seen legal (covering v first none made) (subst (λ (m : ℕ). IsTeamRun m team.moves team.live I batches v (searched.Voted vote)) size here)
+    team_book I batches team v B vote (opened ∙ same) seen legal (made_all v first none made) (subst (λ (m : ℕ). IsTeamRun m team.moves team.live I batches v (searched.Voted vote)) size here)
+
+pub ended_so : (a b : Vote) → searched.Voted a ≡ searched.Voted b → end_of a ≡ end_of b
+ended_so a b e = (let same : a ≡ b = cc e in ap end_of same)

@@ -1,7 +1,7 @@
-pub mod Covering
+pub mod Makers
 pub mod Longer
 pub mod Running
-pub mod Bringing
+pub mod Taking
 pub mod Living
 pub mod RunEnds
 pub mod Closing

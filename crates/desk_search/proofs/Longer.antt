@@ -1,8 +1,7 @@
 -- What is known once the desk's pass and the workers' pass are joined again.
-use Rattle.std.proofs.Common.{◌≡◌, ℕ, ◌<◌, List, length, get_or, sym, ap, ◌∙◌, subst}
+use Rattle.std.proofs.Common.{◌≡◌, List, get_or, sym, subst}
 use mathlib.Core.List.{IsPrefix}
 use Rattle.turn_book.specs.Knowing.{AreNested, longer}
-use Rattle.turn_book.proofs.Prefixes.{prefix_self, prefix_trans}
 use Rattle.pass_laws.proofs.SplitLaws.{both_begin}
 use Rattle.desk_data.specs.Situation.{Situation}
 use Rattle.desk_model.specs.declared.answer.Entry.{Entry}

@@ -1,4 +1,4 @@
--- Batches that are brought, and rounds after them.
+-- Batches that are taken, and rounds after them.
 use Rattle.std.proofs.Common.{◌≡◌, ℕ, zero, suc, ◌+◌, ◌<◌, ◌≤◌, true, false, List, [], ◌∷◌, ◌++◌, length, map, take, get_or, slice_get, refl, sym, ap, ◌∙◌, subst, arith, inl, inr, ⊎_elim, ◌⊎◌, true≢false, length-append}
 use Rattle.std.specs.Prelude.{Some, None, IsSome, nat_lt, Result, Ok, Err, IfOk, OnOk}
 use Rattle.std.specs.Result.{is_err}
@@ -22,18 +22,18 @@ use Rattle.desk_model.specs.Histories.{state, entry_of, is_batch}
 use Rattle.near_moves.specs.Descents.{batch_in, batches_in}
 use Rattle.desk_teams.specs.declared.trail.Trail.{Trail}
 use Rattle.desk_teams.specs.Teams.{HasStopped, IsTeamwork}
-use Rattle.desk_teams.proofs.TrailLaws.{get-left, get-snoc, get-last, get-below}
+use Rattle.desk_teams.proofs.TrailLaws.{get-left, get-snoc, get-last, get-below, budget-longer}
 use Rattle.desk_pool.specs.declared.worker.Worker.{Worker}
 use Rattle.desk_pool.specs.Rounds.{Knows, place_of}
 use Rattle.desk_pool.specs.Workers.{trail_of, AreAllShards, CanAllSearch}
 use Rattle.desk_pool.specs.Laps.{new_items, new_places, SomeNew, HasGained, IsReturned}
-use Rattle.desk_pool.proofs.Gaining.{has_split}
-use Rattle.desk_search.specs.Brought.{BringsNone, BringsOne, IsDeskEntry, IsCovered}
-use Rattle.desk_pool.specs.declared.report.Vote.{Vote}
-use Rattle.desk_pool.specs.declared.report.Vote.TheVariants.{Quiet, Spent, NoPlan}
+use Rattle.desk_pool.proofs.Gaining.{has_split, get-append}
+use Rattle.desk_search.specs.Taking.{TakesNone, TakesOne, IsDeskEntry, HasMakers, AllInBudget}
+use Rattle.desk_teams.specs.declared.report.Vote.{Vote}
+use Rattle.desk_teams.specs.declared.report.Vote.TheVariants.{Quiet, Spent, NoPlan}
 use Rattle.desk_pool.specs.Voted.{IsVoteOf}
-use Rattle.desk_search.specs.Running.{SomeNoted, NoneNotedFirst, IsCovering, RunSoFar, EndsSo}
-use Rattle.desk_search.proofs.Covering.{noted_at, same_entry, covered_made}
+use Rattle.desk_search.specs.Running.{SomeNoted, NoneNotedFirst, HasMadeAll, RunSoFar}
+use Rattle.desk_search.proofs.Makers.{noted_at, same_entry, made_by_makers}
 
 -- ---- batches of histories
 
@@ -84,12 +84,12 @@ made_within most I v workers done k run ready is = ⊎_elim
 -- ---- who noted the first place
 
 -- a place that is noted after rounds was noted before, or is new
-module _ (low : ℕ) (I : Situation) (v w : Knows) (olds news : List Worker) (ready : CanAllSearch I news w.seen) (gained : HasGained low v w olds news) where
-  noted_or_new : (k : ℕ) → SomeNoted news k → SomeNoted olds k ⊎ SomeNew olds news k
+module _ (most low : ℕ) (I : Situation) (v w : Knows) (workers_before workers_after : List Worker) (ready : CanAllSearch I workers_after w.seen) (gained : HasGained most low v w workers_before workers_after) where
+  noted_or_new : (k : ℕ) → SomeNoted workers_after k → SomeNoted workers_before k ⊎ SomeNew workers_before workers_after k
   noted_or_new k some =
-      let o = get_or olds some.0 some.1 in
-      let n = get_or news some.0 some.1 in
-      let lt : some.0 < length olds = omega (arith, gained.workers, some.2) in
+      let o = get_or workers_before some.0 some.1 in
+      let n = get_or workers_after some.0 some.1 in
+      let lt : some.0 < length workers_before = omega (arith, gained.workers, some.2) in
       let trail : map place_of (trail_of n) ≡ map place_of (trail_of o) ++ new_places o n = ap (map place_of) (gained.trails some.0 some.1 lt).trail ∙ map-append place_of (trail_of o) (new_items o n) in
       ⊎_elim
       (λ (old : has k (map place_of (trail_of o)) ≡ true). inl (some.0, some.1, lt, old))
@@ -97,51 +97,75 @@ module _ (low : ℕ) (I : Situation) (v w : Knows) (olds news : List Worker) (re
       (has_split k (map place_of (trail_of o)) (new_places o n) (ap (has k) (sym trail) ∙ some.3))
 
   -- a new place comes after what was seen
-  pub new_from : (k : ℕ) → SomeNew olds news k → low ≤ k
+  pub new_from : (k : ℕ) → SomeNew workers_before workers_after k → low ≤ k
   new_from k some =
-      let o = get_or olds some.0 some.1 in
-      let n = get_or news some.0 some.1 in
+      let o = get_or workers_before some.0 some.1 in
+      let n = get_or workers_after some.0 some.1 in
       let at = noted_at (new_items o n) k some.3 in
       let saw = (gained.trails some.0 some.1 some.2).since at.0 at.1 at.2 in
       let there : slice_get (trail_of n) (length (trail_of o) + at.0) ≡ Some at.1 = ap (λ (l : List Trail). slice_get l (length (trail_of o) + at.0)) (gained.trails some.0 some.1 some.2).trail ∙ get-right (trail_of o) (new_items o n) at.0 at.1 at.2 in
       let up = ((ready some.0 some.1 (omega (arith, gained.workers, some.2))).trail.items (length (trail_of o) + at.0) at.1 there).before in
       omega (arith, saw, up, at.3)
 
-  pub later_gained : 0 < low → NoneNotedFirst olds → NoneNotedFirst news
+  pub later_gained : 0 < low → NoneNotedFirst workers_before → NoneNotedFirst workers_after
   later_gained begun later k some = ⊎_elim
-      (λ (old : SomeNoted olds k). later k old)
-      (λ (new : SomeNew olds news k). (let up = new_from k new in omega (arith, up, begun)))
+      (λ (old : SomeNoted workers_before k). later k old)
+      (λ (new : SomeNew workers_before workers_after k). (let up = new_from k new in omega (arith, up, begun)))
       (noted_or_new k some)
+
+-- ---- budgets
+
+pub budget_longer : (most : ℕ) (workers : List Worker) (h g : List Entry) → IsPrefix h g → AllInBudget most workers h → AllInBudget most workers g
+budget_longer most workers h g p all i d k t lt at = budget-longer most h g t p (all i d k t lt at)
+
+pub budget_gained : (most low : ℕ) (v w : Knows) (workers_before workers_after : List Worker) → HasGained most low v w workers_before workers_after → AllInBudget most workers_before v.seen → AllInBudget most workers_after w.seen
+budget_gained most low v w workers_before workers_after gained all i d k t lt at =
+    let o = get_or workers_before i d in
+    let n = get_or workers_after i d in
+    let within : i < length workers_before = omega (arith, gained.workers, lt) in
+    let on = gained.trails i d within in
+    ⊎_elim
+    (λ (old : slice_get (trail_of o) k ≡ Some t). budget-longer most v.seen w.seen t gained.began (all i d k t within old))
+    (λ (new : (j : ℕ) × (slice_get (new_items o n) j ≡ Some t)). on.in_budget new.0 t new.1)
+    (get-append (trail_of o) (new_items o n) k t (ap (λ (l : List Trail). slice_get l k) (sym on.trail) ∙ at))
+
+-- after no history nothing was proposed
+pub none_in_budget : (most : ℕ) (I : Situation) (workers : List Worker) (h g : List Entry) → h ≡ [] → CanAllSearch I workers h → AllInBudget most workers g
+none_in_budget most I workers h g none ready i d k t lt at =
+    let item = (ready i d lt).trail.items k t at in
+    absurd (let low = get-below h t.place item.entry item.there in let zero_long : length h ≡ 0 = ap length none in omega (arith, low, zero_long))
+
+-- ---- the first entry
 
 pub none_noted : (I : Situation) (workers : List Worker) (h : List Entry) → h ≡ [] → CanAllSearch I workers h → NoneNotedFirst workers
 none_noted I workers h none ready k some = absurd (let lt = noted_within I workers h k ready some in let zero_long : length h ≡ 0 = ap length none in omega (arith, lt, zero_long))
 
-pub brought_some : (I : Situation) (B : Batch) (v w : Knows) → BringsOne I B v w → 0 < length w.seen
-brought_some I B v w one =
+pub taken_some : (I : Situation) (B : Batch) (v w : Knows) → TakesOne I B v w → 0 < length w.seen
+taken_some I B v w one =
     let long : length w.seen ≡ length one.before + 1 = ap length one.seen ∙ length-append one.before (entry_of (state (opening I) one.before) 0 (event.Batch B) ∷ []) in
     omega (arith, long)
 
 -- where each place is the desk's or noted by a worker, and no worker noted the first one, the first entry is a batch
 pub first_batch : (h : List Entry) (desk : List ℕ) (workers : List Worker) → ((k : ℕ) → has k desk ≡ true → IsDeskEntry h k) → ((k : ℕ) → k < length h → (has k desk ≡ true) ⊎ SomeNoted workers k) → NoneNotedFirst workers → (entry : Entry) → slice_get h 0 ≡ Some entry → is_batch entry.event ≡ true
-first_batch h desk workers entries covers later entry at = ⊎_elim
+first_batch h desk workers entries makers later entry at = ⊎_elim
     (λ (mine : has 0 desk ≡ true). (let d = entries 0 mine in ap (λ (x : Entry). is_batch x.event) (same_entry h 0 entry d.entry at d.there) ∙ d.batch))
     (λ (some : SomeNoted workers 0). absurd (let low = later 0 some in omega (arith, low)))
-    (covers 0 (get-below h 0 entry at))
+    (makers 0 (get-below h 0 entry at))
 
 -- ---- a batch that was not taken
 
-pub run_none : (most : ℕ) (I : Situation) (v u : Knows) (workers : List Worker) (done : List Batch) → RunSoFar most I v workers done → CanAllSearch I workers v.seen → BringsNone v u → IsCovering u → batches_in u.seen ≡ done
+pub run_none : (most : ℕ) (I : Situation) (v u : Knows) (workers : List Worker) (done : List Batch) → RunSoFar most I v workers done → CanAllSearch I workers v.seen → TakesNone v u → HasMadeAll u → batches_in u.seen ≡ done
 run_none most I v u workers done run ready nothing all =
     let old : (k : ℕ) → k < length u.seen → has k v.made ≡ true = λ k lt. ap (has k) (sym nothing.made) ∙ all k lt in
     let same : v.seen ≡ u.seen = elim (cases_Bool (nat_lt (length v.seen) (length u.seen))) [
       | inl gap ↦ absurd (let lt : length v.seen < length u.seen = grind (arith, nat_tests) in let low = made_within most I v workers done (length v.seen) run ready (old (length v.seen) lt) in omega (arith, low))
       | inr whole ↦ prefix_whole v.seen u.seen nothing.began (let le : length u.seen ≤ length v.seen = grind (arith, nat_tests) in le)
     ] in
-    ap batches_in (sym same) ∙ run.brought (λ k lt. old k (subst (λ (h : List Entry). k < length h) same lt))
+    ap batches_in (sym same) ∙ run.taken (λ k lt. old k (subst (λ (h : List Entry). k < length h) same lt))
 
 -- ---- a batch
 
-module _ (most : ℕ) (I : Situation) (B : Batch) (v w : Knows) (workers : List Worker) (done : List Batch) (run : RunSoFar most I v workers done) (ready : CanAllSearch I workers v.seen) (stopped : (length v.seen ≡ 0) ⊎ HasStopped most (opening I) v.seen) (one : BringsOne I B v w) where
+module _ (most : ℕ) (I : Situation) (B : Batch) (v w : Knows) (workers : List Worker) (done : List Batch) (run : RunSoFar most I v workers done) (ready : CanAllSearch I workers v.seen) (stopped : (length v.seen ≡ 0) ⊎ HasStopped most (opening I) v.seen) (one : TakesOne I B v w) where
   entry : Entry
   entry = entry_of (state (opening I) one.before) 0 (event.Batch B)
 
@@ -159,14 +183,14 @@ module _ (most : ℕ) (I : Situation) (B : Batch) (v w : Knows) (workers : List 
   made_by : (k : ℕ) → has k w.made ≡ true → (has k v.made ≡ true) ⊎ (k ≡ length one.before)
   made_by k is = has_snoc k v.made (length one.before) (ap (has k) (sym one.made) ∙ is)
 
-  covered_before : IsCovering w → IsCovering v
-  covered_before all k lt = ⊎_elim
+  made_all_before : HasMadeAll w → HasMadeAll v
+  made_all_before all k lt = ⊎_elim
       (λ (old : has k v.made ≡ true). old)
       (λ (last : k ≡ length one.before). absurd (let l = low in omega (arith, l, last, lt)))
       (made_by k (all k (let l = low in let g = long in omega (arith, l, g, lt))))
 
   -- nobody came between
-  same : IsCovering w → v.seen ≡ one.before
+  same : HasMadeAll w → v.seen ≡ one.before
   same all = elim (cases_Bool (nat_lt (length v.seen) (length one.before))) [
     | inl gap ↦ absurd (let lt : length v.seen < length one.before = grind (arith, nat_tests) in ⊎_elim
         (λ (old : has (length v.seen) v.made ≡ true). (let in_it = made_within most I v workers done (length v.seen) run ready old in omega (arith, in_it)))
@@ -175,9 +199,9 @@ module _ (most : ℕ) (I : Situation) (B : Batch) (v w : Knows) (workers : List 
     | inr none_is ↦ prefix_whole v.seen one.before one.began (let le : length one.before ≤ length v.seen = grind (arith, nat_tests) in le)
   ]
 
-  pub run_brought : RunSoFar most I w workers (done ++ B ∷ [])
+  pub run_taken : RunSoFar most I w workers (done ++ B ∷ [])
   unfolding entry
-  run_brought = record {
+  run_taken = record {
     desk = run.desk ++ length one.before ∷ [];
     entries = λ k is. ⊎_elim
         (λ (old : has k run.desk ≡ true). desk_longer v.seen w.seen k begins (run.entries k old))
@@ -196,12 +220,13 @@ module _ (most : ℕ) (I : Situation) (B : Batch) (v w : Knows) (workers : List 
         (λ (last : k ≡ length one.before). inl (has_last k run.desk (length one.before) last))
         (made_by k is);
     later = run.later;
-    brought = λ all. ap batches_in one.seen ∙ batches-append one.before (entry ∷ []) ∙ ap (λ (l : List Entry). batches_in l ++ B ∷ []) (sym (same all)) ∙ ap (λ (l : List Batch). l ++ B ∷ []) (run.brought (covered_before all));
+    in_budget = budget_longer most workers v.seen w.seen begins run.in_budget;
+    taken = λ all. ap batches_in one.seen ∙ batches-append one.before (entry ∷ []) ∙ ap (λ (l : List Entry). batches_in l ++ B ∷ []) (sym (same all)) ∙ ap (λ (l : List Batch). l ++ B ∷ []) (run.taken (made_all_before all));
     waits = λ all k other some at batch. ⊎_elim
         (λ (old : slice_get one.before k ≡ Some other).
         let here : slice_get v.seen k ≡ Some other = ap (λ (l : List Entry). slice_get l k) (same all) ∙ old in
         let lt = get-below v.seen k other here in
-        subst (HasStopped most (opening I)) (sym (begins_take v.seen w.seen k begins (omega (arith, lt)))) (run.waits (covered_before all) k other some here batch))
+        subst (HasStopped most (opening I)) (sym (begins_take v.seen w.seen k begins (omega (arith, lt)))) (run.waits (made_all_before all) k other some here batch))
         (λ (last : (k ≡ length one.before) × (other ≡ entry)).
         let whole : take k w.seen ≡ v.seen = begins_take one.before w.seen k (entry ∷ [], sym one.seen) (omega (arith, last.0)) ∙ Rattle.std.proofs.lemmas.List.take_all k one.before (omega (arith, last.0)) ∙ sym (same all) in
         ⊎_elim
@@ -216,70 +241,71 @@ module _ (most : ℕ) (I : Situation) (B : Batch) (v w : Knows) (workers : List 
 noted_front : (k : ℕ) (xs ys : List ℕ) → has k xs ≡ true → has k (xs ++ ys) ≡ true
 noted_front k xs ys is = Rattle.desk_pool.proofs.Gaining.has_in_front k xs ys is
 
-module _ (most : ℕ) (I : Situation) (v w : Knows) (olds news : List Worker) (done : List Batch) (run : RunSoFar most I v olds done) (before : CanAllSearch I olds v.seen) (ready : CanAllSearch I news w.seen) (begun : 0 < length v.seen) (gained : HasGained (length v.seen) v w olds news) where
-  trail_on : (i : ℕ) (d : Worker) → i < length olds → map place_of (trail_of (get_or news i d)) ≡ map place_of (trail_of (get_or olds i d)) ++ new_places (get_or olds i d) (get_or news i d)
-  trail_on i d lt = ap (map place_of) (gained.trails i d lt).trail ∙ map-append place_of (trail_of (get_or olds i d)) (new_items (get_or olds i d) (get_or news i d))
+module _ (most : ℕ) (I : Situation) (v w : Knows) (workers_before workers_after : List Worker) (done : List Batch) (run : RunSoFar most I v workers_before done) (before : CanAllSearch I workers_before v.seen) (ready : CanAllSearch I workers_after w.seen) (begun : 0 < length v.seen) (gained : HasGained most (length v.seen) v w workers_before workers_after) where
+  trail_on : (i : ℕ) (d : Worker) → i < length workers_before → map place_of (trail_of (get_or workers_after i d)) ≡ map place_of (trail_of (get_or workers_before i d)) ++ new_places (get_or workers_before i d) (get_or workers_after i d)
+  trail_on i d lt = ap (map place_of) (gained.trails i d lt).trail ∙ map-append place_of (trail_of (get_or workers_before i d)) (new_items (get_or workers_before i d) (get_or workers_after i d))
 
-  noted_still : (k : ℕ) → SomeNoted olds k → SomeNoted news k
+  noted_still : (k : ℕ) → SomeNoted workers_before k → SomeNoted workers_after k
   noted_still k some = (some.0, some.1, omega (arith, gained.workers, some.2), ap (has k) (trail_on some.0 some.1 some.2) ∙ noted_front k _ _ some.3)
 
-  noted_new : (k : ℕ) → SomeNew olds news k → SomeNoted news k
-  noted_new k some = (some.0, some.1, omega (arith, gained.workers, some.2), ap (has k) (trail_on some.0 some.1 some.2) ∙ Rattle.desk_pool.proofs.Gaining.has_in_back k (map place_of (trail_of (get_or olds some.0 some.1))) _ some.3)
+  noted_new : (k : ℕ) → SomeNew workers_before workers_after k → SomeNoted workers_after k
+  noted_new k some = (some.0, some.1, omega (arith, gained.workers, some.2), ap (has k) (trail_on some.0 some.1 some.2) ∙ Rattle.desk_pool.proofs.Gaining.has_in_back k (map place_of (trail_of (get_or workers_before some.0 some.1))) _ some.3)
 
-  new_after : (k : ℕ) → SomeNew olds news k → length v.seen ≤ k
-  new_after = new_from (length v.seen) I v w olds news ready gained
+  new_after : (k : ℕ) → SomeNew workers_before workers_after k → length v.seen ≤ k
+  new_after = new_from most (length v.seen) I v w workers_before workers_after ready gained
 
-  covered_earlier : IsCovering w → IsCovering v
-  covered_earlier all k lt = ⊎_elim
+  made_all_earlier : HasMadeAll w → HasMadeAll v
+  made_all_earlier all k lt = ⊎_elim
       (λ (old : has k v.made ≡ true). old)
-      (λ (some : SomeNew olds news k). absurd (let up = new_after k some in omega (arith, up, lt)))
+      (λ (some : SomeNew workers_before workers_after k). absurd (let up = new_after k some in omega (arith, up, lt)))
       (gained.made_only k (all k (let le = prefix_length v.seen w.seen gained.began in omega (arith, le, lt))))
 
   -- what comes after what was seen is no batch
-  no_batch : IsCovering w → (k : ℕ) (other : Entry) → slice_get w.seen k ≡ Some other → length v.seen ≤ k → is_batch other.event ≡ false
+  no_batch : HasMadeAll w → (k : ℕ) (other : Entry) → slice_get w.seen k ≡ Some other → length v.seen ≤ k → is_batch other.event ≡ false
   no_batch all k other at up = ⊎_elim
-      (λ (old : has k v.made ≡ true). absurd (let lt = made_within most I v olds done k run before old in omega (arith, lt, up)))
-      (λ (some : SomeNew olds news k).
+      (λ (old : has k v.made ≡ true). absurd (let lt = made_within most I v workers_before done k run before old in omega (arith, lt, up)))
+      (λ (some : SomeNew workers_before workers_after k).
       let noted = noted_new k some in
-      let found = noted_at (trail_of (get_or news noted.0 noted.1)) k noted.3 in
+      let found = noted_at (trail_of (get_or workers_after noted.0 noted.1)) k noted.3 in
       let item = (ready noted.0 noted.1 noted.2).trail.items found.0 found.1 found.2 in
       let is : item.entry ≡ other = same_entry w.seen k item.entry other (ap (slice_get w.seen) (sym found.3) ∙ item.there) at in
       ap (λ (x : Entry). is_batch x.event) (sym is) ∙ ap is_batch item.first.proposed)
       (gained.made_only k (all k (get-below w.seen k other at)))
 
-  pub run_gained : RunSoFar most I w news done
+  pub run_gained : RunSoFar most I w workers_after done
   run_gained = record {
     desk = run.desk;
     entries = λ k is. desk_longer v.seen w.seen k gained.began (run.entries k is);
     made_only = λ k is. ⊎_elim
         (λ (old : has k v.made ≡ true). ⊎_elim
         (λ (mine : has k run.desk ≡ true). inl mine)
-        (λ (some : SomeNoted olds k). inr (noted_still k some))
+        (λ (some : SomeNoted workers_before k). inr (noted_still k some))
         (run.made_only k old))
-        (λ (some : SomeNew olds news k). inr (noted_new k some))
+        (λ (some : SomeNew workers_before workers_after k). inr (noted_new k some))
         (gained.made_only k is);
-    later = later_gained (length v.seen) I v w olds news ready gained begun run.later;
-    brought = λ all.
+    later = later_gained most (length v.seen) I v w workers_before workers_after ready gained begun run.later;
+    in_budget = budget_gained most (length v.seen) v w workers_before workers_after gained run.in_budget;
+    taken = λ all.
         ap batches_in (sym gained.began.1) ∙ batches-append v.seen gained.began.0
         ∙ ap (λ (l : List Batch). batches_in v.seen ++ l) (no_batches gained.began.0 (λ k other at. no_batch all (length v.seen + k) other (ap (λ (l : List Entry). slice_get l (length v.seen + k)) (sym gained.began.1) ∙ get-right v.seen gained.began.0 k other at) (omega arith)))
-        ∙ append-nil (batches_in v.seen) ∙ run.brought (covered_earlier all);
+        ∙ append-nil (batches_in v.seen) ∙ run.taken (made_all_earlier all);
     waits = λ all k other some at batch. elim (cases_Bool (nat_lt k (length v.seen))) [
       | inl inside ↦ (let lt : k < length v.seen = grind (arith, nat_tests) in
-          subst (HasStopped most (opening I)) (sym (begins_take v.seen w.seen k gained.began (omega (arith, lt)))) (run.waits (covered_earlier all) k other some (begins_get v.seen w.seen k other gained.began at lt) batch))
+          subst (HasStopped most (opening I)) (sym (begins_take v.seen w.seen k gained.began (omega (arith, lt)))) (run.waits (made_all_earlier all) k other some (begins_get v.seen w.seen k other gained.began at lt) batch))
       | inr behind ↦ absurd (let up : length v.seen ≤ k = grind (arith, nat_tests) in true≢false (sym batch ∙ no_batch all k other at up))
     ];
   }
 
 -- ---- all of it
 
-pub teamwork : (most : ℕ) (I : Situation) (v : Knows) (workers : List Worker) (done : List Batch) → RunSoFar most I v workers done → IsCovering v → AreAllShards workers → CanAllSearch I workers v.seen → HasStopped most (opening I) v.seen → IsTeamwork (length workers) most false (opening I) done v.seen
+pub teamwork : (most : ℕ) (I : Situation) (v : Knows) (workers : List Worker) (done : List Batch) → RunSoFar most I v workers done → HasMadeAll v → AreAllShards workers → CanAllSearch I workers v.seen → HasStopped most (opening I) v.seen → IsTeamwork (length workers) most false (opening I) done v.seen
 teamwork most I v workers done run all shards ready stopped =
-    let covered : IsCovered v.seen run.desk workers = record { batches = run.entries; all = λ k lt. run.made_only k (all k lt) } in
-    let made = covered_made I v.seen run.desk workers shards ready covered in
+    let with_makers : HasMakers v.seen run.desk workers = record { batches = run.entries; all = λ k lt. run.made_only k (all k lt) } in
+    let made = made_by_makers I most v.seen run.desk workers shards ready run.in_budget with_makers in
     record {
-      brought = run.brought all;
+      taken = run.taken all;
       desk = made.desk;
-      first = first_batch v.seen run.desk workers run.entries covered.all run.later;
+      first = first_batch v.seen run.desk workers run.entries with_makers.all run.later;
       proposals = made.proposals;
       waits = λ live k entry some at batch. run.waits all k entry some at batch;
       stopped = stopped;
@@ -293,19 +319,20 @@ run_start most I v workers seen made ready = record {
   entries = λ k is. absurd (off is);
   made_only = λ k is. absurd (off (ap (has k) (sym made) ∙ is));
   later = none_noted I workers v.seen seen ready;
-  brought = λ all. ap batches_in seen;
+  in_budget = none_in_budget most I workers v.seen v.seen seen ready;
+  taken = λ all. ap batches_in seen;
   waits = λ all k entry some at batch. absurd (let none : None ≡ Some entry = ap (λ (l : List Entry). slice_get l k) (sym seen) ∙ at in cc none);
 }
 
-pub vote_ends : (most : ℕ) (I : Situation) (n : ℕ) (h : List Entry) (vote : Vote) → IsVoteOf most I n h vote → HasStopped most (opening I) h × EndsSo most I h vote
-vote_ends most I n h (Quiet counted) is = (inr (inr is.quiet), is.quiet)
-vote_ends most I n h Spent is = (inr (inl is.1), is)
-vote_ends most I n h (NoPlan item) is = (inl (subst IsSome (sym is) refl), is)
+pub vote_stops : (most : ℕ) (I : Situation) (n : ℕ) (h : List Entry) (vote : Vote) → IsVoteOf most I n h vote → HasStopped most (opening I) h
+vote_stops most I n h (Quiet counted) is = inr (inr is.quiet)
+vote_stops most I n h Spent is = inr (inl is.spent)
+vote_stops most I n h (NoPlan item) is = inl (subst IsSome (sym is.broken) refl)
 
 -- a batch and the rounds after it
-pub run_next : (most : ℕ) (I : Situation) (B : Batch) (v u w : Knows) (olds news : List Worker) (done : List Batch) → RunSoFar most I v olds done → CanAllSearch I olds v.seen → (length v.seen ≡ 0) ⊎ HasStopped most (opening I) v.seen → BringsOne I B v u → CanAllSearch I olds u.seen → CanAllSearch I news w.seen → HasGained (length u.seen) u w olds news → RunSoFar most I w news (done ++ B ∷ [])
-run_next most I B v u w olds news done run ready stopped one after now gained =
-    run_gained most I u w olds news (done ++ B ∷ []) (run_brought most I B v u olds done run ready stopped one) after now (brought_some I B v u one) gained
+pub run_next : (most : ℕ) (I : Situation) (B : Batch) (v u w : Knows) (workers_before workers_after : List Worker) (done : List Batch) → RunSoFar most I v workers_before done → CanAllSearch I workers_before v.seen → (length v.seen ≡ 0) ⊎ HasStopped most (opening I) v.seen → TakesOne I B v u → CanAllSearch I workers_before u.seen → CanAllSearch I workers_after w.seen → HasGained most (length u.seen) u w workers_before workers_after → RunSoFar most I w workers_after (done ++ B ∷ [])
+run_next most I B v u w workers_before workers_after done run ready stopped one after now gained =
+    run_gained most I u w workers_before workers_after (done ++ B ∷ []) (run_taken most I B v u workers_before done run ready stopped one) after now (taken_some I B v u one) gained
 
 pub ok_since : {X E : Type 0} (r : Result X E) (P : Type 0) → is_err r ≡ false → OnOk r P → P
 ok_since (Ok x) P is p = p

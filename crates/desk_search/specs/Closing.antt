@@ -1,12 +1,12 @@
 -- The book of a day that a team searched.
-use Rattle.std.specs.Prelude.{◌≡◌, ℕ, List, Option, Some, None}
+use Rattle.std.specs.Prelude.{◌≡◌, List, Option, Some, None}
 use Rattle.day_orders.specs.declared.orders.Batch.{Batch}
 use Rattle.desk_data.specs.Situation.{Situation}
 use Rattle.desk_core.specs.Recorded.{Recorded}
 use Rattle.near_moves.specs.declared.ended.SearchEnd.{SearchEnd}
 use Rattle.near_moves.specs.declared.ended.SearchEnd.TheVariants as ended
-use Rattle.desk_pool.specs.declared.report.Vote.{Vote}
-use Rattle.desk_pool.specs.declared.report.Vote.TheVariants.{Quiet, Spent, NoPlan}
+use Rattle.desk_teams.specs.declared.report.Vote.{Vote}
+use Rattle.desk_teams.specs.declared.report.Vote.TheVariants.{Quiet, Spent, NoPlan}
 use Rattle.desk_tasks.specs.Recover.{recovery_on}
 use Rattle.desk_tasks.specs.Team.{TeamRecovery, team_on, IsTeamWork}
 use Rattle.desk_search.specs.declared.team.Team.{Team}

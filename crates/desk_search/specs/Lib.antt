@@ -1,3 +1,3 @@
-pub mod Brought
+pub mod Taking
 pub mod Running
 pub mod Closing

@@ -7,7 +7,7 @@ ghost use Rattle.turn_book.specs.Passes.{known, seen, tags, IsPassOf};
 ghost use Rattle.desk_core.specs.Turned.{opening_of};
 ghost use Rattle.desk_core.specs.Turned.{is_full};
 ghost use Rattle.desk_pool.specs.Workers.{day_of};
-ghost use Rattle.desk_search.specs.Brought.{HasBrought, HasBroughtAll};
+ghost use Rattle.desk_search.specs.Taking.{HasTaken, HasTakenAll};
 
 use desk_core::{Answer, Book, Event};
 use desk_data::{Batch, NoMem};
@@ -17,8 +17,8 @@ use std::sync::Wait;
 use turn_book::{Pass, Turn};
 
 /// What became of a batch.
-#[derive(Clone, Copy, Debug, PartialEq, Eq)]
-pub enum Brought {
+#[derive(Clone, Copy, PartialEq, Eq)]
+pub enum Intake {
     /// It has an entry.
     Taken,
     /// The journal takes no batch more.
@@ -36,58 +36,58 @@ fn is_full(reply: &Answer) -> bool
 }
 
 /// Has a batch taken, as caller 0. The only error is out of memory, and then the batch has no entry.
-pub(crate) fn bring<R: Wait>(
+pub(crate) fn take_batch<R: Wait>(
     rt: &R,
     alloc: Global,
     turn: &Turn<Book>,
     pass: &mut Pass<Book>,
     batch: &Batch,
-) -> Result<Brought, NoMem>
+) -> Result<Intake, NoMem>
     requires of { IsPassOf opening_of turn.now pass.old }
     requires asked { IsBatch (day_of turn.now).parts batch.now }
     ensures of { IsPassOf opening_of turn.now pass.new }
     ensures tags { tags pass.new ≡ tags pass.old }
     ensures began { IsPrefix (seen pass.old) (seen pass.new) }
-    ensures brought { HasBrought (day_of turn.now) batch.now (known pass.old) (known pass.new) result }
+    ensures taken { HasTaken (day_of turn.now) batch.now (known pass.old) (known pass.new) result }
 {
     let copied = batch.copy(alloc)?;
     let event = Event::Batch(copied);
     let reply = turn.call(rt, alloc, pass, 0, &event)?;
     if is_full(&reply) {
-        Ok(Brought::Full)
+        Ok(Intake::Full)
     } else {
-        Ok(Brought::Taken)
+        Ok(Intake::Taken)
     }
 }
 
 /// Has batches taken one after another, and enters the gate as worker 0 with the number of each, from 1 on, before it. It stops
 /// at the first one that is not taken.
-pub(crate) fn bring_all<R: Wait, G: Gate>(
+pub(crate) fn take_batches<R: Wait, G: Gate>(
     rt: &R,
     alloc: Global,
     turn: &Turn<Book>,
     mut pass: Pass<Book>,
     gate: &G,
     batches: &[Batch],
-) -> (Pass<Book>, Result<Brought, NoMem>)
+) -> (Pass<Book>, Result<Intake, NoMem>)
     requires of { IsPassOf opening_of turn.now pass }
     requires asked { All (IsBatch (day_of turn.now).parts) batches.now }
     ensures of { IsPassOf opening_of turn.now result.0 }
     ensures tags { tags result.0 ≡ tags pass }
     ensures began { IsPrefix (seen pass) (seen result.0) }
-    ensures brought { IfOk result.1 (HasBroughtAll batches.now (known pass) (known result.0)) }
+    ensures taken { IfOk result.1 (HasTakenAll batches.now (known pass) (known result.0)) }
 {
     let mut number: u32 = 1;
     for batch in batches {
         gate.enter(0, number);
         number = number.saturating_add(1);
-        let Ok(came) = bring(rt, alloc, turn, &mut pass, batch) else {
+        let Ok(came) = take_batch(rt, alloc, turn, &mut pass, batch) else {
             return (pass, Err(NoMem));
         };
         match came {
-            Brought::Taken => {}
-            Brought::Full => return (pass, Ok(Brought::Full)),
+            Intake::Taken => {}
+            Intake::Full => return (pass, Ok(Intake::Full)),
         }
     }
-    (pass, Ok(Brought::Taken))
+    (pass, Ok(Intake::Taken))
 }

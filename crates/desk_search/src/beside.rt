@@ -1,18 +1,18 @@
-//! Batches that arrive while the workers make rounds.
+//! Batches that are taken while the workers make rounds.
 
 ghost use Rattle.std.specs.Prelude.{◌≡◌, ◌<◌, true, [], ◌∷◌, List as Items, length, All, vec_len, IfOk, MatchOption};
 ghost use mathlib.Core.List.{IsPrefix};
-ghost use Rattle.day_orders.specs.declared.orders.Batch.{Batch as Taken};
+ghost use Rattle.day_orders.specs.declared.orders.Batch.{Batch as Orders};
 ghost use Rattle.desk_data.specs.Valid.{IsBatch};
 ghost use Rattle.turn_book.specs.Passes.{known, seen, made, tags, IsPassOf};
 ghost use Rattle.desk_core.specs.Turned.{opening_of};
 ghost use Rattle.desk_pool.specs.Workers.{day_of, AreAllShards, CanAllSearch};
 ghost use Rattle.desk_pool.specs.Laps.{HasGained, IsReturned};
 ghost use Rattle.desk_pool.specs.Voted.{IsVoteOf};
-ghost use Rattle.desk_search.specs.Brought.{HasBroughtAll};
+ghost use Rattle.desk_search.specs.Taking.{HasTakenAll};
 ghost use Rattle.desk_search.specs.Running.{LiveSoFar, IsLiveRun, IsTeamRun};
 
-use crate::batches::{Brought, bring, bring_all};
+use crate::batches::{Intake, take_batch, take_batches};
 use crate::searched::Searched;
 use desk_core::Book;
 use desk_data::{Batch, NoMem};
@@ -43,7 +43,7 @@ pub(crate) fn own_rounds<R: Threads + Wait + Sync, G: Gate>(
     ensures ready { CanAllSearch (day_of turn.now) result.0.items (seen result.1) }
     ensures returned { IsReturned (known pass) (known result.1) }
     ensures began { IsPrefix (seen pass) (seen result.1) }
-    ensures gained { HasGained (length (seen pass)) (known pass) (known result.1) workers.items result.0.items }
+    ensures gained { HasGained budget (length (seen pass)) (known pass) (known result.1) workers.items result.0.items }
     ensures voted { IfOk result.2 (IsVoteOf budget (day_of turn.now) (vec_len workers) (seen result.1)) }
 {
     let voted = rounds(
@@ -76,19 +76,19 @@ fn beside<R: Threads + Wait + Sync, G: Gate>(
     requires asked { All (IsBatch (day_of turn.now).parts) batches.now }
     ensures of { IsPassOf opening_of turn.now result.0 }
     ensures returned { IsReturned (known pass) (known result.0) }
-    ensures run { (done : Items Taken) → LiveSoFar (known pass) workers.items done →
+    ensures run { (done : Items Orders) → LiveSoFar budget (known pass) workers.items done →
         IfOk result.1 (IsLiveRun (vec_len workers) budget (day_of turn.now) done batches.now (known result.0)) }
 {
     let mine = turn.split(&mut pass);
-    let ((mine, brought), (workers, mut pass, searched)) = join(
+    let ((mine, taken), (workers, mut pass, searched)) = join(
         rt,
-        || -> (Pass<Book>, Result<Brought, NoMem>)
+        || -> (Pass<Book>, Result<Intake, NoMem>)
             requires of { IsPassOf opening_of turn.now mine }
             requires asked { All (IsBatch (day_of turn.now).parts) batches.now }
             ensures of { IsPassOf opening_of turn.entry.now result.0 }
             ensures tags { tags result.0 ≡ tags mine }
-            ensures brought { IfOk result.1 (HasBroughtAll batches.entry.now (known mine) (known result.0)) }
-        { bring_all(rt, alloc, turn, mine, gate, batches) },
+            ensures taken { IfOk result.1 (HasTakenAll batches.entry.now (known mine) (known result.0)) }
+        { take_batches(rt, alloc, turn, mine, gate, batches) },
         || -> (Vec<Worker>, Pass<Book>, Result<Vote, NoMem>)
             requires some { 0 < vec_len workers }
             requires shards { AreAllShards workers.items }
@@ -99,25 +99,25 @@ fn beside<R: Threads + Wait + Sync, G: Gate>(
             ensures of { IsPassOf opening_of turn.entry.now result.1 }
             ensures ready { CanAllSearch (day_of turn.entry.now) result.0.items (seen result.1) }
             ensures returned { IsReturned (known pass) (known result.1) }
-            ensures gained { HasGained (length (seen pass)) (known pass) (known result.1) workers.items result.0.items }
+            ensures gained { HasGained budget (length (seen pass)) (known pass) (known result.1) workers.items result.0.items }
         { own_rounds(rt, alloc, workers, turn, pass, gate, budget) },
     );
     turn.join(&mut pass, mine);
     if searched.is_err() {
         return (pass, Err(NoMem));
     }
-    let Ok(came) = brought else {
+    let Ok(came) = taken else {
         return (pass, Err(NoMem));
     };
     match came {
-        Brought::Taken => {
+        Intake::Taken => {
             let (_workers, pass, voted) = own_rounds(rt, alloc, workers, turn, pass, gate, budget);
             match voted {
                 Ok(vote) => (pass, Ok(Searched::Voted(vote))),
                 Err(_) => (pass, Err(NoMem)),
             }
         }
-        Brought::Full => (pass, Ok(Searched::Full)),
+        Intake::Full => (pass, Ok(Searched::Full)),
     }
 }
 
@@ -157,12 +157,12 @@ pub(crate) fn live<R: Threads + Wait + Sync, G: Gate>(
     match first_and_others(batches) {
         None => unreachable!(),
         Some((first, others)) => {
-            let Ok(came) = bring(rt, alloc, turn, &mut pass, first) else {
+            let Ok(came) = take_batch(rt, alloc, turn, &mut pass, first) else {
                 return (pass, Err(NoMem));
             };
             match came {
-                Brought::Taken => beside(rt, alloc, workers, turn, pass, gate, others, budget),
-                Brought::Full => (pass, Ok(Searched::Full)),
+                Intake::Taken => beside(rt, alloc, workers, turn, pass, gate, others, budget),
+                Intake::Full => (pass, Ok(Searched::Full)),
             }
         }
     }

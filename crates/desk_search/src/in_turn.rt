@@ -1,4 +1,4 @@
-//! Batches that arrive one after another, each followed by rounds.
+//! Batches that are taken one after another, each followed by rounds.
 
 ghost use Rattle.std.specs.Prelude.{◌≡◌, ◌<◌, [], false, length, All, vec_len, IfOk};
 ghost use Rattle.desk_data.specs.Valid.{IsBatch};
@@ -8,7 +8,7 @@ ghost use Rattle.desk_pool.specs.Workers.{day_of, AreAllShards, CanAllSearch};
 ghost use Rattle.desk_pool.specs.Laps.{IsReturned};
 ghost use Rattle.desk_search.specs.Running.{IsTeamRun};
 
-use crate::batches::{Brought, bring};
+use crate::batches::{Intake, take_batch};
 use crate::beside::own_rounds;
 use crate::searched::Searched;
 use desk_core::Book;
@@ -44,12 +44,12 @@ pub(crate) fn in_turn<R: Threads + Wait + Sync, G: Gate>(
 {
     let mut voted = None;
     for batch in batches {
-        let Ok(came) = bring(rt, alloc, turn, &mut pass, batch) else {
+        let Ok(came) = take_batch(rt, alloc, turn, &mut pass, batch) else {
             return (pass, Err(NoMem));
         };
         match came {
-            Brought::Taken => {}
-            Brought::Full => return (pass, Ok(Searched::Full)),
+            Intake::Taken => {}
+            Intake::Full => return (pass, Ok(Searched::Full)),
         }
         let (ours, after, vote) = own_rounds(rt, alloc, workers, turn, pass, gate, budget);
         workers = ours;

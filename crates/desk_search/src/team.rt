@@ -3,10 +3,13 @@
 ghost use Rattle.std.specs.Prelude.{◌≡◌, ◌<◌, ◌≤◌, [], true, length, All, vec_len, IfOk};
 ghost use Rattle.desk_data.specs.Situation.{fresh_day};
 ghost use Rattle.desk_data.specs.Valid.{IsBatch};
-ghost use Rattle.turn_book.specs.Passes.{known, seen, made, IsPassOf};
+ghost use Rattle.turn_book.specs.Histories.{items_at};
+ghost use Rattle.turn_book.specs.Passes.{first_book, known, seen, made, name, out, IsPassOf};
 ghost use Rattle.desk_core.specs.Turned.{opening_of};
+ghost use Rattle.desk_teams.specs.declared.report.Vote.{Vote as KnownVote};
 ghost use Rattle.desk_pool.specs.Workers.{day_of, AreAllShards, CanAllSearch};
 ghost use Rattle.desk_pool.specs.Laps.{IsReturned};
+ghost use Rattle.desk_search.specs.declared.searched.Searched.TheVariants as searched;
 ghost use Rattle.desk_search.specs.Running.{IsTeamRun};
 ghost use Rattle.desk_search.specs.Closing.{end_of, IsTeamBook};
 
@@ -24,13 +27,13 @@ use std::thread::Threads;
 use turn_book::{Pass, Turn};
 
 /// A team of workers.
-#[derive(Clone, Copy, Debug)]
+#[derive(Clone, Copy)]
 pub struct Team {
     /// How many search side by side, 1 to 64.
     pub workers: u32,
-    /// After how many accepted moves since the last batch a worker proposes no more, 1 to 100,000.
+    /// After how many accepted moves since the last batch a worker proposes no more. With 0 none proposes.
     pub moves: u32,
-    /// Whether the batches but the first arrive while they search.
+    /// Whether the batches but the first are taken while they search.
     pub live: bool,
 }
 
@@ -81,6 +84,37 @@ fn search<R: Threads + Wait + Sync, G: Gate>(
     }
 }
 
+// Closes the turn after a search of a team for these batches. The book's journal is all that the pass had seen by then: the entry
+// of each call that the desk and the workers made, once, and no other.
+fn close_day(
+    turn: Turn<Book>,
+    pass: Pass<Book>,
+    batches: &[Batch],
+    team: Team,
+    came: Searched,
+) -> TeamBook
+    requires of { IsPassOf opening_of turn pass }
+    requires first { name pass ≡ [] }
+    requires all { out pass ≡ [] }
+    requires empty { (first_book turn).journal ≡ [] }
+    requires few { length batches.now ≤ 1001 }
+    requires run { IsTeamRun team.workers team.moves team.live (day_of turn) batches.now (known pass) came }
+    ensures journal { result.book.journal ≡ seen pass }
+    ensures made { result.book.journal ≡ items_at (seen pass) (made pass) }
+    ensures day { IsTeamBook (day_of turn) batches.now team result.book result.ended }
+    ensures ended { (vote : KnownVote) → came ≡ searched.Voted vote → result.ended ≡ end_of vote }
+{
+    let book = turn.close(pass);
+    let _legal = book.entries();
+    match came {
+        Searched::Voted(vote) => {
+            let ended = end_of(vote);
+            TeamBook { book, ended }
+        }
+        Searched::Full => unreachable!(),
+    }
+}
+
 /// Opens the book of a day, has its batches, 1 to 1,001, taken and searched after by a team, and closes the turn. The only error
 /// is out of memory.
 pub(crate) fn search_day<R: Threads + Wait + Sync, G: Gate>(
@@ -105,16 +139,9 @@ pub(crate) fn search_day<R: Threads + Wait + Sync, G: Gate>(
         Err(_) => return Err(NoMem),
     };
     let (pass, searched) = search(rt, alloc, workers, &turn, pass, gate, batches, team);
-    let book = turn.close(pass);
-    let _legal = book.entries();
     let Ok(came) = searched else {
+        let _book = turn.close(pass);
         return Err(NoMem);
     };
-    match came {
-        Searched::Voted(vote) => {
-            let ended = end_of(vote);
-            Ok(TeamBook { book, ended })
-        }
-        Searched::Full => unreachable!(),
-    }
+    Ok(close_day(turn, pass, batches, team, came))
 }

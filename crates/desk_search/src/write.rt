@@ -17,8 +17,8 @@ use std::alloc::Global;
 use std::sync::Wait;
 use std::thread::Threads;
 
-/// Takes these batches on a day, 1 to 1,001 of them, has a team search for a cheaper plan after each, or while they
-/// arrive, and writes the rotations and the itineraries of the last plan where there is one, the journal, and
+/// Takes these batches on a day, 1 to 1,001 of them, has a team search for a cheaper plan after each, or while it takes
+/// them, and writes the rotations and the itineraries of the last plan where there is one, the journal, and
 /// the report.
 ///
 /// It ends with `Done` or `NoPlan` when all is written. A write that fails ends it with that fault, and

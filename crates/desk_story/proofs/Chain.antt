@@ -17,18 +17,18 @@ use Rattle.desk_runs.specs.declared.refusal.Refusal.{Refusal}
 use Rattle.desk_runs.specs.Reading.{IsRead, IsUnread, ReadsAmong, StopsAt}
 use Rattle.desk_story.specs.Reading.{are_in_order, StopsAtFault, GivesRead, HasReadCause}
 use Rattle.desk_story.specs.Facts.{as_rows}
-use Rattle.desk_story.proofs.Orders.{behind, refused_among, stands-first}
+use Rattle.desk_story.proofs.Orders.{numbered_after, refused_among, stands-first}
 
 -- ---- a file and a list of files
 
 first_not_rest : (g : File) (files : List File) → are_in_order (g ∷ files) ≡ true → is_among g files ≡ false
 first_not_rest g files order = elim (cases_Bool (is_among g files)) [
-  | inl t ↦ absurd (omega (arith, behind g g files order t))
+  | inl t ↦ absurd (omega (arith, numbered_after g g files order t))
   | inr t ↦ t
 ]
 
 rest_not_first : (f g : File) (files : List File) → are_in_order (g ∷ files) ≡ true → is_among f files ≡ true → f ≢ g
-rest_not_first f g files order among same = let lt : file_number g < file_number f = behind f g files order among in let e : file_number f ≡ file_number g = ap file_number same in omega (arith, lt, e)
+rest_not_first f g files order among same = let lt : file_number g < file_number f = numbered_after f g files order among in let e : file_number f ≡ file_number g = ap file_number same in omega (arith, lt, e)
 
 -- ---- what is reported
 
@@ -120,7 +120,7 @@ unread_both g before mid now first rest = record { left = rest.left ∙ first.le
 not_before : (f r : File) (files : List File) → are_in_order (f ∷ files) ≡ true → is_among r (f ∷ files) ≡ true → file_number f ≤ file_number r
 not_before f r files order among = elim (among_either r f files among) [
   | inl same ↦ let e : file_number r ≡ file_number f = ap file_number same in omega (arith, e)
-  | inr rest ↦ let lt : file_number f < file_number r = behind r f files order rest in omega (arith, lt)
+  | inr rest ↦ let lt : file_number f < file_number r = numbered_after r f files order rest in omega (arith, lt)
 ]
 
 -- where the first could not be taken
@@ -135,7 +135,7 @@ pub order-rest : (f : File) (files : List File) (before mid now : Outside) (x : 
 unfolding read_all
 order-rest f files before mid now x rows more r order only is rest e g lt =
     let refused : read_all files x more ≡ Err r = rw is at e in
-    let after : file_number f < file_number r.file = behind r.file f files order (refused_among files x more r refused) in
+    let after : file_number f < file_number r.file = numbered_after r.file f files order (refused_among files x more r refused) in
     unread_both g before mid now (unread_first f g before mid only (omega (arith, after, lt))) (rest refused g lt)
 
 pub stops-first : (f : File) (before mid : Outside) (e : StoryFault) → ReadsOnly f before mid → HasReadCause (f ∷ []) before mid e → StopsAtFault before mid e
@@ -149,6 +149,6 @@ stops-first f before mid fault.Memory only cause = tt
 pub stops-rest : (f : File) (files : List File) (before mid now : Outside) (e : StoryFault) → are_in_order (f ∷ files) ≡ true → ReadsOnly f before mid → HasReadCause files mid now e → StopsAtFault mid now e → StopsAtFault before now e
 stops-rest f files before mid now (fault.Refused r) order only cause h = tt
 stops-rest f files before mid now (fault.ReadFault k) order only cause h = λ g lt.
-    let after : file_number f < file_number k = behind k f files order cause.0 in
+    let after : file_number f < file_number k = numbered_after k f files order cause.0 in
     unread_both g before mid now (unread_first f g before mid only (omega (arith, after, lt))) (h g lt)
 stops-rest f files before mid now fault.Memory order only cause h = tt

@@ -29,8 +29,8 @@ all_after n f (g ∷ files) all among =
     ]
 
 -- a file among those after another one has a greater place
-pub behind : (f g : File) (files : List File) → are_in_order (g ∷ files) ≡ true → is_among f files ≡ true → file_number g < file_number f
-behind f g files order among =
+pub numbered_after : (f g : File) (files : List File) → are_in_order (g ∷ files) ≡ true → is_among f files ≡ true → file_number g < file_number f
+numbered_after f g files order among =
     all_after (file_number g) f files (and_left (list_all (λ h. nat_lt (file_number g) (file_number h)) files) (are_in_order files) order) among
 
 -- a refusal is reported of the file that is read
@@ -59,7 +59,7 @@ refused_among (g ∷ files) x rows r e = first_refused g files x rows r (read_as
 -- where the first of the files can't be read, no file before it is refused
 stands : (f g : File) (files : List File) (x : Inputs) (more : Rows) (read : Read) → read_all files x more ≡ read → file_number f ≡ file_number g → are_in_order (g ∷ files) ≡ true → StandsFirst f read
 stands f g files x more (Ok rows) is same order = tt
-stands f g files x more (Err r) is same order = omega (arith, behind r.file g files order (refused_among files x more r is), same)
+stands f g files x more (Err r) is same order = omega (arith, numbered_after r.file g files order (refused_among files x more r is), same)
 
 first_stands : (f g : File) (files : List File) (x : Inputs) (rows : Rows) (read : Read) → read_as g (x g) rows ≡ read → file_number f ≡ file_number g → are_in_order (g ∷ files) ≡ true → StandsFirst f read → StandsFirst f (read_all (g ∷ files) x rows)
 unfolding read_all

@@ -28,10 +28,10 @@ use Rattle.desk_story.specs.Reading.{GivesRead, NeedsNoFault}
 
 -- ---- a fault ends the reading, whatever would come after it
 
-pub fault-behind : {V W X Y : Type 0} (view : V → X) (other : W → Y) (e : StoryFault) (read : Result X Refusal) (rest : X → Result Y Refusal) → NeedsNoFault e → GivesRead view (Err e) read → GivesRead other (Err e) (read >>= rest)
-fault-behind view other (fault.Refused r) read rest none gives = rw gives refl
-fault-behind view other (fault.ReadFault f) read rest none gives = absurd none
-fault-behind view other fault.Memory read rest none gives = tt
+pub fault-ends : {V W X Y : Type 0} (view : V → X) (other : W → Y) (e : StoryFault) (read : Result X Refusal) (rest : X → Result Y Refusal) → NeedsNoFault e → GivesRead view (Err e) read → GivesRead other (Err e) (read >>= rest)
+fault-ends view other (fault.Refused r) read rest none gives = rw gives refl
+fault-ends view other (fault.ReadFault f) read rest none gives = absurd none
+fault-ends view other fault.Memory read rest none gives = tt
 
 -- ---- texts, one after another
 
@@ -55,7 +55,7 @@ pub texts-fault : (rows : InputRows) (first : Rows) (left rest texts : List File
 unfolding read_texts
 texts-fault rows first left rest texts t e is none gives h =
     subst (λ (read : Result Rows Refusal). GivesRead as_rows (Err e) read) (ap (λ (ts : List FileText). read_texts ts (as_rows rows)) (sym is) ∙ h.exact)
-    (fault-behind as_rows as_rows e (read_as t.0 t.1 (as_rows rows)) (read_texts rest) none gives)
+    (fault-ends as_rows as_rows e (read_as t.0 t.1 (as_rows rows)) (read_texts rest) none gives)
 
 pub texts-end : (rows : InputRows) (first : Rows) (items : List (File × Vec ℕ Global)) (i : ℕ) (texts : List FileText) → length items ≤ i → Continues rows (named_texts (drop i items)) first texts → read_texts texts first ≡ Ok (as_rows rows)
 unfolding read_texts
@@ -88,7 +88,7 @@ trial-read seed size texts first rows answer is none read gives =
 pub trial-unread : (seed size : ℕ) (texts : List FileText) (first : Rows) (e : StoryFault) → texts ≡ generated seed size → first ≡ no_rows → NeedsNoFault e → GivesRead as_rows (Err e) (read_texts texts first) → GivesRead as_recovery (Err e) (trial_of seed size)
 unfolding trial_of
 trial-unread seed size texts first e is none faultless gives =
-    fault-behind as_rows as_recovery e (read_all day_files (text_of seed size) no_rows) (recovery_of_rows usual_moves) faultless
+    fault-ends as_rows as_recovery e (read_all day_files (text_of seed size) no_rows) (recovery_of_rows usual_moves) faultless
     (subst (λ (read : Result Rows Refusal). GivesRead as_rows (Err e) read) (made_first seed size texts first is none) gives)
 
 -- ---- the batches of a day: there is one at least

@@ -45,9 +45,9 @@ abbrev pub refusal : File → Cause → ℕ → Refusal
 refusal file cause line = record { file = file; line = line; cause = cause }
 
 -- what was read, or why it was not, in other words
-abbrev pub or_refused : {A Why Told : Type 0} → (Why → Told) → Result A Why → Result A Told
-or_refused told (Ok x) = Ok x
-or_refused told (Err why) = Err (told why)
+abbrev pub or_refused : {A Why Given : Type 0} → (Why → Given) → Result A Why → Result A Given
+or_refused given (Ok x) = Ok x
+or_refused given (Err why) = Err (given why)
 
 -- a line with its cause, and the file that it is of
 abbrev pub in_file : File → ℕ × Cause → Refusal

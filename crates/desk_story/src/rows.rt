@@ -30,7 +30,7 @@ pub(crate) struct InputRows {
     pub plan_itineraries: Vec<u8>,
 }
 
-/// In one call, so that whoever lets rows go does not prove anew that each list of them may go.
+/// Dropped in one call, so that a function that owns one proves it once, and not part by part.
 impl Drop for InputRows {
     fn drop(self) {
         let InputRows {

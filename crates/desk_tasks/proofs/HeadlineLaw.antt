@@ -76,9 +76,9 @@ tells before now I remarks h w =
     let Reported : Type 0 = Appends before.sink.written now.sink.written (report_text I remarks h) in
     let whole : ArePut (λ f. ⊥) Reported (files_are I h) before.folder now.folder = subst (λ (t : Texts). IsWritten before now t) (texts_are I remarks h) w in
     let rotations : HasAll (rotations_of I h) before.folder now.folder = whole-first Reported (rotations_of I h) (after_rotations I h) before.folder now.folder whole in
-    let behind : ArePut (λ f. ⊥) Reported (after_rotations I h) before.folder now.folder = whole-rest Reported (rotations_of I h) (after_rotations I h) before.folder now.folder whole in
-    let itineraries : HasAll (itineraries_of I h) before.folder now.folder = whole-first Reported (itineraries_of I h) (after_itineraries I h) before.folder now.folder behind in
-    let last : ArePut (λ f. ⊥) Reported (after_itineraries I h) before.folder now.folder = whole-rest Reported (itineraries_of I h) (after_itineraries I h) before.folder now.folder behind in
+    let later : ArePut (λ f. ⊥) Reported (after_rotations I h) before.folder now.folder = whole-rest Reported (rotations_of I h) (after_rotations I h) before.folder now.folder whole in
+    let itineraries : HasAll (itineraries_of I h) before.folder now.folder = whole-first Reported (itineraries_of I h) (after_itineraries I h) before.folder now.folder later in
+    let last : ArePut (λ f. ⊥) Reported (after_itineraries I h) before.folder now.folder = whole-rest Reported (itineraries_of I h) (after_itineraries I h) before.folder now.folder later in
     let S = end_of I h in
     record {
       journal = whole-first Reported (journal_of I h) [] before.folder now.folder last;
@@ -159,7 +159,7 @@ team-recovers t w is = record {
   legal = is.legal;
   promises = promises t.recovery.day w.history is.legal;
   teamwork = is.teamwork;
-  refusals = λ k entry at p refused. refused-between t.workers t.recovery.day w.history k entry is.legal at p refused;
+  refusals = λ k entry at p refused. refused-between t.workers t.recovery.moves t.recovery.day w.history k entry is.legal at p refused;
   ended = is.ended;
 }
 

@@ -93,11 +93,11 @@ pub record TeamRecovers (t : TeamRecovery) (h : List Entry) (reported : Option S
   pub legal : IsLegal (opening t.recovery.day) h
   pub promises : KeepsPromises t.recovery.day h
   -- its batches are those that were read, in their order, each once and from the desk. Each other entry is the proposal of a worker: the first better
-  -- move of its shard, after a beginning of the history that has all its earlier entries. Each batch but the first waits until the search before
-  -- it has stopped, unless batches arrive live; and at the end the search has stopped
+  -- move of its shard, after a beginning of the history that has all its earlier entries and is not spent. Each batch but the first waits until the
+  -- search before it has stopped, unless they are taken live; and at the end the search has stopped
   pub teamwork : IsTeamwork t.workers t.recovery.moves t.live (opening t.recovery.day) t.recovery.batches h
   -- a proposal is refused only where another change stands between what its worker saw and its entry
-  pub refusals : (k : ℕ) (entry : Entry) → slice_get h k ≡ Some entry → (p : IsProposal t.workers (opening t.recovery.day) h k entry) → is_accepted entry.answer ≡ false → ChangesBetween h p.saw k entry.caller
+  pub refusals : (k : ℕ) (entry : Entry) → slice_get h k ≡ Some entry → (p : IsProposal t.workers t.recovery.moves (opening t.recovery.day) h k entry) → is_accepted entry.answer ≡ false → ChangesBetween h p.saw k entry.caller
   -- what the report says of the end of the search
   pub ended : IsTeamEnd t.recovery.day t.recovery.moves h reported
 

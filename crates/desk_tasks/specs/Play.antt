@@ -47,7 +47,7 @@ batch_entries h = filter (λ entry. is_batch entry.event) h
 
 -- the line of a batch, by its number: what was answered to it
 abbrev pub batch_line : Situation → ℕ → Answer → List ℕ
-batch_line I number told = line (codes "batch " ++ decimal number ++ codes " " ++ answer_text I told)
+batch_line I number given = line (codes "batch " ++ decimal number ++ codes " " ++ answer_text I given)
 
 -- a line for each batch of a history, numbered from 0
 unfoldable pub batch_lines : Situation → List Entry → List ℕ

@@ -49,7 +49,7 @@ tried r = reported_alone (recovered r)
 -- what is reported of the last search after a history: its budget was spent exactly where there is a plan and as many proposals were
 -- accepted since the last batch as may be, or the journal takes no more; and it ended quiet exactly where neither is so and no
 -- move near the plan is better
-pub record IsSearchEnd (I : Situation) (most : ℕ) (h : List Entry) (told : Option SearchEnd) : Type 0 where
-  pub budget : told ≡ Some ended.Budget ↔ ((state (opening I) h).broken ≡ None) × (is_spent most h ≡ true)
-  pub quiet : told ≡ Some ended.Quiet ↔ IsQuiet (state (opening I) h) × (is_spent most h ≡ false)
-  pub unreported : told ≡ None ↔ IsSome (state (opening I) h).broken
+pub record IsSearchEnd (I : Situation) (most : ℕ) (h : List Entry) (given : Option SearchEnd) : Type 0 where
+  pub budget : given ≡ Some ended.Budget ↔ ((state (opening I) h).broken ≡ None) × (is_spent most h ≡ true)
+  pub quiet : given ≡ Some ended.Quiet ↔ IsQuiet (state (opening I) h) × (is_spent most h ≡ false)
+  pub unreported : given ≡ None ↔ IsSome (state (opening I) h).broken

@@ -12,7 +12,7 @@ use Rattle.desk_runs.specs.Outcome.{Outcome}
 use Rattle.desk_tasks.specs.Play.{search_remarks, history_outcome}
 use Rattle.desk_tasks.specs.Recover.{Recovery}
 
--- a day, its batches and how many proposals may be accepted after each; how many workers search; and whether the batches but the first arrive while they do
+-- a day, its batches and how many proposals may be accepted after each; how many workers search; and whether the batches but the first are taken while they do
 pub record TeamRecovery : Type 0 where
   pub recovery : Recovery
   pub workers : ℕ
@@ -41,7 +41,7 @@ pub record IsTeamEnd (I : Situation) (most : ℕ) (h : List Entry) (reported : O
 pub record IsTeamWork (t : TeamRecovery) (w : Work) : Type 0 where
   -- the history is legal from the opening of the day
   pub legal : IsLegal (opening t.recovery.day) w.history
-  -- the desk takes the batches, and each proposal is the first better move of its worker's shard as that saw the history
+  -- the desk takes the batches, and each proposal is the first better move of its worker's shard as that saw the history, which was not spent
   pub teamwork : IsTeamwork t.workers t.recovery.moves t.live (opening t.recovery.day) t.recovery.batches w.history
   pub ended : IsTeamEnd t.recovery.day t.recovery.moves w.history w.ended
 

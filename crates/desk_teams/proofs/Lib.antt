@@ -1,3 +1,4 @@
 pub mod TrailLaws
 pub mod TeamLaws
 pub mod RoomLaws
+pub mod VoteLaws

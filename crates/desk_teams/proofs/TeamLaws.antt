@@ -1,11 +1,10 @@
 -- Changes of a history, and searches that have stopped.
-use Rattle.std.proofs.Common.{◌≡◌, ◌≢◌, ℕ, zero, suc, ◌+◌, ◌-◌, ◌<◌, ◌≤◌, Bool, true, false, cond, List, [], ◌∷◌, ◌++◌, Some, None, length, take, slice_get, refl, sym, ap, ◌∙◌, subst, arith, inl, inr, ⊎_elim, ◌⊎◌}
+use Rattle.std.proofs.Common.{◌≡◌, ℕ, zero, suc, ◌+◌, ◌-◌, ◌<◌, ◌≤◌, Bool, true, false, cond, List, [], ◌∷◌, ◌++◌, Some, None, length, take, slice_get, refl, sym, ap, ◌∙◌, subst, arith, inl, inr, ⊎_elim, ◌⊎◌}
 use Rattle.std.specs.Prelude.{IsSome, reverse, take_while, count_by, not}
 use Rattle.std.proofs.lemmas.Bool.{cases_Bool, true≢false}
 use Rattle.std.proofs.lemmas.Bool.Decides.{nat_tests}
 use Rattle.std.proofs.lemmas.List.{reverse-append, length-take-le}
 use Rattle.std.proofs.lemmas.List.Sums.{sum_by-append, sum_by-cons, take_while-cons}
-use Rattle.plan_moves.specs.declared.moves.Move.{Move}
 use Rattle.desk_data.specs.Situation.{Situation}
 use Rattle.desk_model.specs.declared.answer.Answer.{Answer}
 use Rattle.desk_model.specs.declared.answer.Event.{Event}
@@ -15,7 +14,7 @@ use Rattle.desk_model.specs.States.{State, opening, answer}
 use Rattle.desk_model.specs.Histories.{state, IsLegal, is_batch, is_accepted, is_change, changes, since_batch, accepted_since_batch}
 use Rattle.desk_model.specs.Promises.{state_at}
 use Rattle.desk_model.proofs.HistoryLaws.{promises, take-next, entry_at}
-use Rattle.near_moves.specs.Descent.{is_better, better, first_better, IsQuiet, is_spent}
+use Rattle.near_moves.specs.Descent.{is_better, first_better, IsQuiet, is_spent}
 use Rattle.near_moves.proofs.ShardLaws.{none-better}
 use Rattle.near_moves.proofs.DescentLaws.{find-passes, accepted-better}
 use Rattle.desk_teams.specs.Trails.{IsFirstBetter}
@@ -142,8 +141,8 @@ met n S T h saw entry first same told =
     let accepted : is_accepted (answer U (event.Move first.move)) ≡ true = accepted-better U first.move ∙ rw (first.planned, better) refl in
     ap is_accepted (told ∙ ap (answer T) first.proposed ∙ ap (λ (V : State). answer V (event.Move first.move)) (sym same)) ∙ accepted
 
-pub refused-between : (n : ℕ) (I : Situation) (h : List Entry) (k : ℕ) (entry : Entry) → IsLegal (opening I) h → slice_get h k ≡ Some entry → (p : IsProposal n (opening I) h k entry) → is_accepted entry.answer ≡ false → ChangesBetween h p.saw k entry.caller
-refused-between n I h k entry legal at p refused =
+pub refused-between : (n most : ℕ) (I : Situation) (h : List Entry) (k : ℕ) (entry : Entry) → IsLegal (opening I) h → slice_get h k ≡ Some entry → (p : IsProposal n most (opening I) h k entry) → is_accepted entry.answer ≡ false → ChangesBetween h p.saw k entry.caller
+refused-between n most I h k entry legal at p refused =
     let low = p.before in
     let within = get-below h k entry at in
     let e : p.saw + (k - p.saw) ≡ k = omega (arith, low) in
@@ -151,7 +150,7 @@ refused-between n I h k entry legal at p refused =
     (λ (same : changes (take p.saw h) ≡ changes (take (p.saw + (k - p.saw)) h)).
     let equal : changes (take p.saw h) ≡ changes (take k h) = same ∙ ap (λ (m : ℕ). changes (take m h)) e in
     let there : state_at I h p.saw ≡ state_at I h k = (promises I h legal).same p.saw k low (omega (arith, within)) equal in
-    absurd (true≢false (sym (met n (opening I) (state_at I h k) h p.saw entry p.first there (legal k entry at).told) ∙ refused)))
+    absurd (true≢false (sym (met n (opening I) (state_at I h k) h p.saw entry p.first there (legal k entry at).answered) ∙ refused)))
     (λ (c : IsChangeIn h p.saw (p.saw + (k - p.saw))).
     let from = c.from in
     let to = c.to in

@@ -1,13 +1,13 @@
 -- Trails and longer histories.
-use Rattle.std.proofs.Common.{◌≡◌, ℕ, zero, suc, ◌+◌, ◌-◌, ◌<◌, ◌≤◌, List, [], ◌∷◌, ◌++◌, Some, length, slice_get, refl, sym, ap, ◌∙◌, subst, arith, inl, inr, ⊎_elim, ◌⊎◌}
-use Rattle.std.proofs.lemmas.List.{take-append-le}
+use Rattle.std.proofs.Common.{◌≡◌, ℕ, zero, suc, ◌-◌, ◌<◌, ◌≤◌, false, List, [], ◌∷◌, ◌++◌, Some, length, slice_get, refl, sym, ap, ◌∙◌, subst, arith, inl, inr, ⊎_elim, ◌⊎◌, length-append}
+use Rattle.std.proofs.lemmas.List.{take_all, take-append-le}
 use mathlib.Core.List.{IsPrefix}
 use Rattle.desk_model.specs.declared.answer.Entry.{Entry}
 use Rattle.desk_model.specs.States.{State}
 use Rattle.desk_model.specs.Histories.{state}
-use Rattle.near_moves.specs.Descent.{first_better}
+use Rattle.near_moves.specs.Descent.{first_better, is_spent}
 use Rattle.desk_teams.specs.declared.trail.Trail.{Trail}
-use Rattle.desk_teams.specs.Trails.{IsFirstBetter, IsTrueItem, IsTrueTrail}
+use Rattle.desk_teams.specs.Trails.{IsFirstBetter, IsTrueItem, IsTrueTrail, IsInBudget}
 
 -- ---- places of lists
 
@@ -90,3 +90,20 @@ trail-snoc number n S trail h t is item above = record {
       (get-snoc trail t i u at))
       (get-snoc trail t j v there);
 }
+
+-- ---- budgets
+
+pub budget-longer : (most : ℕ) (h g : List Entry) (t : Trail) → IsPrefix h g → IsInBudget most h t → IsInBudget most g t
+budget-longer most h g t more is =
+    let low = is.within in
+    subst (λ (whole : List Entry). IsInBudget most whole t) more.1 (record {
+      within = omega (arith, low, length-append h more.0);
+      unspent = ap (is_spent most) (take-append-le t.saw h more.0 low) ∙ is.unspent;
+    })
+
+-- what was found after all of a history that is not spent
+pub budget-seen : (most : ℕ) (saw g : List Entry) (t : Trail) → IsPrefix saw g → t.saw ≡ length saw → is_spent most saw ≡ false → IsInBudget most g t
+budget-seen most saw g t more at unspent = budget-longer most saw g t more (record {
+  within = omega (arith, at);
+  unspent = ap (is_spent most) (take_all t.saw saw (omega (arith, at))) ∙ unspent;
+})

@@ -68,7 +68,7 @@ impl<T: Drop> From<AllocFailed<T>> for ReadFault {
 }
 
 /// Why a line gave no row.
-#[derive(Clone, Copy, Debug, PartialEq, Eq)]
+#[derive(Clone, Copy, PartialEq, Eq)]
 pub enum RowFault {
     /// The line is refused.
     Refused(Cause),

@@ -50,11 +50,11 @@ fn first_field(line: &[u8]) -> Option<(&[u8], &[u8])>
     ensures fit { IfSome result (λ parts. list_all is_text parts.1.now ≡ true) }
 {
     let mut rest = line;
-    while let Some((field, behind)) = cut_at_blank(rest) {
+    while let Some((field, after)) = cut_at_blank(rest) {
         if !field.is_empty() {
-            return Some((field, behind));
+            return Some((field, after));
         }
-        rest = behind;
+        rest = after;
     }
     if rest.is_empty() {
         None

@@ -41,7 +41,7 @@ pub(crate) fn cut(bytes: &[u8], at: u8) -> Option<(&[u8], &[u8])>
 
 /// The place of the first LF, which in a text is many bytes on.
 #[inline]
-fn place_of_line_feed(bytes: &[u8]) -> Option<usize>
+fn line_feed_place(bytes: &[u8]) -> Option<usize>
     ensures { result ≡ position (λ byte. byte == line_feed) bytes.now }
 {
     memchr(LINE_FEED, bytes)
@@ -53,7 +53,7 @@ fn cut_line(bytes: &[u8]) -> Option<(&[u8], &[u8])>
     ensures exact { option_map (λ parts. (parts.0.now, parts.1.now)) result ≡ cut line_feed bytes.now }
     ensures size { IfSome result (λ parts. length parts.0.now + length parts.1.now + 1 ≡ length bytes.now) }
 {
-    let place = place_of_line_feed(bytes)?;
+    let place = line_feed_place(bytes)?;
     Some(parts_at(bytes, place))
 }
 

@@ -33,7 +33,7 @@ pub fn date_text(day: u32) -> [u8; 8]
     ]
 }
 
-/// The text of a day, and the day: the days that a file names one after another are mostly the same.
+/// A day and its text, kept from one call to the next: a file mostly names one day many times in a row.
 #[derive(Clone, Copy)]
 pub struct LastDate {
     day: u32,

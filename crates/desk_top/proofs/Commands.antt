@@ -136,7 +136,7 @@ plain-work (command_is.Trial seed size) x t none e = let r = tried_task seed siz
 -- a task that is another one
 done_as : (work : Work) (c : Command) (before now : World) (x : Inputs) (code : ℕ) (t : Task) (done : IsDone work c before now x code) → done.task ≡ t → (task_of c x ≡ Ok t) × (code ≡ (outcome_at work t).status) × IsWritten before now (outcome_at work t).texts
 done_as work c before now x code t done is = (
-  subst (λ (t : Task). task_of c x ≡ Ok t) is done.told,
+  subst (λ (t : Task). task_of c x ≡ Ok t) is done.sets,
   subst (λ (t : Task). code ≡ (outcome_at work t).status) is done.status,
   subst (λ (t : Task). IsWritten before now (outcome_at work t).texts) is done.written,
 )
@@ -145,10 +145,10 @@ done_as work c before now x code t done is = (
 
 pub replayed : (work : Work) (before now : World) (x : Inputs) (code : ℕ) → IsDone work command_is.Replay before now x code → IsReplayed before now x
 replayed work before now x code done =
-    let story = replay_task x done.task done.told in
+    let story = replay_task x done.task done.sets in
     let parts = done_as work command_is.Replay before now x code (play story.0) done story.1 in
     let held = has-headline before now story.0 (subst IsSound story.1 done.sound.0) parts.2 in
-    record { story = story.0; told = parts.0; history = held.history; headline = held.headline }
+    record { story = story.0; sets = parts.0; history = held.history; headline = held.headline }
 
 -- ---- recover and trial
 
@@ -168,21 +168,21 @@ tried_status r = refl
 
 pub recovered-day : (work : Work) (before now : World) (moves : ℕ) (x : Inputs) (code : ℕ) → IsDone work (command_is.Recover 0 moves false) before now x code → IsRecovered before now moves x code
 recovered-day work before now moves x code done =
-    let r = recovery_task 0 moves false x done.task done.told in
+    let r = recovery_task 0 moves false x done.task done.sets in
     let parts = done_as work (command_is.Recover 0 moves false) before now x code (recover r.0) done r.1 in
     let held = has-recovered before now r.0 (subst IsSound r.1 done.sound.0) parts.2 in
-    record { recovery = r.0; told = parts.0; history = held.history; status = parts.1 ∙ recovered_status r.0 held.history held.recovers.exact; recovers = held.recovers; written = held.written }
+    record { recovery = r.0; sets = parts.0; history = held.history; status = parts.1 ∙ recovered_status r.0 held.history held.recovers.exact; recovers = held.recovers; written = held.written }
 
 pub recovered-by-team : (work : Work) (before now : World) (workers moves : ℕ) (live : Bool) (x : Inputs) (code : ℕ) → 1 ≤ workers → IsDone work (command_is.Recover workers moves live) before now x code → IsRecoveredByTeam before now workers moves live x code
 recovered-by-team work before now workers moves live x code some done =
-    let r = recovery_task workers moves live x done.task done.told in
+    let r = recovery_task workers moves live x done.task done.sets in
     let t = team_on r.0 workers live in
     let is : done.task ≡ team t = r.1 ∙ by_team workers live r.0 some in
     let parts = done_as work (command_is.Recover workers moves live) before now x code (team t) done is in
     let made : IsTeamWork t work = (subst (IsSoundAt work) is done.sound).1 in
     record {
       recovery = r.0;
-      told = parts.0;
+      sets = parts.0;
       work = work;
       status = parts.1 ∙ history_status r.0.day (search_remarks work.ended) work.history;
       headline = has-team-recovered before now t work made parts.2;
@@ -190,10 +190,10 @@ recovered-by-team work before now workers moves live x code some done =
 
 pub tried-day : (work : Work) (before now : World) (seed size : ℕ) (x : Inputs) (code : ℕ) → IsDone work (command_is.Trial seed size) before now x code → IsTried before now seed size code
 tried-day work before now seed size x code done =
-    let r = tried_task seed size x done.task done.told in
+    let r = tried_task seed size x done.task done.sets in
     let parts = done_as work (command_is.Trial seed size) before now x code (trial r.0) done r.1 in
     let held = has-tried before now r.0 (subst IsSound r.1 done.sound.0) parts.2 in
-    record { recovery = r.0; told = asked_as_recover seed size r.0 r.2; history = held.history; status = parts.1 ∙ tried_status r.0 ∙ recovered_status r.0 held.history held.recovers.exact; recovers = held.recovers; reported = held.reported }
+    record { recovery = r.0; sets = asked_as_recover seed size r.0 r.2; history = held.history; status = parts.1 ∙ tried_status r.0 ∙ recovered_status r.0 held.history held.recovers.exact; recovers = held.recovers; reported = held.reported }
 
 -- ---- check
 
@@ -207,9 +207,9 @@ verdict_reported before now j h = h
 
 pub checked : (work : Work) (before now : World) (x : Inputs) (code : ℕ) → IsDone work command_is.Check before now x code → IsChecked before now x code
 checked work before now x code done =
-    let j = check_task x done.task done.told in
+    let j = check_task x done.task done.sets in
     let parts = done_as work command_is.Check before now x code (judge j.0) done j.1 in
-    record { judged = j.0; told = parts.0; status = parts.1 ∙ verdict_status j.0; reported = verdict_reported before now j.0 parts.2 }
+    record { judged = j.0; sets = parts.0; status = parts.1 ∙ verdict_status j.0; reported = verdict_reported before now j.0 parts.2 }
 
 -- ---- gen
 
@@ -219,5 +219,5 @@ generated_status seed size = refl
 
 pub generated : (work : Work) (before now : World) (seed size : ℕ) (x : Inputs) (code : ℕ) → IsDone work (command_is.Gen seed size) before now x code → IsGenerated before now seed size code
 generated work before now seed size x code done =
-    let parts = done_as work (command_is.Gen seed size) before now x code (generate seed size) done (gen_task seed size x done.task done.told) in
+    let parts = done_as work (command_is.Gen seed size) before now x code (generate seed size) done (gen_task seed size x done.task done.sets) in
     record { status = parts.1 ∙ generated_status seed size; written = parts.2 }

@@ -68,9 +68,9 @@ alone_of (input.Generate seed size) h none = refl
 pub obeyed-task : (c : Command) (before mid now : Outside) (sink sink' : SinkSide) (t : InputTask) (how : Ending) → ReadsAmong (files_read c) before mid → InOrder plain c before mid → AreRead (files_read c) before mid
     → ((x : Inputs) → Tells (files_read c) before x → task_of c x ≡ Ok (as_task t)) → CanBeDone t → team_size (as_task t) ≡ 0 → files_for (as_task t) ≡ files_written c
     → Completes (files_for (as_task t)) (world mid sink) (world now sink') (outcome (as_task t)) how → Obeys nothing (here c) (world before sink) (world now sink') how
-obeyed-task c before mid now sink sink' t how only order read told can none files done =
+obeyed-task c before mid now sink sink' t how only order read given can none files done =
     obeys-done plain c before mid now sink sink' (as_task t) how
-    (record { tries = tried nothing c before mid only order; read = read; told = told; sound = (sound_of t can, alone_of t can none) })
+    (record { tries = tried nothing c before mid only order; read = read; sets = given; sound = (sound_of t can, alone_of t can none) })
     (subst (λ (fs : List File). Completes fs (world mid sink) (world now sink') (outcome (as_task t)) how) files done)
 
 -- a task that asks for no worker is none of a team, and one that asks for some is
@@ -90,7 +90,7 @@ pub obeyed-fault-somehow : (c : Command) (before now : Outside) (sink : SinkSide
     → ((x : Inputs) → Tells (files_read c) before x → Gives c e x) → ObeysSomehow (here c) (world before sink) (world now sink) (story_end e)
 obeyed-fault-somehow c before now sink e only order stops cause gives = record {
   work = nothing;
-  fair = λ x tells t told. inl (record { written = only.written; sink = refl });
+  fair = λ x tells t given. inl (record { written = only.written; sink = refl });
   obeys = obeyed-fault c before now sink e only order stops cause gives;
 }
 
@@ -103,23 +103,23 @@ out_of_memory c before mid sink now how tries memory same =
     (subst (λ (e : Ending). ObeysSomehow (here c) (world before sink) (world mid sink) e) (sym memory)
     (record {
       work = nothing;
-      fair = λ x tells t told. inl (record { written = tries.only.written; sink = refl });
+      fair = λ x tells t given. inl (record { written = tries.only.written; sink = refl });
       obeys = obeys-memory plain c before mid sink tries;
     }))
 
 done_somehow : (c : Command) (before mid now : Outside) (sink sink' : SinkSide) (t : InputTask) (how : Ending) → ReadsAmong (files_read c) before mid → InOrder plain c before mid → AreRead (files_read c) before mid
     → ((x : Inputs) → Tells (files_read c) before x → task_of c x ≡ Ok (as_task t)) → CanBeDone t → files_for (as_task t) ≡ files_written c
     → IsDoneWith (world mid sink) (world now sink') (as_task t) how → ObeysSomehow (here c) (world before sink) (world now sink') how
-done_somehow c before mid now sink sink' t how only order read told can files done = record {
+done_somehow c before mid now sink sink' t how only order read given can files done = record {
   work = done.work;
-  fair = λ x tells other set. inr (subst (λ (t : Task). IsWorkOf t done.work) (same_task (as_task t) other (task_of c x) (told x tells) set) done.is);
+  fair = λ x tells other set. inr (subst (λ (t : Task). IsWorkOf t done.work) (same_task (as_task t) other (task_of c x) (given x tells) set) done.is);
   obeys = obeys-done (meaning_at done.work) c before mid now sink sink' (as_task t) how
-      (record { tries = tried done.work c before mid only order; read = read; told = told; sound = (sound_of t can, done.is) })
+      (record { tries = tried done.work c before mid only order; read = read; sets = given; sound = (sound_of t can, done.is) })
       (subst (λ (fs : List File). Completes fs (world mid sink) (world now sink') (outcome_at done.work (as_task t)) how) files done.completes);
 }
 
 pub obeyed-somehow : (c : Command) (before mid now : Outside) (sink sink' : SinkSide) (t : InputTask) (how : Ending) → ReadsAmong (files_read c) before mid → InOrder plain c before mid → AreRead (files_read c) before mid
     → ((x : Inputs) → Tells (files_read c) before x → task_of c x ≡ Ok (as_task t)) → CanBeDone t → files_for (as_task t) ≡ files_written c
     → IsDoneSomehow (world mid sink) (world now sink') (as_task t) how → ObeysSomehow (here c) (world before sink) (world now sink') how
-obeyed-somehow c before mid now sink sink' t how only order read told can files (inl memory) = out_of_memory c before mid sink (world now sink') how (tried nothing c before mid only order) memory.0 memory.1
-obeyed-somehow c before mid now sink sink' t how only order read told can files (inr done) = done_somehow c before mid now sink sink' t how only order read told can files done
+obeyed-somehow c before mid now sink sink' t how only order read given can files (inl memory) = out_of_memory c before mid sink (world now sink') how (tried nothing c before mid only order) memory.0 memory.1
+obeyed-somehow c before mid now sink sink' t how only order read given can files (inr done) = done_somehow c before mid now sink sink' t how only order read given can files done

@@ -18,7 +18,7 @@ use Rattle.desk_runs.specs.Reading.{IsUnread}
 use Rattle.desk_runs.specs.Outcome.{fault_text}
 use Rattle.desk_runs.specs.Works.{IsUnbegun, IsFair}
 use Rattle.desk_runs.specs.Runs.{World, world, IsUnreported, EndsBy, TellsEnd}
-use Rattle.desk_runs.proofs.Composed.{here, at, works-placed, runs-told}
+use Rattle.desk_runs.proofs.Composed.{here, at, works-placed, runs-tells_end}
 use Rattle.desk_runs.proofs.PromisedLaw.{runs-of}
 use Rattle.desk_tasks.specs.Team.{Work, nothing}
 use Rattle.desk_tasks.specs.Tasks.{IsWorkOf}
@@ -42,50 +42,50 @@ asked-with these c dirs o same is = ap (λ (d : Option Directories). Some (c, d)
 
 -- of a command that asks for no worker
 pub with-nothing : (c : Command) (before now : World) (code : ℕ) → workers_of c ≡ 0 → RunsWith nothing (asked_here c) before now code → Runs (asked_here c) before now code
-with-nothing c before now code alone run = record { work = nothing; fair = λ x tells t told. inr (plain-work c x t alone told); holds = run }
+with-nothing c before now code alone run = record { work = nothing; fair = λ x tells t given. inr (plain-work c x t alone given); holds = run }
 
 -- of one that was not begun
 pub not-begun : (ask : Option Ask) (before now : World) → IsUnbegun before now → IsFair meanings ask before now nothing
 not-begun None before now h = tt
-not-begun (Some a) before now h = λ x tells t told. inl h
+not-begun (Some a) before now h = λ x tells t given. inl h
 
 put_some : (before now : Option (List ℕ)) (text : List ℕ) (answer : Result (Unit {0}) FolderFault) → TextAppends before now text answer → AppendsPrefix before now text
 put_some before now text (Ok done) h = begins-whole before now text h
 put_some before now text (Err e) h = h
 
-pub unbegun-told : (before mid : World) (now : SinkSide) (how : Ending) (code : ℕ) → IsUnreported before mid → TellsEnd how mid.sink now code → IsUnbegun before (world mid.folder now)
-unbegun-told before mid now how code h told = record {
+pub unbegun-tells_end : (before mid : World) (now : SinkSide) (how : Ending) (code : ℕ) → IsUnreported before mid → TellsEnd how mid.sink now code → IsUnbegun before (world mid.folder now)
+unbegun-tells_end before mid now how code h given = record {
   written = h.written;
   how = how;
-  line = subst (λ (s : SinkSide). AppendsPrefix s.written now.written (fault_text how)) h.sink (put_some mid.sink.written now.written (fault_text how) told.answer told.line.bytes);
+  line = subst (λ (s : SinkSide). AppendsPrefix s.written now.written (fault_text how)) h.sink (put_some mid.sink.written now.written (fault_text how) given.answer given.line.bytes);
 }
 
 -- a run that ended so before anything was written
 pub run-unbegun : (ask : Option Ask) (before mid : World) (now : SinkSide) (how : Ending) (code : ℕ) → IsUnreported before mid → EndsBy (meaning_at nothing) ask before mid how → TellsEnd how mid.sink now code → Runs ask before (world mid.folder now) code
-run-unbegun ask before mid now how code h ends told = record {
+run-unbegun ask before mid now how code h ends given = record {
   work = nothing;
-  fair = not-begun ask before (world mid.folder now) (unbegun-told before mid now how code h told);
-  holds = runs-told (meaning_at nothing) ask before mid now how code ends told;
+  fair = not-begun ask before (world mid.folder now) (unbegun-tells_end before mid now how code h given);
+  holds = runs-tells_end (meaning_at nothing) ask before mid now how code ends given;
 }
 
 -- of a command that was obeyed with some work
 pub run-somehow : (c : Command) (before mid : World) (now : SinkSide) (how : Ending) (code : ℕ) → ObeysSomehow (here c) before mid how → TellsEnd how mid.sink now code → Runs (asked_here c) before (world mid.folder now) code
-run-somehow c before mid now how code h told = record {
+run-somehow c before mid now how code h given = record {
   work = h.work;
   fair = λ x tells t set. elim (h.fair x tells t set) [
-    | inl untold ↦ inl (unbegun-told before mid now how code untold told)
+    | inl untold ↦ inl (unbegun-tells_end before mid now how code untold given)
     | inr is ↦ inr is
   ];
-  holds = runs-told (meaning_at h.work) (asked_here c) before mid now how code h.obeys told;
+  holds = runs-tells_end (meaning_at h.work) (asked_here c) before mid now how code h.obeys given;
 }
 
 -- ---- before a command is obeyed
 
 -- words that are no command
 pub run-usage : (these : Option Asking) (before : World) (now : SinkSide) (code : ℕ) → None ≡ these → TellsEnd ending.Usage before.sink now code → Runs (option_map asks these) before (world before.folder now) code
-run-usage these before now code is told =
+run-usage these before now code is given =
     subst (λ (o : Option Asking). Runs (option_map asks o) before (world before.folder now) code) is
-    (run-unbegun None before before now ending.Usage code (record { written = λ f. refl; sink = refl }) (refl, record { folder = refl; sink = refl }) told)
+    (run-unbegun None before before now ending.Usage code (record { written = λ f. refl; sink = refl }) (refl, record { folder = refl; sink = refl }) given)
 
 -- a command that has no directories
 pub run-here : (these : Option Asking) (c : Command) (before now : World) (code : ℕ) → Some (c, None) ≡ these → RunsAsPromised (asked_here c) before now code → Runs (option_map asks these) before now code
@@ -127,11 +127,11 @@ obeys_unnamed c dirs before placed sink only = record {
 }
 
 pub run-unplaced : (these : Option Asking) (c : Command) (dirs : Directories) (before placed : Outside) (sink now : SinkSide) (code : ℕ) → Some (c, Some dirs) ≡ these → PlacesOnly before placed → Rose before.place_faults placed.place_faults → TellsEnd ending.PlaceFault sink now code → Runs (option_map asks these) (world before sink) (world placed now) code
-run-unplaced these c dirs before placed sink now code is only rose told =
+run-unplaced these c dirs before placed sink now code is only rose given =
     asked_as these (c, Some dirs) (world before sink) (world placed now) code is
-    (run-unbegun (Some (at c dirs)) (world before sink) (world placed sink) now ending.PlaceFault code (record { written = only.written; sink = refl }) (obeys_unplaced c dirs before placed sink only rose) told)
+    (run-unbegun (Some (at c dirs)) (world before sink) (world placed sink) now ending.PlaceFault code (record { written = only.written; sink = refl }) (obeys_unplaced c dirs before placed sink only rose) given)
 
 pub run-unnamed : (these : Option Asking) (c : Command) (dirs : Directories) (before placed : Outside) (sink now : SinkSide) (code : ℕ) → Some (c, Some dirs) ≡ these → PlacesOnly before placed → TellsEnd ending.Memory sink now code → Runs (option_map asks these) (world before sink) (world placed now) code
-run-unnamed these c dirs before placed sink now code is only told =
+run-unnamed these c dirs before placed sink now code is only given =
     asked_as these (c, Some dirs) (world before sink) (world placed now) code is
-    (run-unbegun (Some (at c dirs)) (world before sink) (world placed sink) now ending.Memory code (record { written = only.written; sink = refl }) (obeys_unnamed c dirs before placed sink only) told)
+    (run-unbegun (Some (at c dirs)) (world before sink) (world placed sink) now ending.Memory code (record { written = only.written; sink = refl }) (obeys_unnamed c dirs before placed sink only) given)

@@ -22,7 +22,7 @@ made files report = record { files = files; report = report }
 
 pub made-is : (seed size : ℕ) (files : List FileText) (report : List ℕ) → files ≡ generated seed size → report ≡ codes "written 13\n" → made files report ≡ (generation seed size).texts
 unfolding generation digits
-made-is seed size files report is told = ap (λ (fs : List FileText). made fs report) is ∙ ap (λ (r : List ℕ). made (generated seed size) r) told
+made-is seed size files report is given = ap (λ (fs : List FileText). made fs report) is ∙ ap (λ (r : List ℕ). made (generated seed size) r) given
 
 pub made-differ : (seed size : ℕ) (files : List FileText) → files ≡ generated seed size → are_different (files_of files) ≡ true
 unfolding generated

@@ -11,7 +11,7 @@ use Rattle.desk_words.specs.declared.asked.Command.TheVariants as command_is
 use Rattle.desk_runs.specs.declared.ending.Ending.{Ending}
 use Rattle.desk_runs.specs.Commands.{Ask, files_read}
 use Rattle.desk_runs.specs.Inputs.{Inputs, Tells}
-use Rattle.desk_runs.specs.Runs.{World, Meaning, IsSetTask, IsUnreported, IsWritten}
+use Rattle.desk_runs.specs.Runs.{World, Meaning, SetsTask, IsUnreported, IsWritten}
 use Rattle.desk_runs.specs.Runs as runs
 use Rattle.desk_runs.specs.Causes as causes
 use Rattle.desk_runs.specs.Promised as promised
@@ -44,7 +44,7 @@ Obeys work a before now how = runs.Obeys (meaning_at work) a before now how
 -- a command that is obeyed with some work, one of the task that its inputs set; unless nothing is written, and no line of a fault is put yet
 pub record ObeysSomehow (a : Ask) (before now : World) (how : Ending) : Type 0 where
   pub work : Work
-  pub fair : (x : Inputs) → Tells (files_read a.command) before.folder x → (t : Task) → IsSetTask (meaning_at work) a.command x t → IsUnreported before now ⊎ IsWorkOf t work
+  pub fair : (x : Inputs) → Tells (files_read a.command) before.folder x → (t : Task) → SetsTask (meaning_at work) a.command x t → IsUnreported before now ⊎ IsWorkOf t work
   pub obeys : Obeys work a before now how
 
 -- a run with this work, and a run with some work
@@ -67,7 +67,7 @@ RunsAsPromised ask before now code = promised.RunsAsPromised meanings ask before
 -- `replay`: the inputs give a story, and there is a history with the headline
 pub record IsReplayed (before now : World) (x : Inputs) : Type 0 where
   pub story : Story
-  pub told : task_of command_is.Replay x ≡ Ok (play story)
+  pub sets : task_of command_is.Replay x ≡ Ok (play story)
   pub history : List Entry
   pub headline : Headline before now story history
 
@@ -75,7 +75,7 @@ pub record IsReplayed (before now : World) (x : Inputs) : Type 0 where
 -- and else 0
 pub record IsRecovered (before now : World) (moves : ℕ) (x : Inputs) (code : ℕ) : Type 0 where
   pub recovery : Recovery
-  pub told : task_of (command_is.Recover 0 moves false) x ≡ Ok (recover recovery)
+  pub sets : task_of (command_is.Recover 0 moves false) x ≡ Ok (recover recovery)
   pub history : List Entry
   pub status : code ≡ plan_status (state (opening recovery.day) history).broken
   pub recovers : Recovers recovery history
@@ -85,7 +85,7 @@ pub record IsRecovered (before now : World) (moves : ℕ) (x : Inputs) (code : �
 -- them; the status is 1 where it ends with no plan and else 0
 pub record IsRecoveredByTeam (before now : World) (workers moves : ℕ) (live : Bool) (x : Inputs) (code : ℕ) : Type 0 where
   pub recovery : Recovery
-  pub told : task_of (command_is.Recover workers moves live) x ≡ Ok (team (team_on recovery workers live))
+  pub sets : task_of (command_is.Recover workers moves live) x ≡ Ok (team (team_on recovery workers live))
   pub work : Work
   pub status : code ≡ plan_status (state (opening recovery.day) work.history).broken
   pub headline : HasTeamRecovered before now (team_on recovery workers live) work
@@ -93,7 +93,7 @@ pub record IsRecoveredByTeam (before now : World) (workers moves : ℕ) (live : 
 -- `trial`: the same of the texts of a day that is made up, read as `recover` reads them with its usual options, and reported alone
 pub record IsTried (before now : World) (seed size : ℕ) (code : ℕ) : Type 0 where
   pub recovery : Recovery
-  pub told : task_of (command_is.Recover 0 usual_moves false) (text_of seed size) ≡ Ok (recover recovery)
+  pub sets : task_of (command_is.Recover 0 usual_moves false) (text_of seed size) ≡ Ok (recover recovery)
   pub history : List Entry
   pub status : code ≡ plan_status (state (opening recovery.day) history).broken
   pub recovers : Recovers recovery history
@@ -103,7 +103,7 @@ pub record IsTried (before now : World) (seed size : ℕ) (code : ℕ) : Type 0 
 -- first item that is broken, or that none is, and the cost of the plan under the orders of all batches
 pub record IsChecked (before now : World) (x : Inputs) (code : ℕ) : Type 0 where
   pub judged : Judged
-  pub told : task_of command_is.Check x ≡ Ok (judge judged)
+  pub sets : task_of command_is.Check x ≡ Ok (judge judged)
   pub status : code ≡ rule_status (least judged.day judged.plan)
   pub reported : Appends before.sink.written now.sink.written (verdict_report judged.day (least judged.day judged.plan) (cost judged.day judged.plan))
 

@@ -110,8 +110,8 @@ pub fn desk_main<R: Threads + Wait + Sync, F: Folder, O: Sink, G: Gate>(
 
     // The headline of a recovery by a team: each that was done has written the journal of one legal history, whatever
     // worker came first. In it the batches that it read stand in their order, each once, and each other entry is the
-    // first better move of its worker's shard, after a beginning that has all that worker's earlier entries; and
-    // it has written the last plan of that history, and why its search ended.
+    // first better move of its worker's shard, after a beginning that has all that worker's earlier entries and by
+    // which the budget is not spent; and it has written the last plan of that history, and why its search ended.
     ensures searched { (workers : ℕ) → (moves : ℕ) → (live : Bool) → (dirs : Directories) →
         command (map string_bytes words.now) ≡ Some (Recover workers moves live, Some dirs) → 1 ≤ workers →
         (x : Inputs) → Tells (files_read (Recover workers moves live)) (F.outside folder.old) x → IsDoneAt result →

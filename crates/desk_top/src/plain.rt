@@ -90,7 +90,12 @@ pub(crate) fn tell<O: Sink>(alloc: Global, ending: Ending, out: &mut O) -> u8
 }
 
 // Reads what a command asks for, does it, and puts the line that says why it was not done.
-fn told<F: Folder, O: Sink>(alloc: Global, command: &Command, folder: &mut F, out: &mut O) -> u8
+fn obey_and_tell<F: Folder, O: Sink>(
+    alloc: Global,
+    command: &Command,
+    folder: &mut F,
+    out: &mut O,
+) -> u8
     requires ranges { IsCommand command.now }
     requires alone { workers_of command.now ≡ 0 }
     ensures { Between F.outside O.report folder.old out.old folder.new out.new
@@ -123,5 +128,5 @@ pub fn run_plain<F: Folder, O: Sink>(
     // 2 is the status of words that are no command.
     ensures no_usage { result ≢ 2 }
 {
-    told(alloc, command, folder, out)
+    obey_and_tell(alloc, command, folder, out)
 }

@@ -6,7 +6,7 @@ use std::marker::Model;
 
 /// A list that is a field of a public type. Contracts see it as the list of its items, whatever
 /// room the vector inside it keeps.
-#[derive(Debug, Drop)]
+#[derive(Drop)]
 pub struct List<T>(pub Vec<T>);
 
 impl<T> Model for List<T> {

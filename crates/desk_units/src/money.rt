@@ -3,11 +3,11 @@
 ghost use Rattle.std.specs.Prelude.{◌≡◌, ◌+◌, ◌*◌, ◌^◌, ◌≤◌};
 
 /// A price in ten-thousandths of a unit of money: 12.5 is 125,000.
-#[derive(Clone, Copy, Debug, PartialEq, Eq)]
+#[derive(Clone, Copy, PartialEq, Eq)]
 pub struct Price(pub u64);
 
 /// The weight of a cost term in thousandths: 1 is 1,000.
-#[derive(Clone, Copy, Debug, PartialEq, Eq)]
+#[derive(Clone, Copy, PartialEq, Eq)]
 pub struct Weight(pub u32);
 
 /// A sum of money in grains, 600,000,000 to one unit of money.

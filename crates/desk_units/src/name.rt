@@ -7,7 +7,7 @@ ghost use Rattle.desk_units.specs.Padded.{IsNameLength};
 use std::marker::Model;
 
 /// A name of 1 to 32 bytes. It takes no memory of its own, and contracts see it as its bytes.
-#[derive(Clone, Copy, Debug)]
+#[derive(Clone, Copy)]
 pub struct Name {
     bytes: [u8; 32],
     len: usize,

@@ -47,7 +47,7 @@ impl Cabin {
 }
 
 /// The haul of a leg: domestic, continental or intercontinental.
-#[derive(Clone, Copy, Debug, PartialEq, Eq)]
+#[derive(Clone, Copy, PartialEq, Eq)]
 pub enum Haul {
     D,
     C,
@@ -70,9 +70,12 @@ impl Haul {
 }
 
 /// The seats of an aircraft in each cabin, each from 0 to 999 in a day that was read.
-#[derive(Clone, Copy, Debug, PartialEq, Eq)]
+#[derive(Clone, Copy, PartialEq, Eq)]
 pub struct Seats {
+    /// In first class.
     pub f: u32,
+    /// In business class.
     pub b: u32,
+    /// In economy class.
     pub e: u32,
 }

@@ -9,7 +9,7 @@ use crate::name::Name;
 use crate::numbers::{Cabin, Haul};
 
 /// A term of a plan's cost.
-#[derive(Clone, Copy, Debug, PartialEq, Eq)]
+#[derive(Clone, Copy, PartialEq, Eq)]
 pub enum Term {
     /// The hours that aircraft fly.
     Operating,
@@ -44,7 +44,7 @@ impl Term {
 
 /// A row of the tariff. Prices are from 0 to 999,999,999.9999 units of money, weights from 0 to
 /// 999,999.999, and thresholds from 1 to 10,000 minutes.
-#[derive(Clone, Copy, Debug)]
+#[derive(Clone, Copy)]
 pub enum TariffRow {
     /// Aircraft of this family are surface transport.
     Surface {
@@ -99,7 +99,7 @@ pub enum TariffRow {
 
 /// The tariff of a day: its rows in the order of the file. A row's line is its place in this list,
 /// counted from 1.
-#[derive(Debug, Drop)]
+#[derive(Drop)]
 pub struct Tariff {
     pub rows: List<TariffRow>,
 }

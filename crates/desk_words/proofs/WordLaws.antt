@@ -86,7 +86,7 @@ value_read choice (text ∷ other ∷ others) = None
 
 -- this is kept of the arguments so far
 record Says (done : List Argument) (kept : WordsRead) : Type 0 where
-  told : places done ≡ kept.places
+  places_are : places done ≡ kept.places
   set : (choice : NumberOption) → value_read choice (values choice done) ≡ Some (value kept.values choice)
 
 some_of : {X : Type 0} (x y : X) → Some x ≡ Some y → x ≡ y
@@ -126,19 +126,19 @@ number_says choice done kept h = value_kept choice (values choice done) (value k
 
 plain_says : (command : Command) (done : List Argument) (kept : WordsRead) → Says done kept → plain command done ≡ plain_kept command kept
 unfolding plain plain_kept
-plain_says command done kept h = rw (day_says done kept h, search_says done kept h, h.told) refl
+plain_says command done kept h = rw (day_says done kept h, search_says done kept h, h.places_are) refl
 
 recovering_says : (done : List Argument) (kept : WordsRead) → Says done kept → recovering done ≡ recovering_kept kept
 unfolding searching recovering_kept
-recovering_says done kept h = rw (day_says done kept h, number_says Workers done kept h, number_says Moves done kept h, number_says Live done kept h, h.told) refl
+recovering_says done kept h = rw (day_says done kept h, number_says Workers done kept h, number_says Moves done kept h, number_says Live done kept h, h.places_are) refl
 
 generating_says : (done : List Argument) (kept : WordsRead) → Says done kept → generating done ≡ generating_kept kept
 unfolding making generating_kept
-generating_says done kept h = rw (search_says done kept h, number_says Seed done kept h, number_says Size done kept h, h.told) refl
+generating_says done kept h = rw (search_says done kept h, number_says Seed done kept h, number_says Size done kept h, h.places_are) refl
 
 trying_says : (done : List Argument) (kept : WordsRead) → Says done kept → trying done ≡ trying_kept kept
 unfolding sampling trying_kept
-trying_says done kept h = rw (search_says done kept h, number_says Seed done kept h, number_says Size done kept h, h.told) refl
+trying_says done kept h = rw (search_says done kept h, number_says Seed done kept h, number_says Size done kept h, h.places_are) refl
 
 if_same : {X : Type 0} (test : Bool) (a b c d : X) → a ≡ b → c ≡ d → (if test then a else c) ≡ (if test then b else d)
 if_same true a b c d e f = e
@@ -263,15 +263,15 @@ unfolding with_place places
 place_goes done kept word more h e is = goes (record { places = more; values = kept.values })
     (rw e refl)
     (record {
-      told = places-append done (Place word ∷ []) ∙ ap (λ p. p ++ word ∷ []) h.told ∙ is;
+      places_are = places-append done (Place word ∷ []) ∙ ap (λ p. p ++ word ∷ []) h.places_are ∙ is;
       set = λ choice. no_value choice done word (value kept.values choice) (h.set choice);
     })
 
-places_after : (done : List Argument) (kept : WordsRead) (word : List ℕ) (told : List (List ℕ)) (list : List Argument) → Says done kept → kept.places ≡ told → places (done ++ Place word ∷ list) ≡ told ++ word ∷ places list
+places_after : (done : List Argument) (kept : WordsRead) (word : List ℕ) (given : List (List ℕ)) (list : List Argument) → Says done kept → kept.places ≡ given → places (done ++ Place word ∷ list) ≡ given ++ word ∷ places list
 unfolding places
-places_after done kept word told list h e = places-append done (Place word ∷ list) ∙ ap (λ p. p ++ word ∷ places list) (h.told ∙ e)
+places_after done kept word given list h e = places-append done (Place word ∷ list) ∙ ap (λ p. p ++ word ∷ places list) (h.places_are ∙ e)
 
-place_step : (done : List Argument) (kept : WordsRead) (word : List ℕ) (told : List (List ℕ)) → kept.places ≡ told → Says done kept → Step done kept (Place word)
+place_step : (done : List Argument) (kept : WordsRead) (word : List ℕ) (given : List (List ℕ)) → kept.places ≡ given → Says done kept → Step done kept (Place word)
 unfolding with_place
 place_step done kept word [] e h = place_goes done kept word (word ∷ []) h (ap (λ p. one_more p word) e) (ap (λ p. p ++ word ∷ []) e)
 place_step done kept word (first ∷ []) e h = place_goes done kept word (first ∷ word ∷ []) h (ap (λ p. one_more p word) e) (ap (λ p. p ++ word ∷ []) e)
@@ -367,7 +367,7 @@ unfolding with_setting
 set_step choice done kept text (Some value) number e is h = stops (rw e refl) (again choice done text value (h.set choice ∙ ap Some e))
 set_step choice done kept text None None e is h = stops (rw (e, is) refl) (unread choice done text (h.set choice ∙ ap Some e) is)
 set_step choice done kept text None (Some n) e is h = goes (record { places = kept.places; values = with_value kept.values choice n }) (rw (e, is) refl) (record {
-  told = reported_set choice done text ∙ h.told;
+  places_are = reported_set choice done text ∙ h.places_are;
   set = λ other. set_more other choice done kept text n h (read_first choice done text n (h.set choice ∙ ap Some e) is);
 })
 
@@ -393,7 +393,7 @@ none_set Live = refl
 
 says_nothing : Says [] nothing
 unfolding places values
-says_nothing = record { told = refl; set = none_set }
+says_nothing = record { places_are = refl; set = none_set }
 
 -- what a command's word makes of arguments is what it makes of what is kept of them
 pub asked_of_kept : (word : List ℕ) (list : Option (List Argument)) → (list >>= command_by word) ≡ (kept_after nothing list >>= asked_kept word)

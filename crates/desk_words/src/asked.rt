@@ -1,7 +1,7 @@
 //! What the words ask for.
 
 /// A command of the program.
-#[derive(Clone, Copy, Debug, PartialEq, Eq)]
+#[derive(Clone, Copy, PartialEq, Eq)]
 pub enum Command {
     /// to take the events of a journal in order
     Replay,
@@ -29,7 +29,7 @@ pub enum Command {
 }
 
 /// The directories of a command.
-#[derive(Clone, Copy, Debug)]
+#[derive(Clone, Copy)]
 pub struct Directories<'a> {
     /// that of the input; empty where the command reads none
     pub input: &'a str,
@@ -38,7 +38,7 @@ pub struct Directories<'a> {
 }
 
 /// A command with its directories.
-#[derive(Clone, Copy, Debug)]
+#[derive(Clone, Copy)]
 pub struct Asked<'a> {
     pub command: Command,
     /// none where the command has no files

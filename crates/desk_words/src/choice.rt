@@ -5,7 +5,7 @@ ghost use Rattle.std.specs.Option.{option_map};
 ghost use Rattle.desk_words.specs.Arguments.{choice_of, setting_of};
 
 /// An option, by the number that it sets.
-#[derive(Clone, Copy, Debug, PartialEq, Eq)]
+#[derive(Clone, Copy, PartialEq, Eq)]
 pub enum NumberOption {
     Seed,
     Size,
@@ -15,7 +15,7 @@ pub enum NumberOption {
     Live,
 }
 
-// The option that a word names, whose value is the next word.
+/// The option that a word names, whose value is the next word.
 pub(crate) fn choice_of(word: &[u8]) -> Option<NumberOption>
     ensures { result ≡ choice_of word.now }
 {
@@ -40,7 +40,7 @@ fn first_equals(word: &[u8]) -> Option<usize>
     word.iter().position(|byte| *byte == b'=')
 }
 
-// The option that a word sets, with the text of its value after `=`.
+/// The option that a word sets, with the text of its value after `=`.
 #[tactic(auto, unfolding(crate::specs::Arguments::setting_of))]
 pub(crate) fn setting_of(word: &[u8]) -> Option<(NumberOption, &[u8])>
     ensures { option_map (λ set. (set.0, set.1.now)) result ≡ setting_of word.now }

@@ -10,7 +10,7 @@ use crate::choice::{NumberOption, choice_of, setting_of};
 use desk_text::number;
 
 /// The directories that were read.
-#[derive(Clone, Copy, Debug)]
+#[derive(Clone, Copy)]
 pub enum DirectoryWords<'a> {
     Nothing,
     One(&'a str),
@@ -18,14 +18,14 @@ pub enum DirectoryWords<'a> {
 }
 
 /// What is kept of the words that were read.
-#[derive(Clone, Copy, Debug)]
+#[derive(Clone, Copy)]
 pub struct Read<'a> {
     pub places: DirectoryWords<'a>,
     pub values: Values,
 }
 
 /// The numbers of the options that are set.
-#[derive(Clone, Copy, Debug)]
+#[derive(Clone, Copy)]
 pub struct Values {
     pub seed: Option<u32>,
     pub size: Option<u32>,
@@ -142,7 +142,7 @@ fn with_setting<'a>(read: Read<'a>, choice: NumberOption, text: &[u8]) -> Option
 }
 
 /// What the next word may be.
-#[derive(Clone, Copy, Debug)]
+#[derive(Clone, Copy)]
 pub enum Expected {
     /// a directory, an option or `--`
     Any,

@@ -3,7 +3,7 @@
 use desk_units::{Minute, Name};
 
 /// What an order of the files of disruptions says.
-#[derive(Clone, Copy, Debug)]
+#[derive(Clone, Copy)]
 pub enum AltRow {
     /// A leg is late, or is not flown.
     Flight {

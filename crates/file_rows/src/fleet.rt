@@ -3,7 +3,7 @@
 use desk_units::{List, Minute, Name, Price, Seats};
 
 /// A line of the file of aircraft.
-#[derive(Clone, Copy, Debug)]
+#[derive(Clone, Copy)]
 pub struct AircraftRow {
     /// Its line in the file, from 1.
     pub line: u32,
@@ -30,7 +30,7 @@ pub struct AircraftRow {
 }
 
 /// A time that an aircraft spends in maintenance.
-#[derive(Clone, Copy, Debug)]
+#[derive(Clone, Copy)]
 pub struct MaintRow {
     /// Where it is then.
     pub airport: Name,
@@ -43,7 +43,7 @@ pub struct MaintRow {
 }
 
 /// Aircraft that are wanted at an airport.
-#[derive(Clone, Copy, Debug)]
+#[derive(Clone, Copy)]
 pub struct PositionGroup {
     /// Their model, of 1 to 32 bytes.
     pub model: Name,
@@ -54,7 +54,7 @@ pub struct PositionGroup {
 }
 
 /// The aircraft that are wanted at an airport at the end.
-#[derive(Debug, Drop)]
+#[derive(Drop)]
 pub struct PositionRow {
     /// Its line in the file, from 1.
     pub line: u32,

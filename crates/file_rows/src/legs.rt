@@ -3,7 +3,7 @@
 use desk_units::Name;
 
 /// A flight of the timetable, with its times on each day that it is flown.
-#[derive(Clone, Copy, Debug)]
+#[derive(Clone, Copy)]
 pub struct FlightRow {
     /// The line in its file, from 1.
     pub line: u32,
@@ -22,7 +22,7 @@ pub struct FlightRow {
 }
 
 /// A flight on one day, with the aircraft that is scheduled to fly it.
-#[derive(Clone, Copy, Debug)]
+#[derive(Clone, Copy)]
 pub struct RotationRow {
     /// The line in its file, from 1.
     pub line: u32,

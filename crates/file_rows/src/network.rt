@@ -3,7 +3,7 @@
 use desk_units::{Haul, List, Minute, Name};
 
 /// The window in which the day is recovered.
-#[derive(Clone, Copy, Debug, PartialEq, Eq)]
+#[derive(Clone, Copy, PartialEq, Eq)]
 pub struct Window {
     /// The moment from which legs may be moved.
     pub from: Minute,
@@ -14,7 +14,7 @@ pub struct Window {
 }
 
 /// The caps of an airport for part of the day.
-#[derive(Clone, Copy, Debug, PartialEq, Eq)]
+#[derive(Clone, Copy, PartialEq, Eq)]
 pub struct CapRow {
     /// Departures per hour, from 0 to 100,000.
     pub deps: u32,
@@ -28,7 +28,7 @@ pub struct CapRow {
 }
 
 /// An airport and its caps.
-#[derive(Debug, Drop)]
+#[derive(Drop)]
 pub struct AirportRow {
     /// The line that it was read from, counted from 1.
     pub line: u32,
@@ -39,7 +39,7 @@ pub struct AirportRow {
 }
 
 /// The distance between two airports.
-#[derive(Clone, Copy, Debug)]
+#[derive(Clone, Copy)]
 pub struct DistRow {
     /// The line that it was read from, counted from 1.
     pub line: u32,

@@ -3,7 +3,7 @@
 use desk_units::{Cabin, List, Name, Price};
 
 /// A leg that a reservation's passengers fly.
-#[derive(Clone, Copy, Debug)]
+#[derive(Clone, Copy)]
 pub struct LegRow {
     /// The flight's name, 1 to 32 bytes.
     pub flight: Name,
@@ -14,7 +14,7 @@ pub struct LegRow {
 }
 
 /// A reservation.
-#[derive(Debug, Drop)]
+#[derive(Drop)]
 pub struct ItineraryRow {
     /// Its line in the file, from 1.
     pub line: u32,

@@ -130,7 +130,7 @@ window sought flights start end long first second =
     let rest = drop start flights in
     record {
       before = take start flights;
-      behind = drop end rest;
+      after = drop end rest;
       whole = sym (ap (λ (fs : List Flight). take start flights ++ fs) (take-append-drop end rest) ∙ take-append-drop start flights);
       none_before = λ k d lt.
           let within : k < start = (let n = length-take start flights in omega (arith, n, lt)) in

@@ -41,7 +41,7 @@ front-least : (x y : ℕ) (xs : List ℕ) → Rises (x ∷ xs) → Contains (x �
 front-least x y xs up has =
     elim (contains_cases x y xs has) [
       | inl same ↦ omega (arith, same)
-      | inr behind ↦ All-contains (λ (k : ℕ). x ≤ k) xs y (pairs_head (λ (a b : ℕ). a ≤ b) x xs up) behind
+      | inr later ↦ All-contains (λ (k : ℕ). x ≤ k) xs y (pairs_head (λ (a b : ℕ). a ≤ b) x xs up) later
     ]
 
 one_more : (f : ℕ → ℕ) (x : ℕ) (xs ys : List ℕ) → sum_by f (x ∷ xs) ≡ sum_by f (x ∷ ys) → sum_by f xs ≡ sum_by f ys

@@ -100,18 +100,18 @@ part-all {X} P xs ys zs whole is all =
 pub window-wanted : (I : Situation) (P : PlanRows) (sought : Sought) (n : ℕ) (flights part : List Flight) → All (IsFlight I P n) flights → IsWindow sought flights part → filter (wanted I P sought) flights ≡ filter (wanted I P sought) part
 window-wanted I P sought n flights part sound w =
     let test = wanted I P sought in
-    let parts = part-all (IsFlight I P n) w.before part w.behind flights w.whole sound in
+    let parts = part-all (IsFlight I P n) w.before part w.after flights w.whole sound in
     ap (filter test) w.whole
-    ∙ filter-append test w.before (part ++ w.behind)
-    ∙ ap (λ (fs : List Flight). fs ++ filter test (part ++ w.behind)) (filter_none test w.before (all-out I P sought n w.before parts.0 w.none_before))
-    ∙ filter-append test part w.behind
-    ∙ ap (λ (fs : List Flight). filter test part ++ fs) (filter_none test w.behind (all-out I P sought n w.behind parts.2 w.none_after))
+    ∙ filter-append test w.before (part ++ w.after)
+    ∙ ap (λ (fs : List Flight). fs ++ filter test (part ++ w.after)) (filter_none test w.before (all-out I P sought n w.before parts.0 w.none_before))
+    ∙ filter-append test part w.after
+    ∙ ap (λ (fs : List Flight). filter test part ++ fs) (filter_none test w.after (all-out I P sought n w.after parts.2 w.none_after))
     ∙ append-nil (filter test part)
 
 pub window-sound : (I : Situation) (P : PlanRows) (sought : Sought) (flights part : List Flight) → IsNetOf I P flights → IsWindow sought flights part → All (λ f. f.leg.0 < legs_of I) part
 window-sound I P sought flights part net w =
     All-weaker (IsFlight I P (legs_of I)) (λ f. f.leg.0 < legs_of I) (λ f h. h.within) part
-    (part-all (IsFlight I P (legs_of I)) w.before part w.behind flights w.whole (net-sound I P flights net)).1
+    (part-all (IsFlight I P (legs_of I)) w.before part w.after flights w.whole (net-sound I P flights net)).1
 
 -- ---- the legs that were picked, sorted
 

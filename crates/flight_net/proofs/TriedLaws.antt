@@ -68,25 +68,25 @@ in_cabin-pairs I c =
 abbrev double : Leg × Cabin → Leg × Cabin → List (Leg × Cabin)
 double a b = a ∷ b ∷ []
 
-abbrev behind : Situation → ℕ → List (Leg × Cabin) → List (Leg × Cabin)
-behind I r d = stem I r ++ d
+abbrev with_stem : Situation → ℕ → List (Leg × Cabin) → List (Leg × Cabin)
+with_stem I r d = stem I r ++ d
 
-doubles-in : (I : Situation) (r x : ℕ) (c : Cabin) → map (behind I r) (map (double (leg x, c)) (filter (λ (b : Leg × Cabin). eqb (cabin_rank c) (cabin_rank b.1)) (all_pairs I))) ≡ doubles_in I r x (numbers (legs_of I)) c
+doubles-in : (I : Situation) (r x : ℕ) (c : Cabin) → map (with_stem I r) (map (double (leg x, c)) (filter (λ (b : Leg × Cabin). eqb (cabin_rank c) (cabin_rank b.1)) (all_pairs I))) ≡ doubles_in I r x (numbers (legs_of I)) c
 doubles-in I r x c =
-    ap (λ (ps : List (Leg × Cabin)). map (behind I r) (map (double (leg x, c)) ps)) (in_cabin-pairs I c)
-    ∙ ap (map (behind I r)) (map-map (double (leg x, c)) (λ y. (leg y, c)) (numbers (legs_of I)))
-    ∙ map-map (behind I r) (λ y. double (leg x, c) (leg y, c)) (numbers (legs_of I))
+    ap (λ (ps : List (Leg × Cabin)). map (with_stem I r) (map (double (leg x, c)) ps)) (in_cabin-pairs I c)
+    ∙ ap (map (with_stem I r)) (map-map (double (leg x, c)) (λ y. (leg y, c)) (numbers (legs_of I)))
+    ∙ map-map (with_stem I r) (λ y. double (leg x, c) (leg y, c)) (numbers (legs_of I))
 
 -- those with two legs, by the first of them
-doubles-by_leg : (I : Situation) (r : ℕ) → map (behind I r) (all_doubles I) ≡ flat_map (λ x. doubles_of I r x (numbers (legs_of I))) (numbers (legs_of I))
+doubles-by_leg : (I : Situation) (r : ℕ) → map (with_stem I r) (all_doubles I) ≡ flat_map (λ x. doubles_of I r x (numbers (legs_of I))) (numbers (legs_of I))
 unfolding all_pairs
 doubles-by_leg I r =
     let from : Leg × Cabin → List (List (Leg × Cabin)) = λ a. map (double a) (filter (λ (b : Leg × Cabin). eqb (cabin_rank a.1) (cabin_rank b.1)) (all_pairs I)) in
     let ns = numbers (legs_of I) in
-    map_of_flat_map (behind I r) from (all_pairs I)
-    ∙ flat_map_of_flat_map (λ a. map (behind I r) (from a)) three ns
-    ∙ flat_map_agree (λ x. flat_map (λ a. map (behind I r) (from a)) (three x)) (λ x. doubles_of I r x ns) ns
-    (All_from_contains (λ x. flat_map (λ a. map (behind I r) (from a)) (three x) ≡ doubles_of I r x ns) ns
+    map_of_flat_map (with_stem I r) from (all_pairs I)
+    ∙ flat_map_of_flat_map (λ a. map (with_stem I r) (from a)) three ns
+    ∙ flat_map_agree (λ x. flat_map (λ a. map (with_stem I r) (from a)) (three x)) (λ x. doubles_of I r x ns) ns
+    (All_from_contains (λ x. flat_map (λ a. map (with_stem I r) (from a)) (three x) ≡ doubles_of I r x ns) ns
     (λ x has. rw (doubles-in I r x cabin.F, doubles-in I r x cabin.B, doubles-in I r x cabin.E) refl))
 
 -- of second legs that pass where any of their paths does

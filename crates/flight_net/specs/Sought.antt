@@ -33,7 +33,7 @@ is_within sought flight = (flight.from.0 == sought.from.0) && (nat_le sought.ear
 -- some flights in a row, such that no flight before them or after them does
 pub record IsWindow (sought : Sought) (flights part : List Flight) : Type 0 where
   pub before : List Flight
-  pub behind : List Flight
-  pub whole : flights ≡ before ++ (part ++ behind)
+  pub after : List Flight
+  pub whole : flights ≡ before ++ (part ++ after)
   pub none_before : All (λ flight. is_within sought flight ≡ false) before
-  pub none_after : All (λ flight. is_within sought flight ≡ false) behind
+  pub none_after : All (λ flight. is_within sought flight ≡ false) after

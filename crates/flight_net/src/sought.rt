@@ -53,9 +53,9 @@ impl FlightNet {
         let until = sought.until;
         let flights = self.flights.as_slice();
         let start = flights.partition_point(|flight| leaves_before(flight, from, earliest));
-        let behind = &flights[start..];
-        let end = behind.partition_point(|flight| leaves_before(flight, from, until));
-        &behind[..end]
+        let rest = &flights[start..];
+        let end = rest.partition_point(|flight| leaves_before(flight, from, until));
+        &rest[..end]
     }
 }
 

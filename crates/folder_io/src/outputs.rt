@@ -9,7 +9,7 @@ use desk_folder::{File, Folder, FolderFault};
 use std::alloc::Global;
 
 /// Why texts weren't put to their end.
-#[derive(Clone, Copy, Debug, PartialEq, Eq)]
+#[derive(Clone, Copy, PartialEq, Eq)]
 pub enum WriteFault {
     /// A write of this file failed: the folder's count of its failed writes rose.
     Failed(File),

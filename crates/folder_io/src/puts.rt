@@ -8,7 +8,7 @@ use memchr::memchr;
 use std::alloc::Global;
 
 // The index of the first line feed, which in a line is many bytes on.
-fn line_end(text: &[u8]) -> Option<usize>
+fn line_feed_place(text: &[u8]) -> Option<usize>
     ensures first { result ≡ position (λ b. b == 10) text.now }
     ensures within { IfSome result (λ at. at < length text.now) }
 {
@@ -22,7 +22,7 @@ fn line_length(text: &[u8]) -> usize
     ensures some { 0 < result }
     ensures within { result ≤ length text.now }
 {
-    match line_end(text) {
+    match line_feed_place(text) {
         Some(at) => at + 1,
         None => text.len(),
     }

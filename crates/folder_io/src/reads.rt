@@ -8,7 +8,7 @@ use desk_folder::{File, Folder, FolderFault};
 use std::alloc::{AllocError, Global};
 
 /// Why a file wasn't read to its end.
-#[derive(Clone, Copy, Debug, PartialEq, Eq)]
+#[derive(Clone, Copy, PartialEq, Eq)]
 pub enum ReadEnd {
     /// The file has more bytes than the limit.
     Size,

@@ -2,7 +2,9 @@
 //!
 //!     let mut counts = HourCounts::of(alloc, &inst, &plan)?;            // one walk over the legs
 //!     counts.departures_beside(&inst, leg, row, airport, hour)          // with no walk
+//!     counts.arrivals_beside(&inst, leg, row, airport, hour)
 //!     counts.place(&inst, leg, was, new)?;                             // a leg has another row
+//!     Slot { movement: Movement::Departure, airport, hour }             // what a leg takes, for whoever counts slots
 //!
 //! Counted are the legs that are flown and whose scheduled aircraft is no surface transport; a look-up
 //! leaves the leg out that it is asked for. `KnowsHours` is the trait of all that has these look-ups.

@@ -11,15 +11,15 @@ use Rattle.desk_text.specs.Rows.{◌>>=◌, GivesRow}
 use Rattle.journal_join.specs.Join.{all_of}
 
 -- these, and after them what is still joined
-abbrev pub behind : {B E : Type 0} → List B → Result (List B) E → Result (List B) E
-behind before (Ok ys) = Ok (before ++ ys)
-behind before (Err e) = Err e
+abbrev pub prepended : {B E : Type 0} → List B → Result (List B) E → Result (List B) E
+prepended before (Ok ys) = Ok (before ++ ys)
+prepended before (Err e) = Err e
 
-pub one_more : {B E : Type 0} (before : List B) (y : B) (rest : Result (List B) E) → behind (before ++ y ∷ []) rest ≡ behind before (rest >>= λ ys. Ok (y ∷ ys))
+pub one_more : {B E : Type 0} (before : List B) (y : B) (rest : Result (List B) E) → prepended (before ++ y ∷ []) rest ≡ prepended before (rest >>= λ ys. Ok (y ∷ ys))
 one_more before y (Ok ys) = ap Ok (append_assoc before (y ∷ []) ys)
 one_more before y (Err e) = refl
 
-pub nothing_before : {B E : Type 0} (rest : Result (List B) E) → behind [] rest ≡ rest
+pub nothing_before : {B E : Type 0} (rest : Result (List B) E) → prepended [] rest ≡ rest
 nothing_before (Ok ys) = refl
 nothing_before (Err e) = refl
 
@@ -38,33 +38,33 @@ parts_read (Ok z) (Ok zs) ys h = (z, zs, refl, refl, cc)
 
 module _ {A B E : Type 0} (f : A → Result B E) (xs : List A) where
   -- nothing is joined yet
-  pub begins : behind [] (all_of f xs) ≡ all_of f xs
+  pub begins : prepended [] (all_of f xs) ≡ all_of f xs
   begins = nothing_before (all_of f xs)
 
-  from_here : (before : List B) (k : ℕ) (x : A) (total : Result (List B) E) → k < length xs → x ≡ get_or xs k x → behind before (all_of f (drop k xs)) ≡ total
-      → behind before (f x >>= λ y. all_of f (drop (k + 1) xs) >>= λ ys. Ok (y ∷ ys)) ≡ total
+  from_here : (before : List B) (k : ℕ) (x : A) (total : Result (List B) E) → k < length xs → x ≡ get_or xs k x → prepended before (all_of f (drop k xs)) ≡ total
+      → prepended before (f x >>= λ y. all_of f (drop (k + 1) xs) >>= λ ys. Ok (y ∷ ys)) ≡ total
   unfolding all_of
-  from_here before k x total below is so_far = sym (ap (λ (rest : List A). behind before (all_of f rest)) (rest_at xs k x below is)) ∙ so_far
+  from_here before k x total below is so_far = sym (ap (λ (rest : List A). prepended before (all_of f rest)) (rest_at xs k x below is)) ∙ so_far
 
   -- one gives something
-  pub goes_on : (before : List B) (k : ℕ) (x : A) (y : B) (total : Result (List B) E) → k < length xs → x ≡ get_or xs k x → f x ≡ Ok y → behind before (all_of f (drop k xs)) ≡ total
-      → behind (before ++ y ∷ []) (all_of f (drop (k + 1) xs)) ≡ total
+  pub goes_on : (before : List B) (k : ℕ) (x : A) (y : B) (total : Result (List B) E) → k < length xs → x ≡ get_or xs k x → f x ≡ Ok y → prepended before (all_of f (drop k xs)) ≡ total
+      → prepended (before ++ y ∷ []) (all_of f (drop (k + 1) xs)) ≡ total
   goes_on before k x y total below is gives so_far =
       one_more before y (all_of f (drop (k + 1) xs))
-      ∙ ap (λ (r : Result B E). behind before (r >>= λ z. all_of f (drop (k + 1) xs) >>= λ ys. Ok (z ∷ ys))) (sym gives)
+      ∙ ap (λ (r : Result B E). prepended before (r >>= λ z. all_of f (drop (k + 1) xs) >>= λ ys. Ok (z ∷ ys))) (sym gives)
       ∙ from_here before k x total below is so_far
 
   -- one is refused
-  pub refused : (before : List B) (k : ℕ) (x : A) (e : E) (total : Result (List B) E) → k < length xs → x ≡ get_or xs k x → f x ≡ Err e → behind before (all_of f (drop k xs)) ≡ total → total ≡ Err e
+  pub refused : (before : List B) (k : ℕ) (x : A) (e : E) (total : Result (List B) E) → k < length xs → x ≡ get_or xs k x → f x ≡ Err e → prepended before (all_of f (drop k xs)) ≡ total → total ≡ Err e
   refused before k x e total below is gives so_far =
       sym (from_here before k x total below is so_far)
-      ∙ ap (λ (r : Result B E). behind before (r >>= λ z. all_of f (drop (k + 1) xs) >>= λ ys. Ok (z ∷ ys))) gives
+      ∙ ap (λ (r : Result B E). prepended before (r >>= λ z. all_of f (drop (k + 1) xs) >>= λ ys. Ok (z ∷ ys))) gives
 
   -- all are joined
-  pub ends : (before : List B) (k : ℕ) (total : Result (List B) E) → length xs ≤ k → behind before (all_of f (drop k xs)) ≡ total → total ≡ Ok before
+  pub ends : (before : List B) (k : ℕ) (total : Result (List B) E) → length xs ≤ k → prepended before (all_of f (drop k xs)) ≡ total → total ≡ Ok before
   unfolding all_of
   ends before k total over so_far =
-      sym so_far ∙ ap (λ (rest : List A). behind before (all_of f rest)) (drop_of_length-le xs {i = k} over) ∙ ap Ok (append-nil before)
+      sym so_far ∙ ap (λ (rest : List A). prepended before (all_of f rest)) (drop_of_length-le xs {i = k} over) ∙ ap Ok (append-nil before)
 
 -- ---- faults
 
@@ -75,7 +75,7 @@ reported_fault (Err e) fault join is h = subst (λ (f : RowFault). GivesRow (Err
 
 module _ {A B : Type 0} (f : A → Result B Cause) (xs : List A) (before : List B) (k : ℕ) (x : A) (total : Result (List B) Cause) where
   -- one is not joined
-  pub stops : (fault : RowFault) → k < length xs → x ≡ get_or xs k x → GivesRow {Row = B} (Err fault) (f x) → behind before (all_of f (drop k xs)) ≡ total → GivesRow {Row = List B} (Err fault) total
+  pub stops : (fault : RowFault) → k < length xs → x ≡ get_or xs k x → GivesRow {Row = B} (Err fault) (f x) → prepended before (all_of f (drop k xs)) ≡ total → GivesRow {Row = List B} (Err fault) total
   stops (row_fault.Refused why) below is gives so_far = refused f xs before k x why total below is gives so_far
   stops row_fault.Memory below is gives so_far = tt
 

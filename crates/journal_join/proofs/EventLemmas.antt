@@ -118,9 +118,9 @@ set_fits I leg was new step h time =
 push_fits : (I : Situation) (plane : List ℕ) (after : Option NamedLeg) (step : Step) → push_of I plane after ≡ Ok step → StepFits I step
 unfolding push_of
 push_fits I plane after step h =
-    let p = bound (plane_of I plane) (λ p. after_of I after >>= λ behind. Ok (Push p behind)) step h in
-    let behind = bound (after_of I after) (λ behind. Ok (Push p.0 behind)) step p.2 in
-    subst (StepFits I) (same_Ok (Push p.0 behind.0) step behind.2) (plane_of-lt I plane p.0 p.1, after_of-lt I after behind.0 behind.1)
+    let p = bound (plane_of I plane) (λ p. after_of I after >>= λ after_leg. Ok (Push p after_leg)) step h in
+    let after_leg = bound (after_of I after) (λ after_leg. Ok (Push p.0 after_leg)) step p.2 in
+    subst (StepFits I) (same_Ok (Push p.0 after_leg.0) step after_leg.2) (plane_of-lt I plane p.0 p.1, after_of-lt I after after_leg.0 after_leg.1)
 
 swap_by : (I : Situation) (p q : Plane) (at : Minute) (step : Step) → Swap p q at ≡ step → step_is_in_time step ≡ true → p.0 < planes_of I → q.0 < planes_of I → StepFits I step
 swap_by I p q at step same time first second = subst (StepFits I) same (first, second, ltb-true at.0 52500000 (ap step_is_in_time same ∙ time))

@@ -13,7 +13,7 @@ use Rattle.desk_build.specs.declared.fault.BuildFault.{BuildFault}
 use Rattle.journal_rows.specs.declared.rows.JournalRow.{JournalRow}
 use Rattle.journal_join.specs.Join.{all_after, is_batch, batches_in, event_of, asked_of}
 use Rattle.journal_join.specs.Gives.{JoinGives, fault_at}
-use Rattle.journal_join.proofs.AllOf.{behind}
+use Rattle.journal_join.proofs.AllOf.{prepended}
 use Rattle.journal_join.proofs.AllAfter.{refused}
 
 -- ---- the batch that is due
@@ -49,7 +49,7 @@ module _ (I : Situation) (batches : List Batch) (due : ℕ) (before : List Journ
 -- a row that gives none ends the join
 pub row_stops : {Answer : Type 0} (view : Answer → List (ℕ × Event)) (I : Situation) (batches : List Batch) (rows : List JournalRow) (done : List (ℕ × Event)) (k due : ℕ) (row : JournalRow) (total : Result (List (ℕ × Event)) (ℕ × Cause)) (fault : RowFault) (end : BuildFault)
     → k < length rows → row ≡ get_or rows k row → due ≡ batches_in (take k rows) → GivesRow {Row = Event} (Err fault) (event_of I batches due row.event) → end ≡ fault_at row.line fault
-    → behind done (all_after (asked_of I batches) (take k rows) (drop k rows)) ≡ total → JoinGives view (Err end) total
-row_stops view I batches rows done k due row total (row_fault.Refused why) end below is is_due gives told so_far =
-    subst (λ (f : BuildFault). JoinGives view (Err f) total) (sym told) (refused (asked_of I batches) rows done k row (row.line, why) total below is (row_refused I batches due (take k rows) row is_due why gives) so_far, refl)
-row_stops view I batches rows done k due row total row_fault.Memory end below is is_due gives told so_far = subst (λ (f : BuildFault). JoinGives view (Err f) total) (sym told) tt
+    → prepended done (all_after (asked_of I batches) (take k rows) (drop k rows)) ≡ total → JoinGives view (Err end) total
+row_stops view I batches rows done k due row total (row_fault.Refused why) end below is is_due gives given so_far =
+    subst (λ (f : BuildFault). JoinGives view (Err f) total) (sym given) (refused (asked_of I batches) rows done k row (row.line, why) total below is (row_refused I batches due (take k rows) row is_due why gives) so_far, refl)
+row_stops view I batches rows done k due row total row_fault.Memory end below is is_due gives given so_far = subst (λ (f : BuildFault). JoinGives view (Err f) total) (sym given) tt

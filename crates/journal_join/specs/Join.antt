@@ -93,8 +93,8 @@ set_of I leg was new = do
 unfoldable pub push_of : Situation → List ℕ → Option NamedLeg → Result Step Cause
 push_of I plane after = do
   p ← plane_of I plane
-  behind ← after_of I after
-  Ok (Push p behind)
+  after_leg ← after_of I after
+  Ok (Push p after_leg)
 
 unfoldable pub swap_of : Situation → List ℕ → List ℕ → Minute → Result Step Cause
 swap_of I first second at = do

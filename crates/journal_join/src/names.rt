@@ -28,7 +28,7 @@ pub(crate) fn plane_of(names: &DayNames<'_>, name: &Name) -> Result<Plane, Cause
     names.plane(name.as_slice()).ok_or(Cause::Unknown)
 }
 
-/// The reservation of a name and a way.
+/// The reservation of a name and a direction.
 pub(crate) fn res_of(names: &DayNames<'_>, res: &NamedRes) -> Result<Res, Cause>
     ensures { result ≡ res_of names.now res.now }
 {

@@ -107,7 +107,7 @@ unfolding entries
 run_after S done [] legal = refl
 run_after S done (e ∷ more) legal =
     let stands : Stands S done e = subst (λ (before : List Entry). Stands S before e) (take_done done (e ∷ more)) (legal (length done) e (there done more e)) in
-    let entry : entry_of (state S done) e.caller e.event ≡ e = ap (λ (told : Answer). let entry : Entry = record { caller = e.caller; event = e.event; answer = told } in entry) (sym stands.told) in
+    let entry : entry_of (state S done) e.caller e.event ≡ e = ap (λ (given : Answer). let entry : Entry = record { caller = e.caller; event = e.event; answer = given } in entry) (sym stands.answered) in
     let rest : entries (length done + 1) (after (state S done) e.event) (map asked more) ≡ more =
     ap (λ (n : ℕ). entries n (after (state S done) e.event) (map asked more)) (sym (length-append done (e ∷ [])))
     ∙ ap (λ (T : State). entries (length (done ++ e ∷ [])) T (map asked more)) (sym (state-append S done (e ∷ [])))

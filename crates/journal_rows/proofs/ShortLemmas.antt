@@ -48,7 +48,7 @@ module _ (T : TokenReaders) where
   unfolding row_at
   leaves-row tokens = then _ _ _ (leaves-token flown_of tokens) (λ flown. leaves-row_from flown.0 flown.1)
 
-  leaves-after : (behind : Bool) (tokens : List (List ℕ)) → Leaves (length tokens) (after_from T behind tokens)
+  leaves-after : (is_later : Bool) (tokens : List (List ℕ)) → Leaves (length tokens) (after_from T is_later tokens)
   unfolding after_from
   leaves-after true tokens = then _ _ _ (leaves-leg tokens) (λ leg. omega arith)
   leaves-after false tokens = omega arith
@@ -69,7 +69,7 @@ module _ (T : TokenReaders) where
   leaves-step_from : (kind : StepKind) (tokens : List (List ℕ)) → Leaves (length tokens) (step_from T kind tokens)
   unfolding step_from
   leaves-step_from kinds.Set tokens = then _ _ _ (leaves-leg tokens) (λ leg. then _ _ _ (leaves-row leg.1) (λ was. then _ _ _ (leaves-row was.1) (λ new. omega arith)))
-  leaves-step_from kinds.Push tokens = then _ _ _ (leaves-token T.name_of tokens) (λ plane. then _ _ _ (leaves-token later_of plane.1) (λ behind. then _ _ _ (leaves-after behind.0 behind.1) (λ after. omega arith)))
+  leaves-step_from kinds.Push tokens = then _ _ _ (leaves-token T.name_of tokens) (λ plane. then _ _ _ (leaves-token later_of plane.1) (λ is_later. then _ _ _ (leaves-after is_later.0 is_later.1) (λ after. omega arith)))
   leaves-step_from kinds.Swap tokens = then _ _ _ (leaves-token T.name_of tokens) (λ first. then _ _ _ (leaves-token T.name_of first.1) (λ second. then _ _ _ (leaves-moment second.1) (λ at. omega arith)))
   leaves-step_from kinds.Rebook tokens = then _ _ _ (leaves-token T.name_of tokens) (λ name. then _ _ _ (leaves-token inbound_of name.1) (λ inbound. then _ _ _ (leaves-token (number_of 1 1000) inbound.1) (λ count. then _ _ _ (leaves-path count.1) (λ path. then _ _ _ (leaves-path path.1) (λ to. omega arith)))))
   leaves-step_from kinds.Tidy tokens = omega arith

@@ -41,28 +41,28 @@ module _ (T : TokenReaders) where
   first_step word tokens = by_its_length (length tokens) (step_at T word tokens) (leaves-step T word tokens)
 
 -- these steps, and after them those that are read
-abbrev pub behind : List NamedStep → Result (List NamedStep) Cause → Result (List NamedStep) Cause
-behind before (Ok steps) = Ok (before ++ steps)
-behind before (Err cause) = Err cause
+abbrev pub prepended : List NamedStep → Result (List NamedStep) Cause → Result (List NamedStep) Cause
+prepended before (Ok steps) = Ok (before ++ steps)
+prepended before (Err cause) = Err cause
 
-one_more : (before : List NamedStep) (step : NamedStep) (others : Result (List NamedStep) Cause) → behind before (before_all step others) ≡ behind (before ++ step ∷ []) others
+one_more : (before : List NamedStep) (step : NamedStep) (others : Result (List NamedStep) Cause) → prepended before (before_all step others) ≡ prepended (before ++ step ∷ []) others
 one_more before step (Ok steps) = ap (λ steps. Ok steps) (sym (append_assoc before (step ∷ []) steps))
 one_more before step (Err cause) = refl
 
 module _ (T : TokenReaders) (before : List NamedStep) (total : Result (List NamedStep) Cause) where
   -- no tokens are left
-  pub all_read : (tokens : List (List ℕ)) → tokens ≡ [] → behind before (steps_of T tokens) ≡ total → total ≡ Ok before
-  all_read tokens none so_far = sym so_far ∙ ap (λ left. behind before (steps_of T left)) none ∙ ap (behind before) (no_steps T) ∙ ap (λ steps. Ok steps) (append-nil before)
+  pub all_read : (tokens : List (List ℕ)) → tokens ≡ [] → prepended before (steps_of T tokens) ≡ total → total ≡ Ok before
+  all_read tokens none so_far = sym so_far ∙ ap (λ left. prepended before (steps_of T left)) none ∙ ap (prepended before) (no_steps T) ∙ ap (λ steps. Ok steps) (append-nil before)
 
-  module _ (all : List (List ℕ)) (word : List ℕ) (tokens : List (List ℕ)) (first : all ≡ word ∷ tokens) (so_far : behind before (steps_of T all) ≡ total) where
+  module _ (all : List (List ℕ)) (word : List ℕ) (tokens : List (List ℕ)) (first : all ≡ word ∷ tokens) (so_far : prepended before (steps_of T all) ≡ total) where
     abbrev after : Reading NamedStep → Result (List NamedStep) Cause
-    after step = behind before (steps_from T step)
+    after step = prepended before (steps_from T step)
 
     one_step : after (step_at T word tokens) ≡ total
-    one_step = sym (ap (λ left. behind before (steps_of T left)) first ∙ ap (behind before) (first_step T word tokens)) ∙ so_far
+    one_step = sym (ap (λ left. prepended before (steps_of T left)) first ∙ ap (prepended before) (first_step T word tokens)) ∙ so_far
 
     -- a step is read
-    pub goes_on : (step : NamedStep) (rest : List (List ℕ)) → step_at T word tokens ≡ Ok (step, rest) → behind (before ++ step ∷ []) (steps_of T rest) ≡ total
+    pub goes_on : (step : NamedStep) (rest : List (List ℕ)) → step_at T word tokens ≡ Ok (step, rest) → prepended (before ++ step ∷ []) (steps_of T rest) ≡ total
     goes_on step rest e = sym (ap after e ∙ one_more before step (steps_of T rest)) ∙ one_step
 
     -- a step is refused

@@ -90,8 +90,8 @@ step_from T kinds.Set tokens = do
 -- AIRCRAFT all, or AIRCRAFT after FLIGHT DATE
 step_from T kinds.Push tokens = do
   plane ← token T.name_of tokens
-  behind ← token later_of plane.1
-  after ← after_from T behind.0 behind.1
+  is_later ← token later_of plane.1
+  after ← after_from T is_later.0 is_later.1
   Ok (Push plane.0 after.0, after.1)
 -- AIRCRAFT AIRCRAFT DATE TIME
 step_from T kinds.Swap tokens = do

@@ -1,7 +1,7 @@
 //! The six kinds of steps.
 
 /// What a step does, by its first word.
-#[derive(Clone, Copy, Debug, PartialEq, Eq)]
+#[derive(Clone, Copy, PartialEq, Eq)]
 pub(crate) enum StepKind {
     Set,
     Push,

@@ -3,14 +3,14 @@
 use desk_units::{Cabin, List, Minute, Name};
 
 /// A leg, by its flight and the day of its schedule: days since 2000-01-01, below 36,525.
-#[derive(Clone, Copy, Debug)]
+#[derive(Clone, Copy)]
 pub struct NamedLeg {
     pub flight: Name,
     pub day: u32,
 }
 
-/// A reservation, by its name and whether it is a trip back.
-#[derive(Clone, Copy, Debug)]
+/// A reservation, by its name and whether it is inbound.
+#[derive(Clone, Copy)]
 pub struct NamedRes {
     pub name: Name,
     pub inbound: bool,
@@ -18,21 +18,21 @@ pub struct NamedRes {
 
 /// The legs that passengers take, at most 8, each with the cabin they sit in. The empty path means
 /// that they are not carried.
-#[derive(Debug, Drop)]
+#[derive(Drop)]
 pub struct NamedPath {
     pub legs: List<(NamedLeg, Cabin)>,
 }
 
 /// What a step says that a leg does: it is flown by an aircraft from a moment of the years 2000 to
 /// 2099 on, or cancelled.
-#[derive(Clone, Copy, Debug)]
+#[derive(Clone, Copy)]
 pub enum NamedRow {
     Flown { plane: Name, dep: Minute },
     Cancelled,
 }
 
 /// One step of a move.
-#[derive(Debug, Drop)]
+#[derive(Drop)]
 pub enum NamedStep {
     /// Where the leg's row is `was`, it becomes `new`.
     Set {
@@ -67,7 +67,7 @@ pub enum NamedStep {
 }
 
 /// What a caller reports or asks for.
-#[derive(Debug, Drop)]
+#[derive(Drop)]
 pub enum NamedEvent {
     /// Disruptions become known: the batch of orders with this number, 0 to 1,000.
     Batch { number: u32 },
@@ -76,7 +76,7 @@ pub enum NamedEvent {
 }
 
 /// A row of the journal: its line, from 1, its caller, 0 to 64, and what the caller reports or asks for.
-#[derive(Debug, Drop)]
+#[derive(Drop)]
 pub struct JournalRow {
     pub line: u32,
     pub caller: u32,

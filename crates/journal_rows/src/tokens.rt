@@ -69,7 +69,7 @@ pub(crate) fn next_cabin(tokens: &mut Fields<'_>) -> Result<Cabin, Cause>
     cabin(tokens.take()?)
 }
 
-/// Whether the next token says that a trip is one back.
+/// Whether the next token says that a reservation is inbound.
 pub(crate) fn next_inbound(tokens: &mut Fields<'_>) -> Result<bool, Cause>
     ensures { Takes result tokens.new (token inbound_of tokens.old) }
 {
@@ -98,7 +98,7 @@ pub(crate) fn next_flown(tokens: &mut Fields<'_>) -> Result<bool, Cause>
 
 /// Whether a token says that a push begins after a leg: `after` where it does, `all` where it takes
 /// all legs.
-fn behind(token: &[u8]) -> Result<bool, Cause>
+fn after_or_all(token: &[u8]) -> Result<bool, Cause>
     ensures { result ≡ later_of token.now }
 {
     if token == b"after".as_slice() {
@@ -114,7 +114,7 @@ fn behind(token: &[u8]) -> Result<bool, Cause>
 pub(crate) fn next_after(tokens: &mut Fields<'_>) -> Result<bool, Cause>
     ensures { Takes result tokens.new (token later_of tokens.old) }
 {
-    behind(tokens.take()?)
+    after_or_all(tokens.take()?)
 }
 
 /// The kind of the step whose first token is this one.

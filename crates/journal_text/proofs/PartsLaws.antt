@@ -84,7 +84,7 @@ module _ (P : Parts) (a b : Situation) where
   broken_same (C14 res) = refl
   broken_same (C15 res) = refl
 
-  pub answer_same : (told : Answer) → answer_text (day P a) told ≡ answer_text (day P b) told
+  pub answer_same : (given : Answer) → answer_text (day P a) given ≡ answer_text (day P b) given
   unfolding answer_text
   answer_same (Taken which cost) = refl
   answer_same (Accepted cost) = refl
@@ -109,5 +109,5 @@ module _ (P : Parts) (a b : Situation) where
 pub journal-same : (I J : Situation) → I.parts ≡ J.parts → (h : List Entry) → journal_text I h ≡ journal_text J h
 journal-same I J same h = subst (λ (P : Parts). journal_text I h ≡ journal_text (day P J) h) same (journal_same I.parts I J h)
 
-pub answer-same : (I J : Situation) → I.parts ≡ J.parts → (told : Answer) → answer_text I told ≡ answer_text J told
-answer-same I J same told = subst (λ (P : Parts). answer_text I told ≡ answer_text (day P J) told) same (answer_same I.parts I J told)
+pub answer-same : (I J : Situation) → I.parts ≡ J.parts → (given : Answer) → answer_text I given ≡ answer_text J given
+answer-same I J same given = subst (λ (P : Parts). answer_text I given ≡ answer_text (day P J) given) same (answer_same I.parts I J given)

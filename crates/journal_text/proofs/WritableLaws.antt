@@ -161,8 +161,8 @@ judged_names I P None now would is =
     elim (leb now would) as (λ (dear : Bool). AnswerNames I (cond dear (Dearer (grains now) (grains would)) (Accepted (grains would)))) [ true ↦ tt | false ↦ tt ]
 
 proposed_names : (S : State) (m : Move) (b : Option Broken) → S.broken ≡ b → KnowsBroken S → AnswerNames S.inst (move_answer S m b)
-proposed_names S m (Some item) is told = least-names S.inst S.plan item (sym told ∙ is)
-proposed_names S m None is told = judged_names S.inst (after_move S.inst S.plan m) (least S.inst (after_move S.inst S.plan m)) (cost S.inst S.plan) (cost S.inst (after_move S.inst S.plan m)) refl
+proposed_names S m (Some item) is given = least-names S.inst S.plan item (sym given ∙ is)
+proposed_names S m None is given = judged_names S.inst (after_move S.inst S.plan m) (least S.inst (after_move S.inst S.plan m)) (cost S.inst S.plan) (cost S.inst (after_move S.inst S.plan m)) refl
 
 last_names : (J : Situation) (Q : PlanRows) (b : Option Broken) → least J Q ≡ b → AnswerNames J (batch_answer J (last_choice Q b))
 last_names J Q None is = tt
@@ -182,10 +182,10 @@ fallen_names J P =
 
 answer_names : (S : State) (e : Event) → KnowsBroken S → AnswerNames S.inst (answer S e)
 unfolding answer fallback_on
-answer_names S (event.Batch batch) told =
+answer_names S (event.Batch batch) given =
     let J = with_batch S.inst S.plan batch in
     answer_under S.inst J (with_batch-parts S.inst S.plan batch) (batch_answer J (fallback J S.plan)) (fallen_names J S.plan)
-answer_names S (event.Move m) told = proposed_names S m S.broken refl told
+answer_names S (event.Move m) given = proposed_names S m S.broken refl given
 
 -- ---- histories
 
@@ -201,7 +201,7 @@ stands_reported I J rows before entry stands =
     let same : S.inst.parts ≡ J.parts = state-parts (opening I) before ∙ rows in
     record {
       event = event_names J entry.event (askable-parts S.inst J entry.event same stands.asked);
-      answer = answer_under J S.inst same entry.answer (subst (AnswerNames S.inst) (sym stands.told) (answer_names S entry.event (state-known (opening I) before (opening-known I))));
+      answer = answer_under J S.inst same entry.answer (subst (AnswerNames S.inst) (sym stands.answered) (answer_names S entry.event (state-known (opening I) before (opening-known I))));
     }
 
 -- a legal history from the opening of a day can be reported of each day of the same rows, whatever orders that has

@@ -10,15 +10,15 @@ contains-cons x y xs (suc k, lt, is) = inr (k, omega arith, is)
 pub contains-first : {X : Type 0} (x : X) (xs : List X) → Contains (x ∷ xs) x
 contains-first x xs = (zero, omega arith, refl)
 
-pub contains-behind : {X : Type 0} (x y : X) (xs : List X) → Contains xs y → Contains (x ∷ xs) y
-contains-behind x y xs (k, lt, is) = (suc k, omega arith, is)
+pub contains-rest : {X : Type 0} (x y : X) (xs : List X) → Contains xs y → Contains (x ∷ xs) y
+contains-rest x y xs (k, lt, is) = (suc k, omega arith, is)
 
 -- each after the first stands in the relation to it
 pub pairs-first : {X : Type 0} (R : X → X → Type 0) (x y : X) (xs : List X) → AllPairs R (x ∷ xs) → Contains xs y → R x y
 pairs-first R x y xs pairs (k, lt, is) = subst (R x) is (pairs zero (suc k) y (omega arith) (omega arith))
 
-pub pairs-behind : {X : Type 0} (R : X → X → Type 0) (x : X) (xs : List X) → AllPairs R (x ∷ xs) → AllPairs R xs
-pairs-behind R x xs pairs i j d lt within = pairs (suc i) (suc j) d (omega arith) (omega arith)
+pub pairs-rest : {X : Type 0} (R : X → X → Type 0) (x : X) (xs : List X) → AllPairs R (x ∷ xs) → AllPairs R xs
+pairs-rest R x xs pairs i j d lt within = pairs (suc i) (suc j) d (omega arith) (omega arith)
 
 pub none_in : {X : Type 0} (y : X) → Contains [] y → ⊥
 none_in y (k, lt, is) = omega arith
@@ -46,7 +46,7 @@ after_head : {X : Type 0} (R : X → X → Type 0) (x y z : X) (xs ys : List X) 
 after_head R x y z xs ys strict same a to has =
     elim (contains-cons y z ys to) [
       | inl first ↦ absurd (strict.itself x (subst (R x) (first ∙ sym same) (pairs-first R x z xs a has)))
-      | inr behind ↦ behind
+      | inr after ↦ after
     ]
 
 pub same_ordered : {X : Type 0} (R : X → X → Type 0) (xs ys : List X) → IsStrict R → AllPairs R xs → AllPairs R ys → ((z : X) → Contains xs z → Contains ys z) → ((z : X) → Contains ys z → Contains xs z) → xs ≡ ys
@@ -55,7 +55,7 @@ same_ordered R [] (y ∷ ys) strict a b to back = absurd (none_in y (back y (con
 same_ordered R (x ∷ xs) [] strict a b to back = absurd (none_in x (to x (contains-first x xs)))
 same_ordered R (x ∷ xs) (y ∷ ys) strict a b to back =
     let same : x ≡ y = same_head R x y xs ys strict a b (to x (contains-first x xs)) (back y (contains-first y ys)) in
-    let rest : xs ≡ ys = same_ordered R xs ys strict (pairs-behind R x xs a) (pairs-behind R y ys b)
-    (λ z has. after_head R x y z xs ys strict same a (to z (contains-behind x z xs has)) has)
-    (λ z has. after_head R y x z ys xs strict (sym same) b (back z (contains-behind y z ys has)) has) in
+    let rest : xs ≡ ys = same_ordered R xs ys strict (pairs-rest R x xs a) (pairs-rest R y ys b)
+    (λ z has. after_head R x y z xs ys strict same a (to z (contains-rest x z xs has)) has)
+    (λ z has. after_head R y x z ys xs strict (sym same) b (back z (contains-rest y z ys has)) has) in
     ap (λ k. k ∷ xs) same ∙ ap (λ zs. y ∷ zs) rest

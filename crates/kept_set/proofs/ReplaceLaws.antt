@@ -8,7 +8,7 @@ use Rattle.std.specs.declared.cmp.Ordering.TheVariants.{Less, Equal}
 use Rattle.std.proofs.lemmas.Cmp.{tied_itself}
 use Rattle.std.proofs.lemmas.List.{get_or-set_same, get_or-set_other, length-set}
 use Rattle.std.proofs.lemmas.List.Edits.{length-remove, get_or-remove_below, get_or-remove_above}
-use Rattle.kept_set.specs.Kept.{AreSet, AreRising, AreReplaced, IsBetween, IsItemAt, IsItemBefore, IsLastBefore, IsFirstAfter}
+use Rattle.kept_set.specs.Kept.{AreSet, AreRising, AreReplaced, IsBetween, KeepsPlace, IsItemAt, IsItemBefore, IsLastBefore, IsFirstAfter}
 use Rattle.kept_set.proofs.SetLaws.{remove_set, remove_held}
 use Rattle.kept_set.proofs.NeighbourLaws.{found_before, found_not_below, found_after, found_not_above, last_before, first_after}
 
@@ -17,7 +17,7 @@ low_of : {K : Type 0} (cmp : K → K → Ordering) (xs : List K) (i : ℕ) (x : 
 low_of cmp xs i x None is below some d = absurd (some is)
 low_of cmp xs i x (Some z) is below some d = ap (λ y. cmp y x) (is.1 d) ∙ below
 
-high_of : {K : Type 0} (cmp : K → K → Ordering) (xs : List K) (i : ℕ) (x : K) (behind : Option K) → IsItemAt xs (i + 1) behind → IfSome behind (λ y. cmp x y ≡ Less) → i + 1 < length xs → (d : K) → cmp x (get_or xs (i + 1) d) ≡ Less
+high_of : {K : Type 0} (cmp : K → K → Ordering) (xs : List K) (i : ℕ) (x : K) (after : Option K) → IsItemAt xs (i + 1) after → IfSome after (λ y. cmp x y ≡ Less) → i + 1 < length xs → (d : K) → cmp x (get_or xs (i + 1) d) ≡ Less
 high_of cmp xs i x None is above some d = absurd (omega (arith, is, some))
 high_of cmp xs i x (Some z) is above some d = ap (λ y. cmp x y) (is.1 d) ∙ above
 
@@ -39,11 +39,11 @@ each_high {cmp = cmp} total xs i x rising high k d lt within =
       | inr same ↦ ap (λ (m : ℕ). cmp x (get_or xs m d)) same ∙ high some d
     ]
 
-pub replaced_rising : {K : Type 0} {cmp : K → K → Ordering} (total : IsTotalOrder cmp) (xs : List K) (i : ℕ) (x : K) (before behind : Option K) → AreRising cmp xs → i < length xs → IsItemBefore xs i before → IsItemAt xs (i + 1) behind → IsBetween cmp before x behind → AreRising cmp (set xs i x)
-replaced_rising {cmp = cmp} total xs i x before behind rising within is_before is_after between j k d lt in_new =
+pub replaced_rising : {K : Type 0} {cmp : K → K → Ordering} (total : IsTotalOrder cmp) (xs : List K) (i : ℕ) (x : K) (before after : Option K) → AreRising cmp xs → i < length xs → IsItemBefore xs i before → IsItemAt xs (i + 1) after → IsBetween cmp before x after → AreRising cmp (set xs i x)
+replaced_rising {cmp = cmp} total xs i x before after rising within is_before is_after between j k d lt in_new =
     let in_old : k < length xs = omega (arith, in_new, length-set xs i x) in
     let low = each_low total xs i x rising within (low_of cmp xs i x before is_before between.above) in
-    let high = each_high total xs i x rising (high_of cmp xs i x behind is_after between.below) in
+    let high = each_high total xs i x rising (high_of cmp xs i x after is_after between.below) in
     let cases : (k ≡ i) ⊎ ((j ≡ i) ⊎ ((k ≢ i) × (j ≢ i))) = grind arith in
     elim cases [
       | inl last ↦
@@ -116,19 +116,50 @@ before_place total xs i x None rising within at is = λ k d lt. found_not_below 
 before_place {cmp = cmp} total xs i x (Some z) rising within at is =
     last_before cmp xs i x z rising is.0 (omega (arith, within)) (sym (is.1 z)) (found_before total xs i x rising within at) (found_not_below total xs i x rising at)
 
-pub after_place : {K : Type 0} {cmp : K → K → Ordering} (total : IsTotalOrder cmp) (xs : List K) (i : ℕ) (x : K) (behind : Option K) → AreRising cmp xs → i < length xs → HoldsAt (λ y. cmp y x ≡ Equal) xs i → IsItemAt xs (i + 1) behind → IsFirstAfter cmp xs x behind
+pub after_place : {K : Type 0} {cmp : K → K → Ordering} (total : IsTotalOrder cmp) (xs : List K) (i : ℕ) (x : K) (after : Option K) → AreRising cmp xs → i < length xs → HoldsAt (λ y. cmp y x ≡ Equal) xs i → IsItemAt xs (i + 1) after → IsFirstAfter cmp xs x after
 after_place total xs i x None rising within at is = λ k d lt. found_not_above total xs i x rising within at k d (omega arith) (omega (arith, is, lt))
 after_place {cmp = cmp} total xs i x (Some z) rising within at is =
     first_after cmp xs (i + 1) x z rising is.0 (sym (is.1 z)) (found_not_above total xs i x rising within at) (found_after total xs i x rising at)
 
 -- a place after the one that changes has what it had
-pub same_after : {K : Type 0} (xs : List K) (i : ℕ) (x : K) (behind : Option K) → IsItemAt xs (i + 1) behind → IsItemAt (set xs i x) (i + 1) behind
+pub same_after : {K : Type 0} (xs : List K) (i : ℕ) (x : K) (after : Option K) → IsItemAt xs (i + 1) after → IsItemAt (set xs i x) (i + 1) after
 same_after xs i x None is = omega (arith, is, length-set xs i x)
 same_after xs i x (Some z) is = (omega (arith, is.0, length-set xs i x), λ d. get_or-set_other xs i (i + 1) x d (λ e. omega arith) ∙ is.1 d)
 
-pub same_before : {K : Type 0} (xs : List K) (i : ℕ) (x : K) (before : Option K) → IsItemBefore xs i before → IsItemBefore (set xs i x) i before
-same_before xs i x None is = is
-same_before xs i x (Some z) is = (is.0, λ d. let some = is.0 in get_or-set_other xs i (i - 1) x d (λ e. some (omega arith)) ∙ is.1 d)
-
 pub put_here : {K : Type 0} {cmp : K → K → Ordering} (total : IsTotalOrder cmp) (xs : List K) (i : ℕ) (x : K) → i < length xs → HoldsAt (λ y. cmp y x ≡ Equal) (set xs i x) i
 put_here {cmp = cmp} total xs i x within d = ap (λ y. cmp y x) (get_or-set_same xs i x d within) ∙ tied_itself total x
+
+-- ---- whether an item keeps the place of another
+
+low_kept : {K : Type 0} {cmp : K → K → Ordering} (total : IsTotalOrder cmp) (xs : List K) (old new : K) (before : Option K) → IsLastBefore cmp xs old before → IfSome before (λ y. cmp y new ≡ Less) → (k : ℕ) (d : K) → k < length xs → cmp (get_or xs k d) old ≡ Less → cmp (get_or xs k d) new ≡ Less
+low_kept total xs old new None last above k d lt less = absurd (last k d lt less)
+low_kept {cmp = cmp} total xs old new (Some z) last above k d lt less = elim (last.2 k d lt less) [
+  | inl same ↦ ap (λ y. cmp y new) same ∙ above
+  | inr below ↦ total.trans (get_or xs k d) z new below above
+]
+
+high_kept : {K : Type 0} {cmp : K → K → Ordering} (total : IsTotalOrder cmp) (xs : List K) (old new : K) (after : Option K) → IsFirstAfter cmp xs old after → IfSome after (λ y. cmp new y ≡ Less) → (k : ℕ) (d : K) → k < length xs → cmp old (get_or xs k d) ≡ Less → cmp new (get_or xs k d) ≡ Less
+high_kept total xs old new None next below k d lt less = absurd (next k d lt less)
+high_kept {cmp = cmp} total xs old new (Some z) next below k d lt less = elim (next.2 k d lt less) [
+  | inl same ↦ ap (λ y. cmp new y) same ∙ below
+  | inr above ↦ total.trans new z (get_or xs k d) below above
+]
+
+above_kept : {K : Type 0} (cmp : K → K → Ordering) (xs : List K) (old new : K) (before : Option K) → IsLastBefore cmp xs old before → KeepsPlace cmp xs old new → IfSome before (λ y. cmp y new ≡ Less)
+above_kept cmp xs old new None last keeps = tt
+above_kept cmp xs old new (Some z) last keeps =
+    let at = last.0 in
+    ap (λ y. cmp y new) (sym at.2) ∙ (keeps at.0 z at.1).0 (ap (λ y. cmp y old) at.2 ∙ last.1)
+
+below_kept : {K : Type 0} (cmp : K → K → Ordering) (xs : List K) (old new : K) (after : Option K) → IsFirstAfter cmp xs old after → KeepsPlace cmp xs old new → IfSome after (λ y. cmp new y ≡ Less)
+below_kept cmp xs old new None next keeps = tt
+below_kept cmp xs old new (Some z) next keeps =
+    let at = next.0 in
+    ap (λ y. cmp new y) (sym at.2) ∙ (keeps at.0 z at.1).1 (ap (λ y. cmp old y) at.2 ∙ next.1)
+
+pub between_keeps : {K : Type 0} {cmp : K → K → Ordering} (total : IsTotalOrder cmp) (xs : List K) (old new : K) (before after : Option K) → IsLastBefore cmp xs old before → IsFirstAfter cmp xs old after → IsBetween cmp before new after → KeepsPlace cmp xs old new
+between_keeps {cmp = cmp} total xs old new before after last next between k d lt =
+    (low_kept total xs old new before last between.above k d lt, high_kept total xs old new after next between.below k d lt)
+
+pub keeps_between : {K : Type 0} (cmp : K → K → Ordering) (xs : List K) (old new : K) (before after : Option K) → IsLastBefore cmp xs old before → IsFirstAfter cmp xs old after → KeepsPlace cmp xs old new → IsBetween cmp before new after
+keeps_between cmp xs old new before after last next keeps = record { above = above_kept cmp xs old new before last keeps; below = below_kept cmp xs old new after next keeps }

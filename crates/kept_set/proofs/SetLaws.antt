@@ -78,7 +78,7 @@ gap_lacks {cmp = cmp} total xs i x gap (k, lt, is) =
     let cases : (k < i) ⊎ (i ≤ k) = grind arith in
     elim cases [
       | inl less ↦ let low : cmp (get_or xs k x) x ≡ Less = gap.before k x (omega arith) less in absurd cc
-      | inr more ↦ let high : cmp (get_or xs k x) x ≡ Greater = gap.behind k x more lt in absurd cc
+      | inr more ↦ let high : cmp (get_or xs k x) x ≡ Greater = gap.after k x more lt in absurd cc
     ]
 
 pub insert_set : {K : Type 0} {cmp : K → K → Ordering} (xs : List K) (i : ℕ) (x : K) → IsGap cmp xs x i → AreSet xs (insert xs i x) x true
@@ -92,10 +92,10 @@ once {cmp = cmp} total xs i k x order below under at_i at_k =
     let itself : cmp x x ≡ Equal = tied_itself total x in
     let cases : (i < k) ⊎ ((i ≡ k) ⊎ (k < i)) = grind arith in
     elim cases [
-      | inl less ↦ let told : cmp (get_or xs i x) (get_or xs k x) ≡ Less = order i k x less under in let low : cmp x x ≡ Less = rw (at_i, at_k) at told in absurd cc
+      | inl less ↦ let given : cmp (get_or xs i x) (get_or xs k x) ≡ Less = order i k x less under in let low : cmp x x ≡ Less = rw (at_i, at_k) at given in absurd cc
       | inr rest ↦ elim rest [
         | inl same ↦ same
-        | inr more ↦ let told : cmp (get_or xs k x) (get_or xs i x) ≡ Less = order k i x more below in let low : cmp x x ≡ Less = rw (at_k, at_i) at told in absurd cc
+        | inr more ↦ let given : cmp (get_or xs k x) (get_or xs i x) ≡ Less = order k i x more below in let low : cmp x x ≡ Less = rw (at_k, at_i) at given in absurd cc
       ]
     ]
 

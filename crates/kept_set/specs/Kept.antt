@@ -34,11 +34,15 @@ pub record AreReplaced {K : Type 0} (old new : List K) (from to : K) : Type 0 wh
   pub come : AreSet mid new to true
   pub lacked : Contains mid to → ⊥
 
+-- another item has the place of an item: what is below the one is below the other, and what is above the one above the other
+abbrev pub KeepsPlace : {K : Type 0} → (K → K → Ordering) → List K → K → K → Type 0
+KeepsPlace cmp items from to = All (λ y. (cmp y from ≡ Less → cmp y to ≡ Less) × (cmp from y ≡ Less → cmp to y ≡ Less)) items
+
 -- where an item would stand that is not among the items
 pub record IsGap {K : Type 0} (cmp : K → K → Ordering) (items : List K) (item : K) (at : ℕ) : Type 0 where
   pub within : at ≤ length items
   pub before : AllWithin (λ y. cmp y item ≡ Less) items 0 at
-  pub behind : AllWithin (λ y. cmp y item ≡ Greater) items at (length items)
+  pub after : AllWithin (λ y. cmp y item ≡ Greater) items at (length items)
 
 -- the greatest item below an item, if there is one
 abbrev pub IsLastBefore : {K : Type 0} → (K → K → Ordering) → List K → K → Option K → Type 0
@@ -65,6 +69,6 @@ IsItemBefore items at None = at ≡ 0
 IsItemBefore items at (Some z) = (at ≢ 0) × HoldsAt (λ y. y ≡ z) items (at - 1)
 
 -- an item is above one, and below another, where there are these
-pub record IsBetween {K : Type 0} (cmp : K → K → Ordering) (before : Option K) (item : K) (behind : Option K) : Type 0 where
+pub record IsBetween {K : Type 0} (cmp : K → K → Ordering) (before : Option K) (item : K) (after : Option K) : Type 0 where
   pub above : IfSome before (λ y. cmp y item ≡ Less)
-  pub below : IfSome behind (λ y. cmp item y ≡ Less)
+  pub below : IfSome after (λ y. cmp item y ≡ Less)

@@ -1,24 +1,23 @@
 //! The set.
 
-ghost use Rattle.std.specs.Prelude.{◌≡◌, ◌≢◌, ◌+◌, ◌-◌, ◌<◌, ◌≤◌, [], length, OnOk, IfOk, IfErr, IfSome, IsNone, IsTrue, ◌↔◌, true, false, Some};
+ghost use Rattle.std.specs.Prelude.{◌≡◌, ◌≢◌, ◌+◌, ◌-◌, ◌<◌, ◌≤◌, [], length, OnOk, IfOk, IfErr, IfSome, IsNone, is_some, IsTrue, ◌↔◌, true, false, Some};
 ghost use Rattle.std.specs.List.{AllWithin, Contains, HoldsAt};
 ghost use Rattle.std.specs.declared.cmp.Ordering.TheVariants.{Less, Equal};
-ghost use Rattle.kept_set.specs.Kept.{AreReplaced, AreSet, AreRising, IsBetween, IsExact, IsFirstAfter, IsGap, IsItemAt, IsItemBefore, IsLastBefore, IsToggled, first};
+ghost use Rattle.kept_set.specs.Kept.{AreReplaced, AreSet, AreRising, IsBetween, IsExact, IsFirstAfter, IsGap, IsItemAt, IsItemBefore, IsLastBefore, IsToggled, KeepsPlace, first};
 
 use std::alloc::{AllocError, Global};
 use std::marker::Model;
 
 /// Items in their order, none twice. Contracts see them, and how many there is room for.
-#[derive(Debug, Drop)]
+#[derive(Drop)]
 pub struct KeptSet<K: Ord> {
     items: Vec<K>,
 }
 
-/// The items next to a place in the order, where there are some.
-#[derive(Clone, Copy, Debug)]
-pub struct Neighbours<K> {
-    pub before: Option<K>,
-    pub after: Option<K>,
+/// The item after a place in the order, if there is one.
+#[derive(Clone, Copy)]
+pub struct NextItem<K> {
+    pub item: Option<K>,
 }
 
 impl<K: Ord> Model for KeptSet<K> {
@@ -113,15 +112,15 @@ impl<K: Ord + Copy> KeptSet<K> {
         }
     }
 
-    /// Puts an item in the place of another, where it stays between its neighbours, and gives these.
-    /// `None` where the other is not among the items, or where it would not stay: then nothing changes.
+    /// Puts an item in the place of another, where it stays between its neighbours, and gives the item after
+    /// it. `None` where the other is not among the items, or where it would not stay: then nothing changes.
     /// It takes no memory.
-    pub fn replace(&mut self, from: K, to: K) -> Option<Neighbours<K>>
+    pub fn replace(&mut self, from: K, to: K) -> Option<NextItem<K>>
+        ensures when { IsExact K.cmp → IsTrue (is_some result) ↔ (Contains self.old.items from × KeepsPlace K.cmp self.old.items from to) }
         ensures none { IsNone result → self.new ≡ self.old }
-        ensures set { IfSome result (λ around. IsExact K.cmp → AreReplaced self.old.items self.new.items from to) }
-        ensures before { IfSome result (λ around. IsLastBefore K.cmp self.new.items to around.before) }
-        ensures after { IfSome result (λ around. IsFirstAfter K.cmp self.new.items to around.after) }
-        ensures was { IfSome result (λ around. IsFirstAfter K.cmp self.old.items from around.after) }
+        ensures set { IfSome result (λ next. IsExact K.cmp → AreReplaced self.old.items self.new.items from to) }
+        ensures after { IfSome result (λ next. IsFirstAfter K.cmp self.new.items to next.item) }
+        ensures was { IfSome result (λ next. IsFirstAfter K.cmp self.old.items from next.item) }
         ensures length { length self.new.items ≡ length self.old.items }
         ensures room { self.new.room ≡ self.old.room }
     {
@@ -130,9 +129,10 @@ impl<K: Ord + Copy> KeptSet<K> {
         };
         let before = self.item_before(at);
         let after = self.item_at(at + 1);
-        if is_between(before, to, after) {
+        let stays = is_between(before, to, after);
+        if stays {
             self.items[at] = to;
-            Some(Neighbours { before, after })
+            Some(NextItem { item: after })
         } else {
             None
         }
@@ -233,14 +233,14 @@ impl<K: Ord + Copy> KeptSet<K> {
 
 /// Whether an item is above another, if there is one, and below a third, if there is one.
 fn is_between<K: Ord + Copy>(before: Option<K>, item: K, after: Option<K>) -> bool
-    ensures { IsTrue result → IsBetween K.cmp before item after }
+    ensures { IsTrue result ↔ IsBetween K.cmp before item after }
 {
     is_above(item, before) && is_below(item, after)
 }
 
 /// Whether an item is above another, if there is one.
 fn is_above<K: Ord + Copy>(item: K, before: Option<K>) -> bool
-    ensures { IsTrue result → IfSome before (λ y. K.cmp y item ≡ Less) }
+    ensures { IsTrue result ↔ IfSome before (λ y. K.cmp y item ≡ Less) }
 {
     match before {
         Some(other) => other.cmp(&item).is_lt(),
@@ -250,7 +250,7 @@ fn is_above<K: Ord + Copy>(item: K, before: Option<K>) -> bool
 
 /// Whether an item is below another, if there is one.
 fn is_below<K: Ord + Copy>(item: K, after: Option<K>) -> bool
-    ensures { IsTrue result → IfSome after (λ y. K.cmp item y ≡ Less) }
+    ensures { IsTrue result ↔ IfSome after (λ y. K.cmp item y ≡ Less) }
 {
     match after {
         Some(other) => item.cmp(&other).is_lt(),

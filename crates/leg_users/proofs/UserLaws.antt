@@ -78,8 +78,8 @@ pub among-holds : (xs : List Res) (x : Res) → among xs x.0 ≡ true → Contai
 among-holds xs x some = Contains-from_any {eq = is_res} is_one x xs some
 
 -- what a look-up reports
-pub reported_among : (xs : List Res) (x : Res) (told : Bool) → IsTrue told ↔ Contains xs x → among xs x.0 ≡ told
-reported_among xs x told is = same_tests (among xs x.0) told (λ some. is.1 (among-holds xs x some)) (λ so. among-from xs x (is.0 so))
+pub reported_among : (xs : List Res) (x : Res) (given : Bool) → IsTrue given ↔ Contains xs x → among xs x.0 ≡ given
+reported_among xs x given is = same_tests (among xs x.0) given (λ some. is.1 (among-holds xs x some)) (λ so. among-from xs x (is.0 so))
 
 pub among_set : (old new : List Res) (item : Res) (b : Bool) → AreSet old new item b → (r : ℕ) → among new r ≡ (if eqb r item.0 then b else among old r)
 among_set old new item b set r = elim (cases_Bool (eqb r item.0)) [
@@ -224,9 +224,9 @@ kept_same ls now x kept new view is same =
     map-set_same (λ (k : OrderedItems Res). k.items) ls x new kept (same ∙ ap (λ (k : OrderedItems Res). k.items) is) ∙ view
 
 -- whether a reservation is kept for a leg
-pub kept_reported : (ls : List (OrderedItems Res)) (now : List (List Res)) (x : ℕ) (kept : OrderedItems Res) (item : Res) (told : Bool) → map (λ k. k.items) ls ≡ now → x < length now → kept ≡ get_or ls x kept → IsTrue told ↔ Contains kept.items item → has_user now x item.0 ≡ told
-kept_reported ls now x kept item told view within is tells =
-    ap (λ (xs : List Res). among xs item.0) (kept_at ls now x kept view within is) ∙ reported_among kept.items item told tells
+pub kept_reported : (ls : List (OrderedItems Res)) (now : List (List Res)) (x : ℕ) (kept : OrderedItems Res) (item : Res) (given : Bool) → map (λ k. k.items) ls ≡ now → x < length now → kept ≡ get_or ls x kept → IsTrue given ↔ Contains kept.items item → has_user now x item.0 ≡ given
+kept_reported ls now x kept item given view within is tells =
+    ap (λ (xs : List Res). among xs item.0) (kept_at ls now x kept view within is) ∙ reported_among kept.items item given tells
 
 -- what is kept is within
 pub kept_within : (now : List (List Res)) (x : ℕ) (xs : List Res) (P : PlanRows) → users_at now x ≡ xs → HasUsers P (has_user now) → All (λ res. res.0 < length P.groups) xs

@@ -15,7 +15,7 @@ use std::marker::Model;
 
 /// For each leg the reservations of which some group may have it in its path. Contracts see them as a
 /// list for each leg.
-#[derive(Debug, Drop)]
+#[derive(Drop)]
 pub struct LegUsers {
     legs: Vec<KeptSet<Res>>,
 }

@@ -38,15 +38,15 @@ blank zero x = refl
 blank (suc n) zero = refl
 blank (suc n) (suc x) = blank n x
 
-pub inverse_none : (before behind : List (Option Leg)) (n : ℕ) → n ≡ length before → behind ≡ replicate n None → IsInverse 0 before behind
-inverse_none before behind n long is = subst (IsInverse 0 before) (sym is) (record {
+pub inverse_none : (before after : List (Option Leg)) (n : ℕ) → n ≡ length before → after ≡ replicate n None → IsInverse 0 before after
+inverse_none before after n long is = subst (IsInverse 0 before) (sym is) (record {
   legs = length-replicate n None ∙ long;
   found = λ x. subst (λ o. ForSome o (λ next. (next.0 < length before) × (get_or before next.0 None ≡ Some (record { 0 = x })))) (sym (blank n x)) (for_none (λ next. (next.0 < length before) × (get_or before next.0 None ≡ Some (record { 0 = x }))));
   all = λ x y lt was now. omega (arith, lt);
 })
 
-pub inverse_same : (before behind : List (Option Leg)) (n : ℕ) → ((leg : Leg) → get_or before n None ≡ Some leg → ⊥) → IsInverse n before behind → IsInverse (n + 1) before behind
-inverse_same before behind n off is = record {
+pub inverse_same : (before after : List (Option Leg)) (n : ℕ) → ((leg : Leg) → get_or before n None ≡ Some leg → ⊥) → IsInverse n before after → IsInverse (n + 1) before after
+inverse_same before after n off is = record {
   legs = is.legs;
   found = is.found;
   all = λ x y lt was now. elim (below_cases y n lt) [
@@ -55,35 +55,35 @@ inverse_same before behind n off is = record {
   ];
 }
 
-written : (behind : List (Option Leg)) (x : ℕ) (next : Leg) → x < length behind → get_or (set behind x (Some next)) x None ≡ None → ⊥
-written behind x next lt now = let e : get_or (set behind x (Some next)) x None ≡ Some next = get_or-set_same behind x (Some next) None lt in cc
+written : (after : List (Option Leg)) (x : ℕ) (next : Leg) → x < length after → get_or (set after x (Some next)) x None ≡ None → ⊥
+written after x next lt now = let e : get_or (set after x (Some next)) x None ≡ Some next = get_or-set_same after x (Some next) None lt in cc
 
-inverse_found : (before behind : List (Option Leg)) (n : ℕ) (leg next : Leg) (x : ℕ) → n < length before → next.0 ≡ n → get_or before n None ≡ Some leg → leg.0 < length behind → (x ≡ leg.0) ⊎ (x ≢ leg.0) → ForSome (get_or behind x None) (λ k. (k.0 < length before) × (get_or before k.0 None ≡ Some (record { 0 = x }))) → ForSome (get_or (set behind leg.0 (Some next)) x None) (λ k. (k.0 < length before) × (get_or before k.0 None ≡ Some (record { 0 = x })))
-inverse_found before behind n leg next x lt same was within (inl here) old =
-    let at : get_or (set behind leg.0 (Some next)) x None ≡ Some next = ap (λ (k : ℕ). get_or (set behind leg.0 (Some next)) k None) here ∙ get_or-set_same behind leg.0 (Some next) None within in
+inverse_found : (before after : List (Option Leg)) (n : ℕ) (leg next : Leg) (x : ℕ) → n < length before → next.0 ≡ n → get_or before n None ≡ Some leg → leg.0 < length after → (x ≡ leg.0) ⊎ (x ≢ leg.0) → ForSome (get_or after x None) (λ k. (k.0 < length before) × (get_or before k.0 None ≡ Some (record { 0 = x }))) → ForSome (get_or (set after leg.0 (Some next)) x None) (λ k. (k.0 < length before) × (get_or before k.0 None ≡ Some (record { 0 = x })))
+inverse_found before after n leg next x lt same was within (inl here) old =
+    let at : get_or (set after leg.0 (Some next)) x None ≡ Some next = ap (λ (k : ℕ). get_or (set after leg.0 (Some next)) k None) here ∙ get_or-set_same after leg.0 (Some next) None within in
     let back : get_or before next.0 None ≡ Some (record { 0 = x }) = ap (λ (k : ℕ). get_or before k None) same ∙ was ∙ ap (λ (k : ℕ). let l : Leg = record { 0 = k } in Some l) (sym here) in
     subst (λ o. ForSome o (λ k. (k.0 < length before) × (get_or before k.0 None ≡ Some (record { 0 = x })))) (sym at)
     (for_some (λ k. (k.0 < length before) × (get_or before k.0 None ≡ Some (record { 0 = x }))) next (omega (arith, same, lt), back))
-inverse_found before behind n leg next x lt same was within (inr apart) old =
-    subst (λ o. ForSome o (λ k. (k.0 < length before) × (get_or before k.0 None ≡ Some (record { 0 = x })))) (sym (get_or-set_other behind leg.0 x (Some next) None apart)) old
+inverse_found before after n leg next x lt same was within (inr apart) old =
+    subst (λ o. ForSome o (λ k. (k.0 < length before) × (get_or before k.0 None ≡ Some (record { 0 = x })))) (sym (get_or-set_other after leg.0 x (Some next) None apart)) old
 
-inverse_all : (before behind : List (Option Leg)) (n : ℕ) (leg next : Leg) (x y : ℕ) → get_or before n None ≡ Some leg → leg.0 < length behind → IsInverse n before behind → (y < n) ⊎ (y ≡ n) → (x ≡ leg.0) ⊎ (x ≢ leg.0) → get_or before y None ≡ Some (record { 0 = x }) → get_or (set behind leg.0 (Some next)) x None ≡ None → ⊥
-inverse_all before behind n leg next x y was within is place (inl here) had now =
-    written behind leg.0 next within (subst (λ (k : ℕ). get_or (set behind leg.0 (Some next)) k None ≡ None) here now)
-inverse_all before behind n leg next x y was within is (inl less) (inr apart) had now =
-    is.all x y less had (sym (get_or-set_other behind leg.0 x (Some next) None apart) ∙ now)
-inverse_all before behind n leg next x y was within is (inr last) (inr apart) had now =
+inverse_all : (before after : List (Option Leg)) (n : ℕ) (leg next : Leg) (x y : ℕ) → get_or before n None ≡ Some leg → leg.0 < length after → IsInverse n before after → (y < n) ⊎ (y ≡ n) → (x ≡ leg.0) ⊎ (x ≢ leg.0) → get_or before y None ≡ Some (record { 0 = x }) → get_or (set after leg.0 (Some next)) x None ≡ None → ⊥
+inverse_all before after n leg next x y was within is place (inl here) had now =
+    written after leg.0 next within (subst (λ (k : ℕ). get_or (set after leg.0 (Some next)) k None ≡ None) here now)
+inverse_all before after n leg next x y was within is (inl less) (inr apart) had now =
+    is.all x y less had (sym (get_or-set_other after leg.0 x (Some next) None apart) ∙ now)
+inverse_all before after n leg next x y was within is (inr last) (inr apart) had now =
     let at : get_or before n None ≡ Some (record { 0 = x }) = subst (λ (k : ℕ). get_or before k None ≡ Some (record { 0 = x })) last had in
     let same : leg ≡ record { 0 = x } = cc in
     apart (sym (ap (λ (l : Leg). l.0) same))
 
-pub inverse_more : (before behind : List (Option Leg)) (n : ℕ) (leg next : Leg) → n < length before → next.0 ≡ n → get_or before n None ≡ Some leg → leg.0 < length before → IsInverse n before behind → IsInverse (n + 1) before (set behind leg.0 (Some next))
-inverse_more before behind n leg next lt same was within is =
-    let inside : leg.0 < length behind = omega (arith, is.legs, within) in
+pub inverse_more : (before after : List (Option Leg)) (n : ℕ) (leg next : Leg) → n < length before → next.0 ≡ n → get_or before n None ≡ Some leg → leg.0 < length before → IsInverse n before after → IsInverse (n + 1) before (set after leg.0 (Some next))
+inverse_more before after n leg next lt same was within is =
+    let inside : leg.0 < length after = omega (arith, is.legs, within) in
     record {
-      legs = length-set behind leg.0 (Some next) ∙ is.legs;
-      found = λ x. inverse_found before behind n leg next x lt same was inside (cases_eq x leg.0) (is.found x);
-      all = λ x y below had now. inverse_all before behind n leg next x y was inside is (below_cases y n below) (cases_eq x leg.0) had now;
+      legs = length-set after leg.0 (Some next) ∙ is.legs;
+      found = λ x. inverse_found before after n leg next x lt same was inside (cases_eq x leg.0) (is.found x);
+      all = λ x y below had now. inverse_all before after n leg next x y was inside is (below_cases y n below) (cases_eq x leg.0) had now;
     }
 
 -- ---- the legs from a leg on are the leg, and those from the leg after it on
@@ -94,8 +94,8 @@ later_flown x y (Flown p d) Cancelled h = absurd (true≢false (sym h))
 later_flown x y Cancelled s h = absurd (true≢false (sym h))
 
 -- x is the leg before the one that is after it
-next-nearest : (rows : List Row) (before behind : List (Option Leg)) (x : ℕ) (next : Leg) → AreBefore rows before → IsInverse (length before) before behind → get_or behind x None ≡ Some next → IsNearest rows (length rows) next.0 x
-next-nearest rows before behind x next are is at =
+next-nearest : (rows : List Row) (before after : List (Option Leg)) (x : ℕ) (next : Leg) → AreBefore rows before → IsInverse (length before) before after → get_or after x None ≡ Some next → IsNearest rows (length rows) next.0 x
+next-nearest rows before after x next are is at =
     let own = is.found x next at in
     let lt = own.0 in
     subst (λ o. IsLegBefore rows (length rows) next.0 o) own.1 (are.each next.0 (omega (arith, are.legs, lt)))
@@ -104,12 +104,12 @@ from-next : (I : Situation) (P : PlanRows) (x y z : ℕ) → Precedes P x y → 
 from-next I P x y z first is =
     elim is.place [
       | inl same ↦ subst (Precedes P x) (sym same) first
-      | inr behind ↦ precedes-trans P x y z first behind
+      | inr after ↦ precedes-trans P x y z first after
     ]
 
 -- a leg after x is the next one, or after that
-behind-next : (I : Situation) (P : PlanRows) (x y z : ℕ) → IsNearest P.rows (legs_of I) y x → Precedes P x y → y < legs_of I → z < legs_of I → Precedes P x z → IsFrom I P y z
-behind-next I P x y z nearest first inside within before =
+after-next : (I : Situation) (P : PlanRows) (x y z : ℕ) → IsNearest P.rows (legs_of I) y x → Precedes P x y → y < legs_of I → z < legs_of I → Precedes P x z → IsFrom I P y z
+after-next I P x y z nearest first inside within before =
     let plane : before.plane ≡ first.plane = flown_once P x before.plane first.plane before.dep first.dep before.first first.first in
     let own : Flies P z first.plane before.later = subst (λ (p : ℕ). Flies P z p before.later) plane before.second in
     let place : (z ≡ y) ⊎ Precedes P y z =
@@ -128,38 +128,38 @@ from-itself I P x within flown =
     let row = row_flown (row_at P x) flown in
     record { within = within; plane = row.plane; dep = row.dep; flown = row.is; place = inl refl }
 
-from-behind : (I : Situation) (P : PlanRows) (x z : ℕ) → z < legs_of I → Precedes P x z → IsFrom I P x z
-from-behind I P x z within before = record { within = within; plane = before.plane; dep = before.dep; flown = before.first; place = inr before }
+from-after : (I : Situation) (P : PlanRows) (x z : ℕ) → z < legs_of I → Precedes P x z → IsFrom I P x z
+from-after I P x z within before = record { within = within; plane = before.plane; dep = before.dep; flown = before.first; place = inr before }
 
 from-some : (I : Situation) (P : PlanRows) (x y : ℕ) → x < legs_of I → is_flown (row_at P x) ≡ true → y < legs_of I → IsNearest P.rows (legs_of I) y x → legs_from I P x ≡ x ∷ legs_from I P y
 from-some I P x y within flown inside nearest =
     let first : Precedes P x y = precedes-holds P x y nearest.before in
-    let behind : All (Precedes P x) (legs_from I P y) = All_from_contains (Precedes P x) (legs_from I P y) (λ z has. from-next I P x y z first (from-holds I P y z has)) in
+    let after : All (Precedes P x) (legs_from I P y) = All_from_contains (Precedes P x) (legs_from I P y) (λ z has. from-next I P x y z first (from-holds I P y z has)) in
     same_ordered (Precedes P) (precedes-trans P) (precedes-itself P) (legs_from I P x) (x ∷ legs_from I P y) (from-ordered I P x)
-    (AllPairs-cons (Precedes P) x (legs_from I P y) behind (from-ordered I P y))
+    (AllPairs-cons (Precedes P) x (legs_from I P y) after (from-ordered I P y))
     (λ z has.
     let is = from-holds I P x z has in
     elim is.place [
       | inl same ↦ subst (Contains (x ∷ legs_from I P y)) (sym same) (contains_head x (legs_from I P y))
-      | inr before ↦ contains_tail x z (legs_from I P y) (from-each I P y z (behind-next I P x y z nearest first inside is.within before))
+      | inr before ↦ contains_tail x z (legs_from I P y) (from-each I P y z (after-next I P x y z nearest first inside is.within before))
     ])
     (λ z has.
     elim (contains_cases x z (legs_from I P y) has) [
       | inl same ↦ subst (Contains (legs_from I P x)) same (from-each I P x x (from-itself I P x within flown))
       | inr there ↦
           let is = from-holds I P y z there in
-          from-each I P x z (from-behind I P x z is.within (from-next I P x y z first is))
+          from-each I P x z (from-after I P x z is.within (from-next I P x y z first is))
     ])
 
 All-contains-at : (P : PlanRows) (y w : ℕ) (ys : List ℕ) → All (Precedes P y) ys → Contains ys w → Precedes P y w
 All-contains-at P y w ys all has = All-contains (Precedes P y) ys w all has
 
 -- where no leg has x before it, none is after x: the first of those after it would
-before_first : (I : Situation) (P : PlanRows) (before behind : List (Option Leg)) (x y : ℕ) (ys : List ℕ) (o : Option Leg) → get_or before y None ≡ o → length P.rows ≡ legs_of I → AreBefore P.rows before → IsInverse (length before) before behind → x < legs_of I → get_or behind x None ≡ None
+before_first : (I : Situation) (P : PlanRows) (before after : List (Option Leg)) (x y : ℕ) (ys : List ℕ) (o : Option Leg) → get_or before y None ≡ o → length P.rows ≡ legs_of I → AreBefore P.rows before → IsInverse (length before) before after → x < legs_of I → get_or after x None ≡ None
     → All (Precedes P y) ys → y < legs_of I → precedes P x y ≡ true → ((w : ℕ) → w < legs_of I → precedes P x w ≡ true → Contains (y ∷ ys) w) → IsLegBefore P.rows (length P.rows) y o → ⊥
-before_first I P before behind x y ys None at long are is within none head inside first each nothing =
+before_first I P before after x y ys None at long are is within none head inside first each nothing =
     not_both (precedes P x y) first (nothing x (omega (arith, long, within)))
-before_first I P before behind x y ys (Some w) at long are is within none head inside first each nearest =
+before_first I P before after x y ys (Some w) at long are is within none head inside first each nearest =
     let apart : precedes P w.0 x ≡ false = nearest.nearest x (omega (arith, long, within)) first in
     elim (comes_before-total w.0 x y (row_at P w.0) (row_at P x) (row_at P y) nearest.before first apart) [
       | inl same ↦ is.all x y (omega (arith, are.legs, long, inside)) (at ∙ ap (λ (k : ℕ). let l : Leg = record { 0 = k } in Some l) same) none
@@ -172,26 +172,26 @@ before_first I P before behind x y ys (Some w) at long are is within none head i
           ]
     ]
 
-first_after : (I : Situation) (P : PlanRows) (before behind : List (Option Leg)) (x z : ℕ) (ys : List ℕ) → length P.rows ≡ legs_of I → AreBefore P.rows before → IsInverse (length before) before behind → x < legs_of I → get_or behind x None ≡ None
+first_after : (I : Situation) (P : PlanRows) (before after : List (Option Leg)) (x z : ℕ) (ys : List ℕ) → length P.rows ≡ legs_of I → AreBefore P.rows before → IsInverse (length before) before after → x < legs_of I → get_or after x None ≡ None
     → AllPairs (Precedes P) ys → All (λ y. (y < legs_of I) × (precedes P x y ≡ true)) ys → ((w : ℕ) → w < legs_of I → precedes P x w ≡ true → Contains ys w) → Contains ys z → ⊥
-first_after I P before behind x z [] long are is within none ordered sound each has = contains_none z has
-first_after I P before behind x z (y ∷ ys) long are is within none ordered sound each has =
+first_after I P before after x z [] long are is within none ordered sound each has = contains_none z has
+first_after I P before after x z (y ∷ ys) long are is within none ordered sound each has =
     let own = All-head (λ k. (k < legs_of I) × (precedes P x k ≡ true)) y ys sound in
     let inside = own.0 in
     let placed : y < length P.rows = omega (arith, long, inside) in
-    before_first I P before behind x y ys (get_or before y None) refl long are is within none (pairs_head (Precedes P) y ys ordered) inside own.1 each (are.each y placed)
+    before_first I P before after x y ys (get_or before y None) refl long are is within none (pairs_head (Precedes P) y ys ordered) inside own.1 each (are.each y placed)
 
-from-none : (I : Situation) (P : PlanRows) (before behind : List (Option Leg)) (x : ℕ) → length P.rows ≡ legs_of I → AreBefore P.rows before → IsInverse (length before) before behind → x < legs_of I → is_flown (row_at P x) ≡ true → get_or behind x None ≡ None → legs_from I P x ≡ x ∷ []
-from-none I P before behind x long are is within flown none =
+from-none : (I : Situation) (P : PlanRows) (before after : List (Option Leg)) (x : ℕ) → length P.rows ≡ legs_of I → AreBefore P.rows before → IsInverse (length before) before after → x < legs_of I → is_flown (row_at P x) ≡ true → get_or after x None ≡ None → legs_from I P x ≡ x ∷ []
+from-none I P before after x long are is within flown none =
     let later = filter (precedes P x) (legs_from I P x) in
     let nothing : (z : ℕ) → z < legs_of I → Precedes P x z → ⊥ = λ z lt ahead.
-    first_after I P before behind x z later long are is within none
+    first_after I P before after x z later long are is within none
     (AllPairs-filter (Precedes P) (precedes P x) (legs_from I P x) (from-ordered I P x))
     (All_from_contains (λ y. (y < legs_of I) × (precedes P x y ≡ true)) later (λ y has.
     let parts = filter_contains (precedes P x) (legs_from I P x) y has in
     ((from-holds I P x y parts.0).within, parts.1)))
-    (λ w inside test. contains_filter (precedes P x) (legs_from I P x) w (from-each I P x w (from-behind I P x w inside (precedes-holds P x w test))) test)
-    (contains_filter (precedes P x) (legs_from I P x) z (from-each I P x z (from-behind I P x z lt ahead)) (precedes-from P x z ahead)) in
+    (λ w inside test. contains_filter (precedes P x) (legs_from I P x) w (from-each I P x w (from-after I P x w inside (precedes-holds P x w test))) test)
+    (contains_filter (precedes P x) (legs_from I P x) z (from-each I P x z (from-after I P x z lt ahead)) (precedes-from P x z ahead)) in
     same_ordered (Precedes P) (precedes-trans P) (precedes-itself P) (legs_from I P x) (x ∷ []) (from-ordered I P x)
     (AllPairs-cons (Precedes P) x [] (All-nil (Precedes P x)) (pairs_nil (Precedes P)))
     (λ z has.
@@ -206,21 +206,21 @@ from-none I P before behind x long are is within flown none =
       | inr there ↦ absurd (contains_none z there)
     ])
 
-from-behind-of : (I : Situation) (P : PlanRows) (before behind : List (Option Leg)) (x : ℕ) (o : Option Leg) → get_or behind x None ≡ o → length P.rows ≡ legs_of I → AreBefore P.rows before → IsInverse (length before) before behind → x < legs_of I → is_flown (row_at P x) ≡ true → legs_from I P x ≡ x ∷ from_next I P o
-from-behind-of I P before behind x None at long are is within flown = from-none I P before behind x long are is within flown at
-from-behind-of I P before behind x (Some next) at long are is within flown =
+from-after-of : (I : Situation) (P : PlanRows) (before after : List (Option Leg)) (x : ℕ) (o : Option Leg) → get_or after x None ≡ o → length P.rows ≡ legs_of I → AreBefore P.rows before → IsInverse (length before) before after → x < legs_of I → is_flown (row_at P x) ≡ true → legs_from I P x ≡ x ∷ from_next I P o
+from-after-of I P before after x None at long are is within flown = from-none I P before after x long are is within flown at
+from-after-of I P before after x (Some next) at long are is within flown =
     let lt = (is.found x next at).0 in
-    let nearest : IsNearest P.rows (legs_of I) next.0 x = subst (λ (n : ℕ). IsNearest P.rows n next.0 x) long (next-nearest P.rows before behind x next are is at) in
+    let nearest : IsNearest P.rows (legs_of I) next.0 x = subst (λ (n : ℕ). IsNearest P.rows n next.0 x) long (next-nearest P.rows before after x next are is at) in
     from-some I P x next.0 within flown (omega (arith, are.legs, long, lt)) nearest
 
-pub behind-are : (I : Situation) (P : PlanRows) (before behind : List (Option Leg)) → IsPlanFor I P → AreBefore P.rows before → IsInverse (length before) before behind → AreAfter I P behind
-behind-are I P before behind plan are is =
+pub after-are : (I : Situation) (P : PlanRows) (before after : List (Option Leg)) → IsPlanFor I P → AreBefore P.rows before → IsInverse (length before) before after → AreAfter I P after
+after-are I P before after plan are is =
     let long = plan.legs in
     record {
       legs = is.legs ∙ are.legs ∙ plan.legs;
       within = λ x next at. let lt = (is.found x next at).0 in omega (arith, are.legs, long, lt);
-      flown = λ x next at. later_flown x next.0 (row_at P x) (row_at P next.0) (next-nearest P.rows before behind x next are is at).before;
-      each = λ x lt flown. from-behind-of I P before behind x (get_or behind x None) refl plan.legs are is lt flown;
+      flown = λ x next at. later_flown x next.0 (row_at P x) (row_at P next.0) (next-nearest P.rows before after x next are is at).before;
+      each = λ x lt flown. from-after-of I P before after x (get_or after x None) refl plan.legs are is lt flown;
     }
 
 -- the legs before are in range

@@ -20,36 +20,36 @@ use Rattle.near_legs.specs.Choices.{IsFlownLeg}
 -- ---- legs that are taken one after another
 
 -- the legs so far, and those from the next one on, are the legs from leg x on
-pub record IsOnWay (I : Situation) (P : PlanRows) (x : ℕ) (legs : List Leg) (next : Option Leg) (n : ℕ) : Type 0 where
+pub record IsRunSoFar (I : Situation) (P : PlanRows) (x : ℕ) (legs : List Leg) (next : Option Leg) (n : ℕ) : Type 0 where
   pub legs_are : map (λ (l : Leg). l.0) legs ++ from_next I P next ≡ legs_from I P x
   pub count : length legs ≡ n
   pub within : All (λ l. l.0 < legs_of I) legs
   pub flown : ForSome next (λ l. IsFlownLeg I P l.0)
 
-pub way-starts : (I : Situation) (P : PlanRows) (leg : Leg) → IsFlownLeg I P leg.0 → IsOnWay I P leg.0 [] (Some leg) 0
-way-starts I P leg flown = record { legs_are = refl; count = refl; within = All-nil (λ (l : Leg). l.0 < legs_of I); flown = for_some (λ (l : Leg). IsFlownLeg I P l.0) leg flown }
+pub so_far-starts : (I : Situation) (P : PlanRows) (leg : Leg) → IsFlownLeg I P leg.0 → IsRunSoFar I P leg.0 [] (Some leg) 0
+so_far-starts I P leg flown = record { legs_are = refl; count = refl; within = All-nil (λ (l : Leg). l.0 < legs_of I); flown = for_some (λ (l : Leg). IsFlownLeg I P l.0) leg flown }
 
-pub next-flown : (I : Situation) (P : PlanRows) (behind : List (Option Leg)) (x : ℕ) → AreAfter I P behind → ForSome (get_or behind x None) (λ l. IsFlownLeg I P l.0)
-next-flown I P behind x are = λ next at. record { within = are.within x next at; flown = are.flown x next at }
+pub next-flown : (I : Situation) (P : PlanRows) (after : List (Option Leg)) (x : ℕ) → AreAfter I P after → ForSome (get_or after x None) (λ l. IsFlownLeg I P l.0)
+next-flown I P after x are = λ next at. record { within = are.within x next at; flown = are.flown x next at }
 
-pub way-goes : (I : Situation) (P : PlanRows) (x : ℕ) (legs : List Leg) (leg : Leg) (n : ℕ) (behind : List (Option Leg)) → AreAfter I P behind → IsOnWay I P x legs (Some leg) n → IsOnWay I P x (legs ++ leg ∷ []) (get_or behind leg.0 None) (n + 1)
-way-goes I P x legs leg n behind are way =
-    let own : IsFlownLeg I P leg.0 = way.flown leg refl in
-    let here : legs_from I P leg.0 ≡ leg.0 ∷ from_next I P (get_or behind leg.0 None) = are.each leg.0 own.within own.flown in
+pub so_far-goes : (I : Situation) (P : PlanRows) (x : ℕ) (legs : List Leg) (leg : Leg) (n : ℕ) (after : List (Option Leg)) → AreAfter I P after → IsRunSoFar I P x legs (Some leg) n → IsRunSoFar I P x (legs ++ leg ∷ []) (get_or after leg.0 None) (n + 1)
+so_far-goes I P x legs leg n after are so_far =
+    let own : IsFlownLeg I P leg.0 = so_far.flown leg refl in
+    let here : legs_from I P leg.0 ≡ leg.0 ∷ from_next I P (get_or after leg.0 None) = are.each leg.0 own.within own.flown in
     record {
       legs_are =
-          ap (λ (xs : List ℕ). xs ++ from_next I P (get_or behind leg.0 None)) (map-append (λ (l : Leg). l.0) legs (leg ∷ []))
-          ∙ append_assoc (map (λ (l : Leg). l.0) legs) (leg.0 ∷ []) (from_next I P (get_or behind leg.0 None))
+          ap (λ (xs : List ℕ). xs ++ from_next I P (get_or after leg.0 None)) (map-append (λ (l : Leg). l.0) legs (leg ∷ []))
+          ∙ append_assoc (map (λ (l : Leg). l.0) legs) (leg.0 ∷ []) (from_next I P (get_or after leg.0 None))
           ∙ ap (λ (xs : List ℕ). map (λ (l : Leg). l.0) legs ++ xs) (sym here)
-          ∙ way.legs_are;
-      count = length-append legs (leg ∷ []) ∙ ap (λ (k : ℕ). k + 1) way.count;
-      within = All-push (λ (l : Leg). l.0 < legs_of I) legs leg way.within own.within;
-      flown = next-flown I P behind leg.0 are;
+          ∙ so_far.legs_are;
+      count = length-append legs (leg ∷ []) ∙ ap (λ (k : ℕ). k + 1) so_far.count;
+      within = All-push (λ (l : Leg). l.0 < legs_of I) legs leg so_far.within own.within;
+      flown = next-flown I P after leg.0 are;
     }
 
-pub way-ends : (I : Situation) (P : PlanRows) (x : ℕ) (legs : List Leg) (next : Option Leg) (n : ℕ) → IsOnWay I P x legs next n → map (λ (l : Leg). l.0) legs ≡ run I P x n
-way-ends I P x legs next n way =
-    sym (take_at (map (λ (l : Leg). l.0) legs) (from_next I P next) n (length-map legs (λ (l : Leg). l.0) ∙ way.count)) ∙ ap (take n) way.legs_are
+pub so_far-ends : (I : Situation) (P : PlanRows) (x : ℕ) (legs : List Leg) (next : Option Leg) (n : ℕ) → IsRunSoFar I P x legs next n → map (λ (l : Leg). l.0) legs ≡ run I P x n
+so_far-ends I P x legs next n so_far =
+    sym (take_at (map (λ (l : Leg). l.0) legs) (from_next I P next) n (length-map legs (λ (l : Leg). l.0) ∙ so_far.count)) ∙ ap (take n) so_far.legs_are
 
 pub all_taken : {X : Type 0} (xs : List X) (n : ℕ) → length xs ≤ n → take n xs ≡ xs
 all_taken [] zero h = refl
@@ -57,10 +57,10 @@ all_taken [] (suc n) h = refl
 all_taken (x ∷ xs) zero h = absurd (omega (arith, h))
 all_taken (x ∷ xs) (suc n) h = ap (λ ys. x ∷ ys) (all_taken xs n (omega (arith, h)))
 
-pub way-stops : (I : Situation) (P : PlanRows) (x : ℕ) (legs : List Leg) (n k : ℕ) → IsOnWay I P x legs None n → n ≤ k → map (λ (l : Leg). l.0) legs ≡ run I P x k
-way-stops I P x legs n k way le =
-    let all : map (λ (l : Leg). l.0) legs ≡ legs_from I P x = sym (append-nil (map (λ (l : Leg). l.0) legs)) ∙ way.legs_are in
-    let long : length (legs_from I P x) ≡ n = ap length (sym all) ∙ length-map legs (λ (l : Leg). l.0) ∙ way.count in
+pub so_far-stops : (I : Situation) (P : PlanRows) (x : ℕ) (legs : List Leg) (n k : ℕ) → IsRunSoFar I P x legs None n → n ≤ k → map (λ (l : Leg). l.0) legs ≡ run I P x k
+so_far-stops I P x legs n k so_far le =
+    let all : map (λ (l : Leg). l.0) legs ≡ legs_from I P x = sym (append-nil (map (λ (l : Leg). l.0) legs)) ∙ so_far.legs_are in
+    let long : length (legs_from I P x) ≡ n = ap length (sym all) ∙ length-map legs (λ (l : Leg). l.0) ∙ so_far.count in
     all ∙ sym (all_taken (legs_from I P x) k (omega (arith, long, le)))
 
 -- ---- runs
@@ -101,13 +101,13 @@ end-step I P k x (Some next) flown lt here more =
       rest = ap (drop (suc k)) here ∙ end.rest ∙ ap (legs_from I P) (sym at);
     }
 
-end-of : (I : Situation) (P : PlanRows) (behind : List (Option Leg)) (k x : ℕ) → AreAfter I P behind → IsFlownLeg I P x → k < length (legs_from I P x) → IsEnd I P x k
-end-of I P behind zero x are own lt =
-    let here : legs_from I P x ≡ x ∷ from_next I P (get_or behind x None) = are.each x own.within own.flown in
+end-of : (I : Situation) (P : PlanRows) (after : List (Option Leg)) (k x : ℕ) → AreAfter I P after → IsFlownLeg I P x → k < length (legs_from I P x) → IsEnd I P x k
+end-of I P after zero x are own lt =
+    let here : legs_from I P x ≡ x ∷ from_next I P (get_or after x None) = are.each x own.within own.flown in
     let first : get_or (legs_from I P x) 0 0 ≡ x = ap (λ (xs : List ℕ). get_or xs 0 0) here in
     record { leg = subst (IsFlownLeg I P) (sym first) own; rest = ap (legs_from I P) (sym first) }
-end-of I P behind (suc k) x are own lt =
-    end-step I P k x (get_or behind x None) (next-flown I P behind x are) lt (are.each x own.within own.flown) (λ y flown more. end-of I P behind k y are flown more)
+end-of I P after (suc k) x are own lt =
+    end-step I P k x (get_or after x None) (next-flown I P after x are) lt (are.each x own.within own.flown) (λ y flown more. end-of I P after k y are flown more)
 
 differ : (n k : ℕ) → k < n → eqb n k ≡ false
 differ n k h = grind (arith, nat_tests)
@@ -120,19 +120,19 @@ last_test I P (Some next) n k y ends some flown is long =
     let full : 0 < length (legs_from I P next.0) = (flown next refl).1 in
     differ n k (omega (arith, more, full, long, some))
 
-last_flown : (I : Situation) (P : PlanRows) (behind : List (Option Leg)) (y : ℕ) → AreAfter I P behind → ForSome (get_or behind y None) (λ l. (l.0 < legs_of I) × (0 < length (legs_from I P l.0)))
-last_flown I P behind y are = λ next at.
-    let own : legs_from I P next.0 ≡ next.0 ∷ from_next I P (get_or behind next.0 None) = are.each next.0 (are.within y next at) (are.flown y next at) in
-    let long : length (legs_from I P next.0) ≡ suc (length (from_next I P (get_or behind next.0 None))) = ap length own in
+last_flown : (I : Situation) (P : PlanRows) (after : List (Option Leg)) (y : ℕ) → AreAfter I P after → ForSome (get_or after y None) (λ l. (l.0 < legs_of I) × (0 < length (legs_from I P l.0)))
+last_flown I P after y are = λ next at.
+    let own : legs_from I P next.0 ≡ next.0 ∷ from_next I P (get_or after next.0 None) = are.each next.0 (are.within y next at) (are.flown y next at) in
+    let long : length (legs_from I P next.0) ≡ suc (length (from_next I P (get_or after next.0 None))) = ap length own in
     (are.within y next at, omega (arith, long))
 
-pub whole_test : (I : Situation) (P : PlanRows) (behind : List (Option Leg)) (x k y : ℕ) → AreAfter I P behind → IsFlownLeg I P x → 1 ≤ k → k ≤ length (legs_from I P x) → get_or (legs_from I P x) (k - 1) 0 ≡ y → eqb (length (legs_from I P x)) k ≡ is_none (get_or behind y None)
-whole_test I P behind x k y are own some enough at =
-    let end = end-of I P behind (k - 1) x are own (omega (arith, some, enough)) in
+pub whole_test : (I : Situation) (P : PlanRows) (after : List (Option Leg)) (x k y : ℕ) → AreAfter I P after → IsFlownLeg I P x → 1 ≤ k → k ≤ length (legs_from I P x) → get_or (legs_from I P x) (k - 1) 0 ≡ y → eqb (length (legs_from I P x)) k ≡ is_none (get_or after y None)
+whole_test I P after x k y are own some enough at =
+    let end = end-of I P after (k - 1) x are own (omega (arith, some, enough)) in
     let last : IsFlownLeg I P y = subst (IsFlownLeg I P) at end.leg in
-    let ends : legs_from I P y ≡ y ∷ from_next I P (get_or behind y None) = are.each y last.within last.flown in
+    let ends : legs_from I P y ≡ y ∷ from_next I P (get_or after y None) = are.each y last.within last.flown in
     let rest : drop (k - 1) (legs_from I P x) ≡ legs_from I P y = end.rest ∙ ap (legs_from I P) at in
-    last_test I P (get_or behind y None) (length (legs_from I P x)) k y (legs_from I P y) some (last_flown I P behind y are) ends
+    last_test I P (get_or after y None) (length (legs_from I P x)) k y (legs_from I P y) some (last_flown I P after y are) ends
     (ap length (sym rest) ∙ length-drop (k - 1) (legs_from I P x))
 
 -- the last leg of a run
@@ -147,15 +147,15 @@ end_is I P x k some enough =
     get_or-take k (legs_from I P x) (k - 1) x (omega (arith, some))
     ∙ get_or_default (legs_from I P x) (k - 1) x 0 (omega (arith, some, enough))
 
-pub comes_round-of : (I : Situation) (P : PlanRows) (behind : List (Option Leg)) (x k : ℕ) (legs : List Leg) (last : Leg) → AreAfter I P behind → IsFlownLeg I P x → 1 ≤ k → k ≤ 4 → map (λ (l : Leg). l.0) legs ≡ run I P x 4 → is_run I P x k ≡ true → k ≤ length legs → last ≡ get_or legs (k - 1) last
-    → comes_round I P x k ≡ ((eqb (leg_at I last.0).dest.0 (leg_at I x).origin.0) || is_none (get_or behind last.0 None))
+pub comes_round-of : (I : Situation) (P : PlanRows) (after : List (Option Leg)) (x k : ℕ) (legs : List Leg) (last : Leg) → AreAfter I P after → IsFlownLeg I P x → 1 ≤ k → k ≤ 4 → map (λ (l : Leg). l.0) legs ≡ run I P x 4 → is_run I P x k ≡ true → k ≤ length legs → last ≡ get_or legs (k - 1) last
+    → comes_round I P x k ≡ ((eqb (leg_at I last.0).dest.0 (leg_at I x).origin.0) || is_none (get_or after last.0 None))
 unfolding comes_round
-comes_round-of I P behind x k legs last are own some few are_legs runs enough at =
+comes_round-of I P after x k legs last are own some few are_legs runs enough at =
     let long = long_of I P x legs are_legs in
     let inside : k ≤ length (legs_from I P x) = omega (arith, long, enough) in
     let place : get_or (legs_from I P x) (k - 1) 0 ≡ last.0 = last-of I P x k legs last some few enough are_legs ∙ ap (λ (l : Leg). l.0) (sym at) in
     let end : run_end I P x k ≡ last.0 = end_is I P x k some inside ∙ place in
-    let whole : eqb (length (legs_from I P x)) k ≡ is_none (get_or behind last.0 None) = whole_test I P behind x k last.0 are own some inside place in
+    let whole : eqb (length (legs_from I P x)) k ≡ is_none (get_or after last.0 None) = whole_test I P after x k last.0 are own some inside place in
     rw (runs, end, whole) refl
 
 pub no_round : (I : Situation) (P : PlanRows) (x k : ℕ) → is_run I P x k ≡ false → comes_round I P x k ≡ false
@@ -170,12 +170,12 @@ run-enough I P x k legs few are runs =
     leb-true k (length legs) (and_parts (leb k (length legs)) (list_all (λ (l : Leg). not (fixed I l.0)) (take k legs)) (sym (is_run-of I P x k legs few are) ∙ runs)).0
 
 -- the same, of the leg at the last place whatever stands for none there
-pub comes_round-at : (I : Situation) (P : PlanRows) (behind : List (Option Leg)) (x k : ℕ) (legs : List Leg) (d : Leg) → AreAfter I P behind → IsFlownLeg I P x → 1 ≤ k → k ≤ 4 → map (λ (l : Leg). l.0) legs ≡ run I P x 4 → is_run I P x k ≡ true
-    → comes_round I P x k ≡ ((eqb (leg_at I (get_or legs (k - 1) d).0).dest.0 (leg_at I x).origin.0) || is_none (get_or behind (get_or legs (k - 1) d).0 None))
-comes_round-at I P behind x k legs d are own some few are_legs runs =
+pub comes_round-at : (I : Situation) (P : PlanRows) (after : List (Option Leg)) (x k : ℕ) (legs : List Leg) (d : Leg) → AreAfter I P after → IsFlownLeg I P x → 1 ≤ k → k ≤ 4 → map (λ (l : Leg). l.0) legs ≡ run I P x 4 → is_run I P x k ≡ true
+    → comes_round I P x k ≡ ((eqb (leg_at I (get_or legs (k - 1) d).0).dest.0 (leg_at I x).origin.0) || is_none (get_or after (get_or legs (k - 1) d).0 None))
+comes_round-at I P after x k legs d are own some few are_legs runs =
     let enough = run-enough I P x k legs few are_legs runs in
     let last = get_or legs (k - 1) d in
-    comes_round-of I P behind x k legs last are own some few are_legs runs enough (get_or_default legs (k - 1) d last (omega (arith, some, enough)))
+    comes_round-of I P after x k legs last are own some few are_legs runs enough (get_or_default legs (k - 1) d last (omega (arith, some, enough)))
 
 pub apart_test : (a b : ℕ) → (a ≡ b → ⊥) → eqb a b ≡ false
 apart_test a b apart = grind (arith, nat_tests)

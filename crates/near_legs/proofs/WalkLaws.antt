@@ -131,25 +131,25 @@ rest-end I P s n f o past = ap (flat_map (owned_in I P s n f)) (drop_all (number
 
 pub take-left : (I : Situation) (P : PlanRows) (W : UnitWalk) (made : List LegUnit) → W.at_hand ≡ [] → W.owner < owners I W.neighbourhood → map unit_of made ≡ owned_in I P W.shard W.shards W.neighbourhood W.owner → units_left I P (record W { at_hand = made; owner = W.owner + 1 }) ≡ units_left I P W
 take-left I P W made empty lt is =
-    let behind = after_neighbourhood I P W.shard W.shards W.neighbourhood in
+    let after = after_neighbourhood I P W.shard W.shards W.neighbourhood in
     let rest = rest_of I P W.shard W.shards W.neighbourhood (W.owner + 1) in
-    ap (λ us. us ++ (rest ++ behind)) is
-    ∙ sym (append_assoc (owned_in I P W.shard W.shards W.neighbourhood W.owner) rest behind)
-    ∙ ap (λ us. us ++ behind) (sym (rest-at I P W.shard W.shards W.neighbourhood W.owner lt))
-    ∙ ap (λ us. map unit_of us ++ (rest_of I P W.shard W.shards W.neighbourhood W.owner ++ behind)) (sym empty)
+    ap (λ us. us ++ (rest ++ after)) is
+    ∙ sym (append_assoc (owned_in I P W.shard W.shards W.neighbourhood W.owner) rest after)
+    ∙ ap (λ us. us ++ after) (sym (rest-at I P W.shard W.shards W.neighbourhood W.owner lt))
+    ∙ ap (λ us. map unit_of us ++ (rest_of I P W.shard W.shards W.neighbourhood W.owner ++ after)) (sym empty)
 
-behind-next : (I : Situation) (P : PlanRows) (s n : ℕ) (f next : Neighbourhood) → next_neighbourhood f ≡ Some next → after_neighbourhood I P s n f ≡ rest_of I P s n next 0 ++ after_neighbourhood I P s n next
-behind-next I P s n neighbourhood.Retimed next is = let same : neighbourhood.Swapped ≡ next = cc in ap (λ g. rest_of I P s n g 0 ++ after_neighbourhood I P s n g) same
-behind-next I P s n neighbourhood.Swapped next is = let same : neighbourhood.Dropped ≡ next = cc in ap (λ g. rest_of I P s n g 0 ++ after_neighbourhood I P s n g) same
-behind-next I P s n neighbourhood.Dropped next is = let same : neighbourhood.Restored ≡ next = cc in ap (λ g. rest_of I P s n g 0 ++ after_neighbourhood I P s n g) same
-behind-next I P s n neighbourhood.Restored next is = let same : neighbourhood.Handed ≡ next = cc in sym (append-nil (rest_of I P s n neighbourhood.Handed 0)) ∙ ap (λ g. rest_of I P s n g 0 ++ after_neighbourhood I P s n g) same
-behind-next I P s n neighbourhood.Handed next is = absurd cc
+after-next : (I : Situation) (P : PlanRows) (s n : ℕ) (f next : Neighbourhood) → next_neighbourhood f ≡ Some next → after_neighbourhood I P s n f ≡ rest_of I P s n next 0 ++ after_neighbourhood I P s n next
+after-next I P s n neighbourhood.Retimed next is = let same : neighbourhood.Swapped ≡ next = cc in ap (λ g. rest_of I P s n g 0 ++ after_neighbourhood I P s n g) same
+after-next I P s n neighbourhood.Swapped next is = let same : neighbourhood.Dropped ≡ next = cc in ap (λ g. rest_of I P s n g 0 ++ after_neighbourhood I P s n g) same
+after-next I P s n neighbourhood.Dropped next is = let same : neighbourhood.Restored ≡ next = cc in ap (λ g. rest_of I P s n g 0 ++ after_neighbourhood I P s n g) same
+after-next I P s n neighbourhood.Restored next is = let same : neighbourhood.Handed ≡ next = cc in sym (append-nil (rest_of I P s n neighbourhood.Handed 0)) ∙ ap (λ g. rest_of I P s n g 0 ++ after_neighbourhood I P s n g) same
+after-next I P s n neighbourhood.Handed next is = absurd cc
 
 next-left-at : (I : Situation) (P : PlanRows) (W : UnitWalk) (o : Option Neighbourhood) → next_neighbourhood W.neighbourhood ≡ o → owners I W.neighbourhood ≤ W.owner → units_left I P (at_neighbourhood W o) ≡ units_left I P W
 next-left-at I P W None is past = refl
 next-left-at I P W (Some next) is past =
     ap (λ us. map unit_of W.at_hand ++ us)
-    (sym (behind-next I P W.shard W.shards W.neighbourhood next is) ∙ ap (λ us. us ++ after_neighbourhood I P W.shard W.shards W.neighbourhood) (sym (rest-end I P W.shard W.shards W.neighbourhood W.owner past)))
+    (sym (after-next I P W.shard W.shards W.neighbourhood next is) ∙ ap (λ us. us ++ after_neighbourhood I P W.shard W.shards W.neighbourhood) (sym (rest-end I P W.shard W.shards W.neighbourhood W.owner past)))
 
 pub next-left : (I : Situation) (P : PlanRows) (W : UnitWalk) → owners I W.neighbourhood ≤ W.owner → units_left I P (at_next_neighbourhood W) ≡ units_left I P W
 next-left I P W past = next-left-at I P W (next_neighbourhood W.neighbourhood) refl past
@@ -195,19 +195,19 @@ take-nearer I W made lt few =
 
 -- ---- what is at hand
 
-behind-none : (I : Situation) (P : PlanRows) (s n : ℕ) (f : Neighbourhood) → is_none (next_neighbourhood f) ≡ true → after_neighbourhood I P s n f ≡ []
-behind-none I P s n neighbourhood.Retimed h = absurd (true≢false (sym h))
-behind-none I P s n neighbourhood.Swapped h = absurd (true≢false (sym h))
-behind-none I P s n neighbourhood.Dropped h = absurd (true≢false (sym h))
-behind-none I P s n neighbourhood.Restored h = absurd (true≢false (sym h))
-behind-none I P s n neighbourhood.Handed h = refl
+after-none : (I : Situation) (P : PlanRows) (s n : ℕ) (f : Neighbourhood) → is_none (next_neighbourhood f) ≡ true → after_neighbourhood I P s n f ≡ []
+after-none I P s n neighbourhood.Retimed h = absurd (true≢false (sym h))
+after-none I P s n neighbourhood.Swapped h = absurd (true≢false (sym h))
+after-none I P s n neighbourhood.Dropped h = absurd (true≢false (sym h))
+after-none I P s n neighbourhood.Restored h = absurd (true≢false (sym h))
+after-none I P s n neighbourhood.Handed h = refl
 
 pub end-left : (I : Situation) (P : PlanRows) (W : UnitWalk) → is_at_end I W ≡ true → W.at_hand ≡ [] → units_left I P W ≡ []
 end-left I P W done empty =
     let parts = and_parts (leb (owners I W.neighbourhood) W.owner) (is_none (next_neighbourhood W.neighbourhood)) done in
     ap (λ us. map unit_of us ++ (rest_of I P W.shard W.shards W.neighbourhood W.owner ++ after_neighbourhood I P W.shard W.shards W.neighbourhood)) empty
     ∙ ap (λ us. us ++ after_neighbourhood I P W.shard W.shards W.neighbourhood) (rest-end I P W.shard W.shards W.neighbourhood W.owner (leb-true (owners I W.neighbourhood) W.owner parts.0))
-    ∙ behind-none I P W.shard W.shards W.neighbourhood parts.1
+    ∙ after-none I P W.shard W.shards W.neighbourhood parts.1
 
 next-some : (I : Situation) (P : PlanRows) (u : LegUnit) (xs : List LegUnit) → All (IsLegUnit I P) xs → u ∷ [] ≡ take 1 xs → IsLegUnit I P u × (xs ≡ u ∷ drop 1 xs)
 next-some I P u [] all is = absurd cc

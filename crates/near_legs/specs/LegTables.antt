@@ -19,17 +19,17 @@ from_next I P None = []
 from_next I P (Some leg) = legs_from I P leg.0
 
 -- of each leg that is flown, the next one on its aircraft
-pub record AreAfter (I : Situation) (P : PlanRows) (behind : List (Option Leg)) : Type 0 where
-  pub legs : length behind ≡ legs_of I
-  pub within : (x : ℕ) → ForSome (slice_index_or behind x None) (λ next. next.0 < legs_of I)
-  pub flown : (x : ℕ) → ForSome (slice_index_or behind x None) (λ next. is_flown (row_at P next.0) ≡ true)
-  pub each : (x : ℕ) → x < legs_of I → is_flown (row_at P x) ≡ true → legs_from I P x ≡ x ∷ from_next I P (slice_index_or behind x None)
+pub record AreAfter (I : Situation) (P : PlanRows) (after : List (Option Leg)) : Type 0 where
+  pub legs : length after ≡ legs_of I
+  pub within : (x : ℕ) → ForSome (slice_index_or after x None) (λ next. next.0 < legs_of I)
+  pub flown : (x : ℕ) → ForSome (slice_index_or after x None) (λ next. is_flown (row_at P next.0) ≡ true)
+  pub each : (x : ℕ) → x < legs_of I → is_flown (row_at P x) ≡ true → legs_from I P x ≡ x ∷ from_next I P (slice_index_or after x None)
 
 -- for each leg the one of the first n that has it before it, if any has
-pub record IsInverse (n : ℕ) (before behind : List (Option Leg)) : Type 0 where
-  pub legs : length behind ≡ length before
-  pub found : (x : ℕ) → ForSome (slice_index_or behind x None) (λ next. (next.0 < length before) × (slice_index_or before next.0 None ≡ Some (record { 0 = x })))
-  pub all : (x y : ℕ) → y < n → slice_index_or before y None ≡ Some (record { 0 = x }) → slice_index_or behind x None ≡ None → ⊥
+pub record IsInverse (n : ℕ) (before after : List (Option Leg)) : Type 0 where
+  pub legs : length after ≡ length before
+  pub found : (x : ℕ) → ForSome (slice_index_or after x None) (λ next. (next.0 < length before) × (slice_index_or before next.0 None ≡ Some (record { 0 = x })))
+  pub all : (x y : ℕ) → y < n → slice_index_or before y None ≡ Some (record { 0 = x }) → slice_index_or after x None ≡ None → ⊥
 
 -- ---- families
 
@@ -71,7 +71,7 @@ pub record AreListed (n : ℕ) (I : Situation) (P : PlanRows) (by : By) (lists :
 
 pub record Lists : Type 0 where
   -- of each leg the next one on its aircraft
-  pub behind : List (Option Leg)
+  pub after : List (Option Leg)
   -- of each aircraft those of its family
   pub families : List (List Plane)
   -- of each aircraft the movable legs that it flies
@@ -80,7 +80,7 @@ pub record Lists : Type 0 where
   pub cancelled : List (List Leg)
 
 pub record AreLists (I : Situation) (P : PlanRows) (lists : Lists) : Type 0 where
-  pub behind : AreAfter I P lists.behind
+  pub after : AreAfter I P lists.after
   pub families : AreFamilies I lists.families
   pub flown : AreListed (legs_of I) I P Aircraft lists.flown
   pub cancelled : AreListed (legs_of I) I P AirportPair lists.cancelled

@@ -17,7 +17,7 @@
 //! depends on `desk_data`, `plan_moves`, `plan_reads`, `plan_pages` and `near_moves`.
 #![tactic(auto)]
 
-mod behind;
+mod after;
 mod choice;
 mod choose;
 mod families;

@@ -143,13 +143,13 @@ pub(crate) fn is_movable_flown(inst: &Instance, plan: &Pages, leg: Leg) -> bool
     !inst.fixed(leg) && is_flown(plan.read_row(leg))
 }
 
-/// Whether a leg is movable, and cancelled though it is not ordered off.
+/// Whether a leg is movable, and cancelled though it is not called off.
 pub(crate) fn is_restorable(inst: &Instance, plan: &Pages, leg: Leg) -> bool
     requires plan { IsPlanFor inst.now plan.now }
     requires leg { leg.0 < legs_of inst.now }
     ensures { result ≡ is_restorable inst.now plan.now leg.0 }
 {
-    !inst.fixed(leg) && !is_flown(plan.read_row(leg)) && !inst.ordered_off(leg)
+    !inst.fixed(leg) && !is_flown(plan.read_row(leg)) && !inst.called_off(leg)
 }
 
 /// Adds a leg to those under a number.

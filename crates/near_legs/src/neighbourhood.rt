@@ -6,7 +6,7 @@ ghost use Rattle.near_legs.specs.Walk.{next_neighbourhood, owners};
 use desk_data::Instance;
 
 /// The neighbourhoods, in their order.
-#[derive(Clone, Copy, Debug)]
+#[derive(Clone, Copy)]
 pub(crate) enum Neighbourhood {
     Retimed,
     Swapped,

@@ -34,7 +34,7 @@ pub(crate) fn run(
         match next {
             Some(leg) => {
                 legs.push(leg)?;
-                next = tables.behind(leg);
+                next = tables.after(leg);
             }
             None => return Ok(legs),
         }
@@ -83,5 +83,5 @@ pub(crate) fn comes_round(
         return false;
     }
     let last = legs[count as usize - 1];
-    inst.leg(last).dest.0 == inst.leg(leg).origin.0 || tables.behind(last).is_none()
+    inst.leg(last).dest.0 == inst.leg(leg).origin.0 || tables.after(last).is_none()
 }

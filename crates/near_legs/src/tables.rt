@@ -4,7 +4,7 @@ ghost use Rattle.std.specs.Prelude.{◌≡◌, ◌<◌, None, [], IfOk, length, 
 ghost use Rattle.desk_data.specs.Valid.{IsPlanFor};
 ghost use Rattle.near_legs.specs.LegTables.{AreLists, pair_number};
 
-use crate::behind::legs_after;
+use crate::after::legs_after;
 use crate::families::families;
 use crate::lists::{By, lists, pair_number};
 use desk_data::{Airport, Instance, Leg, NoMem, Plane};
@@ -14,7 +14,7 @@ use std::marker::Model;
 
 /// What is looked up again and again, of a plan.
 pub(crate) struct LegTables {
-    behind: Vec<Option<Leg>>,
+    after: Vec<Option<Leg>>,
     families: Vec<Vec<Plane>>,
     flown: Vec<Vec<Leg>>,
     cancelled: Vec<Vec<Leg>>,
@@ -24,7 +24,7 @@ pub(crate) struct LegTables {
 impl Drop for LegTables {
     fn drop(self) {
         let LegTables {
-            behind: _,
+            after: _,
             families: _,
             flown: _,
             cancelled: _,
@@ -38,7 +38,7 @@ impl Model for LegTables {
 
     ghost Value = { Lists };
 
-    ghost view = { λ t. record { behind = t.behind.items; families = map (λ l. l.items) t.families.items; flown = map (λ l. l.items) t.flown.items; cancelled = map (λ l. l.items) t.cancelled.items } };
+    ghost view = { λ t. record { after = t.after.items; families = map (λ l. l.items) t.families.items; flown = map (λ l. l.items) t.flown.items; cancelled = map (λ l. l.items) t.cancelled.items } };
 }
 
 impl LegTables {
@@ -47,12 +47,12 @@ impl LegTables {
         requires { IsPlanFor inst.now plan.now }
         ensures { IfOk result (AreLists inst.now plan.now) }
     {
-        let behind = legs_after(alloc, inst, plan)?;
+        let after = legs_after(alloc, inst, plan)?;
         let families = families(alloc, inst)?;
         let flown = lists(alloc, inst, plan, By::Aircraft)?;
         let cancelled = lists(alloc, inst, plan, By::AirportPair)?;
         Ok(LegTables {
-            behind,
+            after,
             families,
             flown,
             cancelled,
@@ -60,11 +60,11 @@ impl LegTables {
     }
 
     /// The leg after a leg that is flown, on its aircraft.
-    pub(crate) fn behind(&self, leg: Leg) -> Option<Leg>
-        requires { leg.0 < length self.now.behind }
-        ensures { result ≡ slice_index_or self.now.behind leg.0 None }
+    pub(crate) fn after(&self, leg: Leg) -> Option<Leg>
+        requires { leg.0 < length self.now.after }
+        ensures { result ≡ slice_index_or self.now.after leg.0 None }
     {
-        self.behind[leg.0 as usize]
+        self.after[leg.0 as usize]
     }
 
     /// The aircraft of an aircraft's family.

@@ -3,7 +3,7 @@
 use desk_data::{Leg, Plane};
 
 /// What the moves of a unit are made of.
-#[derive(Clone, Copy, Debug)]
+#[derive(Clone, Copy)]
 pub enum LegUnit {
     /// A leg departs at another time.
     Retimed { leg: Leg },

@@ -153,7 +153,7 @@ impl LegUnits {
 
     /// Whether no owner of the neighbourhood is left.
     fn is_after_owners(&self, inst: &Instance) -> bool
-        ensures behind { result ≡ nat_le (owners inst.now self.now.neighbourhood) self.now.owner }
+        ensures after { result ≡ nat_le (owners inst.now self.now.neighbourhood) self.now.owner }
         ensures limit { owners inst.now self.now.neighbourhood ≤ 20000 }
     {
         self.neighbourhood.owners(inst) <= self.owner

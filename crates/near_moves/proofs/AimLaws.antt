@@ -56,8 +56,8 @@ powers-hold zero k has = absurd (contains_none k has)
 powers-hold (suc n) k has =
     elim (contains_cases (2 ^ n) k (powers n) (subst (λ (ks : List ℕ). Contains ks k) (powers-next n) has)) [
       | inl same ↦ record { exponent = n; below = omega arith; is = sym same }
-      | inr behind ↦
-          let own = powers-hold n k behind in
+      | inr later ↦
+          let own = powers-hold n k later in
           let lt = own.below in
           record { exponent = own.exponent; below = omega (arith, lt); is = own.is }
     ]
@@ -81,8 +81,8 @@ pub portions-hold : (n k : ℕ) → Contains (portions n) k → IsPortion n k
 portions-hold n k has =
     elim (contains_cases n k (filter (λ j. ltb j n) (powers 10)) has) [
       | inl same ↦ inl (sym same)
-      | inr behind ↦
-          let parts = filter_contains (λ j. ltb j n) (powers 10) k behind in
+      | inr later ↦
+          let parts = filter_contains (λ j. ltb j n) (powers 10) k later in
           let own = powers-hold 10 k parts.0 in
           inr (record { exponent = own.exponent; power = own.is; below = ltb-true k n parts.1 })
     ]

@@ -167,14 +167,14 @@ step-accepted most S h m next =
     accepted-better T m ∙ rw (next.planned, passes) refl
 
 step_is : (most : ℕ) (S : State) (h : List Entry) (m : Move) → IsNext most S h m → IsDescentStep (state S h) (step_entry S h m)
-step_is most S h m next = record { move = m; planned = next.planned; first = next.first; told = refl; accepted = step-accepted most S h m next }
+step_is most S h m next = record { move = m; planned = next.planned; first = next.first; entry_is = refl; accepted = step-accepted most S h m next }
 
 -- the state after it: the move is published
 pub step-state : (most : ℕ) (S : State) (h : List Entry) (m : Move) → IsNext most S h m → state S (h ++ step_entry S h m ∷ []) ≡ record { inst = (state S h).inst; plan = after_move (state S h).inst (state S h).plan m; broken = None }
 step-state most S h m next =
     let T = state S h in
-    let told = accepted-known (answer T (event.Move m)) (step-accepted most S h m next) in
-    state-append S h (step_entry S h m ∷ []) ∙ after-accepted T m told.0 told.1
+    let given = accepted-known (answer T (event.Move m)) (step-accepted most S h m next) in
+    state-append S h (step_entry S h m ∷ []) ∙ after-accepted T m given.0 given.1
 
 -- one more was accepted
 pub step-since : (most : ℕ) (S : State) (h : List Entry) (m : Move) → IsNext most S h m → accepted_since_batch (h ++ step_entry S h m ∷ []) ≡ accepted_since_batch h + 1
@@ -202,13 +202,13 @@ descends_from most S h g (Some m) is more =
     let entry = step_entry S h m in
     record {
       added = entry ∷ more.added;
-      behind = more.behind ∙ append_assoc h (entry ∷ []) more.added;
+      extends = more.extends ∙ append_assoc h (entry ∷ []) more.added;
       steps = (step_is most S h m (next-some most S h m is), subst (λ (T : State). AllAlong IsDescentStep T more.added) (state-append S h (entry ∷ [])) more.steps);
     }
 
 pub descent-descends : (n most : ℕ) (S : State) (h : List Entry) → Descends S h (descent_of n most S h)
 unfolding descent_of
-descent-descends zero most S h = record { added = []; behind = sym (append-nil h); steps = tt }
+descent-descends zero most S h = record { added = []; extends = sym (append-nil h); steps = tt }
 descent-descends (suc n) most S h =
     descends_from most S h (descent_of n most S (with_proposal S h (next_proposal most S h))) (next_proposal most S h) refl (descent-descends n most S (with_proposal S h (next_proposal most S h)))
 

@@ -30,20 +30,20 @@ end-at : (I : Situation) (P : PlanRows) (x k : ℕ) → 1 ≤ k → run_end I P 
 end-at I P x k some = get_or-take k (legs_from I P x) (k - 1) x (omega (arith, some))
 
 -- after the last of the legs from a leg on no leg of the aircraft comes
-behind-from : (I : Situation) (P : PlanRows) (x e y : ℕ) → IsFrom I P x e → y < legs_of I → Precedes P e y → Contains (legs_from I P x) y
-behind-from I P x e y from within behind =
+later-from : (I : Situation) (P : PlanRows) (x e y : ℕ) → IsFrom I P x e → y < legs_of I → Precedes P e y → Contains (legs_from I P x) y
+later-from I P x e y from within later =
     let before : Precedes P x y = elim from.place [
-      | inl same ↦ subst (λ (z : ℕ). Precedes P z y) same behind
-      | inr ahead ↦ precedes-trans P x e y ahead behind
+      | inl same ↦ subst (λ (z : ℕ). Precedes P z y) same later
+      | inr ahead ↦ precedes-trans P x e y ahead later
     ] in
     from-each I P x y (record { within = within; plane = from.plane; dep = from.dep; flown = from.flown; place = inr before })
 
 end-last : (I : Situation) (P : PlanRows) (x k : ℕ) → 1 ≤ k → length (legs_from I P x) ≡ k → IsLastLeg I P (get_or (legs_from I P x) (k - 1) x)
-end-last I P x k some whole = λ y within behind.
+end-last I P x k some whole = λ y within later.
     let legs = legs_from I P x in
     let lt : k - 1 < length legs = omega (arith, some, whole) in
     let e = get_or legs (k - 1) x in
-    let has = behind-from I P x e y (from-holds I P x e (Contains-get_or legs (k - 1) x lt)) within behind in
+    let has = later-from I P x e y (from-holds I P x e (Contains-get_or legs (k - 1) x lt)) within later in
     let j = has.0 in
     let below : j < length legs = has.1 in
     let at : get_or legs j y ≡ y = has.2 in
@@ -51,10 +51,10 @@ end-last I P x k some whole = λ y within behind.
     let cases : (j < k - 1) ⊎ (j ≡ k - 1) = grind (arith, some, whole, below) in
     elim cases [
       | inl less ↦ precedes-itself P y (precedes-trans P y e y
-          (subst (λ (z : ℕ). Precedes P y z) same (subst (λ (z : ℕ). Precedes P z (get_or legs (k - 1) y)) at (from-ordered I P x j (k - 1) y less lt))) behind)
+          (subst (λ (z : ℕ). Precedes P y z) same (subst (λ (z : ℕ). Precedes P z (get_or legs (k - 1) y)) at (from-ordered I P x j (k - 1) y less lt))) later)
       | inr here ↦
           let is : e ≡ y = sym same ∙ ap (λ (i : ℕ). get_or legs i y) (sym here) ∙ at in
-          precedes-itself P y (subst (λ (z : ℕ). Precedes P z y) is behind)
+          precedes-itself P y (subst (λ (z : ℕ). Precedes P z y) is later)
     ]
 
 last-end : (I : Situation) (P : PlanRows) (x k : ℕ) → 1 ≤ k → k ≤ length (legs_from I P x) → IsLastLeg I P (get_or (legs_from I P x) (k - 1) x) → length (legs_from I P x) ≡ k

@@ -7,7 +7,7 @@ use Rattle.std.proofs.lemmas.List.Elements.{Contains-append_left, Contains-appen
 use Rattle.desk_data.specs.declared.row.Row.{Row}
 use Rattle.desk_data.specs.declared.row.Row.TheVariants.{Flown, Cancelled}
 use Rattle.desk_data.specs.declared.row.Group.{Group}
-use Rattle.desk_data.specs.Situation.{Situation, legs_of, reservations_of, leg_at, fixed, ordered_off}
+use Rattle.desk_data.specs.Situation.{Situation, legs_of, reservations_of, leg_at, fixed, called_off}
 use Rattle.desk_data.specs.PlanRows.{PlanRows, row_at, groups_at}
 use Rattle.desk_rules.specs.Numbers.{numbers}
 use Rattle.desk_rules.specs.Passengers.{is_flown}
@@ -66,8 +66,8 @@ restored-holds I P u has =
     let of_leg = flat_map_contains (λ x. map (restored x) (family_of I (leg_at I x).plane.0)) (filter (is_restorable I P) (numbers (legs_of I))) u has in
     let x = of_leg.from in
     let own = filter_contains (is_restorable I P) (numbers (legs_of I)) x of_leg.there in
-    let outer = and_parts (not (fixed I x)) (not (is_flown (row_at P x)) && not (ordered_off I x)) own.1 in
-    let inner = and_parts (not (is_flown (row_at P x))) (not (ordered_off I x)) outer.1 in
+    let outer = and_parts (not (fixed I x)) (not (is_flown (row_at P x)) && not (called_off I x)) own.1 in
+    let inner = and_parts (not (is_flown (row_at P x))) (not (called_off I x)) outer.1 in
     let of_plane = map_contains (restored x) (family_of I (leg_at I x).plane.0) u of_leg.is in
     let p = of_plane.from in
     let family = family-holds I (leg_at I x).plane.0 p of_plane.there in
@@ -75,7 +75,7 @@ restored-holds I P u has =
       within = numbers_within (legs_of I) x own.0;
       movable = not-true (fixed I x) outer.0;
       cancelled = row_cancelled (row_at P x) (not-true (is_flown (row_at P x)) inner.0);
-      kept = not-true (ordered_off I x) inner.1;
+      kept = not-true (called_off I x) inner.1;
       planes = family.0;
       family = family.1;
     }) (sym of_plane.is)
@@ -85,8 +85,8 @@ unfolding restored_units
 restored-each I P x p is =
     contains_flat_map (λ y. map (restored y) (family_of I (leg_at I y).plane.0)) (filter (is_restorable I P) (numbers (legs_of I))) x (restored x p)
     (contains_filter (is_restorable I P) (numbers (legs_of I)) x (numbers_each (legs_of I) x is.within)
-    (and_from (not (fixed I x)) (not (is_flown (row_at P x)) && not (ordered_off I x)) (ap not is.movable)
-    (and_from (not (is_flown (row_at P x))) (not (ordered_off I x)) (ap (λ (row : Row). not (is_flown row)) is.cancelled) (ap not is.kept))))
+    (and_from (not (fixed I x)) (not (is_flown (row_at P x)) && not (called_off I x)) (ap not is.movable)
+    (and_from (not (is_flown (row_at P x))) (not (called_off I x)) (ap (λ (row : Row). not (is_flown row)) is.cancelled) (ap not is.kept))))
     (contains_map (restored x) (family_of I (leg_at I x).plane.0) p (family-each I (leg_at I x).plane.0 p is.planes is.family))
 
 -- ---- paths that have passengers

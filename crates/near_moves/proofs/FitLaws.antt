@@ -128,14 +128,14 @@ swapped-range I P p q first second = All-map (AreInRange I) (exchange p q) (exch
 
 -- the steps of a run, and some after them
 run-range : (I : Situation) (P : PlanRows) (x k : ℕ) (f : ℕ → Step) (more : List Step) → k ≤ 4 → 1 ≤ length more → length more ≤ 3 → ((y : ℕ) → y < legs_of I → StepInRange I (f y)) → All (StepInRange I) more → AreInRange I (map f (run I P x k) ++ more)
-run-range I P x k f more few some most each behind =
+run-range I P x k f more few some most each later =
     let long : length (map f (run I P x k) ++ more) ≡ length (run I P x k) + length more = length-append (map f (run I P x k)) more ∙ ap (λ (n : ℕ). n + length more) (length-map (run I P x k) f) in
     record {
       some = omega (arith, long, some);
       most = omega (arith, long, most, few, run-short I P x k);
       each = All-append (StepInRange I) (map f (run I P x k)) more
           (All-map (StepInRange I) f (run I P x k) (All-weaker (λ y. y < legs_of I) (λ y. StepInRange I (f y)) each (run I P x k) (run-within I P x k)))
-          behind;
+          later;
     }
 
 dropping-range : (I : Situation) (P : PlanRows) (x k : ℕ) → k ≤ 4 → x < legs_of I → IsPlanFor I P → is_flown (row_at P x) ≡ true → AreInRange I (dropping I P x k)

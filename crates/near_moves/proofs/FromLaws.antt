@@ -45,8 +45,8 @@ from-holds I P x y has =
       | inl here ↦
           let same : y ≡ x = eqb-true y x here in
           record { within = own.0; plane = p; dep = dep P x; flown = flies-holds P p x (subst (λ (k : ℕ). flies P p k ≡ true) same own.1); place = inl same }
-      | inr behind ↦
-          let before = precedes-holds P x y behind in
+      | inr after ↦
+          let before = precedes-holds P x y after in
           record { within = own.0; plane = before.plane; dep = before.dep; flown = before.first; place = inr before }
     ]
 

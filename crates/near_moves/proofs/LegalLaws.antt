@@ -55,7 +55,7 @@ step_legal most I h (Some m) is valid legal =
     let stands : Stands (opening I) h entry = record {
       room = lt-ltb (length h) proposal_limit (unspent-room most h next.unspent);
       asked = step_fits most I h m valid legal next;
-      told = refl;
+      answered = refl;
     } in
     legal-append (opening I) h entry legal stands
 
@@ -75,7 +75,7 @@ batch_legal I h B few batch legal =
     let stands : Stands (opening I) h entry = record {
       room = lt-ltb (length h) batch_limit few;
       asked = (askable_along I h (event.Batch B)).1 batch;
-      told = refl;
+      answered = refl;
     } in
     legal-append (opening I) h entry legal stands
 

@@ -37,8 +37,8 @@ contains_filter p (y ∷ xs) x has passes =
       | inl same ↦
           let here : p y ≡ true = ap p same ∙ passes in
           rw here (subst (Contains (y ∷ filter p xs)) same (contains_head y (filter p xs)))
-      | inr behind ↦
-          let more = contains_filter p xs x behind passes in
+      | inr later ↦
+          let more = contains_filter p xs x later passes in
           elim (cases_Bool (p y)) [
             | inl front ↦ rw front (contains_tail y x (filter p xs) more)
             | inr fails ↦ rw fails more
@@ -54,7 +54,7 @@ contains_map f [] x has = absurd (contains_none x has)
 contains_map f (y ∷ xs) x has =
     elim (contains_cases y x xs has) [
       | inl same ↦ subst (λ z. Contains (f y ∷ map f xs) (f z)) same (contains_head (f y) (map f xs))
-      | inr behind ↦ contains_tail (f y) (f x) (map f xs) (contains_map f xs x behind)
+      | inr later ↦ contains_tail (f y) (f x) (map f xs) (contains_map f xs x later)
     ]
 
 -- an element of a list of which something holds
@@ -71,7 +71,7 @@ map_contains f [] y has = absurd (contains_none y has)
 map_contains f (x ∷ xs) y has =
     elim (contains_cases (f x) y (map f xs) has) [
       | inl same ↦ record { from = x; there = contains_head x xs; is = same }
-      | inr behind ↦ source_after x xs (λ z. f z ≡ y) (map_contains f xs y behind)
+      | inr later ↦ source_after x xs (λ z. f z ≡ y) (map_contains f xs y later)
     ]
 
 pub contains_flat_map : {X Y : Type 0} (f : X → List Y) (xs : List X) (x : X) (y : Y) → Contains xs x → Contains (f x) y → Contains (flat_map f xs) y
@@ -79,7 +79,7 @@ contains_flat_map f [] x y has own = absurd (contains_none x has)
 contains_flat_map f (z ∷ xs) x y has own =
     elim (contains_cases z x xs has) [
       | inl same ↦ Contains-append_left (f z) (flat_map f xs) y (subst (λ w. Contains (f w) y) (sym same) own)
-      | inr behind ↦ Contains-append_right (f z) (flat_map f xs) y (contains_flat_map f xs x y behind own)
+      | inr later ↦ Contains-append_right (f z) (flat_map f xs) y (contains_flat_map f xs x y later own)
     ]
 
 pub flat_map_contains : {X Y : Type 0} (f : X → List Y) (xs : List X) (y : Y) → Contains (flat_map f xs) y → Source xs (λ x. Contains (f x) y)
@@ -87,7 +87,7 @@ flat_map_contains f [] y has = absurd (contains_none y has)
 flat_map_contains f (x ∷ xs) y has =
     elim (Contains-append_cases (f x) (flat_map f xs) y has) [
       | inl here ↦ record { from = x; there = contains_head x xs; is = here }
-      | inr behind ↦ source_after x xs (λ z. Contains (f z) y) (flat_map_contains f xs y behind)
+      | inr later ↦ source_after x xs (λ z. Contains (f z) y) (flat_map_contains f xs y later)
     ]
 
 pub All_flat_map : {X Y : Type 0} (P : Y → Type 0) (f : X → List Y) (xs : List X) → All (λ x. All P (f x)) xs → All P (flat_map f xs)
@@ -227,7 +227,7 @@ pub apart_flat_map : {X Y : Type 0} (f : X → List Y) (xs : List X) → ((x : X
 apart_flat_map f [] each one h = apart_nil
 apart_flat_map {X} {Y} f (x ∷ xs) each one h =
     apart_append (f x) (flat_map f xs) (each x) (apart_flat_map f xs each one (apart_tail x xs h))
-    (λ z here behind. let other = flat_map_contains f xs z behind in apart_head x xs h (subst (λ (k : X). Contains xs k) (one other.from x z other.is here) other.there))
+    (λ z here later. let other = flat_map_contains f xs z later in apart_head x xs h (subst (λ (k : X). Contains xs k) (one other.from x z other.is here) other.there))
 
 pub apart_numbers : (n : ℕ) → Apart (numbers n)
 apart_numbers zero = apart_nil
@@ -254,7 +254,7 @@ after_head : {X : Type 0} (R : X → X → Type 0) → ((x : X) → R x x → �
 after_head R itself x y z xs ys same a to has =
     elim (contains_cases y z ys to) [
       | inl first ↦ absurd (itself x (subst (R x) (sym (same ∙ first)) (All-contains (R x) xs z a has)))
-      | inr behind ↦ behind
+      | inr later ↦ later
     ]
 
 pub same_ordered : {X : Type 0} (R : X → X → Type 0) → ((x y z : X) → R x y → R y z → R x z) → ((x : X) → R x x → ⊥) → (xs ys : List X) → AllPairs R xs → AllPairs R ys → ((z : X) → Contains xs z → Contains ys z) → ((z : X) → Contains ys z → Contains xs z) → xs ≡ ys

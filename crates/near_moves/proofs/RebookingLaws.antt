@@ -46,10 +46,10 @@ Ascend a b = path_cmp a.path b.path ≡ Less
 pub count_at : (groups : List Group) (k : ℕ) (d : Group) → AllPairs Ascend groups → k < length groups → count_on (get_or groups k d).path groups ≡ (get_or groups k d).count
 count_at [] k d up lt = absurd (omega (arith, lt))
 count_at (group ∷ groups) zero d up lt =
-    let behind = pairs_head Ascend group groups up in
+    let later = pairs_head Ascend group groups up in
     sum_by-cons (λ (g : Group). cond (same_path g.path group.path) g.count 0) group groups
     ∙ rw ((same_path-Decides group.path group.path).1 refl)
-    (ap (λ (n : ℕ). group.count + n) (none_on group.path groups (All-weaker (Ascend group) (λ (g : Group). same_path g.path group.path ≡ false) (λ g less. ap is_eq (path_before group.path g.path less)) groups behind))
+    (ap (λ (n : ℕ). group.count + n) (none_on group.path groups (All-weaker (Ascend group) (λ (g : Group). same_path g.path group.path ≡ false) (λ g less. ap is_eq (path_before group.path g.path less)) groups later))
     ∙ omega arith)
 count_at (group ∷ groups) (suc k) d up lt =
     let own : k < length groups = omega (arith, lt) in
@@ -71,8 +71,8 @@ portions-within : (n k : ℕ) → 1 ≤ n → n ≤ 1000 → Contains (portions 
 portions-within n k some most has =
     elim (contains_cases n k (filter (λ k. ltb k n) (map (λ e. 2 ^ e) (reverse (numbers 10)))) has) [
       | inl same ↦ (omega (arith, same, some), omega (arith, same, most))
-      | inr behind ↦
-          let parts = filter_contains (λ k. ltb k n) (map (λ e. 2 ^ e) (reverse (numbers 10))) k behind in
+      | inr later ↦
+          let parts = filter_contains (λ k. ltb k n) (map (λ e. 2 ^ e) (reverse (numbers 10))) k later in
           let less = ltb-true k n parts.1 in
           (powers-within k parts.0, omega (arith, less, most))
     ]

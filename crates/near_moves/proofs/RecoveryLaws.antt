@@ -25,7 +25,7 @@ abbrev batch_entry : State → List Entry → Batch → Entry
 batch_entry S h B = entry_of (state S h) 0 (event.Batch B)
 
 step_is : (S : State) (entry : Entry) → IsDescentStep S entry → IsRecoveryEntry S entry
-step_is S entry step = record { asked = ap (λ (e : Entry). e.caller) step.told; step = λ other. step }
+step_is S entry step = record { asked = ap (λ (e : Entry). e.caller) step.entry_is; step = λ other. step }
 
 steps_are : (S : State) (h : List Entry) → AllAlong IsDescentStep S h → AllAlong IsRecoveryEntry S h
 steps_are S [] steps = tt
@@ -37,7 +37,7 @@ batch_is S h B = record { asked = refl; step = λ other. absurd (true≢false ot
 descent_along : (most : ℕ) (S : State) (h : List Entry) → AllAlong IsRecoveryEntry S h → AllAlong IsRecoveryEntry S (descent most S h)
 descent_along most S h all =
     let down = descent-descends most most S h in
-    subst (AllAlong IsRecoveryEntry S) (sym down.behind) (along-append IsRecoveryEntry S h down.added all (steps_are (state S h) down.added down.steps))
+    subst (AllAlong IsRecoveryEntry S) (sym down.extends) (along-append IsRecoveryEntry S h down.added all (steps_are (state S h) down.added down.steps))
 
 pub recovery-along : (most : ℕ) (S : State) (h : List Entry) (batches : List Batch) → AllAlong IsRecoveryEntry S h → AllAlong IsRecoveryEntry S (recovery_after most S h batches)
 unfolding recovery_after
@@ -53,7 +53,7 @@ steps_bring_none : (S : State) (h : List Entry) → AllAlong IsDescentStep S h �
 steps_bring_none S [] steps = refl
 steps_bring_none S (entry ∷ h) steps =
     let none : List Batch = [] in
-    let here : batch_in entry.event ≡ none = ap (λ (e : Entry). batch_in e.event) steps.0.told in
+    let here : batch_in entry.event ≡ none = ap (λ (e : Entry). batch_in e.event) steps.0.entry_is in
     rw here (steps_bring_none (after S entry.event) h steps.1)
 
 batches_append : (h g : List Entry) → batches_in (h ++ g) ≡ batches_in h ++ batches_in g
@@ -62,7 +62,7 @@ batches_append h g = flat_map-append (λ (entry : Entry). batch_in entry.event) 
 descent_brings_none : (most : ℕ) (S : State) (h : List Entry) → batches_in (descent most S h) ≡ batches_in h
 descent_brings_none most S h =
     let down = descent-descends most most S h in
-    ap batches_in down.behind ∙ batches_append h down.added
+    ap batches_in down.extends ∙ batches_append h down.added
     ∙ ap (λ (bs : List Batch). batches_in h ++ bs) (steps_bring_none (state S h) down.added down.steps) ∙ append-nil (batches_in h)
 
 pub recovery-batches : (most : ℕ) (S : State) (h : List Entry) (batches : List Batch) → batches_in (recovery_after most S h batches) ≡ batches_in h ++ batches
@@ -89,38 +89,38 @@ recovery-length most b S h (B ∷ batches) le limit =
 -- ---- after each batch
 
 -- the batches may be taken in two parts
-pub recovery-parts : (most : ℕ) (S : State) (h : List Entry) (before behind : List Batch) → recovery_after most S h (before ++ behind) ≡ recovery_after most S (recovery_after most S h before) behind
+pub recovery-parts : (most : ℕ) (S : State) (h : List Entry) (before later : List Batch) → recovery_after most S h (before ++ later) ≡ recovery_after most S (recovery_after most S h before) later
 unfolding recovery_after
-recovery-parts most S h [] behind = refl
-recovery-parts most S h (B ∷ before) behind = recovery-parts most S (descent most S (h ++ batch_entry S h B ∷ [])) before behind
+recovery-parts most S h [] later = refl
+recovery-parts most S h (B ∷ before) later = recovery-parts most S (descent most S (h ++ batch_entry S h B ∷ [])) before later
 
 -- what stood there before stands first
 record IsLonger (h g : List Entry) : Type 0 where
   added : List Entry
-  behind : g ≡ h ++ added
+  extends : g ≡ h ++ added
 
 longer_trans : (f g h : List Entry) → IsLonger f g → IsLonger g h → IsLonger f h
 longer_trans f g h one more = record {
   added = one.added ++ more.added;
-  behind = more.behind ∙ ap (λ (xs : List Entry). xs ++ more.added) one.behind ∙ append_assoc f one.added more.added;
+  extends = more.extends ∙ ap (λ (xs : List Entry). xs ++ more.added) one.extends ∙ append_assoc f one.added more.added;
 }
 
 recovery_longer : (most : ℕ) (S : State) (h : List Entry) (batches : List Batch) → IsLonger h (recovery_after most S h batches)
 unfolding recovery_after
-recovery_longer most S h [] = record { added = []; behind = sym (append-nil h) }
+recovery_longer most S h [] = record { added = []; extends = sym (append-nil h) }
 recovery_longer most S h (B ∷ batches) =
     let g = h ++ batch_entry S h B ∷ [] in
     let down = descent-descends most most S g in
-    longer_trans h g (recovery_after most S (descent most S g) batches) (record { added = batch_entry S h B ∷ []; behind = refl })
-    (longer_trans g (descent most S g) (recovery_after most S (descent most S g) batches) (record { added = down.added; behind = down.behind }) (recovery_longer most S (descent most S g) batches))
+    longer_trans h g (recovery_after most S (descent most S g) batches) (record { added = batch_entry S h B ∷ []; extends = refl })
+    (longer_trans g (descent most S g) (recovery_after most S (descent most S g) batches) (record { added = down.added; extends = down.extends }) (recovery_longer most S (descent most S g) batches))
 
 first_part : (h g : List Entry) → IsLonger h g → take (length h) g ≡ h
-first_part h g more = ap (take (length h)) more.behind ∙ take-append_seam h more.added
+first_part h g more = ap (take (length h)) more.extends ∙ take-append_seam h more.added
 
-pub recovery-begins : (most : ℕ) (S : State) (before behind : List Batch) → take (length (recovery most S before)) (recovery most S (before ++ behind)) ≡ recovery most S before
-recovery-begins most S before behind =
+pub recovery-begins : (most : ℕ) (S : State) (before later : List Batch) → take (length (recovery most S before)) (recovery most S (before ++ later)) ≡ recovery most S before
+recovery-begins most S before later =
     let h = recovery most S before in
-    ap (take (length h)) (recovery-parts most S [] before behind) ∙ first_part h (recovery_after most S h behind) (recovery_longer most S h behind)
+    ap (take (length h)) (recovery-parts most S [] before later) ∙ first_part h (recovery_after most S h later) (recovery_longer most S h later)
 
 pub recovery-descends : (most : ℕ) (S : State) (before : List Batch) (B : Batch) → recovery most S (before ++ B ∷ []) ≡ descent most S (recovery most S before ++ entry_of (state S (recovery most S before)) 0 (event.Batch B) ∷ [])
 unfolding recovery_after
@@ -174,13 +174,13 @@ no_batches : (S : State) (h : List Entry) (j : ℕ) (entry : Entry) → AllAlong
 no_batches S [] j entry steps at = absurd cc
 no_batches S (first ∷ h) zero entry steps at =
     let same : first ≡ entry = cc in
-    ap (λ (e : Entry). is_batch e.event) (sym same ∙ steps.0.told)
+    ap (λ (e : Entry). is_batch e.event) (sym same ∙ steps.0.entry_is)
 no_batches S (first ∷ h) (suc j) entry steps at = no_batches (after S first.event) h j entry steps.1 at
 
 descent_waits : (most : ℕ) (S : State) (h : List Entry) → BatchesWait most S h → BatchesWait most S (descent most S h)
 descent_waits most S h waits =
     let down = descent-descends most most S h in
-    subst (BatchesWait most S) (sym down.behind)
+    subst (BatchesWait most S) (sym down.extends)
     (waits_append most S h down.added waits (λ j entry some at is. absurd (true≢false (sym is ∙ no_batches (state S h) down.added j entry down.steps at))))
 
 -- a batch may arrive: there are no entries, or a descent has ended

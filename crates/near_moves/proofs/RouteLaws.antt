@@ -54,9 +54,9 @@ repeats-has (first ∷ paths) path has =
     let rest = filter (λ other. not (same_path first other)) (without_repeats paths) in
     elim (contains_cases first path paths has) [
       | inl same ↦ subst (λ (z : List (Leg × Cabin)). Contains (first ∷ rest) z) same (contains_head first rest)
-      | inr behind ↦ elim (cases_Bool (same_path first path)) [
+      | inr later ↦ elim (cases_Bool (same_path first path)) [
         | inl same ↦ subst (λ (z : List (Leg × Cabin)). Contains (first ∷ rest) z) (same_path-holds first path same) (contains_head first rest)
-        | inr other ↦ contains_tail first path rest (contains_filter (λ other. not (same_path first other)) (without_repeats paths) path (repeats-has paths path behind) (ap not other))
+        | inr other ↦ contains_tail first path rest (contains_filter (λ other. not (same_path first other)) (without_repeats paths) path (repeats-has paths path later) (ap not other))
       ]
     ]
 
@@ -66,7 +66,7 @@ has-repeats [] path has = absurd (contains_none path has)
 has-repeats (first ∷ paths) path has =
     elim (contains_cases first path (filter (λ other. not (same_path first other)) (without_repeats paths)) has) [
       | inl same ↦ subst (λ (z : List (Leg × Cabin)). Contains (first ∷ paths) z) same (contains_head first paths)
-      | inr behind ↦ contains_tail first path paths (has-repeats paths path (filter_contains (λ other. not (same_path first other)) (without_repeats paths) path behind).0)
+      | inr later ↦ contains_tail first path paths (has-repeats paths path (filter_contains (λ other. not (same_path first other)) (without_repeats paths) path later).0)
     ]
 
 pub repeats-apart : (paths : List (List (Leg × Cabin))) → Apart (without_repeats paths)
@@ -105,7 +105,7 @@ three-leg : (x : ℕ) (pair : Leg × Cabin) → Contains (three x) pair → pair
 three-leg x pair has =
     elim (contains_cases (leg x, cabin.F) pair ((leg x, cabin.B) ∷ (leg x, cabin.E) ∷ []) has) [
       | inl same ↦ ap (λ (z : Leg × Cabin). z.0.0) (sym same)
-      | inr behind ↦ elim (contains_cases (leg x, cabin.B) pair ((leg x, cabin.E) ∷ []) behind) [
+      | inr later ↦ elim (contains_cases (leg x, cabin.B) pair ((leg x, cabin.E) ∷ []) later) [
         | inl same ↦ ap (λ (z : Leg × Cabin). z.0.0) (sym same)
         | inr last ↦ elim (contains_cases (leg x, cabin.E) pair [] last) [
           | inl same ↦ ap (λ (z : Leg × Cabin). z.0.0) (sym same)
@@ -260,7 +260,7 @@ from-tried I r path has =
     let doubles = map (λ (d : List (Leg × Cabin)). start ++ d) (all_doubles I) in
     elim (contains_cases (booked_path I r) path (tried_rest I r) has) [
       | inl first ↦ scheduled (sym first)
-      | inr behind ↦ elim (contains_cases start path (singles ++ doubles) behind) [
+      | inr later ↦ elim (contains_cases start path (singles ++ doubles) later) [
         | inl first ↦ begun_alone (sym first)
         | inr more ↦ elim (Contains-append_cases singles doubles path more) [
           | inl single ↦

@@ -7,7 +7,7 @@ use Rattle.std.proofs.lemmas.List.Elements.{All-head, All-tail, All-take, Contai
 use Rattle.desk_units.specs.declared.numbers.Leg.{Leg}
 use Rattle.desk_units.specs.declared.numbers.Cabin.{Cabin}
 use Rattle.desk_data.specs.declared.row.Row.{Row}
-use Rattle.desk_data.specs.Situation.{Situation, legs_of, leg_at, earliest, fixed, ordered_off}
+use Rattle.desk_data.specs.Situation.{Situation, legs_of, leg_at, earliest, fixed, called_off}
 use Rattle.desk_data.specs.PlanRows.{PlanRows, row_at, groups_at, same_path}
 use Rattle.desk_data.specs.Valid.{IsPlanFor}
 use Rattle.plan_moves.specs.declared.moves.Step.{Step}
@@ -76,7 +76,7 @@ departures-hold : (I : Situation) (x d t : ℕ) → Contains (sooner (earliest I
 departures-hold I x d t has =
     elim (Contains-append_cases (sooner (earliest I x) d) (later d) t has) [
       | inl first ↦ (let parts = sooner-holds (earliest I x) d t first in at_earliest parts.0 parts.1)
-      | inr behind ↦ later-holds I x d t behind
+      | inr after ↦ later-holds I x d t after
     ]
 
 later-there : (I : Situation) (x d t : ℕ) → Contains (later d) t → Contains (sooner (earliest I x) d ++ later d) t
@@ -244,8 +244,8 @@ back-holds : (I : Situation) (P : PlanRows) (x y : ℕ) → y < legs_of I → br
 unfolding brings_back
 back-holds I P x y within h =
     let whole = and_parts (is_restorable I P y) ((FromTest I x y && ToTest I x y) && (SoonTest I x y && LateTest I x y)) h in
-    let outer = and_parts (not (fixed I y)) (not (is_flown (row_at P y)) && not (ordered_off I y)) whole.0 in
-    let inner = and_parts (not (is_flown (row_at P y))) (not (ordered_off I y)) outer.1 in
+    let outer = and_parts (not (fixed I y)) (not (is_flown (row_at P y)) && not (called_off I y)) whole.0 in
+    let inner = and_parts (not (is_flown (row_at P y))) (not (called_off I y)) outer.1 in
     let tests = and_parts (FromTest I x y && ToTest I x y) (SoonTest I x y && LateTest I x y) whole.1 in
     let ends = and_parts (FromTest I x y) (ToTest I x y) tests.0 in
     let times = and_parts (SoonTest I x y) (LateTest I x y) tests.1 in
@@ -253,7 +253,7 @@ back-holds I P x y within h =
       within = within;
       movable = not-true (fixed I y) outer.0;
       cancelled = row_cancelled (row_at P y) (not-true (is_flown (row_at P y)) inner.0);
-      kept = not-true (ordered_off I y) inner.1;
+      kept = not-true (called_off I y) inner.1;
       from = eqb-true (leg_at I y).origin.0 (leg_at I x).dest.0 ends.0;
       to = eqb-true (leg_at I y).dest.0 (leg_at I x).origin.0 ends.1;
       soonest = leb-true ((leg_at I x).sched.0 + (leg_at I x).block) (leg_at I y).sched.0 times.0;
@@ -264,8 +264,8 @@ back-from : (I : Situation) (P : PlanRows) (x y : ℕ) → LeadsBack I P x y →
 unfolding brings_back
 back-from I P x y is =
     and_from (is_restorable I P y) ((FromTest I x y && ToTest I x y) && (SoonTest I x y && LateTest I x y))
-    (and_from (not (fixed I y)) (not (is_flown (row_at P y)) && not (ordered_off I y)) (ap not is.movable)
-    (and_from (not (is_flown (row_at P y))) (not (ordered_off I y)) (ap (λ (row : Row). not (is_flown row)) is.cancelled) (ap not is.kept)))
+    (and_from (not (fixed I y)) (not (is_flown (row_at P y)) && not (called_off I y)) (ap not is.movable)
+    (and_from (not (is_flown (row_at P y))) (not (called_off I y)) (ap (λ (row : Row). not (is_flown row)) is.cancelled) (ap not is.kept)))
     (and_from (FromTest I x y && ToTest I x y) (SoonTest I x y && LateTest I x y)
     (and_from (FromTest I x y) (ToTest I x y) (eq-eqb (leg_at I y).origin.0 (leg_at I x).dest.0 is.from) (eq-eqb (leg_at I y).dest.0 (leg_at I x).origin.0 is.to))
     (and_from (SoonTest I x y) (LateTest I x y) (le-leb ((leg_at I x).sched.0 + (leg_at I x).block) (leg_at I y).sched.0 is.soonest)
@@ -276,8 +276,8 @@ unfolding restorings
 restorings-hold I P x p steps has =
     elim (contains_cases (restoring_alone I x p) steps (map (restoring_both I x p) (filter (brings_back I P x) (numbers (legs_of I)))) has) [
       | inl same ↦ alone (sym {a = restoring_alone I x p} same)
-      | inr behind ↦
-          let of_leg = map_contains (restoring_both I x p) (filter (brings_back I P x) (numbers (legs_of I))) steps behind in
+      | inr after ↦
+          let of_leg = map_contains (restoring_both I x p) (filter (brings_back I P x) (numbers (legs_of I))) steps after in
           let y = of_leg.from in
           let own = filter_contains (brings_back I P x) (numbers (legs_of I)) y of_leg.there in
           with_back y (back-holds I P x y (numbers_within (legs_of I) y own.0) own.1) (sym {a = restoring_both I x p y} of_leg.is)

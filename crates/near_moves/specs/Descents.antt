@@ -16,7 +16,7 @@ pub record IsDescentStep (S : State) (entry : Entry) : Type 0 where
   pub move : Move
   pub planned : S.broken ≡ None
   pub first : find (is_better S.inst S.plan) (near S.inst S.plan) ≡ Some move
-  pub told : entry ≡ entry_of S 0 (event.Move move)
+  pub entry_is : entry ≡ entry_of S 0 (event.Move move)
   pub accepted : is_accepted entry.answer ≡ true
 
 -- each of some entries stands so at the state that those before it made of state S
@@ -27,7 +27,7 @@ AllAlong Stands S (entry ∷ entries) = Stands S entry × AllAlong Stands (after
 -- history g is history h with the steps of a descent after it
 pub record Descends (S : State) (h g : List Entry) : Type 0 where
   pub added : List Entry
-  pub behind : g ≡ h ++ added
+  pub extends : g ≡ h ++ added
   pub steps : AllAlong IsDescentStep (state S h) added
 
 -- an entry of a recovery: caller 0 asks, and where it is no batch it is the step of a descent

@@ -127,7 +127,7 @@ restoring_both I x p y =
 unfoldable pub restorings : Situation → PlanRows → ℕ → ℕ → List (List Step)
 restorings I P x p = restoring_alone I x p ∷ map (restoring_both I x p) (filter (brings_back I P x) (numbers (legs_of I)))
 
--- each movable leg that is cancelled though not ordered off, with each aircraft of its scheduled aircraft's family
+-- each movable leg that is cancelled though not called off, with each aircraft of its scheduled aircraft's family
 unfoldable pub restored_units : Situation → PlanRows → List MoveUnit
 restored_units I P = flat_map (λ x. map (restored x) (family_of I (leg_at I x).plane.0)) (filter (is_restorable I P) (numbers (legs_of I)))
 

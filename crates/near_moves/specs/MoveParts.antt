@@ -6,7 +6,7 @@ use Rattle.desk_units.specs.declared.numbers.Plane.{Plane}
 use Rattle.desk_units.specs.declared.numbers.Minute.{Minute}
 use Rattle.desk_data.specs.declared.row.Row.{Row}
 use Rattle.desk_data.specs.declared.row.Row.TheVariants.{Flown, Cancelled}
-use Rattle.desk_data.specs.Situation.{Situation, planes_of, plane_at, fixed, ordered_off}
+use Rattle.desk_data.specs.Situation.{Situation, planes_of, plane_at, fixed, called_off}
 use Rattle.desk_data.specs.PlanRows.{PlanRows, row_at}
 use Rattle.desk_rules.specs.Numbers.{numbers}
 use Rattle.desk_rules.specs.Rotations.{precedes}
@@ -32,12 +32,12 @@ flier Cancelled = 0
 abbrev pub flown_row : ℕ → ℕ → Row
 flown_row p t = Flown (plane p) (minute t)
 
--- whether leg x is movable and flown, and whether it is movable and cancelled though it is not ordered off
+-- whether leg x is movable and flown, and whether it is movable and cancelled though it is not called off
 abbrev pub is_movable_flown : Situation → PlanRows → ℕ → Bool
 is_movable_flown I P x = not (fixed I x) && is_flown (row_at P x)
 
 abbrev pub is_restorable : Situation → PlanRows → ℕ → Bool
-is_restorable I P x = not (fixed I x) && (not (is_flown (row_at P x)) && not (ordered_off I x))
+is_restorable I P x = not (fixed I x) && (not (is_flown (row_at P x)) && not (called_off I x))
 
 -- the aircraft of aircraft p's family, p among them, in ascending order
 unfoldable pub family_of : Situation → ℕ → List ℕ

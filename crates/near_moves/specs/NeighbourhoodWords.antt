@@ -4,7 +4,7 @@ use Rattle.desk_units.specs.declared.numbers.Leg.{Leg}
 use Rattle.desk_units.specs.declared.numbers.Cabin.{Cabin}
 use Rattle.desk_data.specs.declared.row.Row.TheVariants.{Cancelled}
 use Rattle.desk_data.specs.declared.row.Group.{Group}
-use Rattle.desk_data.specs.Situation.{Situation, legs_of, planes_of, reservations_of, leg_at, plane_at, fixed, ordered_off}
+use Rattle.desk_data.specs.Situation.{Situation, legs_of, planes_of, reservations_of, leg_at, plane_at, fixed, called_off}
 use Rattle.desk_data.specs.PlanRows.{PlanRows, row_at, groups_at}
 use Rattle.desk_rules.specs.Words.{Flies}
 use Rattle.near_moves.specs.Units.{MoveUnit, retimed, dropped, restored, rebooked}
@@ -19,12 +19,12 @@ pub record IsMovableLeg (I : Situation) (P : PlanRows) (x : ℕ) : Type 0 where
   pub dep : ℕ
   pub flown : Flies P x plane dep
 
--- leg x is movable, and cancelled though it is not ordered off; aircraft p is of the family of its scheduled aircraft
+-- leg x is movable, and cancelled though it is not called off; aircraft p is of the family of its scheduled aircraft
 pub record MayFlyAgain (I : Situation) (P : PlanRows) (x p : ℕ) : Type 0 where
   pub within : x < legs_of I
   pub movable : fixed I x ≡ false
   pub cancelled : row_at P x ≡ Cancelled
-  pub kept : ordered_off I x ≡ false
+  pub kept : called_off I x ≡ false
   pub planes : p < planes_of I
   pub family : (plane_at I p).family ≡ (plane_at I (leg_at I x).plane.0).family
 

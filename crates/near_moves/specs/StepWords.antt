@@ -3,7 +3,7 @@ use Rattle.std.specs.Prelude.{◌≡◌, ◌≢◌, ℕ, ◌+◌, ◌<◌, ◌�
 use Rattle.desk_units.specs.declared.numbers.Leg.{Leg}
 use Rattle.desk_units.specs.declared.numbers.Cabin.{Cabin}
 use Rattle.desk_data.specs.declared.row.Row.TheVariants.{Cancelled}
-use Rattle.desk_data.specs.Situation.{Situation, legs_of, leg_at, plane_at, earliest, fixed, ordered_off}
+use Rattle.desk_data.specs.Situation.{Situation, legs_of, leg_at, plane_at, earliest, fixed, called_off}
 use Rattle.desk_data.specs.PlanRows.{PlanRows, row_at, groups_at}
 use Rattle.plan_moves.specs.declared.moves.Step.{Step}
 use Rattle.plan_moves.specs.declared.moves.Step.TheVariants.{Set, Push, Swap, Tidy, Refill, Rebook}
@@ -47,12 +47,12 @@ pub record IsRebooking (I : Situation) (P : PlanRows) (r : ℕ) (path : List (Le
   pub portion : IsPortion (count_on path (groups_at P r)) count
   pub all : steps ≡ Rebook (record { 0 = r }) path aim count ∷ []
 
--- leg y is movable, cancelled and not ordered off; it leads back from where leg x leads, and is scheduled to depart 0 to 1,440 minutes after the scheduled arrival of leg x
+-- leg y is movable, cancelled and not called off; it leads back from where leg x leads, and is scheduled to depart 0 to 1,440 minutes after the scheduled arrival of leg x
 pub record LeadsBack (I : Situation) (P : PlanRows) (x y : ℕ) : Type 0 where
   pub within : y < legs_of I
   pub movable : fixed I y ≡ false
   pub cancelled : row_at P y ≡ Cancelled
-  pub kept : ordered_off I y ≡ false
+  pub kept : called_off I y ≡ false
   pub from : (leg_at I y).origin.0 ≡ (leg_at I x).dest.0
   pub to : (leg_at I y).dest.0 ≡ (leg_at I x).origin.0
   pub soonest : (leg_at I x).sched.0 + (leg_at I x).block ≤ (leg_at I y).sched.0

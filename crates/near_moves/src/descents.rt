@@ -55,7 +55,7 @@ pub fn a_recovery_takes_the_batches_and_descends_after_each()
     ensures batches { (most : ℕ) (S : State) (batches : Items Batch) → batches_in (recovery most S batches) ≡ batches }
     ensures entries { (most : ℕ) (S : State) (batches : Items Batch) → AllAlong IsRecoveryEntry S (recovery most S batches) }
     ensures length { (most : ℕ) (S : State) (batches : Items Batch) → length (recovery most S batches) ≤ proposal_limit + length batches }
-    ensures begins { (most : ℕ) (S : State) (before behind : Items Batch) → take (length (recovery most S before)) (recovery most S (before ++ behind)) ≡ recovery most S before }
+    ensures begins { (most : ℕ) (S : State) (before after : Items Batch) → take (length (recovery most S before)) (recovery most S (before ++ after)) ≡ recovery most S before }
     ensures descends { (most : ℕ) (S : State) (before : Items Batch) (B : Batch) → recovery most S (before ++ B ∷ []) ≡ descent most S (recovery most S before ++ entry_of (state S (recovery most S before)) 0 (event.Batch B) ∷ []) }
     ensures ended { (most : ℕ) (S : State) (before : Items Batch) (B : Batch) → HasEnded most S (recovery most S (before ++ B ∷ [])) }
     ensures waits { (most : ℕ) (S : State) (batches : Items Batch) → BatchesWait most S (recovery most S batches) }

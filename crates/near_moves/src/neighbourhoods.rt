@@ -18,7 +18,7 @@ ghost use Rattle.near_moves.specs.NeighbourhoodWords.{IsAim, IsPortion, IsUnit};
 
 /// The units near a plan are just those of six neighbourhoods: each movable leg that is flown is retimed, two
 /// aircraft of a family exchange their legs, legs from each movable leg that is flown on are dropped, each
-/// movable leg that is cancelled and not ordered off is restored by each aircraft of the family of its
+/// movable leg that is cancelled and not called off is restored by each aircraft of the family of its
 /// scheduled aircraft, runs are handed on within the family, and the passengers of each reservation are
 /// rebooked off each path that they are on.
 pub fn units_are_of_six_neighbourhoods()

@@ -32,8 +32,8 @@ numbers-at (suc n) k d lt =
     ]
 
 -- the units of all reservations from r on
-abbrev behind : Situation → PlanRows → ℕ → ℕ → ℕ → List MoveUnit
-behind I P s n r = flat_map (units_of P s n) (drop r (numbers (reservations_of I)))
+abbrev units_from : Situation → PlanRows → ℕ → ℕ → ℕ → List MoveUnit
+units_from I P s n r = flat_map (units_of P s n) (drop r (numbers (reservations_of I)))
 
 units-past : (I : Situation) (P : PlanRows) (s n r : ℕ) → IsPlanFor I P → reservations_of I ≤ r → units_of P s n r ≡ []
 units-past I P s n r plan past =
@@ -44,8 +44,8 @@ units-past I P s n r plan past =
       | inr other ↦ rw other refl
     ]
 
-behind-next : (I : Situation) (P : PlanRows) (s n r : ℕ) → IsPlanFor I P → behind I P s n r ≡ units_of P s n r ++ behind I P s n (r + 1)
-behind-next I P s n r plan =
+units_from-next : (I : Situation) (P : PlanRows) (s n r : ℕ) → IsPlanFor I P → units_from I P s n r ≡ units_of P s n r ++ units_from I P s n (r + 1)
+units_from-next I P s n r plan =
     let ns = numbers (reservations_of I) in
     let long = numbers-length (reservations_of I) in
     let cases : (r < reservations_of I) ⊎ (reservations_of I ≤ r) = grind arith in
@@ -53,7 +53,7 @@ behind-next I P s n r plan =
       | inl lt ↦ ap (flat_map (units_of P s n)) (drop_more ns r 0 (omega (arith, lt, long)) ∙ ap (λ (k : ℕ). k ∷ drop (r + 1) ns) (numbers-at (reservations_of I) r 0 lt))
       | inr past ↦
           ap (flat_map (units_of P s n)) (drop_all r ns (omega (arith, past, long)) ∙ sym (drop_all (r + 1) ns (omega (arith, past, long))))
-          ∙ ap (λ (us : List MoveUnit). us ++ behind I P s n (r + 1)) (sym (units-past I P s n r plan past))
+          ∙ ap (λ (us : List MoveUnit). us ++ units_from I P s n (r + 1)) (sym (units-past I P s n r plan past))
     ]
 
 -- the units of a shard are those of its reservations
@@ -72,7 +72,7 @@ all-units I P u plan first start =
     let n = u.shards in
     let ns = numbers (reservations_of I) in
     rw (first, start)
-    (sym (behind-next I P s n 0 plan)
+    (sym (units_from-next I P s n 0 plan)
     ∙ flat_map_agree (units_of P s n) (λ r. filter (λ v. eqb (owner v % n) s) (map (λ (group : Group). rebooked r group.path) (groups_at P r))) ns
     (All_from_contains (λ r. units_of P s n r ≡ filter (λ v. eqb (owner v % n) s) (map (λ (group : Group). rebooked r group.path) (groups_at P r))) ns
     (λ r has. sym (shard-units P s n r (groups_at P r) (eqb (r % n) s) refl)))
@@ -89,7 +89,7 @@ unit-given I P u v has s n r place =
     let f : Group → MoveUnit = λ group. rebooked u.res group.path in
     let long = length-map groups f in
     let mine : units_of P u.shard u.shards u.res ≡ map f groups = rw parts.0 refl in
-    let rest = behind I P u.shard u.shards (u.res + 1) in
+    let rest = units_from I P u.shard u.shards (u.res + 1) in
     let more : drop u.place (map f groups) ≡ unit_at P u.res u.place ∷ drop (u.place + 1) (map f groups) =
     drop_more (map f groups) u.place (unit_at P u.res u.place) (omega (arith, lt, long))
     ∙ ap (λ (k : MoveUnit). k ∷ drop (u.place + 1) (map f groups)) (get_or-map f groups u.place no_group (unit_at P u.res u.place) lt) in
@@ -118,13 +118,13 @@ pub unit-passed : (I : Situation) (P : PlanRows) (u v : PaxUnits) → IsPlanFor 
 unfolding left_units
 unit-passed I P u v plan has s n r place =
     rw (s, n, r, place)
-    (ap (λ (us : List MoveUnit). us ++ behind I P u.shard u.shards (u.res + 1)) (none_here P u has)
-    ∙ behind-next I P u.shard u.shards (u.res + 1) plan)
+    (ap (λ (us : List MoveUnit). us ++ units_from I P u.shard u.shards (u.res + 1)) (none_here P u has)
+    ∙ units_from-next I P u.shard u.shards (u.res + 1) plan)
 
 pub units-none : (I : Situation) (P : PlanRows) (u : PaxUnits) → IsPlanFor I P → reservations_of I ≤ u.res → left_units I P u ≡ []
 unfolding left_units
 units-none I P u plan past =
     let long = numbers-length (reservations_of I) in
-    ap (λ (us : List MoveUnit). drop u.place us ++ behind I P u.shard u.shards (u.res + 1)) (units-past I P u.shard u.shards u.res plan past)
-    ∙ ap (λ (us : List MoveUnit). us ++ behind I P u.shard u.shards (u.res + 1)) (drop_all u.place [] (omega arith))
+    ap (λ (us : List MoveUnit). drop u.place us ++ units_from I P u.shard u.shards (u.res + 1)) (units-past I P u.shard u.shards u.res plan past)
+    ∙ ap (λ (us : List MoveUnit). us ++ units_from I P u.shard u.shards (u.res + 1)) (drop_all u.place [] (omega arith))
     ∙ ap (flat_map (units_of P u.shard u.shards)) (drop_all (u.res + 1) (numbers (reservations_of I)) (omega (arith, past, long)))

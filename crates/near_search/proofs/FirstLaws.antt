@@ -89,7 +89,7 @@ shard_is I P s n =
 
 given-all : {Walk : Type 0} (left : Walk → List Move) (given : List Move) (walk : Walk) → GivesAll left given walk → given ≡ left walk
 given-all left [] walk none = sym none
-given-all left (m ∷ given) walk gives = ap (λ (ms : List Move). m ∷ ms) (given-all left given gives.after gives.behind) ∙ sym gives.first
+given-all left (m ∷ given) walk gives = ap (λ (ms : List Move). m ∷ ms) (given-all left given gives.after gives.rest) ∙ sym gives.first
 
 pub given-shard : (I : Situation) (P : PlanRows) (s n : ℕ) (legs passengers : List Move) → LegsGive I P s n legs → PassengersGive I P s n passengers → legs ++ passengers ≡ shard I P s n
 given-shard I P s n legs passengers by_legs by_passengers =

@@ -1,3 +1,5 @@
 pub mod PaidLaws
 pub mod FirstLaws
 pub mod PassedLaws
+pub mod RotationLaws
+pub mod VainLaws

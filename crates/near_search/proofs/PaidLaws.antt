@@ -144,8 +144,8 @@ one_cost f path n =
 count_cost : (f : Fare) (path : List (Leg × Cabin)) (n : ℕ) (groups : List Group) → sum_by (fare f) (with_count path n groups) + count_on path groups * f path ≡ sum_by (fare f) groups + n * f path
 count_cost f path n groups =
     let all = sum_by-append (fare f) (filter (is_before path) groups) (group_of n path ++ filter (is_after path) groups) in
-    let behind = sum_by-append (fare f) (group_of n path) (filter (is_after path) groups) in
-    omega (arith, all, behind, one_cost f path n, parts_cost f path groups)
+    let parted = sum_by-append (fare f) (group_of n path) (filter (is_after path) groups) in
+    omega (arith, all, parted, one_cost f path n, parts_cost f path groups)
 
 fewer_cost : (f : Fare) (path : List (Leg × Cabin)) (n : ℕ) (groups : List Group) → n ≤ count_on path groups → sum_by (fare f) (with_fewer path n groups) + n * f path ≡ sum_by (fare f) groups
 fewer_cost f path n groups few =

@@ -37,10 +37,10 @@ pub all-back : {X : Type 0} (Q : X → Type 0) (xs ys : List X) → All Q (xs ++
 all-back Q xs ys all = All-from_recursion Q ys (back_by Q xs ys (recursion_from_All Q (xs ++ ys) all))
 
 -- where no element of the first list passes, the first that passes is in the second
-pub find-behind : {X : Type 0} (p : X → Bool) (xs ys : List X) → find p xs ≡ None → find p (xs ++ ys) ≡ find p ys
-find-behind p xs ys none = find-append p xs ys ∙ ap (λ (o : Option _). option_or o (find p ys)) none
+pub find-after : {X : Type 0} (p : X → Bool) (xs ys : List X) → find p xs ≡ None → find p (xs ++ ys) ≡ find p ys
+find-after p xs ys none = find-append p xs ys ∙ ap (λ (o : Option _). option_or o (find p ys)) none
 
-find_none : {X : Type 0} (p : X → Bool) (xs : List X) → AllByRecursion (λ x. p x ≡ false) xs → find p xs ≡ None
+pub find_none : {X : Type 0} (p : X → Bool) (xs : List X) → AllByRecursion (λ x. p x ≡ false) xs → find p xs ≡ None
 find_none p [] fails = refl
 find_none p (x ∷ xs) fails = rw fails.0 (find_none p xs fails.1)
 
@@ -54,26 +54,26 @@ pub past-none : (I : Situation) (P : PlanRows) (units : List MoveUnit) → IsPas
 past-none I P units = record { same = refl; fits = λ all. all; fewer = omega arith }
 
 -- one more: a passenger costs nothing on its path
-pub past-more : (I : Situation) (P : PlanRows) (before now behind : List MoveUnit) (r place : ℕ) → IsPast I P before now → now ≡ unit_at P r place ∷ behind → passenger_cost I P r (path_at P r place) ≡ 0 → IsPast I P before behind
-past-more I P before now behind r place past is none =
+pub past-more : (I : Situation) (P : PlanRows) (before now units_after : List MoveUnit) (r place : ℕ) → IsPast I P before now → now ≡ unit_at P r place ∷ units_after → passenger_cost I P r (path_at P r place) ≡ 0 → IsPast I P before units_after
+past-more I P before now units_after r place past is none =
     let u = unit_at P r place in
     let worse = recursion_from_All (λ (m : Move). is_better I P m ≡ false) (unit_moves I P u) (unit-ruled_out I P r (path_at P r place) none) in
-    let first : find (is_better I P) (moves_of I P now) ≡ find (is_better I P) (moves_of I P behind) =
+    let first : find (is_better I P) (moves_of I P now) ≡ find (is_better I P) (moves_of I P units_after) =
     ap (λ (us : List MoveUnit). find (is_better I P) (moves_of I P us)) is
-    ∙ find-behind (is_better I P) (unit_moves I P u) (moves_of I P behind) (find_none (is_better I P) (unit_moves I P u) worse) in
+    ∙ find-after (is_better I P) (unit_moves I P u) (moves_of I P units_after) (find_none (is_better I P) (unit_moves I P u) worse) in
     let few = past.fewer in
     record {
       same = past.same ∙ first;
-      fits = λ all. all-back (Fits I) (unit_moves I P u) (moves_of I P behind) (subst (λ (us : List MoveUnit). All (Fits I) (moves_of I P us)) is (past.fits all));
+      fits = λ all. all-back (Fits I) (unit_moves I P u) (moves_of I P units_after) (subst (λ (us : List MoveUnit). All (Fits I) (moves_of I P us)) is (past.fits all));
       fewer = omega (arith, few, ap length is);
     }
 
 -- the moves of the next one are made
 pub past-goes : (I : Situation) (P : PlanRows) (before now : List MoveUnit) (moves : PaxMoves) (u : MoveUnit) → IsPast I P before now → now ≡ u ∷ units_left I P moves → unit_left I P moves ≡ unit_moves I P u → GoesOn I P before moves
 past-goes I P before now moves u past is made =
-    let behind = units_left I P moves in
+    let units_after = units_left I P moves in
     let all_left : left I P moves ≡ moves_of I P now =
-    ap (λ (ms : List Move). ms ++ moves_of I P behind) made ∙ sym (ap (moves_of I P) is) in
+    ap (λ (ms : List Move). ms ++ moves_of I P units_after) made ∙ sym (ap (moves_of I P) is) in
     let few = past.fewer in
     record {
       same = past.same ∙ sym (ap (find (is_better I P)) all_left);

@@ -11,10 +11,10 @@ use Rattle.near_pax.specs.Left as passengers
 use Rattle.near_pax.specs.declared.pax.PaxMoves.{PaxMoves}
 
 -- a call gives a move, and leaves the walk so: which moves a walk has still to give is a function of it
-pub record GivesOne {Walk : Type 0} (left : Walk → List Move) (walk : Walk) (m : Move) (Behind : Walk → Type 0) : Type 0 where
+pub record GivesOne {Walk : Type 0} (left : Walk → List Move) (walk : Walk) (m : Move) (Rest : Walk → Type 0) : Type 0 where
   pub after : Walk
   pub first : left walk ≡ m ∷ left after
-  pub behind : Behind after
+  pub rest : Rest after
 
 -- call after call gives these moves, and the next one gives none
 abbrev pub GivesAll : {Walk : Type 0} → (Walk → List Move) → List Move → Walk → Type 0

@@ -2,3 +2,4 @@ pub use Rattle.near_moves.specs.Descent
 pub use Rattle.plan_moves.specs.Fits
 pub mod Passed
 pub mod Given
+pub mod Rotations

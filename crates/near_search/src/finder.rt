@@ -1,7 +1,7 @@
 //! What a search keeps between its calls.
 
 /// What a search keeps between its calls. It keeps nothing, so one finder serves any evaluators.
-#[derive(Debug, Drop)]
+#[derive(Drop)]
 pub struct Finder {}
 
 impl Finder {

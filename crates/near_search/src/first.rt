@@ -6,11 +6,12 @@ ghost use Rattle.plan_moves.specs.Fits.{Fits};
 ghost use Rattle.near_moves.specs.Descent.{first_better};
 
 use crate::finder::Finder;
+use crate::legs::first_of_legs;
 use crate::passengers::first_of_passengers;
-use crate::trial::first_of;
+use crate::rotations::Rotations;
 use desk_data::NoMem;
 use desk_eval::Evaluator;
-use near_legs::LegMoves;
+use near_legs::LegUnits;
 use near_pax::PaxMoves;
 use plan_moves::Move;
 use std::alloc::Global;
@@ -34,10 +35,11 @@ pub fn first_better(
     ensures eval { eval.new ≡ eval.old }
 {
     let _rows = eval.instance().parts();
-    let mut legs = LegMoves::of(alloc, eval.instance(), eval.plan(), shard, shards)?;
-    if let Some(m) = first_of(alloc, eval, &mut legs)? {
+    let rotations = Rotations::of(alloc, eval)?;
+    let mut units = LegUnits::of(alloc, eval.instance(), eval.plan(), shard, shards)?;
+    if let Some(m) = first_of_legs(alloc, eval, &rotations, &mut units)? {
         return Ok(Some(m));
     }
     let mut passengers = PaxMoves::of(alloc, eval.instance(), eval.plan(), shard, shards)?;
-    first_of_passengers(alloc, eval, &mut passengers)
+    first_of_passengers(alloc, eval, &rotations, &mut passengers)
 }

@@ -1,16 +1,14 @@
 //! Moves that are given one after another.
 
-ghost use Rattle.std.specs.Prelude.{◌≡◌, [], ◌∷◌, List, IfOk, MatchOption};
+ghost use Rattle.std.specs.Prelude.{◌≡◌, [], ◌∷◌, List, IfOk, MatchOption, reverse};
 ghost use Rattle.plan_moves.specs.declared.moves.Move.{Move as Asked};
 ghost use Rattle.desk_data.specs.Situation.{Situation};
 ghost use Rattle.desk_data.specs.PlanRows.{PlanRows};
 ghost use Rattle.desk_data.specs.Valid.{IsPlanFor};
 ghost use Rattle.near_moves.specs.Units.{MoveUnit};
-ghost use Rattle.near_legs.specs.Walk as legs;
 ghost use Rattle.near_pax.specs.Left as passengers;
 
 use desk_data::{Instance, NoMem};
-use near_legs::LegMoves;
 use near_pax::PaxMoves;
 use plan_moves::Move;
 use plan_pages::Pages;
@@ -25,7 +23,7 @@ pub(crate) trait MovesLeft {
     ghost left: { Situation → PlanRows → Self → List Asked };
 
     /// The units after the one at hand: `next_left` gives none of their moves.
-    ghost behind: { Situation → PlanRows → Self → List MoveUnit };
+    ghost units_after: { Situation → PlanRows → Self → List MoveUnit };
 
     /// The next one, or `None` where all were given. The units that follow stay.
     fn next_left(
@@ -37,24 +35,41 @@ pub(crate) trait MovesLeft {
         requires plan { IsPlanFor inst.now plan.now }
         requires of { is_of inst.now plan.now self.old }
         ensures of { is_of inst.now plan.now self.new }
-        ensures behind { behind inst.now plan.now self.new ≡ behind inst.now plan.now self.old }
+        ensures units_after { units_after inst.now plan.now self.new ≡ units_after inst.now plan.now self.old }
         ensures next { IfOk result (λ given. MatchOption given (left inst.now plan.now self.old ≡ []) (λ m. left inst.now plan.now self.old ≡ m ∷ left inst.now plan.now self.new)) };
 }
 
-impl MovesLeft for LegMoves {
-    ghost is_of = { legs.IsOf };
+/// Moves that are made and not given yet.
+#[derive(Drop)]
+pub(crate) struct MadeMoves {
+    /// The last first.
+    moves: Vec<Move>,
+}
 
-    ghost left = { legs.left };
+impl MadeMoves {
+    /// These, in their order.
+    pub(crate) fn of(mut moves: Vec<Move>) -> MadeMoves
+        ensures { reverse result.moves.items ≡ moves.items }
+    {
+        moves.reverse();
+        MadeMoves { moves }
+    }
+}
 
-    ghost behind = { λ I P moves. [] };
+impl MovesLeft for MadeMoves {
+    ghost is_of = { λ I P made. Unit {0} };
+
+    ghost left = { λ I P made. reverse made.moves.items };
+
+    ghost units_after = { λ I P made. [] };
 
     fn next_left(
         &mut self,
-        alloc: Global,
-        inst: &Instance,
-        plan: &Pages,
+        _alloc: Global,
+        _inst: &Instance,
+        _plan: &Pages,
     ) -> Result<Option<Move>, NoMem> {
-        self.next(alloc, inst, plan)
+        Ok(self.moves.pop())
     }
 }
 
@@ -64,7 +79,7 @@ impl MovesLeft for PaxMoves {
 
     ghost left = { passengers.unit_left };
 
-    ghost behind = { passengers.units_left };
+    ghost units_after = { passengers.units_left };
 
     fn next_left(
         &mut self,

@@ -8,8 +8,8 @@
 //! shard, which is a law. A move is tried on the
 //! evaluator: applied, judged by what the plan then breaks and costs, and taken back. Before that `ruled_out` asks
 //! whether it is known not to be better, which is worth while where that takes less than to try the move: it may
-//! always say no. A path that costs a passenger nothing is passed over before the moves off it are made. What is
-//! known is a law each.
+//! always say no. A run of legs that is handed on in vain (`near_chains`) is passed over before its move is made,
+//! and a path that costs a passenger nothing before the moves off it are made. What is known is a law each.
 //!
 //! Proved: what is found is the first of `find` over the shard, as `near_moves` defines it, and it fits; the
 //! evaluator stands where it stood, also where memory ran out.
@@ -17,9 +17,12 @@
 
 mod finder;
 mod first;
+mod in_vain;
 mod laws;
 mod left;
+mod legs;
 mod passengers;
+mod rotations;
 mod ruled_out;
 mod trial;
 

@@ -7,7 +7,9 @@ ghost use Rattle.near_moves.specs.Near.{moves_of};
 ghost use Rattle.near_moves.specs.Descent.{is_better};
 ghost use Rattle.near_pax.specs.Left.{IsOf, left, units_left};
 ghost use Rattle.near_search.specs.Passed.{GoesOn};
+ghost use Rattle.near_search.specs.Rotations.{AreRotations};
 
+use crate::rotations::Rotations;
 use crate::ruled_out::costs_nothing;
 use crate::trial::first_of;
 use desk_data::NoMem;
@@ -21,8 +23,10 @@ use std::alloc::Global;
 pub(crate) fn first_of_passengers(
     alloc: Global,
     eval: &mut Evaluator,
+    rotations: &Rotations,
     moves: &mut PaxMoves,
 ) -> Result<Option<Move>, NoMem>
+    requires rotations { AreRotations eval.old.inst eval.old.rows rotations.now }
     requires moves { IsOf eval.old.inst eval.old.rows moves.old }
     requires fits { All (Fits eval.old.inst) (left eval.old.inst eval.old.rows moves.old) }
     requires depth { length eval.old.past < 1900000000 }
@@ -31,7 +35,7 @@ pub(crate) fn first_of_passengers(
     ensures eval { eval.new ≡ eval.old }
 {
     'paths: loop {
-        if let Some(m) = first_of(alloc, eval, moves)? {
+        if let Some(m) = first_of(alloc, eval, rotations, moves)? {
             return Ok(Some(m));
         }
         if !go_on(eval, moves) {

@@ -9,21 +9,26 @@ ghost use Rattle.desk_model.specs.Steps.{after_step};
 ghost use Rattle.near_moves.specs.Descent.{is_better};
 ghost use Rattle.near_pax.specs.Units.{path_at};
 ghost use Rattle.full_cost.specs.Amounts.{passenger_cost};
+ghost use Rattle.near_search.specs.Rotations.{AreRotations};
 
+use crate::in_vain::are_in_vain;
+use crate::rotations::Rotations;
 use desk_data::{Path, Res};
 use desk_eval::Evaluator;
 use full_cost::passenger_cost;
 use plan_moves::{Move, Step};
 
 /// Whether it is known without trying it that a move is not better: it has one step, and that makes no plan
-/// cheaper. Where it says no, nothing is known.
-pub(crate) fn ruled_out(eval: &Evaluator, m: &Move) -> bool
-    requires { Fits eval.now.inst m.now }
+/// cheaper, or its first step is in vain. Where it says no, nothing is known.
+pub(crate) fn ruled_out(eval: &Evaluator, rotations: &Rotations, m: &Move) -> bool
+    requires rotations { AreRotations eval.now.inst eval.now.rows rotations.now }
+    requires fits { Fits eval.now.inst m.now }
     ensures { result ≡ true → is_better eval.now.inst eval.now.rows m.now ≡ false }
 {
     match m.steps.as_slice() {
         [step] => is_no_cheaper(eval, step),
-        _ => false,
+        [first, others @ ..] => are_in_vain(eval, rotations, first, others),
+        [] => false,
     }
 }
 

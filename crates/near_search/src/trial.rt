@@ -4,8 +4,10 @@ ghost use Rattle.std.specs.Prelude.{◌≡◌, ◌<◌, length, All, IfOk, find}
 ghost use Rattle.std.specs.Option.{ForSome};
 ghost use Rattle.plan_moves.specs.Fits.{Fits};
 ghost use Rattle.near_moves.specs.Descent.{is_better};
+ghost use Rattle.near_search.specs.Rotations.{AreRotations};
 
 use crate::left::MovesLeft;
+use crate::rotations::Rotations;
 use crate::ruled_out::ruled_out;
 use desk_data::NoMem;
 use desk_eval::Evaluator;
@@ -17,19 +19,21 @@ use std::alloc::Global;
 pub(crate) fn first_of<M: MovesLeft>(
     alloc: Global,
     eval: &mut Evaluator,
+    rotations: &Rotations,
     moves: &mut M,
 ) -> Result<Option<Move>, NoMem>
+    requires rotations { AreRotations eval.old.inst eval.old.rows rotations.now }
     requires moves { M.is_of eval.old.inst eval.old.rows moves.old }
     requires fits { All (Fits eval.old.inst) (M.left eval.old.inst eval.old.rows moves.old) }
     requires depth { length eval.old.past < 1900000000 }
     ensures ok { IfOk result (λ found. found ≡ find (is_better eval.old.inst eval.old.rows) (M.left eval.old.inst eval.old.rows moves.old)) }
     ensures fits { IfOk result (λ found. ForSome found (Fits eval.old.inst)) }
     ensures moves { M.is_of eval.old.inst eval.old.rows moves.new }
-    ensures behind { M.behind eval.old.inst eval.old.rows moves.new ≡ M.behind eval.old.inst eval.old.rows moves.old }
+    ensures units_after { M.units_after eval.old.inst eval.old.rows moves.new ≡ M.units_after eval.old.inst eval.old.rows moves.old }
     ensures eval { eval.new ≡ eval.old }
 {
     while let Some(m) = moves.next_left(alloc, eval.instance(), eval.plan())? {
-        if is_better(alloc, eval, &m)? {
+        if is_better(alloc, eval, rotations, &m)? {
             return Ok(Some(m));
         }
     }
@@ -38,13 +42,19 @@ pub(crate) fn first_of<M: MovesLeft>(
 
 /// Whether a move makes the plan feasible and cheaper. It is tried on the evaluator, unless it is known not
 /// to. The evaluator stands where it stood, after an error too.
-fn is_better(alloc: Global, eval: &mut Evaluator, m: &Move) -> Result<bool, NoMem>
+fn is_better(
+    alloc: Global,
+    eval: &mut Evaluator,
+    rotations: &Rotations,
+    m: &Move,
+) -> Result<bool, NoMem>
+    requires rotations { AreRotations eval.old.inst eval.old.rows rotations.now }
     requires fits { Fits eval.old.inst m.now }
     requires depth { length eval.old.past < 1900000000 }
     ensures ok { IfOk result (λ better. better ≡ is_better eval.old.inst eval.old.rows m.now) }
     ensures eval { eval.new ≡ eval.old }
 {
-    if ruled_out(eval, m) {
+    if ruled_out(eval, rotations, m) {
         return Ok(false);
     }
     let now = eval.cost();

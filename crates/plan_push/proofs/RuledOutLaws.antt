@@ -15,15 +15,15 @@ use Rattle.desk_rules.proofs.FindLaws.{Found, found, none-cons}
 use Rattle.desk_model.specs.Push.{has_slots, is_free, meets_maintenance}
 use Rattle.plan_push.specs.RuledOut.{IsRuledOutUntil, end_of_first, end_of_maintenance, end_of_first_met}
 use Rattle.plan_push.specs.Room.{has_room}
-use Rattle.plan_push.specs.declared.room.Movement.TheVariants.{Departure, Arrival}
+use Rattle.hour_counts.specs.declared.slot.Movement.TheVariants.{Departure, Arrival}
 
 -- ---- spans
 
 found_any : {X : Type 0} (p q : X → Bool) (xs : List X) (x : X) → find p xs ≡ Some x → q x ≡ true → list_any q xs ≡ true
 found_any p q xs x h holds =
     let at : Found p xs x = found p xs x h in
-    ap (list_any q) at.place ∙ list_any-append q at.before (x ∷ at.behind)
-    ∙ or_right (list_any q at.before) (list_any q (x ∷ at.behind)) (or_left (q x) (list_any q at.behind) holds)
+    ap (list_any q) at.place ∙ list_any-append q at.before (x ∷ at.after)
+    ∙ or_right (list_any q at.before) (list_any q (x ∷ at.after)) (or_left (q x) (list_any q at.after) holds)
 
 none_any : {X : Type 0} (p : X → Bool) (xs : List X) → find p xs ≡ None → list_any p xs ≡ false
 none_any p [] h = refl

@@ -4,8 +4,8 @@ use Rattle.desk_data.specs.Situation.{Situation, leg_at}
 use Rattle.desk_data.specs.Hours.{dep_cap, arr_cap}
 use Rattle.desk_data.specs.PlanRows.{PlanRows}
 use Rattle.desk_model.specs.Push.{departures_beside, arrivals_beside, is_below}
-use Rattle.plan_push.specs.declared.room.Movement.{Movement}
-use Rattle.plan_push.specs.declared.room.Movement.TheVariants.{Departure, Arrival}
+use Rattle.hour_counts.specs.declared.slot.Movement.{Movement}
+use Rattle.hour_counts.specs.declared.slot.Movement.TheVariants.{Departure, Arrival}
 
 -- how many other legs depart where leg x departs, or arrive where it arrives, in hour h
 abbrev pub others : Situation → PlanRows → Movement → ℕ → ℕ → ℕ

@@ -13,7 +13,7 @@ use plan_reads::ReadPlan;
 use std::alloc::Global;
 
 /// A leg that a Push places, and the leg that stands before it on its aircraft at the step's start.
-#[derive(Clone, Copy, Debug)]
+#[derive(Clone, Copy)]
 pub struct Placing {
     pub leg: Leg,
     /// `None` where the leg is the aircraft's first.

@@ -6,15 +6,8 @@ ghost use Rattle.desk_data.specs.Valid.{IsPlanFor};
 ghost use Rattle.plan_push.specs.Room.{cap, has_room, others};
 
 use desk_data::{Instance, Leg};
-use hour_counts::KnowsHours;
+use hour_counts::{KnowsHours, Movement};
 use plan_reads::ReadPlan;
-
-/// What a leg does at an airport: it departs from its origin, and arrives at its destination.
-#[derive(Clone, Copy)]
-pub(crate) enum Movement {
-    Departure,
-    Arrival,
-}
 
 /// Whether a leg's airport has room for it in an hour: it has no cap then, or fewer other legs than
 /// the cap do the same there.

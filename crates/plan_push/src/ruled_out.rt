@@ -7,9 +7,9 @@ ghost use Rattle.desk_rules.specs.Rules.{meets_span};
 ghost use Rattle.desk_model.specs.Push.{can_depart, has_slots, is_free};
 ghost use Rattle.plan_push.specs.RuledOut.{HoldsOrIsRuledOut, end_of_maintenance, end_of_first_met};
 
-use crate::room::{Movement, has_room};
+use crate::room::has_room;
 use desk_data::{Instance, Leg, Maint, Minute, Plane};
-use hour_counts::KnowsHours;
+use hour_counts::{KnowsHours, Movement};
 use plan_reads::{ReadPlan, meets_span};
 
 /// `None` where a leg can depart at a moment, which is no later than the latest departure of any leg.

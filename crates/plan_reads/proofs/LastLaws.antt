@@ -111,8 +111,8 @@ only_last : (I : Situation) (P : PlanRows) (p at x z : ℕ) → IsLast P p at (l
 only_last I P p at x z h lt last =
     let parts = and_parts (departs_before P p at z) (none_below (legs_of I) (is_later P p at z)) last in
     let none : is_later P p at z x ≡ false = none_below-holds (legs_of I) (is_later P p at z) parts.1 x h.within in
-    let behind : precedes P z x ≡ false = sym (ap (λ (b : Bool). b && precedes P z x) h.before) ∙ none in
-    same_leg p x z (row_at P x) (row_at P z) (flies_of P p at x h.before) (flies_of P p at z parts.0) (h.last z lt parts.0) behind
+    let later : precedes P z x ≡ false = sym (ap (λ (b : Bool). b && precedes P z x) h.before) ∙ none in
+    same_leg p x z (row_at P x) (row_at P z) (flies_of P p at x h.before) (flies_of P p at z parts.0) (h.last z lt parts.0) later
 
 -- what is asked of the last leg before a moment is asked of the one that is kept
 last_asked : (I : Situation) (P : PlanRows) (p at x : ℕ) (test : ℕ → Bool) → IsLast P p at (legs_of I) x → each_below (legs_of I) (λ z. implies (is_last_before I P p at z) (test z)) ≡ test x

@@ -26,7 +26,7 @@ abbrev pub IsRotationLegOf : ℕ → RotationLeg → Type 0
 IsRotationLegOf legs at = (at.leg.0 < legs) × (at.dep.0 < 52500000)
 
 -- it is the leg before leg y in a plan, with its departure there, or there is none
-pub record IsAfterLeg (I : Situation) (P : PlanRows) (y : ℕ) (before : Option RotationLeg) : Type 0 where
+pub record IsRotationLegBefore (I : Situation) (P : PlanRows) (y : ℕ) (before : Option RotationLeg) : Type 0 where
   pub leg : IsLegBefore P.rows (legs_of I) y (leg_in before)
   pub departs : ForSome before (λ earlier. earlier.dep.0 ≡ dep P earlier.leg.0)
 

@@ -8,7 +8,7 @@ ghost use Rattle.desk_data.specs.Valid.{IsRowOf};
 ghost use Rattle.desk_rules.specs.Rotations.{ground_time};
 ghost use Rattle.desk_rules.specs.Rules.{keeps_c5, keeps_c6};
 ghost use Rattle.plan_reads.specs.Last.{stand};
-ghost use Rattle.plan_reads.specs.AfterLeg.{IsAfterLeg, IsRotationLegOf, has_ground_time_after, c5_location_after, leg_in, c6_ground_time_after, with_departure};
+ghost use Rattle.plan_reads.specs.AfterLeg.{IsRotationLegBefore, IsRotationLegOf, has_ground_time_after, c5_location_after, leg_in, c6_ground_time_after, with_departure};
 
 use crate::legs::departure;
 use crate::reads::ReadPlan;
@@ -24,7 +24,7 @@ pub fn c5_location(inst: &Instance, leg: Leg, row: Row, before: Option<RotationL
     requires row { IsRowOf (planes_of inst.now) row }
     requires before { ForSome before (IsRotationLegOf (legs_of inst.now)) }
     ensures row { result ≡ c5_location_after inst.now leg.0 before row }
-    ensures plan { (P : PlanRows) → row_at P leg.0 ≡ row → IsAfterLeg inst.now P leg.0 before → result ≡ keeps_c5 inst.now P leg.0 }
+    ensures plan { (P : PlanRows) → row_at P leg.0 ≡ row → IsRotationLegBefore inst.now P leg.0 before → result ≡ keeps_c5 inst.now P leg.0 }
 {
     c5_location_after(inst, leg, row, before)
 }
@@ -63,7 +63,7 @@ pub fn c6_ground_time(inst: &Instance, leg: Leg, row: Row, before: Option<Rotati
     requires row { IsRowOf (planes_of inst.now) row }
     requires before { ForSome before (IsRotationLegOf (legs_of inst.now)) }
     ensures row { result ≡ c6_ground_time_after inst.now leg.0 before row }
-    ensures plan { (P : PlanRows) → row_at P leg.0 ≡ row → IsAfterLeg inst.now P leg.0 before → result ≡ keeps_c6 inst.now P leg.0 }
+    ensures plan { (P : PlanRows) → row_at P leg.0 ≡ row → IsRotationLegBefore inst.now P leg.0 before → result ≡ keeps_c6 inst.now P leg.0 }
 {
     c6_ground_time_after(inst, leg, row, before)
 }

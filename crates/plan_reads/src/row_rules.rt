@@ -20,7 +20,7 @@ pub fn c1_due(inst: &Instance, leg: Leg, row: Row) -> bool
     }
 }
 
-/// Whether a leg with a row meets C2: it is fixed, or cancelled, or not ordered off and departs from
+/// Whether a leg with a row meets C2: it is fixed, or cancelled, or not called off and departs from
 /// its earliest to its latest departure.
 pub fn c2_in_time(inst: &Instance, leg: Leg, row: Row) -> bool
     requires leg { leg.0 < legs_of inst.now }
@@ -31,7 +31,7 @@ pub fn c2_in_time(inst: &Instance, leg: Leg, row: Row) -> bool
     }
     match row {
         Row::Flown { dep, .. } => {
-            !inst.ordered_off(leg) && inst.earliest(leg) <= dep && dep <= inst.latest(leg)
+            !inst.called_off(leg) && inst.earliest(leg) <= dep && dep <= inst.latest(leg)
         }
         Row::Cancelled => true,
     }

@@ -1,6 +1,4 @@
 //! The tests, by what they ask.
 
-mod beside;
 mod day;
-mod gates;
-mod searches;
+mod in_turn;

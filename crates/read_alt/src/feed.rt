@@ -17,7 +17,7 @@ use std::alloc::Global;
 const MOST_BATCH: u32 = 999_999_999;
 
 /// What a record of the feed is about.
-#[derive(Clone, Copy, Debug)]
+#[derive(Clone, Copy)]
 enum OrderKind {
     Flight,
     Aircraft,

@@ -4,6 +4,6 @@ use Rattle.file_rows.specs.declared.cause.Cause.{Cause}
 use Rattle.file_rows.specs.declared.fleet.PositionGroup.{PositionGroup}
 
 -- these groups, and after them those that are read
-abbrev pub behind : List PositionGroup → Result (List PositionGroup) Cause → Result (List PositionGroup) Cause
-behind before (Ok groups) = Ok (before ++ groups)
-behind before (Err cause) = Err cause
+abbrev pub prepended : List PositionGroup → Result (List PositionGroup) Cause → Result (List PositionGroup) Cause
+prepended before (Ok groups) = Ok (before ++ groups)
+prepended before (Err cause) = Err cause

@@ -1,17 +1,40 @@
 //! The file of aircraft.
 
-ghost use Rattle.std.specs.Prelude.{◌≡◌, IfOk, All};
+ghost use Rattle.std.specs.Prelude.{◌≡◌, ◌≤◌, Ok, Err, IfOk, MatchResult, All};
+ghost use Rattle.desk_text.specs.Fields.{name_of, number_of};
 ghost use Rattle.desk_text.specs.Rows.{Gives, GivesRow, text_rows};
-ghost use Rattle.read_fleet.specs.Aircraft.{aircraft_of, aircraft_row};
+ghost use Rattle.read_fleet.specs.Aircraft.{next_as, aircraft_of, aircraft_row};
 ghost use Rattle.file_rows.specs.Facts.{IsAircraft};
 ghost use Rattle.file_rows.specs.Limits.{most_bytes};
+ghost use Rattle.file_rows.specs.Seen.{IsSeen};
 
 use crate::maintenance::maint;
 use desk_text::{
     Cause, Fields, Grammar, MOST_BYTES, ReadFault, RowFault, name, number, price, read_rows, seats,
 };
+use desk_units::Name;
 use file_rows::AircraftRow;
 use std::alloc::Global;
+
+/// The name that the next field spells.
+fn next_name(fields: &mut Fields<'_>) -> Result<Name, Cause>
+    ensures exact { MatchResult result (λ name. next_as name_of fields.old ≡ Ok (name, fields.new)) (λ cause. next_as name_of fields.old ≡ Err cause) }
+    ensures seen { IfOk result IsSeen }
+{
+    let field = fields.take()?;
+    let name = name(field)?;
+    Ok(name)
+}
+
+/// The number from `low` to `high` that the next field spells.
+fn next_number(fields: &mut Fields<'_>, low: u32, high: u32) -> Result<u32, Cause>
+    ensures exact { MatchResult result (λ n. next_as (number_of low high) fields.old ≡ Ok (n, fields.new)) (λ cause. next_as (number_of low high) fields.old ≡ Err cause) }
+    ensures most { IfOk result (λ n. n ≤ high) }
+{
+    let field = fields.take()?;
+    let number = number(field, low, high)?;
+    Ok(number)
+}
 
 /// The aircraft of a line of at least ten fields.
 #[tactic(auto, unfolding(crate::specs::Aircraft::aircraft_of))]
@@ -21,15 +44,15 @@ fn aircraft_of(line: u32, mut fields: Fields<'_>) -> Result<AircraftRow, Cause>
 {
     Ok(AircraftRow {
         line,
-        name: name(fields.take()?)?,
-        model: name(fields.take()?)?,
-        family: name(fields.take()?)?,
+        name: next_name(&mut fields)?,
+        model: next_name(&mut fields)?,
+        family: next_name(&mut fields)?,
         seats: seats(fields.take()?)?,
-        range: number(fields.take()?, 0, 100_000)?,
+        range: next_number(&mut fields, 0, 100_000)?,
         hourly: price(fields.take()?)?,
-        turnaround: number(fields.take()?, 0, 2_880)?,
-        transit: number(fields.take()?, 0, 2_880)?,
-        origin: name(fields.take()?)?,
+        turnaround: next_number(&mut fields, 0, 2_880)?,
+        transit: next_number(&mut fields, 0, 2_880)?,
+        origin: next_name(&mut fields)?,
         maint: maint(fields.take()?)?,
     })
 }

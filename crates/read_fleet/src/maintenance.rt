@@ -18,8 +18,8 @@ fn after_last_dash(bytes: &[u8]) -> Option<usize>
 fn cut_at_last_dash(bytes: &[u8]) -> Option<(&[u8], &[u8])>
     ensures { option_map (λ parts. (parts.0.now, parts.1.now)) result ≡ cut_at_last_dash bytes.now }
 {
-    let behind = after_last_dash(bytes)?;
-    let end = bytes.len() - behind;
+    let after_dash = after_last_dash(bytes)?;
+    let end = bytes.len() - after_dash;
     Some((&bytes[..end - 1], &bytes[end..]))
 }
 

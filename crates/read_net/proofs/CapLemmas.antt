@@ -4,6 +4,6 @@ use Rattle.file_rows.specs.declared.cause.Cause.{Cause}
 use Rattle.file_rows.specs.declared.network.CapRow.{CapRow}
 
 -- these caps, and after them those that are read
-abbrev pub behind : List CapRow → Result (List CapRow) Cause → Result (List CapRow) Cause
-behind before (Ok caps) = Ok (before ++ caps)
-behind before (Err cause) = Err cause
+abbrev pub prepended : List CapRow → Result (List CapRow) Cause → Result (List CapRow) Cause
+prepended before (Ok caps) = Ok (before ++ caps)
+prepended before (Err cause) = Err cause

@@ -5,9 +5,9 @@ use Rattle.file_rows.specs.declared.cause.Cause.{Cause}
 use Rattle.file_rows.specs.declared.passengers.LegRow.{LegRow}
 
 -- these legs, and after them those that are read
-abbrev pub behind : List LegRow → Result (List LegRow) Cause → Result (List LegRow) Cause
-behind before (Ok legs) = Ok (before ++ legs)
-behind before (Err cause) = Err cause
+abbrev pub prepended : List LegRow → Result (List LegRow) Cause → Result (List LegRow) Cause
+prepended before (Ok legs) = Ok (before ++ legs)
+prepended before (Err cause) = Err cause
 
 -- so many legs of three fields are whole groups
 pub are_whole : (fields : List (List ℕ)) (legs : List LegRow) → 3 * length legs ≡ length fields → 1 ≤ length legs → (ltb 0 (length fields) && eqb (length fields % 3) 0) ≡ true

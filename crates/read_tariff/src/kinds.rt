@@ -6,7 +6,7 @@ ghost use Rattle.read_tariff.specs.Rows.{kind_of};
 use desk_text::Cause;
 
 /// What a row is about.
-#[derive(Clone, Copy, Debug)]
+#[derive(Clone, Copy)]
 pub(crate) enum TariffKind {
     Surface,
     Weight,

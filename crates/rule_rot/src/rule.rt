@@ -6,7 +6,7 @@ ghost use Rattle.desk_data.specs.Situation.{legs_of};
 ghost use Rattle.desk_data.specs.Valid.{IsPlanFor};
 ghost use Rattle.desk_rules.specs.Least.{breaks};
 ghost use Rattle.plan_reads.specs.Before.{AreBefore};
-ghost use Rattle.plan_reads.specs.AfterLeg.{IsAfterLeg, IsRotationLegOf};
+ghost use Rattle.plan_reads.specs.AfterLeg.{IsRotationLegBefore, IsRotationLegOf};
 ghost use Rattle.rule_rot.specs.Items.{count, item, items_of, keeps, leg_keeps};
 ghost use Rattle.rule_rot.specs.Upkeep.{AreUpkeeps};
 
@@ -104,7 +104,7 @@ fn leg_before(inst: &Instance, plan: &Plan, before: &[Option<Leg>], leg: Leg) ->
     requires plan { IsPlanFor inst.now plan.now }
     requires before { AreBefore plan.now.rows before.now }
     requires leg { leg.0 < legs_of inst.now }
-    ensures behind { IsAfterLeg inst.now plan.now leg.0 result }
+    ensures is_before { IsRotationLegBefore inst.now plan.now leg.0 result }
     ensures limit { ForSome result (IsRotationLegOf (legs_of inst.now)) }
 {
     with_departure(plan, before[leg.0 as usize])

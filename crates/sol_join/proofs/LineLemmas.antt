@@ -18,7 +18,7 @@ use Rattle.sol_rows.specs.declared.rows.PlannedLeg.{PlannedLeg}
 use Rattle.sol_rows.specs.declared.rows.PlannedGroup.{PlannedGroup}
 use Rattle.sol_join.specs.Stated.{leg_of, row_of, is_in_time, stated_leg, path_of, group_of, stated_group}
 use Rattle.sol_join.specs.Statement.{cause_of, Adds}
-use Rattle.sol_join.specs.Groups.{Passengers, has_path, groups_telling, passengers_stated}
+use Rattle.sol_join.specs.Groups.{Passengers, has_path, statement_of_groups, passengers_stated}
 use Rattle.sol_join.specs.Parties.{Tried}
 use Rattle.sol_join.proofs.Chains.{bind_ok, if_ok, ok_or_some, if_is_ok}
 use Rattle.sol_join.proofs.StatementLemmas.{AreAfter, goes_on, stops}
@@ -48,13 +48,13 @@ module _ (I : Situation) (lines : List PlannedGroup) (n : ℕ) (parties : List P
   why = cause_of (λ stated. has_path stated.1.path (get_or parties stated.0.0 [])) (stated_group I line)
 
   -- a line is put
-  pub line_put : (parties' : List Passengers) → n < length lines → line ≡ get_or lines n line → why ≡ None → Adds (groups_telling I) (stated_group I line) parties parties'
-      → AreAfter (groups_telling I) (reservations_of I) lines n parties → AreAfter (groups_telling I) (reservations_of I) lines (n + 1) parties'
-  line_put parties' below is none adds after = goes_on (groups_telling I) (reservations_of I) lines n parties parties' line why below is (stated_group-within I line) refl none adds after
+  pub line_put : (parties' : List Passengers) → n < length lines → line ≡ get_or lines n line → why ≡ None → Adds (statement_of_groups I) (stated_group I line) parties parties'
+      → AreAfter (statement_of_groups I) (reservations_of I) lines n parties → AreAfter (statement_of_groups I) (reservations_of I) lines (n + 1) parties'
+  line_put parties' below is none adds after = goes_on (statement_of_groups I) (reservations_of I) lines n parties parties' line why below is (stated_group-within I line) refl none adds after
 
   -- a line is refused
   pub line_refused : {A : Type 0} (shown : A → List Passengers) (fault : RowFault) (answer : ReadFault) → n < length lines → line ≡ get_or lines n line → Tried {Answer = Unit {0}} (Err fault) why → answer ≡ fault_at line.line fault
-      → AreAfter (groups_telling I) (reservations_of I) lines n parties → Gives {Answer = A} shown (Err answer) (passengers_stated I lines)
+      → AreAfter (statement_of_groups I) (reservations_of I) lines n parties → Gives {Answer = A} shown (Err answer) (passengers_stated I lines)
   line_refused shown (row_fault.Refused cause) answer below is tried stated after =
-      subst (λ (a : ReadFault). Gives shown (Err a) (passengers_stated I lines)) (sym stated) (stops (groups_telling I) (reservations_of I) lines n parties line cause below is (stated_group-within I line) (sym tried) after)
+      subst (λ (a : ReadFault). Gives shown (Err a) (passengers_stated I lines)) (sym stated) (stops (statement_of_groups I) (reservations_of I) lines n parties line cause below is (stated_group-within I line) (sym tried) after)
   line_refused shown row_fault.Memory answer below is tried stated after = subst (λ (a : ReadFault). Gives shown (Err a) (passengers_stated I lines)) (sym stated) tt

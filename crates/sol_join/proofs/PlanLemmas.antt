@@ -41,8 +41,8 @@ use Rattle.sol_rows.specs.declared.rows.PlannedGroup.{PlannedGroup}
 use Rattle.sol_rows.specs.Facts.{IsPlannedGroup}
 use Rattle.sol_join.specs.Stated.{leg_of, row_of, is_in_time, stated_leg, seat_of, path_of, group_of, stated_group}
 use Rattle.sol_join.specs.Statement.{entry_among, first_refused, unless, entries_stated}
-use Rattle.sol_join.specs.Legs.{legs_telling, rows_stated, all_rows}
-use Rattle.sol_join.specs.Groups.{Passengers, groups_telling, passengers_stated, groups_in, is_whole, all_groups}
+use Rattle.sol_join.specs.Legs.{statement_of_legs, rows_stated, all_rows}
+use Rattle.sol_join.specs.Groups.{Passengers, statement_of_groups, passengers_stated, groups_in, is_whole, all_groups}
 use Rattle.sol_join.specs.Solution.{in_file, plan_stated}
 use Rattle.sol_join.proofs.Chains.{bind_ok, if_ok, ok_or_some}
 use Rattle.sol_join.proofs.StatementLemmas.{entry_among-holds}
@@ -81,9 +81,9 @@ or_good : (I : Situation) (row : Option Row) (other : Row) → IsGoodRow I row �
 or_good I None other good is = is
 or_good I (Some row) other good is = good
 
-row_good : (I : Situation) (lines : List PlannedLeg) (x : ℕ) → IsGoodRow I (entry_among (legs_telling I) lines x)
+row_good : (I : Situation) (lines : List PlannedLeg) (x : ℕ) → IsGoodRow I (entry_among (statement_of_legs I) lines x)
 row_good I lines x =
-    entry_among-holds (legs_telling I) (λ _. Unit {0}) (IsGoodRow I) tt (λ row line stated _ is good. or_good I row stated.1 good (stated_in_range I line stated is)) lines x (all_lines lines)
+    entry_among-holds (statement_of_legs I) (λ _. Unit {0}) (IsGoodRow I) tt (λ row line stated _ is good. or_good I row stated.1 good (stated_in_range I line stated is)) lines x (all_lines lines)
 
 or_cancelled : (I : Situation) (row : Option Row) → IsGoodRow I row → IsRowOf (planes_of I) (unwrap_or row Cancelled)
 or_cancelled I None good = tt
@@ -193,9 +193,9 @@ one_kept I passengers group on kept = record {
   sorted = sorted_inserted path_cmp group.path group.count path_total passengers kept.sorted;
 }
 
-passengers_kept : (I : Situation) (lines : List PlannedGroup) (r : ℕ) → AllByRecursion IsPlannedGroup lines → AreKept I (entry_among (groups_telling I) lines r)
+passengers_kept : (I : Situation) (lines : List PlannedGroup) (r : ℕ) → AllByRecursion IsPlannedGroup lines → AreKept I (entry_among (statement_of_groups I) lines r)
 passengers_kept I lines r all =
-    entry_among-holds (groups_telling I) IsPlannedGroup (AreKept I) (none_kept I) (λ passengers line stated row is kept. one_kept I passengers stated.1 (group_in_range I line stated row is) kept) lines r all
+    entry_among-holds (statement_of_groups I) IsPlannedGroup (AreKept I) (none_kept I) (λ passengers line stated row is kept. one_kept I passengers stated.1 (group_in_range I line stated row is) kept) lines r all
 
 Ascends : Group → Group → Type 0
 Ascends a b = path_cmp a.path b.path ≡ Less
@@ -241,21 +241,21 @@ in_file_ok file (Ok y) x e = cc
 in_file_ok file (Err refusal) x e = absurd cc
 
 module _ (I : Situation) (legs : List PlannedLeg) (groups : List PlannedGroup) where
-  rows_are : (stated : List (Option Row)) → rows_stated I legs ≡ Ok stated → map (entry_among (legs_telling I) legs) (range_with_len 0 (legs_of I)) ≡ stated
+  rows_are : (stated : List (Option Row)) → rows_stated I legs ≡ Ok stated → map (entry_among (statement_of_legs I) legs) (range_with_len 0 (legs_of I)) ≡ stated
   unfolding entries_stated
-  rows_are stated e = unless_ok (first_refused (legs_telling I) legs) _ stated e
+  rows_are stated e = unless_ok (first_refused (statement_of_legs I) legs) _ stated e
 
-  parties_are : (parties : List Passengers) → passengers_stated I groups ≡ Ok parties → map (entry_among (groups_telling I) groups) (range_with_len 0 (reservations_of I)) ≡ parties
+  parties_are : (parties : List Passengers) → passengers_stated I groups ≡ Ok parties → map (entry_among (statement_of_groups I) groups) (range_with_len 0 (reservations_of I)) ≡ parties
   unfolding entries_stated
-  parties_are parties e = unless_ok (first_refused (groups_telling I) groups) _ parties e
+  parties_are parties e = unless_ok (first_refused (statement_of_groups I) groups) _ parties e
 
   good_rows : (stated : List (Option Row)) (rows : List Row) → rows_stated I legs ≡ Ok stated → all_rows stated ≡ Ok rows → (length rows ≡ legs_of I) × AllByRecursion (IsRowOf (planes_of I)) rows
   unfolding all_rows
   good_rows stated rows e all =
       let test = if_ok (list_all is_some stated) (map (λ row. unwrap_or row Cancelled) stated) rows (0, cause.Missing) all in
       let made = rows_are stated e in
-      let good : AllByRecursion (IsGoodRow I) stated = subst (AllByRecursion (IsGoodRow I)) made (all_made (IsGoodRow I) (entry_among (legs_telling I) legs) (row_good I legs) (range_with_len 0 (legs_of I))) in (
-        sym (ap length test.1) ∙ length-map stated (λ row. unwrap_or row Cancelled) ∙ sym (ap length made) ∙ length-map-range_with_len (entry_among (legs_telling I) legs) 0 (legs_of I),
+      let good : AllByRecursion (IsGoodRow I) stated = subst (AllByRecursion (IsGoodRow I)) made (all_made (IsGoodRow I) (entry_among (statement_of_legs I) legs) (row_good I legs) (range_with_len 0 (legs_of I))) in (
+        sym (ap length test.1) ∙ length-map stated (λ row. unwrap_or row Cancelled) ∙ sym (ap length made) ∙ length-map-range_with_len (entry_among (statement_of_legs I) legs) 0 (legs_of I),
         subst (AllByRecursion (IsRowOf (planes_of I))) test.1 (all_mapped (IsGoodRow I) (IsRowOf (planes_of I)) (λ row. unwrap_or row Cancelled) (or_cancelled I) stated good),
       )
 
@@ -271,9 +271,9 @@ module _ (I : Situation) (legs : List PlannedLeg) (groups : List PlannedGroup) w
   good_groups parties of lines e all =
       let test = if_ok (list_all is_whole (zip I.parts.res (map groups_in parties))) (map groups_in parties) of (0, cause.Count) all in
       let made = parties_are parties e in
-      let kept : AllByRecursion (AreKept I) parties = subst (AllByRecursion (AreKept I)) made (all_made (AreKept I) (entry_among (groups_telling I) groups) (λ r. passengers_kept I groups r lines) (range_with_len 0 (reservations_of I))) in
+      let kept : AllByRecursion (AreKept I) parties = subst (AllByRecursion (AreKept I)) made (all_made (AreKept I) (entry_among (statement_of_groups I) groups) (λ r. passengers_kept I groups r lines) (range_with_len 0 (reservations_of I))) in
       subst AreParties test.1 (record {
-        size = length-map parties groups_in ∙ sym (ap length made) ∙ length-map-range_with_len (entry_among (groups_telling I) groups) 0 (reservations_of I);
+        size = length-map parties groups_in ∙ sym (ap length made) ∙ length-map-range_with_len (entry_among (statement_of_groups I) groups) 0 (reservations_of I);
         sound = all_mapped (AreKept I) AreGroups groups_in (kept_groups I) parties kept;
         paths = all_mapped (AreKept I) (λ (gs : List Group). AllByRecursion (λ (group : Group). IsPathOf (legs_of I) group.path) gs) groups_in (kept_paths I) parties kept;
         whole = test.0;

@@ -25,8 +25,8 @@ abbrev pub has_path : List (Leg × Cabin) → Passengers → Bool
 has_path path passengers = is_some (lookup (is_at (path_cmp path)) passengers)
 
 -- a line puts passengers of its reservation on a path, at its place in their order, where no line before it has
-abbrev pub groups_telling : Situation → Statement PlannedGroup (Res × Group) Passengers
-groups_telling I = record {
+abbrev pub statement_of_groups : Situation → Statement PlannedGroup (Res × Group) Passengers
+statement_of_groups I = record {
   number = λ line. line.line;
   stated = stated_group I;
   about = λ stated. stated.0.0;
@@ -37,7 +37,7 @@ groups_telling I = record {
 
 -- the passengers of each reservation, or the first line that is refused
 abbrev pub passengers_stated : Situation → List PlannedGroup → Result (List Passengers) (ℕ × Cause)
-passengers_stated I lines = entries_stated (groups_telling I) (reservations_of I) lines
+passengers_stated I lines = entries_stated (statement_of_groups I) (reservations_of I) lines
 
 -- the groups of passengers, in the order of their paths
 abbrev pub groups_in : Passengers → List Group

@@ -13,8 +13,8 @@ use Rattle.sol_join.specs.Stated.{stated_leg}
 use Rattle.sol_join.specs.Statement.{Statement, entries_stated}
 
 -- a line gives its leg a row, where no line before it has
-abbrev pub legs_telling : Situation → Statement PlannedLeg (Leg × Row) (Option Row)
-legs_telling I = record {
+abbrev pub statement_of_legs : Situation → Statement PlannedLeg (Leg × Row) (Option Row)
+statement_of_legs I = record {
   number = λ line. line.line;
   stated = stated_leg I;
   about = λ stated. stated.0.0;
@@ -25,7 +25,7 @@ legs_telling I = record {
 
 -- the rows that the lines give, by leg, or the first line that is refused
 abbrev pub rows_stated : Situation → List PlannedLeg → Result (List (Option Row)) (ℕ × Cause)
-rows_stated I lines = entries_stated (legs_telling I) (legs_of I) lines
+rows_stated I lines = entries_stated (statement_of_legs I) (legs_of I) lines
 
 -- the rows, where each leg has one
 unfoldable pub all_rows : List (Option Row) → Result (List Row) (ℕ × Cause)

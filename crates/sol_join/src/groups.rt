@@ -8,7 +8,7 @@ ghost use Rattle.desk_data.specs.PlanRows.{path_cmp};
 ghost use Rattle.desk_data.specs.Situation.{reservations_of};
 ghost use Rattle.sol_join.specs.Stated.{stated_group};
 ghost use Rattle.sol_join.specs.Statement.{Adds, cause_of};
-ghost use Rattle.sol_join.specs.Groups.{all_groups, groups_in, groups_telling, has_path, is_whole, passengers_stated};
+ghost use Rattle.sol_join.specs.Groups.{all_groups, groups_in, statement_of_groups, has_path, is_whole, passengers_stated};
 ghost use Rattle.sol_join.specs.Parties.{Tried, parties_in, passengers_in};
 
 use crate::stated::stated_group;
@@ -65,7 +65,7 @@ fn put_line(
 ) -> Result<(), RowFault>
     requires { length parties.old ≡ reservations_of names.now }
     ensures exact { Tried result (cause_of (λ stated. has_path stated.1.path (slice_index_or (parties_in parties.old) stated.0.0 [])) (stated_group names.now line.now)) }
-    ensures put { OnOk result (Adds (groups_telling names.now) (stated_group names.now line.now) (parties_in parties.old) (parties_in parties.new)) }
+    ensures put { OnOk result (Adds (statement_of_groups names.now) (stated_group names.now line.now) (parties_in parties.old) (parties_in parties.new)) }
 {
     let (res, group) = stated_group(alloc, names, line)?;
     if put_group(res, group, parties)? {

@@ -6,7 +6,7 @@ ghost use Rattle.desk_text.specs.Rows.{Gives};
 ghost use Rattle.desk_data.specs.Situation.{legs_of};
 ghost use Rattle.sol_join.specs.Stated.{stated_leg};
 ghost use Rattle.sol_join.specs.Statement.{Adds, cause_of};
-ghost use Rattle.sol_join.specs.Legs.{all_rows, legs_telling, rows_stated};
+ghost use Rattle.sol_join.specs.Legs.{all_rows, statement_of_legs, rows_stated};
 
 use crate::stated::stated_leg;
 use day_names::DayNames;
@@ -47,7 +47,7 @@ fn no_rows(alloc: Global, legs: u32) -> Result<Vec<Option<Row>>, NoMem>
 fn put_line(names: &DayNames<'_>, line: &PlannedLeg, rows: &mut [Option<Row>]) -> Option<Cause>
     requires { length rows.old ≡ legs_of names.now }
     ensures cause { result ≡ cause_of (λ stated. is_some (slice_index_or rows.old stated.0.0 None)) (stated_leg names.now line.now) }
-    ensures put { IfNone result (Adds (legs_telling names.now) (stated_leg names.now line.now) rows.old rows.new) }
+    ensures put { IfNone result (Adds (statement_of_legs names.now) (stated_leg names.now line.now) rows.old rows.new) }
 {
     match stated_leg(names, line) {
         Ok(stated) => {

@@ -90,7 +90,7 @@ fn path_of(
     Ok(List(path))
 }
 
-/// The reservation of a name and a way.
+/// The reservation of a name and a direction.
 fn res_of(names: &DayNames<'_>, name: &Name, inbound: bool) -> Result<Res, Cause>
     ensures exact { result ≡ ok_or (res_named names.now name.now inbound) Unknown }
     ensures within { IfOk result (λ res. res.0 < reservations_of names.now) }

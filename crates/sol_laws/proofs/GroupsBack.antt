@@ -22,7 +22,7 @@ use Rattle.desk_data.specs.Situation.{Situation, legs_of, reservations_of, res_a
 use Rattle.desk_data.specs.Valid.{AreDistinct}
 use Rattle.sol_rows.specs.Groups.{planned_group}
 use Rattle.sol_join.specs.Stated.{seat_of, path_of, group_of, stated_group}
-use Rattle.sol_join.specs.Groups.{Passengers, has_path, groups_telling, passengers_stated, groups_in, is_whole, all_groups}
+use Rattle.sol_join.specs.Groups.{Passengers, has_path, statement_of_groups, passengers_stated, groups_in, is_whole, all_groups}
 use Rattle.sol_laws.proofs.TextLemmas.{numbered}
 use Rattle.sol_laws.proofs.GroupRows.{seat_row, party_line, group_stated, with_res, parties}
 use Rattle.token_laws.proofs.NameBack.{leg_back, res_back}
@@ -35,8 +35,8 @@ abbrev pub passengers_of : List Group → Passengers
 passengers_of groups = map (λ group. (group.path, group.count)) groups
 
 -- a path that comes before another
-abbrev ComesBefore : List (Leg × Cabin) → List (Leg × Cabin) × ℕ → Type 0
-ComesBefore path on = path_cmp on.0 path ≡ Less
+abbrev SortsBefore : List (Leg × Cabin) → List (Leg × Cabin) × ℕ → Type 0
+SortsBefore path on = path_cmp on.0 path ≡ Less
 
 path_total : IsTotalOrder path_cmp
 path_total = lists_total (then_total (on_total (λ (pair : Leg × Cabin). pair.0.0) nat_cmp_total) (on_total (λ (pair : Leg × Cabin). cabin_rank pair.1) nat_cmp_total))
@@ -44,13 +44,13 @@ path_total = lists_total (then_total (on_total (λ (pair : Leg × Cabin). pair.0
 after : (a b : List (Leg × Cabin)) → path_cmp a b ≡ Less → path_cmp b a ≡ Greater
 after a b less = path_total.antisymm b a ∙ ap ordering_reverse less
 
-put_last : (path : List (Leg × Cabin)) (n : ℕ) (kept : Passengers) → AllByRecursion (ComesBefore path) kept → insert_entry path_cmp kept path n ≡ kept ++ (path, n) ∷ []
+put_last : (path : List (Leg × Cabin)) (n : ℕ) (kept : Passengers) → AllByRecursion (SortsBefore path) kept → insert_entry path_cmp kept path n ≡ kept ++ (path, n) ∷ []
 put_last path n [] all = refl
 put_last path n (on ∷ kept) all =
     ap (λ o. match_ordering o ((path, n) ∷ on ∷ kept) ((on.0, n) ∷ kept) (on ∷ insert_entry path_cmp kept path n)) (after on.0 path all.0)
     ∙ ap (λ (rest : Passengers). on ∷ rest) (put_last path n kept all.1)
 
-not_there : (path : List (Leg × Cabin)) (kept : Passengers) → AllByRecursion (ComesBefore path) kept → has_path path kept ≡ false
+not_there : (path : List (Leg × Cabin)) (kept : Passengers) → AllByRecursion (SortsBefore path) kept → has_path path kept ≡ false
 not_there path [] all = refl
 not_there path (on ∷ kept) all =
     ap (λ o. is_some (cond (is_eq o) (Some on.1) (lookup (is_at (path_cmp path)) kept))) (after on.0 path all.0)
@@ -63,7 +63,7 @@ Ascends a b = path_cmp a.path b.path ≡ Less
 pairs_tail : {X : Type 0} (R : X → X → Type 0) (x : X) (xs : List X) → AllPairs R (x ∷ xs) → AllPairs R xs
 pairs_tail R x xs pairs i j d before within = pairs (suc i) (suc j) d (omega (arith, before)) (omega (arith, within))
 
-come_before : (kept : List Group) (group : Group) (rest : List Group) → AllPairs Ascends (kept ++ group ∷ rest) → AllByRecursion (ComesBefore group.path) (passengers_of kept)
+come_before : (kept : List Group) (group : Group) (rest : List Group) → AllPairs Ascends (kept ++ group ∷ rest) → AllByRecursion (SortsBefore group.path) (passengers_of kept)
 come_before [] group rest pairs = tt
 come_before (first ∷ kept) group rest pairs =
     let within : suc (length kept) < length (first ∷ (kept ++ group ∷ rest)) = omega (arith, length-append kept (group ∷ rest)) in
@@ -92,7 +92,7 @@ module _ (I : Situation) (distinct : AreDistinct I.parts) where
 
   -- the lines of a reservation's groups
   groups_run : (n r : ℕ) (res : ResInfo) (groups kept : List Group) (done rest : List Passengers) → length done ≡ r → r < reservations_of I → res ≡ res_at I r → AllByRecursion IsKnown groups → AllPairs Ascends (kept ++ groups)
-      → Runs (groups_telling I) (reservations_of I) (done ++ passengers_of kept ∷ rest) (numbered planned_group (party_line I) (group_stated I) n (with_res res groups)) (done ++ passengers_of (kept ++ groups) ∷ rest)
+      → Runs (statement_of_groups I) (reservations_of I) (done ++ passengers_of kept ∷ rest) (numbered planned_group (party_line I) (group_stated I) n (with_res res groups)) (done ++ passengers_of (kept ++ groups) ∷ rest)
   groups_run n r res [] kept done rest at below is known pairs = ap (λ (gs : List Group). done ++ passengers_of gs ∷ rest) (sym (append_none kept))
     where
       append_none : (gs : List Group) → gs ++ [] ≡ gs
@@ -115,8 +115,8 @@ module _ (I : Situation) (distinct : AreDistinct I.parts) where
         says,
         below,
         ap (has_path group.path) here ∙ not_there group.path (passengers_of kept) first,
-        subst (λ es. Runs (groups_telling I) (reservations_of I) es lines (done ++ passengers_of (kept ++ group ∷ groups) ∷ rest)) (sym next)
-            (subst (λ gs. Runs (groups_telling I) (reservations_of I) (done ++ passengers_of (kept ++ group ∷ []) ∷ rest) lines (done ++ passengers_of gs ∷ rest)) moved later),
+        subst (λ es. Runs (statement_of_groups I) (reservations_of I) es lines (done ++ passengers_of (kept ++ group ∷ groups) ∷ rest)) (sym next)
+            (subst (λ gs. Runs (statement_of_groups I) (reservations_of I) (done ++ passengers_of (kept ++ group ∷ []) ∷ rest) lines (done ++ passengers_of gs ∷ rest)) moved later),
       )
 
   numbered_append : (n : ℕ) (xs ys : List (ResInfo × Group)) → numbered planned_group (party_line I) (group_stated I) n (xs ++ ys) ≡ numbered planned_group (party_line I) (group_stated I) n xs ++ numbered planned_group (party_line I) (group_stated I) (n + length xs) ys
@@ -128,7 +128,7 @@ module _ (I : Situation) (distinct : AreDistinct I.parts) where
   -- the lines of all reservations
   parties_run : (n r : ℕ) (reservations : List ResInfo) (of : List (List Group)) (done : List Passengers) → drop r I.parts.res ≡ reservations → length done ≡ r → length of ≡ length reservations
       → AllByRecursion (λ (groups : List Group). AllByRecursion IsKnown groups × AllPairs Ascends groups) of
-      → Runs (groups_telling I) (reservations_of I) (done ++ replicate (length reservations) []) (numbered planned_group (party_line I) (group_stated I) n (parties reservations of)) (done ++ map passengers_of of)
+      → Runs (statement_of_groups I) (reservations_of I) (done ++ replicate (length reservations) []) (numbered planned_group (party_line I) (group_stated I) n (parties reservations of)) (done ++ map passengers_of of)
   parties_run n r [] [] done left at same known = refl
   parties_run n r [] (groups ∷ of) done left at same known = absurd (omega (arith, same))
   parties_run n r (res ∷ reservations) [] done left at same known = absurd (omega (arith, same))
@@ -143,17 +143,17 @@ module _ (I : Situation) (distinct : AreDistinct I.parts) where
       let front : (done ++ passengers_of groups ∷ []) ++ rest ≡ done ++ passengers_of groups ∷ rest = append_assoc done (passengers_of groups ∷ []) rest in
       let end : (done ++ passengers_of groups ∷ []) ++ map passengers_of of ≡ done ++ passengers_of groups ∷ map passengers_of of = append_assoc done (passengers_of groups ∷ []) (map passengers_of of) in
       let lines = numbered planned_group (party_line I) (group_stated I) (n + size) (parties reservations of) in
-      let second : Runs (groups_telling I) (reservations_of I) (done ++ passengers_of groups ∷ rest) lines (done ++ passengers_of groups ∷ map passengers_of of) =
-      subst (λ es. Runs (groups_telling I) (reservations_of I) es lines (done ++ passengers_of groups ∷ map passengers_of of)) front
-      (subst (λ es. Runs (groups_telling I) (reservations_of I) ((done ++ passengers_of groups ∷ []) ++ rest) lines es) end later) in
-      subst (λ ls. Runs (groups_telling I) (reservations_of I) (done ++ [] ∷ rest) ls (done ++ passengers_of groups ∷ map passengers_of of)) (sym (numbered_append n (with_res res groups) (parties reservations of)))
-      (runs_append (groups_telling I) (reservations_of I) (numbered planned_group (party_line I) (group_stated I) n (with_res res groups)) lines (done ++ [] ∷ rest) (done ++ passengers_of groups ∷ rest) (done ++ passengers_of groups ∷ map passengers_of of) first second)
+      let second : Runs (statement_of_groups I) (reservations_of I) (done ++ passengers_of groups ∷ rest) lines (done ++ passengers_of groups ∷ map passengers_of of) =
+      subst (λ es. Runs (statement_of_groups I) (reservations_of I) es lines (done ++ passengers_of groups ∷ map passengers_of of)) front
+      (subst (λ es. Runs (statement_of_groups I) (reservations_of I) ((done ++ passengers_of groups ∷ []) ++ rest) lines es) end later) in
+      subst (λ ls. Runs (statement_of_groups I) (reservations_of I) (done ++ [] ∷ rest) ls (done ++ passengers_of groups ∷ map passengers_of of)) (sym (numbered_append n (with_res res groups) (parties reservations of)))
+      (runs_append (statement_of_groups I) (reservations_of I) (numbered planned_group (party_line I) (group_stated I) n (with_res res groups)) lines (done ++ [] ∷ rest) (done ++ passengers_of groups ∷ rest) (done ++ passengers_of groups ∷ map passengers_of of) first second)
 
   -- all groups are read
   pub parties_back : (of : List (List Group)) → length of ≡ reservations_of I → AllByRecursion (λ (groups : List Group). AllByRecursion IsKnown groups × AllPairs Ascends groups) of
       → passengers_stated I (numbered planned_group (party_line I) (group_stated I) 1 (parties I.parts.res of)) ≡ Ok (map passengers_of of)
   parties_back of same known =
-      runs_back (groups_telling I) (reservations_of I) (numbered planned_group (party_line I) (group_stated I) 1 (parties I.parts.res of)) (map passengers_of of)
+      runs_back (statement_of_groups I) (reservations_of I) (numbered planned_group (party_line I) (group_stated I) 1 (parties I.parts.res of)) (map passengers_of of)
       (parties_run 1 0 I.parts.res of [] refl refl same known)
 
 groups_again : (groups : List Group) → groups_in (passengers_of groups) ≡ groups

@@ -14,7 +14,7 @@ use Rattle.desk_data.specs.Situation.{Situation, legs_of, planes_of, leg_at, no_
 use Rattle.desk_data.specs.Valid.{AreDistinct, IsRowOf}
 use Rattle.sol_rows.specs.Legs.{planned_leg}
 use Rattle.sol_join.specs.Stated.{row_of, is_in_time, stated_leg}
-use Rattle.sol_join.specs.Legs.{legs_telling, rows_stated, all_rows}
+use Rattle.sol_join.specs.Legs.{statement_of_legs, rows_stated, all_rows}
 use Rattle.sol_laws.proofs.TextLemmas.{numbered}
 use Rattle.sol_laws.proofs.LegRows.{leg_line, leg_stated, flown_stated}
 use Rattle.token_laws.proofs.NameBack.{leg_back, plane_back}
@@ -44,24 +44,24 @@ module _ (I : Situation) (distinct : AreDistinct I.parts) where
 
   -- the rows so far, and none for the legs after them
   legs_run : (n x : ℕ) (legs : List LegInfo) (rows done : List Row) → drop x I.parts.legs ≡ legs → length done ≡ x → length rows ≡ length legs → AllByRecursion (IsRowOf (planes_of I)) rows
-      → Runs (legs_telling I) (legs_of I) (map (λ row. Some row) done ++ replicate (length legs) None) (numbered planned_leg (leg_line I) (leg_stated I) n (zip legs rows)) (map (λ row. Some row) (done ++ rows))
+      → Runs (statement_of_legs I) (legs_of I) (map (λ row. Some row) done ++ replicate (length legs) None) (numbered planned_leg (leg_line I) (leg_stated I) n (zip legs rows)) (map (λ row. Some row) (done ++ rows))
   legs_run n x [] [] done left at same good = append_none (map (λ row. Some row) done) ∙ ap (map (λ row. Some row)) (sym (append_none done))
   legs_run n x [] (row ∷ rows) done left at same good = absurd (omega (arith, same))
   legs_run n x (leg ∷ legs) [] done left at same good = absurd (omega (arith, same))
   legs_run n x (leg ∷ legs) (row ∷ rows) done left at same good =
       let some : Row → Option Row = λ row. Some row in
       let before : List (Option Row) = map some done in
-      let behind : List (Option Row) = replicate (length legs) None in
-      let entries : List (Option Row) = before ++ None ∷ behind in
+      let later : List (Option Row) = replicate (length legs) None in
+      let entries : List (Option Row) = before ++ None ∷ later in
       let size : length before ≡ x = length-map done some ∙ at in
       let below : x < legs_of I = within_left I.parts.legs x leg legs left in
       let is : leg ≡ leg_at I x = first_left I.parts.legs x leg legs no_leg left in
       let stated : Leg × Row = (record { 0 = x }, row) in
       let says : stated_leg I (leg_stated I n (leg, row)) ≡ Ok stated = subst (λ l. stated_leg I (leg_stated I n (l, row)) ≡ Ok stated) (sym is) (leg_is_stated n x row below good.0) in
-      let here : get_or entries x None ≡ None = subst (λ k. get_or entries k None ≡ None) size (get_after before None behind None) in
-      let put : set entries x (Some row) ≡ before ++ Some row ∷ behind = subst (λ k. set entries k (Some row) ≡ before ++ Some row ∷ behind) size (set_after before None (Some row) behind) in
-      let moved : map some (done ++ row ∷ []) ++ behind ≡ before ++ Some row ∷ behind = ap (λ xs. xs ++ behind) (map-append some done (row ∷ [])) ∙ append_assoc before (Some row ∷ []) behind in
-      let next : set entries x (option_or (get_or entries x None) (Some row)) ≡ map some (done ++ row ∷ []) ++ behind = ap (λ e. set entries x (option_or e (Some row))) here ∙ put ∙ sym moved in
+      let here : get_or entries x None ≡ None = subst (λ k. get_or entries k None ≡ None) size (get_after before None later None) in
+      let put : set entries x (Some row) ≡ before ++ Some row ∷ later = subst (λ k. set entries k (Some row) ≡ before ++ Some row ∷ later) size (set_after before None (Some row) later) in
+      let moved : map some (done ++ row ∷ []) ++ later ≡ before ++ Some row ∷ later = ap (λ xs. xs ++ later) (map-append some done (row ∷ [])) ∙ append_assoc before (Some row ∷ []) later in
+      let next : set entries x (option_or (get_or entries x None) (Some row)) ≡ map some (done ++ row ∷ []) ++ later = ap (λ e. set entries x (option_or e (Some row))) here ∙ put ∙ sym moved in
       let longer : length (done ++ row ∷ []) ≡ x + 1 = omega (arith, length-append done (row ∷ []), at) in
       let lines = numbered planned_leg (leg_line I) (leg_stated I) (n + 1) (zip legs rows) in
       let rest = legs_run (n + 1) (x + 1) legs rows (done ++ row ∷ []) (left_then I.parts.legs x leg legs left) longer (omega (arith, same)) good.1 in (
@@ -69,15 +69,15 @@ module _ (I : Situation) (distinct : AreDistinct I.parts) where
         says,
         below,
         ap is_some here,
-        subst (λ es. Runs (legs_telling I) (legs_of I) es lines (map some (done ++ row ∷ rows))) (sym next)
-            (subst (λ rs. Runs (legs_telling I) (legs_of I) (map some (done ++ row ∷ []) ++ behind) lines (map some rs)) (append_assoc done (row ∷ []) rows) rest),
+        subst (λ es. Runs (statement_of_legs I) (legs_of I) es lines (map some (done ++ row ∷ rows))) (sym next)
+            (subst (λ rs. Runs (statement_of_legs I) (legs_of I) (map some (done ++ row ∷ []) ++ later) lines (map some rs)) (append_assoc done (row ∷ []) rows) rest),
       )
 
   -- all rows are read
   pub rows_back : (rows : List Row) → length rows ≡ legs_of I → AllByRecursion (IsRowOf (planes_of I)) rows
       → rows_stated I (numbered planned_leg (leg_line I) (leg_stated I) 1 (zip I.parts.legs rows)) ≡ Ok (map (λ row. Some row) rows)
   rows_back rows same good =
-      runs_back (legs_telling I) (legs_of I) (numbered planned_leg (leg_line I) (leg_stated I) 1 (zip I.parts.legs rows)) (map (λ row. Some row) rows)
+      runs_back (statement_of_legs I) (legs_of I) (numbered planned_leg (leg_line I) (leg_stated I) 1 (zip I.parts.legs rows)) (map (λ row. Some row) rows)
       (legs_run 1 0 I.parts.legs rows [] refl refl same good)
 
 unwrapped : (rows : List Row) → map (λ row. unwrap_or row Cancelled) (map (λ row. Some row) rows) ≡ rows

@@ -4,7 +4,7 @@ use desk_units::{List, Minute, Name};
 use file_rows::LegRow;
 
 /// The aircraft that flies a leg, and when it departs.
-#[derive(Clone, Copy, Debug)]
+#[derive(Clone, Copy)]
 pub struct PlannedFlight {
     /// The aircraft's name, 1 to 32 bytes.
     pub aircraft: Name,
@@ -13,7 +13,7 @@ pub struct PlannedFlight {
 }
 
 /// A line of sol_rotations.csv: what becomes of a leg.
-#[derive(Clone, Copy, Debug)]
+#[derive(Clone, Copy)]
 pub struct PlannedLeg {
     /// Its line in the file, from 1.
     pub line: u32,
@@ -26,7 +26,7 @@ pub struct PlannedLeg {
 }
 
 /// A line of sol_itineraries.csv: passengers of one reservation on one path.
-#[derive(Debug, Drop)]
+#[derive(Drop)]
 pub struct PlannedGroup {
     /// Its line in the file, from 1.
     pub line: u32,

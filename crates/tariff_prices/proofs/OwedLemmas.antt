@@ -138,7 +138,7 @@ pub last_reached : (all : List Step) (steps : List Step) (delay k : ℕ) (d : St
 last_reached all steps delay k d are below reached beyond =
     let best = get_or steps k d in
     let greatest : All (λ other. other.from ≤ delay → other.from ≤ best.from) all
-    = all_owed (λ (o : Step). o.from ≤ delay → o.from ≤ best.from) all steps are (λ i e within reach. ⊎_elim (λ (before : i < k + 1). subst (λ (other : Step). other.from ≤ best.from) (get_or_default steps i d e within) (are.rising i k d (omega arith) below)) (λ (behind : k + 1 ≤ i). let past = leb-false (get_or steps i e).from delay (beyond i e behind within) in absurd (omega arith)) (cases_lt i (k + 1))) in
+    = all_owed (λ (o : Step). o.from ≤ delay → o.from ≤ best.from) all steps are (λ i e within reach. ⊎_elim (λ (before : i < k + 1). subst (λ (other : Step). other.from ≤ best.from) (get_or_default steps i d e within) (are.rising i k d (omega arith) below)) (λ (after : k + 1 ≤ i). let past = leb-false (get_or steps i e).from delay (beyond i e after within) in absurd (omega arith)) (cases_lt i (k + 1))) in
     owed_at_greatest delay all best (record {
       reached = leb-true best.from delay (reached k d (omega arith) (omega arith));
       greatest = greatest;

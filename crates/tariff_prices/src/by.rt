@@ -6,7 +6,6 @@ ghost use Rattle.tariff_prices.specs.PriceTables.{at_cabin, at_haul, at_term};
 use desk_units::{Cabin, Haul, Term};
 
 /// One of them for each cabin.
-#[derive(Debug, Drop)]
 pub struct ByCabin<T> {
     pub f: T,
     pub b: T,
@@ -14,7 +13,6 @@ pub struct ByCabin<T> {
 }
 
 /// One of them for each haul.
-#[derive(Debug, Drop)]
 pub struct ByHaul<T> {
     pub d: T,
     pub c: T,
@@ -22,7 +20,6 @@ pub struct ByHaul<T> {
 }
 
 /// One of them for each cost term.
-#[derive(Debug, Drop)]
 pub struct ByTerm<T> {
     pub operating: T,
     pub delay: T,
@@ -30,6 +27,32 @@ pub struct ByTerm<T> {
     pub downgrade: T,
     pub legal: T,
     pub position: T,
+}
+
+/// Dropped in one call, so that a function that owns one proves it once, and not part by part.
+impl<T: Drop> Drop for ByCabin<T> {
+    fn drop(self) {
+        let ByCabin { f: _, b: _, e: _ } = self;
+    }
+}
+
+impl<T: Drop> Drop for ByHaul<T> {
+    fn drop(self) {
+        let ByHaul { d: _, c: _, i: _ } = self;
+    }
+}
+
+impl<T: Drop> Drop for ByTerm<T> {
+    fn drop(self) {
+        let ByTerm {
+            operating: _,
+            delay: _,
+            cancellation: _,
+            downgrade: _,
+            legal: _,
+            position: _,
+        } = self;
+    }
 }
 
 impl<T> ByCabin<T> {

@@ -13,7 +13,7 @@ use std::alloc::Global;
 use std::marker::Model;
 
 /// The prices and weights of a tariff. Contracts see them as the rows of the tariff.
-#[derive(Debug, Drop)]
+#[derive(Drop)]
 pub struct Prices {
     rows: Vec<TariffRow>,
     tables: PriceTables,

@@ -7,14 +7,14 @@ ghost use Rattle.tariff_prices.specs.Prices.{step_on};
 use desk_units::{Cabin, Haul, Price, TariffRow, Term};
 
 /// What passengers are owed who are late or not carried, by the haul of their reservation.
-#[derive(Clone, Copy, Debug)]
+#[derive(Clone, Copy)]
 pub enum Ladder {
     Care(Haul),
     Compensation(Haul),
 }
 
 /// What a row of a tariff gives a price or a weight for.
-#[derive(Clone, Copy, Debug)]
+#[derive(Clone, Copy)]
 pub enum Purpose {
     /// The weight of a cost term.
     Weight(Term),
@@ -31,7 +31,7 @@ pub enum Purpose {
 }
 
 /// A price or a weight, and what it is for.
-#[derive(Clone, Copy, Debug)]
+#[derive(Clone, Copy)]
 pub struct Rate {
     pub purpose: Purpose,
     /// A price in ten-thousandths of a unit of money, or a weight in thousandths.
@@ -39,7 +39,7 @@ pub struct Rate {
 }
 
 /// A price that is owed from a threshold on, in minutes.
-#[derive(Clone, Copy, Debug)]
+#[derive(Clone, Copy)]
 pub struct Step {
     pub from: u32,
     pub price: Price,

@@ -14,7 +14,6 @@ use desk_units::{Cabin, Haul, NoMem, Price, TariffRow, Term, Weight};
 use std::alloc::Global;
 
 /// The tables of a tariff.
-#[derive(Debug)]
 pub struct PriceTables {
     pub weights: ByTerm<Weight>,
     pub delays: ByHaul<ByCabin<Price>>,
@@ -29,7 +28,7 @@ pub struct PriceTables {
     pub compensation: ByHaul<Vec<Step>>,
 }
 
-/// In one call, so that whoever lets them go does not prove anew that each part of them may go.
+/// Dropped in one call, so that a function that owns one proves it once, and not part by part.
 impl Drop for PriceTables {
     fn drop(self) {
         let PriceTables {

@@ -11,7 +11,7 @@ use Rattle.desk_data.specs.declared.info.PlaneInfo.{PlaneInfo}
 use Rattle.desk_data.specs.declared.info.ResInfo.{ResInfo}
 use Rattle.desk_data.specs.Situation.{Situation, leg_at, plane_at, res_at, legs_of, planes_of, reservations_of, no_leg, no_plane, no_res}
 use Rattle.desk_data.specs.Valid.{AreDistinct}
-use Rattle.day_names.specs.Keys.{same_way}
+use Rattle.day_names.specs.Keys.{same_direction}
 use Rattle.day_names.specs.Names.{leg_named, plane_named, res_named}
 
 -- the first that passes
@@ -23,13 +23,13 @@ position_is test xs i d lt passes before =
 same_bytes : (a b : List ℕ) → a ≡ b → bytes_eq a b ≡ true
 same_bytes a b is = (bytes_eq-Decides a b).1 is
 
-way_is : (a b : Bool) → same_way a b ≡ true → a ≡ b
+way_is : (a b : Bool) → same_direction a b ≡ true → a ≡ b
 way_is true true h = refl
 way_is false false h = refl
 way_is true false h = absurd (false≢true h)
 way_is false true h = absurd (false≢true h)
 
-same_way_is : (a : Bool) → same_way a a ≡ true
+same_way_is : (a : Bool) → same_direction a a ≡ true
 same_way_is true = refl
 same_way_is false = refl
 
@@ -59,7 +59,7 @@ pub res_back : (I : Situation) (res : Res) → AreDistinct I.parts → res.0 < r
 unfolding res_named
 res_back I res distinct lt =
     let x = res_at I res.0 in
-    let test : ResInfo → Bool = λ y. bytes_eq x.name y.name && same_way x.inbound y.inbound in
+    let test : ResInfo → Bool = λ y. bytes_eq x.name y.name && same_direction x.inbound y.inbound in
     let passes : test x ≡ true = and_from _ _ (same_bytes x.name x.name refl) (same_way_is x.inbound) in
     let place = position_is test I.parts.res res.0 no_res lt passes
     (λ k before. false_from_ne_true (test (res_at I k)) (λ same.

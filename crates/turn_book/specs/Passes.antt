@@ -58,7 +58,7 @@ module _ {O A R I : Type 0} (answers : O → List I → ℕ → A → R → Opti
     pub added : Option I
     pub began : IsPrefix v.seen before
     pub answered : answers o before caller ask reply added
-    pub told : is_some added ≡ tells reply
+    pub says_added : is_some added ≡ tells reply
     pub seen : w.seen ≡ before ++ listed added
     pub made : w.made ≡ v.made ++ placed before added
     pub tags : w.tags ≡ v.tags

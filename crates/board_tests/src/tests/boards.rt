@@ -23,7 +23,7 @@ pub(super) struct Boards {
     pub both: Both<RotBoard, SlotBoard>,
 }
 
-/// In one call, so that whoever lets the boards go does not prove anew that each part of them may go.
+/// Dropped in one call, so that a function that owns one proves it once, and not part by part.
 impl Drop for Boards {
     fn drop(self) {
         let Boards { pages: _, both: _ } = self;

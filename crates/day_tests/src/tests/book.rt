@@ -74,9 +74,9 @@ fn answered(alloc: Global, book: &mut Book, asked: Asked) -> Result<Option<Answe
 
 /// An answer in plain values: its word, what the plan cost and what it would cost; of an accepted move both
 /// are what it costs then.
-type Told = (&'static str, u128, u128);
+type PlainAnswer = (&'static str, u128, u128);
 
-fn told(answer: Option<Answer>) -> Told {
+fn plain_answer(answer: Option<Answer>) -> PlainAnswer {
     match answer {
         Some(Answer::Accepted { cost }) => ("accepted", cost.0, cost.0),
         Some(Answer::Dearer { now, would }) => ("dearer", now.0, would.0),
@@ -100,7 +100,7 @@ fn rows_of(book: &Book) -> Option<[Row; 3]> {
 
 /// Who proposed the last of five entries, what was answered, and the leg whose row was to change, with its
 /// rows before and after; `None` where the entries from the fifth one on are others than that.
-type Last = Option<(u32, Told, (Leg, Row, Row))>;
+type Last = Option<(u32, PlainAnswer, (Leg, Row, Row))>;
 
 fn last_of(alloc: Global, book: &Book) -> Result<Last, Fail> {
     if book.entries() != 5 {
@@ -116,7 +116,7 @@ fn last_of(alloc: Global, book: &Book) -> Result<Last, Fail> {
     let [Step::Set { leg, was, new }, Step::Tidy] = asked.steps.as_slice() else {
         return Ok(None);
     };
-    let answer = told(Some(entry.answer));
+    let answer = plain_answer(Some(entry.answer));
     Ok(Some((entry.caller, answer, (*leg, *was, *new))))
 }
 
@@ -130,18 +130,18 @@ const ASKED: [Asked; 5] = [
 ];
 
 /// What a book answers to them.
-fn answers_of(alloc: Global, book: &mut Book) -> Result<Vec<Told>, Fail> {
+fn answers_of(alloc: Global, book: &mut Book) -> Result<Vec<PlainAnswer>, Fail> {
     let mut answers = Vec::new(alloc);
     for asked in ASKED.iter() {
-        answers.push(told(answered(alloc, book, *asked)?))?;
+        answers.push(plain_answer(answered(alloc, book, *asked)?))?;
     }
     Ok(answers)
 }
 
 /// What a book answers to the usual moves, how many entries and changes it has then, and what it keeps.
-type Heard = (Vec<Told>, (u32, u32), Option<[Row; 3]>, Last);
+type Played = (Vec<PlainAnswer>, (u32, u32), Option<[Row; 3]>, Last);
 
-fn heard_of(alloc: Global, book: &mut Book) -> Result<Heard, Fail> {
+fn played_of(alloc: Global, book: &mut Book) -> Result<Played, Fail> {
     let answers = answers_of(alloc, book)?;
     let last = last_of(alloc, book)?;
     Ok((
@@ -153,14 +153,14 @@ fn heard_of(alloc: Global, book: &mut Book) -> Result<Heard, Fail> {
 }
 
 /// The same of the book of the priced day, which lives no longer than this call.
-fn heard(alloc: Global) -> Result<Heard, Fail> {
+fn played(alloc: Global) -> Result<Played, Fail> {
     let mut book = Book::open(alloc, priced_day(alloc)?)?;
-    heard_of(alloc, &mut book)
+    played_of(alloc, &mut book)
 }
 
 #[test]
 fn usual_moves_are_answered(rt: HostRuntime) -> Result<(), Fail> {
-    let (answers, counts, rows, last) = heard(rt.alloc())?;
+    let (answers, counts, rows, last) = played(rt.alloc())?;
     let expected = [
         // two passengers are 10 minutes late; the second leg departs at 580
         ("dearer", 150_000_000_000, 162_000_000_000),

@@ -197,7 +197,7 @@ fn day_of(alloc: Global) -> Result<Instance, Fail>
 }
 
 /// A leg is called off.
-pub(super) fn off(alloc: Global, leg: u32) -> Result<Batch, Fail> {
+fn off(alloc: Global, leg: u32) -> Result<Batch, Fail> {
     let order = Order::Flight {
         leg: Leg(leg),
         delay: None,

@@ -10,4 +10,4 @@ returns-clause-broken c = on_ok c.mark_all.result c.mark_all.ensures.broken (λ 
     let kept = c.keeps_place-location.ensures P valid rotation_legs here in
     let r = c.keeps_place-location.result in
     ap (λ (f : Broken → Bool). f item) marks
-    ∙ marks_after c.args.inst.now P c.args.rotation_leg.leg (not r.0) (not r.1) (seen c.args.summary.now).summary.broken c.requires.leg (ap not kept.0) (ap not kept.1) item)
+    ∙ marks_after c.args.inst.now P c.args.rotation_leg.leg (not r.0) (not r.1) (seen c.args.log.now).summary.broken c.requires.leg (ap not kept.0) (ap not kept.1) item)

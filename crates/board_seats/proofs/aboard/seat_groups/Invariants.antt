@@ -7,10 +7,10 @@ use Rattle.board_seats.proofs.aboard.seat_groups.Given as goal
 
 abbrev pub invariant-loop-group : goal.invariant-loop-group
 invariant-loop-group l = record {
-  led : LedTo (seen l.fn.summary) (seen l.summary);
-  legs : length l.summary.taken ≡ length l.fn.summary.taken;
-  faults : l.summary.faults ≡ l.fn.summary.faults;
-  broken : l.summary.broken ≡ l.fn.summary.broken;
-  taken : (x : ℕ) (c : Cabin) → seats_in ((summary_in l.fn.summary).taken x) c + aboard_of x c (take l.group-index l.groups) < 4294967296 → seats_in ((summary_in l.summary).taken x) c ≡ seats_in ((summary_in l.fn.summary).taken x) c + aboard_of x c (take l.group-index l.groups);
-  users : l.summary.users ≡ l.fn.summary.users;
+  led : LedTo (seen l.fn.log) (seen l.log);
+  legs : length l.log.taken ≡ length l.fn.log.taken;
+  faults : l.log.faults ≡ l.fn.log.faults;
+  broken : l.log.broken ≡ l.fn.log.broken;
+  taken : (x : ℕ) (c : Cabin) → seats_in ((summary_in l.fn.log).taken x) c + aboard_of x c (take l.group-index l.groups) < 4294967296 → seats_in ((summary_in l.log).taken x) c ≡ seats_in ((summary_in l.fn.log).taken x) c + aboard_of x c (take l.group-index l.groups);
+  users : l.log.users ≡ l.fn.log.users;
 }

@@ -13,15 +13,15 @@ use Rattle.board_seats.proofs.aboard.use_legs.Goals as goal
 
 pub loop-group-init : goal.loop-group-init
 loop-group-init c = record {
-  led = led_same (seen c.args.summary.now);
+  led = led_same (seen c.args.log.now);
   taken = refl;
   faults = refl;
   broken = refl;
-  users = λ x r. used_none ((summary_in c.args.summary.now).users x r) (eqb r c.args.res.0);
+  users = λ x r. used_none ((summary_in c.args.log.now).users x r) (eqb r c.args.res.0);
 }
 
 pub returns-in_err-use_path-clause-led : goal.returns-in_err-use_path-clause-led
-returns-in_err-use_path-clause-led c = led_both (seen c.args.summary.now) (seen c.loop-group.summary) (seen c.use_path.new.summary) c.loop-group.invariant.led c.use_path.ensures.led
+returns-in_err-use_path-clause-led c = led_both (seen c.args.log.now) (seen c.loop-group.log) (seen c.use_path.new.log) c.loop-group.invariant.led c.use_path.ensures.led
 
 pub loop-group-preserved : goal.loop-group-preserved
 loop-group-preserved c =
@@ -31,13 +31,13 @@ loop-group-preserved c =
     let lt : i < length groups = omega arith in
     let path : c.as_slice.result.now ≡ group.path = c.as_slice.ensures in
     record {
-      led = led_both (seen c.args.summary.now) (seen c.loop-group.summary) (seen c.use_path.new.summary) c.loop-group.invariant.led c.in_ok-use_path.ensures.led;
+      led = led_both (seen c.args.log.now) (seen c.loop-group.log) (seen c.use_path.new.log) c.loop-group.invariant.led c.in_ok-use_path.ensures.led;
       taken = c.in_ok-use_path.ensures.taken ∙ c.loop-group.invariant.taken;
       faults = c.in_ok-use_path.ensures.faults ∙ c.loop-group.invariant.faults;
       broken = c.in_ok-use_path.ensures.broken ∙ c.loop-group.invariant.broken;
-      users = groups_more (has_user c.use_path.new.summary.users) (has_user c.loop-group.summary.users) (has_user c.args.summary.now.users) groups i c.args.res.0 group lt c.loop-group.invariant.users
-          (subst (λ (g : Group). (x r : ℕ) → has_user c.use_path.new.summary.users x r ≡ (has_user c.loop-group.summary.users x r || (eqb r c.args.res.0 && has_leg x g))) c.group-item.is
-          (subst (λ (p : List (Leg × Cabin)). (x r : ℕ) → has_user c.use_path.new.summary.users x r ≡ (has_user c.loop-group.summary.users x r || (eqb r c.args.res.0 && list_any (λ pair. eqb pair.0.0 x) p))) path
+      users = groups_more (has_user c.use_path.new.log.users) (has_user c.loop-group.log.users) (has_user c.args.log.now.users) groups i c.args.res.0 group lt c.loop-group.invariant.users
+          (subst (λ (g : Group). (x r : ℕ) → has_user c.use_path.new.log.users x r ≡ (has_user c.loop-group.log.users x r || (eqb r c.args.res.0 && has_leg x g))) c.group-item.is
+          (subst (λ (p : List (Leg × Cabin)). (x r : ℕ) → has_user c.use_path.new.log.users x r ≡ (has_user c.loop-group.log.users x r || (eqb r c.args.res.0 && list_any (λ pair. eqb pair.0.0 x) p))) path
           (λ x r. c.in_ok-use_path.ensures.users x r)));
     }
 
@@ -45,4 +45,4 @@ pub returns-clause-users : goal.returns-clause-users
 returns-clause-users c x r =
     let all : take c.loop-group.group-index c.args.groups.now ≡ c.args.groups.now = take_all c.loop-group.group-index c.args.groups.now (omega arith) in
     c.loop-group.invariant.users x r
-    ∙ ap (λ (gs : List Group). (summary_in c.args.summary.now).users x r || (eqb r c.args.res.0 && list_any (has_leg x) gs)) all
+    ∙ ap (λ (gs : List Group). (summary_in c.args.log.now).users x r || (eqb r c.args.res.0 && list_any (has_leg x) gs)) all

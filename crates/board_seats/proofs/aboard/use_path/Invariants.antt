@@ -6,9 +6,9 @@ use Rattle.board_seats.proofs.aboard.use_path.Given as goal
 
 abbrev pub invariant-loop-pair : goal.invariant-loop-pair
 invariant-loop-pair l = record {
-  led : LedTo (seen l.fn.summary) (seen l.summary);
-  taken : l.summary.taken ≡ l.fn.summary.taken;
-  faults : l.summary.faults ≡ l.fn.summary.faults;
-  broken : l.summary.broken ≡ l.fn.summary.broken;
-  users : (x r : ℕ) → (summary_in l.summary).users x r ≡ ((summary_in l.fn.summary).users x r || ((r == l.res.0) && list_any (λ pair. pair.0.0 == x) (take l.pair-index l.path)));
+  led : LedTo (seen l.fn.log) (seen l.log);
+  taken : l.log.taken ≡ l.fn.log.taken;
+  faults : l.log.faults ≡ l.fn.log.faults;
+  broken : l.log.broken ≡ l.fn.log.broken;
+  users : (x r : ℕ) → (summary_in l.log).users x r ≡ ((summary_in l.fn.log).users x r || ((r == l.res.0) && list_any (λ pair. pair.0.0 == x) (take l.pair-index l.path)));
 }

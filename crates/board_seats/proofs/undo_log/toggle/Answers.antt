@@ -5,6 +5,6 @@ use Rattle.board_seats.proofs.undo_log.toggle.Goals as goal
 
 pub returns-clause-has : goal.returns-clause-has
 returns-clause-has c =
-    let told = c.has-is_broken.result in
-    marked_set c.args.items.now.items c.set.new.self.items c.args.item (not told) c.set.ensures.set
-    ∙ turned_mark (has_item c.args.items.now.items) c.args.item (not told) (has_is c.args.items.now.items c.args.item told c.has-is_broken.ensures ∙ twice told)
+    let given = c.has-is_broken.result in
+    marked_set c.args.items.now.items c.set.new.self.items c.args.item (not given) c.set.ensures.set
+    ∙ turned_mark (has_item c.args.items.now.items) c.args.item (not given) (has_is c.args.items.now.items c.args.item given c.has-is_broken.ensures ∙ twice given)

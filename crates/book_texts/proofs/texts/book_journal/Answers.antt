@@ -13,7 +13,7 @@ journal_text-requires c =
 
 pub returns : goal.returns
 returns c =
-    subst (λ (told : List ℕ). IfOk c.journal_text.result (λ text. text.items ≡ told))
+    subst (λ (given : List ℕ). IfOk c.journal_text.result (λ text. text.items ≡ given))
     (ap (λ (h : List Entry). journal_text c.instance.result.now h) c.journal.ensures.entries
     ∙ journal-same c.instance.result.now c.args.book.now.opening c.instance.ensures.parts c.args.book.now.journal)
     c.journal_text.ensures

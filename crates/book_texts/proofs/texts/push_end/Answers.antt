@@ -10,5 +10,5 @@ pub push_broken-requires : goal.push_broken-requires
 push_broken-requires c =
     let book = c.args.book.now in
     let S = state (opening book.opening) book.journal in
-    let told = state-known (opening book.opening) book.journal (opening-known book.opening) in
-    rw c.instance.ensures.now (least-names S.inst S.plan c.in-Some.item (sym told ∙ sym c.in-Some.ensures))
+    let given = state-known (opening book.opening) book.journal (opening-known book.opening) in
+    rw c.instance.ensures.now (least-names S.inst S.plan c.in-Some.item (sym given ∙ sym c.in-Some.ensures))

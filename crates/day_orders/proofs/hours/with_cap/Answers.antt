@@ -10,17 +10,17 @@ returns-clause-order c =
     let xs = c.args.changes.now in
     let start = c.count_before-start.result in
     let stop = c.count_up_to-end.result in
-    let cut : IsCut xs start stop c.args.first c.args.behind
+    let cut : IsCut xs start stop c.args.first c.args.after_last
     = record { up = c.requires.up; before = c.count_before-start.ensures.front; from = c.count_before-start.ensures.rest; until = c.count_up_to-end.ensures.front; after = c.count_up_to-end.ensures.rest } in
-    let made : c.extend_from_slice.new.self.items ≡ spanned xs start stop c.args.first c.args.behind c.args.cap = grind (arith, common_steps) in
-    subst AreInOrder (sym made) (spanned_in_order xs start stop c.args.first c.args.behind c.args.cap cut c.requires.order)
+    let made : c.extend_from_slice.new.self.items ≡ spanned xs start stop c.args.first c.args.after_last c.args.cap = grind (arith, common_steps) in
+    subst AreInOrder (sym made) (spanned_in_order xs start stop c.args.first c.args.after_last c.args.cap cut c.requires.order)
 
 pub returns-clause-caps : goal.returns-clause-caps
 returns-clause-caps c =
     let xs = c.args.changes.now in
     let start = c.count_before-start.result in
     let stop = c.count_up_to-end.result in
-    let cut : IsCut xs start stop c.args.first c.args.behind
+    let cut : IsCut xs start stop c.args.first c.args.after_last
     = record { up = c.requires.up; before = c.count_before-start.ensures.front; from = c.count_before-start.ensures.rest; until = c.count_up_to-end.ensures.front; after = c.count_up_to-end.ensures.rest } in
-    let made : c.extend_from_slice.new.self.items ≡ spanned xs start stop c.args.first c.args.behind c.args.cap = grind (arith, common_steps) in
-    λ h. ap (λ (l : List CapChange). kept_cap l h) made ∙ spanned_caps xs start stop c.args.first c.args.behind c.args.cap cut h
+    let made : c.extend_from_slice.new.self.items ≡ spanned xs start stop c.args.first c.args.after_last c.args.cap = grind (arith, common_steps) in
+    λ h. ap (λ (l : List CapChange). kept_cap l h) made ∙ spanned_caps xs start stop c.args.first c.args.after_last c.args.cap cut h

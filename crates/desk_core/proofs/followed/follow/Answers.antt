@@ -10,17 +10,17 @@ returns-in_ok-applied-in-Move-clause-ok c =
     let E = c.args.eval.now in
     let m = c.in-Move.m in
     let made = c.in_ok-applied-in-Move.ensures in
-    let told : c.args.entry.now.answer ≡ answer (state_in E) (event.Move m) = c.requires.answered ∙ ap (answer (state_in E)) c.in-Move.is in
+    let given : c.args.entry.now.answer ≡ answer (state_in E) (event.Move m) = c.requires.answered ∙ ap (answer (state_in E)) c.in-Move.is in
     rw (c.publish.ensures, c.in-Move.is)
-    (followed_move E c.apply.new.eval m c.args.entry.now.answer c.in-Accepted.cost c.in-Accepted.is told made.inst made.rows)
+    (followed_move E c.apply.new.eval m c.args.entry.now.answer c.in-Accepted.cost c.in-Accepted.is given made.inst made.rows)
 
 pub returns-in_default : goal.returns-in_default
 returns-in_default c =
     let E = c.args.eval.now in
     let m = c.in-Move.m in
-    let told : c.args.entry.now.answer ≡ answer (state_in E) (event.Move m) = c.requires.answered ∙ ap (answer (state_in E)) c.in-Move.is in
+    let given : c.args.entry.now.answer ≡ answer (state_in E) (event.Move m) = c.requires.answered ∙ ap (answer (state_in E)) c.in-Move.is in
     record {
-      ok = rw c.in-Move.is (followed_none E m c.args.entry.now.answer told (not_accepted c.args.entry.now.answer (λ cost is. c.in_default.not-Accepted cost is)));
+      ok = rw c.in-Move.is (followed_none E m c.args.entry.now.answer given (not_accepted c.args.entry.now.answer (λ cost is. c.in_default.not-Accepted cost is)));
       broken = c.requires.state;
       past = c.requires.past;
       err = tt;

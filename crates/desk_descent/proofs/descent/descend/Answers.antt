@@ -11,7 +11,7 @@ loop-init c = begun c.args.most c.args.book.now
 pub returns-in_err-step-clause-err : goal.returns-in_err-step-clause-err
 returns-in_err-step-clause-err c =
     let B = c.args.book.now in
-    let under : IsUnderWay c.args.most B c.step.new.book = record { steps = c.loop.counter; behind = c.in_err-step.ensures.err ∙ c.loop.invariant } in
+    let under : IsUnderWay c.args.most B c.step.new.book = record { steps = c.loop.counter; reached = c.in_err-step.ensures.err ∙ c.loop.invariant } in
     on-err c.from_residual.result (IsUnderWay c.args.most B c.step.new.book) under
 
 pub returns-then-not-branch-clause-ok : goal.returns-then-not-branch-clause-ok
@@ -23,7 +23,7 @@ pub returns-then-not-branch-clause-quiet : goal.returns-then-not-branch-clause-q
 returns-then-not-branch-clause-quiet c =
     let none : next_of c.args.most c.loop.book ≡ None = none-since (next_of c.args.most c.loop.book) (sym c.in_ok-step.ensures.went ∙ c.if-not-branch.true) in
     let is = stopped c.loop.counter c.args.most c.args.book.now c.loop.book c.step.new.book (omega arith) c.loop.invariant none c.in_ok-step.ensures.ok in
-    λ told. quiet-end c.args.most c.args.book.now c.step.new.book is (sym c.ending.ensures ∙ told)
+    λ given. quiet-end c.args.most c.args.book.now c.step.new.book is (sym c.ending.ensures ∙ given)
 
 pub loop-preserved : goal.loop-preserved
 loop-preserved c = c.in_ok-step.ensures.ok ∙ stepped-on c.loop.counter c.args.most c.args.book.now c.loop.book c.loop.invariant
@@ -33,4 +33,4 @@ returns-clause-quiet c =
     let B = c.args.book.now in
     let all : c.loop.counter ≡ c.args.most = omega arith in
     let is : c.loop.book ≡ after_descent c.args.most B = c.loop.invariant ∙ ap (λ n. after_steps n c.args.most B) all in
-    λ told. quiet-end c.args.most B c.loop.book is (sym c.ending-2.ensures ∙ told)
+    λ given. quiet-end c.args.most B c.loop.book is (sym c.ending-2.ensures ∙ given)

@@ -13,6 +13,9 @@ loop-index-preserved c =
           (opened_more c.args.count c.args.book.now.opening c.args.book.now.journal c.loop-index.workers.items c.in_ok-open.field-0 c.loop-index.invariant.1 (omega (arith, at, number)) opened.number.1 opened.ready opened.all opened.trail),
     )
 
+pub returns-clause-numbers : goal.returns-clause-numbers
+returns-clause-numbers c = c.loop-index.invariant.1.number
+
 pub returns-clause-shards : goal.returns-clause-shards
 returns-clause-shards c =
     opened_shards c.args.count c.args.book.now.opening c.args.book.now.journal c.loop-index.workers.items (omega (arith, c.loop-index.invariant.0, c.loop-index-test.false, c.loop-index.auto.index-end)) c.loop-index.invariant.1

@@ -10,6 +10,6 @@ invariant-loop g l = record {
   of : IsPassOf opening_of l.turn l.pass;
   shards : AreAllShards l.workers;
   ready : CanAllSearch (first_book l.turn).opening l.workers (seen l.pass);
-  gained : HasGained (length (seen l.initial.pass)) (known l.initial.pass) (known l.pass) l.initial.workers l.workers;
+  gained : HasGained l.budget (length (seen l.initial.pass)) (known l.initial.pass) (known l.pass) l.initial.workers l.workers;
   returned : IsReturned (known l.initial.pass) (known l.pass);
 }

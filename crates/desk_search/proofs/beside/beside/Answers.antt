@@ -4,7 +4,7 @@ use Rattle.turn_book.specs.Passes.{known}
 use Rattle.desk_pool.specs.Workers.{day_of}
 use Rattle.desk_pool.specs.Voted.{IsVoteOf}
 use Rattle.desk_pool.proofs.Gaining.{returned_on}
-use Rattle.desk_search.specs.Brought.{HasBroughtAll}
+use Rattle.desk_search.specs.Taking.{HasTakenAll}
 use Rattle.desk_search.proofs.Longer.{begins_first, all_longer}
 use Rattle.desk_search.proofs.Running.{ok_at}
 use Rattle.desk_search.proofs.Living.{joined_returned, joined_live}
@@ -49,14 +49,14 @@ returns-in-Ok-voted-clause-run g c = λ done live.
     let M = c.args.budget in
     let I = day_of c.args.turn.now in
     let batches = c.args.batches.now in
-    let olds = c.args.workers.items in
-    let news = c.join-mine.result.1.0.items in
+    let workers_before = c.args.workers.items in
+    let workers_after = c.join-mine.result.1.0.items in
     let u = known c.own_rounds-workers.result.1 in
-    let all = ok_at c.join-mine.result.0.1 c.in-Ok.came (HasBroughtAll batches start desk) c.join-mine.ensures.first.1.1 c.in-Ok.is in
-    let so_far = joined_live (day_of c.args.turn.now) all.count batches v begun start desk team w olds news done live c.split-mine.ensures.left c.split-mine.ensures.right all.first c.join-mine.ensures.second.1.1.1.1.1 c.join-mine.ensures.second.1.1.1.0 c.join.ensures.nested c.join.ensures.joined in
+    let all = ok_at c.join-mine.result.0.1 c.in-Ok.came (HasTakenAll batches start desk) c.join-mine.ensures.first.1.1 c.in-Ok.is in
+    let so_far = joined_live c.args.budget (day_of c.args.turn.now) all.count batches v begun start desk team w workers_before workers_after done live c.split-mine.ensures.left c.split-mine.ensures.right all.first c.join-mine.ensures.second.1.1.1.1.1 c.join-mine.ensures.second.1.1.1.0 c.join.ensures.nested c.join.ensures.joined in
     let k = vec_len c.join-mine.result.1.0 in
     let voted = ok_at c.own_rounds-workers.result.2 c.in-Ok-voted.vote (IsVoteOf M I k u.seen) c.own_rounds-workers.ensures.voted c.in-Ok-voted.is in
-    live_ended (vec_len c.args.workers) k M I done batches all.count w u news c.own_rounds-workers.result.0.items c.in-Ok-voted.vote (all.all c.in-Taken.is) so_far c.own_rounds-workers.ensures.gained
+    live_ended (vec_len c.args.workers) k M I done batches all.count w u workers_after c.own_rounds-workers.result.0.items c.in-Ok-voted.vote (all.all c.in-Taken.is) so_far c.own_rounds-workers.ensures.gained
     (let ok = c.own_rounds-workers.result.0.ok in let len = c.own_rounds-workers.ensures.len in omega (arith, ok, len)) c.join-mine.ensures.second.0 c.own_rounds-workers.ensures.shards c.own_rounds-workers.ensures.ready voted
 
 pub returns-in-Taken-clause-returned : goal.returns-in-Taken-clause-returned
@@ -90,11 +90,11 @@ returns-clause-run g c = λ done live.
     let M = c.args.budget in
     let I = day_of c.args.turn.now in
     let batches = c.args.batches.now in
-    let olds = c.args.workers.items in
-    let news = c.join-mine.result.1.0.items in
-    let all = ok_at c.join-mine.result.0.1 c.in-Ok.came (HasBroughtAll batches start desk) c.join-mine.ensures.first.1.1 c.in-Ok.is in
-    let so_far = joined_live (day_of c.args.turn.now) all.count batches v begun start desk team w olds news done live c.split-mine.ensures.left c.split-mine.ensures.right all.first c.join-mine.ensures.second.1.1.1.1.1 c.join-mine.ensures.second.1.1.1.0 c.join.ensures.nested c.join.ensures.joined in
-    live_stopped (vec_len c.args.workers) M I done batches all.count desk team w news so_far (all_longer (day_of c.args.turn.now) c.join-mine.result.1.0.items team.seen w.seen c.join-mine.ensures.second.1.1.1.0 (begins_first team.seen desk.seen w.seen c.join.ensures.nested c.join.ensures.seen)) (all.full c.in-Full.is) c.join.ensures.nested c.join.ensures.seen
+    let workers_before = c.args.workers.items in
+    let workers_after = c.join-mine.result.1.0.items in
+    let all = ok_at c.join-mine.result.0.1 c.in-Ok.came (HasTakenAll batches start desk) c.join-mine.ensures.first.1.1 c.in-Ok.is in
+    let so_far = joined_live c.args.budget (day_of c.args.turn.now) all.count batches v begun start desk team w workers_before workers_after done live c.split-mine.ensures.left c.split-mine.ensures.right all.first c.join-mine.ensures.second.1.1.1.1.1 c.join-mine.ensures.second.1.1.1.0 c.join.ensures.nested c.join.ensures.joined in
+    live_stopped (vec_len c.args.workers) M I done batches all.count desk team w workers_after so_far (all_longer (day_of c.args.turn.now) c.join-mine.result.1.0.items team.seen w.seen c.join-mine.ensures.second.1.1.1.0 (begins_first team.seen desk.seen w.seen c.join.ensures.nested c.join.ensures.seen)) (all.full c.in-Full.is) c.join.ensures.nested c.join.ensures.seen
 
 pub returns-clause-returned : goal.returns-clause-returned
 returns-clause-returned g c =

@@ -1,4 +1,4 @@
-use Rattle.std.proofs.Common.{List, false, length, refl, sym, ap, ◌∙◌, subst, inl, inr, add-one, arith}
+use Rattle.std.proofs.Common.{List, ℕ, false, length, refl, sym, ap, ◌∙◌, subst, inl, inr, add-one, arith}
 use Rattle.std.specs.Prelude.{take, vec_len}
 use Rattle.turn_book.specs.Passes.{known, seen}
 use Rattle.day_orders.specs.declared.orders.Batch.{Batch}
@@ -7,8 +7,8 @@ use Rattle.desk_pool.proofs.Gaining.{returned_none, returned_on}
 use Rattle.desk_pool.specs.Voted.{IsVoteOf}
 use Rattle.desk_search.specs.Running.{RunSoFar}
 use Rattle.desk_search.proofs.Longer.{all_longer}
-use Rattle.desk_search.proofs.Running.{run_start, run_next, run_none, vote_ends, ok_at, returned_by, next_done}
-use Rattle.desk_search.proofs.Bringing.{by_full, by_taken}
+use Rattle.desk_search.proofs.Running.{run_start, run_next, run_none, vote_stops, ok_at, returned_by, next_done}
+use Rattle.desk_search.proofs.Taking.{by_full, by_taken}
 use Rattle.desk_search.proofs.RunEnds.{in_turn_full, in_turn_ended}
 use Rattle.desk_search.proofs.in_turn.in_turn.Goals as goal
 
@@ -30,17 +30,17 @@ returns-in-Full g c =
     let I = day_of c.args.turn.now in
     let on = c.loop-batch.invariant in
     let v = known c.loop-batch.pass in
-    let u = known c.bring.new.pass in
+    let u = known c.take_batch.new.pass in
     let workers = c.loop-batch.workers.items in
-    let full = by_full I c.batch-item.result v u c.in-Ok.came c.in-Full.is c.in-Ok.ensures.brought.reported in
+    let full = by_full I c.batch-item.result v u c.in-Ok.came c.in-Full.is c.in-Ok.ensures.taken.reported in
     record {
-      of = c.bring.ensures.of;
-      returned = returned_on (known c.args.pass) v u on.returned (returned_by v u c.bring.ensures.tags);
+      of = c.take_batch.ensures.of;
+      returned = returned_on (known c.args.pass) v u on.returned (returned_by v u c.take_batch.ensures.tags);
       run = in_turn_full (vec_len c.args.workers) M I u c.args.batches.now c.loop-batch.batch-index (λ all. run_none M I v u workers (take c.loop-batch.batch-index c.args.batches.now) on.run on.ready full.0 all) full.1 false;
     }
 
 pub own_rounds-ours-requires-clause-ready : goal.own_rounds-ours-requires-clause-ready
-own_rounds-ours-requires-clause-ready g c = λ κs le. all_longer (day_of c.args.turn.now) c.loop-batch.workers.items (seen c.loop-batch.pass) (seen c.bring.new.pass) c.loop-batch.invariant.ready c.bring.ensures.began
+own_rounds-ours-requires-clause-ready g c = λ κs le. all_longer (day_of c.args.turn.now) c.loop-batch.workers.items (seen c.loop-batch.pass) (seen c.take_batch.new.pass) c.loop-batch.invariant.ready c.take_batch.ensures.began
 
 pub loop-batch-preserved : goal.loop-batch-preserved
 loop-batch-preserved g c =
@@ -49,23 +49,23 @@ loop-batch-preserved g c =
     let on = c.loop-batch.invariant in
     let B = c.batch-item.result in
     let v = known c.loop-batch.pass in
-    let u = known c.bring.new.pass in
+    let u = known c.take_batch.new.pass in
     let w = known c.own_rounds-ours.result.1 in
-    let olds = c.loop-batch.workers.items in
-    let news = c.own_rounds-ours.result.0.items in
-    let ready : CanAllSearch I olds u.seen = all_longer I olds v.seen u.seen on.ready c.bring.ensures.began in
-    let one = by_taken I B v u c.in-Ok.came c.in-Taken.is c.in-Ok.ensures.brought.reported in
-    let run = run_next M I B v u w olds news (take c.loop-batch.batch-index c.args.batches.now) on.run on.ready on.stopped one ready c.own_rounds-ours.ensures.ready c.own_rounds-ours.ensures.gained in
-    let ends = vote_ends M I (vec_len c.loop-batch.workers) w.seen c.in-Ok-vote.vote (ok_at c.own_rounds-ours.result.2 c.in-Ok-vote.vote (IsVoteOf M I (vec_len c.loop-batch.workers) w.seen) c.own_rounds-ours.ensures.voted c.in-Ok-vote.is) in
+    let workers_before = c.loop-batch.workers.items in
+    let workers_after = c.own_rounds-ours.result.0.items in
+    let ready : CanAllSearch I workers_before u.seen = all_longer I workers_before v.seen u.seen on.ready c.take_batch.ensures.began in
+    let one = by_taken I B v u c.in-Ok.came c.in-Taken.is c.in-Ok.ensures.taken.reported in
+    let run = run_next M I B v u w workers_before workers_after (take c.loop-batch.batch-index c.args.batches.now) on.run on.ready on.stopped one ready c.own_rounds-ours.ensures.ready c.own_rounds-ours.ensures.gained in
+    let vote = ok_at c.own_rounds-ours.result.2 c.in-Ok-vote.vote (IsVoteOf M I (vec_len c.loop-batch.workers) w.seen) c.own_rounds-ours.ensures.voted c.in-Ok-vote.is in
     record {
       len = c.own_rounds-ours.ensures.len ∙ on.len;
       shards = c.own_rounds-ours.ensures.shards;
       of = c.own_rounds-ours.ensures.of;
       ready = c.own_rounds-ours.ensures.ready;
-      returned = returned_on (known c.args.pass) u w (returned_on (known c.args.pass) v u on.returned (returned_by v u c.bring.ensures.tags)) c.own_rounds-ours.ensures.returned;
-      run = subst (λ (done : List Batch). RunSoFar M I w news done) (sym (next_done c.args.batches.now c.loop-batch.batch-index B c.loop-batch-test.true c.batch-item.is)) run;
-      stopped = inr ends.0;
-      voted = rw add-one (refl, ends);
+      returned = returned_on (known c.args.pass) u w (returned_on (known c.args.pass) v u on.returned (returned_by v u c.take_batch.ensures.tags)) c.own_rounds-ours.ensures.returned;
+      run = subst (λ (done : List Batch). RunSoFar M I w workers_after done) (sym (next_done c.args.batches.now c.loop-batch.batch-index B c.loop-batch-test.true c.batch-item.is)) run;
+      stopped = inr (vote_stops M I (vec_len c.loop-batch.workers) w.seen c.in-Ok-vote.vote vote);
+      voted = rw add-one (refl, subst (λ (n : ℕ). IsVoteOf M I n w.seen c.in-Ok-vote.vote) on.len vote);
     }
 
 pub returns-clause-run : goal.returns-clause-run

@@ -1,4 +1,4 @@
-use Rattle.std.proofs.Common.{◌≡◌, ◌<◌, ◌⊎◌, length, take}
+use Rattle.std.proofs.Common.{◌≡◌, ◌⊎◌, length, take}
 use Rattle.std.specs.Prelude.{vec_len}
 use Rattle.turn_book.specs.Passes.{known, seen, IsPassOf}
 use Rattle.desk_model.specs.States.{opening}
@@ -18,5 +18,5 @@ invariant-loop-batch g l = record {
   returned : IsReturned (known l.initial.pass) (known l.pass);
   run : RunSoFar l.budget (day_of l.turn) (known l.pass) l.workers.items (take l.batch-index l.batches);
   stopped : (length (seen l.pass) ≡ 0) ⊎ HasStopped l.budget (opening (day_of l.turn)) (seen l.pass);
-  voted : IsVoted l.budget (day_of l.turn) (seen l.pass) l.batch-index l.voted;
+  voted : IsVoted l.budget (day_of l.turn) (vec_len l.initial.workers) (seen l.pass) l.batch-index l.voted;
 }

@@ -44,20 +44,20 @@ pub returns-in-Err-clause-exact : goal.returns-in-Err-clause-exact
 returns-in-Err-clause-exact g t c = λ x tells.
     let outside = g.F.Folder.outside in
     let order : are_in_order (c.in-Some.file ∷ c.in-Some.others.now) ≡ true = subst (λ (fs : List File). are_in_order fs ≡ true) c.in-Some.ensures c.requires.order in
-    let told : Tells (c.in-Some.file ∷ c.in-Some.others.now) (outside c.args.folder.now) x = subst (λ (fs : List File). Tells fs (outside c.args.folder.now) x) c.in-Some.ensures tells in
+    let given : Tells (c.in-Some.file ∷ c.in-Some.others.now) (outside c.args.folder.now) x = subst (λ (fs : List File). Tells fs (outside c.args.folder.now) x) c.in-Some.ensures tells in
     subst (λ (fs : List File). GivesRead as_rows (Err c.in-Err.fault) (read_all fs x (as_rows c.args.rows))) (sym c.in-Some.ensures)
     (exact-first c.in-Some.file c.in-Some.others.now (outside c.args.folder.now) (outside c.read_one.new.folder) x (as_rows c.args.rows) c.in-Err.fault order
-    c.in-Err.ensures.cause (c.in-Err.ensures.exact (x c.in-Some.file) (tells-first c.in-Some.file c.in-Some.others.now (outside c.args.folder.now) x told)))
+    c.in-Err.ensures.cause (c.in-Err.ensures.exact (x c.in-Some.file) (tells-first c.in-Some.file c.in-Some.others.now (outside c.args.folder.now) x given)))
 
 pub returns-clause-exact : goal.returns-clause-exact
 returns-clause-exact g t c = λ x tells.
     let outside = g.F.Folder.outside in
     let order : are_in_order (c.in-Some.file ∷ c.in-Some.others.now) ≡ true = subst (λ (fs : List File). are_in_order fs ≡ true) c.in-Some.ensures c.requires.order in
-    let told : Tells (c.in-Some.file ∷ c.in-Some.others.now) (outside c.args.folder.now) x = subst (λ (fs : List File). Tells fs (outside c.args.folder.now) x) c.in-Some.ensures tells in
+    let given : Tells (c.in-Some.file ∷ c.in-Some.others.now) (outside c.args.folder.now) x = subst (λ (fs : List File). Tells fs (outside c.args.folder.now) x) c.in-Some.ensures tells in
     subst (λ (fs : List File). GivesRead as_rows c.read_files.result (read_all fs x (as_rows c.args.rows))) (sym c.in-Some.ensures)
     (exact-rest c.in-Some.file c.in-Some.others.now x (as_rows c.args.rows) (as_rows c.in-Ok.rows) c.read_files.result
-    (c.in-Ok.ensures.exact (x c.in-Some.file) (tells-first c.in-Some.file c.in-Some.others.now (outside c.args.folder.now) x told))
-    (c.read_files.ensures.exact x (tells-rest c.in-Some.file c.in-Some.others.now (outside c.args.folder.now) (outside c.read_one.new.folder) x order c.read_one.ensures.only told)))
+    (c.in-Ok.ensures.exact (x c.in-Some.file) (tells-first c.in-Some.file c.in-Some.others.now (outside c.args.folder.now) x given))
+    (c.read_files.ensures.exact x (tells-rest c.in-Some.file c.in-Some.others.now (outside c.args.folder.now) (outside c.read_one.new.folder) x order c.read_one.ensures.only given)))
 
 pub returns-in-Err-clause-in_order : goal.returns-in-Err-clause-in_order
 returns-in-Err-clause-in_order g t c = λ x tells r refused.
@@ -70,10 +70,10 @@ pub returns-clause-in_order : goal.returns-clause-in_order
 returns-clause-in_order g t c = λ x tells r refused.
     let outside = g.F.Folder.outside in
     let order : are_in_order (c.in-Some.file ∷ c.in-Some.others.now) ≡ true = subst (λ (fs : List File). are_in_order fs ≡ true) c.in-Some.ensures c.requires.order in
-    let told : Tells (c.in-Some.file ∷ c.in-Some.others.now) (outside c.args.folder.now) x = subst (λ (fs : List File). Tells fs (outside c.args.folder.now) x) c.in-Some.ensures tells in
+    let given : Tells (c.in-Some.file ∷ c.in-Some.others.now) (outside c.args.folder.now) x = subst (λ (fs : List File). Tells fs (outside c.args.folder.now) x) c.in-Some.ensures tells in
     order-rest c.in-Some.file c.in-Some.others.now (outside c.args.folder.now) (outside c.read_one.new.folder) (outside c.read_files.new.folder) x (as_rows c.args.rows) (as_rows c.in-Ok.rows) r order
-    c.read_one.ensures.only (c.in-Ok.ensures.exact (x c.in-Some.file) (tells-first c.in-Some.file c.in-Some.others.now (outside c.args.folder.now) x told))
-    (c.read_files.ensures.in_order x (tells-rest c.in-Some.file c.in-Some.others.now (outside c.args.folder.now) (outside c.read_one.new.folder) x order c.read_one.ensures.only told) r)
+    c.read_one.ensures.only (c.in-Ok.ensures.exact (x c.in-Some.file) (tells-first c.in-Some.file c.in-Some.others.now (outside c.args.folder.now) x given))
+    (c.read_files.ensures.in_order x (tells-rest c.in-Some.file c.in-Some.others.now (outside c.args.folder.now) (outside c.read_one.new.folder) x order c.read_one.ensures.only given) r)
     (subst (λ (fs : List File). read_all fs x (as_rows c.args.rows) ≡ Err r) c.in-Some.ensures refused)
 
 pub returns-in-Err-clause-stops : goal.returns-in-Err-clause-stops

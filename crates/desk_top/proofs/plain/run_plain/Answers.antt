@@ -11,8 +11,8 @@ pub returns : goal.returns
 returns g c =
     let command = c.args.command.now in
     let before = world (g.F.Folder.outside c.args.folder.now) (g.O.Sink.report c.args.out.now) in
-    let now = world (g.F.Folder.outside c.told.new.folder) (g.O.Sink.report c.told.new.out) in
+    let now = world (g.F.Folder.outside c.obey_and_tell.new.folder) (g.O.Sink.report c.obey_and_tell.new.out) in
     record {
-      promise = runs-as-promised meanings (asked_here command) before now c.told.result (with-nothing command before now c.told.result c.requires.alone c.told.ensures);
-      no_usage = here-no-usage nothing command before now c.told.result c.told.ensures;
+      promise = runs-as-promised meanings (asked_here command) before now c.obey_and_tell.result (with-nothing command before now c.obey_and_tell.result c.requires.alone c.obey_and_tell.ensures);
+      no_usage = here-no-usage nothing command before now c.obey_and_tell.result c.obey_and_tell.ensures;
     }

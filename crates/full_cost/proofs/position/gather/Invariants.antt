@@ -7,6 +7,6 @@ use Rattle.full_cost.proofs.position.gather.Given as goal
 abbrev pub invariant-loop-p : goal.invariant-loop-p
 invariant-loop-p l = record {
   room : length l.here ≡ planes_of l.inst;
-  behind : l.count ≤ l.p;
+  below : l.count ≤ l.p;
   each : take l.count l.here ≡ planes_ending_at l.stands l.airport.0 l.p;
 }

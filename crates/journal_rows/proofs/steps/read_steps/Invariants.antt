@@ -2,13 +2,13 @@ use Rattle.std.proofs.Common.{◌≡◌, All, length}
 use Rattle.desk_text.specs.Lines.{fields}
 use Rattle.journal_rows.specs.Steps.{steps_of}
 use Rattle.journal_rows.specs.Facts.{IsNamedStep}
-use Rattle.journal_rows.proofs.StepLemmas.{behind}
+use Rattle.journal_rows.proofs.StepLemmas.{prepended}
 use Rattle.journal_rows.proofs.steps.read_steps.Given as goal
 
 -- the steps so far, and after them those of the tokens that are left, are the steps of all
 abbrev pub invariant-loop-word : goal.invariant-loop-word
 invariant-loop-word g l = record {
-  read : behind l.steps.items (steps_of (g.F.TokenForm.readers l.form) l.tokens) ≡ steps_of (g.F.TokenForm.readers l.form) (fields l.detail);
+  read : prepended l.steps.items (steps_of (g.F.TokenForm.readers l.form) l.tokens) ≡ steps_of (g.F.TokenForm.readers l.form) (fields l.detail);
   facts : All IsNamedStep l.steps.items;
 }
 

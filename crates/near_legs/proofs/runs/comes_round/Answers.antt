@@ -23,7 +23,7 @@ returns-then-leg c =
     let I = c.args.inst.now in
     let runs : is_run I c.args.plan.now c.args.leg.0 c.args.count ≡ true = sym c.is_run.ensures ∙ c.if-not-is_run.false in
     let last : Leg = get_or c.args.legs.now (c.args.count - 1) (record { 0 = 0 }) in
-    let at = comes_round-at I c.args.plan.now c.args.tables.now.behind c.args.leg.0 c.args.count c.args.legs.now (record { 0 = 0 }) c.requires.lists.behind c.requires.leg c.requires.some c.requires.most c.requires.legs runs in
+    let at = comes_round-at I c.args.plan.now c.args.tables.now.after c.args.leg.0 c.args.count c.args.legs.now (record { 0 = 0 }) c.requires.lists.after c.requires.leg c.requires.some c.requires.most c.requires.legs runs in
     let back : (leg_at I last.0).dest.0 ≡ (leg_at I c.args.leg.0).origin.0 =
     ap (λ (i : LegInfo). i.dest.0) (sym c.leg.ensures.row) ∙ c.if-leg.true ∙ ap (λ (i : LegInfo). i.origin.0) c.leg-2.ensures.row in
     let test : eqb (leg_at I last.0).dest.0 (leg_at I c.args.leg.0).origin.0 ≡ true = eq-eqb (leg_at I last.0).dest.0 (leg_at I c.args.leg.0).origin.0 back in
@@ -34,10 +34,10 @@ returns-else-leg c =
     let I = c.args.inst.now in
     let runs : is_run I c.args.plan.now c.args.leg.0 c.args.count ≡ true = sym c.is_run.ensures ∙ c.if-not-is_run.false in
     let last : Leg = get_or c.args.legs.now (c.args.count - 1) (record { 0 = 0 }) in
-    let behind = c.args.tables.now.behind in
-    let at = comes_round-at I c.args.plan.now behind c.args.leg.0 c.args.count c.args.legs.now (record { 0 = 0 }) c.requires.lists.behind c.requires.leg c.requires.some c.requires.most c.requires.legs runs in
+    let after = c.args.tables.now.after in
+    let at = comes_round-at I c.args.plan.now after c.args.leg.0 c.args.count c.args.legs.now (record { 0 = 0 }) c.requires.lists.after c.requires.leg c.requires.some c.requires.most c.requires.legs runs in
     let apart : (leg_at I last.0).dest.0 ≡ (leg_at I c.args.leg.0).origin.0 → ⊥ = λ e.
     c.if-leg.false (ap (λ (i : LegInfo). i.dest.0) c.leg.ensures.row ∙ e ∙ ap (λ (i : LegInfo). i.origin.0) (sym c.leg-2.ensures.row)) in
     let test : eqb (leg_at I last.0).dest.0 (leg_at I c.args.leg.0).origin.0 ≡ false = apart_test (leg_at I last.0).dest.0 (leg_at I c.args.leg.0).origin.0 apart in
-    let none : c.is_none.result ≡ is_none (get_or behind last.0 None) = none_test c.behind.result c.is_none.result c.is_none.ensures ∙ ap is_none c.behind.ensures in
+    let none : c.is_none.result ≡ is_none (get_or after last.0 None) = none_test c.after.result c.is_none.result c.is_none.ensures ∙ ap is_none c.after.ensures in
     none ∙ sym (at ∙ rw test refl)

@@ -1,8 +1,9 @@
-use Rattle.std.proofs.Common.{◌≡◌, sym, ap, subst, ◌∙◌}
+use Rattle.std.proofs.Common.{◌≡◌, List, sym, ap, subst, ◌∙◌}
 use Rattle.std.specs.Prelude.{Option, find, IfOk, All}
 use Rattle.plan_moves.specs.declared.moves.Move.{Move}
 use Rattle.plan_moves.specs.Fits.{Fits}
 use Rattle.desk_data.specs.Valid.{IsValid, IsPlanFor}
+use Rattle.near_moves.specs.Units.{MoveUnit}
 use Rattle.near_moves.specs.PassengerMoves.{rebooked_units}
 use Rattle.near_moves.specs.Near.{leg_units, moves_of, of_shard}
 use Rattle.near_moves.specs.Descent.{is_better, first_better}
@@ -12,13 +13,13 @@ use Rattle.near_search.proofs.FirstLaws.{first-leg, first-passengers}
 use Rattle.near_search.proofs.PassedLaws.{shard-all}
 use Rattle.near_search.proofs.first.first_better.Goals as goal
 
-pub first_of-requires-clause-fits : goal.first_of-requires-clause-fits
-first_of-requires-clause-fits c =
+pub first_of_legs-requires-clause-fits : goal.first_of_legs-requires-clause-fits
+first_of_legs-requires-clause-fits c =
     let I = c.args.eval.now.inst in
     let P = c.args.eval.now.rows in
     let plan : IsPlanFor I P = rw c.plan.ensures.rows at c.plan.ensures.valid in
-    let left = rw (c.instance-2.ensures, c.plan.ensures.rows) at c.in_ok-legs.ensures.left in
-    subst (All (Fits I)) (sym left) (shard-all I P (Fits I) c.args.shard c.args.shards (leg_units I P) (moves_of_legs-fit I P plan))
+    let left = rw (c.instance-2.ensures, c.plan.ensures.rows) at c.in_ok-units.ensures.left in
+    subst (λ (us : List MoveUnit). All (Fits I) (moves_of I P us)) (sym left) (shard-all I P (Fits I) c.args.shard c.args.shards (leg_units I P) (moves_of_legs-fit I P plan))
 
 pub first_of_passengers-requires-clause-fits : goal.first_of_passengers-requires-clause-fits
 first_of_passengers-requires-clause-fits c =
@@ -26,7 +27,7 @@ first_of_passengers-requires-clause-fits c =
     let P = c.args.eval.now.rows in
     let valid : IsValid I = rw c.instance.ensures at c.parts-rows.ensures.valid in
     let plan : IsPlanFor I P = rw c.plan.ensures.rows at c.plan.ensures.valid in
-    let stays = c.first_of.ensures.eval in
+    let stays = c.first_of_legs.ensures.eval in
     let left = rw (c.instance-3.ensures, c.plan-2.ensures.rows, stays) at c.in_ok-passengers.ensures.left in
     rw stays (subst (All (Fits I)) (sym left) (shard-all I P (Fits I) c.args.shard c.args.shards (rebooked_units I P) (rebookings-fit I P valid plan)))
 
@@ -34,18 +35,18 @@ pub returns-in-Some-clause-ok : goal.returns-in-Some-clause-ok
 returns-in-Some-clause-ok c =
     let I = c.args.eval.now.inst in
     let P = c.args.eval.now.rows in
-    let left = rw (c.instance-2.ensures, c.plan.ensures.rows) at c.in_ok-legs.ensures.left in
-    let found : c.in_ok-m.field-0 ≡ find (is_better I P) (moves_of I P (of_shard c.args.shard c.args.shards (leg_units I P))) = c.in_ok-m.ensures.ok ∙ ap (find (is_better I P)) left in
+    let left = rw (c.instance-2.ensures, c.plan.ensures.rows) at c.in_ok-units.ensures.left in
+    let found : c.in_ok-m.field-0 ≡ find (is_better I P) (moves_of I P (of_shard c.args.shard c.args.shards (leg_units I P))) = c.in_ok-m.ensures.ok ∙ ap (λ (us : List MoveUnit). find (is_better I P) (moves_of I P us)) left in
     first-leg I P c.args.shard c.args.shards c.in_ok-m.field-0 c.in-Some.m found c.in-Some.is
 
 pub returns-clause-ok : goal.returns-clause-ok
 returns-clause-ok c =
     let I = c.args.eval.now.inst in
     let P = c.args.eval.now.rows in
-    let left = rw (c.instance-2.ensures, c.plan.ensures.rows) at c.in_ok-legs.ensures.left in
-    let found : c.in_ok-m.field-0 ≡ find (is_better I P) (moves_of I P (of_shard c.args.shard c.args.shards (leg_units I P))) = c.in_ok-m.ensures.ok ∙ ap (find (is_better I P)) left in
-    let stays = c.first_of.ensures.eval in
+    let left = rw (c.instance-2.ensures, c.plan.ensures.rows) at c.in_ok-units.ensures.left in
+    let found : c.in_ok-m.field-0 ≡ find (is_better I P) (moves_of I P (of_shard c.args.shard c.args.shards (leg_units I P))) = c.in_ok-m.ensures.ok ∙ ap (λ (us : List MoveUnit). find (is_better I P) (moves_of I P us)) left in
+    let stays = c.first_of_legs.ensures.eval in
     let more = rw (c.instance-3.ensures, c.plan-2.ensures.rows, stays) at c.in_ok-passengers.ensures.left in
-    let behind : find (is_better I P) (moves_of I P (of_shard c.args.shard c.args.shards (rebooked_units I P))) ≡ first_better I P c.args.shard c.args.shards =
+    let units_after : find (is_better I P) (moves_of I P (of_shard c.args.shard c.args.shards (rebooked_units I P))) ≡ first_better I P c.args.shard c.args.shards =
     first-passengers I P c.args.shard c.args.shards c.in_ok-m.field-0 found c.in_default.is in
-    subst (λ (n : Option Move). IfOk c.first_of_passengers.result (λ x. x ≡ n)) (ap (find (is_better I P)) more ∙ behind) (rw stays at c.first_of_passengers.ensures.ok)
+    subst (λ (n : Option Move). IfOk c.first_of_passengers.result (λ x. x ≡ n)) (ap (find (is_better I P)) more ∙ units_after) (rw stays at c.first_of_passengers.ensures.ok)

@@ -29,7 +29,7 @@ loop-m-preserved g c =
     record {
       of = rw (c.instance.ensures, c.plan.ensures.rows, c.loop-m.invariant.eval) at c.in_ok-m.ensures.of;
       eval = c.is_better.ensures.eval ∙ c.loop-m.invariant.eval;
-      behind = (rw (c.instance.ensures, c.plan.ensures.rows, c.loop-m.invariant.eval) at c.in_ok-m.ensures.behind) ∙ c.loop-m.invariant.behind;
+      units_after = (rw (c.instance.ensures, c.plan.ensures.rows, c.loop-m.invariant.eval) at c.in_ok-m.ensures.units_after) ∙ c.loop-m.invariant.units_after;
       same = rest-found c.args.eval.now.inst c.args.eval.now.rows m _ _ next worse ∙ c.loop-m.invariant.same;
       fits = rest-fits c.args.eval.now.inst m _ _ next c.loop-m.invariant.fits;
     }

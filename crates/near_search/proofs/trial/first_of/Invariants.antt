@@ -9,7 +9,7 @@ abbrev pub invariant-loop-m : goal.invariant-loop-m
 invariant-loop-m g l = record {
   of : g.M.MovesLeft.is_of l.fn.eval.inst l.fn.eval.rows l.moves;
   eval : l.eval ≡ l.fn.eval;
-  behind : g.M.MovesLeft.behind l.fn.eval.inst l.fn.eval.rows l.moves ≡ g.M.MovesLeft.behind l.fn.eval.inst l.fn.eval.rows l.fn.moves;
+  units_after : g.M.MovesLeft.units_after l.fn.eval.inst l.fn.eval.rows l.moves ≡ g.M.MovesLeft.units_after l.fn.eval.inst l.fn.eval.rows l.fn.moves;
   same : find (is_better l.fn.eval.inst l.fn.eval.rows) (g.M.MovesLeft.left l.fn.eval.inst l.fn.eval.rows l.moves) ≡ find (is_better l.fn.eval.inst l.fn.eval.rows) (g.M.MovesLeft.left l.fn.eval.inst l.fn.eval.rows l.fn.moves);
   fits : All (Fits l.fn.eval.inst) (g.M.MovesLeft.left l.fn.eval.inst l.fn.eval.rows l.moves);
 }

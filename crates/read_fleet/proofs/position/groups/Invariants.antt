@@ -2,13 +2,13 @@ use Rattle.std.proofs.Common.{◌≡◌, length}
 use Rattle.std.specs.Prelude.{All}
 use Rattle.read_fleet.specs.Position.{groups_of}
 use Rattle.file_rows.specs.Facts.{IsGroup}
-use Rattle.read_fleet.proofs.GroupLemmas.{behind}
+use Rattle.read_fleet.proofs.GroupLemmas.{prepended}
 use Rattle.read_fleet.proofs.position.groups.Given as goal
 
 -- the groups so far, and those of the fields that are left after them, are the groups of all
 abbrev pub invariant-loop-groups : goal.invariant-loop-groups
 invariant-loop-groups l = record {
-  read : behind l.groups.items (groups_of l.fields) ≡ groups_of l.fn.fields;
+  read : prepended l.groups.items (groups_of l.fields) ≡ groups_of l.fn.fields;
   facts : All IsGroup l.groups.items;
 }
 

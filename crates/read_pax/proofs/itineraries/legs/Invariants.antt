@@ -2,13 +2,13 @@ use Rattle.std.proofs.Common.{◌≡◌, ◌+◌, ◌*◌, length}
 use Rattle.std.specs.Prelude.{All}
 use Rattle.read_pax.specs.Itineraries.{legs_of}
 use Rattle.file_rows.specs.Facts.{IsLeg}
-use Rattle.read_pax.proofs.LegLemmas.{behind}
+use Rattle.read_pax.proofs.LegLemmas.{prepended}
 use Rattle.read_pax.proofs.itineraries.legs.Given as goal
 
 -- the legs so far, and those of the fields that are left after them, are the legs of all
 abbrev pub invariant-loop-legs : goal.invariant-loop-legs
 invariant-loop-legs l = record {
-  read : behind l.legs.items (legs_of l.fields) ≡ legs_of l.fn.fields;
+  read : prepended l.legs.items (legs_of l.fields) ≡ legs_of l.fn.fields;
   size : 3 * length l.legs.items + length l.fields ≡ length l.fn.fields;
   facts : All IsLeg l.legs.items;
 }

@@ -2,13 +2,13 @@ use Rattle.std.proofs.Common.{◌≡◌, sym, subst, ap, ◌∙◌, List, [], �
 use Rattle.std.specs.Prelude.{map, find, Bool, None, Some}
 use Rattle.std.specs.List.{AllPairs}
 use Rattle.desk_data.specs.declared.broken.Broken.{Broken}
-use Rattle.desk_rules.specs.Order.{IsReportedBefore}
+use Rattle.desk_rules.specs.Order.{ComesBefore}
 use Rattle.kept_set.specs.Kept.{AreRising, first}
 use Rattle.board_items.specs.declared.key.ItemKey.{ItemKey}
 use Rattle.board_items.specs.Items.{AreThose, AreKeys, item_of}
 use Rattle.board_items.specs.contracts.key.ItemKeyOrd.TheImpl as keys
 use Rattle.board_items.proofs.FirstLaws.{first_is_find}
-use Rattle.board_items.proofs.ItemLaws.{told-asym, items_rise}
+use Rattle.board_items.proofs.ItemLaws.{comes_before-asym, items_rise}
 use Rattle.board_items.proofs.items.BrokenItems.first.Goals as goal
 
 first_of : (ks : List ItemKey) (k : ItemKey) → Some k ≡ first ks → Some (item_of k) ≡ first (map item_of ks)
@@ -19,8 +19,8 @@ none_of : (ks : List ItemKey) → None ≡ first ks → None ≡ first (map item
 none_of [] is = refl
 none_of (x ∷ ks) is = absurd cc
 
-found : (ks : List ItemKey) (test : Broken → Bool) (all : List Broken) → AreKeys ks → AreRising keys.cmp-value.it ks → AllPairs IsReportedBefore all → AreThose test all (map item_of ks) → first (map item_of ks) ≡ find test all
-found ks test all are rising order those = first_is_find IsReportedBefore test all (map item_of ks) told-asym order (items_rise ks are rising) those
+found : (ks : List ItemKey) (test : Broken → Bool) (all : List Broken) → AreKeys ks → AreRising keys.cmp-value.it ks → AllPairs ComesBefore all → AreThose test all (map item_of ks) → first (map item_of ks) ≡ find test all
+found ks test all are rising order those = first_is_find ComesBefore test all (map item_of ks) comes_before-asym order (items_rise ks are rising) those
 
 pub returns-in-Some : goal.returns-in-Some
 returns-in-Some c test all order those =

@@ -18,6 +18,6 @@ returns-in-Ok-clause-ok g c Ps is =
     let I = c.args.inst.now in
     let P = c.args.plan.now in
     let old = c.self.inside.log in
-    let new = c.replace.new.summary in
+    let new = c.replace.new.log in
     let summary = c.in-Ok.ensures.done P c.requires.plan (sym c.row-had.ensures.row) (ap summary_now c.self.view_is ∙ c.requires.ready.board.now.summary) in
     board_more I P (with_row P c.args.leg.0 c.args.row) Ps old new c.self.inside.savepoints.items c.push.new.self.items c.edits-before.result c.args.self.now c.self.view_is c.self.invariant c.replace.ensures.led c.edits-before.ensures c.in_ok-push.ensures.items summary is

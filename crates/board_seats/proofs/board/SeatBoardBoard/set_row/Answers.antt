@@ -17,13 +17,13 @@ returns-in-Ok-clause-ok g c Ps is =
     let I = c.args.inst.now in
     let P = c.args.plan.now in
     let savepoints = c.self.inside.savepoints.items in
-    set_board I P (with_row P c.args.leg.0 c.args.row) Ps c.self.inside.log c.with_row.new.summary savepoints c.push.new.self.items
+    set_board I P (with_row P c.args.leg.0 c.args.row) Ps c.self.inside.log c.with_row.new.log savepoints c.push.new.self.items
     (c.in_ok-push.ensures.items ∙ ap (λ (n : ℕ). savepoints ++ n ∷ []) c.edits-edits.ensures)
     c.with_row.ensures.led c.in-Ok.ensures.ok (subst (IsBoardOf I P Ps) (sym c.self.view_is) is)
 
 pub undo_to-requires : goal.undo_to-requires
 undo_to-requires g c =
-    omega (arith, c.edits-edits.ensures, led_longer (seen c.self.inside.log) (seen c.with_row.new.summary) c.with_row.ensures.led)
+    omega (arith, c.edits-edits.ensures, led_longer (seen c.self.inside.log) (seen c.with_row.new.log) c.with_row.ensures.led)
 
 pub returns-in-Err-clause-err : goal.returns-in-Err-clause-err
 returns-in-Err-clause-err g c Ps is =
@@ -32,7 +32,7 @@ returns-in-Err-clause-err g c Ps is =
     let before = c.self.inside.savepoints.items in
     let some = c.pop.ensures.variant.1 (omega (arith, c.push.new.self.ok.0, ap (λ (ns : List ℕ). length ns) c.in_ok-push.ensures.items, length-append before (c.edits-edits.result ∷ []))) in
     let savepoints : c.pop.new.self.items ≡ before = popped before c.pop.new.self.items c.push.new.self.items c.edits-edits.result c.pop.result c.in_ok-push.ensures.items c.pop.ensures.items some in
-    let same : seen c.undo_to.new.self ≡ seen c.self.inside.log = c.undo_to.ensures ∙ ap (λ (n : ℕ). back_to n (seen c.with_row.new.summary)) c.edits-edits.ensures ∙ c.with_row.ensures.led in
+    let same : seen c.undo_to.new.self ≡ seen c.self.inside.log = c.undo_to.ensures ∙ ap (λ (n : ℕ). back_to n (seen c.with_row.new.log)) c.edits-edits.ensures ∙ c.with_row.ensures.led in
     subst (λ (ns : List ℕ). IsBoardOf I P Ps (record { lists = c.undo_to.new.self; savepoints = reverse ns })) (sym savepoints)
     (seen_board I P Ps c.self.inside.log c.undo_to.new.self (reverse c.self.inside.savepoints.items) same (subst (IsBoardOf I P Ps) (sym c.self.view_is) is))
 

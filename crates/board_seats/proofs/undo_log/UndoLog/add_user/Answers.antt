@@ -16,10 +16,10 @@ returns-in-Ok-true-clause-led c =
     let r = c.args.res.0 in
     let l : Lists = record { taken = s.taken.items; faults = s.faults.items; broken = s.broken.items; users = s.users; edits = s.edits.items } in
     let new : Lists = record { taken = s.taken.items; faults = s.faults.items; broken = c.reserve.new.self.items; users = c.add.new.self; edits = c.push.new.self.items } in
-    let told : c.in-Ok-true.field-0 ≡ true = search rules in
+    let given : c.in-Ok-true.field-0 ≡ true = search rules in
     subst (λ (old : Lists). LedTo (seen old) (seen new)) c.self.view_is
     (subst (λ (xs : List Broken). LedTo (seen l) (seen (record new { broken = xs }))) (sym c.in_ok-reserve.ensures.items)
-    (user_led l c.add.new.self c.args.leg c.args.res c.push.new.self.items c.in-Ok-true.ensures.ok (is_not (has_user s.users x r) true (sym told ∙ c.in-Ok-true.ensures.added)) c.in_ok-push.ensures.items))
+    (user_led l c.add.new.self c.args.leg c.args.res c.push.new.self.items c.in-Ok-true.ensures.ok (is_not (has_user s.users x r) true (sym given ∙ c.in-Ok-true.ensures.added)) c.in_ok-push.ensures.items))
 
 pub returns-in-Ok-false-clause-led : goal.returns-in-Ok-false-clause-led
 returns-in-Ok-false-clause-led c =
@@ -30,7 +30,7 @@ returns-in-Ok-false-clause-led c =
     let new : Lists = record { taken = s.taken.items; faults = s.faults.items; broken = c.reserve.new.self.items; users = c.add.new.self; edits = c.pop.new.self.items } in
     let some = c.pop.ensures.variant.1 (omega (arith, c.push.new.self.ok.0, ap (λ (es : List Edit). length es) c.in_ok-push.ensures.items, length-append s.edits.items (OfUser c.args.leg c.args.res ∷ []))) in
     let edits : c.pop.new.self.items ≡ s.edits.items = popped s.edits.items c.pop.new.self.items c.push.new.self.items (OfUser c.args.leg c.args.res) c.pop.result c.in_ok-push.ensures.items c.pop.ensures.items some in
-    let told : c.in-Ok-false.field-0 ≡ false = search rules in
+    let given : c.in-Ok-false.field-0 ≡ false = search rules in
     subst (λ (old : Lists). LedTo (seen old) (seen new)) c.self.view_is
     (subst (λ (xs : List Broken). LedTo (seen l) (seen (record new { broken = xs }))) (sym c.in_ok-reserve.ensures.items)
-    (user_kept l c.add.new.self c.args.leg c.args.res c.pop.new.self.items c.in-Ok-false.ensures.ok (is_not (has_user s.users x r) false (sym told ∙ c.in-Ok-false.ensures.added)) edits))
+    (user_kept l c.add.new.self c.args.leg c.args.res c.pop.new.self.items c.in-Ok-false.ensures.ok (is_not (has_user s.users x r) false (sym given ∙ c.in-Ok-false.ensures.added)) edits))

@@ -2,7 +2,7 @@ use Rattle.std.proofs.Common.{◌≡◌, ◌-◌, refl, sym, ap, ◌∙◌, subs
 use Rattle.std.specs.Prelude.{Ok}
 use Rattle.turn_book.specs.Passes.{first_book, known, seen}
 use Rattle.desk_units.specs.declared.memory.NoMem.{NoMem}
-use Rattle.desk_pool.specs.declared.report.Report.{Report}
+use Rattle.desk_teams.specs.declared.report.Report.{Report}
 use Rattle.desk_pool.specs.declared.follower.Follower.{Follower}
 use Rattle.desk_pool.specs.declared.searcher.Searcher.{Searcher}
 use Rattle.desk_pool.specs.Rounds.{IsReady, HasRound, IsSameShard}
@@ -53,8 +53,8 @@ returns-in_err-propose-in-Proposes-clause-ready g c =
 pub returns-in_err-propose-in-Proposes-clause-round : goal.returns-in_err-propose-in-Proposes-clause-round
 returns-in_err-propose-in-Proposes-clause-round g c =
     let same = c.search.ensures.same in
-    round_proposed_err c.args.budget (first_book c.args.turn.now).opening c.args.self.now c.search.new.self c.in-Proposes.m (known c.args.pass.now) (known c.catch_up.new.pass) (known c.propose.new.pass) c.args.self.now.trail.items c.propose.new.self.trail.items c.propose.result c.from_residual-in_err-propose-in-Proposes.result
-    c.catch_up.ensures.looked (ap (λ x. x.items) same.trail) (ap (λ (f : Follower). f.followed) same.follower ∙ c.in_ok-catch_up.ensures.all) c.propose.ensures.proposed c.from_residual-in_err-propose-in-Proposes.ensures.0
+    round_proposed_err c.args.budget (first_book c.args.turn.now).opening c.args.self.now c.search.new.self (known c.args.pass.now) (known c.catch_up.new.pass) (known c.propose.new.pass) c.args.self.now.trail.items c.propose.new.self.trail.items c.from_residual-in_err-propose-in-Proposes.result
+    c.catch_up.ensures.looked (ap (λ x. x.items) same.trail) c.propose.ensures.proposed.began c.in_err-propose-in-Proposes.ensures.proposed.unnoted c.from_residual-in_err-propose-in-Proposes.ensures.0
 
 pub returns-clause-ready : goal.returns-clause-ready
 returns-clause-ready g c =

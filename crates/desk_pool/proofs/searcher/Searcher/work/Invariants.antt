@@ -12,5 +12,5 @@ invariant-loop g l = record {
   same : IsSameShard l.initial.self l.self;
   tags : tags l.pass ≡ tags l.initial.pass;
   began : IsPrefix (seen l.initial.pass) (seen l.pass);
-  noted : HasNoted (length (seen l.initial.pass)) (known l.initial.pass) (known l.pass) l.initial.self.trail.items l.self.trail.items;
+  noted : HasNoted l.budget (length (seen l.initial.pass)) (known l.initial.pass) (known l.pass) l.initial.self.trail.items l.self.trail.items;
 }

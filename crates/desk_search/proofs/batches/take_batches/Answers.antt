@@ -1,0 +1,26 @@
+use Rattle.std.proofs.Common.{◌∙◌, arith}
+use Rattle.turn_book.specs.Passes.{known, seen}
+use Rattle.turn_book.proofs.Prefixes.{prefix_trans}
+use Rattle.desk_pool.specs.Workers.{day_of}
+use Rattle.desk_search.proofs.Taking.{takes_more, takes_on, by_full, by_taken}
+use Rattle.desk_search.proofs.batches.take_batches.Goals as goal
+
+pub returns-in-Full-clause-taken : goal.returns-in-Full-clause-taken
+returns-in-Full-clause-taken g c =
+    let full = by_full (day_of c.args.turn.now) c.batch-item.result (known c.loop-batch.pass) (known c.take_batch.new.pass) c.in-Ok.came c.in-Full.is c.in-Ok.ensures.taken.reported in
+    record {
+      count = c.loop-batch.batch-index;
+      few = omega (arith, c.loop-batch-test.true);
+      all = λ e. absurd cc;
+      full = λ e. full.1;
+      first = takes_on c.loop-batch.batch-index c.args.batches.now (known c.args.pass) (known c.loop-batch.pass) (known c.take_batch.new.pass) c.loop-batch.invariant.taken full.0;
+    }
+
+pub loop-batch-preserved : goal.loop-batch-preserved
+loop-batch-preserved g c = record {
+  of = c.take_batch.ensures.of;
+  tags = c.take_batch.ensures.tags ∙ c.loop-batch.invariant.tags;
+  began = prefix_trans (seen c.args.pass) (seen c.loop-batch.pass) (seen c.take_batch.new.pass) c.loop-batch.invariant.began c.take_batch.ensures.began;
+  taken = takes_more (day_of c.args.turn.now) c.args.batches.now c.loop-batch.batch-index c.batch-item.result (known c.args.pass) (known c.loop-batch.pass) (known c.take_batch.new.pass)
+      c.loop-batch-test.true c.batch-item.is c.loop-batch.invariant.taken (by_taken (day_of c.args.turn.now) c.batch-item.result (known c.loop-batch.pass) (known c.take_batch.new.pass) c.in-Ok.came c.in-Taken.is c.in-Ok.ensures.taken.reported);
+}

@@ -1,0 +1,14 @@
+use Rattle.std.proofs.Common.{◌≡◌}
+use mathlib.Core.List.{IsPrefix}
+use Rattle.turn_book.specs.Passes.{known, seen, tags, IsPassOf}
+use Rattle.desk_core.specs.Turned.{opening_of}
+use Rattle.desk_search.specs.Taking.{TakesFirst}
+use Rattle.desk_search.proofs.batches.take_batches.Given as goal
+
+abbrev pub invariant-loop-batch : goal.invariant-loop-batch
+invariant-loop-batch g l = record {
+  of : IsPassOf opening_of l.turn l.pass;
+  tags : tags l.pass ≡ tags l.initial.pass;
+  began : IsPrefix (seen l.initial.pass) (seen l.pass);
+  taken : TakesFirst l.batch-index l.batches (known l.initial.pass) (known l.pass);
+}

@@ -1,0 +1,7 @@
+//! The tests, by what they ask.
+
+mod beside;
+mod day;
+mod gates;
+mod live;
+mod runs;
