@@ -1,9 +1,9 @@
 //! The places of rows, found by the names that they have.
 
-ghost use Rattle.std.specs.Prelude.{◌≡◌, true, [], ◌∷◌, IfOk};
+ghost use Rattle.std.specs.Prelude.{◌≡◌, true, [], ◌∷◌, Some, None, IfOk, OnOk, if◌then◌else◌};
 ghost use Rattle.std.specs.Cmp.Rules.{hashing};
 ghost use Rattle.std.proofs.Common.{rules};
-ghost use Rattle.build_tables.specs.Keys.{AreApart};
+ghost use Rattle.build_tables.specs.Keys.{Key as RowKey, is_key, AreApart};
 ghost use Rattle.build_tables.specs.Found.{ArePlacesOf, place_in, key_of_borrowed, hash_input};
 
 use desk_units::{List, Name, NoMem};
@@ -85,11 +85,20 @@ pub(crate) trait Keyed {
 }
 
 /// The places of rows by their keys, counted from 0. A key stands for the first row that has it.
-#[derive(Drop)]
 pub(crate) struct RowPlaces<'a> {
     places: IndexMap<Key<'a>, usize>,
     /// Whether no two rows have one key, which spares those who ask each row whether its key came before.
     apart: bool,
+}
+
+/// Dropped in one call, so that a function that owns one proves it once, and not part by part.
+impl<'a> Drop for RowPlaces<'a> {
+    fn drop(self) {
+        let RowPlaces {
+            places: _,
+            apart: _,
+        } = self;
+    }
 }
 
 impl<'a> RowPlaces<'a> {
@@ -106,23 +115,35 @@ impl<'a> RowPlaces<'a> {
     {
         self.apart
     }
+
+    // Puts in the place of a row that stands before those whose places are in. The only error is out of memory.
+    fn put(&mut self, key: Key<'a>, place: usize) -> Result<(), NoMem>
+        ensures kept { OnOk result ((k : RowKey) → place_in self.new k ≡ (if is_key k (key_of_borrowed key.entry) then Some place else place_in self.old k)) }
+        ensures apart { OnOk result (self.new.apart ≡ true → self.old.apart ≡ true) }
+        ensures new { OnOk result (self.new.apart ≡ true → place_in self.old (key_of_borrowed key.entry) ≡ None) }
+    {
+        let later = self.places.insert(key, place)?;
+        self.apart &= later.is_none();
+        Ok(())
+    }
 }
 
-/// The places of these rows. They are kept from the last row on, so that of those with one key the
+/// The places of these rows. They are put in from the last row on, so that of those with one key the
 /// first stays.
 fn places_of<'a, T: Keyed>(alloc: Global, rows: &'a [T]) -> Result<RowPlaces<'a>, NoMem>
     ensures places { IfOk result (ArePlacesOf T.key_of rows.now) }
     ensures apart { IfOk result (λ kept. kept.apart ≡ true → AreApart T.key_of rows.now) }
 {
-    let mut places = IndexMap::with_capacity(alloc, rows.len())?;
-    let mut apart = true;
+    let mut found = RowPlaces {
+        places: IndexMap::with_capacity(alloc, rows.len())?,
+        apart: true,
+    };
     let mut place = rows.len();
     while place > 0 {
         place -= 1;
-        let later = places.insert(rows[place].key(), place)?;
-        apart &= later.is_none();
+        found.put(rows[place].key(), place)?;
     }
-    Ok(RowPlaces { places, apart })
+    Ok(found)
 }
 
 /// The places of the rows of a list.

@@ -7,8 +7,8 @@ use Rattle.build_tables.proofs.places.places_of.Given as goal
 -- the places of the rows from here on, and whether these are apart
 abbrev pub invariant-loop-place : goal.invariant-loop-place
 invariant-loop-place g l = record {
-  kept : (key : Key) → place_in (record { places = l.places; apart = l.apart }) key ≡ option_map (λ n. l.place + n) (key_place g.T.Keyed.key_of (drop l.place l.rows) key);
-  apart : l.apart ≡ true → AreApart g.T.Keyed.key_of (drop l.place l.rows);
+  kept : (key : Key) → place_in l.found key ≡ option_map (λ n. l.place + n) (key_place g.T.Keyed.key_of (drop l.place l.rows) key);
+  apart : l.found.apart ≡ true → AreApart g.T.Keyed.key_of (drop l.place l.rows);
   within : l.place ≤ length l.rows;
 }
 
