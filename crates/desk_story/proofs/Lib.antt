@@ -3,3 +3,4 @@ pub mod Chain
 mod TaskLaws
 pub mod Batches
 pub mod RecoveryLaws
+pub mod PutLaws

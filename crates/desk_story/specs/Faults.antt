@@ -33,3 +33,10 @@ abbrev pub GivesRows : Result (Unit {0}) ReadFault → Result Rows (ℕ × Cause
 GivesRows (Ok done) rows now = rows ≡ Ok now
 GivesRows (Err (read.Refused line cause)) rows now = rows ≡ Err (line, cause)
 GivesRows (Err read.Memory) rows now = Unit {0}
+
+-- what was read stands there now; or nothing was read, and this is why
+abbrev pub IsPut : {V X : Type 0} → (V → X) → Result (Unit {0}) ReadFault → Result V ReadFault → X → Type 0
+IsPut view (Ok done) (Ok rows) now = now ≡ view rows
+IsPut view (Ok done) (Err fault) now = ⊥
+IsPut view (Err fault) (Ok rows) now = ⊥
+IsPut view (Err fault) (Err why) now = fault ≡ why

@@ -10,7 +10,7 @@ use desk_runs::{Ending, Refusal};
 use desk_text::ReadFault;
 
 /// Why the input sets no task.
-#[derive(Clone, Copy, PartialEq, Eq)]
+#[derive(Clone, Copy)]
 pub enum StoryFault {
     /// The input is refused.
     Refused(Refusal),

@@ -48,7 +48,7 @@ fn taken(
     alloc: Global,
     mut rows: InputRows,
     file: File,
-    bytes: Vec<u8>,
+    mut bytes: Vec<u8>,
 ) -> Result<InputRows, StoryFault>
     requires facts { AreInputRows rows }
     requires small { length bytes.items ≤ byte_limit file }
@@ -56,7 +56,7 @@ fn taken(
     ensures cause { IfErr result NeedsNoFault }
     ensures facts { IfOk result AreInputRows }
 {
-    match rows.take(alloc, file, bytes) {
+    match rows.take(alloc, file, &mut bytes) {
         Ok(()) => Ok(rows),
         Err(fault) => Err(StoryFault::of(file, fault)),
     }

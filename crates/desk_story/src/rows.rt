@@ -3,7 +3,7 @@
 ghost use Rattle.std.specs.Prelude.{◌≡◌, ◌<◌, ◌^◌, length, OnOk};
 ghost use Rattle.desk_story.specs.Story.{no_rows, with_rows};
 ghost use Rattle.desk_story.specs.Facts.{as_rows, AreInputRows};
-ghost use Rattle.desk_story.specs.Faults.{GivesRows};
+ghost use Rattle.desk_story.specs.Faults.{GivesRows, IsPut};
 
 use desk_build::Files;
 use desk_folder::File;
@@ -79,40 +79,76 @@ impl InputRows {
 
     /// Takes the rows of a file from its bytes, by its grammar, or gives the first line that it
     /// refuses. Of the two files that give a plan the bytes are kept, which `read_solution` reads again on
-    /// the joined day. After an error the rows are given up.
-    #[tactic(auto, unfolding(crate::specs::Story::with_rows))]
-    pub(crate) fn take(&mut self, alloc: Global, file: File, kept: Vec<u8>) -> Result<(), ReadFault>
+    /// the joined day, and those that were kept before are left in their place. After an error the rows are
+    /// given up.
+    pub(crate) fn take(
+        &mut self,
+        alloc: Global,
+        file: File,
+        kept: &mut Vec<u8>,
+    ) -> Result<(), ReadFault>
         requires facts { AreInputRows self.old }
-        requires small { length kept.items < 2 ^ 32 }
-        ensures exact { GivesRows result (with_rows file kept.items (as_rows self.old)) (as_rows self.new) }
+        requires small { length kept.old.items < 2 ^ 32 }
+        ensures exact { GivesRows result (with_rows file kept.old.items (as_rows self.old)) (as_rows self.new) }
         ensures facts { OnOk result (AreInputRows self.new) }
     {
         let files = &mut self.files;
         let bytes = kept.as_slice();
         match file {
-            File::Config => files.config = read_config(bytes)?,
-            File::Flights => files.flights = List(read_flights(alloc, bytes)?),
-            File::Rotations => files.rotations = List(read_rotations(alloc, bytes)?),
-            File::Aircraft => files.aircraft = List(read_aircraft(alloc, bytes)?),
-            File::Airports => files.airports = List(read_airports(alloc, bytes)?),
-            File::Dist => files.dist = List(read_dist(alloc, bytes)?),
-            File::Itineraries => files.itineraries = List(read_itineraries(alloc, bytes)?),
-            File::Position => files.position = List(read_position(alloc, bytes)?),
-            File::AltFlights => files.alt_flights = List(read_alt_flights(alloc, bytes)?),
-            File::AltAircraft => files.alt_aircraft = List(read_alt_aircraft(alloc, bytes)?),
-            File::AltAirports => files.alt_airports = List(read_alt_airports(alloc, bytes)?),
-            File::Tariff => files.tariff = read_tariff(alloc, bytes)?,
-            File::Feed => files.feed = List(read_feed(alloc, bytes)?),
-            File::Journal => self.journal = read_journal(alloc, bytes)?,
-            File::SolRotations => {
-                solution_grammar(alloc, file, bytes)?;
-                self.plan_rotations = kept;
-            }
-            File::SolItineraries => {
-                solution_grammar(alloc, file, bytes)?;
-                self.plan_itineraries = kept;
-            }
+            File::Config => put(&mut files.config, read_config(bytes)),
+            File::Flights => put_rows(&mut files.flights, read_flights(alloc, bytes)),
+            File::Rotations => put_rows(&mut files.rotations, read_rotations(alloc, bytes)),
+            File::Aircraft => put_rows(&mut files.aircraft, read_aircraft(alloc, bytes)),
+            File::Airports => put_rows(&mut files.airports, read_airports(alloc, bytes)),
+            File::Dist => put_rows(&mut files.dist, read_dist(alloc, bytes)),
+            File::Itineraries => put_rows(&mut files.itineraries, read_itineraries(alloc, bytes)),
+            File::Position => put_rows(&mut files.position, read_position(alloc, bytes)),
+            File::AltFlights => put_rows(&mut files.alt_flights, read_alt_flights(alloc, bytes)),
+            File::AltAircraft => put_rows(&mut files.alt_aircraft, read_alt_aircraft(alloc, bytes)),
+            File::AltAirports => put_rows(&mut files.alt_airports, read_alt_airports(alloc, bytes)),
+            File::Tariff => put(&mut files.tariff, read_tariff(alloc, bytes)),
+            File::Feed => put_rows(&mut files.feed, read_feed(alloc, bytes)),
+            File::Journal => put(&mut self.journal, read_journal(alloc, bytes)),
+            File::SolRotations => keep(
+                &mut self.plan_rotations,
+                solution_grammar(alloc, file, bytes),
+                kept,
+            ),
+            File::SolItineraries => keep(
+                &mut self.plan_itineraries,
+                solution_grammar(alloc, file, bytes),
+                kept,
+            ),
         }
-        Ok(())
     }
+}
+
+// Puts what was read in its place, or gives why it was not read.
+fn put<T: Drop>(place: &mut T, read: Result<T, ReadFault>) -> Result<(), ReadFault>
+    ensures { IsPut (λ rows. rows) result read place.new }
+{
+    *place = read?;
+    Ok(())
+}
+
+// The same for the rows of a file.
+fn put_rows<T: Drop>(place: &mut List<T>, read: Result<Vec<T>, ReadFault>) -> Result<(), ReadFault>
+    ensures { IsPut (λ rows. rows.items) result read place.new }
+{
+    *place = List(read?);
+    Ok(())
+}
+
+// Keeps the bytes of a file whose lines are in their form, or gives why they are not.
+fn keep(
+    place: &mut Vec<u8>,
+    tried: Result<(), ReadFault>,
+    bytes: &mut Vec<u8>,
+) -> Result<(), ReadFault>
+    ensures same { result ≡ tried }
+    ensures kept { OnOk result (place.new.items ≡ bytes.old.items) }
+{
+    tried?;
+    std::mem::swap(place, bytes);
+    Ok(())
 }
