@@ -28,7 +28,7 @@ pub struct Report {
 }
 
 /// What searchers agree on at the last plan.
-#[derive(Clone, Copy, Debug, PartialEq, Eq)]
+#[derive(Clone, Copy)]
 pub enum Vote {
     /// No move near the plan is feasible and cheaper. The history has so many changes.
     Quiet { changes: u32 },

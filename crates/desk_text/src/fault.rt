@@ -13,7 +13,7 @@ use std::error::Error;
 use std::fmt;
 
 /// Why the rows of a file were not read.
-#[derive(Clone, Copy, Debug, PartialEq, Eq)]
+#[derive(Clone, Copy, Debug)]
 pub enum ReadFault {
     /// This line is the first that is refused. Lines count from 1; line 0 stands for the whole file.
     Refused { line: u32, cause: Cause },
@@ -68,7 +68,7 @@ impl<T: Drop> From<AllocFailed<T>> for ReadFault {
 }
 
 /// Why a line gave no row.
-#[derive(Clone, Copy, PartialEq, Eq)]
+#[derive(Clone, Copy)]
 pub enum RowFault {
     /// The line is refused.
     Refused(Cause),

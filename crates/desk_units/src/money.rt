@@ -7,7 +7,7 @@ ghost use Rattle.std.specs.Prelude.{◌≡◌, ◌+◌, ◌*◌, ◌^◌, ◌≤
 pub struct Price(pub u64);
 
 /// The weight of a cost term in thousandths: 1 is 1,000.
-#[derive(Clone, Copy, PartialEq, Eq)]
+#[derive(Clone, Copy)]
 pub struct Weight(pub u32);
 
 /// A sum of money in grains, 600,000,000 to one unit of money.

@@ -4,7 +4,7 @@ ghost use Rattle.std.specs.Prelude.{◌≡◌, ◌<◌};
 ghost use Rattle.desk_units.specs.Ranks.{cabin_rank, haul_rank};
 
 /// A moment: whole minutes since 2000-01-01 00:00.
-#[derive(Clone, Copy, Debug, PartialEq, Eq, PartialOrd, Ord, Hash)]
+#[derive(Clone, Copy, Debug, PartialEq, Eq, PartialOrd, Ord)]
 pub struct Minute(pub u32);
 
 /// An airport, by its place in the list of airports, from 0.
@@ -12,15 +12,15 @@ pub struct Minute(pub u32);
 pub struct Airport(pub u32);
 
 /// An aircraft, by its place in the list of aircraft, from 0.
-#[derive(Clone, Copy, Debug, PartialEq, Eq, PartialOrd, Ord, Hash)]
+#[derive(Clone, Copy, Debug, PartialEq, Eq, PartialOrd, Ord)]
 pub struct Plane(pub u32);
 
 /// A leg, by its place in the list of rotations, from 0.
-#[derive(Clone, Copy, Debug, PartialEq, Eq, PartialOrd, Ord, Hash)]
+#[derive(Clone, Copy, Debug, PartialEq, Eq, PartialOrd, Ord)]
 pub struct Leg(pub u32);
 
 /// A reservation, by its place in the list of itineraries, from 0.
-#[derive(Clone, Copy, Debug, PartialEq, Eq, PartialOrd, Ord, Hash)]
+#[derive(Clone, Copy, Debug, PartialEq, Eq, PartialOrd, Ord)]
 pub struct Res(pub u32);
 
 /// A cabin: first, business or economy, in the order in which paths are compared.
@@ -47,7 +47,7 @@ impl Cabin {
 }
 
 /// The haul of a leg: domestic, continental or intercontinental.
-#[derive(Clone, Copy, PartialEq, Eq)]
+#[derive(Clone, Copy)]
 pub enum Haul {
     D,
     C,
@@ -70,7 +70,7 @@ impl Haul {
 }
 
 /// The seats of an aircraft in each cabin, each from 0 to 999 in a day that was read.
-#[derive(Clone, Copy, PartialEq, Eq)]
+#[derive(Clone, Copy)]
 pub struct Seats {
     /// In first class.
     pub f: u32,

@@ -9,7 +9,7 @@ use crate::name::Name;
 use crate::numbers::{Cabin, Haul};
 
 /// A term of a plan's cost.
-#[derive(Clone, Copy, PartialEq, Eq)]
+#[derive(Clone, Copy)]
 pub enum Term {
     /// The hours that aircraft fly.
     Operating,

@@ -3,7 +3,7 @@
 use desk_units::{Haul, List, Minute, Name};
 
 /// The window in which the day is recovered.
-#[derive(Clone, Copy, PartialEq, Eq)]
+#[derive(Clone, Copy)]
 pub struct Window {
     /// The moment from which legs may be moved.
     pub from: Minute,
@@ -14,7 +14,7 @@ pub struct Window {
 }
 
 /// The caps of an airport for part of the day.
-#[derive(Clone, Copy, PartialEq, Eq)]
+#[derive(Clone, Copy)]
 pub struct CapRow {
     /// Departures per hour, from 0 to 100,000.
     pub deps: u32,
