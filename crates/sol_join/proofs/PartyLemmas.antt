@@ -1,9 +1,8 @@
 -- Passengers by their paths, in a map whose keys are compared as paths are.
-use Rattle.std.proofs.Common.{◌≡◌, ℕ, ◌+◌, ◌<◌, Bool, true, false, cond, not, List, [], ◌∷◌, ◌++◌, length, map, get_or, set, replicate, Option, Some, refl, sym, ap, ◌∙◌}
+use Rattle.std.proofs.Common.{◌≡◌, ℕ, Bool, true, false, cond, not, List, [], ◌∷◌, map, Option, Some, refl, sym, ap, ◌∙◌}
 use Rattle.std.specs.Prelude.{is_some}
 use Rattle.std.specs.declared.alloc.Global.{Global}
 use Rattle.std.specs.declared.vec.Vec.{Vec}
-use Rattle.std.proofs.lemmas.List.{get_or-map, map-append, map-set, replicate-append-replicate}
 use Rattle.desk_units.specs.declared.numbers.Cabin.{Cabin}
 use Rattle.desk_units.specs.declared.numbers.Cabin.TheVariants.{F, B, E}
 use Rattle.desk_units.specs.declared.numbers.Leg.{Leg}
@@ -12,7 +11,7 @@ use Rattle.desk_units.specs.contracts.numbers.CabinOrd.TheImpl as cabin_order
 use Rattle.desk_units.specs.Ranks.{cabin_rank}
 use Rattle.desk_data.specs.PlanRows.{pair_cmp, path_cmp}
 use Rattle.sol_join.specs.Groups.{Passengers, has_path}
-use Rattle.sol_join.specs.Parties.{passengers_in, parties_in}
+use Rattle.sol_join.specs.Parties.{passengers_in}
 use Rattle.std.specs.Map.{lookup}
 use Rattle.std.specs.Ordering.{match_ordering, ordering_then}
 use Rattle.std.specs.declared.cmp.Ordering.{Ordering}
@@ -83,41 +82,25 @@ Seats = Vec (Leg × Cabin) Global
 abbrev Kept : Type 0
 Kept = BTreeMap Seats ℕ
 
--- no passengers of one more
-pub none_more : (kept : List Kept) (new : Kept) (n : ℕ) → parties_in kept ≡ replicate n [] → new.entries ≡ [] → parties_in (kept ++ new ∷ []) ≡ replicate (n + 1) []
-none_more kept new n so_far none =
-    map-append passengers_in kept (new ∷ [])
-    ∙ ap (λ (ps : List Passengers). ps ++ passengers_in new ∷ []) so_far
-    ∙ ap (λ (es : List (Seats × ℕ)). replicate n [] ++ map (λ (entry : Seats × ℕ). (entry.0.items, entry.1)) es ∷ []) none
-    ∙ replicate-append-replicate n 1 []
-
-module _ (C : Seats → Seats → Ordering) (same : (a b : Seats) → C a b ≡ path_cmp a.items b.items) (kept : List Kept) (r : ℕ) (d : Kept) (key : Seats) (path : List (Leg × Cabin)) where
-  party_here : r < length kept → get_or (parties_in kept) r [] ≡ passengers_in (get_or kept r d)
-  party_here below = get_or-map passengers_in kept r d [] below
-
+module _ (C : Seats → Seats → Ordering) (same : (a b : Seats) → C a b ≡ path_cmp a.items b.items) (kept : Kept) (key : Seats) (path : List (Leg × Cabin)) where
   -- whether there were passengers on a path
-  pub put_new : (before : Option ℕ) (new : Bool) → r < length kept → key.items ≡ path → before ≡ get C (get_or kept r d) key → is_some before ≡ not new → new ≡ not (has_path path (get_or (parties_in kept) r []))
-  put_new before new below seats was none =
+  pub put_new : (before : Option ℕ) (new : Bool) → key.items ≡ path → before ≡ get C kept key → is_some before ≡ not new → new ≡ not (has_path path (passengers_in kept))
+  put_new before new seats was none =
       not_not new (is_some before) none
       ∙ ap (λ (o : Option ℕ). not (is_some o)) (was ∙ found_same)
-      ∙ ap (λ (p : List (Leg × Cabin)). not (has_path p (passengers_in (get_or kept r d)))) seats
-      ∙ ap (λ (ps : Passengers). not (has_path path ps)) (sym (party_here below))
+      ∙ ap (λ (p : List (Leg × Cabin)). not (has_path p (passengers_in kept))) seats
     where
-      found_same : get C (get_or kept r d) key ≡ lookup (is_at (path_cmp key.items)) (passengers_in (get_or kept r d))
-      found_same = found (λ (s : Seats). s.items) C path_cmp same (get_or kept r d).entries key
+      found_same : get C kept key ≡ lookup (is_at (path_cmp key.items)) (passengers_in kept)
+      found_same = found (λ (s : Seats). s.items) C path_cmp same kept.entries key
 
       not_not : (a b : Bool) → b ≡ not a → a ≡ not b
       not_not true b e = sym (ap not e)
       not_not false b e = sym (ap not e)
 
   -- passengers are put on a path
-  pub put_in : (after : Kept) (count : ℕ) → r < length kept → key.items ≡ path → after.entries ≡ insert_entry C (get_or kept r d).entries key count
-      → parties_in (set kept r after) ≡ set (parties_in kept) r (insert_entry path_cmp (get_or (parties_in kept) r []) path count)
-  put_in after count below seats put =
-      map-set passengers_in kept r after
-      ∙ ap (set (parties_in kept) r) (
+  pub put_in : (after : Kept) (count : ℕ) → key.items ≡ path → after.entries ≡ insert_entry C kept.entries key count
+      → passengers_in after ≡ insert_entry path_cmp (passengers_in kept) path count
+  put_in after count seats put =
       ap (λ (es : List (Seats × ℕ)). map (λ (entry : Seats × ℕ). (entry.0.items, entry.1)) es) put
-      ∙ inserted (λ (s : Seats). s.items) C path_cmp same (get_or kept r d).entries key count
-      ∙ ap (λ (p : List (Leg × Cabin)). insert_entry path_cmp (passengers_in (get_or kept r d)) p count) seats
-      ∙ ap (λ (ps : Passengers). insert_entry path_cmp ps path count) (sym (party_here below))
-      )
+      ∙ inserted (λ (s : Seats). s.items) C path_cmp same kept.entries key count
+      ∙ ap (λ (p : List (Leg × Cabin)). insert_entry path_cmp (passengers_in kept) p count) seats

@@ -1,5 +1,5 @@
 -- Passengers by their paths, as they are kept while lines are read.
-use Rattle.std.specs.Prelude.{◌≡◌, ℕ, List, map, Option, Some, None, Result, Ok, Err}
+use Rattle.std.specs.Prelude.{◌≡◌, ℕ, map, Option, Some, None, Result, Ok, Err}
 use Rattle.std.specs.BTreeMap.{BTreeMap}
 use Rattle.std.specs.declared.alloc.Global.{Global}
 use Rattle.std.specs.declared.vec.Vec.{Vec}
@@ -13,10 +13,6 @@ use Rattle.sol_join.specs.Groups.{Passengers}
 -- the passengers that a map keeps
 abbrev pub passengers_in : BTreeMap (Vec (Leg × Cabin) Global) ℕ → Passengers
 passengers_in kept = map (λ entry. (entry.0.items, entry.1)) kept.entries
-
--- those of each reservation
-abbrev pub parties_in : List (BTreeMap (Vec (Leg × Cabin) Global) ℕ) → List Passengers
-parties_in kept = map passengers_in kept
 
 -- a line was put, or is refused with this cause; out of memory may come at any time
 abbrev pub Tried : {Answer : Type 0} → Result Answer RowFault → Option Cause → Type 0

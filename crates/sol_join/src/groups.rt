@@ -9,17 +9,17 @@ ghost use Rattle.desk_data.specs.Situation.{reservations_of};
 ghost use Rattle.sol_join.specs.Stated.{stated_group};
 ghost use Rattle.sol_join.specs.Statement.{Adds, cause_of};
 ghost use Rattle.sol_join.specs.Groups.{all_groups, groups_in, statement_of_groups, has_path, is_whole, passengers_stated};
-ghost use Rattle.sol_join.specs.Parties.{Tried, parties_in, passengers_in};
+ghost use Rattle.sol_join.specs.Parties.{Tried};
 
+use crate::party::Party;
 use crate::stated::stated_group;
 use day_names::DayNames;
-use desk_data::{Group, Instance, Path, Res, ResInfo};
+use desk_data::{Group, Instance, Res, ResInfo};
 use desk_text::{ReadFault, RowFault};
-use desk_units::{Cabin, Leg, List, NoMem};
+use desk_units::NoMem;
 use file_rows::Cause;
 use sol_rows::PlannedGroup;
 use std::alloc::Global;
-use std::collections::BTreeMap;
 
 /// The passengers of each reservation by their paths, as the lines give them, or the first line that
 /// is refused.
@@ -28,9 +28,9 @@ pub(crate) fn passengers_stated(
     names: &DayNames<'_>,
     reservations: u32,
     lines: &[PlannedGroup],
-) -> Result<Vec<BTreeMap<Vec<(Leg, Cabin)>, u32>>, ReadFault>
+) -> Result<Vec<Party>, ReadFault>
     requires { reservations ≡ reservations_of names.now }
-    ensures { Gives (λ parties. parties_in parties.items) result (passengers_stated names.now lines.now) }
+    ensures { Gives (λ parties. parties.items) result (passengers_stated names.now lines.now) }
 {
     let mut parties = no_parties(alloc, reservations)?;
     for line in lines {
@@ -43,15 +43,12 @@ pub(crate) fn passengers_stated(
 }
 
 /// No passengers of so many reservations.
-fn no_parties(
-    alloc: Global,
-    reservations: u32,
-) -> Result<Vec<BTreeMap<Vec<(Leg, Cabin)>, u32>>, NoMem>
-    ensures { IfOk result (λ parties. parties_in parties.items ≡ replicate reservations []) }
+fn no_parties(alloc: Global, reservations: u32) -> Result<Vec<Party>, NoMem>
+    ensures { IfOk result (λ parties. parties.items ≡ replicate reservations []) }
 {
     let mut parties = Vec::with_capacity(alloc, reservations as usize)?;
     for _ in 0..reservations {
-        parties.push(BTreeMap::new(alloc))?;
+        parties.push(Party::new(alloc))?;
     }
     Ok(parties)
 }
@@ -61,11 +58,11 @@ fn put_line(
     alloc: Global,
     names: &DayNames<'_>,
     line: &PlannedGroup,
-    parties: &mut [BTreeMap<Vec<(Leg, Cabin)>, u32>],
+    parties: &mut [Party],
 ) -> Result<(), RowFault>
     requires { length parties.old ≡ reservations_of names.now }
-    ensures exact { Tried result (cause_of (λ stated. has_path stated.1.path (slice_index_or (parties_in parties.old) stated.0.0 [])) (stated_group names.now line.now)) }
-    ensures put { OnOk result (Adds (statement_of_groups names.now) (stated_group names.now line.now) (parties_in parties.old) (parties_in parties.new)) }
+    ensures exact { Tried result (cause_of (λ stated. has_path stated.1.path (slice_index_or parties.old stated.0.0 [])) (stated_group names.now line.now)) }
+    ensures put { OnOk result (Adds (statement_of_groups names.now) (stated_group names.now line.now) parties.old parties.new) }
 {
     let (res, group) = stated_group(alloc, names, line)?;
     if put_group(res, group, parties)? {
@@ -76,50 +73,22 @@ fn put_line(
 }
 
 /// Adds a group to those of its reservation; false where there were passengers on its path.
-fn put_group(
-    res: Res,
-    group: Group,
-    parties: &mut [BTreeMap<Vec<(Leg, Cabin)>, u32>],
-) -> Result<bool, NoMem>
+fn put_group(res: Res, group: Group, parties: &mut [Party]) -> Result<bool, NoMem>
     requires { res.0 < length parties.old }
-    ensures new { IfOk result (λ new. new ≡ not (has_path group.path (slice_index_or (parties_in parties.old) res.0 []))) }
-    ensures put { OnOk result (parties_in parties.new ≡ slice_set (parties_in parties.old) res.0 (insert_entry path_cmp (slice_index_or (parties_in parties.old) res.0 []) group.path group.count)) }
+    ensures new { IfOk result (λ new. new ≡ not (has_path group.path (slice_index_or parties.old res.0 []))) }
+    ensures put { OnOk result (parties.new ≡ slice_set parties.old res.0 (insert_entry path_cmp (slice_index_or parties.old res.0 []) group.path group.count)) }
 {
     let Group { count, path } = group;
-    let Path { legs } = path;
-    let List(seats) = legs;
-    let before = parties[res.0 as usize].insert(seats, count)?;
-    Ok(before.is_none())
+    parties[res.0 as usize].put(path, count)
 }
 
 /// The groups of all reservations.
-pub(crate) fn groups_of(
-    alloc: Global,
-    parties: &[BTreeMap<Vec<(Leg, Cabin)>, u32>],
-) -> Result<Vec<Vec<Group>>, NoMem>
-    ensures { IfOk result (λ groups. map (λ of. of.items) groups.items ≡ map groups_in (parties_in parties.now)) }
+pub(crate) fn groups_of(alloc: Global, parties: &[Party]) -> Result<Vec<Vec<Group>>, NoMem>
+    ensures { IfOk result (λ groups. map (λ of. of.items) groups.items ≡ map groups_in parties.now) }
 {
     let mut groups = Vec::with_capacity(alloc, parties.len())?;
     for passengers in parties {
-        groups.push(groups_in(alloc, passengers)?)?;
-    }
-    Ok(groups)
-}
-
-/// The groups of a reservation.
-fn groups_in(
-    alloc: Global,
-    passengers: &BTreeMap<Vec<(Leg, Cabin)>, u32>,
-) -> Result<Vec<Group>, NoMem>
-    ensures { IfOk result (λ groups. groups.items ≡ groups_in (passengers_in passengers.now)) }
-{
-    let mut groups = Vec::with_capacity(alloc, passengers.len())?;
-    for (seats, count) in passengers {
-        let legs = List(Vec::from_slice(alloc, seats.as_slice())?);
-        groups.push(Group {
-            count: *count,
-            path: Path { legs },
-        })?;
+        groups.push(passengers.groups(alloc)?)?;
     }
     Ok(groups)
 }

@@ -20,6 +20,7 @@
 
 mod groups;
 mod legs;
+mod party;
 mod solution;
 mod stated;
 

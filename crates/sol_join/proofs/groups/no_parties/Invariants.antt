@@ -1,6 +1,5 @@
 use Rattle.std.proofs.Common.{◌≡◌, [], replicate}
-use Rattle.sol_join.specs.Parties.{parties_in}
 use Rattle.sol_join.proofs.groups.no_parties.Given as goal
 
 abbrev pub invariant-loop : goal.invariant-loop
-invariant-loop l = parties_in l.parties.items ≡ replicate l.counter []
+invariant-loop l = l.parties.items ≡ replicate l.counter []

@@ -1,16 +1,12 @@
 use Rattle.std.proofs.Common.{◌≡◌, ℕ, List, Ok, Err, Vec, Global, map, sym, ap, subst, ◌∙◌}
 use Rattle.std.specs.Prelude.{Option}
-use Rattle.std.specs.BTreeMap.{BTreeMap}
-use Rattle.desk_units.specs.declared.numbers.Cabin.{Cabin}
-use Rattle.desk_units.specs.declared.numbers.Leg.{Leg}
 use Rattle.desk_text.specs.Rows.{Gives}
 use Rattle.desk_data.specs.declared.row.Group.{Group}
 use Rattle.desk_data.specs.declared.row.Row.{Row}
 use Rattle.desk_data.specs.PlanRows.{PlanRows}
 use Rattle.desk_data.specs.Situation.{Situation}
 use Rattle.sol_join.specs.Legs.{rows_stated, all_rows}
-use Rattle.sol_join.specs.Groups.{passengers_stated, groups_in, all_groups}
-use Rattle.sol_join.specs.Parties.{parties_in}
+use Rattle.sol_join.specs.Groups.{Passengers, passengers_stated, groups_in, all_groups}
 use Rattle.sol_join.proofs.SolutionLemmas.{legs_refused, groups_refused, both_stated}
 use Rattle.sol_join.proofs.solution.stated_by.Goals as goal
 
@@ -21,7 +17,7 @@ abbrev Stated : Type 0
 Stated = Vec (Option Row) Global
 
 abbrev Parties : Type 0
-Parties = Vec (BTreeMap (Vec (Leg × Cabin) Global) ℕ) Global
+Parties = Vec Passengers Global
 
 abbrev Groups : Type 0
 Groups = Vec (Vec Group Global) Global
@@ -41,18 +37,18 @@ pub returns-in-Err-passengers_stated : goal.returns-in-Err-passengers_stated
 returns-in-Err-passengers_stated c =
     let fault = c.in-Err-passengers_stated.fault in
     let stated : rows_stated c.args.inst.now c.args.legs.now ≡ Ok c.in-Ok.rows.items = sym (ap (λ (I : Situation). rows_stated I c.args.legs.now) c.requires) ∙ c.in-Ok.ensures in
-    let refused = subst (λ (I : Situation). Gives {Answer = Parties} (λ parties. parties_in parties.items) (Err fault) (passengers_stated I c.args.groups.now)) c.requires c.in-Err-passengers_stated.ensures in
-    rw c.in_file-in-Err-passengers_stated.ensures (groups_refused c.args.inst.now c.args.legs.now c.args.groups.now {A = Rows × Groups} {B = Parties} seen fault (λ parties. parties_in parties.items) c.in-Ok.rows.items stated refused)
+    let refused = subst (λ (I : Situation). Gives {Answer = Parties} (λ parties. parties.items) (Err fault) (passengers_stated I c.args.groups.now)) c.requires c.in-Err-passengers_stated.ensures in
+    rw c.in_file-in-Err-passengers_stated.ensures (groups_refused c.args.inst.now c.args.legs.now c.args.groups.now {A = Rows × Groups} {B = Parties} seen fault (λ parties. parties.items) c.in-Ok.rows.items stated refused)
 
 pub returns : goal.returns
 returns c =
     let I = c.args.inst.now in
     let parties = c.in-Ok-passengers_stated.parties in
     let stated : rows_stated I c.args.legs.now ≡ Ok c.in-Ok.rows.items = sym (ap (λ (I : Situation). rows_stated I c.args.legs.now) c.requires) ∙ c.in-Ok.ensures in
-    let passengers : passengers_stated I c.args.groups.now ≡ Ok (parties_in parties.items) = sym (ap (λ (I : Situation). passengers_stated I c.args.groups.now) c.requires) ∙ c.in-Ok-passengers_stated.ensures in
+    let passengers : passengers_stated I c.args.groups.now ≡ Ok parties.items = sym (ap (λ (I : Situation). passengers_stated I c.args.groups.now) c.requires) ∙ c.in-Ok-passengers_stated.ensures in
     let each : Gives {Answer = Rows} (λ rows. rows.items) c.all_rows-each_leg.result (all_rows c.in-Ok.rows.items) = subst (λ (stated : List (Option Row)). Gives (λ rows. rows.items) c.all_rows-each_leg.result (all_rows stated)) c.as_slice.ensures.value c.all_rows-each_leg.ensures in
-    let groups : lists c.in_ok-groups_of.field-0 ≡ map groups_in (parties_in parties.items) = c.in_ok-groups_of.ensures ∙ ap (λ ps. map groups_in (parties_in ps)) c.as_slice-2.ensures.value in
-    let whole : Gives {Answer = Groups} lists c.all_groups-each_party.result (all_groups I (map groups_in (parties_in parties.items))) =
+    let groups : lists c.in_ok-groups_of.field-0 ≡ map groups_in parties.items = c.in_ok-groups_of.ensures ∙ ap (λ ps. map groups_in ps) c.as_slice-2.ensures.value in
+    let whole : Gives {Answer = Groups} lists c.all_groups-each_party.result (all_groups I (map groups_in parties.items)) =
     subst (λ (of : List (List Group)). Gives lists c.all_groups-each_party.result (all_groups I of)) groups c.all_groups-each_party.ensures
     in
-    both_stated I c.args.legs.now c.args.groups.now (λ (rows : Rows). rows.items) lists c.in-Ok.rows.items (parties_in parties.items) stated passengers c.all_rows-each_leg.result c.all_groups-each_party.result c.both.result each whole c.both.ensures
+    both_stated I c.args.legs.now c.args.groups.now (λ (rows : Rows). rows.items) lists c.in-Ok.rows.items parties.items stated passengers c.all_rows-each_leg.result c.all_groups-each_party.result c.both.result each whole c.both.ensures
