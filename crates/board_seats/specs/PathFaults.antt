@@ -11,9 +11,10 @@ use Rattle.desk_data.specs.PlanRows.{PlanRows, row_at, groups_at}
 use Rattle.desk_data.specs.Paths.{leg_in, first_leg, last_leg, is_carried}
 use Rattle.desk_data.specs.Booked.{origin_of, dest_of, booked_departure, booked_arrival, haul_of}
 use Rattle.desk_rules.specs.Numbers.{each_below, implies}
-use Rattle.desk_rules.specs.Rotations.{departure, is_leg}
-use Rattle.desk_rules.specs.Passengers.{is_flown, share_plane, longest_delay}
+use Rattle.desk_rules.specs.Rotations.{departure}
+use Rattle.desk_rules.specs.Passengers.{is_flown, longest_delay}
 use Rattle.desk_rules.specs.Carriage.{is_good_path, is_in_time_path}
+use Rattle.plan_reads.specs.Connection.{goes_on}
 use Rattle.leg_users.specs.Users.{has_leg}
 use Rattle.board_seats.specs.declared.faults.PathFaults.{PathFaults}
 use Rattle.board_seats.specs.declared.judge.PathVerdict.{PathVerdict}
@@ -96,15 +97,6 @@ rows_of P path = map (λ pair. row_at P pair.0.0) path
 -- the rows of a path where leg x has another row
 abbrev pub rows_with : ℕ → Row → PlanRows → List (Leg × Cabin) → List Row
 rows_with x row P path = map (λ pair. if pair.0.0 == x then row else row_at P pair.0.0) path
-
--- the minutes that passengers need from leg x to leg y, given their rows, and whether they can go on
-abbrev pub time_between : Situation → ℕ → Row → ℕ → Row → ℕ
-time_between I x row y next = if is_leg x (leg_at I y).prev && share_plane row next then 0 else 30
-
-abbrev pub goes_on : Situation → ℕ → Row → ℕ → Row → Bool
-goes_on I x row y next =
-    ((leg_at I y).origin.0 == (leg_at I x).dest.0)
-    && nat_le (departure row + (leg_at I x).block + time_between I x row y next) (departure next)
 
 -- what C13 and C14 ask of a path
 abbrev pub connects_by : Situation → List (Leg × Cabin) → List Row → Bool

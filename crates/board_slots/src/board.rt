@@ -14,7 +14,7 @@ use crate::loads::Loads;
 use crate::slot::{SlotChange, SlotUse, is_same, slots_of};
 use board_kit::Board;
 use desk_data::{Airport, Broken, Group, Instance, Leg, NoMem, Res, Row, Steps};
-use hour_counts::{KnowsHours, Movement, Slot};
+use hour_counts::{Movement, Slot};
 use plan_pages::Pages;
 use plan_reads::ReadPlan;
 use std::alloc::Global;
@@ -139,34 +139,6 @@ impl SlotBoard {
         };
         let own = own_arrival(inst, leg, row, airport, hour);
         self.loads.scheduled_at(slot).saturating_sub(own)
-    }
-}
-
-impl KnowsHours for SlotBoard {
-    ghost use Rattle.board_slots.specs.Board.{IsSomeBoardOf};
-
-    ghost knows = { λ board I Q. IsSomeBoardOf I Q board };
-
-    fn departures_beside(
-        &self,
-        inst: &Instance,
-        leg: Leg,
-        row: Row,
-        airport: Airport,
-        hour: u32,
-    ) -> u32 {
-        SlotBoard::departures_beside(self, inst, leg, row, airport, hour)
-    }
-
-    fn arrivals_beside(
-        &self,
-        inst: &Instance,
-        leg: Leg,
-        row: Row,
-        airport: Airport,
-        hour: u32,
-    ) -> u32 {
-        SlotBoard::arrivals_beside(self, inst, leg, row, airport, hour)
     }
 }
 

@@ -77,7 +77,7 @@ pub(crate) fn places_of<'a, T: Keyed>(alloc: Global, rows: &'a [T]) -> Result<Na
     ensures { IfOk result (λ places. places ≡ map T.key_of rows.now) }
 {
     let mut places = NamePlaces {
-        keys: IndexSet::new(alloc),
+        keys: IndexSet::with_capacity(alloc, rows.len())?,
     };
     for row in rows {
         places.put(row.key())?;

@@ -4,7 +4,7 @@
 //! recorded batch and answers each recorded move in order, and writes the journal with its answers and the
 //! two files of the last plan to OUT. `recover IN OUT` takes the batches of the day and searches for a
 //! cheaper plan after each, until `--moves` moves are accepted, and writes the same files; with `--workers`
-//! so many threads search side by side, and with `--live` the batches arrive while they do. `check IN OUT`
+//! so many threads search side by side, and with `--live` the batches are taken while they do. `check IN OUT`
 //! judges the plan that two files of OUT give, under all the orders of the day in IN: the first rule that it
 //! breaks, and its cost. `gen OUT` makes up a day, by `--seed` and `--size`, and writes its files to OUT;
 //! `trial` makes up such a day in memory, recovers it and reports that alone.

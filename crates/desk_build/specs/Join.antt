@@ -8,7 +8,7 @@ use Rattle.desk_build.specs.declared.joining.Built.{Built}
 use Rattle.desk_build.specs.declared.fault.BuildFault.{BuildFault}
 use Rattle.desk_build.specs.declared.fault.BuildFault.TheVariants.{Refused, Memory}
 
--- the day before any batch, and the batches that may arrive on it
+-- the day before any batch, and the batches that may be taken on it
 abbrev pub made_of : Files → Built
 made_of x = record { inst = day_of x; batches = batches_of x }
 

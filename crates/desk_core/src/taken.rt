@@ -10,7 +10,7 @@ use desk_fallback::fallback;
 use desk_model::{Answer, Fallback};
 use std::alloc::Global;
 
-/// What the desk falls back on when a batch arrives.
+/// What the desk falls back on when a batch is taken.
 #[derive(Drop)]
 pub(crate) struct Taken {
     /// The instance with the batch's orders, and the plan; or where there is none, the rows that are

@@ -50,7 +50,7 @@ fresh_day parts = record { parts = parts; orders = []; progress = first_progress
 
 -- ---- a batch
 
--- the day with a batch: its orders come after those taken before. The plan that stands when it arrives decides nothing yet
+-- the day with a batch: its orders come after those taken before. The plan that stands when it is taken decides nothing yet
 abbrev pub with_batch : Situation → PlanRows → Batch → Situation
 with_batch I P B = record I { orders = I.orders ++ B.orders }
 

@@ -28,7 +28,7 @@ opening I = record { inst = I; plan = schedule I; broken = least I (schedule I) 
 
 -- ---- batches
 
--- what the desk falls back on when the batch arrives: it is made of the rows as they stand, on the day as it is then
+-- what the desk falls back on when the batch is taken: it is made of the rows as they stand, on the day as it is then
 unfoldable pub fallback_on : State → Batch → Fallback
 fallback_on S B = fallback (with_batch S.inst S.plan B) S.plan
 

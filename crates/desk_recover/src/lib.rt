@@ -1,4 +1,4 @@
-//! Recovering a day: its batches arrive one after another, after each the desk descends, and what came of it is
+//! Recovering a day: its batches are taken one after another, after each the desk descends, and what came of it is
 //! written.
 //!
 //! `recover_day` opens the book of a day, and for each batch has it taken and then descends, as long as a move

@@ -55,7 +55,7 @@ writes None = []
 writes (Some a) = files_written a.command
 
 -- what a command may ask for: a seed of at most nine digits and a size from 1 to 40; or a search with at most 64 workers and 1 to 100,000
--- accepted moves, where batches arrive live only beside a worker
+-- accepted moves, where batches are taken live only beside a worker
 abbrev pub IsCommand : Command → Type 0
 IsCommand command_is.Replay = Unit {0}
 IsCommand (command_is.Recover workers moves live) = (workers ≤ 64) × (1 ≤ moves) × (moves ≤ 100000) × (live ≡ true → 1 ≤ workers)

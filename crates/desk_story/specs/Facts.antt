@@ -41,7 +41,7 @@ pub record CanBeRun (s : InputStory) : Type 0 where
 abbrev pub as_recovery : InputRecovery → Recovery
 as_recovery r = record { day = r.inst; batches = r.batches; moves = r.moves }
 
--- the day is the one before any batch, and its batches can arrive on it
+-- the day is the one before any batch, and its batches can be taken on it
 pub record CanRecover (r : InputRecovery) : Type 0 where
   pub fresh : r.inst ≡ fresh_day r.inst.parts
   pub sound : IsRecoverable (as_recovery r)

@@ -181,7 +181,7 @@ story_of_rows rows = do
   events ← or_refused (in_file file.Journal) (events_of built rows.journal)
   Ok (record { day = built.inst; events = events })
 
--- to recover: the files are joined, and all batches arrive, with so many accepted moves at most after each
+-- to recover: the files are joined, and all batches are taken, with so many accepted moves at most after each
 unfoldable pub recovery_of_rows : ℕ → Rows → Result Recovery Refusal
 recovery_of_rows moves rows = do
   built ← or_refused not_joined (built_of rows.files)

@@ -24,7 +24,7 @@ use std::alloc::Global;
 pub struct InputRecovery {
     /// The joined day, before any batch.
     pub inst: Instance,
-    /// The batches that arrive on it in their order, 1 to 1,001.
+    /// The batches that are taken on it in their order, 1 to 1,001.
     pub batches: List<Batch>,
     /// How many moves may be accepted after each, 1 to 100,000.
     pub moves: u32,
@@ -37,7 +37,7 @@ fn days_are_valid(inst: &Instance)
     inst.parts();
 }
 
-/// Joins the rows to a day and the batches that arrive on it.
+/// Joins the rows to a day and the batches that are taken on it.
 #[tactic(auto, unfolding(crate::specs::Story::recovery_of_rows))]
 pub(crate) fn joined_recovery(
     alloc: Global,

@@ -29,7 +29,7 @@ pub enum InputTask {
     Play(InputStory),
     /// A day is to be recovered.
     Recover(InputRecovery),
-    /// A day is to be recovered by a team of 1 to 64 workers; the batches but the first arrive while they search
+    /// A day is to be recovered by a team of 1 to 64 workers; the batches but the first are taken while they search
     /// where it is live.
     Team {
         recovery: InputRecovery,

@@ -42,7 +42,7 @@ pub record Headline (before now : World) (s : Story) (h : List Entry) : Type 0 w
   -- it is the history of the events that were read, in their order, from the opening of the day that was read
   pub events : h ≡ run (opening s.day) s.events
   pub legal : IsLegal (opening s.day) h
-  -- whatever batches arrive between the proposals: each published plan meets all rules of the day under the orders taken by then,
+  -- whatever batches are taken between the proposals: each published plan meets all rules of the day under the orders taken by then,
   -- each stored cost is the cost of the rows under these, between two batches costs only fall, and a proposal to a published
   -- plan is accepted exactly where the moved plan is feasible and cheaper
   pub promises : KeepsPromises s.day h

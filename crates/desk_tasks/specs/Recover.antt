@@ -1,4 +1,4 @@
--- Recovering a day: its batches arrive one after another, after each the desk searches for a cheaper plan, and what that comes to is written.
+-- Recovering a day: its batches are taken one after another, after each the desk searches for a cheaper plan, and what that comes to is written.
 use Rattle.std.specs.Prelude.{◌≡◌, ◌↔◌, ℕ, true, false, List, [], Option, Some, None, IsSome}
 use Rattle.day_orders.specs.declared.orders.Batch.{Batch}
 use Rattle.desk_data.specs.Situation.{Situation}
@@ -11,7 +11,7 @@ use Rattle.near_moves.specs.declared.ended.SearchEnd.{SearchEnd}
 use Rattle.near_moves.specs.declared.ended.SearchEnd.TheVariants as ended
 use Rattle.desk_tasks.specs.Play.{search_remarks, history_outcome}
 
--- a day, the batches that arrive on it in order, and how many proposals may be accepted after each
+-- a day, the batches that are taken on it in order, and how many proposals may be accepted after each
 pub record Recovery : Type 0 where
   pub day : Situation
   pub batches : List Batch
@@ -20,7 +20,7 @@ pub record Recovery : Type 0 where
 abbrev pub recovery_on : Situation → List Batch → ℕ → Recovery
 recovery_on day batches moves = record { day = day; batches = batches; moves = moves }
 
--- its history: each batch arrives from caller 0, and a descent follows
+-- its history: each batch is taken from caller 0, and a descent follows
 unfoldable pub recovered_history : Recovery → List Entry
 recovered_history r = recovery r.moves (opening r.day) r.batches
 

@@ -67,7 +67,7 @@ files_for (generate seed size) = day_files
 abbrev pub IsRunnable : Story → Type 0
 IsRunnable s = AreAskable s.day s.events
 
--- the batches of a recovery, 1 to 1,001 of them, can arrive on its day
+-- the batches of a recovery, 1 to 1,001 of them, can be taken on its day
 pub record IsRecoverable (r : Recovery) : Type 0 where
   pub valid : IsValid r.day
   pub asked : All (IsBatch r.day.parts) r.batches

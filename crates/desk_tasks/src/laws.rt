@@ -15,7 +15,7 @@ pub fn played_stories_carry_the_headline()
         IsWritten before now (played story).texts → HasHeadline before now story }
 {}
 
-/// So does whoever has written all that a recovery comes to, whose batches can arrive on its day: after
+/// So does whoever has written all that a recovery comes to, whose batches can be taken on its day: after
 /// each batch stands exactly the descent, and the report says why the last one ended. Of a trial the
 /// report says the same, and nothing else is written.
 pub fn recoveries_carry_the_headline()

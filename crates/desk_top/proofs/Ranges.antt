@@ -61,7 +61,7 @@ if_range : (test : Bool) (o : Option Asking) → InRange o → InRange (if test 
 if_range true o h = h
 if_range false o h = tt
 
--- batches arrive live only beside a worker
+-- batches are taken live only beside a worker
 some_worker : (workers live : ℕ) → nat_lt workers live ≡ false → nat_lt 0 live ≡ true → 1 ≤ workers
 some_worker workers live few some = grind (arith, nat_tests)
 

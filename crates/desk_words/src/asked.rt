@@ -11,7 +11,7 @@ pub enum Command {
         workers: u32,
         /// after how many accepted moves since the last batch the search stops, 1 to 100,000
         moves: u32,
-        /// whether batches arrive while workers search; then there is at least 1
+        /// whether batches are taken while workers search; then there is at least 1
         live: bool,
     },
     /// to check the files of a plan

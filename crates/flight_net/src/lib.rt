@@ -6,10 +6,10 @@
 //!
 //! Legs are found by the airport that they leave and by departure: the first where passengers stand, no
 //! earlier than they may go, the second where the first arrives, no earlier than it does, and none that
-//! arrives too late. What is found is judged as a whole path, by the tests of plan_reads.
+//! arrives too late. What is found is judged as a whole path, by `is_fit_path` of plan_groups.
 //!
-//! Proved: the paths are `routes` of near_moves, in its order. It depends on `near_moves`, `plan_reads`
-//! and `plan_pages`.
+//! Proved: the paths are `routes` of near_moves, in its order. It depends on `near_moves`, `plan_reads`,
+//! `plan_groups` and `plan_pages`.
 #![tactic(auto)]
 
 mod doubles;

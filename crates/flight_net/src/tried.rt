@@ -4,14 +4,14 @@ ghost use Rattle.std.specs.Prelude.{◌≡◌, ◌<◌, ◌≤◌, ◌++◌, ◌
 ghost use Rattle.desk_data.specs.Booked.{booked_path};
 ghost use Rattle.desk_data.specs.Situation.{legs_of, reservations_of};
 ghost use Rattle.desk_data.specs.Valid.{IsPathOf, IsPlanFor};
-ghost use Rattle.desk_model.specs.Tidy.{is_fit_path};
 ghost use Rattle.near_moves.specs.Routes.{is_route, stem};
 ghost use Rattle.flight_net.specs.Tried.{others};
 
 use crate::start::stem;
 use desk_data::{Cabin, Instance, Leg, List, NoMem, Path, Res, same_path};
+use plan_groups::is_fit_path;
 use plan_pages::Pages;
-use plan_reads::{is_carried, is_good_path, is_in_time_path};
+use plan_reads::is_carried;
 use std::alloc::Global;
 
 /// Takes the scheduled path, where it is a route.
@@ -78,20 +78,5 @@ fn is_route(inst: &Instance, plan: &Pages, res: Res, path: &Path) -> bool
     ensures { result ≡ is_route inst.now plan.now res.0 path.now }
 {
     let pairs = path.as_slice();
-    is_carried(pairs) && (pairs.len() <= 8 && is_fit(inst, plan, res, path))
-}
-
-/// Whether a path that is not empty meets the three rules.
-#[tactic(auto, unfolding(desk_model::specs::Tidy::is_fit_path))]
-fn is_fit(inst: &Instance, plan: &Pages, res: Res, path: &Path) -> bool
-    requires plan { IsPlanFor inst.now plan.now }
-    requires res { res.0 < reservations_of inst.now }
-    requires path { IsPathOf (legs_of inst.now) path.now }
-    requires some { 1 ≤ length path.now }
-    ensures { result ≡ is_fit_path inst.now plan.now res.0 path.now }
-{
-    let pairs = path.as_slice();
-    is_good_path(inst, plan, res, pairs)
-        && is_in_time_path(inst, plan, res, pairs)
-        && inst.bound(res, plan.groups(res), path)
+    is_carried(pairs) && (pairs.len() <= 8 && is_fit_path(inst, plan, res, path))
 }

@@ -3,14 +3,14 @@
 ghost use Rattle.std.specs.Prelude.{◌≡◌, ◌<◌, ◌≤◌, ◌^◌, length, All};
 ghost use Rattle.desk_data.specs.Situation.{planes_of};
 ghost use Rattle.desk_data.specs.Valid.{IsPlanFor};
-ghost use Rattle.desk_rules.specs.Cost.{position_cost, is_wanted, same_seats, grains};
+ghost use Rattle.desk_rules.specs.Cost.{position_cost, is_wanted, grains};
 ghost use Rattle.full_cost.specs.Stands.{is_there, AreHere, count_of_wanted};
 
 use crate::stands::put_stands;
 use crate::weights::weight_of;
-use desk_data::{Airport, Grains, Instance, Leg, Plane, PlaneInfo, PositionInfo, Seats, Term};
+use desk_data::{Airport, Grains, Instance, Leg, Plane, PlaneInfo, PositionInfo, Term};
 use desk_units::per_item;
-use plan_reads::ReadPlan;
+use plan_reads::{ReadPlan, same_seats};
 
 /// The most aircraft that a day has.
 const PLANES: usize = 1_000;
@@ -146,10 +146,4 @@ fn is_wanted(position: &PositionInfo, plane: &PlaneInfo) -> bool
     ensures { result ≡ is_wanted position.now plane.now }
 {
     position.model.as_slice() == plane.model.as_slice() && same_seats(position.seats, plane.seats)
-}
-
-fn same_seats(seats: Seats, other: Seats) -> bool
-    ensures { result ≡ same_seats seats other }
-{
-    seats.f == other.f && seats.b == other.b && seats.e == other.e
 }

@@ -1,14 +1,18 @@
--- Slots are distinct.
+-- Slots are distinct, and their order is the derived one.
 use Rattle.std.proofs.Common.{◌≡◌, ℕ, Bool, true, false, refl, ap, ◌∙◌, arith}
 use Rattle.std.specs.Prelude.{◌&&◌, ◌==◌}
 use Rattle.std.proofs.lemmas.Bool.{and_parts, eq-eqb}
 use Rattle.std.proofs.lemmas.Bool.Decides.{nat_tests}
+use Rattle.std.specs.Ordering.{nat_cmp, ordering_then}
+use Rattle.std.specs.declared.cmp.Ordering.{Ordering}
 use Rattle.hour_counts.specs.declared.slot.Slot.{Slot}
 use Rattle.hour_counts.specs.declared.slot.Movement.{Movement}
 use Rattle.hour_counts.specs.declared.slot.Movement.TheVariants.{Departure, Arrival}
 use Rattle.hour_counts.specs.contracts.slot.MovementPartialEq.TheImpl as movements
 use Rattle.hour_counts.specs.contracts.slot.SlotPartialEq.TheImpl as slots
-use Rattle.hour_counts.specs.Slots.{rank, is_slot}
+use Rattle.hour_counts.specs.contracts.slot.MovementOrd.TheImpl as movement_order
+use Rattle.hour_counts.specs.contracts.slot.SlotOrd.TheImpl as slot_order
+use Rattle.hour_counts.specs.Slots.{rank, is_slot, slot_cmp}
 
 movement_is : (m n : Movement) → movements.eq-value.it m n ≡ (rank m == rank n)
 movement_is Departure Departure = refl
@@ -20,13 +24,24 @@ movement_is Arrival Arrival = refl
 pub derived_is : (s t : Slot) → slots.eq-value.it s t ≡ is_slot s t
 derived_is s t = ap (λ (b : Bool). b && ((s.airport.0 == t.airport.0) && (s.hour == t.hour))) (movement_is s.movement t.movement)
 
-same_movement : (m n : Movement) → rank m ≡ rank n → m ≡ n
+movement_cmp_is : (m n : Movement) → (movement_order.ghosts).cmp m n ≡ nat_cmp (rank m) (rank n)
+movement_cmp_is Departure Departure = refl
+movement_cmp_is Departure Arrival = refl
+movement_cmp_is Arrival Departure = refl
+movement_cmp_is Arrival Arrival = refl
+
+-- the derived order is by movement, then by airport, then by hour
+pub derived_order : (s t : Slot) → (slot_order.ghosts).cmp s t ≡ slot_cmp s t
+derived_order s t =
+    ap (λ (o : Ordering). ordering_then o (ordering_then (nat_cmp s.airport.0 t.airport.0) (nat_cmp s.hour t.hour))) (movement_cmp_is s.movement t.movement)
+
+pub same_movement : (m n : Movement) → rank m ≡ rank n → m ≡ n
 same_movement Departure Departure e = refl
 same_movement Departure Arrival e = absurd (omega arith)
 same_movement Arrival Departure e = absurd (omega arith)
 same_movement Arrival Arrival e = refl
 
-same_number : (a b : ℕ) → (a == b) ≡ true → a ≡ b
+pub same_number : (a b : ℕ) → (a == b) ≡ true → a ≡ b
 same_number a b e = grind (arith, nat_tests)
 
 slot_of : Movement → ℕ → ℕ → Slot

@@ -4,7 +4,6 @@ ghost use Rattle.std.specs.Prelude.{◌≡◌, ◌<◌, IfOk, IfSome, OnOk};
 ghost use Rattle.desk_data.specs.PlanRows.{PlanRows, row_at, with_row};
 ghost use Rattle.desk_data.specs.Situation.{legs_of, planes_of};
 ghost use Rattle.desk_data.specs.Valid.{IsPlanFor, IsRowOf};
-ghost use Rattle.desk_model.specs.Push.{arrivals_beside, departures_beside};
 ghost use Rattle.hour_counts.specs.Counts.{AreCountsOf, among, arrival_of, counted_departure, departure_of};
 
 use crate::asked::KnowsHours;
@@ -63,40 +62,6 @@ impl HourCounts {
         self.arrivals.enter(arrival_of(inst, leg, new))?;
         self.arrivals.leave(arrival_of(inst, leg, was))
     }
-
-    /// How many legs depart from an airport in an hour, the leg itself, which has this row, left out.
-    pub fn departures_beside(
-        &self,
-        inst: &Instance,
-        leg: Leg,
-        row: Row,
-        airport: Airport,
-        hour: u32,
-    ) -> u32
-        requires leg { leg.0 < legs_of inst.now }
-        requires row { IsRowOf (planes_of inst.now) row }
-        ensures { (Q : PlanRows) → row_at Q leg.0 ≡ row → AreCountsOf inst.now Q self.now → result ≡ departures_beside inst.now Q leg.0 airport.0 hour }
-    {
-        let own = one_at(departure_of(inst, leg, row), airport, hour);
-        self.departures.at(airport.0, hour).saturating_sub(own)
-    }
-
-    /// How many legs arrive at an airport in an hour, the leg itself, which has this row, left out.
-    pub fn arrivals_beside(
-        &self,
-        inst: &Instance,
-        leg: Leg,
-        row: Row,
-        airport: Airport,
-        hour: u32,
-    ) -> u32
-        requires leg { leg.0 < legs_of inst.now }
-        requires row { IsRowOf (planes_of inst.now) row }
-        ensures { (Q : PlanRows) → row_at Q leg.0 ≡ row → AreCountsOf inst.now Q self.now → result ≡ arrivals_beside inst.now Q leg.0 airport.0 hour }
-    {
-        let own = one_at(arrival_of(inst, leg, row), airport, hour);
-        self.arrivals.at(airport.0, hour).saturating_sub(own)
-    }
 }
 
 impl KnowsHours for HourCounts {
@@ -112,7 +77,8 @@ impl KnowsHours for HourCounts {
         airport: Airport,
         hour: u32,
     ) -> u32 {
-        HourCounts::departures_beside(self, inst, leg, row, airport, hour)
+        let own = one_at(departure_of(inst, leg, row), airport, hour);
+        self.departures.at(airport.0, hour).saturating_sub(own)
     }
 
     fn arrivals_beside(
@@ -123,7 +89,8 @@ impl KnowsHours for HourCounts {
         airport: Airport,
         hour: u32,
     ) -> u32 {
-        HourCounts::arrivals_beside(self, inst, leg, row, airport, hour)
+        let own = one_at(arrival_of(inst, leg, row), airport, hour);
+        self.arrivals.at(airport.0, hour).saturating_sub(own)
     }
 }
 

@@ -62,7 +62,7 @@ descent_of (suc n) most S h = descent_of n most S (with_proposal S h (next_propo
 abbrev pub descent : ℕ → State → List Entry → List Entry
 descent most S h = descent_of most most S h
 
--- after a history the batches arrive in their order, each from caller 0 and followed by a descent
+-- after a history the batches are taken in their order, each from caller 0 and followed by a descent
 unfoldable pub recovery_after : ℕ → State → List Entry → List Batch → List Entry
 recovery_after most S h [] = h
 recovery_after most S h (B ∷ batches) = recovery_after most S (descent most S (h ++ entry_of (state S h) 0 (event.Batch B) ∷ [])) batches

@@ -50,6 +50,6 @@ pub record HasEnded (most : ℕ) (S : State) (h : List Entry) : Type 0 where
   pub few : accepted_since_batch h ≤ most
   pub quiet : (state S h).broken ≡ None → is_spent most h ≡ false → IsQuiet (state S h)
 
--- each batch of a history but one that is its first entry arrives where a descent has ended
+-- each batch of a history but one that is its first entry is taken where a descent has ended
 abbrev pub BatchesWait : ℕ → State → List Entry → Type 0
 BatchesWait most S h = (i : ℕ) (entry : Entry) → 0 < i → slice_get h i ≡ Some entry → is_batch entry.event ≡ true → HasEnded most S (take i h)

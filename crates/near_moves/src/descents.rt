@@ -49,7 +49,7 @@ pub fn a_descent_ends_quiet_or_spent()
 /// longer than there are batches.
 ///
 /// The recovery of some first batches stands at its beginning. After each batch it goes on by the descent from there, and
-/// this ends before the next batch arrives, and after the last: at most `most` were accepted since the batch, and there is
+/// this ends before the next batch is taken, and after the last: at most `most` were accepted since the batch, and there is
 /// nothing more to propose. So where there is a plan then and the history is not spent, no move near that plan is better.
 pub fn a_recovery_takes_the_batches_and_descends_after_each()
     ensures batches { (most : ℕ) (S : State) (batches : Items Batch) → batches_in (recovery most S batches) ≡ batches }

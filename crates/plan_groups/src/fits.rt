@@ -10,9 +10,10 @@ ghost use Rattle.desk_model.specs.Tidy.{is_fit_path, stays_carried};
 use desk_data::{Instance, Path, Res};
 use plan_reads::{ReadPlan, is_carried, is_good_path, is_in_time_path};
 
-/// Whether a path that is not empty meets the three rules for passengers of a reservation.
+/// Whether a path that is not empty meets C13, C14 and C15 for passengers of a reservation, beside its
+/// groups in the plan.
 #[tactic(auto, unfolding(desk_model::specs::Tidy::is_fit_path))]
-pub(crate) fn is_fit_path<P: ReadPlan>(inst: &Instance, plan: &P, res: Res, path: &Path) -> bool
+pub fn is_fit_path<P: ReadPlan>(inst: &Instance, plan: &P, res: Res, path: &Path) -> bool
     requires plan { IsPlanFor inst.now (P.plan_of plan.now) }
     requires res { res.0 < reservations_of inst.now }
     requires path { IsPathOf (legs_of inst.now) path.now }

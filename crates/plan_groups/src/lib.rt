@@ -3,6 +3,7 @@
 //!     groups_after_rebook(alloc, &inst, &plan, res, path, to, count)?    // from one path to another
 //!     groups_after_tidy(alloc, &inst, &plan, res)?                       // off the paths that break a rule
 //!     groups_after_refill(alloc, &inst, &plan, &seats, leg, res)?        // back to the scheduled path
+//!     is_fit_path(&inst, &plan, res, &path)                              // whether passengers may go on it
 //!
 //! Each call answers the groups that the step makes, or `None` where the reservation keeps those that it
 //! has; a Tidy takes memory only where groups change. A Tidy is `groups_after_tidy` of each reservation in
@@ -28,6 +29,7 @@ mod seats;
 mod tidy;
 
 pub use aboard::KnowsAboard;
+pub use fits::is_fit_path;
 pub use rebook::groups_after_rebook;
 pub use refill::groups_after_refill;
 pub use tidy::groups_after_tidy;

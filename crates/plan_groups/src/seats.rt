@@ -6,11 +6,10 @@ ghost use Rattle.desk_data.specs.Situation.{legs_of, planes_of};
 ghost use Rattle.desk_data.specs.Valid.{IsPathOf, IsPlanFor, IsRowOf};
 ghost use Rattle.desk_model.specs.Choices.{greatest_within};
 ghost use Rattle.desk_model.specs.Refill.{has_seats_for, seats_of};
-ghost use Rattle.desk_rules.specs.Passengers.{seats_in};
 
 use crate::aboard::KnowsAboard;
-use desk_data::{Cabin, Instance, Leg, Row, Seats};
-use plan_reads::ReadPlan;
+use desk_data::{Cabin, Instance, Leg, Row};
+use plan_reads::{ReadPlan, seats_in};
 
 /// The greatest number of passengers waiting for whom all legs of a path have seats left.
 pub(crate) fn fitting<P: ReadPlan, S: KnowsAboard>(
@@ -42,16 +41,5 @@ fn seats_of(inst: &Instance, row: Row, cabin: Cabin) -> u32
     match row {
         Row::Flown { plane, .. } => seats_in(inst.plane(plane).seats, cabin),
         Row::Cancelled => 0,
-    }
-}
-
-/// The seats of a cabin.
-fn seats_in(seats: Seats, cabin: Cabin) -> u32
-    ensures { result ≡ seats_in seats cabin }
-{
-    match cabin {
-        Cabin::F => seats.f,
-        Cabin::B => seats.b,
-        Cabin::E => seats.e,
     }
 }

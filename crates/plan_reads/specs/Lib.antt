@@ -2,3 +2,4 @@ pub mod Before
 pub mod Order
 pub mod Last
 pub mod AfterLeg
+pub mod Connection

@@ -1,9 +1,10 @@
 //! When the legs of a plan leave, and when they arrive.
 
 ghost use Rattle.std.specs.Prelude.{◌≡◌, ◌<◌, length};
+ghost use Rattle.desk_data.specs.PlanRows.{IsRow};
 ghost use Rattle.desk_data.specs.Situation.{legs_of};
 ghost use Rattle.desk_data.specs.Valid.{IsPlanFor};
-ghost use Rattle.desk_rules.specs.Rotations.{arr, dep};
+ghost use Rattle.desk_rules.specs.Rotations.{arr, dep, departure};
 
 use crate::reads::ReadPlan;
 use desk_data::{Instance, Leg, Row};
@@ -14,7 +15,15 @@ pub fn departure<P: ReadPlan>(plan: &P, leg: Leg) -> u32
     ensures departure { result ≡ dep (P.plan_of plan.now) leg.0 }
     ensures limit { result < 52500000 }
 {
-    match plan.read_row(leg) {
+    row_departure(plan.read_row(leg))
+}
+
+/// When a leg departs by its row, in minutes since 2000-01-01; 0 where it is cancelled.
+pub fn row_departure(row: Row) -> u32
+    ensures departure { result ≡ departure row }
+    ensures limit { IsRow row → result < 52500000 }
+{
+    match row {
         Row::Flown { dep, .. } => dep.0,
         Row::Cancelled => 0,
     }

@@ -7,9 +7,10 @@
 //!     let leaves = departure(&plan, leg);                // in minutes since 2000-01-01
 //!     is_good_path(&inst, &plan, res, path)              // whether a path keeps C13
 //!     c4_range(&inst, leg, row)                          // whether a leg with a row keeps C4
+//!     goes_on(&inst, leg, row, next, row_of_next)        // whether passengers can go on with another leg
 //!
 //! What a rule asks of one leg and its row stands here once, by the rule's number: whoever judges a leg,
-//! from scratch or as plans change, asks it with the row at hand.
+//! from scratch or as plans change, asks it with the row at hand. So does what C13 asks of two legs.
 //!
 //! Paths are read through `ReadPlan`, a small trait with a plan's rows and groups, so that whatever has
 //! these is read alike. The rules, the cost, and later steps and the search ask here.
@@ -30,19 +31,21 @@ mod reads;
 mod rotation_leg;
 mod row_rules;
 mod rules;
+mod seats;
 mod stand;
 
 pub use after_leg::{c5_location, c6_ground_time, ground_time, stand_after, with_departure};
-pub use connection::connects;
+pub use connection::{connects, goes_on};
 pub use last::{Moments, put_lasts};
 pub use laws::{
     the_last_leg_is_the_last_that_departs_before_a_moment, the_leg_before_a_leg_is_followed_by_it,
 };
-pub use legs::{arrival, departure};
+pub use legs::{arrival, departure, row_departure};
 pub use order::legs_before;
 pub use paths::{all_flown, has_leg, is_carried, is_flown};
 pub use reads::ReadPlan;
 pub use rotation_leg::RotationLeg;
 pub use row_rules::{c1_due, c2_in_time, c3_family, c4_range, c7_service, meets_span};
 pub use rules::{is_good_path, is_in_time_path, longest_delay};
+pub use seats::{same_seats, seats_in};
 pub use stand::stand_of;

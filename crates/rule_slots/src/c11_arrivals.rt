@@ -6,8 +6,8 @@ ghost use Rattle.desk_data.specs.Valid.{IsPlanFor};
 ghost use Rattle.desk_rules.specs.Least.{breaks, each_hour};
 
 use crate::overfull::first_overfull;
-use crate::slots::Movement;
 use desk_data::{Broken, Instance, NoMem, Plan};
+use hour_counts::Movement;
 use std::alloc::Global;
 
 /// The first airport and hour that break C11.

@@ -7,7 +7,7 @@
 //! linear in the legs.
 //!
 //! Proved: the answer is `least_slots` of desk_rules, which looks at every hour of a century. It depends on
-//! `desk_data` and `desk_rules`.
+//! `desk_data`, `desk_rules` and `hour_counts`, which says what a slot is.
 #![tactic(auto)]
 
 mod c10_departures;

@@ -4,25 +4,12 @@ ghost use Rattle.std.specs.Prelude.{◌≡◌, ◌<◌, IfOk, All};
 ghost use Rattle.std.specs.Option.{ForSome};
 ghost use Rattle.desk_data.specs.Situation.{legs_of};
 ghost use Rattle.desk_data.specs.Valid.{IsPlanFor};
-ghost use Rattle.rule_slots.specs.Taken.{slot_of, slots, IsSlot};
+ghost use Rattle.hour_counts.specs.Slots.{IsSlot};
+ghost use Rattle.rule_slots.specs.Taken.{slot_of, slots};
 
-use desk_data::{Airport, Instance, Leg, NoMem, Plan, Row};
+use desk_data::{Instance, Leg, NoMem, Plan, Row};
+use hour_counts::{Movement, Slot};
 use std::alloc::Global;
-
-/// What a leg does at an airport.
-#[derive(Clone, Copy)]
-pub(crate) enum Movement {
-    Departure,
-    Arrival,
-}
-
-/// An hour of an airport. Slots are ordered by airport, then by hour.
-#[derive(Clone, Copy, PartialEq, Eq, PartialOrd, Ord)]
-pub(crate) struct Slot {
-    pub airport: Airport,
-    /// A moment divided by 60, rounded down; below 875,048.
-    pub hour: u32,
-}
 
 /// The slots that the legs in the air take, by leg.
 pub(crate) fn taken_slots(
@@ -64,6 +51,7 @@ fn slot_of_leg(inst: &Instance, plan: &Plan, movement: Movement, leg: Leg) -> Op
         Movement::Arrival => (info.dest, dep.0 + info.block),
     };
     Some(Slot {
+        movement,
         airport,
         hour: at / 60,
     })

@@ -1,6 +1,7 @@
 use Rattle.std.proofs.Common.{◌≡◌}
 use Rattle.std.specs.List.{All}
-use Rattle.rule_slots.specs.Taken.{slots, IsSlot}
+use Rattle.hour_counts.specs.Slots.{IsSlot}
+use Rattle.rule_slots.specs.Taken.{slots}
 use Rattle.rule_slots.proofs.slots.taken_slots.Given as goal
 
 abbrev pub invariant-loop-x : goal.invariant-loop-x

@@ -2,7 +2,7 @@ use Rattle.std.proofs.Common.{rules, ◌≡◌, ℕ, ◌-◌, ap, ◌∙◌}
 use Rattle.std.specs.Prelude.{Option}
 use Rattle.hour_counts.specs.Counts.{Counted, among, count_at, departure_of}
 use Rattle.hour_counts.proofs.CountLaws.{departures_are}
-use Rattle.hour_counts.proofs.counts.HourCounts.departures_beside.Goals as goal
+use Rattle.hour_counts.proofs.counts.HourCountsKnowsHours.departures_beside.Goals as goal
 
 pub returns : goal.returns
 returns c = λ Q here are.
