@@ -10,13 +10,30 @@ use std::marker::Model;
 use std::rt::Files;
 
 /// The file `journal.bin` in a directory of the host. It is opened at the first call that needs it, made
-/// where it is missing, and stays open.
-#[derive(Drop)]
+/// where it is missing, and stays open; directories on the way to it are made too. At that call what an
+/// earlier run left of it, its name and the names of the directories that were made are brought to the
+/// device, and a later `sync` brings the bytes and the length of the file there (`fdatasync`).
+///
+/// That a crash then leaves what a read gave rests on the host: that its calls to sync answer only once the
+/// device has the bytes, that the device keeps what it has acknowledged when the power goes, and that no
+/// other program writes to the file meanwhile, another run of this one included.
 pub struct HostDisk<R: Files + Drop> {
     rt: R,
     directory: String,
     file: Option<R::File>,
     faults: u64,
+}
+
+/// Dropped in one call, so that a function that owns one proves it once, and not part by part.
+impl<R: Files + Drop> Drop for HostDisk<R> {
+    fn drop(self) {
+        let HostDisk {
+            rt: _,
+            directory: _,
+            file: _,
+            faults: _,
+        } = self;
+    }
 }
 
 impl<R: Files + Drop> Model for HostDisk<R> {

@@ -12,11 +12,11 @@
 //! What the host's disk does is taken on trust.
 #![tactic(auto)]
 
+mod changes;
 mod faults;
 mod host;
 mod host_file;
 mod memory;
-mod states;
 mod through;
 mod traits;
 

@@ -31,7 +31,7 @@ pub short-push : (ps : List (List ℕ)) (p : List ℕ) → AreShort ps → lengt
 short-push [] p all short = (short, tt)
 short-push (q ∷ ps) p all short = (all.0, short-push ps p all.1 short)
 
--- a payload with its length before it is shown from what follows
+-- a payload with its length before it and what follows it are known from both together
 pub framed_front : (p q a b : List ℕ) → length p < 2 ^ 32 → length q < 2 ^ 32 → framed p ++ a ≡ framed q ++ b → (p ≡ q) × (a ≡ b)
 framed_front p q a b p-short q-short same =
     let sizes : List ℕ → List ℕ = λ l. to_be_bytes w32 (length l) in

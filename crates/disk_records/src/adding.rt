@@ -1,5 +1,5 @@
 //! Adding records one behind another.
-ghost use Rattle.std.specs.Prelude.{◌≡◌, ℕ, ◌+◌, ◌^◌, ◌<◌, ◌≤◌, ◌++◌, List, None, Some, All, IfOk, IsErrOf, MatchOption, length, [], ◌∷◌};
+ghost use Rattle.std.specs.Prelude.{◌≡◌, ℕ, ◌+◌, ◌^◌, ◌<◌, ◌≤◌, ◌++◌, List, None, Some, All, IfOk, IsErrOf, length};
 ghost use Rattle.desk_folder.specs.Calls.{Rose};
 ghost use Rattle.desk_disk.specs.FileStates.{DiskSide};
 ghost use Rattle.desk_disk.specs.Crashes.{RunsTo};
@@ -30,19 +30,9 @@ pub fn append_all<D: Disk>(
     ensures unshown { D.shown disk.old ≡ None → D.shown disk.new ≡ None }
     ensures directory { D.directory disk.new ≡ D.directory disk.old }
 {
-    let Some((payload, others)) = first_and_others(payloads) else {
-        return Ok(tail);
-    };
-    let tail = append(alloc, disk, tail, payload.as_slice())?;
-    append_all(alloc, disk, tail, others)
-}
-
-// The first payload and the others, where there is one.
-fn first_and_others(payloads: &[Vec<u8>]) -> Option<(&Vec<u8>, &[Vec<u8>])>
-    ensures { MatchOption result (payloads.now ≡ []) (λ p. payloads.now ≡ p.0.now ∷ p.1.now) }
-{
-    match payloads {
-        [] => None,
-        [payload, others @ ..] => Some((payload, others)),
+    let mut tail = tail;
+    for payload in payloads {
+        tail = append(alloc, disk, tail, payload.as_slice())?;
     }
+    Ok(tail)
 }

@@ -27,3 +27,9 @@ pub fn a_stopped_append_keeps_what_was_acknowledged()
     ensures stopped { (ps qs : List (List ℕ)) (p c : List ℕ) (k : ℕ) → IsWithOrWithout ps p c → Opens qs k c → (qs ≡ ps) ⊎ (qs ≡ ps ++ p ∷ []) }
     ensures acknowledged { (ps qs : List (List ℕ)) (place k : ℕ) (h : FileState) (c : List ℕ) → IsAtRest ps place h → MayLeave h c → Opens qs k c → qs ≡ ps }
 {}
+
+/// Stopped at any moment of an append, a file is not damaged, if the payloads from before it, and the one that
+/// was being added behind them, may stand there.
+pub fn a_stopped_append_leaves_no_damage<R: PayloadReader>()
+    ensures { (rules : R.Rules) (ps qs : List (List ℕ)) (p c : List ℕ) (k : ℕ) → IsWithOrWithout ps p c → AreAccepted (R.accepts rules) [] (ps ++ p ∷ []) → IsDamagedAt (R.accepts rules) qs k c → ⊥ }
+{}
