@@ -1,8 +1,8 @@
 //! What calls did to a file in memory, one behind another.
 ghost use Rattle.std.specs.Prelude.{◌≡◌, ◌≤◌, ◌++◌, ◌∷◌, [], ◌+◌, ◌^◌, ◌-◌, ◌==◌, length, IsSome, OnOk, OnErr, min};
 ghost use Rattle.std.specs.List.{list_any};
-ghost use Rattle.desk_disk.specs.FileStates.{FileState, put_at, written as written_at};
-ghost use Rattle.desk_disk.specs.Memory.{side_after, standing};
+ghost use Rattle.desk_disk.specs.FileStates.{FileState, changed, put_at, written as written_at};
+ghost use Rattle.desk_disk.specs.Memory.{after_change, side_after, standing, state_after};
 
 use std::alloc::{AllocError, Global};
 
@@ -27,6 +27,7 @@ fn copy_over(bytes: &mut [u8], at: usize, new: &[u8])
 
 // Writes over what stands from a place on and past the end, and notes it as a write of `room` bytes. An
 // error changes nothing.
+#[tactic(auto, using(crate::proofs::ChangeLaws::put_in_parts, crate::proofs::ChangeLaws::side_pushed))]
 fn write_over(
     alloc: Global,
     bytes: &mut Vec<u8>,
@@ -93,8 +94,9 @@ pub(crate) fn write(
 }
 
 /// Notes a call that changes no byte. An error changes nothing.
+#[tactic(auto, using(crate::proofs::ChangeLaws::side_pushed))]
 pub(crate) fn note(changes: &mut Vec<Change>, change: Change) -> Result<(), AllocError>
-    ensures noted { OnOk result (changes.new.items ≡ changes.old.items ++ change ∷ []) }
+    ensures noted { OnOk result ((h : FileState) → side_after h changes.new.items ≡ changed (after_change (state_after h changes.old.items) change) (side_after h changes.old.items)) }
     ensures err { OnErr result (changes.new.items ≡ changes.old.items) }
 {
     changes.push(change)?;

@@ -122,7 +122,7 @@ fn answer(fails: bool, faults: &mut u64) -> Result<(), DiskFault>
 }
 
 impl Disk for MemDisk {
-    ghost use Rattle.std.specs.Prelude.{◌≡◌, ◌≤◌, ◌+◌, Some, IsOkUnless, IfOk, length as list_length, take, drop};
+    ghost use Rattle.std.specs.Prelude.{◌≡◌, ◌≤◌, ◌+◌, Some, IsErr, IsOkUnless, IfOk, length as list_length, take, drop};
     ghost use Rattle.std.specs.Bool.{MatchBool};
     ghost use Rattle.desk_disk.specs.declared.faults.DiskFault.TheVariants.{Memory};
     ghost use Rattle.desk_disk.specs.Calls.{Names, Stays, Syncs, Writes};
@@ -139,7 +139,7 @@ impl Disk for MemDisk {
         ensures names { Names (Some self.old.directory) (Some self.new.directory) output.now result }
         ensures counts { Counts self.old.faults self.new.faults result }
         ensures calls { self.new.calls ≡ disk_call self.old }
-        ensures fails { MatchBool (disk_fails self.old) (result ≡ Err Failed) (IsOkUnless result Memory) }
+        ensures fails { MatchBool (disk_fails self.old) (IsErr result) (IsOkUnless result Memory) }
     {
         let fails = is_to_fail(&mut self.calls, self.fail.as_slice());
         let directory = String::from_str(alloc, output)?;
@@ -155,6 +155,8 @@ impl Disk for MemDisk {
         ensures stays { Stays (Some self.old.side) (Some self.new.side) result }
         ensures directory { self.new.directory ≡ self.old.directory }
         ensures counts { Counts self.old.faults self.new.faults result }
+        ensures calls { self.new.calls ≡ disk_call self.old }
+        ensures fails { MatchBool (disk_fails self.old) (IsErr result) (IsOkUnless result Memory) }
     {
         let fails = is_to_fail(&mut self.calls, self.fail.as_slice());
         note(&mut self.changes, Change::Nothing)?;
@@ -162,7 +164,15 @@ impl Disk for MemDisk {
         Ok(bytes_of(self.begun.as_slice(), &self.written).len() as u64)
     }
 
-    fn read_at(&mut self, _alloc: Global, at: u64, into: &mut [u8]) -> Result<(), DiskFault> {
+    fn read_at(&mut self, _alloc: Global, at: u64, into: &mut [u8]) -> Result<(), DiskFault>
+        requires { at + list_length into.old ≤ list_length self.old.side.file.bytes }
+        ensures reads { IfOk result (λ _. into.new ≡ take (list_length into.old) (drop at self.old.side.file.bytes)) }
+        ensures stays { Stays (Some self.old.side) (Some self.new.side) result }
+        ensures directory { self.new.directory ≡ self.old.directory }
+        ensures counts { Counts self.old.faults self.new.faults result }
+        ensures calls { self.new.calls ≡ disk_call self.old }
+        ensures fails { MatchBool (disk_fails self.old) (IsErr result) (IsOkUnless result Memory) }
+    {
         let fails = is_to_fail(&mut self.calls, self.fail.as_slice());
         note(&mut self.changes, Change::Nothing)?;
         answer(fails, &mut self.faults)?;
@@ -174,7 +184,14 @@ impl Disk for MemDisk {
         Ok(())
     }
 
-    fn write_at(&mut self, alloc: Global, at: u64, bytes: &[u8]) -> Result<(), DiskFault> {
+    fn write_at(&mut self, alloc: Global, at: u64, bytes: &[u8]) -> Result<(), DiskFault>
+        requires { at ≤ list_length self.old.side.file.bytes }
+        ensures writes { Writes (Some self.old.side) (Some self.new.side) at bytes.now result }
+        ensures directory { self.new.directory ≡ self.old.directory }
+        ensures counts { Counts self.old.faults self.new.faults result }
+        ensures calls { self.new.calls ≡ disk_call self.old }
+        ensures fails { MatchBool (disk_fails self.old) (IsErr result) (IsOkUnless result Memory) }
+    {
         let fails = is_to_fail(&mut self.calls, self.fail.as_slice());
         let front = front_of(bytes, fails, self.torn);
         let begun = self.begun.as_slice();
@@ -190,7 +207,13 @@ impl Disk for MemDisk {
         answer(fails, &mut self.faults)
     }
 
-    fn sync(&mut self, _alloc: Global) -> Result<(), DiskFault> {
+    fn sync(&mut self, _alloc: Global) -> Result<(), DiskFault>
+        ensures syncs { Syncs (Some self.old.side) (Some self.new.side) result }
+        ensures directory { self.new.directory ≡ self.old.directory }
+        ensures counts { Counts self.old.faults self.new.faults result }
+        ensures calls { self.new.calls ≡ disk_call self.old }
+        ensures fails { MatchBool (disk_fails self.old) (IsErr result) (IsOkUnless result Memory) }
+    {
         let fails = is_to_fail(&mut self.calls, self.fail.as_slice());
         note(&mut self.changes, sync_unless(fails))?;
         answer(fails, &mut self.faults)

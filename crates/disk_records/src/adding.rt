@@ -32,7 +32,8 @@ pub fn append_all<D: Disk>(
 {
     let mut tail = tail;
     for payload in payloads {
-        tail = append(alloc, disk, tail, payload.as_slice())?;
+        let next = append(alloc, disk, tail, payload.as_slice())?;
+        tail = next;
     }
     Ok(tail)
 }

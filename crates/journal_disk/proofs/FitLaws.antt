@@ -1,5 +1,5 @@
 -- Moves that fit have a spelling.
-use Rattle.std.proofs.Common.{ℕ, ◌<◌, ◌≤◌, ◌^◌, List, [], ◌∷◌, length, arith}
+use Rattle.std.proofs.Common.{ℕ, ◌<◌, ◌≤◌, ◌^◌, List, [], ◌∷◌, length, refl, arith}
 use Rattle.std.specs.Prelude.{Option, Some, None, IfSome, All}
 use Rattle.std.specs.List.{AllByRecursion}
 use Rattle.std.specs.Option.{ForSome}
@@ -30,7 +30,7 @@ row_spelled planes (row.Flown plane dep) few fits = (omega (arith, few, fits.0),
 
 after_spelled : (legs : ℕ) (after : Option Leg) → legs ≤ 20000 → ForSome after (λ leg. leg.0 < legs) → IfSome after (λ leg. IsNumber leg.0)
 after_spelled legs None few fits = tt
-after_spelled legs (Some leg) few fits = omega (arith, few, fits)
+after_spelled legs (Some leg) few fits = omega (arith, few, fits leg refl)
 
 path_spelled : (legs : ℕ) (path : List (Leg × Cabin)) → legs ≤ 20000 → IsPathIn legs path → IsPath path
 path_spelled legs path few fits =

@@ -1,8 +1,9 @@
 -- What may come next in a journal, by what a payload spells.
-use Rattle.std.proofs.Common.{◌≡◌, ℕ, ◌+◌, ◌<◌, ◌≤◌, ◌^◌, List, [], ◌∷◌, ◌++◌, length, get_or, refl, sym, ap, subst, ◌∙◌, arith, nat_tests}
-use Rattle.std.specs.Prelude.{Option, Some, None, IfNone, Bool, true, nat_lt}
+use Rattle.std.proofs.Common.{◌≡◌, ℕ, ◌+◌, ◌<◌, ◌≤◌, ◌^◌, List, [], ◌∷◌, ◌++◌, length, get_or, refl, sym, ap, subst, ◌∙◌, arith}
+use Rattle.std.specs.Prelude.{Option, Some, None, IfSome, Bool, true, nat_lt, cond}
+use Rattle.std.proofs.lemmas.Bool.Decides.{nat_tests}
 use Rattle.std.proofs.lemmas.Option.{slice_get_within, slice_get-get_or}
-use Rattle.std.proofs.lemmas.List.Sums.{count_by-le-length}
+use Rattle.std.proofs.lemmas.List.Sums.{count_by-le-length, sum_by-append}
 use Rattle.std.proofs.lemmas.List.{length-map, map-append}
 use Rattle.std.specs.declared.alloc.Global.{Global}
 use Rattle.std.specs.declared.vec.Vec.{Vec}
@@ -27,6 +28,9 @@ lt_true m n lt = grind (arith, nat_tests, lt)
 
 true_lt : (m n : ℕ) → nat_lt m n ≡ true → m < n
 true_lt m n is = grind (arith, nat_tests, is)
+
+pub at_some : {X : Type 0} (o : Option X) (x : X) (P : X → Type 0) → o ≡ Some x → IfSome o P → P x
+at_some o x P is h = subst (λ (q : Option _). IfSome q P) is h
 
 some_batch : Batch
 some_batch = record { at = None; orders = [] }
@@ -93,8 +97,28 @@ one_more I batches due entries (stored.Batch caller number) le fits next = omega
 one_more I batches due entries (stored.Move caller m) le fits next = omega (arith, fits)
 
 pub batches-push : (ps : List (List ℕ)) (p : List ℕ) → batches_in (ps ++ p ∷ []) ≡ batches_in ps + batches_in (p ∷ [])
-batches-push [] p = refl
-batches-push (q ∷ ps) p = omega (arith, batches-push ps p)
+batches-push ps p = sum_by-append (λ (q : List ℕ). cond (spells_batch q) 1 0) ps (p ∷ [])
 
-pub lists-push : (vs : List (Vec ℕ Global)) (v : Vec ℕ Global) → lists_of (vs ++ v ∷ []) ≡ lists_of vs ++ v.items ∷ []
-lists-push vs v = map-append (λ (q : Vec ℕ Global). q.items) vs (v ∷ [])
+pub lists_pushed : (vs : List (Vec ℕ Global)) (v : Vec ℕ Global) → lists_of (vs ++ v ∷ []) ≡ lists_of vs ++ v.items ∷ []
+lists_pushed vs v = map-append (λ (q : Vec ℕ Global). q.items) vs (v ∷ [])
+
+-- ---- of payloads that are kept
+
+kept_size : (vs : List (Vec ℕ Global)) (entries : ℕ) → entries ≡ length vs → entries ≡ length (lists_of vs)
+kept_size vs entries size = size ∙ sym (length-map vs (λ (q : Vec ℕ Global). q.items))
+
+pub few_kept : (vs : List (Vec ℕ Global)) (due entries : ℕ) → due ≡ batches_in (lists_of vs) → entries ≡ length vs → due ≤ entries
+few_kept vs due entries counted size = few_batches (lists_of vs) due entries counted (kept_size vs entries size)
+
+pub stands_kept : (I : Situation) (batches : List Batch) (due entries : ℕ) (vs : List (Vec ℕ Global)) (p : List ℕ) → due ≡ batches_in (lists_of vs) → entries ≡ length vs → MayCome I batches due entries p → MayStand I batches (lists_of vs) p
+stands_kept I batches due entries vs p counted size m = may_stand I batches due entries (lists_of vs) p counted (kept_size vs entries size) m
+
+pub never_kept : (I : Situation) (batches : List Batch) (due entries : ℕ) (vs : List (Vec ℕ Global)) (p : List ℕ) → due ≡ batches_in (lists_of vs) → entries ≡ length vs → (MayCome I batches due entries p → ⊥) → MayStand I batches (lists_of vs) p → ⊥
+never_kept I batches due entries vs p counted size never m = never (stands_may I batches due entries (lists_of vs) p counted (kept_size vs entries size) m)
+
+-- one payload more is kept
+pub counted_kept : (due : ℕ) (vs : List (Vec ℕ Global)) (v : Vec ℕ Global) (p : List ℕ) → due ≡ batches_in (lists_of vs) → v.items ≡ p → due + batches_in (p ∷ []) ≡ batches_in (lists_of (vs ++ v ∷ []))
+counted_kept due vs v p counted is =
+    let more : batches_in (lists_of (vs ++ v ∷ [])) ≡ batches_in (lists_of vs) + batches_in (v.items ∷ []) = ap batches_in (lists_pushed vs v) ∙ batches-push (lists_of vs) v.items in
+    let same : batches_in (v.items ∷ []) ≡ batches_in (p ∷ []) = ap (λ (l : List ℕ). batches_in (l ∷ [])) is in
+    omega (arith, counted, more, same)

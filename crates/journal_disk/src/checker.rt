@@ -33,11 +33,13 @@ impl PayloadReader for Checker<'_> {
 
     ghost accepts = { λ rules before p. MayStand rules.0 rules.1 before p };
 
+    #[tactic(auto, using(crate::proofs::NextLaws::few_kept, crate::proofs::NextLaws::stands_kept, crate::proofs::NextLaws::never_kept, crate::proofs::NextLaws::counted_kept, crate::proofs::NextLaws::one_more, crate::proofs::NextLaws::lists_pushed))]
     fn take(&mut self, alloc: Global, payload: &[u8]) -> Result<bool, AllocError> {
         let entries = self.payloads.len();
         match next_stored(alloc, self.inst, self.batches, self.due, entries, payload) {
             Ok(Some(stored)) => {
-                self.payloads.push(Vec::from_slice(alloc, payload)?)?;
+                let kept = Vec::from_slice(alloc, payload)?;
+                self.payloads.push(kept)?;
                 self.due += batches_of(&stored);
                 Ok(true)
             }
