@@ -15,7 +15,7 @@ use std::marker::Model;
 pub(crate) const MAX_PLACE: u64 = 1 << 62;
 
 /// The place of the byte 0 behind the last record of a file. A call that may write spends it.
-#[derive(Debug, Drop)]
+#[derive(Drop)]
 pub struct Tail {
     pub(crate) place: u64,
 }

@@ -1,3 +1,2 @@
 pub mod Payloads
-pub mod Reading
 pub mod Store
