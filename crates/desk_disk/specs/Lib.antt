@@ -1,0 +1,5 @@
+pub mod FileStates
+pub mod Calls
+pub mod Crashes
+pub mod Memory
+pub mod Host

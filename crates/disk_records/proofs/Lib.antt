@@ -1,0 +1,6 @@
+pub mod Spelled
+pub mod Unique
+pub mod Marks
+pub mod Opened
+pub mod Walked
+pub mod Storing

@@ -1,0 +1,23 @@
+//! The desk's journal on a disk: each entry is a record of one file.
+//!
+//!     let (tail, payloads) = open_records(alloc, &mut disk, &inst, batches)?;    // those of the file's records
+//!     let tail = append(alloc, &mut disk, tail, &entry, number)?;                // the entry is on the disk
+//!
+//! A payload spells who asked, and a batch by its number or a move (`move_bytes`); how records lie in the file
+//! is that of `disk_records`, and what a crash may leave that of `desk_disk`. Proved: whatever moment the disk
+//! crashes at, in a call or between two, the file opens as the records that it had before the call, or with
+//! that of the one entry more that the call adds; once `append` has answered Ok each crash leaves that entry;
+//! and a file is called damaged exactly where a record is none that may stand there. docs/FORMATS.md has the
+//! file byte by byte.
+#![tactic(auto)]
+
+mod add;
+mod checker;
+mod laws;
+mod next;
+mod records;
+
+pub use add::{append, event_payload};
+pub use disk_records::{AppendFault, OpenFault, Tail};
+pub use laws::an_entry_adds_its_payload;
+pub use records::open_records;
