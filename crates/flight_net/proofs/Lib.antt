@@ -2,5 +2,5 @@ mod SortedLaws
 mod FlightLaws
 mod SoughtLaws
 mod TriedLaws
-mod StartLaws
+pub mod StartLaws
 mod JoinLaws
