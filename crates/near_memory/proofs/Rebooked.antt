@@ -1,18 +1,16 @@
 -- A rebooking that is better at a later plan was better before, where nothing was touched that it hangs on.
-use Rattle.std.proofs.Common.{◌≡◌, ℕ, ◌+◌, ◌<◌, ◌≤◌, min, inl, inr, Bool, true, false, ◌&&◌, not, cond, ltb, List, [], ◌∷◌, ◌++◌, length, get_or, map, refl, sym, ap, subst, ◌∙◌, arith}
+use Rattle.std.proofs.Common.{◌≡◌, ℕ, ◌<◌, ◌≤◌, min, inl, inr, Bool, true, false, ◌&&◌, not, cond, ltb, List, [], ◌∷◌, length, get_or, map, refl, sym, ap, subst, ◌∙◌, arith}
 use Rattle.std.specs.Prelude.{Option, None, Some, filter, is_none, sum_by}
 use Rattle.std.specs.List.{All, Contains, flat_map, list_all}
 use Rattle.std.proofs.lemmas.Bool.{cases_Bool, cases_eq, true≢false, and_parts, and_from, ltb-true, lt-ltb}
 use Rattle.std.proofs.lemmas.List.Elements.{All-nil, All-contains}
 use Rattle.desk_units.specs.declared.numbers.Leg.{Leg}
 use Rattle.desk_units.specs.declared.numbers.Cabin.{Cabin}
-use Rattle.desk_units.specs.declared.numbers.Res.{Res}
-use Rattle.desk_data.specs.declared.broken.Broken.{Broken}
 use Rattle.desk_data.specs.declared.broken.Broken.TheVariants.{C1, C2, C3, C4, C5, C6, C7, C8, C9, C10, C11}
 use Rattle.desk_data.specs.declared.row.Group.{Group}
-use Rattle.desk_data.specs.Paths.{no_pair, is_carried}
+use Rattle.desk_data.specs.Paths.{no_pair}
 use Rattle.desk_data.specs.Situation.{Situation, legs_of, reservations_of, plane_at, bound}
-use Rattle.desk_data.specs.PlanRows.{PlanRows, row_at, groups_at, with_groups, same_path}
+use Rattle.desk_data.specs.PlanRows.{PlanRows, groups_at, with_groups, same_path}
 use Rattle.desk_data.specs.Valid.{IsValid, IsPlanFor}
 use Rattle.plan_moves.specs.declared.moves.Move.{Move}
 use Rattle.plan_moves.specs.declared.moves.Step.{Step}
@@ -23,13 +21,12 @@ use Rattle.desk_rules.specs.Slots.{keeps_c10, keeps_c11}
 use Rattle.desk_rules.specs.Least.{breaks, least, leg, plane, airport}
 use Rattle.desk_rules.specs.Cost.{cost}
 use Rattle.desk_rules.specs.Passengers.{aboard, aboard_of, seats_in, takes}
-use Rattle.desk_rules.specs.Words.{Flies, HasLeg, IsFlown, TakesThere, ArrivesInTime, MeetsC12, MeetsC13, MeetsC14, MeetsC15, IsFeasible}
+use Rattle.desk_rules.specs.Words.{IsFlown, TakesThere, ArrivesInTime, MeetsC12, MeetsC13, MeetsC14, MeetsC15, IsFeasible}
 use Rattle.desk_rules.proofs.BookedLaws.{takes-holds}
 use Rattle.desk_rules.proofs.LeastLaws.{feasible-holds, feasible-from}
 use Rattle.desk_rules.proofs.RulesLaws.{breaks-holds, breaks-from}
 use Rattle.desk_model.specs.Rebook.{count_on, passengers_on, groups_after_rebook, after_rebook}
 use Rattle.desk_model.specs.Steps.{after_step, after_move}
-use Rattle.desk_model.specs.Tidy.{IsFit}
 use Rattle.desk_model.proofs.GroupPlans.{with_groups-same, with_groups-other}
 use Rattle.desk_model.proofs.RebookLaws.{groups_after_rebook-adds}
 use Rattle.full_cost.specs.Amounts.{group_cost}
@@ -45,7 +42,7 @@ use Rattle.near_moves.proofs.AimLaws.{aims-hold, aims-each}
 use Rattle.near_moves.proofs.ListLaws.{contains_filter, filter_contains, contains_map, map_contains, contains_flat_map, flat_map_contains, All_from_contains}
 use Rattle.near_moves.proofs.RebookingLaws.{aims-within}
 use Rattle.near_moves.proofs.RouteLaws.{routes-has}
-use Rattle.near_memory.specs.Untouched.{HasSameRows, IsStill, IsUntouched, may_use}
+use Rattle.near_memory.specs.Untouched.{HasSameRows, IsStill, IsUntouched}
 use Rattle.near_memory.proofs.SameRows.{all_flown-to, there-same, late-same, HaveSameRows, groups-same, rebooked-same}
 use Rattle.near_memory.proofs.RouteLegs.{routes-legs}
 
@@ -114,16 +111,16 @@ module _ (I : Situation) (P Q : PlanRows) (r : ℕ) (groups : List Group) (own :
             let Holds : PlanRows → Group → Type 0 = λ T group. (group.path ≡ [] → ⊥) → All (λ pair. IsFlown T pair.0.0) group.path → ArrivesInTime I T s group.path in
             let was : All (Holds P) (groups_at P s) = feasible.c14 s lt in
             let now : All (Holds R) (groups_at P s) = λ k d within carried flown. (
-              let path = (get_or (groups_at P s) k d).path in
-              late-same I P R s path (some-of path carried) (all-same P r groups path) (was k d within carried (all_flown-to R P path (λ i e lt_i. refl) flown))) in
+            let path = (get_or (groups_at P s) k d).path in
+            late-same I P R s path (some-of path carried) (all-same P r groups path) (was k d within carried (all_flown-to R P path (λ i e lt_i. refl) flown))) in
             subst (All (Holds R)) (sym (with_groups-other P r s groups other)) now
         | inl is ↦
             let Holds : PlanRows → Group → Type 0 = λ T group. (group.path ≡ [] → ⊥) → All (λ pair. IsFlown T pair.0.0) group.path → ArrivesInTime I T r group.path in
             let at : All (Holds S) (groups_at S r) = would.c14 r (subst (λ (q : ℕ). q < reservations_of I) is lt) in
             let will : All (Holds S) groups = subst (All (Holds S)) later_groups at in
             let now : All (Holds R) groups = λ k d within carried flown. (
-              let path = (get_or groups k d).path in
-              late-same I S R r path (some-of path carried) (back k d within) (will k d within carried (all_flown-to R S path (λ i e lt_i. sym (back k d within i e lt_i)) flown))) in
+            let path = (get_or groups k d).path in
+            late-same I S R r path (some-of path carried) (back k d within) (will k d within carried (all_flown-to R S path (λ i e lt_i. sym (back k d within i e lt_i)) flown))) in
             subst (MeetsC14 I R) (sym is) (subst (All (Holds R)) (sym own_groups) now)
       ]
 
@@ -329,26 +326,26 @@ pub untouched-worse : (I : Situation) (P Q : PlanRows) (r : ℕ) (path : List (L
 untouched-worse I P Q r path valid plan later feasible on untouched worse =
     All_from_contains (λ (m : Move). is_better I Q m ≡ false) (unit_moves I Q (rebooked r path))
     (λ m has. (
-      let h = takes-holds-of I Q r path m has in
-      let lt = on.within in
-      let same = untouched.groups in
-      let own : HasSameRows P Q path = subst (HasSameRows P Q) on.on (All-contains (λ (group : Group). HasSameRows P Q group.path) (groups_at P r) on.group untouched.paths on.there) in
-      let still = aim-still I P Q r h.to valid lt untouched h.aim in
-      let rows : HasSameRows P Q h.to = λ k d within. sym (still k d within).row in
-      let first : TakesTo I P r path m = record {
-        to = h.to;
-        count = h.count;
-        aim = aim-first I P Q r h.to same rows (aims-hold I Q r h.to h.aim);
-        other = h.other;
-        portion = subst (λ (groups : List Group). Contains (portions (count_on path groups)) h.count) same h.portion;
-        in_time = h.in_time;
-        is = h.is;
-      } in
-      let no : is_better I P m ≡ false = All-contains (λ (n : Move). is_better I P n ≡ false) (unit_moves I P (rebooked r path)) m worse (takes-from-of I P r path m first) in
-      elim (cases_Bool (is_better I Q m)) [
-        | inr fails ↦ fails
-        | inl better ↦
-            let at : is_better I Q (aim_move r path h.to h.count) ≡ true = ap (is_better I Q) h.is ∙ better in
-            let was = better-first I P Q r path h.to h.count lt plan later feasible same untouched.paths own still at in
-            absurd (true≢false (sym was ∙ ap (is_better I P) h.is ∙ no))
-      ]))
+    let h = takes-holds-of I Q r path m has in
+    let lt = on.within in
+    let same = untouched.groups in
+    let own : HasSameRows P Q path = subst (HasSameRows P Q) on.on (All-contains (λ (group : Group). HasSameRows P Q group.path) (groups_at P r) on.group untouched.paths on.there) in
+    let still = aim-still I P Q r h.to valid lt untouched h.aim in
+    let rows : HasSameRows P Q h.to = λ k d within. sym (still k d within).row in
+    let first : TakesTo I P r path m = record {
+      to = h.to;
+      count = h.count;
+      aim = aim-first I P Q r h.to same rows (aims-hold I Q r h.to h.aim);
+      other = h.other;
+      portion = subst (λ (groups : List Group). Contains (portions (count_on path groups)) h.count) same h.portion;
+      in_time = h.in_time;
+      is = h.is;
+    } in
+    let no : is_better I P m ≡ false = All-contains (λ (n : Move). is_better I P n ≡ false) (unit_moves I P (rebooked r path)) m worse (takes-from-of I P r path m first) in
+    elim (cases_Bool (is_better I Q m)) [
+      | inr fails ↦ fails
+      | inl better ↦
+          let at : is_better I Q (aim_move r path h.to h.count) ≡ true = ap (is_better I Q) h.is ∙ better in
+          let was = better-first I P Q r path h.to h.count lt plan later feasible same untouched.paths own still at in
+          absurd (true≢false (sym was ∙ ap (is_better I P) h.is ∙ no))
+    ]))

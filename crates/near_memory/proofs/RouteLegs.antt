@@ -1,8 +1,8 @@
 -- The legs of routes.
-use Rattle.std.proofs.Common.{◌≡◌, ℕ, ◌+◌, ◌-◌, ◌<◌, ◌≤◌, ◌⊎◌, inl, inr, Bool, true, false, ◌&&◌, ◌||◌, ◌==◌, eqb, ltb, leb, List, [], ◌∷◌, ◌++◌, length, get_or, take, refl, sym, ap, subst, ◌∙◌, arith, append_assoc}
+use Rattle.std.proofs.Common.{◌≡◌, ℕ, ◌<◌, ◌≤◌, Bool, true, false, ◌&&◌, ◌||◌, eqb, ltb, leb, List, [], ◌∷◌, ◌++◌, refl, sym, ap, subst, ◌∙◌, arith, append_assoc}
 use Rattle.std.specs.Prelude.{filter}
-use Rattle.std.specs.List.{All, Contains, list_any}
-use Rattle.std.proofs.lemmas.Bool.{cases_Bool, and_from, eq-eqb, lt-ltb, le-leb}
+use Rattle.std.specs.List.{All, Contains}
+use Rattle.std.proofs.lemmas.Bool.{and_from, eq-eqb, lt-ltb, le-leb}
 use Rattle.std.proofs.lemmas.List.Elements.{All-nil, All-cons, All-append, All-take}
 use Rattle.desk_units.specs.declared.numbers.Leg.{Leg}
 use Rattle.desk_units.specs.declared.numbers.Cabin.{Cabin}
@@ -12,15 +12,15 @@ use Rattle.desk_data.specs.Paths.{last_leg}
 use Rattle.desk_data.specs.PlanRows.{PlanRows, row_at}
 use Rattle.desk_rules.specs.Numbers.{numbers}
 use Rattle.desk_rules.specs.Rotations.{dep, arr}
-use Rattle.desk_rules.specs.Passengers.{is_flown, arrival_of}
-use Rattle.desk_rules.specs.Words.{GoesOn, TakesThere}
+use Rattle.desk_rules.specs.Passengers.{is_flown}
+use Rattle.desk_rules.specs.Words.{TakesThere}
 use Rattle.near_moves.specs.MoveParts.{leg}
 use Rattle.near_moves.specs.Routes.{routes, stem, tried_paths, is_route}
-use Rattle.near_moves.specs.RouteWords.{IsRoute, IsTried, scheduled, begun_alone, one_more, two_more}
+use Rattle.near_moves.specs.RouteWords.{IsTried, scheduled, begun_alone, one_more, two_more}
 use Rattle.near_moves.proofs.ListLaws.{filter_contains, any_from, numbers_each, All_from_contains}
 use Rattle.near_moves.proofs.RouteLaws.{has-repeats, has-routes, is_route-fit}
 use Rattle.flight_net.specs.Start.{place_after, ready_after, due_before}
-use Rattle.flight_net.proofs.StartLaws.{IsTaken, fit-taken, Follows, first-follows, last-is, goes_on-time, leg-flown, leg-next}
+use Rattle.flight_net.proofs.StartLaws.{IsTaken, fit-taken, first-follows, last-is, goes_on-time, leg-flown, leg-next}
 use Rattle.near_memory.specs.Untouched.{is_on, goes_between, may_begin, may_end, is_in_time, may_use}
 
 or_left : (a b : Bool) → a ≡ true → (a || b) ≡ true
@@ -124,11 +124,11 @@ double-legs I Q r x y c lt_x lt_y taken =
     let flown_y = leg-flown I Q r (start ++ (leg x, c) ∷ []) [] (leg y, c) (subst (TakesThere I Q r) whole taken.there) in
     record {
       first = on-route I Q r x
-        (in_time I Q r x (leg-flown I Q r start ((leg y, c) ∷ []) (leg x, c) taken.there) early (omega (arith, soon, same, next)))
-        (begins-first I r x follows.place (goes I y (leg_at I x).dest.0 (dest_of I r) lt_y on.place arrives));
+          (in_time I Q r x (leg-flown I Q r start ((leg y, c) ∷ []) (leg x, c) taken.there) early (omega (arith, soon, same, next)))
+          (begins-first I r x follows.place (goes I y (leg_at I x).dest.0 (dest_of I r) lt_y on.place arrives));
       second = on-route I Q r y
-        (in_time I Q r y flown_y (omega (arith, early, next)) (omega (arith, soon, same)))
-        (ends-second I r y arrives (goes I x (place_after I r start) (leg_at I y).origin.0 lt_x follows.place (sym on.place)));
+          (in_time I Q r y flown_y (omega (arith, early, next)) (omega (arith, soon, same)))
+          (ends-second I r y arrives (goes I x (place_after I r start) (leg_at I y).origin.0 lt_x follows.place (sym on.place)));
     }
 
 route-legs : (I : Situation) (Q : PlanRows) (r : ℕ) (path : List (Leg × Cabin)) → IsTaken I Q r path → IsTried I r path → All (MayUse I Q r) path

@@ -1,25 +1,23 @@
 -- Paths whose legs have the same rows in two plans: they are as good, arrive as late and cost as much.
-use Rattle.std.proofs.Common.{◌≡◌, ℕ, ◌+◌, ◌-◌, ◌<◌, ◌≤◌, inl, inr, Bool, true, false, ◌&&◌, ◌==◌, cond, leb, List, [], ◌∷◌, ◌++◌, length, get_or, refl, sym, ap, subst, ◌∙◌, arith}
+use Rattle.std.proofs.Common.{◌≡◌, ℕ, ◌+◌, ◌-◌, ◌<◌, ◌≤◌, Bool, ◌&&◌, ◌==◌, cond, leb, List, [], ◌∷◌, ◌++◌, length, get_or, refl, sym, ap, subst, ◌∙◌, arith}
 use Rattle.std.specs.Prelude.{filter, sum_by, Option, Some, None}
-use Rattle.std.specs.List.{All, list_all}
-use Rattle.std.proofs.lemmas.Bool.{cases_Bool}
+use Rattle.std.specs.List.{All}
 use Rattle.std.proofs.lemmas.List.Elements.{All-head, All-tail, All-append, All-filter}
 use Rattle.std.proofs.lemmas.List.Sums.{sum_by-cons}
 use Rattle.desk_units.specs.declared.numbers.Leg.{Leg}
 use Rattle.desk_units.specs.declared.numbers.Cabin.{Cabin}
-use Rattle.desk_units.specs.declared.numbers.Haul.{Haul}
 use Rattle.desk_units.specs.declared.numbers.Minute.{Minute}
 use Rattle.desk_data.specs.declared.row.Row.{Row}
 use Rattle.desk_data.specs.declared.row.Group.{Group}
 use Rattle.desk_data.specs.Situation.{Situation, leg_at}
-use Rattle.desk_data.specs.Paths.{no_pair, leg_in, first_leg, last_leg}
+use Rattle.desk_data.specs.Paths.{no_pair, leg_in, last_leg}
 use Rattle.desk_data.specs.Booked.{booked_departure}
-use Rattle.desk_data.specs.PlanRows.{PlanRows, row_at, groups_at}
-use Rattle.desk_rules.specs.Rotations.{departure, arr, is_leg}
+use Rattle.desk_data.specs.PlanRows.{PlanRows, row_at}
+use Rattle.desk_rules.specs.Rotations.{departure, is_leg}
 use Rattle.desk_rules.specs.Passengers.{is_flown, all_flown, arrival_of, reaches, share_plane, connection_minutes}
 use Rattle.desk_rules.specs.Words.{IsFlown, TakesThere, GoesOn, ArrivesInTime}
 use Rattle.desk_rules.proofs.CarriageLaws.{reaches-holds, reaches-from}
-use Rattle.desk_model.specs.Rebook.{count_on, is_before, is_after, group_of, with_count, with_fewer, with_more, groups_after_rebook}
+use Rattle.desk_model.specs.Rebook.{count_on, is_before, is_after, group_of, with_count, with_fewer, groups_after_rebook}
 use Rattle.desk_model.proofs.RebookLaws.{one_group-all}
 use Rattle.full_cost.specs.Amounts.{group_cost, path_cost, path_end}
 use Rattle.full_cost.proofs.EndLaws.{ended_is}

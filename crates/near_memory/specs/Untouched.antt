@@ -40,7 +40,7 @@ is_in_time I Q r x = is_flown (row_at Q x) && (nat_le (ready_after I Q r (stem I
 unfoldable pub may_use : Situation → PlanRows → ℕ → ℕ → Bool
 may_use I Q r x = is_on (booked_path I r) x || (is_in_time I Q r x && (may_begin I r x || may_end I r x))
 
--- a leg has the same row, and in no cabin fewer passengers than it had
+-- leg x is still: it has the same row, and in no cabin fewer passengers than it had
 pub record IsStill (P Q : PlanRows) (x : ℕ) : Type 0 where
   pub row : row_at Q x ≡ row_at P x
   pub passengers : (c : Cabin) → aboard P x c ≤ aboard Q x c
@@ -49,7 +49,7 @@ pub record IsStill (P Q : PlanRows) (x : ℕ) : Type 0 where
 abbrev pub HasSameRows : PlanRows → PlanRows → List (Leg × Cabin) → Type 0
 HasSameRows P Q path = All (λ pair. row_at P pair.0.0 ≡ row_at Q pair.0.0) path
 
--- nothing changed that a rebooking of reservation r hangs on: its groups are the same, the legs of their paths have the same rows, and each leg that may be on a route of it stands still
+-- nothing changed that a rebooking of reservation r hangs on: its groups are the same, the legs of their paths have the same rows, and each leg that may be on a route of it is still
 pub record IsUntouched (I : Situation) (P Q : PlanRows) (r : ℕ) : Type 0 where
   pub groups : groups_at Q r ≡ groups_at P r
   pub paths : All (λ group. HasSameRows P Q group.path) (groups_at P r)
