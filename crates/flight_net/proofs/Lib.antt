@@ -4,3 +4,4 @@ mod SoughtLaws
 mod TriedLaws
 pub mod StartLaws
 mod JoinLaws
+mod OnwardLaws
