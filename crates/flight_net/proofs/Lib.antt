@@ -2,5 +2,6 @@ mod SortedLaws
 mod FlightLaws
 mod SoughtLaws
 mod TriedLaws
-mod StartLaws
+pub mod StartLaws
 mod JoinLaws
+mod OnwardLaws

@@ -72,11 +72,13 @@ wanted-within I P sought n f is h =
     let early = own.early in
     let soon = own.soon in
     let departs = is.departs in
-    and_from (eqb f.from.0 sought.from.0) (leb sought.earliest f.dep.0 && ltb f.dep.0 sought.until)
+    and_from (eqb f.from.0 sought.from.0) (goes_to f.to.0 sought.to && (leb sought.earliest f.dep.0 && ltb f.dep.0 sought.until))
     (eq-eqb f.from.0 sought.from.0 (is.from ∙ own.from))
+    (and_from (goes_to f.to.0 sought.to) (leb sought.earliest f.dep.0 && ltb f.dep.0 sought.until)
+    (ap (λ (airport : ℕ). goes_to airport sought.to) is.to ∙ own.to)
     (and_from (leb sought.earliest f.dep.0) (ltb f.dep.0 sought.until)
     (le-leb sought.earliest f.dep.0 (omega (arith, early, departs)))
-    (lt-ltb f.dep.0 sought.until (omega (arith, soon, departs))))
+    (lt-ltb f.dep.0 sought.until (omega (arith, soon, departs)))))
 
 not_wanted : (I : Situation) (P : PlanRows) (sought : Sought) (n : ℕ) (f : Flight) → IsFlight I P n f → is_within sought f ≡ false → wanted I P sought f ≡ false
 not_wanted I P sought n f is out =

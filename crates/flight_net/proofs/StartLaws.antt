@@ -28,11 +28,11 @@ use Rattle.flight_net.proofs.SoughtLaws.{sought-from}
 
 -- ---- what C13 and C14 say of a route
 
-record IsTaken (I : Situation) (P : PlanRows) (r : ℕ) (path : List (Leg × Cabin)) : Type 0 where
-  there : TakesThere I P r path
-  soon : arrival_of I P path < due_before I r
+pub record IsTaken (I : Situation) (P : PlanRows) (r : ℕ) (path : List (Leg × Cabin)) : Type 0 where
+  pub there : TakesThere I P r path
+  pub soon : arrival_of I P path < due_before I r
 
-fit-taken : (I : Situation) (P : PlanRows) (r : ℕ) (path : List (Leg × Cabin)) → is_fit_path I P r path ≡ true → IsTaken I P r path
+pub fit-taken : (I : Situation) (P : PlanRows) (r : ℕ) (path : List (Leg × Cabin)) → is_fit_path I P r path ≡ true → IsTaken I P r path
 unfolding is_fit_path is_in_time_path
 fit-taken I P r path h =
     let two = and_parts (is_good_path I P r path && is_in_time_path I P r path) (bound I r (groups_at P r) path) h in
@@ -53,7 +53,7 @@ leg_after start rest pair i is = ap (λ (p : Leg × Cabin). p.0.0) (get_or_at st
 leg_before : (start rest : List (Leg × Cabin)) (i : ℕ) → i < length start → leg_in (start ++ rest) i ≡ leg_in start i
 leg_before start rest i lt = ap (λ (p : Leg × Cabin). p.0.0) (get_or_append_left start rest no_pair i lt)
 
-last-is : (start : List (Leg × Cabin)) (pair : Leg × Cabin) → last_leg (start ++ pair ∷ []) ≡ pair.0.0
+pub last-is : (start : List (Leg × Cabin)) (pair : Leg × Cabin) → last_leg (start ++ pair ∷ []) ≡ pair.0.0
 last-is start pair =
     let n = length-append start (pair ∷ []) in
     leg_after start [] pair (length (start ++ pair ∷ []) - 1) (omega (arith, n))
@@ -65,7 +65,7 @@ leg-flown I P r start rest pair h =
     let own : IsFlown P pair.0.0 = subst (IsFlown P) (leg_after start rest pair (length start) refl) at in
     ap is_flown own.flown
 
-goes_on-time : (I : Situation) (P : PlanRows) (x y : ℕ) → GoesOn I P x y → arr I P x ≤ dep P y
+pub goes_on-time : (I : Situation) (P : PlanRows) (x y : ℕ) → GoesOn I P x y → arr I P x ≤ dep P y
 goes_on-time I P x y h =
     elim h.time [
       | inl later ↦ omega (arith, later)
@@ -86,11 +86,11 @@ leg-next I P r start rest a b h =
     subst (λ (y : ℕ). GoesOn I P a.0.0 y) second (subst (λ (x : ℕ). GoesOn I P x (leg_in path (i + 1))) first at)
 
 -- the first leg after what was begun
-record Follows (I : Situation) (P : PlanRows) (r : ℕ) (start : List (Leg × Cabin)) (x : ℕ) : Type 0 where
-  place : (leg_at I x).origin.0 ≡ place_after I r start
-  time : ready_after I P r start ≤ dep P x
+pub record Follows (I : Situation) (P : PlanRows) (r : ℕ) (start : List (Leg × Cabin)) (x : ℕ) : Type 0 where
+  pub place : (leg_at I x).origin.0 ≡ place_after I r start
+  pub time : ready_after I P r start ≤ dep P x
 
-first-follows : (I : Situation) (P : PlanRows) (r : ℕ) (start rest : List (Leg × Cabin)) (pair : Leg × Cabin) → TakesThere I P r (start ++ pair ∷ rest) → Follows I P r start pair.0.0
+pub first-follows : (I : Situation) (P : PlanRows) (r : ℕ) (start rest : List (Leg × Cabin)) (pair : Leg × Cabin) → TakesThere I P r (start ++ pair ∷ rest) → Follows I P r start pair.0.0
 first-follows I P r [] rest pair h = record { place = h.origin; time = h.departs }
 first-follows I P r (a ∷ start) rest pair h =
     let whole = a ∷ start in

@@ -2,3 +2,4 @@ pub mod Flights
 pub mod Sought
 pub mod Start
 pub mod Tried
+pub mod Onward

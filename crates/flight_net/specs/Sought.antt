@@ -22,13 +22,18 @@ is_sought I P sought x =
     && nat_le sought.earliest (dep P x)
     && nat_lt (arr I P x) sought.until
 
--- whether a flight stands before those that leave an airport from a minute on
-abbrev pub leaves_before : Flight → ℕ → ℕ → Bool
-leaves_before flight from at = nat_lt flight.from.0 from || ((flight.from.0 == from) && nat_lt flight.dep.0 at)
+-- whether of the flights from an airport one stands before those to the airport that is named that leave from a minute on; where none is named, so do all or none
+abbrev pub goes_before : ℕ → ℕ → Option Airport → ℕ → Bool → Bool
+goes_before dest dep None at all = all
+goes_before dest dep (Some airport) at all = nat_lt dest airport.0 || ((dest == airport.0) && nat_lt dep at)
 
--- whether a flight leaves the airport early enough and in time
+-- whether a flight stands before those from an airport
+abbrev pub leaves_before : Flight → ℕ → Option Airport → ℕ → Bool → Bool
+leaves_before flight from to at all = nat_lt flight.from.0 from || ((flight.from.0 == from) && goes_before flight.to.0 flight.dep.0 to at all)
+
+-- whether a flight leaves the airport for the one that is named, early enough and in time
 abbrev pub is_within : Sought → Flight → Bool
-is_within sought flight = (flight.from.0 == sought.from.0) && (nat_le sought.earliest flight.dep.0 && nat_lt flight.dep.0 sought.until)
+is_within sought flight = (flight.from.0 == sought.from.0) && (goes_to flight.to.0 sought.to && (nat_le sought.earliest flight.dep.0 && nat_lt flight.dep.0 sought.until))
 
 -- some flights in a row, such that no flight before them or after them does
 pub record IsWindow (sought : Sought) (flights part : List Flight) : Type 0 where

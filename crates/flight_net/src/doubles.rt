@@ -1,24 +1,26 @@
 //! Routes with two legs after what was begun, in one cabin.
 
-ghost use Rattle.std.specs.Prelude.{◌≡◌, ◌<◌, ◌++◌, OnOk, All, map};
-ghost use Rattle.desk_data.specs.Situation.{legs_of, reservations_of};
+ghost use Rattle.std.specs.Prelude.{◌≡◌, ◌<◌, ◌++◌, IfOk, OnOk, All, map};
+ghost use Rattle.desk_data.specs.Situation.{airports_of, legs_of, reservations_of};
 ghost use Rattle.desk_data.specs.Valid.{IsPlanFor};
 ghost use Rattle.desk_rules.specs.Numbers.{numbers};
 ghost use Rattle.near_moves.specs.Routes.{all_doubles, stem};
 ghost use Rattle.flight_net.specs.Flights.{IsNetOf};
+ghost use Rattle.flight_net.specs.Onward.{leads_on};
 ghost use Rattle.flight_net.specs.Tried.{others, doubles_in, doubles_of};
 
 use crate::flights::FlightNet;
 use crate::sought::Sought;
 use crate::start::{due_before, start_after, stem};
 use crate::tried::take_after;
-use desk_data::{Cabin, Instance, Leg, NoMem, Path, Res};
+use desk_data::{Airport, Cabin, Instance, Leg, NoMem, Path, Res};
 use plan_pages::Pages;
 use plan_reads::arrival;
 use std::alloc::Global;
 
 impl FlightNet {
-    /// Takes those with two legs, by the first of them, by cabin, and by the second.
+    /// Takes those with two legs, by the first of them, by cabin, and by the second. First legs from whose
+    /// destination none goes on are passed over.
     pub(crate) fn take_doubles(
         &self,
         alloc: Global,
@@ -39,11 +41,59 @@ impl FlightNet {
             earliest,
             until: due_before(inst, res),
         };
+        let onward = self.onward(alloc, inst, plan, &sought, inst.booked(res).dest)?;
         let legs = self.legs(alloc, inst, plan, &sought)?;
         for leg in &legs {
-            self.take_doubles_of(alloc, inst, plan, res, *leg, routes)?;
+            if onward[inst.leg(*leg).dest.0 as usize] {
+                self.take_doubles_of(alloc, inst, plan, res, *leg, routes)?;
+            }
         }
         Ok(())
+    }
+
+    /// For each airport whether a leg goes on from there to another in the time of what is sought.
+    fn onward(
+        &self,
+        alloc: Global,
+        inst: &Instance,
+        plan: &Pages,
+        sought: &Sought,
+        dest: Airport,
+    ) -> Result<Vec<bool>, NoMem>
+        requires plan { IsPlanFor inst.now plan.now }
+        requires net { IsNetOf inst.now plan.now self.now }
+        ensures { IfOk result (λ onward. onward.items ≡ map (leads_on inst.now plan.now sought.now dest) (numbers (airports_of inst.now))) }
+    {
+        let mut onward = Vec::with_capacity(alloc, inst.airports() as usize)?;
+        for a in 0..inst.airports() {
+            let leads = self.leads_on(alloc, inst, plan, sought, dest, Airport(a))?;
+            onward.push(leads)?;
+        }
+        Ok(onward)
+    }
+
+    /// Whether a leg goes from an airport to another in that time.
+    fn leads_on(
+        &self,
+        alloc: Global,
+        inst: &Instance,
+        plan: &Pages,
+        sought: &Sought,
+        dest: Airport,
+        from: Airport,
+    ) -> Result<bool, NoMem>
+        requires plan { IsPlanFor inst.now plan.now }
+        requires net { IsNetOf inst.now plan.now self.now }
+        ensures { IfOk result (λ leads. leads ≡ leads_on inst.now plan.now sought.now dest from.0) }
+    {
+        let next = Sought {
+            from,
+            to: Some(dest),
+            earliest: sought.earliest,
+            until: sought.until,
+        };
+        let legs = self.legs(alloc, inst, plan, &next)?;
+        Ok(0 < legs.len())
     }
 
     /// Takes those with a first leg, by cabin and second leg.

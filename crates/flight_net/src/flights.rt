@@ -1,4 +1,4 @@
-//! The flown legs, by the airport that they leave.
+//! The flown legs, by the airports between which they go.
 
 ghost use Rattle.std.specs.Prelude.{◌≡◌, ◌<◌, IfOk};
 ghost use Rattle.desk_data.specs.Situation.{legs_of};
@@ -10,10 +10,12 @@ use plan_pages::Pages;
 use std::alloc::Global;
 use std::marker::Model;
 
-/// A flown leg, as it is sorted: by the airport that it leaves, then by departure, then by leg.
+/// A flown leg, as it is sorted: by the airport that it leaves, then by that where it arrives, then by departure,
+/// then by leg.
 #[derive(Clone, Copy, PartialEq, Eq, PartialOrd, Ord)]
 pub struct Flight {
     pub from: Airport,
+    pub to: Airport,
     pub dep: Minute,
     pub leg: Leg,
 }
@@ -53,9 +55,10 @@ fn flown_flights(alloc: Global, inst: &Instance, plan: &Pages) -> Result<Vec<Fli
     let mut flights = Vec::with_capacity(alloc, inst.legs() as usize)?;
     for x in 0..inst.legs() {
         let leg = Leg(x);
-        let from = inst.leg(leg).origin;
+        let info = inst.leg(leg);
+        let (from, to) = (info.origin, info.dest);
         match plan.read_row(leg) {
-            Row::Flown { dep, .. } => flights.push(Flight { from, dep, leg })?,
+            Row::Flown { dep, .. } => flights.push(Flight { from, to, dep, leg })?,
             Row::Cancelled => {}
         }
     }

@@ -4,9 +4,9 @@
 //!     let paths = net.routes(alloc, &inst, &pages, res)?;     // the scheduled path first
 //!     let paths = routes(alloc, &inst, &pages, res)?;         // both at once
 //!
-//! Legs are found by the airport that they leave and by departure: the first where passengers stand, no
-//! earlier than they may go, the second where the first arrives, no earlier than it does, and none that
-//! arrives too late. What is found is judged as a whole path, by `is_fit_path` of plan_groups.
+//! Legs are found by the airports between which they go and by departure: the first where passengers stand, no
+//! earlier than they may go, the second from where the first arrives to where they want to go, no earlier than
+//! that arrives, and none that arrives too late. What is found is judged as a whole path, by `is_fit_path` of plan_groups.
 //!
 //! Proved: the paths are `routes` of near_moves, in its order. It depends on `near_moves`, `plan_reads`,
 //! `plan_groups` and `plan_pages`.

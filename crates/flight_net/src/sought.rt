@@ -6,10 +6,10 @@ ghost use Rattle.desk_data.specs.Situation.{legs_of};
 ghost use Rattle.desk_data.specs.Valid.{IsPlanFor};
 ghost use Rattle.desk_rules.specs.Numbers.{numbers};
 ghost use Rattle.flight_net.specs.Flights.{IsNetOf, flight_cmp};
-ghost use Rattle.flight_net.specs.Sought.{IsWindow, goes_to, is_sought, leaves_before};
+ghost use Rattle.flight_net.specs.Sought.{IsWindow, goes_before, goes_to, is_sought, leaves_before};
 
 use crate::flights::{Flight, FlightNet};
-use desk_data::{Airport, Instance, Leg, NoMem};
+use desk_data::{Airport, Instance, Leg, Minute, NoMem};
 use plan_pages::Pages;
 use plan_reads::{arrival, departure, is_flown};
 use std::alloc::Global;
@@ -43,27 +43,43 @@ impl FlightNet {
         Ok(legs)
     }
 
-    /// The flights from the airport that depart in time: those sought are among them.
+    /// The flights from the airport to the one that is named that depart in time, or all from the airport: those
+    /// sought are among them.
     fn window(&self, sought: &Sought) -> &[Flight]
         requires { IsSorted flight_cmp self.now }
         ensures { IsWindow sought.now self.now result.now }
     {
         let from = sought.from;
+        let to = sought.to;
         let earliest = sought.earliest;
         let until = sought.until;
         let flights = self.flights.as_slice();
-        let start = flights.partition_point(|flight| leaves_before(flight, from, earliest));
+        let start = flights.partition_point(|flight| leaves_before(
+            flight, from, to, earliest, false,
+        ));
         let rest = &flights[start..];
-        let end = rest.partition_point(|flight| leaves_before(flight, from, until));
+        let end = rest.partition_point(|flight| leaves_before(flight, from, to, until, true));
         &rest[..end]
     }
 }
 
-/// Whether a flight stands before those that leave an airport from a minute on.
-fn leaves_before(flight: &Flight, from: Airport, at: u32) -> bool
-    ensures { result ≡ leaves_before flight.now from.0 at }
+/// Whether a flight stands before those that leave an airport for another from a minute on. Where no other is
+/// named, all flights from the airport do, or none.
+fn leaves_before(flight: &Flight, from: Airport, to: Option<Airport>, at: u32, all: bool) -> bool
+    ensures { result ≡ leaves_before flight.now from.0 to at all }
 {
-    flight.from.0 < from.0 || (flight.from.0 == from.0 && flight.dep.0 < at)
+    flight.from.0 < from.0
+        || (flight.from.0 == from.0 && goes_before(flight.to, flight.dep, to, at, all))
+}
+
+/// The same of flights from one airport.
+fn goes_before(dest: Airport, dep: Minute, to: Option<Airport>, at: u32, all: bool) -> bool
+    ensures { result ≡ goes_before dest.0 dep.0 to at all }
+{
+    match to {
+        Some(airport) => dest.0 < airport.0 || (dest.0 == airport.0 && dep.0 < at),
+        None => all,
+    }
 }
 
 /// The legs among some flights that are sought.

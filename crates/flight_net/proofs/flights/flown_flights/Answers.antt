@@ -11,9 +11,9 @@ loop-x-preserved c =
     let x = c.loop-x.x in
     elim c.match-read_row.branch [
       | in-Flown+in_ok-push-in-Flown w ↦
-          let f : Flight = record { from = c.leg.result.now.origin; dep = w.in-Flown.dep; leg = record { 0 = x } } in
+          let f : Flight = record { from = c.leg-info.result.now.origin; to = c.leg-info.result.now.dest; dep = w.in-Flown.dep; leg = record { 0 = x } } in
           ap (λ v. v.items) w.flights-is ∙ w.in_ok-push-in-Flown.ensures.items
           ∙ ap (λ (fs : List Flight). fs ++ f ∷ []) c.loop-x.invariant
-          ∙ rw (c.leg.ensures.row) (sym (flights-flown I P x w.in-Flown.plane w.in-Flown.dep (sym w.in-Flown.ensures.row)))
+          ∙ rw (c.leg-info.ensures.row) (sym (flights-flown I P x w.in-Flown.plane w.in-Flown.dep (sym w.in-Flown.ensures.row)))
       | in-Cancelled w ↦ ap (λ v. v.items) w.flights-is ∙ c.loop-x.invariant ∙ sym (flights-off I P x (sym w.in-Cancelled.ensures.row))
     ]

@@ -1,0 +1,3 @@
+pub mod SameRows
+pub mod RouteLegs
+pub mod Rebooked

@@ -1,0 +1,149 @@
+-- The legs of routes.
+use Rattle.std.proofs.Common.{◌≡◌, ℕ, ◌<◌, ◌≤◌, Bool, true, false, ◌&&◌, ◌||◌, eqb, ltb, leb, List, [], ◌∷◌, ◌++◌, refl, sym, ap, subst, ◌∙◌, arith, append_assoc}
+use Rattle.std.specs.Prelude.{filter}
+use Rattle.std.specs.List.{All, Contains}
+use Rattle.std.proofs.lemmas.Bool.{and_from, eq-eqb, lt-ltb, le-leb}
+use Rattle.std.proofs.lemmas.List.Elements.{All-nil, All-cons, All-append, All-take}
+use Rattle.desk_units.specs.declared.numbers.Leg.{Leg}
+use Rattle.desk_units.specs.declared.numbers.Cabin.{Cabin}
+use Rattle.desk_data.specs.Situation.{Situation, legs_of, leg_at, begun}
+use Rattle.desk_data.specs.Booked.{booked_path, dest_of}
+use Rattle.desk_data.specs.Paths.{last_leg}
+use Rattle.desk_data.specs.PlanRows.{PlanRows, row_at}
+use Rattle.desk_rules.specs.Numbers.{numbers}
+use Rattle.desk_rules.specs.Rotations.{dep, arr}
+use Rattle.desk_rules.specs.Passengers.{is_flown}
+use Rattle.desk_rules.specs.Words.{TakesThere}
+use Rattle.near_moves.specs.MoveParts.{leg}
+use Rattle.near_moves.specs.Routes.{routes, stem, tried_paths, is_route}
+use Rattle.near_moves.specs.RouteWords.{IsTried, scheduled, begun_alone, one_more, two_more}
+use Rattle.near_moves.proofs.ListLaws.{filter_contains, any_from, numbers_each, All_from_contains}
+use Rattle.near_moves.proofs.RouteLaws.{has-repeats, has-routes, is_route-fit}
+use Rattle.flight_net.specs.Start.{place_after, ready_after, due_before}
+use Rattle.flight_net.proofs.StartLaws.{IsTaken, fit-taken, first-follows, last-is, goes_on-time, leg-flown, leg-next}
+use Rattle.near_memory.specs.Untouched.{is_on, goes_between, may_begin, may_end, is_in_time, may_use}
+
+or_left : (a b : Bool) → a ≡ true → (a || b) ≡ true
+or_left true b h = refl
+or_left false b h = absurd cc
+
+or_right : (a b : Bool) → b ≡ true → (a || b) ≡ true
+or_right true b h = refl
+or_right false b h = h
+
+-- what is taken of a route
+route-taken : (I : Situation) (Q : PlanRows) (r : ℕ) (path : List (Leg × Cabin)) → Contains (routes I Q r) path → IsTaken I Q r path
+unfolding routes
+route-taken I Q r path has =
+    fit-taken I Q r path (is_route-fit I Q r path (filter_contains (is_route I Q r) (tried_paths I r) path (has-repeats (filter (is_route I Q r) (tried_paths I r)) path has)).1)
+
+-- ---- each kind of leg
+
+on-scheduled : (I : Situation) (Q : PlanRows) (r x : ℕ) → is_on (booked_path I r) x ≡ true → may_use I Q r x ≡ true
+unfolding may_use
+on-scheduled I Q r x on = or_left (is_on (booked_path I r) x) (is_in_time I Q r x && (may_begin I r x || may_end I r x)) on
+
+on-route : (I : Situation) (Q : PlanRows) (r x : ℕ) → is_in_time I Q r x ≡ true → (may_begin I r x || may_end I r x) ≡ true → may_use I Q r x ≡ true
+unfolding may_use
+on-route I Q r x soon there =
+    or_right (is_on (booked_path I r) x) (is_in_time I Q r x && (may_begin I r x || may_end I r x)) (and_from (is_in_time I Q r x) (may_begin I r x || may_end I r x) soon there)
+
+in_time : (I : Situation) (Q : PlanRows) (r x : ℕ) → is_flown (row_at Q x) ≡ true → ready_after I Q r (stem I r) ≤ dep Q x → arr I Q x < due_before I r → is_in_time I Q r x ≡ true
+in_time I Q r x flown early soon =
+    and_from (is_flown (row_at Q x)) (leb (ready_after I Q r (stem I r)) (dep Q x) && ltb (arr I Q x) (due_before I r)) flown
+    (and_from (leb (ready_after I Q r (stem I r)) (dep Q x)) (ltb (arr I Q x) (due_before I r)) (le-leb (ready_after I Q r (stem I r)) (dep Q x) early) (lt-ltb (arr I Q x) (due_before I r) soon))
+
+goes : (I : Situation) (z from to : ℕ) → z < legs_of I → (leg_at I z).origin.0 ≡ from → (leg_at I z).dest.0 ≡ to → goes_between I from to ≡ true
+goes I z from to lt leaves arrives =
+    any_from (λ y. eqb (leg_at I y).origin.0 from && eqb (leg_at I y).dest.0 to) (numbers (legs_of I)) z (numbers_each (legs_of I) z lt)
+    (and_from (eqb (leg_at I z).origin.0 from) (eqb (leg_at I z).dest.0 to) (eq-eqb (leg_at I z).origin.0 from leaves) (eq-eqb (leg_at I z).dest.0 to arrives))
+
+begins-alone : (I : Situation) (r x : ℕ) → (leg_at I x).origin.0 ≡ place_after I r (stem I r) → (leg_at I x).dest.0 ≡ dest_of I r → (may_begin I r x || may_end I r x) ≡ true
+begins-alone I r x leaves arrives =
+    or_left (may_begin I r x) (may_end I r x)
+    (and_from (eqb (leg_at I x).origin.0 (place_after I r (stem I r))) (eqb (leg_at I x).dest.0 (dest_of I r) || goes_between I (leg_at I x).dest.0 (dest_of I r))
+    (eq-eqb (leg_at I x).origin.0 (place_after I r (stem I r)) leaves)
+    (or_left (eqb (leg_at I x).dest.0 (dest_of I r)) (goes_between I (leg_at I x).dest.0 (dest_of I r)) (eq-eqb (leg_at I x).dest.0 (dest_of I r) arrives)))
+
+begins-first : (I : Situation) (r x : ℕ) → (leg_at I x).origin.0 ≡ place_after I r (stem I r) → goes_between I (leg_at I x).dest.0 (dest_of I r) ≡ true → (may_begin I r x || may_end I r x) ≡ true
+begins-first I r x leaves on =
+    or_left (may_begin I r x) (may_end I r x)
+    (and_from (eqb (leg_at I x).origin.0 (place_after I r (stem I r))) (eqb (leg_at I x).dest.0 (dest_of I r) || goes_between I (leg_at I x).dest.0 (dest_of I r))
+    (eq-eqb (leg_at I x).origin.0 (place_after I r (stem I r)) leaves)
+    (or_right (eqb (leg_at I x).dest.0 (dest_of I r)) (goes_between I (leg_at I x).dest.0 (dest_of I r)) on))
+
+ends-second : (I : Situation) (r y : ℕ) → (leg_at I y).dest.0 ≡ dest_of I r → goes_between I (place_after I r (stem I r)) (leg_at I y).origin.0 ≡ true → (may_begin I r y || may_end I r y) ≡ true
+ends-second I r y arrives on =
+    or_right (may_begin I r y) (may_end I r y)
+    (and_from (eqb (leg_at I y).dest.0 (dest_of I r)) (goes_between I (place_after I r (stem I r)) (leg_at I y).origin.0) (eq-eqb (leg_at I y).dest.0 (dest_of I r) arrives) on)
+
+-- ---- each kind of route
+
+-- each leg may be used
+abbrev MayUse : Situation → PlanRows → ℕ → Leg × Cabin → Type 0
+MayUse I Q r pair = may_use I Q r pair.0.0 ≡ true
+
+scheduled-legs : (I : Situation) (Q : PlanRows) (r : ℕ) → All (MayUse I Q r) (booked_path I r)
+scheduled-legs I Q r =
+    All_from_contains (MayUse I Q r) (booked_path I r)
+    (λ pair has. on-scheduled I Q r pair.0.0 (any_from (λ (p : Leg × Cabin). eqb p.0.0 pair.0.0) (booked_path I r) pair has (eq-eqb pair.0.0 pair.0.0 refl)))
+
+stem-legs : (I : Situation) (Q : PlanRows) (r : ℕ) → All (MayUse I Q r) (stem I r)
+stem-legs I Q r = All-take (MayUse I Q r) (begun I r) (booked_path I r) (scheduled-legs I Q r)
+
+single-leg : (I : Situation) (Q : PlanRows) (r x : ℕ) (c : Cabin) → IsTaken I Q r (stem I r ++ (leg x, c) ∷ []) → may_use I Q r x ≡ true
+single-leg I Q r x c taken =
+    let start = stem I r in
+    let follows = first-follows I Q r start [] (leg x, c) taken.there in
+    let last = last-is start (leg x, c) in
+    let arrives : (leg_at I x).dest.0 ≡ dest_of I r = ap (λ (y : ℕ). (leg_at I y).dest.0) (sym last) ∙ taken.there.dest in
+    let soon = taken.soon in
+    let same : arr I Q (last_leg (start ++ (leg x, c) ∷ [])) ≡ arr I Q x = ap (arr I Q) last in
+    on-route I Q r x
+    (in_time I Q r x (leg-flown I Q r start [] (leg x, c) taken.there) follows.time (omega (arith, soon, same)))
+    (begins-alone I r x follows.place arrives)
+
+-- the two legs after what was begun
+record AreUsed (I : Situation) (Q : PlanRows) (r x y : ℕ) : Type 0 where
+  first : may_use I Q r x ≡ true
+  second : may_use I Q r y ≡ true
+
+double-legs : (I : Situation) (Q : PlanRows) (r x y : ℕ) (c : Cabin) → x < legs_of I → y < legs_of I → IsTaken I Q r (stem I r ++ (leg x, c) ∷ (leg y, c) ∷ []) → AreUsed I Q r x y
+double-legs I Q r x y c lt_x lt_y taken =
+    let start = stem I r in
+    let path = start ++ (leg x, c) ∷ (leg y, c) ∷ [] in
+    let follows = first-follows I Q r start ((leg y, c) ∷ []) (leg x, c) taken.there in
+    let on = leg-next I Q r start [] (leg x, c) (leg y, c) taken.there in
+    let next = goes_on-time I Q x y on in
+    let whole : path ≡ (start ++ (leg x, c) ∷ []) ++ (leg y, c) ∷ [] = sym (append_assoc start ((leg x, c) ∷ []) ((leg y, c) ∷ [])) in
+    let last : last_leg path ≡ y = ap last_leg whole ∙ last-is (start ++ (leg x, c) ∷ []) (leg y, c) in
+    let arrives : (leg_at I y).dest.0 ≡ dest_of I r = ap (λ (z : ℕ). (leg_at I z).dest.0) (sym last) ∙ taken.there.dest in
+    let soon = taken.soon in
+    let same : arr I Q (last_leg path) ≡ arr I Q y = ap (arr I Q) last in
+    let early = follows.time in
+    let flown_y = leg-flown I Q r (start ++ (leg x, c) ∷ []) [] (leg y, c) (subst (TakesThere I Q r) whole taken.there) in
+    record {
+      first = on-route I Q r x
+          (in_time I Q r x (leg-flown I Q r start ((leg y, c) ∷ []) (leg x, c) taken.there) early (omega (arith, soon, same, next)))
+          (begins-first I r x follows.place (goes I y (leg_at I x).dest.0 (dest_of I r) lt_y on.place arrives));
+      second = on-route I Q r y
+          (in_time I Q r y flown_y (omega (arith, early, next)) (omega (arith, soon, same)))
+          (ends-second I r y arrives (goes I x (place_after I r start) (leg_at I y).origin.0 lt_x follows.place (sym on.place)));
+    }
+
+route-legs : (I : Situation) (Q : PlanRows) (r : ℕ) (path : List (Leg × Cabin)) → IsTaken I Q r path → IsTried I r path → All (MayUse I Q r) path
+route-legs I Q r path taken (scheduled is) = subst (All (MayUse I Q r)) (sym is) (scheduled-legs I Q r)
+route-legs I Q r path taken (begun_alone is) = subst (All (MayUse I Q r)) (sym is) (stem-legs I Q r)
+route-legs I Q r path taken (one_more x c lt is) =
+    let own = single-leg I Q r x c (subst (IsTaken I Q r) is taken) in
+    subst (All (MayUse I Q r)) (sym is)
+    (All-append (MayUse I Q r) (stem I r) ((leg x, c) ∷ []) (stem-legs I Q r) (All-cons (MayUse I Q r) (leg x, c) [] own (All-nil (MayUse I Q r))))
+route-legs I Q r path taken (two_more x y c lt_x lt_y is) =
+    let own = double-legs I Q r x y c lt_x lt_y (subst (IsTaken I Q r) is taken) in
+    subst (All (MayUse I Q r)) (sym is)
+    (All-append (MayUse I Q r) (stem I r) ((leg x, c) ∷ (leg y, c) ∷ []) (stem-legs I Q r)
+    (All-cons (MayUse I Q r) (leg x, c) ((leg y, c) ∷ []) own.first (All-cons (MayUse I Q r) (leg y, c) [] own.second (All-nil (MayUse I Q r)))))
+
+-- each leg of a route may be on one
+pub routes-legs : (I : Situation) (Q : PlanRows) (r : ℕ) (path : List (Leg × Cabin)) → Contains (routes I Q r) path → All (λ pair. may_use I Q r pair.0.0 ≡ true) path
+routes-legs I Q r path has = route-legs I Q r path (route-taken I Q r path has) (has-routes I Q r path has).kind
