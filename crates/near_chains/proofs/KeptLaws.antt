@@ -23,7 +23,7 @@ use Rattle.plan_push.proofs.FlownLaws.{pushed-flies}
 use Rattle.near_moves.specs.Descent.{is_better}
 use Rattle.near_chains.specs.Chains.{keeps_aircraft}
 
-none_of : {X : Type 0} (o : Option X) → is_none o ≡ true → o ≡ None
+pub none_of : {X : Type 0} (o : Option X) → is_none o ≡ true → o ≡ None
 none_of None is = refl
 none_of (Some x) is = absurd (true≢false (sym is))
 
@@ -57,7 +57,7 @@ refilling-rows I x P r =
       | inr other ↦ rw other refl
     ]
 
-refilled-rows : (I : Situation) (x : ℕ) (P : PlanRows) (rs : List ℕ) → (fold (after_refilling I x) P rs).rows ≡ P.rows
+pub refilled-rows : (I : Situation) (x : ℕ) (P : PlanRows) (rs : List ℕ) → (fold (after_refilling I x) P rs).rows ≡ P.rows
 refilled-rows I x P [] = refl
 refilled-rows I x P (r ∷ rs) = refilled-rows I x (after_refilling I x P r) rs ∙ refilling-rows I x P r
 

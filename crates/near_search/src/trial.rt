@@ -12,6 +12,7 @@ use crate::ruled_out::ruled_out;
 use desk_data::NoMem;
 use desk_eval::Evaluator;
 use desk_moves::{apply, undo};
+use near_draft::is_known_worse;
 use plan_moves::Move;
 use std::alloc::Global;
 
@@ -41,7 +42,7 @@ pub(crate) fn first_of<M: MovesLeft>(
 }
 
 /// Whether a move makes the plan feasible and cheaper. It is tried on the evaluator, unless it is known not
-/// to. The evaluator stands where it stood, after an error too.
+/// to, by the plan or by a draft of its rows. The evaluator stands where it stood, after an error too.
 fn is_better(
     alloc: Global,
     eval: &mut Evaluator,
@@ -55,6 +56,9 @@ fn is_better(
     ensures eval { eval.new ≡ eval.old }
 {
     if ruled_out(eval, rotations, m) {
+        return Ok(false);
+    }
+    if is_known_worse(alloc, eval, m)? {
         return Ok(false);
     }
     let now = eval.cost();

@@ -1,0 +1,5 @@
+mod ChangeLaws
+mod HourLaws
+mod LegLaws
+mod RuleLaws
+mod KnownLaws

@@ -1,0 +1,14 @@
+use Rattle.std.proofs.Common.{◌<◌, List, sym, ap, subst}
+use Rattle.std.specs.List.{All}
+use Rattle.desk_data.specs.Situation.{Situation, legs_of}
+use Rattle.near_draft.specs.declared.change.Change.{Change}
+use Rattle.near_draft.specs.Drafts.{Drafted}
+use Rattle.near_draft.proofs.ChangeLaws.{changes-within}
+use Rattle.near_draft.proofs.draft.Draft.changes.Goals as goal
+
+pub returns-clause-within : goal.returns-clause-within
+returns-clause-within c =
+    let e = c.self.inside in
+    subst (λ (changes : List Change). All (λ (change : Change). change.leg.0 < legs_of c.args.self.now.inst) changes) (sym c.as_slice.ensures.value)
+    (subst (λ (I : Situation). All (λ (change : Change). change.leg.0 < legs_of I) e.changes.items) (ap (λ (D : Drafted). D.inst) c.self.view_is)
+    (changes-within e.eval.now.inst e.eval.now.rows e.changes.items c.self.invariant))

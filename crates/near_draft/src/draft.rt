@@ -1,0 +1,155 @@
+//! A draft: the plan of an evaluator with other rows, which the evaluator does not see.
+
+ghost use Rattle.std.specs.Prelude.{◌≡◌, ◌<◌, [], All, OnOk};
+ghost use Rattle.desk_data.specs.Situation.{legs_of, planes_of};
+ghost use Rattle.desk_data.specs.PlanRows.{row_at, with_row};
+ghost use Rattle.desk_data.specs.Valid.{IsPlanFor, IsRowOf};
+ghost use Rattle.near_draft.specs.Drafts.{plan_of};
+
+use crate::change::Change;
+use crate::hours::beside_after;
+use crate::rows::row_after;
+use desk_data::{Airport, Group, Instance, Leg, NoMem, Res, Row};
+use desk_eval::Evaluator;
+use hour_counts::{KnowsHours, Movement};
+use plan_reads::ReadPlan;
+use std::alloc::Global;
+use std::marker::Model;
+
+/// The plan of an evaluator with other rows of some legs, which the evaluator does not see. Contracts see it as the
+/// day, the evaluator's plan and the changes. It is read as a plan is, and knows the hours of its plan, each in a walk
+/// over the changes.
+pub(crate) struct Draft<'a> {
+    eval: &'a Evaluator,
+    changes: Vec<Change>,
+}
+
+/// Dropped in one call, so that a function that owns one proves it once, and not part by part.
+impl<'a> Drop for Draft<'a> {
+    fn drop(self) {
+        let Draft {
+            eval: _,
+            changes: _,
+        } = self;
+    }
+}
+
+impl<'a> Model for Draft<'a> {
+    ghost use Rattle.near_draft.specs.Drafts.{AreChanges, Drafted};
+
+    ghost Value = { Drafted };
+
+    ghost view = { λ d. record { inst = d.eval.now.inst; rows = d.eval.now.rows; changes = d.changes.items } };
+
+    ghost invariant = { λ d. AreChanges d.eval.now.inst d.eval.now.rows d.changes.items };
+}
+
+impl<'a> Draft<'a> {
+    /// A draft with no change.
+    pub(crate) fn of(alloc: Global, eval: &'a Evaluator) -> Draft<'a>
+        ensures { result ≡ record { inst = eval.now.inst; rows = eval.now.rows; changes = [] } }
+    {
+        Draft {
+            eval,
+            changes: Vec::new(alloc),
+        }
+    }
+
+    /// The evaluator over whose plan it is drafted.
+    pub(crate) fn eval(&self) -> &Evaluator
+        ensures inst { result.now.inst ≡ self.now.inst }
+        ensures rows { result.now.rows ≡ self.now.rows }
+        ensures plan { IsPlanFor self.now.inst (plan_of self.now) }
+    {
+        // the evaluator's plan is one for its day
+        let _ = self.eval.plan();
+        self.eval
+    }
+
+    /// The changes, the last one last.
+    pub(crate) fn changes(&self) -> &[Change]
+        ensures all { result.now ≡ self.now.changes }
+        ensures within { All (λ change. change.leg.0 < legs_of self.now.inst) result.now }
+    {
+        self.changes.as_slice()
+    }
+
+    /// The row of a leg.
+    pub(crate) fn row(&self, leg: Leg) -> Row
+        requires { leg.0 < legs_of self.now.inst }
+        ensures row { result ≡ row_at (plan_of self.now) leg.0 }
+        ensures fits { IsRowOf (planes_of self.now.inst) result }
+    {
+        row_after(self.eval, self.changes.as_slice(), leg)
+    }
+
+    /// Gives a leg a row, where it has another one. The only error is out of memory.
+    pub(crate) fn set_row(&mut self, leg: Leg, row: Row) -> Result<(), NoMem>
+        requires leg { leg.0 < legs_of self.old.inst }
+        requires row { IsRowOf (planes_of self.old.inst) row }
+        ensures plan { OnOk result (plan_of self.new ≡ with_row (plan_of self.old) leg.0 row) }
+        ensures inst { self.new.inst ≡ self.old.inst }
+        ensures rows { self.new.rows ≡ self.old.rows }
+    {
+        let was = row_after(self.eval, self.changes.as_slice(), leg);
+        if was != row {
+            self.changes.push(Change { leg, was, row })?;
+        }
+        Ok(())
+    }
+}
+
+impl<'a> ReadPlan for Draft<'a> {
+    ghost use Rattle.near_draft.specs.Drafts.{plan_of as plan_drafted};
+
+    ghost plan_of = { plan_drafted };
+
+    fn read_row(&self, leg: Leg) -> Row {
+        // there are as many rows as legs
+        let _ = self.eval.plan();
+        row_after(self.eval, self.changes.as_slice(), leg)
+    }
+
+    fn groups(&self, res: Res) -> &[Group] {
+        self.eval.plan().groups(res)
+    }
+}
+
+impl<'a> KnowsHours for Draft<'a> {
+    ghost use Rattle.std.specs.Prelude.{◌≡◌};
+    ghost use Rattle.near_draft.specs.Drafts.{plan_of};
+
+    ghost knows = { λ d I Q. (I ≡ d.inst) × (Q ≡ plan_of d) };
+
+    fn departures_beside(
+        &self,
+        _inst: &Instance,
+        leg: Leg,
+        _row: Row,
+        airport: Airport,
+        hour: u32,
+    ) -> u32 {
+        if leg.0 < self.eval.instance().legs() {
+            let changes = self.changes.as_slice();
+            beside_after(self.eval, changes, Movement::Departure, leg, airport, hour)
+        } else {
+            0
+        }
+    }
+
+    fn arrivals_beside(
+        &self,
+        _inst: &Instance,
+        leg: Leg,
+        _row: Row,
+        airport: Airport,
+        hour: u32,
+    ) -> u32 {
+        if leg.0 < self.eval.instance().legs() {
+            let changes = self.changes.as_slice();
+            beside_after(self.eval, changes, Movement::Arrival, leg, airport, hour)
+        } else {
+            0
+        }
+    }
+}
