@@ -3,7 +3,7 @@
 
 Usage: bench/changes.py [--runs 3] [OTHER ..]
 
-The desk's are those of the test of desk_top of a million changes: on the schedule of a day of size 40 each leg departs a minute later, the
+The desk's are those of the test of desk_tests of a million changes: on the schedule of a day of size 40 each leg departs a minute later, the
 cost and the first broken item are asked, and the change is taken back. The tests are run as `rt test` has built them. The test's time is of
 the whole of it: with the day that is made and read, the evaluator opened, and the first 960 changes judged from scratch besides. A second test
 does all that and no other changes; the difference is the time of the changes. OTHER is a command that prints a line with `N ns each` where it
@@ -20,7 +20,7 @@ import sys
 import time
 
 TOP = os.path.dirname(os.path.dirname(os.path.abspath(__file__)))
-TESTS = os.path.join(TOP, "crates", "desk_top", "out", "desk_top_tests")
+TESTS = os.path.join(TOP, "crates", "desk_tests", "out", "desk_tests_tests")
 TEST = "tests::changes::a_million_changes_are_answered_and_taken_back"
 BESIDES = "tests::changes::the_first_changes_are_judged_from_scratch"
 CHANGES = 1_000_000

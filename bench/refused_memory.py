@@ -16,8 +16,8 @@ import tempfile
 HERE = os.path.dirname(os.path.abspath(__file__))
 CRATES = os.path.join(os.path.dirname(HERE), "crates")
 PROGRAM = os.path.join(CRATES, "desk", "out", "desk")
-TESTS = os.path.join(CRATES, "desk_top", "out", "desk_top_tests")
-TEST = "tests::running_out_of_memory_gives_status_6_or_the_runs_own"
+TESTS = os.path.join(CRATES, "desk_tests", "out", "desk_tests_tests")
+TEST = "tests::memory::running_out_of_memory_gives_status_6_or_the_runs_own"
 DAY = os.path.join(os.path.dirname(HERE), "examples", "disrupted")
 ROTATIONS = "F1 01/03/08 P1\nF2 01/03/08 P1\nF3 01/03/08 P2\n"
 CHEAPER = "1,move,set F3 01/03/08 + P2 01/03/08 12:00 + P1 01/03/08 12:00\n"

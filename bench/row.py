@@ -6,7 +6,8 @@ Usage: bench/row.py [--second] NAME ..
 With --second the cases are played by the package bench/judge.
 
 Prints each transcript as it comes, and ends with 1 where one is not as it stands in the case. A run
-whose calls are to fail, or whose sink has little room, can't be made so: it is left out, with its answer.
+whose calls are to fail, whose sink has little room, or in which somebody waits at the gate, can't be made so: it is left out, with
+its answer.
 """
 import os
 import re
@@ -138,6 +139,18 @@ def given_below(lines, at):
     return "".join(line + "\n" for line in lines[at:end]).encode()
 
 
+def texts_given(told):
+    """The files that an answer says were written."""
+    texts, name = {}, None
+    for line in told.splitlines(keepends=True):
+        stem = line.rstrip(b":\n").decode(errors="replace")
+        if line.endswith(b":\n") and stem in FILES:
+            name, texts[stem] = stem, b""
+        elif name:
+            texts[name] += line
+    return texts
+
+
 def play(case, folder, run):
     """The transcript of a case as it comes."""
     lines = read(os.path.join(case, "transcript")).decode().splitlines()
@@ -146,13 +159,16 @@ def play(case, folder, run):
         if not line or line.startswith(("#", "$ ")):
             text += line.encode() + b"\n"
         if line.startswith("$ ./desk"):
-            by_hand = not any(words.startswith(("fail ", "room ")) for words in changes)
+            by_hand = not any(words.startswith(("fail ", "room ", "hold ")) for words in changes)
             if by_hand:
                 day = new_day(case, folder)
                 for words in changes:
                     change(day, before, words)
                 told, before = played(run, day, line[len("$ ./desk"):], "sizes" in changes)
-            text += told if by_hand else given_below(lines, at + 1)
+            else:
+                told = given_below(lines, at + 1)
+                before = texts_given(told)
+            text += told
             changes = []
         elif line.startswith("$ "):
             changes.append(line[2:])

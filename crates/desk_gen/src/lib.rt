@@ -18,8 +18,6 @@ mod fleet;
 mod itineraries;
 mod schedule;
 mod seats;
-#[cfg(test)]
-mod tests;
 mod texts;
 
 pub use desk_folder::File;

@@ -1,5 +1,6 @@
 //! The lines of a transcript.
 
+use crate::gate::Entrance;
 use desk_folder::{ALL_FILES, File};
 use std::alloc::{AllocError, Global};
 
@@ -29,6 +30,9 @@ pub(crate) enum Command<'a> {
     Fail(Call, u64),
     /// `room NUMBER`: the sink takes so many bytes, and then fails
     Room(u64),
+    /// `hold WORKER ROUND OTHER ROUND`: who enters the gate as WORKER in that round waits there until OTHER has entered it in
+    /// the other one; the desk enters as worker 0 before each live batch, with its number
+    Hold(Entrance, Entrance),
     /// `sizes`: of each file that the run writes its number of bytes is given, and not its text
     Sizes,
 }
@@ -86,6 +90,14 @@ fn fail_of(words: &str) -> Option<Command<'_>> {
     Some(Command::Fail(call_of(name)?, number.parse().ok()?))
 }
 
+fn hold_of(words: &str) -> Option<Command<'_>> {
+    let (worker, rest) = cut_word(words);
+    let (round, rest) = cut_word(rest);
+    let (other, other_round) = cut_word(rest);
+    let held = (worker.parse().ok()?, round.parse().ok()?);
+    Some(Command::Hold(held, (other.parse().ok()?, other_round.parse().ok()?)))
+}
+
 fn text_of(words: &str) -> Option<Command<'_>> {
     let (name, text) = cut_word(words);
     Some(Command::Text(file_of(name)?, text))
@@ -100,6 +112,7 @@ fn command_of(words: &str) -> Option<Command<'_>> {
         "take" => Some(Command::Take(file_of(rest)?)),
         "fail" => fail_of(rest),
         "room" => Some(Command::Room(rest.parse().ok()?)),
+        "hold" => hold_of(rest),
         "sizes" => Some(Command::Sizes),
         _ => None,
     }

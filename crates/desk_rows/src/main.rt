@@ -9,6 +9,7 @@
 #![tactic(auto)]
 
 mod cases;
+mod gate;
 mod lines;
 mod play;
 mod sink;

@@ -1,9 +1,10 @@
 //! Plays a transcript: runs the desk as its commands say, and puts what each run gave after them.
 
+use crate::gate::{Entrance, HoldingGate};
 use crate::lines::{Call, Command, Line, line_of, unescaped};
 use crate::sink::ReportSink;
 use crate::texts::{Texts, add_all, push_rows, text_of, written_texts};
-use desk_folder::{ALL_FILES, File, FreeGate, MemFolder};
+use desk_folder::{ALL_FILES, File, MemFolder};
 use desk_top::desk_main;
 use std::alloc::{AllocError, Global};
 use std::sync::Wait;
@@ -74,6 +75,8 @@ struct Player {
     /// the texts of the next run that are changed
     changed: Texts,
     faults: Faults,
+    /// who waits at the gate of the next run, and for whom
+    holds: Vec<(Entrance, Entrance)>,
     /// whether of each file that the next run writes its number of bytes is given, and not its text
     sizes: bool,
     /// what the run before wrote
@@ -90,6 +93,7 @@ impl Drop for Player {
             day: _,
             changed: _,
             faults: _,
+            holds: _,
             sizes: _,
             written: _,
             runs: _,
@@ -110,6 +114,7 @@ pub(crate) fn play<R: Threads + Wait + Sync>(
         day,
         changed: Vec::new(alloc),
         faults: no_faults(alloc),
+        holds: Vec::new(alloc),
         sizes: false,
         written: Vec::new(alloc),
         runs: 0,
@@ -142,6 +147,7 @@ impl Player {
             day: _,
             changed: _,
             faults: _,
+            holds: _,
             sizes: _,
             written: _,
             runs: _,
@@ -211,6 +217,10 @@ impl Player {
                 self.faults.room = room as usize;
                 Ok(())
             }
+            Command::Hold(held, other) => {
+                self.holds.push((held, other))?;
+                Ok(())
+            }
             Command::Sizes => {
                 self.sizes = true;
                 Ok(())
@@ -253,14 +263,19 @@ impl Player {
         add_all(&mut inputs, self.day.as_slice())?;
         let faults = std::mem::replace(&mut self.faults, no_faults(alloc));
         let (mut folder, mut sink) = faults.outside(alloc, inputs);
+        let holds = std::mem::replace(&mut self.holds, Vec::new(alloc));
+        let gate = HoldingGate::new(holds.as_slice());
         let status = desk_main(
             threads,
             alloc,
             words.as_slice(),
             &mut folder,
             &mut sink,
-            &FreeGate,
+            &gate,
         );
+        if !gate.all_came() {
+            self.push("not all came to the gate\n")?;
+        }
         self.runs = self.runs.saturating_add(1);
         self.tell(status, sink.bytes.as_slice(), &folder)
     }

@@ -8,17 +8,13 @@
 //! `run_plain` do the command, or `run_workers` where it asks for workers; these put the line that says why a run was
 //! not done.
 //!
-//! Its runs are in `desk_rows`, as files. The tests here are of what a file cannot say: each allocation
-//! of some runs is refused in turn, a million changes are made and taken back, and a larger trial is run
-//! twice. It depends on the crates of the commands; the program `desk` and
-//! `desk_rows` depend on it.
+//! Its runs are in `desk_rows`, as files, and what a file cannot say of them is in `desk_tests`. It depends on the
+//! crates of the commands; the program `desk`, `desk_rows` and `desk_tests` depend on it.
 #![tactic(auto)]
 
 mod day;
 mod desk;
 mod plain;
-#[cfg(test)]
-mod tests;
 mod workers;
 
 pub use desk::desk_main;

@@ -1,4 +1,4 @@
-//! Tests of the folder and of the sink: the host's own files, and each call once.
+//! Tests of the folder and of the sink: the host's own files, and what a folder and a sink in memory keep.
 
 use desk_folder::FolderFault::Failed;
 use desk_folder::{File, Folder, FolderFault, HostFolder, HostSink, MemFolder, MemSink, Sink};
@@ -8,11 +8,11 @@ use std::test::Fail;
 
 /// A call of a folder, and what it is to give.
 #[derive(Clone, Copy)]
-enum Call<'a> {
+enum Call {
     /// A read of a file into four bytes, and the bytes that it gives.
-    Next(File, Result<&'a str, FolderFault>),
+    Next(File, Result<&'static str, FolderFault>),
     /// A piece that is put to a file, and how many bytes of it are taken.
-    Put(File, &'a str, Result<usize, FolderFault>),
+    Put(File, &'static str, Result<usize, FolderFault>),
 }
 
 /// Whether a read into four bytes gives this.
@@ -30,7 +30,7 @@ fn gives<F: Folder>(
 }
 
 /// Whether a call gives what it is to give. No piece is empty.
-fn is_as_said<F: Folder>(alloc: Global, folder: &mut F, call: Call<'_>) -> bool {
+fn is_as_said<F: Folder>(alloc: Global, folder: &mut F, call: Call) -> bool {
     match call {
         Call::Next(file, want) => gives(alloc, folder, file, want),
         Call::Put(file, piece, want) => {
@@ -40,7 +40,7 @@ fn is_as_said<F: Folder>(alloc: Global, folder: &mut F, call: Call<'_>) -> bool 
 }
 
 /// The number of the first call that gives something else.
-fn first_other<F: Folder>(alloc: Global, folder: &mut F, calls: &[Call<'_>]) -> Option<usize> {
+fn first_other<F: Folder>(alloc: Global, folder: &mut F, calls: &[Call]) -> Option<usize> {
     for at in 0..calls.len() {
         if !is_as_said(alloc, folder, calls[at]) {
             return Some(at);
@@ -49,9 +49,22 @@ fn first_other<F: Folder>(alloc: Global, folder: &mut F, calls: &[Call<'_>]) -> 
     None
 }
 
-#[test]
-fn a_folder_in_memory_reads_the_first_entry_of_a_file(rt: HostRuntime) -> Result<(), Fail> {
-    let alloc = rt.alloc();
+/// Calls of a folder in memory with two texts of config.csv, of which the first counts, and one of feed.csv. Its second read
+/// fails, and its second put.
+const CALLS_IN_MEMORY: [Call; 9] = [
+    Call::Next(File::Config, Ok("abcd")),
+    Call::Next(File::Config, Err(Failed)),
+    Call::Next(File::Config, Ok("e")),
+    Call::Next(File::Config, Ok("")),
+    Call::Next(File::Flights, Ok("")),
+    Call::Next(File::Feed, Ok("1")),
+    Call::Put(File::Journal, "0,batch\n", Ok(8)),
+    Call::Put(File::SolRotations, "lost\n", Err(Failed)),
+    Call::Put(File::Journal, "0,move\n", Ok(7)),
+];
+
+/// Such a folder.
+fn folder_in_memory(alloc: Global) -> Result<MemFolder, Fail> {
     let mut inputs = Vec::new(alloc);
     for (file, text) in [
         (File::Config, "abcde"),
@@ -60,30 +73,17 @@ fn a_folder_in_memory_reads_the_first_entry_of_a_file(rt: HostRuntime) -> Result
     ] {
         inputs.push((file, Vec::from_slice(alloc, text.as_bytes())?))?;
     }
-    let mut folder = MemFolder::new(inputs, vec![in alloc; 2u64]?, Vec::new(alloc));
-    let calls = [
-        Call::Next(File::Config, Ok("abcd")),
-        Call::Next(File::Config, Err(Failed)),
-        Call::Next(File::Config, Ok("e")),
-        Call::Next(File::Config, Ok("")),
-        Call::Next(File::Flights, Ok("")),
-        Call::Next(File::Feed, Ok("1")),
-    ];
-    assert_eq!(rt; first_other(alloc, &mut folder, &calls), None);
-    Ok(())
+    Ok(MemFolder::new(inputs, vec![in alloc; 2u64]?, vec![in alloc; 2u64]?))
 }
 
 #[test]
-fn a_folder_in_memory_keeps_what_is_put(rt: HostRuntime) -> Result<(), Fail> {
+fn a_folder_in_memory_gives_its_texts_and_keeps_what_is_put(rt: HostRuntime) -> Result<(), Fail> {
     let alloc = rt.alloc();
-    let mut folder = MemFolder::new(Vec::new(alloc), Vec::new(alloc), vec![in alloc; 2u64]?);
-    folder.place(alloc, "in", "out")?;
-    let calls = [
-        Call::Put(File::Journal, "0,batch\n", Ok(8)),
-        Call::Put(File::SolRotations, "lost\n", Err(Failed)),
-        Call::Put(File::Journal, "0,move\n", Ok(7)),
-    ];
-    assert_eq!(rt; first_other(alloc, &mut folder, &calls), None);
+    let mut folder = folder_in_memory(alloc)?;
+    folder.fail_place();
+    assert_eq!(rt; folder.place(alloc, "in", "out"), Err(Failed));
+    assert_eq!(rt; folder.place(alloc, "in", "out"), Ok(()));
+    assert_eq!(rt; first_other(alloc, &mut folder, &CALLS_IN_MEMORY), None);
     let journal = folder.written(File::Journal);
     assert_eq!(rt; journal, b"0,batch\n0,move\n".as_slice());
     assert!(rt; folder.written(File::SolRotations).is_empty());
@@ -101,58 +101,95 @@ fn a_sink_keeps_what_is_put(rt: HostRuntime) -> Result<(), Fail> {
     Ok(())
 }
 
-#[test]
-fn a_folder_in_memory_fails_the_next_naming(rt: HostRuntime) -> Result<(), Fail> {
-    let alloc = rt.alloc();
-    let mut folder = MemFolder::new(Vec::new(alloc), Vec::new(alloc), Vec::new(alloc));
-    folder.fail_place();
-    assert_eq!(rt; folder.place(alloc, "in", "out"), Err(Failed));
-    assert_eq!(rt; folder.place(alloc, "in", "out"), Ok(()));
-    Ok(())
+/// What is done with files of the host, or is to be found there.
+#[derive(Clone, Copy)]
+enum Step {
+    /// A directory is made.
+    Make(&'static str),
+    /// A file has an old text.
+    Old(&'static str),
+    /// A new folder, whose input and output are these directories and whose outputs are three files, is called so, and then
+    /// these files are settled, with these answers.
+    Call(&'static str, &'static str, &'static [Call], &'static [(File, bool)]),
+    /// A file has this text, or there is none.
+    Has(&'static str, Option<&'static str>),
+    /// There is no such directory.
+    Lacks(&'static str),
+    /// A directory goes with all that is in it.
+    Remove(&'static str),
 }
 
-/// A folder of the host whose outputs are three files.
-fn folder_of(rt: HostRuntime, input: &str, output: &str) -> Result<HostFolder<HostRuntime>, Fail> {
-    let outputs = [File::SolRotations, File::SolItineraries, File::Journal];
-    let mut folder = HostFolder::new(rt, rt.alloc()).with_outputs(&outputs);
-    folder.place(rt.alloc(), input, output)?;
-    Ok(folder)
-}
-
-/// Asks such a folder, which is gone then, and settles each of these files, with this answer. The number of
-/// the first call that gives something else; those that settle come after the others.
-fn first_other_of_host(
+/// Asks such a folder, and whether it gives what it is to give.
+fn is_called(
     rt: HostRuntime,
-    between: (&str, &str),
-    calls: &[Call<'_>],
+    input: &str,
+    output: &str,
+    calls: &[Call],
     settles: &[(File, bool)],
-) -> Result<Option<usize>, Fail> {
+) -> bool {
     let alloc = rt.alloc();
-    let mut folder = folder_of(rt, between.0, between.1)?;
-    if let Some(other) = first_other(alloc, &mut folder, calls) {
-        return Ok(Some(other));
+    let outputs = [File::SolRotations, File::SolItineraries, File::Journal];
+    let mut folder = HostFolder::new(rt, alloc).with_outputs(&outputs);
+    if folder.place(alloc, input, output).is_err() {
+        return false;
+    }
+    if first_other(alloc, &mut folder, calls).is_some() {
+        return false;
     }
     for at in 0..settles.len() {
         let (file, is_settled) = settles[at];
         if folder.settle(alloc, file) != is_settled {
-            return Ok(Some(calls.len().saturating_add(at)));
+            return false;
         }
     }
-    Ok(None)
+    true
+}
+
+/// Whether a file has this text, or is not there.
+fn has_text(rt: &HostRuntime, path: &str, want: Option<&str>) -> bool {
+    match fs::read_to_string(rt, path) {
+        Ok(text) => Some(text.as_str()) == want,
+        Err(_) => want.is_none(),
+    }
+}
+
+/// Does a step, and whether all is as it is to be.
+fn is_done(rt: HostRuntime, step: Step) -> bool {
+    match step {
+        Step::Make(directory) => fs::create_dir_all(&rt, directory).is_ok(),
+        Step::Old(path) => fs::write(&rt, path, "old\n").is_ok(),
+        Step::Call(input, output, calls, settles) => is_called(rt, input, output, calls, settles),
+        Step::Has(path, want) => has_text(&rt, path, want),
+        Step::Lacks(directory) => fs::metadata(&rt, directory).is_err(),
+        Step::Remove(directory) => fs::remove_dir_all(&rt, directory).is_ok(),
+    }
+}
+
+/// The first step of some that does not go as it is to.
+fn first_undone(rt: HostRuntime, steps: &[Step]) -> Option<usize> {
+    for at in 0..steps.len() {
+        if !is_done(rt, steps[at]) {
+            return Some(at);
+        }
+    }
+    None
 }
 
 /// What a folder wrote in a directory of its input, which holds that of its output, is there to be read.
-const VISITS: [(&str, &[Call<'static>]); 4] = [
-    (
+const WRITTEN: [Step; 5] = [
+    Step::Call(
         "folder_of_a_test",
+        "folder_of_a_test/out",
         &[
             Call::Put(File::SolRotations, "a\n", Ok(2)),
             Call::Put(File::Journal, "b\n", Ok(2)),
             Call::Put(File::Journal, "c\n", Ok(2)),
         ],
+        &[],
     ),
-    (
+    Step::Call(
         "folder_of_a_test",
+        "folder_of_a_test/out",
         &[
             Call::Next(File::SolRotations, Ok("a\n")),
             Call::Next(File::SolRotations, Ok("")),
@@ -161,154 +198,143 @@ const VISITS: [(&str, &[Call<'static>]); 4] = [
             Call::Next(File::Feed, Ok("")),
             Call::Next(File::Journal, Ok("")),
         ],
+        &[],
     ),
-    (
+    Step::Call(
+        "folder_of_a_test/out",
         "folder_of_a_test/out",
         &[
             Call::Next(File::Journal, Ok("b\nc\n")),
             Call::Put(File::Journal, "d\n", Ok(2)),
         ],
+        &[],
     ),
-    (
+    Step::Call(
+        "folder_of_a_test/out",
         "folder_of_a_test/out",
         &[
             Call::Next(File::SolRotations, Ok("")),
             Call::Next(File::Journal, Ok("d\n")),
         ],
+        &[],
     ),
+    Step::Remove("folder_of_a_test"),
 ];
 
 #[test]
-fn the_host_reads_what_it_wrote(rt: HostRuntime) -> Result<(), Fail> {
-    for at in 0..VISITS.len() {
-        let (input, calls) = VISITS[at];
-        let other = first_other_of_host(rt, (input, "folder_of_a_test/out"), calls, &[])?;
-        assert_eq!(rt; other, None, "visit {at}");
-    }
-    fs::remove_dir_all(&rt, "folder_of_a_test")?;
-    Ok(())
+fn the_host_reads_what_it_wrote(rt: HostRuntime) {
+    assert_eq!(rt; first_undone(rt, &WRITTEN), None);
 }
 
-/// A directory of a test, with an old text in each of these files.
-fn old_files(rt: HostRuntime, directory: &str, paths: &[&str]) -> Result<(), Fail> {
-    fs::create_dir_all(&rt, directory)?;
-    for path in paths {
-        fs::write(&rt, *path, "old\n")?;
-    }
-    Ok(())
-}
-
-/// The number of the first file whose text is another, or that is there and has none. The directory is gone then.
-fn first_other_file(
-    rt: HostRuntime,
-    directory: &str,
-    files: &[(&str, Option<&str>)],
-) -> Result<Option<usize>, Fail> {
-    let mut other = None;
-    for at in 0..files.len() {
-        let (path, want) = files[at];
-        let text = fs::read_to_string(&rt, path).ok();
-        if text.as_deref() != want {
-            other = other.or(Some(at));
-        }
-    }
-    fs::remove_dir_all(&rt, directory)?;
-    Ok(other)
-}
+/// The first put empties what an earlier run left in the outputs, and in no other file.
+const EMPTIED_BY_PUT: [Step; 10] = [
+    Step::Make("emptied_by_put"),
+    Step::Old("emptied_by_put/sol_rotations.csv"),
+    Step::Old("emptied_by_put/journal.csv"),
+    Step::Old("emptied_by_put/position.csv"),
+    Step::Call(
+        "other",
+        "emptied_by_put",
+        &[Call::Put(File::SolRotations, "a\n", Ok(2))],
+        &[],
+    ),
+    Step::Has("emptied_by_put/sol_rotations.csv", Some("a\n")),
+    Step::Has("emptied_by_put/sol_itineraries.csv", None),
+    Step::Has("emptied_by_put/journal.csv", Some("")),
+    Step::Has("emptied_by_put/position.csv", Some("old\n")),
+    Step::Remove("emptied_by_put"),
+];
 
 #[test]
-fn the_first_put_empties_the_outputs_of_an_earlier_run(rt: HostRuntime) -> Result<(), Fail> {
-    let directory = "emptied_by_put";
-    let old = [
-        "emptied_by_put/sol_rotations.csv",
-        "emptied_by_put/journal.csv",
-        "emptied_by_put/position.csv",
-    ];
-    old_files(rt, directory, &old)?;
-    let calls = [Call::Put(File::SolRotations, "a\n", Ok(2))];
-    let other = first_other_of_host(rt, ("other", directory), &calls, &[])?;
-    assert_eq!(rt; other, None);
-    let after = [
-        ("emptied_by_put/sol_rotations.csv", Some("a\n")),
-        ("emptied_by_put/sol_itineraries.csv", None),
-        ("emptied_by_put/journal.csv", Some("")),
-        ("emptied_by_put/position.csv", Some("old\n")),
-    ];
-    assert_eq!(rt; first_other_file(rt, directory, &after)?, None);
-    Ok(())
+fn the_first_put_empties_the_outputs_of_an_earlier_run(rt: HostRuntime) {
+    assert_eq!(rt; first_undone(rt, &EMPTIED_BY_PUT), None);
 }
 
-#[test]
-fn a_run_that_writes_nothing_is_settled(rt: HostRuntime) -> Result<(), Fail> {
-    let directory = "emptied_at_the_end";
-    let old = [
-        "emptied_at_the_end/sol_rotations.csv",
-        "emptied_at_the_end/journal.csv",
-        "emptied_at_the_end/position.csv",
-    ];
-    old_files(rt, directory, &old)?;
-    let settles = [
-        (File::SolRotations, true),
-        (File::SolItineraries, true),
-        (File::Journal, true),
-        (File::Position, true),
-    ];
-    let other = first_other_of_host(rt, ("other", directory), &[], &settles)?;
-    assert_eq!(rt; other, None);
-    let after = [
-        ("emptied_at_the_end/sol_rotations.csv", Some("")),
-        ("emptied_at_the_end/sol_itineraries.csv", None),
-        ("emptied_at_the_end/journal.csv", Some("")),
-        ("emptied_at_the_end/position.csv", Some("old\n")),
-    ];
-    assert_eq!(rt; first_other_file(rt, directory, &after)?, None);
-    let other = first_other_of_host(rt, ("other", directory), &[], &[(File::SolRotations, true)])?;
-    assert_eq!(rt; other, None);
-    assert!(rt; fs::metadata(&rt, directory).is_err());
-    Ok(())
-}
+/// Where nothing is written, the end of the run empties them, and makes no directory.
+const EMPTIED_AT_THE_END: [Step; 12] = [
+    Step::Make("emptied_at_the_end"),
+    Step::Old("emptied_at_the_end/sol_rotations.csv"),
+    Step::Old("emptied_at_the_end/journal.csv"),
+    Step::Old("emptied_at_the_end/position.csv"),
+    Step::Call(
+        "other",
+        "emptied_at_the_end",
+        &[],
+        &[
+            (File::SolRotations, true),
+            (File::SolItineraries, true),
+            (File::Journal, true),
+            (File::Position, true),
+        ],
+    ),
+    Step::Has("emptied_at_the_end/sol_rotations.csv", Some("")),
+    Step::Has("emptied_at_the_end/sol_itineraries.csv", None),
+    Step::Has("emptied_at_the_end/journal.csv", Some("")),
+    Step::Has("emptied_at_the_end/position.csv", Some("old\n")),
+    Step::Remove("emptied_at_the_end"),
+    Step::Call(
+        "other",
+        "emptied_at_the_end",
+        &[],
+        &[(File::SolRotations, true)],
+    ),
+    Step::Lacks("emptied_at_the_end"),
+];
 
 #[test]
-fn an_output_that_cannot_be_emptied_fails_no_other(rt: HostRuntime) -> Result<(), Fail> {
-    let directory = "not_emptied";
-    old_files(rt, directory, &["not_emptied/journal.csv"])?;
-    fs::create_dir_all(&rt, "not_emptied/sol_itineraries.csv")?;
-    let calls = [
-        Call::Put(File::SolRotations, "a\n", Ok(2)),
-        Call::Put(File::SolItineraries, "b\n", Err(Failed)),
-    ];
-    let settles = [
-        (File::SolRotations, true),
-        (File::SolItineraries, false),
-        (File::Journal, true),
-    ];
-    let other = first_other_of_host(rt, ("other", directory), &calls, &settles)?;
-    assert_eq!(rt; other, None);
-    let after = [
-        ("not_emptied/sol_rotations.csv", Some("a\n")),
-        ("not_emptied/journal.csv", Some("")),
-    ];
-    assert_eq!(rt; first_other_file(rt, directory, &after)?, None);
-    Ok(())
+fn a_run_that_writes_nothing_is_settled(rt: HostRuntime) {
+    assert_eq!(rt; first_undone(rt, &EMPTIED_AT_THE_END), None);
 }
 
+/// One output can't be emptied, since it is a directory.
+const NOT_EMPTIED: [Step; 7] = [
+    Step::Make("not_emptied"),
+    Step::Old("not_emptied/journal.csv"),
+    Step::Make("not_emptied/sol_itineraries.csv"),
+    Step::Call(
+        "other",
+        "not_emptied",
+        &[
+            Call::Put(File::SolRotations, "a\n", Ok(2)),
+            Call::Put(File::SolItineraries, "b\n", Err(Failed)),
+        ],
+        &[
+            (File::SolRotations, true),
+            (File::SolItineraries, false),
+            (File::Journal, true),
+        ],
+    ),
+    Step::Has("not_emptied/sol_rotations.csv", Some("a\n")),
+    Step::Has("not_emptied/journal.csv", Some("")),
+    Step::Remove("not_emptied"),
+];
+
 #[test]
-fn an_output_that_was_read_is_not_emptied(rt: HostRuntime) -> Result<(), Fail> {
-    let directory = "read_before";
-    let old = ["read_before/sol_rotations.csv", "read_before/journal.csv"];
-    old_files(rt, directory, &old)?;
-    let calls = [
-        Call::Next(File::Journal, Ok("old\n")),
-        Call::Put(File::SolItineraries, "b\n", Ok(2)),
-    ];
-    let settles = [(File::Journal, true)];
-    let other = first_other_of_host(rt, (directory, directory), &calls, &settles)?;
-    assert_eq!(rt; other, None);
-    let after = [
-        ("read_before/sol_rotations.csv", Some("")),
-        ("read_before/sol_itineraries.csv", Some("b\n")),
-        ("read_before/journal.csv", Some("old\n")),
-    ];
-    assert_eq!(rt; first_other_file(rt, directory, &after)?, None);
-    Ok(())
+fn an_output_that_cannot_be_emptied_fails_no_other(rt: HostRuntime) {
+    assert_eq!(rt; first_undone(rt, &NOT_EMPTIED), None);
+}
+
+/// One output was an input too.
+const READ_BEFORE: [Step; 8] = [
+    Step::Make("read_before"),
+    Step::Old("read_before/sol_rotations.csv"),
+    Step::Old("read_before/journal.csv"),
+    Step::Call(
+        "read_before",
+        "read_before",
+        &[
+            Call::Next(File::Journal, Ok("old\n")),
+            Call::Put(File::SolItineraries, "b\n", Ok(2)),
+        ],
+        &[(File::Journal, true)],
+    ),
+    Step::Has("read_before/sol_rotations.csv", Some("")),
+    Step::Has("read_before/sol_itineraries.csv", Some("b\n")),
+    Step::Has("read_before/journal.csv", Some("old\n")),
+    Step::Remove("read_before"),
+];
+
+#[test]
+fn an_output_that_was_read_is_not_emptied(rt: HostRuntime) {
+    assert_eq!(rt; first_undone(rt, &READ_BEFORE), None);
 }

@@ -1,4 +1,0 @@
-//! The tests, by what they ask.
-
-mod day;
-mod in_turn;
