@@ -10,22 +10,25 @@
 //! `trial` makes up such a day in memory, recovers it and reports that alone.
 //!
 //! `main` gives `desk_main` of desk_top the host's threads, the words, the host's folder and its standard output, ends with
-//! the status that it answers, and empties output files that an earlier run left. All that is promised
+//! the status that it answers, and empties output files that an earlier run left. On standard error it explains an end that is not
+//! the wanted one, by `explain` of desk_help and a copy of the report. All that is promised
 //! of a run is proved of `desk_main`; how `main` calls it is tested by the stored run in `data/`.
 #![tactic(auto)]
 
 use desk_data::NoMem;
-use desk_folder::{File, FreeGate, HostFolder, HostSink};
+use desk_folder::{File, FreeGate, HostFolder, HostSink, Sink};
+use desk_help::{CopyingSink, explain, faulty_path};
 use desk_runs::files_written;
 use desk_top::desk_main;
 use desk_words::command;
 use folder_io::put_report;
 use std::alloc::Global;
 use std::env::Env;
-use std::io::ErrorKind;
+use std::fs::OpenOptions;
+use std::io::{ErrorKind, Read};
 use std::process::ExitCode;
 use std::rt::Files;
-use std::{env, fs};
+use std::{env, fs, io};
 
 // What reads as nothing and can't be written.
 const NULL_DEVICE: &str = "/dev/null";
@@ -76,9 +79,48 @@ fn settle<R: Files + Drop>(
 }
 
 // Says that memory ran out.
-fn out_of_memory<P: Print + Drop>(alloc: Global, out: &mut HostSink<P>) -> u8 {
+fn out_of_memory<S: Sink>(alloc: Global, out: &mut S) -> u8 {
     let _ = put_report(alloc, out, b"memory\n");
     6
+}
+
+// What the system says of a file that this run could not read (status 4) or write (5), when it is asked once more; none where it
+// finds nothing wrong now, or no file yet to write. It reads a byte at most, writes none, and opens files and directories alone.
+fn system_says<R: Files>(rt: &R, status: u8, path: &str) -> Option<io::Error> {
+    let is_write = status == 5;
+    let found = match fs::metadata(rt, path) {
+        Ok(found) => found,
+        Err(error) if is_write && error.kind() == ErrorKind::NotFound => return None,
+        Err(error) => return Some(error),
+    };
+    if !found.is_file() && !found.is_dir() {
+        return None;
+    }
+    let mut options = OpenOptions::new();
+    options.read(!is_write).write(is_write);
+    match options.open(rt, path) {
+        Ok(mut file) if !is_write => file.read(&mut [0; 1]).err(),
+        Ok(_) => None,
+        Err(error) => Some(error),
+    }
+}
+
+// Explains on standard error how the run ended. Where memory runs out there is no explanation.
+fn explain_end<R: Files + Eprint>(
+    rt: &R,
+    alloc: Global,
+    words: &[String],
+    status: u8,
+    report: &[u8],
+) {
+    if let Ok(text) = explain(alloc, words, status, report) {
+        let _ = rt.eprint(text.as_str());
+    }
+    if let Ok(Some(path)) = faulty_path(alloc, words, report) {
+        if let Some(error) = system_says(rt, status, path.as_str()) {
+            let _ = eprintln!(rt; "The system says of it: {error}.");
+        }
+    }
 }
 
 fn main(rt: HostRuntime) -> ExitCode {
@@ -88,7 +130,7 @@ fn main(rt: HostRuntime) -> ExitCode {
     let _input = fs::open(&rt, NULL_DEVICE);
     let _output = fs::open(&rt, NULL_DEVICE);
     let _error = fs::open(&rt, NULL_DEVICE);
-    let mut out = HostSink::new(rt);
+    let mut out = CopyingSink::new(alloc, HostSink::new(rt));
     let Ok(words) = words_of(&rt) else {
         return ExitCode::from(out_of_memory(alloc, &mut out));
     };
@@ -105,6 +147,9 @@ fn main(rt: HostRuntime) -> ExitCode {
     // a run that was refused has read, and touches nothing
     if !matches!(status, 2..=4) {
         settle(&rt, alloc, &mut folder, outputs);
+    }
+    if let Some(report) = out.copy() {
+        explain_end(&rt, alloc, words.as_slice(), status, report);
     }
     ExitCode::from(status)
 }

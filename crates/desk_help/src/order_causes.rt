@@ -1,0 +1,120 @@
+//! Why lines of the files of orders and of the tariff are refused.
+
+use crate::causes::{
+    COMMA_BYTE, CauseRow, DATE, FLIGHT_LONG, LEG_UNKNOWN, ORDER_LIMIT, SPAN, TEXT_BYTE, TIME,
+};
+use file_rows::Cause;
+
+pub(crate) const ALT_FLIGHTS: &[CauseRow] = &[
+    (Cause::Byte, TEXT_BYTE),
+    (
+        Cause::Fields,
+        "the line has fewer than the three fields FLIGHT DATE DELAY.",
+    ),
+    (Cause::Size, FLIGHT_LONG),
+    (Cause::Date, DATE),
+    (
+        Cause::Number,
+        "DELAY is neither -1, for a leg that is called off, nor a number from 0 to 2,880.",
+    ),
+    (Cause::Limit, ORDER_LIMIT),
+    (Cause::Unknown, LEG_UNKNOWN),
+];
+
+pub(crate) const ALT_AIRCRAFT: &[CauseRow] = &[
+    (Cause::Byte, TEXT_BYTE),
+    (
+        Cause::Fields,
+        "the line has fewer than the five fields AIRCRAFT DATE TIME DATE TIME.",
+    ),
+    (
+        Cause::Size,
+        "AIRCRAFT is longer than 32 bytes, the most that a name may have.",
+    ),
+    (Cause::Date, DATE),
+    (Cause::Time, TIME),
+    (Cause::Limit, ORDER_LIMIT),
+    (Cause::Unknown, "AIRCRAFT is not in aircraft.csv."),
+    (Cause::BadWindow, SPAN),
+];
+
+pub(crate) const ALT_AIRPORTS: &[CauseRow] = &[
+    (Cause::Byte, TEXT_BYTE),
+    (
+        Cause::Fields,
+        "the line has fewer than the seven fields AIRPORT DATE TIME DATE TIME DEPARTURES ARRIVALS.",
+    ),
+    (
+        Cause::Size,
+        "AIRPORT is longer than 32 bytes, the most that a name may have.",
+    ),
+    (Cause::Date, DATE),
+    (Cause::Time, TIME),
+    (
+        Cause::Number,
+        "DEPARTURES or ARRIVALS is not a number from 0 to 100,000.",
+    ),
+    (Cause::Limit, ORDER_LIMIT),
+    (Cause::Unknown, "AIRPORT is not in airports.csv."),
+    (Cause::BadWindow, SPAN),
+];
+
+pub(crate) const TARIFF: &[CauseRow] = &[
+    (Cause::Byte, COMMA_BYTE),
+    (
+        Cause::Word,
+        "the first field is none of surface, weight, delay, cancel, downgrade, care, compensation and position; the TERM of a weight is no cost term; H is none of D, C and I; K or L is none of F, B and E; or L of a downgrade is no cabin below K.",
+    ),
+    (
+        Cause::Fields,
+        "the record has fewer fields than its first one asks for.",
+    ),
+    (
+        Cause::Size,
+        "FAMILY of a row surface is not 1 to 32 bytes, as a name has to be.",
+    ),
+    (
+        Cause::Number,
+        "PRICE is no price as 100 or 50.50; W is no weight as 1 or 0.5, with at most 3 digits after the point; or T is neither none nor a number from 1 to 10,000.",
+    ),
+    (
+        Cause::Limit,
+        "the row is past the 1,000 rows that the file may have.",
+    ),
+    (
+        Cause::Twice,
+        "a record before says the same: of a surface its FAMILY, of a weight its TERM, of the others all fields but PRICE.",
+    ),
+];
+
+pub(crate) const FEED: &[CauseRow] = &[
+    (Cause::Byte, COMMA_BYTE),
+    (
+        Cause::Fields,
+        "the second field is missing, or the record has more or fewer fields than its word asks for.",
+    ),
+    (
+        Cause::Word,
+        "the second field is none of flight, aircraft, airport and none.",
+    ),
+    (
+        Cause::Number,
+        "BATCH is not a number of 1 to 9 digits from 1 on; DELAY is neither -1 nor a number from 0 to 2,880; or DEPARTURES or ARRIVALS is not a number from 0 to 100,000.",
+    ),
+    (
+        Cause::Size,
+        "FLIGHT, AIRCRAFT or AIRPORT is not 1 to 32 bytes, as a name has to be.",
+    ),
+    (Cause::Date, DATE),
+    (Cause::Time, TIME),
+    (
+        Cause::Batch,
+        "BATCH is not 1 in the first record, or neither that of the record before nor one more, or above 1,000.",
+    ),
+    (Cause::Limit, ORDER_LIMIT),
+    (
+        Cause::Unknown,
+        "FLIGHT and DATE are no leg of rotations.csv, AIRCRAFT is not in aircraft.csv, or AIRPORT is not in airports.csv.",
+    ),
+    (Cause::BadWindow, SPAN),
+];

@@ -1,0 +1,25 @@
+//! The words of all commands.
+
+/// What the words may be: each command with its directories, options, ranges and what holds where an option is left out,
+/// and one example.
+pub const USAGE: &[&str] = &[
+    "The words are no command. These are:",
+    "",
+    "  replay IN OUT                  answers the events of journal.csv",
+    "  recover IN OUT [OPTIONS]       searches for a cheaper plan after each batch",
+    "    --moves N                    accepts at most N moves after each batch, 1 to 100000; 1000 if left out",
+    "    --workers N                  searches with N threads, 0 to 64; 0, the desk alone, if left out",
+    "    --live                       takes the batches while the workers search; needs at least 1 worker",
+    "  check IN OUT                   judges the plan of OUT",
+    "  gen OUT [OPTIONS]              makes up a day",
+    "  trial [OPTIONS]                makes up a day and recovers it, and writes no file",
+    "    --seed N                     which day is made up, 0 to 999999999; 1 if left out",
+    "    --size N                     how large it is, 1 to 40; 1 if left out",
+    "",
+    "IN is the directory of the day, OUT that of the plan; no directory begins with -, but after a word -- all words are",
+    "directories. An option stands once at most, as --moves 50 or --moves=50. For example:",
+    "",
+    "  recover examples/disrupted out --moves 50",
+    "",
+    "See \"The words\" in docs/FORMATS.md.",
+];
