@@ -17,7 +17,7 @@ use std::sync::Wait;
 use turn_book::{Pass, Turn};
 
 /// What became of a batch.
-#[derive(Clone, Copy, PartialEq, Eq)]
+#[derive(Clone, Copy)]
 pub enum Intake {
     /// It has an entry.
     Taken,

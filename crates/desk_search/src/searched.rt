@@ -3,7 +3,7 @@
 use desk_pool::Vote;
 
 /// How it ended.
-#[derive(Clone, Copy, PartialEq, Eq)]
+#[derive(Clone, Copy)]
 pub(crate) enum Searched {
     /// All batches were taken, and at the last plan the workers agree on this.
     Voted(Vote),
