@@ -96,7 +96,7 @@ def first_difference(case, given, warned):
     wanted = case.wanted
     if (given.status, given.report) != (wanted.status, wanted.report):
         return "gave %s %r, wanted %d %r" % (given.status, given.report, wanted.status, wanted.report)
-    if warned:
+    if b"desk: warning: " in warned or (warned and given.status in (0, 6)):
         return "printed on standard error %r" % warned
     left = case.left()
     for name in sorted(left.keys() | given.files.keys()):

@@ -71,7 +71,7 @@ def sections():
     headings = re.findall(r"^## (.+)$", text, re.M)
     found = {}
     for file in file_names().values():
-        about = [name for name in headings if file in name]
+        about = [name for name in headings if file in re.split(r", | and ", name)]
         found[file] = next((name for name in about if name.endswith("as input")), about[0] if about else None)
     return found
 

@@ -150,5 +150,5 @@ def printed(text):
 
 def row_of(title, words, given, left):
     """A row of the table."""
-    warned = " with a warning" if given.warned else ""
+    warned = " with a warning" if b"desk: warning: " in given.warned else ""
     return "| %s | %s | %s%s | %s | %s |" % (title, " ".join(words), given.status, warned, printed(given.said), left)

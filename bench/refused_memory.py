@@ -86,8 +86,9 @@ def refuse_in_test(shim):
 def refuse_in_run(shim, words, out):
     """How many allocations of a run were refused, in how many of them it ended with 6, and in how many wrongly."""
     status, report, written, calls = run(shim, words, out, 0)
+    calls = int(calls.split()[-1])
     six, wrong = 0, 0
-    for refuse in range(1, int(calls) + 1):
+    for refuse in range(1, calls + 1):
         got, told, has, _ = run(shim, words, out, refuse)
         six += got == 6
         front = told[:-len("memory\n")] if told.endswith("memory\n") else told
@@ -98,7 +99,7 @@ def refuse_in_run(shim, words, out):
         if not good:
             wrong += 1
             print("%s, refused %d: status %d, report %r" % (words[0], refuse, got, told))
-    return int(calls), six, wrong
+    return calls, six, wrong
 
 
 def runs_in(folder, out):

@@ -4,7 +4,7 @@
 //! recorded batch and answers each recorded move in order, and writes the journal with its answers and the
 //! two files of the last plan to OUT. `recover IN OUT` takes the batches of the day and searches for a
 //! cheaper plan after each, until `--moves` moves are accepted, and writes the same files; with `--workers`
-//! so many threads search side by side, and with `--live` the batches are taken while they do. `check IN OUT`
+//! so many threads search side by side, and with `--live` the batches but the first are taken while they do. `check IN OUT`
 //! judges the plan that two files of OUT give, under all the orders of the day in IN: the first rule that it
 //! breaks, and its cost. `gen OUT` makes up a day, by `--seed` and `--size`, and writes its files to OUT;
 //! `trial` makes up such a day in memory, recovers it and reports that alone.
@@ -85,7 +85,8 @@ fn out_of_memory<S: Sink>(alloc: Global, out: &mut S) -> u8 {
 }
 
 // What the system says of a file that this run could not read (status 4) or write (5), when it is asked once more; none where it
-// finds nothing wrong now, or no file yet to write. It reads a byte at most, writes none, and opens files and directories alone.
+// finds nothing wrong now, or no file yet to write. It reads a byte at most, writes none, and opens files and directories alone,
+// unless the path is changed between the two calls.
 fn system_says<R: Files>(rt: &R, status: u8, path: &str) -> Option<io::Error> {
     let is_write = status == 5;
     let found = match fs::metadata(rt, path) {
@@ -115,6 +116,9 @@ fn explain_end<R: Files + Eprint>(
 ) {
     if let Ok(text) = explain(alloc, words, status, report) {
         let _ = rt.eprint(text.as_str());
+    }
+    if !matches!(status, 4 | 5) {
+        return;
     }
     if let Ok(Some(path)) = faulty_path(alloc, words, report) {
         if let Some(error) = system_says(rt, status, path.as_str()) {

@@ -15,8 +15,9 @@ use std::rt::Files;
 /// device, and a later `sync` brings the bytes and the length of the file there (`fdatasync`).
 ///
 /// That a crash then leaves what a read gave rests on the host: that its calls to sync answer only once the
-/// device has the bytes, that the device keeps what it has acknowledged when the power goes, and that no
-/// other program writes to the file meanwhile, another run of this one included.
+/// device has the bytes, that the device keeps what it has acknowledged when the power goes, that the
+/// directories that were there already are on the device, and that no other program writes to the file
+/// meanwhile, another run of this one included.
 pub struct HostDisk<R: Files + Drop> {
     rt: R,
     directory: String,

@@ -24,14 +24,14 @@ pub trait Disk {
         ensures names { Names (directory self.old) (directory self.new) output.now result }
         ensures counts { Counts (faults self.old) (faults self.new) result };
 
-    /// The length of the file.
+    /// The length of the file in bytes.
     fn length(&mut self, alloc: Global) -> Result<u64, DiskFault>
         ensures shows { IfOk result (λ n. IfSome (shown self.old) (λ was. n ≡ list_length was.file.bytes)) }
         ensures stays { Stays (shown self.old) (shown self.new) result }
         ensures directory { directory self.new ≡ directory self.old }
         ensures counts { Counts (faults self.old) (faults self.new) result };
 
-    /// Reads the bytes from `at` on, as many as `into` has.
+    /// Reads the bytes from `at` on, as many as `into` has. After an error nothing is said of `into`.
     fn read_at(&mut self, alloc: Global, at: u64, into: &mut [u8]) -> Result<(), DiskFault>
         requires { IfSome (shown self.old) (λ was. at + list_length into.old ≤ list_length was.file.bytes) }
         ensures reads { IfOk result (λ _. IfSome (shown self.old) (λ was. into.new ≡ take (list_length into.old) (drop at was.file.bytes))) }

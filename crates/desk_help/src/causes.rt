@@ -40,7 +40,7 @@ pub(crate) const ORIGIN_OR_DEST_LONG: &str =
 pub(crate) const LEG_UNKNOWN: &str = "FLIGHT and DATE are no leg of rotations.csv.";
 
 pub(crate) const ORDER_LIMIT: &str =
-    "the line has the 100,001st order; the files alt_ and feed.csv may have 100,000 in all.";
+    "this is the 100,001st order; alt_flights.csv, alt_aircraft.csv, alt_airports.csv and feed.csv may have 100,000 in all.";
 
 const FILE_SIZE: &str = "the file has more than 67,108,864 bytes, the most that it may have.";
 

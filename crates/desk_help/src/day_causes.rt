@@ -86,7 +86,7 @@ pub(crate) const AIRCRAFT: &[CauseRow] = &[
     ),
     (
         Cause::Number,
-        "SEATS is not F/B/E, three numbers from 0 to 999; RANGE or the minutes of MAINTENANCE are not 0 to 100,000; COST is no price as 600 or 600.50; or TURN or TRANSIT is not 0 to 2,880.",
+        "SEATS is not F/B/E, three numbers from 0 to 999; RANGE or the minutes of MAINTENANCE are not 0 to 100,000; COST is not 1 to 9 digits, with or without a point and 1 to 4 digits; or TURN or TRANSIT is not 0 to 2,880.",
     ),
     (
         Cause::Word,
@@ -180,7 +180,7 @@ pub(crate) const ITINERARIES: &[CauseRow] = &[
     ),
     (
         Cause::Number,
-        "PRICE is no price as 100 or 50.50, or COUNT is not a number of 1 to 9 digits from 1 on.",
+        "PRICE is not 1 to 9 digits, with or without a point and 1 to 4 digits; or COUNT is not a number from 1 to 999,999,999.",
     ),
     (Cause::Date, DATE),
     (

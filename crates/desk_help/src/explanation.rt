@@ -21,10 +21,10 @@ const READ_FAULT: &str =
     " can't be opened or read: it has to be a file that is there and that you may read.";
 
 const WRITE_FAULT: &str =
-    " can't be written: it has to be a file that you may write or make, with room on its disk. Take no plan from this directory.";
+    " can't be written: it has to be a file that you may write or make, with room on its disk. Use nothing from this directory.";
 
 const REPORT_FAULT: &str =
-    "The report can't be written: standard output is closed or has no room. The files are written.";
+    "The report can't be written: standard output is closed or has no room. What the command writes to files is written.";
 
 // What stands before a line's number: comma files are counted in records.
 fn place_word(file: File) -> &'static str {

@@ -9,8 +9,9 @@
 //!     // config.csv, line 1: a DATE is not dd/mm/yy or dd/mm/yyyy, or there is no such day from 01/01/2000 to 31/12/2099.
 //!     // See "config.csv" in docs/FORMATS.md.
 //!
-//! Proved: no byte but line feeds and those from the space to `~` is in an explanation (`ShownText`); what is said of a file, a
-//! cause or a rule is that of its row; a copy is what the sink took. Which words stand between the parts is tested alone. It
+//! Proved: no byte but line feeds and those from the space to `~` is in an explanation (`ShownText`); what `text_of` finds for
+//! a cause is the first row with it; a copy is what the sink took, or there is none. Which table is asked, and which words
+//! stand between the parts, is tested alone. It
 //! depends on `desk_words`, `desk_text`, `desk_folder` and `file_rows`, and parses no input: what it reads of the report is
 //! what this program wrote.
 #![tactic(auto)]

@@ -63,7 +63,7 @@ pub(crate) const TARIFF: &[CauseRow] = &[
     (Cause::Byte, COMMA_BYTE),
     (
         Cause::Word,
-        "the first field is none of surface, weight, delay, cancel, downgrade, care, compensation and position; the TERM of a weight is no cost term; H is none of D, C and I; K or L is none of F, B and E; or L of a downgrade is no cabin below K.",
+        "the first field is none of surface, weight, delay, cancel, downgrade, care, compensation and position; the TERM of a weight is none of operating, delay, cancellation, downgrade, legal and position; H, the haul, is none of D, C and I; K or L, a cabin, is none of F, B and E; or L of a downgrade is no cabin below K.",
     ),
     (
         Cause::Fields,
@@ -71,15 +71,15 @@ pub(crate) const TARIFF: &[CauseRow] = &[
     ),
     (
         Cause::Size,
-        "FAMILY of a row surface is not 1 to 32 bytes, as a name has to be.",
+        "the FAMILY of a surface record is not 1 to 32 bytes, as a name has to be.",
     ),
     (
         Cause::Number,
-        "PRICE is no price as 100 or 50.50; W is no weight as 1 or 0.5, with at most 3 digits after the point; or T is neither none nor a number from 1 to 10,000.",
+        "PRICE is not 1 to 9 digits, with or without a point and 1 to 4 digits; W is not 1 to 6 digits, with or without a point and 1 to 3 digits; or T is neither none nor a number from 1 to 10,000.",
     ),
     (
         Cause::Limit,
-        "the row is past the 1,000 rows that the file may have.",
+        "the record is past the 1,000 that the file may have.",
     ),
     (
         Cause::Twice,
@@ -99,7 +99,7 @@ pub(crate) const FEED: &[CauseRow] = &[
     ),
     (
         Cause::Number,
-        "BATCH is not a number of 1 to 9 digits from 1 on; DELAY is neither -1 nor a number from 0 to 2,880; or DEPARTURES or ARRIVALS is not a number from 0 to 100,000.",
+        "BATCH is not a number from 1 to 999,999,999; DELAY is neither -1 nor a number from 0 to 2,880; or DEPARTURES or ARRIVALS is not a number from 0 to 100,000.",
     ),
     (
         Cause::Size,

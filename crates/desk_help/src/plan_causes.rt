@@ -1,13 +1,16 @@
 //! Why lines of the journal and of the files of a plan are refused.
 
-use crate::causes::{COMMA_BYTE, CauseRow, DATE, TEXT_BYTE, TIME};
+use crate::causes::{CauseRow, DATE, TEXT_BYTE, TIME};
 use file_rows::Cause;
 
 pub(crate) const JOURNAL: &[CauseRow] = &[
-    (Cause::Byte, COMMA_BYTE),
+    (
+        Cause::Byte,
+        "there is a byte that none of the first three fields may have: each is one from the space to ~.",
+    ),
     (
         Cause::Fields,
-        "the record has not 3 or 4 fields, or the words of its move run out.",
+        "the record has neither 3 nor 4 fields, or the words of its move run out.",
     ),
     (
         Cause::Number,
@@ -29,7 +32,7 @@ pub(crate) const JOURNAL: &[CauseRow] = &[
     ),
     (
         Cause::Move,
-        "the move has no step, or more than 16; or a departure or the moment of a swap is 26/10/99 08:00 or later.",
+        "the move has no step, or more than 16; or a departure or the moment of a swap is 26/10/2099 08:00 or later.",
     ),
     (
         Cause::Batch,
@@ -43,7 +46,10 @@ pub(crate) const SOL_ROTATIONS: &[CauseRow] = &[
         Cause::Fields,
         "the line has neither the three fields FLIGHT DATE cancelled nor at least the five FLIGHT DATE AIRCRAFT DATE TIME.",
     ),
-    (Cause::Word, "the third of three fields is not cancelled."),
+    (
+        Cause::Word,
+        "the line has three fields, and the third is not the word cancelled.",
+    ),
     (
         Cause::Size,
         "FLIGHT or AIRCRAFT is longer than 32 bytes, the most that a name may have.",
@@ -56,7 +62,7 @@ pub(crate) const SOL_ROTATIONS: &[CauseRow] = &[
     ),
     (
         Cause::Limit,
-        "the departure, the second DATE and TIME, is 26/10/99 08:00 or later.",
+        "the departure, the second DATE and TIME, is 26/10/2099 08:00 or later.",
     ),
     (
         Cause::Twice,

@@ -12,7 +12,8 @@ use desk_disk::Disk;
 use std::alloc::Global;
 
 /// Adds records one behind another. Stopped at any moment it leaves a file that opens as the records from
-/// before the call and the first of the new ones, in their order.
+/// before the call and the first of the new ones, in their order. Each has fewer than 2^32 bytes. Errors are those
+/// of `append`; after one only a new run opens the file again.
 pub fn append_all<D: Disk>(
     alloc: Global,
     disk: &mut D,

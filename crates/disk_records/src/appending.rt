@@ -43,8 +43,8 @@ fn staged(alloc: Global, payload: &[u8]) -> Result<Vec<u8>, AllocError>
 }
 
 /// Adds a record. It writes its length, its payload and a new end mark behind the end mark that stands, and
-/// once all that is on the disk it makes a 1 of the old one, by a write of its own. After an error open the
-/// file again.
+/// once all that is on the disk it makes a 1 of the old one, by a write of its own. After an error only a
+/// new run opens the file again.
 pub fn append<D: Disk>(
     alloc: Global,
     disk: &mut D,

@@ -15,7 +15,8 @@ use desk_disk::{Disk, read_whole};
 use std::alloc::Global;
 
 /// Has a reader take the records of the file, and sets the byte behind them to 0 where it isn't 0. It may
-/// crash too, at any moment. After `Disk` or `Memory` open the file again, with a reader that has taken none.
+/// crash too, at any moment. After `Disk` or `Memory` only a new run opens the file again:
+/// something may be pending.
 ///
 /// `Damaged` comes exactly where a record that begins with 1 doesn't end before the file does or may not
 /// stand there, at the first such place, unless the disk fails or memory runs out.
