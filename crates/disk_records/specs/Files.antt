@@ -1,10 +1,10 @@
 -- Files that calls leave, whatever moment a crash comes at.
 use Rattle.std.specs.Prelude.{◌≡◌, ℕ, ◌^◌, ◌<◌, ◌⊎◌, List, [], ◌∷◌, ◌++◌, length, slice_index, Option, Some, None, IfSome}
-use Rattle.desk_disk.specs.FileStates.{FileState, DiskSide, HasNothingPending}
-use Rattle.desk_disk.specs.Crashes.{IsTorn}
+use Rattle.desk_disk.specs.FileStates.{FileState, DiskSide, HasNothingPending, put_at}
+use Rattle.desk_disk.specs.Crashes.{IsTorn, ReadsTo}
 use Rattle.disk_records.specs.declared.faults.OpenFault.{OpenFault}
 use Rattle.disk_records.specs.declared.faults.OpenFault.TheVariants as fault
-use Rattle.disk_records.specs.Records.{framed, records, AreShort, HasNoRecords, Opens, IsDamagedAt}
+use Rattle.disk_records.specs.Records.{framed, record_of, records, AreShort, HasNoRecords, Opens, IsDamagedAt}
 
 -- records of these payloads, and a byte 0 behind them
 pub record HasEndMark (payloads : List (List ℕ)) (c : List ℕ) : Type 0 where
@@ -47,6 +47,14 @@ pub record IsAtRest (payloads : List (List ℕ)) (place : ℕ) (h : FileState) :
 abbrev pub IsReady : Option DiskSide → ℕ → Type 0
 IsReady shown place = IfSome shown (λ was. (payloads : List (List ℕ)) × IsAtRest payloads place was.file)
 
+-- the bytes once a record was added at this place: it and a byte 0 stand over what was there, and all else is as before
+abbrev pub added_at : ℕ → List ℕ → List ℕ → List ℕ
+added_at place payload c = put_at place (record_of payload ++ (0 ∷ [])) c
+
+-- the bytes once the file was opened: a byte 0 stands at this place, and all else is as before
+abbrev pub opened_at : ℕ → List ℕ → List ℕ
+opened_at place c = put_at place (0 ∷ []) c
+
 -- no byte 0 stands at this place
 abbrev pub LacksEndMark : ℕ → List ℕ → Type 0
 LacksEndMark place c = place < length c → slice_index c place ≡ 0 → ⊥
@@ -67,3 +75,9 @@ abbrev pub RefusedBy : (List (List ℕ) → List ℕ → Type 0) → List ℕ �
 RefusedBy accepts c (fault.Damaged at) = (payloads : List (List ℕ)) × IsDamagedAt accepts payloads at c
 RefusedBy accepts c fault.Disk = Unit {0}
 RefusedBy accepts c fault.Memory = Unit {0}
+
+-- what was done to a file that could not be opened: one that is damaged was only read
+abbrev pub LeftBy : DiskSide → Option DiskSide → OpenFault → Type 0
+LeftBy was shown (fault.Damaged at) = ReadsTo was shown
+LeftBy was shown fault.Disk = Unit {0}
+LeftBy was shown fault.Memory = Unit {0}

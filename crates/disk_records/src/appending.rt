@@ -4,7 +4,7 @@ ghost use Rattle.desk_folder.specs.Calls.{Rose};
 ghost use Rattle.desk_disk.specs.FileStates.{DiskSide};
 ghost use Rattle.desk_disk.specs.Crashes.{RunsTo};
 ghost use Rattle.disk_records.specs.Records.{framed};
-ghost use Rattle.disk_records.specs.Files.{IsAtRest, IsReady, IsWithOrWithout};
+ghost use Rattle.disk_records.specs.Files.{IsAtRest, IsReady, IsWithOrWithout, added_at};
 
 use crate::faults::AppendFault;
 use desk_disk::{Disk, write_through};
@@ -54,9 +54,10 @@ pub fn append<D: Disk>(
     requires short { length payload.now < 2 ^ 32 }
     requires ready { IsReady (D.shown disk.old) tail }
 
-    // Once it has answered Ok each crash leaves a file with the record, and nothing is pending.
+    // Once it has answered Ok each crash leaves a file with the record, nothing is pending, and no byte is another but those of the
+    // record and the one behind it.
     ensures acknowledged { IfOk result (λ next. (was : DiskSide) → D.shown disk.old ≡ Some was → (payloads : List (List ℕ)) → IsAtRest payloads tail was.file →
-        (now : DiskSide) × (D.shown disk.new ≡ Some now) × IsAtRest (payloads ++ payload.now ∷ []) next now.file) }
+        (now : DiskSide) × (D.shown disk.new ≡ Some now) × IsAtRest (payloads ++ payload.now ∷ []) next now.file × (now.file.bytes ≡ added_at tail payload.now was.file.bytes)) }
 
     ensures ready { IfOk result (λ next. IsReady (D.shown disk.new) next) }
 

@@ -3,6 +3,7 @@ ghost use Rattle.std.specs.Prelude.{◌≡◌, ◌⊎◌, ◌++◌, ◌∷◌, �
 ghost use Rattle.desk_disk.specs.FileStates.{FileState, MayLeave};
 ghost use Rattle.disk_records.specs.Records.{AreAccepted, IsDamagedAt, Opens};
 ghost use Rattle.disk_records.specs.Files.{IsAtRest, IsWhole, IsWithOrWithout, OpensAs};
+ghost use Rattle.disk_records.specs.Stored.{OpensFirst, RunsLeave};
 
 use crate::reader::PayloadReader;
 
@@ -32,4 +33,12 @@ pub fn a_stopped_append_keeps_what_was_acknowledged()
 /// was being added behind them, may stand there.
 pub fn a_stopped_append_leaves_no_damage<R: PayloadReader>()
     ensures { (rules : R.Rules) (ps qs : List (List ℕ)) (p c : List ℕ) (k : ℕ) → IsWithOrWithout ps p c → AreAccepted (R.accepts rules) [] (ps ++ p ∷ []) → IsDamagedAt (R.accepts rules) qs k c → ⊥ }
+{}
+
+/// A file that these calls alone wrote, in however many runs, and whatever moments these were stopped at, opens
+/// as a beginning of what they added, with all that was acknowledged; and it is never damaged, if each payload
+/// may stand behind those before it.
+pub fn stopped_runs_leave_a_beginning<R: PayloadReader>()
+    ensures beginning { (all : List (List ℕ)) (n : ℕ) (c : List ℕ) → RunsLeave all n c → OpensFirst all n c }
+    ensures undamaged { (rules : R.Rules) (all qs : List (List ℕ)) (n l : ℕ) (c : List ℕ) → AreAccepted (R.accepts rules) [] all → RunsLeave all n c → IsDamagedAt (R.accepts rules) qs l c → ⊥ }
 {}

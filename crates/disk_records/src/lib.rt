@@ -29,6 +29,7 @@ pub use faults::{AppendFault, OpenFault};
 pub use laws::{
     a_file_opens_in_one_way, a_stopped_append_keeps_what_was_acknowledged,
     a_stopped_append_leaves_no_damage, a_whole_file_opens, opened_files_are_not_damaged,
+    stopped_runs_leave_a_beginning,
 };
 pub use opening::open;
 pub use reader::PayloadReader;

@@ -4,7 +4,7 @@ ghost use Rattle.desk_folder.specs.Calls.{Rose};
 ghost use Rattle.desk_disk.specs.FileStates.{HasNothingPending, DiskSide};
 ghost use Rattle.desk_disk.specs.Crashes.{RunsTo};
 ghost use Rattle.disk_records.specs.Records.{AreAccepted, Opens};
-ghost use Rattle.disk_records.specs.Files.{IsAtRest, IsOpening, IsReady, IsWhole, RefusedBy};
+ghost use Rattle.disk_records.specs.Files.{IsAtRest, IsOpening, IsReady, IsWhole, LeftBy, RefusedBy, opened_at};
 
 use crate::appending::{MAX_PLACE, Tail};
 use crate::end_mark::set_end_mark;
@@ -19,7 +19,7 @@ use std::alloc::Global;
 /// something may be pending.
 ///
 /// `Damaged` comes exactly where a record that begins with 1 doesn't end before the file does or may not
-/// stand there, at the first such place, unless the disk fails or memory runs out.
+/// stand there, at the first such place, unless the disk fails or memory runs out. The disk was only read then.
 pub fn open<D: Disk, R: PayloadReader>(
     alloc: Global,
     disk: &mut D,
@@ -33,9 +33,9 @@ pub fn open<D: Disk, R: PayloadReader>(
     ensures accepted { OnOk result (AreAccepted (R.accepts (R.rules reader.old)) [] (R.taken reader.new)) }
     ensures rules { R.rules reader.new ≡ R.rules reader.old }
 
-    // Then a byte 0 stands behind them, and nothing is pending.
+    // Then a byte 0 stands behind them, all else is as before, and nothing is pending.
     ensures at_rest { IfOk result (λ tail. (was : DiskSide) → D.shown disk.old ≡ Some was →
-        (now : DiskSide) × (D.shown disk.new ≡ Some now) × IsAtRest (R.taken reader.new) tail now.file) }
+        (now : DiskSide) × (D.shown disk.new ≡ Some now) × IsAtRest (R.taken reader.new) tail now.file × (now.file.bytes ≡ opened_at tail was.file.bytes)) }
 
     ensures ready { IfOk result (λ tail. IsReady (D.shown disk.new) tail) }
 
@@ -46,8 +46,9 @@ pub fn open<D: Disk, R: PayloadReader>(
     ensures whole { (was : DiskSide) → D.shown disk.old ≡ Some was → (payloads : List (List ℕ)) → (next : Option (List ℕ)) →
         IsWhole payloads next was.file.bytes → RunsTo was (D.shown disk.new) (IsWhole payloads next) }
 
-    // Each fault has its cause.
+    // Each fault has its cause, and a damaged file was only read.
     ensures damaged { (was : DiskSide) → D.shown disk.old ≡ Some was → IfErr result (RefusedBy (R.accepts (R.rules reader.old)) was.file.bytes) }
+    ensures untouched { (was : DiskSide) → D.shown disk.old ≡ Some was → IfErr result (LeftBy was (D.shown disk.new)) }
     ensures failed { IsErrOf result OpenFault.Disk → Rose (D.faults disk.old) (D.faults disk.new) }
     ensures kept { D.faults disk.old ≤ D.faults disk.new }
     ensures unshown { D.shown disk.old ≡ None → D.shown disk.new ≡ None }

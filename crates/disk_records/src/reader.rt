@@ -17,8 +17,8 @@ pub trait PayloadReader {
     /// Whether this payload may stand behind those.
     ghost accepts: { Self.Rules → List (List ℕ) → List ℕ → Type 0 };
 
-    /// Takes a payload if it may stand behind those taken, and answers whether it did. The only error is out
-    /// of memory, after which nothing is said of what was taken.
+    /// Takes a payload if it may stand behind those taken, and answers whether it did. The only error is
+    /// that there is no memory left, after which nothing is said of what was taken.
     fn take(&mut self, alloc: Global, payload: &[u8]) -> Result<bool, AllocError>
         ensures rules { rules self.new ≡ rules self.old }
         ensures takes { IfOk result (λ is. MatchBool is

@@ -1,15 +1,15 @@
 -- The entries of a desk's journal, as payloads of records.
-use Rattle.std.specs.Prelude.{◌≡◌, ℕ, ◌+◌, ◌^◌, ◌<◌, nat_eq, Bool, true, if◌then◌else◌, List, [], ◌∷◌, Some, length, count_by, map, slice_get, slice_index}
+use Rattle.std.specs.Prelude.{◌≡◌, ℕ, ◌+◌, ◌^◌, ◌<◌, nat_eq, Bool, if◌then◌else◌, List, [], ◌∷◌, Some, length, count_by, map, slice_get, slice_index}
 use Rattle.day_orders.specs.declared.orders.Batch.{Batch}
 use Rattle.desk_data.specs.Situation.{Situation}
 use Rattle.plan_moves.specs.Fits.{Fits}
 use Rattle.desk_model.specs.declared.answer.Entry.{Entry}
 use Rattle.desk_model.specs.declared.answer.Event.{Event}
 use Rattle.desk_model.specs.declared.answer.Event.TheVariants as event
-use Rattle.desk_model.specs.Histories.{batch_limit, has_room, is_batch, proposal_limit}
+use Rattle.desk_model.specs.Histories.{has_room, is_batch}
 use Rattle.move_bytes.specs.declared.payload.StoredEvent.{StoredEvent}
 use Rattle.move_bytes.specs.declared.payload.StoredEvent.TheVariants as stored
-use Rattle.move_bytes.specs.Spelling.{payload}
+use Rattle.move_bytes.specs.Spelling.{IsNumber, payload}
 
 -- how many batches there are among events, each with its caller
 abbrev pub batches_among : List (ℕ × Event) → ℕ
@@ -38,7 +38,18 @@ asked_in h = map (λ entry. (entry.caller, entry.event)) h
 abbrev pub history_payloads : List Entry → List (List ℕ)
 history_payloads h = payloads_of (asked_in h)
 
--- ---- what may stand in a journal
+-- ---- what reading adds
+
+-- the events, each with its caller, that get an entry of a journal which has so many: one that finds no room gets none, as in a run
+unfoldable pub entered_from : ℕ → List (ℕ × Event) → List (ℕ × Event)
+entered_from n [] = []
+entered_from n (asked ∷ more) = if has_room n asked.1 then asked ∷ entered_from (n + 1) more else entered_from n more
+
+-- those of the entries of a journal that these events are read into, from the first on
+abbrev pub entered : List (ℕ × Event) → List (ℕ × Event)
+entered events = entered_from 0 events
+
+-- ---- what may stand in a file
 
 -- a payload spells a batch where a 0 stands behind the four bytes of the caller, and how many of these do
 abbrev pub spells_batch : List ℕ → Bool
@@ -47,27 +58,31 @@ spells_batch p = nat_eq (slice_index p 4) 0
 abbrev pub batches_in : List (List ℕ) → ℕ
 batches_in ps = count_by spells_batch ps
 
--- an event that may come next after so many batches: the next batch of the day, or a move that fits
+-- an event that may come next after so many batches: the next batch of the day, by a number of four bytes, or a move that fits
 abbrev pub MayBeNext : Situation → List Batch → ℕ → Event → Type 0
-MayBeNext I batches number (event.Batch B) = slice_get batches number ≡ Some B
+MayBeNext I batches number (event.Batch B) = IsNumber number × (slice_get batches number ≡ Some B)
 MayBeNext I batches number (event.Move m) = Fits I m
 
--- a payload that may come next after so many batches and so many records: it spells who asked and an event that may come next, and
--- a journal with so many entries takes that event
-pub record MayCome (I : Situation) (batches : List Batch) (due entries : ℕ) (p : List ℕ) : Type 0 where
+-- a payload that may come next after so many batches: it spells who asked and an event that may come next. Whether a journal has
+-- room for that makes no difference
+pub record MayCome (I : Situation) (batches : List Batch) (due : ℕ) (p : List ℕ) : Type 0 where
   pub asked : ℕ × Event
   pub caller : asked.0 < 2 ^ 32
   pub next : MayBeNext I batches due asked.1
-  pub room : has_room entries asked.1 ≡ true
   pub is : p ≡ payload_by due asked.0 asked.1
 
--- a payload that may stand after those, on a day with these batches
+-- a payload that may stand behind those, on a day with these batches
 abbrev pub MayStand : Situation → List Batch → List (List ℕ) → List ℕ → Type 0
-MayStand I batches before p = MayCome I batches (batches_in before) (length before) p
+MayStand I batches before p = MayCome I batches (batches_in before) p
+
+-- events, each with its caller, that may come one behind another after so many batches
+abbrev pub AreNext : Situation → List Batch → ℕ → List (ℕ × Event) → Type 0
+AreNext I batches due [] = Unit {0}
+AreNext I batches due (asked ∷ more) = (asked.0 < 2 ^ 32) × (MayBeNext I batches due asked.1 × AreNext I batches (if is_batch asked.1 then due + 1 else due) more)
 
 -- ---- the same of what a payload spells
 
--- the next batch by its number, or a move that fits, and there is room for it
-abbrev pub ComesNext : Situation → List Batch → ℕ → ℕ → StoredEvent → Type 0
-ComesNext I batches due entries (stored.Batch caller number) = (number ≡ due) × ((due < length batches) × (entries < batch_limit))
-ComesNext I batches due entries (stored.Move caller m) = Fits I m × (entries < proposal_limit)
+-- the next batch by its number, or a move that fits
+abbrev pub ComesNext : Situation → List Batch → ℕ → StoredEvent → Type 0
+ComesNext I batches due (stored.Batch caller number) = (number ≡ due) × (due < length batches)
+ComesNext I batches due (stored.Move caller m) = Fits I m

@@ -5,7 +5,7 @@ ghost use Rattle.desk_data.specs.Situation.{Situation};
 ghost use Rattle.desk_model.specs.Histories.{IsAskable};
 ghost use Rattle.desk_disk.specs.FileStates.{DiskSide};
 ghost use Rattle.desk_disk.specs.Crashes.{RunsTo};
-ghost use Rattle.disk_records.specs.Files.{IsAtRest, IsReady, IsWithOrWithout};
+ghost use Rattle.disk_records.specs.Files.{IsAtRest, IsReady, IsWithOrWithout, added_at};
 ghost use Rattle.journal_disk.specs.Payloads.{payload_by};
 
 use desk_data::NoMem;
@@ -16,7 +16,7 @@ use move_bytes::{batch_payload, move_payload};
 use std::alloc::Global;
 
 /// The payload of a caller's event: of a batch with its number among those of the day, from 0 on, and of a
-/// move with any number. The only error is out of memory.
+/// move with any number. The only error is that there is no memory left.
 pub fn event_payload(
     alloc: Global,
     caller: u32,
@@ -45,9 +45,11 @@ pub fn append<D: Disk>(
     requires ready { IsReady (D.shown disk.old) tail }
     requires askable { (I : Situation) × IsAskable I entry.now.event }
 
-    // Once it has answered Ok each crash leaves a file with the entry, and nothing is pending.
+    // Once it has answered Ok each crash leaves a file with the entry, nothing is pending, and no byte is another but those of the
+    // record and the one behind it.
     ensures acknowledged { IfOk result (λ next. (was : DiskSide) → D.shown disk.old ≡ Some was → (payloads : List (List ℕ)) → IsAtRest payloads tail was.file →
-        (now : DiskSide) × (D.shown disk.new ≡ Some now) × IsAtRest (payloads ++ payload_by number entry.now.caller entry.now.event ∷ []) next now.file) }
+        (now : DiskSide) × (D.shown disk.new ≡ Some now) × IsAtRest (payloads ++ payload_by number entry.now.caller entry.now.event ∷ []) next now.file
+        × (now.file.bytes ≡ added_at tail (payload_by number entry.now.caller entry.now.event) was.file.bytes)) }
     ensures ready { IfOk result (λ next. IsReady (D.shown disk.new) next) }
 
     // A crash at any moment of the call leaves the entries from before it, with the new one or without.

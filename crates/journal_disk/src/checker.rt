@@ -15,7 +15,7 @@ use std::alloc::{AllocError, Global};
 pub(crate) struct Checker<'a> {
     pub(crate) inst: &'a Instance,
     pub(crate) batches: &'a [Batch],
-    pub(crate) due: u32,
+    pub(crate) due: u64,
     pub(crate) payloads: Vec<Vec<u8>>,
     ghost counted: { due ≡ batches_in (lists_of payloads.items) },
 }
@@ -33,10 +33,9 @@ impl PayloadReader for Checker<'_> {
 
     ghost accepts = { λ rules before p. MayStand rules.0 rules.1 before p };
 
-    #[tactic(auto, using(crate::proofs::NextLaws::few_kept, crate::proofs::NextLaws::stands_kept, crate::proofs::NextLaws::never_kept, crate::proofs::NextLaws::counted_kept, crate::proofs::NextLaws::one_more, crate::proofs::NextLaws::lists_pushed))]
+    #[tactic(auto, using(crate::proofs::NextLaws::stands_kept, crate::proofs::NextLaws::never_kept, crate::proofs::NextLaws::counted_kept, crate::proofs::NextLaws::one_more, crate::proofs::NextLaws::lists_pushed))]
     fn take(&mut self, alloc: Global, payload: &[u8]) -> Result<bool, AllocError> {
-        let entries = self.payloads.len();
-        match next_stored(alloc, self.inst, self.batches, self.due, entries, payload) {
+        match next_stored(alloc, self.inst, self.batches, self.due, payload) {
             Ok(Some(stored)) => {
                 let kept = Vec::from_slice(alloc, payload)?;
                 self.payloads.push(kept)?;
@@ -50,7 +49,7 @@ impl PayloadReader for Checker<'_> {
 }
 
 // How many batches an event is: one or none.
-fn batches_of(stored: &StoredEvent) -> u32
+fn batches_of(stored: &StoredEvent) -> u64
     ensures { result ≡ batches_in (spelling stored.now ∷ []) }
 {
     match stored {

@@ -7,8 +7,8 @@
 //! is that of `disk_records`, and what a crash may leave that of `desk_disk`. Proved: whatever moment the disk
 //! crashes at, in a call or between two, the file opens as the records that it had before the call, or with
 //! that of the one entry more that the call adds; once `append` has answered Ok each crash leaves that entry;
-//! and a file is called damaged exactly where a record is none that may stand there. docs/FORMATS.md has the
-//! file byte by byte.
+//! and a file is called damaged exactly where a record is none that may stand there. A record that the journal
+//! has no room for is read, and adds no entry. docs/FORMATS.md has the file byte by byte.
 #![tactic(auto)]
 
 mod add;
@@ -19,5 +19,9 @@ mod records;
 
 pub use add::{append, event_payload};
 pub use disk_records::{AppendFault, OpenFault, Tail};
-pub use laws::an_entry_adds_its_payload;
+pub use laws::{
+    a_run_enters_what_finds_room, a_stopped_run_leaves_the_first_entries,
+    an_entry_adds_its_payload, payloads_that_may_stand_are_of_events,
+    stopped_runs_leave_a_beginning_of_the_history, what_is_added_completes_the_history,
+};
 pub use records::open_records;

@@ -4,7 +4,7 @@ ghost use Rattle.desk_folder.specs.Calls.{Rose};
 ghost use Rattle.desk_disk.specs.FileStates.{DiskSide, HasNothingPending};
 ghost use Rattle.desk_disk.specs.Crashes.{RunsTo};
 ghost use Rattle.disk_records.specs.Records.{AreAccepted, Opens};
-ghost use Rattle.disk_records.specs.Files.{IsAtRest, IsOpening, IsReady, IsWhole, RefusedBy};
+ghost use Rattle.disk_records.specs.Files.{IsAtRest, IsOpening, IsReady, IsWhole, LeftBy, RefusedBy, opened_at};
 ghost use Rattle.disk_records.specs.Stored.{lists_of};
 ghost use Rattle.journal_disk.specs.Payloads.{MayStand};
 
@@ -15,13 +15,14 @@ use disk_records::{OpenFault, Tail};
 use std::alloc::Global;
 
 /// Opens the file of a journal on a disk as the payloads of its records, and the place behind them. Each
-/// spells a caller with the next of these batches of the day or with a move that fits, and a journal has room
-/// for it. It may crash too, at any moment, and leaves no byte changed but the one behind the records, which
-/// it sets to 0.
+/// spells a caller with the next of these batches of the day or with a move that fits. Whether a journal has
+/// room for the event makes no difference: a record that finds none is read, and adds no entry to the book
+/// that its events are read into. It may crash too, at any moment, and leaves no byte changed but the one
+/// behind the records, which it sets to 0.
 ///
 /// `Damaged` comes exactly where, at the first such place, a record that begins with 1 doesn't end before
-/// the file does or isn't such a one, unless the disk fails or memory runs out. After `Disk` or `Memory` only
-/// a new run opens the file again.
+/// the file does or isn't such a one, unless the disk fails or memory runs out. The disk was only read then.
+/// After `Disk` or `Memory` only a new run opens the file again.
 pub fn open_records<D: Disk>(
     alloc: Global,
     disk: &mut D,
@@ -34,9 +35,9 @@ pub fn open_records<D: Disk>(
     ensures opened { IfOk result (λ r. (was : DiskSide) → D.shown disk.old ≡ Some was → Opens (lists_of r.1.items) r.0 was.file.bytes) }
     ensures accepted { IfOk result (λ r. AreAccepted (MayStand inst.now batches.now) [] (lists_of r.1.items)) }
 
-    // Then a byte 0 stands behind them, and nothing is pending.
+    // Then a byte 0 stands behind them, all else is as before, and nothing is pending.
     ensures at_rest { IfOk result (λ r. (was : DiskSide) → D.shown disk.old ≡ Some was →
-        (now : DiskSide) × (D.shown disk.new ≡ Some now) × IsAtRest (lists_of r.1.items) r.0 now.file) }
+        (now : DiskSide) × (D.shown disk.new ≡ Some now) × IsAtRest (lists_of r.1.items) r.0 now.file × (now.file.bytes ≡ opened_at r.0 was.file.bytes)) }
     ensures ready { IfOk result (λ r. IsReady (D.shown disk.new) r.0) }
 
     // A crash at any moment of the call leaves the file as it was, or with another byte behind its records.
@@ -46,8 +47,9 @@ pub fn open_records<D: Disk>(
     ensures whole { (was : DiskSide) → D.shown disk.old ≡ Some was → (payloads : List (List ℕ)) → (next : Option (List ℕ)) →
         IsWhole payloads next was.file.bytes → RunsTo was (D.shown disk.new) (IsWhole payloads next) }
 
-    // Each fault has its cause.
+    // Each fault has its cause, and a damaged file was only read.
     ensures damaged { (was : DiskSide) → D.shown disk.old ≡ Some was → IfErr result (RefusedBy (MayStand inst.now batches.now) was.file.bytes) }
+    ensures untouched { (was : DiskSide) → D.shown disk.old ≡ Some was → IfErr result (LeftBy was (D.shown disk.new)) }
     ensures failed { IsErrOf result OpenFault.Disk → Rose (D.faults disk.old) (D.faults disk.new) }
     ensures kept { D.faults disk.old ≤ D.faults disk.new }
     ensures unshown { D.shown disk.old ≡ None → D.shown disk.new ≡ None }
