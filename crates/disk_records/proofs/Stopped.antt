@@ -6,8 +6,7 @@ use Rattle.desk_disk.specs.FileStates.{FileState, MayLeave}
 use Rattle.desk_disk.proofs.Torn.{nothing_pending_is}
 use Rattle.disk_records.specs.Records.{AreAccepted, IsDamagedAt, Opens}
 use Rattle.disk_records.specs.Files.{HasEndMark, IsWhole, OpensAs}
-use Rattle.disk_records.specs.Stored.{OpensFirst, RunsLeave}
-use Rattle.disk_records.specs.Stored.RunsLeave.{nothing, opening, adding, resting}
+use Rattle.disk_records.specs.Stored.{OpensFirst, RunsLeave, no_run, in_opening, in_adding, at_rest}
 use Rattle.disk_records.proofs.Unique.{whole_opens, opened_undamaged}
 use Rattle.disk_records.proofs.Opened.{still_whole}
 use Rattle.disk_records.proofs.Storing.{accepted_front}
@@ -40,13 +39,13 @@ keeps all front rest next c is whole =
     }
 
 kept : (all : List (List ℕ)) {n : ℕ} {c : List ℕ} → RunsLeave all n c → Kept all n c
-kept all nothing = keeps all [] all None [] refl (inr (record { none = refl; few = omega arith }))
-kept all (opening n before c run step) =
+kept all no_run = keeps all [] all None [] refl (inr (record { none = refl; few = omega arith }))
+kept all (in_opening n before c run step) =
     let k = kept all run in
     record { count = k.count; next = k.next; rest = k.rest; whole = still_whole (take k.count all) k.next before c k.whole step; least = k.least; most = k.most; parts = k.parts }
-kept all (adding n before c found more place payload rest run opens is (inl whole)) = keeps all (found ++ more) (payload ∷ rest) None c is whole
-kept all (adding n before c found more place payload rest run opens is (inr whole)) = keeps all (found ++ more) rest (Some payload) c is whole
-kept all (resting n before c found more rest place end h run opens is at left) =
+kept all (in_adding n before c found more place payload rest run opens is (inl whole)) = keeps all (found ++ more) (payload ∷ rest) None c is whole
+kept all (in_adding n before c found more place payload rest run opens is (inr whole)) = keeps all (found ++ more) rest (Some payload) c is whole
+kept all (at_rest n before c found more rest place end h run opens is at left) =
     keeps all (found ++ more) rest None c is (inl (subst (HasEndMark (found ++ more)) (sym (nothing_pending_is h c at.nothing_pending left)) at.ends))
 
 opens_first : (all : List (List ℕ)) (n : ℕ) (c : List ℕ) (k : Kept all n c) (a : OpensAs (take k.count all) k.next c) → (a.found ≡ take k.count all) ⊎ ((payload : List ℕ) × (k.next ≡ Some payload) × (a.found ≡ take k.count all ++ payload ∷ [])) → OpensFirst all n c
