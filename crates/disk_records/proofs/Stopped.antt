@@ -2,7 +2,6 @@
 use Rattle.std.proofs.Common.{◌≡◌, ◌⊎◌, inl, inr, ℕ, ◌+◌, ◌≤◌, List, [], ◌∷◌, ◌++◌, length, take, drop, refl, sym, ◌∙◌, ap, subst, arith, append_assoc}
 use Rattle.std.specs.Prelude.{Option, Some, None}
 use Rattle.std.proofs.lemmas.List.{length-append, length-take-le, take-append-drop, take_at}
-use Rattle.desk_disk.specs.FileStates.{FileState, MayLeave}
 use Rattle.desk_disk.proofs.Torn.{nothing_pending_is}
 use Rattle.disk_records.specs.Records.{AreAccepted, IsDamagedAt, Opens}
 use Rattle.disk_records.specs.Files.{HasEndMark, IsWhole, OpensAs}

@@ -1,5 +1,5 @@
 -- What events are read into.
-use Rattle.std.proofs.Common.{◌≡◌, inl, inr, ℕ, zero, suc, ◌+◌, ◌≤◌, List, [], ◌∷◌, ◌++◌, length, take, drop, map, refl, sym, ap, subst, ◌∙◌, arith}
+use Rattle.std.proofs.Common.{◌≡◌, inl, inr, ℕ, ◌+◌, ◌≤◌, List, [], ◌∷◌, ◌++◌, length, take, drop, refl, sym, ap, ◌∙◌, arith}
 use Rattle.std.specs.Prelude.{true, false}
 use Rattle.std.proofs.lemmas.Bool.{cases_Bool}
 use Rattle.std.proofs.lemmas.List.{length-append, length-map, drop_at, take_at, take-append-drop}
@@ -76,6 +76,12 @@ entered-append n (x ∷ xs) ys = elim (cases_Bool (has_room n x.1)) [
   | inr full ↦ entered_past n x (xs ++ ys) full ∙ entered-append n xs ys ∙ ap (λ (l : List (ℕ × Event)). l ++ entered_from (n + length l) ys) (sym (entered_past n x xs full))
 ]
 
+-- of events and those behind them, from the first on
+entered-behind : (xs ys : List (ℕ × Event)) → entered (xs ++ ys) ≡ entered xs ++ entered_from (length (entered xs)) ys
+entered-behind xs ys =
+    let place : 0 + length (entered xs) ≡ length (entered xs) = omega arith in
+    entered-append 0 xs ys ∙ ap (λ (k : ℕ). entered xs ++ entered_from k ys) place
+
 -- where all find room, so do the first of them
 pub front_enters : (n k : ℕ) (es : List (ℕ × Event)) → entered_from n es ≡ es → entered_from n (take k es) ≡ take k es
 front_enters n k es is =
@@ -95,7 +101,7 @@ rest_enters : (all events rest : List (ℕ × Event)) → entered all ≡ entere
 rest_enters all events rest is =
     let front = entered events in
     let again : entered (front ++ rest) ≡ front ++ rest = ap entered (sym is) ∙ entered_again 0 all ∙ is in
-    let parts : entered (front ++ rest) ≡ front ++ entered_from (length front) rest = entered-append 0 front rest ∙ ap (λ (l : List (ℕ × Event)). l ++ entered_from (length l) rest) (entered_again 0 events) in
+    let parts : entered (front ++ rest) ≡ front ++ entered_from (length front) rest = entered-behind front rest ∙ ap (λ (l : List (ℕ × Event)). l ++ entered_from (length l) rest) (entered_again 0 events) in
     cancel front (entered_from (length front) rest) rest (sym parts ∙ again)
 
 -- ---- what a file that is added to is read into
@@ -116,20 +122,23 @@ part_enters S all events k first =
     let front = entered events in
     let rest = first.0 in
     ap (λ (l : List (ℕ × Event)). entered (events ++ take k l)) (lacking (run S all) events first)
-    ∙ entered-append 0 events (take k rest)
+    ∙ entered-behind events (take k rest)
     ∙ ap (λ (l : List (ℕ × Event)). front ++ l) (front_enters (length front) k rest (lacking_enters S all events first))
     ∙ sym (take-append-add front rest k)
     ∙ ap (take (length front + k)) (sym first.1)
 
 pub whole_enters : (S : State) (all events : List (ℕ × Event)) → AreFirst events (run S all) → entered (stored_with events (run S all)) ≡ asked_in (run S all)
 whole_enters S all events first =
-    ap (λ (l : List (ℕ × Event)). entered (events ++ l)) (lacking (run S all) events first) ∙ entered-append 0 events first.0 ∙ ap (λ (l : List (ℕ × Event)). entered events ++ l) (lacking_enters S all events first) ∙ sym first.1
+    ap (λ (l : List (ℕ × Event)). entered (events ++ l)) (lacking (run S all) events first) ∙ entered-behind events first.0 ∙ ap (λ (l : List (ℕ × Event)). entered events ++ l) (lacking_enters S all events first) ∙ sym first.1
 
 pub stored_same : (h : List Entry) (events : List (ℕ × Event)) → entered events ≡ events → AreFirst events h → stored_with events h ≡ asked_in h
 stored_same h events all first =
     ap (λ (l : List (ℕ × Event)). events ++ l) (lacking h events first) ∙ ap (λ (l : List (ℕ × Event)). l ++ first.0) (sym all) ∙ sym first.1
 
+pub length-asked : (h : List Entry) → length (asked_in h) ≡ length h
+length-asked h = length-map {B = ℕ × Event} h (λ (entry : Entry). (entry.caller, entry.event))
+
 -- how many the file lacks
 pub size_lacking : (h : List Entry) (events : List (ℕ × Event)) → AreFirst events h → length (entered events) + length (drop (length (entered events)) (asked_in h)) ≡ length h
 size_lacking h events first =
-    omega (arith, ap length (lacking h events first), ap length first.1, length-append (entered events) first.0, length-map h (λ (entry : Entry). (entry.caller, entry.event)))
+    omega (arith, ap length (lacking h events first), ap length first.1, length-append (entered events) first.0, length-asked h)

@@ -1,7 +1,7 @@
 -- What runs that store a history leave.
-use Rattle.std.proofs.Common.{◌≡◌, ℕ, zero, suc, ◌+◌, ◌-◌, ◌<◌, ◌≤◌, ◌^◌, List, [], ◌∷◌, ◌++◌, length, take, drop, refl, sym, ap, subst, ◌∙◌, arith}
+use Rattle.std.proofs.Common.{◌≡◌, ℕ, zero, suc, ◌+◌, ◌-◌, List, [], ◌∷◌, ◌++◌, length, take, drop, refl, sym, ap, subst, ◌∙◌, arith}
 use Rattle.std.specs.Prelude.{if◌then◌else◌}
-use Rattle.std.proofs.lemmas.List.{length-append, length-map, take-append-drop}
+use Rattle.std.proofs.lemmas.List.{length-append, take-append-drop}
 use Rattle.std.proofs.Math.Seq.{take-append-add}
 use Rattle.day_orders.specs.declared.orders.Batch.{Batch}
 use Rattle.desk_data.specs.Situation.{Situation}
@@ -14,11 +14,11 @@ use Rattle.disk_records.specs.Records.{AreAccepted, IsDamagedAt, Opens}
 use Rattle.disk_records.specs.Stored.{OpensFirst, RunsLeave}
 use Rattle.disk_records.proofs.Stopped.{leave_first, leave_undamaged}
 use Rattle.disk_records.proofs.Storing.{accepted_front}
-use Rattle.journal_disk.specs.Payloads.{AreNext, MayBeNext, MayCome, MayStand, asked_in, batches_in, entered, history_payloads, payload_by, payloads_from, payloads_of}
+use Rattle.journal_disk.specs.Payloads.{AreNext, MayCome, MayStand, asked_in, batches_in, entered, history_payloads, payload_by, payloads_from, payloads_of}
 use Rattle.journal_disk.specs.Store.{AreFirst, Holds, HoldsFirst, stored_with}
 use Rattle.journal_disk.proofs.NextLaws.{batches-push}
 use Rattle.journal_disk.proofs.PayloadLaws.{length-payloads}
-use Rattle.journal_disk.proofs.EnteredLaws.{entered_history, front_enters, part_enters, size_lacking}
+use Rattle.journal_disk.proofs.EnteredLaws.{entered_history, front_enters, length-asked, part_enters, size_lacking}
 
 -- ---- events and payloads that may stand
 
@@ -35,8 +35,7 @@ next_stand : (I : Situation) (batches : List Batch) (before : List (List ℕ)) (
 next_stand I batches before due [] counted next = tt
 next_stand I batches before due (asked ∷ more) counted next =
     let p = payload_by due asked.0 asked.1 in
-    let here : MayCome I batches due p = record { asked = asked; caller = next.0; next = next.1.0; is = refl } in
-    (
+    let here : MayCome I batches due p = record { asked = asked; caller = next.0; next = next.1.0; is = refl } in (
       subst (λ (k : ℕ). MayCome I batches k p) (sym counted) here,
       next_stand I batches (before ++ p ∷ []) (if is_batch asked.1 then due + 1 else due) more (batches_more before p due asked.0 asked.1 counted refl) next.1.1,
     )
@@ -111,7 +110,7 @@ runs_first I batches S all n c next runs =
       count = o.count;
       first = front_enters 0 o.count (asked_in h) (entered_history S all);
       least = o.least;
-      most = omega (arith, o.most, length-payloads 0 (asked_in h), length-map h (λ (entry : Entry). (entry.caller, entry.event)));
+      most = omega (arith, o.most, length-payloads 0 (asked_in h), length-asked h);
     }
 
 pub runs_undamaged : (I : Situation) (batches : List Batch) (h : List Entry) (qs : List (List ℕ)) (n l : ℕ) (c : List ℕ) → AreNext I batches 0 (asked_in h) → RunsLeave (history_payloads h) n c → IsDamagedAt (MayStand I batches) qs l c → ⊥
