@@ -28,33 +28,6 @@ impl PayloadReader for AnyReader {
     }
 }
 
-/// Takes one payload again and again, and no other.
-#[derive(Drop)]
-struct SameReader {
-    expected: Vec<u8>,
-    payloads: Vec<Vec<u8>>,
-}
-
-impl PayloadReader for SameReader {
-    ghost use Rattle.std.specs.Prelude.{◌≡◌};
-
-    type Rules = Vec<u8>;
-
-    ghost rules = { λ r. r.expected };
-
-    ghost taken = { λ r. map (λ p. p.items) r.payloads.items };
-
-    ghost accepts = { λ expected _ p. p ≡ expected.items };
-
-    fn take(&mut self, alloc: Global, payload: &[u8]) -> Result<bool, AllocError> {
-        if payload != self.expected.as_slice() {
-            return Ok(false);
-        }
-        self.payloads.push(Vec::from_slice(alloc, payload)?)?;
-        Ok(true)
-    }
-}
-
 // ---- a run that is stopped
 
 /// A batch of the desk, and two moves by other callers, each of which gives two passengers another path.
@@ -153,18 +126,15 @@ fn a_run_that_is_stopped_at_any_byte_goes_on(rt: HostRuntime) -> Result<(), Fail
 
 // ---- a file that something else has changed
 
-const PAYLOAD: [u8; 7] = [0, 0, 0, 1, 1, 1, 4];
-
-/// Two records of it.
+/// Two records, each of seven bytes.
 const TWO: [u8; 25] = [
     1, 0, 0, 0, 7, 0, 0, 0, 1, 1, 1, 4, 1, 0, 0, 0, 7, 0, 0, 0, 1, 1, 1, 4, 0,
 ];
 
-/// What opening a file finds where only that payload may stand: how many records, or where it is damaged.
+/// What opening a file finds where any payload may stand: how many records, or where it is damaged.
 fn found_in(alloc: Global, bytes: &[u8]) -> Result<Result<usize, OpenFault>, AllocError> {
     let mut disk = MemDisk::new(Vec::from_slice(alloc, bytes)?, Vec::new(alloc));
-    let mut reader = SameReader {
-        expected: Vec::from_slice(alloc, &PAYLOAD)?,
+    let mut reader = AnyReader {
         payloads: Vec::new(alloc),
     };
     match open(alloc, &mut disk, &mut reader) {
@@ -183,13 +153,14 @@ fn found_of_front(size: usize) -> Result<usize, OpenFault> {
     }
 }
 
-/// What it finds where the byte at this place is another: with a mark the records end before it.
+/// What it finds where the byte at this place is another: a mark, where the records end before it; the length of a payload, which
+/// then ends behind the file; or a byte of a payload or the end mark, where nothing is missed.
 fn found_of_turned(at: usize) -> Result<usize, OpenFault> {
     match at {
         0 => Ok(0),
-        1..=11 => Err(OpenFault::Damaged { at: 0 }),
+        1..=4 => Err(OpenFault::Damaged { at: 0 }),
         12 => Ok(1),
-        13..=23 => Err(OpenFault::Damaged { at: 12 }),
+        13..=16 => Err(OpenFault::Damaged { at: 12 }),
         _ => Ok(2),
     }
 }
