@@ -1,6 +1,5 @@
 //! The tests, by what they ask.
 
-mod disk;
 mod folder;
 mod loops;
 mod text;
