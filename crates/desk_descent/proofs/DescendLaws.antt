@@ -8,11 +8,14 @@ use Rattle.std.proofs.lemmas.List.Concat.{flat_map-append}
 use Rattle.plan_moves.specs.declared.moves.Move.{Move}
 use Rattle.plan_moves.specs.Fits.{Fits}
 use Rattle.desk_data.specs.declared.broken.Broken.{Broken}
+use Rattle.desk_units.specs.declared.money.Grains.{Grains}
 use Rattle.desk_data.specs.Situation.{Situation}
+use Rattle.desk_rules.specs.Cost.{grains}
 use Rattle.desk_model.specs.declared.answer.Entry.{Entry}
 use Rattle.desk_model.specs.declared.answer.Event.TheVariants as event
 use Rattle.desk_model.specs.States.{State, opening}
-use Rattle.desk_model.specs.Histories.{state, proposal_limit, has_room, entry_of}
+use Rattle.desk_model.specs.Histories.{state, proposal_limit, has_room, entry_of, changes}
+use Rattle.desk_model.specs.Promises.{cost_of}
 use Rattle.desk_model.proofs.HistoryLaws.{state-parts, askable-parts}
 use Rattle.desk_model.proofs.StateLaws.{opening-inst}
 use Rattle.desk_core.specs.Recorded.{Recorded, state_of, with_entry}
@@ -22,6 +25,8 @@ use Rattle.near_moves.proofs.ShardLaws.{shard-one}
 use Rattle.near_moves.proofs.DescentLaws.{next-some, next-is, next-quiet, next-unplanned, unspent-room, descent-rests, descent-ends}
 use Rattle.near_moves.specs.declared.ended.SearchEnd.TheVariants.{Quiet}
 use Rattle.desk_descent.specs.Ending.{ending, after_descent, after_steps}
+use Rattle.desk_headway.specs.declared.headway.Headway.{Headway}
+use Rattle.desk_descent.specs.Reached.{headway_of}
 use Rattle.desk_descent.specs.Steps.{next_of, stepped}
 
 -- ---- what is proposed
@@ -145,3 +150,14 @@ still-batch i most B N batch is given =
     ap (λ (E : Recorded). length (batches_in E.journal)) is
     ∙ ap length (steps_batches i most (opening B.opening) B.journal)
     ∙ given
+
+-- what is told of a book
+abbrev pub told : ℕ → ℕ → Grains → Headway
+told batch changed cost = record { batch = batch; changes = changed; cost = cost }
+
+pub told-is : (B : Recorded) (batch changed : ℕ) (cost : Grains) → length (batches_in B.journal) ≡ batch + 1 → changed ≡ changes B.journal → cost ≡ grains (cost_of (state_of B)) → told batch changed cost ≡ headway_of B
+told-is B batch changed cost given changed_is cost_is =
+    let last : batch ≡ length (batches_in B.journal) - 1 = omega (arith, given) in
+    ap (λ (n : ℕ). told n changed cost) last
+    ∙ ap (λ (n : ℕ). told (length (batches_in B.journal) - 1) n cost) changed_is
+    ∙ ap (told (length (batches_in B.journal) - 1) (changes B.journal)) cost_is

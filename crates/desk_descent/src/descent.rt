@@ -32,7 +32,7 @@ pub fn descend<L: Listener>(
     batch: u32,
     listener: &mut L,
 ) -> Result<Option<SearchEnd>, NoMem>
-    requires batch { length (batches_in book.old.journal) ≡ batch + 1 }
+    requires { length (batches_in book.old.journal) ≡ batch + 1 }
     ensures ok { OnOk result (book.new ≡ after_descent most book.old) }
     ensures ended { IfOk result (λ ended. ended ≡ ending most (state_of book.new) book.new.journal) }
     ensures quiet { IfOk result (λ ended. ended ≡ Some Quiet → IsQuiet (state_of book.new)) }

@@ -7,8 +7,8 @@ ghost use Rattle.desk_help.specs.Explained.{IsSilent};
 
 use crate::causes::{causes_of_lines, causes_of_the_whole, section_of, text_of};
 use crate::path::faulty_path;
-use crate::report::{Fault, Refused, fault_of, first_words, last_words, refusal_of};
-use crate::rules::{Rule, rule_of};
+use crate::report::{Fault, Refused, fault_of, first_words, last_words, refusal_of, rule_of};
+use crate::rules::Rule;
 use crate::shown::ShownText;
 use crate::usage::USAGE;
 use desk_folder::File;

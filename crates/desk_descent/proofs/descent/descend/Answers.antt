@@ -2,7 +2,7 @@ use Rattle.std.proofs.Common.{◌≡◌, sym, ap, ◌∙◌, arith}
 use Rattle.std.specs.Prelude.{None}
 use Rattle.desk_descent.specs.Ending.{after_descent, after_steps, IsUnderWay}
 use Rattle.desk_descent.specs.Steps.{next_of}
-use Rattle.desk_descent.proofs.DescendLaws.{on-err, none-since, begun, stepped-on, stopped, quiet-end}
+use Rattle.desk_descent.proofs.DescendLaws.{on-err, none-since, begun, stepped-on, stopped, quiet-end, still-batch}
 use Rattle.desk_descent.proofs.descent.descend.Goals as goal
 
 pub loop-init : goal.loop-init
@@ -34,3 +34,9 @@ returns-clause-quiet g c =
     let all : c.loop.counter ≡ c.args.most = omega arith in
     let is : c.loop.book ≡ after_descent c.args.most B = c.loop.invariant ∙ ap (λ n. after_steps n c.args.most B) all in
     λ given. quiet-end c.args.most B c.loop.book is (sym c.ending-2.ensures ∙ given)
+
+pub tell-requires : goal.tell-requires
+tell-requires g c = still-batch c.loop.counter c.args.most c.args.book.now c.loop.book c.args.batch c.loop.invariant c.requires
+
+pub tell-requires-2 : goal.tell-requires-2
+tell-requires-2 g c = still-batch c.loop.counter c.args.most c.args.book.now c.loop.book c.args.batch c.loop.invariant c.requires
