@@ -32,7 +32,6 @@ pub use causes::{CauseRow, causes_of_lines, causes_of_the_whole, section_of, tex
 pub use explanation::explain;
 pub use kept::{CopyingSink, MOST_KEPT};
 pub use path::faulty_path;
-pub use report::rule_of;
-pub use rules::{ItemKind, RULES, Rule};
+pub use rules::{ItemKind, RULES, Rule, rule_of};
 pub use shown::ShownText;
 pub use usage::USAGE;

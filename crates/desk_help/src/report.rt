@@ -1,9 +1,8 @@
 //! What the lines of a report name.
 
-ghost use Rattle.std.specs.Prelude.{◌≡◌, bytes_eq, find, option_map};
+ghost use Rattle.std.specs.Prelude.{◌≡◌, bytes_eq, find};
 ghost use Rattle.desk_folder.specs.Files.{file_name};
 
-use crate::rules::{RULES, Rule};
 use desk_folder::{ALL_FILES, File};
 use desk_text::{Fields, are_text};
 
@@ -38,20 +37,6 @@ pub fn file_of(name: &[u8]) -> Option<File>
     ensures { result ≡ find (λ file. bytes_eq (file_name file) name.now) ALL_FILES }
 {
     ALL_FILES.iter().copied().find(|file| is_named(*file, name))
-}
-
-// Whether a rule has this number.
-fn has_number(rule: &Rule, number: &[u8]) -> bool
-    ensures { result ≡ bytes_eq rule.now.number.now number.now }
-{
-    rule.number.as_bytes() == number
-}
-
-/// The first rule with a number, as `C2`; none where no rule has it.
-pub fn rule_of(number: &[u8]) -> Option<&'static Rule>
-    ensures { option_map (λ rule. rule.now) result ≡ find (λ rule. bytes_eq rule.number.now number.now) RULES.now }
-{
-    RULES.iter().find(|rule| has_number(rule, number))
 }
 
 // The bytes before the first line feed.

@@ -1,5 +1,7 @@
 //! The rules in a sentence each, as docs/RULES-AND-COST.md has them; `bench/help.py` compares the two.
 
+ghost use Rattle.std.specs.Prelude.{◌≡◌, bytes_eq, find, option_map};
+
 /// What an item of a rule names.
 #[derive(Clone, Copy, PartialEq, Eq)]
 pub enum ItemKind {
@@ -133,3 +135,17 @@ pub const RULES: &[Rule] = &[
         text: "A carried path begins with the legs of the scheduled path that have begun, in their cabins.",
     },
 ];
+
+// Whether a rule has this number.
+fn is_named(rule: &Rule, number: &[u8]) -> bool
+    ensures { result ≡ bytes_eq rule.now.number.now number.now }
+{
+    rule.number.as_bytes() == number
+}
+
+/// The first of some rules that has this number, as `C2`; none where none has it.
+pub fn rule_of<'a>(rules: &'a [Rule], number: &[u8]) -> Option<&'a Rule>
+    ensures { option_map (λ rule. rule.now) result ≡ find (λ rule. bytes_eq rule.number.now number.now) rules.now }
+{
+    rules.iter().find(|rule| is_named(rule, number))
+}
