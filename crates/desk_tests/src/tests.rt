@@ -3,7 +3,6 @@
 mod book;
 mod changes;
 mod days;
-mod headway;
 mod memory;
 mod orders;
 mod parts;
