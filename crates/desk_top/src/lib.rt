@@ -4,7 +4,8 @@
 //!
 //! answers the status of the program, from 0 to 7. Its contract is what the desk promises of each run of each
 //! command: the headline, the cause of each status, and what stands outside after it, clause by clause;
-//! docs/PROMISES.md says them in plain words. The body takes the words apart, names the directories, and has
+//! docs/PROMISES.md says them in plain words. `desk_main_heard` has the same clauses, and tells a listener how far a recovery
+//! has come. The body takes the words apart, names the directories, and has
 //! `run_plain` do the command, or `run_workers` where it asks for workers; these put the line that says why a run was
 //! not done.
 //!
@@ -17,7 +18,7 @@ mod desk;
 mod plain;
 mod workers;
 
-pub use desk::desk_main;
+pub use desk::{desk_main, desk_main_heard};
 pub use desk_words::Command;
 pub use plain::run_plain;
 pub use workers::run_workers;

@@ -9,7 +9,7 @@ use Rattle.desk_runs.specs.Runs.{world}
 use Rattle.desk_runs.proofs.PromisedLaw.{runs-as-promised}
 use Rattle.desk_top.specs.Desk.{meanings, RunsAsPromised}
 use Rattle.desk_top.proofs.Commands.{done-by, replayed, recovered-day, recovered-by-team, tried-day, checked, generated}
-use Rattle.desk_top.proofs.desk.desk_main.Goals as goal
+use Rattle.desk_top.proofs.desk.desk_main_heard.Goals as goal
 
 -- the bytes of no file
 abbrev no_inputs : Inputs
