@@ -1,0 +1,3 @@
+pub mod Sights
+pub mod Posts
+pub mod Told

@@ -1,0 +1,62 @@
+//! What is reported of what was seen.
+
+ghost use Rattle.std.specs.Prelude.{◌≡◌, ◌≤◌, All, Some, List as Items, length, IfOk, OnOk};
+ghost use mathlib.Core.List.{IsPrefix};
+ghost use Rattle.desk_model.specs.declared.answer.Entry.{Entry as Record};
+ghost use Rattle.desk_model.specs.States.{State, opening};
+ghost use Rattle.desk_core.specs.Recorded.{Recorded};
+ghost use Rattle.live_board.specs.declared.told.Told.{Told};
+ghost use Rattle.live_board.specs.Histories.{history, origin, IsViewOf};
+ghost use Rattle.live_board.specs.Words.{stands_for};
+ghost use Rattle.desk_view.specs.Views.{IsSightOf, AreSeen};
+ghost use Rattle.desk_view.proofs.SightLaws.{AreSightsBelow};
+ghost use Rattle.desk_board.specs.Sights.{sights};
+
+use crate::sight::Sight;
+use desk_data::NoMem;
+use desk_view::View;
+use live_board::{Naming, Note};
+use std::alloc::Global;
+
+/// How many views are reported before the last one.
+pub const MOST_SIGHTS: usize = 63;
+
+// Adds a view where it has at least so many entries, and fewer than the last one, and 63 are not there yet. It answers how many the
+// next one has to have. The only error is out of memory.
+fn add_sight(lines: &mut Vec<View>, least: u32, view: View, last: View) -> Result<u32, NoMem>
+    requires { (least ≤ last.entries) × (length lines.old.items ≤ 63) }
+    ensures least { IfOk result (λ next. next ≤ last.entries) }
+    ensures few { OnOk result (length lines.new.items ≤ 63) }
+    ensures seen { IfOk result (λ next. (S : State) (h : Items Record) → AreSightsBelow S h least lines.old.items → IsSightOf S h view → AreSightsBelow S h next lines.new.items) }
+{
+    if view.entries < least {
+        return Ok(least);
+    }
+    if view.entries >= last.entries {
+        return Ok(least);
+    }
+    if lines.len() >= MOST_SIGHTS {
+        return Ok(least);
+    }
+    lines.push(view)?;
+    Ok(view.entries + 1)
+}
+
+/// The views of notes, each with more entries than the one before it and fewer than the last view has, 63 at most, and then
+/// the last view. The only error is out of memory.
+pub fn seen_lines<J: Naming>(
+    alloc: Global,
+    notes: &[Note<Sight, J>],
+    last: Sight,
+) -> Result<Vec<View>, NoMem>
+    ensures { (B : Recorded) (log : Items (Told Recorded Record)) → origin log ≡ Some B → IsViewOf sights last log → All (λ n. IsPrefix (stands_for n) log) notes.now
+        → IfOk result (λ lines. AreSeen (opening B.opening) (history log) lines.items) }
+{
+    let mut lines = Vec::with_capacity(alloc, MOST_SIGHTS + 1)?;
+    let mut least = 0;
+    for note in notes {
+        least = add_sight(&mut lines, least, note.view().view, last.view)?;
+    }
+    lines.push(last.view)?;
+    Ok(lines)
+}
