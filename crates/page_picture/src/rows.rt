@@ -11,6 +11,7 @@ use page_values::plane_of;
 use std::alloc::Global;
 
 /// What all rows of a piece of time need.
+#[derive(Clone, Copy)]
 pub(crate) struct Sheet<'a> {
     pub inst: &'a Instance,
     pub bars: &'a [Bar],

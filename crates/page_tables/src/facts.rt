@@ -8,6 +8,7 @@ use page_values::{clock, date, put_units, ten_thousandths};
 use plan_changes::{ChangedGroup, ChangedLeg, Fate, LegChange, Shift};
 
 // How many legs changed in which way.
+#[derive(Clone, Copy)]
 struct LegCounts {
     cancelled: u64,
     swapped: u64,
@@ -15,6 +16,7 @@ struct LegCounts {
 }
 
 // How many passengers something became of.
+#[derive(Clone, Copy)]
 struct PassengerCounts {
     not_carried: u64,
     late: u64,

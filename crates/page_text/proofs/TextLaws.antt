@@ -1,9 +1,9 @@
 -- Escaped text marks nothing up.
-use Rattle.std.proofs.Common.{◌≡◌, ℕ, inl, inr, true, false, Bool, List, [], ◌∷◌, ◌++◌, refl, sym, ap, ◌∙◌}
-use Rattle.std.specs.Prelude.{◌==◌, ◌&&◌, ◌||◌, not, codes, if◌then◌else◌}
-use Rattle.std.specs.List.{flat_map, list_all}
+use Rattle.std.proofs.Common.{◌≡◌, ℕ, inl, inr, true, false, Bool, List, [], ◌∷◌, ◌++◌, refl, ap, ◌∙◌}
+use Rattle.std.specs.Prelude.{◌==◌, ◌&&◌}
+use Rattle.std.specs.List.{list_all}
 use Rattle.std.proofs.lemmas.List.Folds.{list_all-append}
-use Rattle.page_text.specs.Escaped.{is_printed, entity, escaped, IsEntity, IsPiece, ArePieces, IsText, is_harmless}
+use Rattle.page_text.specs.Escaped.{is_printed, entity, escaped, IsPiece, IsText, is_harmless}
 
 -- ---- one byte, by its tests
 

@@ -1,6 +1,6 @@
 -- Text on a page of HTML: what bytes stand as there, so that they are read and do nothing.
 use Rattle.std.specs.Prelude.{◌≡◌, ℕ, ◌⊎◌, Bool, true, not, ◌&&◌, ◌||◌, ◌==◌, nat_le, List, [], ◌∷◌, codes, if◌then◌else◌}
-use Rattle.std.specs.List.{flat_map, list_all}
+use Rattle.std.specs.List.{flat_map}
 
 -- the five bytes that begin or end something in HTML: < > & and the two quote marks
 abbrev pub is_markup : ℕ → Bool
