@@ -117,7 +117,7 @@ fn put_words(
     at: Place,
 ) -> Result<(), NoMem> {
     let flight = info.flight.as_slice();
-    if !fits(flight.len(), 7, at.width) {
+    if !fits(flight.len(), 8, at.width) {
         return Ok(());
     }
     let x = u64::from(at.x.saturating_add(4));
@@ -125,7 +125,7 @@ fn put_words(
         Part::Own("<text x=\""),
         Part::Number(x),
         Part::Own("\" y=\""),
-        Part::Number(u64::from(at.y.saturating_add(10))),
+        Part::Number(u64::from(at.y.saturating_add(12))),
         Part::Own("\"><tspan class=\"b\">"),
         Part::Given(flight),
         Part::Own("</tspan>"),
@@ -150,20 +150,20 @@ fn put_words(
 
 // Puts the times of a flown leg, and its passengers after them where there is room.
 fn put_times(page: &mut Page, bar: &Bar, aboard: u32, x: u64, at: Place) -> Result<(), NoMem> {
-    if at.width < 66 {
+    if at.width < 74 {
         return Ok(());
     }
     page.put(&[
         Part::Own("<text class=\"t\" x=\""),
         Part::Number(x),
         Part::Own("\" y=\""),
-        Part::Number(u64::from(at.y.saturating_add(20))),
+        Part::Number(u64::from(at.y.saturating_add(24))),
         Part::Own("\">"),
         Part::Given(&clock(Minute(bar.from))),
         Part::Own("-"),
         Part::Given(&clock(Minute(bar.to))),
     ])?;
-    if at.width >= 110 {
+    if at.width >= 130 {
         page.put(&[
             Part::Own(" &#183; "),
             Part::Number(u64::from(aboard)),
@@ -189,7 +189,7 @@ fn put_left(
         Part::Own("<text class=\"s\" x=\""),
         Part::Number(u64::from(at.x.saturating_add(4))),
         Part::Own("\" y=\""),
-        Part::Number(u64::from(at.y.saturating_add(9))),
+        Part::Number(u64::from(at.y.saturating_add(10))),
         Part::Own("\">"),
         Part::Given(flight),
     ])?;

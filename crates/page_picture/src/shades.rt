@@ -39,7 +39,7 @@ pub(crate) fn put_shade(
     if word.is_empty() || end - x < 90 {
         return Ok(());
     }
-    put_word(page, x.saturating_add(4), y.saturating_add(3), word)
+    put_word(page, x.saturating_add(4), y.saturating_add(2), word)
 }
 
 // Puts a word on a plate of its own, so that it can be read on a pattern.
@@ -49,10 +49,12 @@ fn put_word(page: &mut Page, x: u32, y: u32, word: &'static str) -> Result<(), N
         Part::Number(u64::from(x)),
         Part::Own("\" y=\""),
         Part::Number(u64::from(y)),
-        Part::Own("\" width=\"78\" height=\"10\"/><text class=\"w\" x=\""),
+        Part::Own("\" width=\""),
+        Part::Number((word.len() as u64).saturating_mul(5).saturating_add(6)),
+        Part::Own("\" height=\"11\"/><text class=\"w\" x=\""),
         Part::Number(u64::from(x.saturating_add(2))),
         Part::Own("\" y=\""),
-        Part::Number(u64::from(y.saturating_add(8))),
+        Part::Number(u64::from(y.saturating_add(9))),
         Part::Own("\">"),
         Part::Own(word),
         Part::Own("</text>"),

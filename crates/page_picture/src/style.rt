@@ -19,14 +19,14 @@ pub const PICTURE_STYLE: &str = "\
 .gantt .f td{color:#5a6270;padding-top:6px}
 .thin-row th{font-size:9px;line-height:10px}
 .thin-row th small{font-size:8px}
-.key{display:flex;flex-wrap:wrap;gap:3px 20px;margin:6px 0;padding:0;list-style:none;color:#5a6270}
+.key{display:flex;flex-wrap:wrap;gap:3px 16px;margin:6px 0;padding:0;list-style:none;color:#5a6270}
 .key svg{width:34px;height:16px;vertical-align:-4px;margin-right:5px}
-svg text{font-family:inherit;font-size:9px;fill:#191c22}
-svg .b{font-size:11px;font-weight:700}
-svg .t{font-size:8.5px}
-svg .s{font-size:8px}
-svg .h{font-size:10px}
-svg .w{font-size:8.5px}
+svg text{font-family:inherit;font-size:10.5px;fill:#191c22}
+svg .b{font-size:12.5px;font-weight:700}
+svg .t{font-size:10.5px}
+svg .s{font-size:9.5px}
+svg .h{font-size:11px}
+svg .w{font-size:10px}
 .same path{fill:#eaedf2;stroke:#7f8898;stroke-width:.8}
 .moved path{fill:#ffc861;stroke:#7a5200;stroke-width:.9}
 .other path{fill:#1f4e8c;stroke:#0d2747;stroke-width:.9}
@@ -39,6 +39,8 @@ svg .w{font-size:8.5px}
 .oos{fill:url(#hatch);stroke:#59616f;stroke-width:.6}
 .mnt{fill:url(#dots);stroke:#59616f;stroke-width:.6}
 .shut{fill:#3d434e}
+.shut+.plate{fill:none}
+.shut+.plate+.w{fill:#fff}
 .thin{fill:url(#lines);stroke:#59616f;stroke-width:.6}
 .near{fill:#dfe3ea}
 .out{fill:#f5f6f8}
@@ -72,13 +74,13 @@ pub fn put_key(page: &mut Page) -> Result<(), NoMem> {
 <li><svg viewBox=\"0 0 34 16\"><g class=\"moved\"><path d=\"M1 1H28l5 7l-5 7H1z\"/></g></svg>later</li>\
 <li><svg viewBox=\"0 0 34 16\"><g class=\"moved\"><path d=\"M6 1H33V15H6l-5 -7z\"/></g></svg>earlier</li>\
 <li><svg viewBox=\"0 0 34 16\"><g class=\"other\"><path d=\"M1 1H33V15H1z\"/></g></svg>other aircraft</li>\
-<li><svg viewBox=\"0 0 34 16\"><g class=\"other\"><path d=\"M1 1H28l5 7l-5 7H1z\"/></g></svg>other aircraft, later</li>\
+<li><svg viewBox=\"0 0 34 16\"><g class=\"other\"><path d=\"M1 1H28l5 7l-5 7H1z\"/></g></svg>other aircraft and time</li>\
 <li><svg viewBox=\"0 0 34 16\"><g class=\"left\"><path d=\"M1 4H33V13H1z\"/></g></svg>scheduled place</li>\
 <li><svg viewBox=\"0 0 34 16\"><g class=\"cut\"><path d=\"M1 4H33V13H1z\"/><path class=\"x\" d=\"M23 5l7 7m0 -7l-7 7\"/></g></svg>cancelled</li>\
 <li><svg viewBox=\"0 0 34 16\"><rect class=\"oos\" x=\"1\" y=\"1\" width=\"32\" height=\"14\"/></svg>out of service</li>\
 <li><svg viewBox=\"0 0 34 16\"><rect class=\"mnt\" x=\"1\" y=\"1\" width=\"32\" height=\"14\"/></svg>maintenance</li>\
 <li><svg viewBox=\"0 0 34 16\"><rect class=\"shut\" x=\"1\" y=\"3\" width=\"32\" height=\"10\"/></svg>airport closed</li>\
-<li><svg viewBox=\"0 0 34 16\"><rect class=\"near\" x=\"1\" y=\"1\" width=\"32\" height=\"14\"/></svg>an airport of the row is closed</li>\
+<li><svg viewBox=\"0 0 34 16\"><rect class=\"near\" x=\"1\" y=\"1\" width=\"32\" height=\"14\"/></svg>closed airport of the row</li>\
 <li><svg viewBox=\"0 0 34 16\"><path class=\"win\" d=\"M17 0V16\"/></svg>window</li>\
 </ul>\n",
     )])

@@ -44,7 +44,7 @@ pub struct ChangedGroup {
 
 // What becomes of passengers of a reservation on a path.
 #[tactic(auto, unfolding(desk_rules::specs::Passengers::minutes_late))]
-fn fate(inst: &Instance, plan: &Plan, res: Res, path: &[(Leg, Cabin)]) -> Fate
+fn fate_on(inst: &Instance, plan: &Plan, res: Res, path: &[(Leg, Cabin)]) -> Fate
     requires plan { IsPlanFor inst.now plan.now }
     requires res { res.0 < reservations_of inst.now }
     requires path { IsPathOf (legs_of inst.now) path.now }
@@ -132,8 +132,8 @@ fn told(
         moved: group
             .count
             .saturating_sub(count_at(path, before.groups(res))),
-        was: fate(inst, before, res, path),
-        fate: fate(inst, now, res, path),
+        was: fate_on(inst, before, res, path),
+        fate: fate_on(inst, now, res, path),
         below: legs_below(inst.booked(res).cabin, path),
     }
 }

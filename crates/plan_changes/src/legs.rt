@@ -35,7 +35,7 @@ pub struct ChangedLeg {
 }
 
 // By how many minutes a departure is earlier or later than it was.
-fn shift(was: Minute, now: Minute) -> Shift
+fn shift_between(was: Minute, now: Minute) -> Shift
     ensures { result ≡ shift was.0 now.0 }
 {
     if now.0 < was.0 {
@@ -76,7 +76,7 @@ fn leg_change(was: Row, now: Row) -> LegChange
                 plane: other,
                 dep: at,
             } => LegChange::Moved {
-                shift: shift(dep, at),
+                shift: shift_between(dep, at),
                 swapped: plane.0 != other.0,
             },
             Row::Cancelled => LegChange::Cancelled,
