@@ -1,6 +1,5 @@
 -- Rows that are the same are one.
-use Rattle.std.proofs.Common.{◌≡◌, ◌==◌, true, false, refl, ap, arith}
-use Rattle.std.specs.Prelude.{◌&&◌}
+use Rattle.std.proofs.Common.{◌≡◌, true, refl, arith}
 use Rattle.desk_data.specs.declared.row.Row.{Row}
 use Rattle.desk_data.specs.declared.row.Row.TheVariants.{Flown, Cancelled}
 use Rattle.plan_changes.specs.Legs.{same_row}
