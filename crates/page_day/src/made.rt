@@ -100,7 +100,14 @@ fn put_body(
     put_picture(page, alloc, inst, &picture)?;
     put_costs(page, &findings.before, &findings.after)?;
     page.put(&[Part::Own("<div class=\"pair\">\n")])?;
-    put_legs(page, alloc, inst, plan, &picture, findings.legs.as_slice())?;
+    put_legs(
+        page,
+        alloc,
+        inst,
+        plan,
+        picture.aboard(),
+        findings.legs.as_slice(),
+    )?;
     put_groups(page, alloc, inst, plan, findings.groups.as_slice())?;
     page.put(&[Part::Own("</div>\n")])?;
     put_footer(page)?;

@@ -7,10 +7,11 @@ use page_text::{Page, Part};
 use page_values::{airport_name, clock, leg_of, plane_name, put_time};
 use plan_changes::Shift;
 
-/// The height of a bar, and of an outline below the bars.
-pub(crate) const BAR: u32 = 24;
+/// The height of a bar.
+pub(crate) const BAR: u32 = 28;
 
-pub(crate) const OUTLINE: u32 = 11;
+/// The height of an outline below the bars.
+pub(crate) const OUTLINE: u32 = 12;
 
 /// Where a bar stands in its row.
 #[derive(Clone, Copy)]
@@ -213,10 +214,10 @@ fn put_left(
 }
 
 // Puts all that there is to say of a leg, which is shown where a reader points at it.
-fn put_title(
+fn put_title<'a>(
     page: &mut Page,
-    inst: &Instance,
-    info: &LegInfo,
+    inst: &'a Instance,
+    info: &'a LegInfo,
     bar: &Bar,
     aboard: u32,
 ) -> Result<(), NoMem> {

@@ -64,12 +64,9 @@ impl Picture {
         })
     }
 
-    /// How many passengers are aboard a leg.
-    pub fn aboard(&self, leg: u32) -> u32 {
-        match self.aboard.get(leg as usize) {
-            Some(count) => *count,
-            None => 0,
-        }
+    /// How many passengers are aboard each leg, by its number.
+    pub fn aboard(&self) -> &[u32] {
+        self.aboard.as_slice()
     }
 
     /// Whether it has more than one piece of time.

@@ -5,7 +5,6 @@ ghost use Rattle.desk_data.specs.Situation.{legs_of};
 ghost use Rattle.desk_data.specs.Valid.{IsPlanFor};
 
 use desk_data::{Instance, Leg, LegInfo, Minute, NoMem, Plan, Plane, Row};
-use page_picture::Picture;
 use page_text::{Page, Part};
 use page_values::{airport_name, date, leg_of, plane_name, put_time};
 use plan_changes::{ChangedLeg, LegChange, Shift};
@@ -29,8 +28,16 @@ fn minutes_of(shift: Shift) -> u32 {
     }
 }
 
+// How many passengers are aboard a leg.
+fn aboard_of(aboard: &[u32], leg: Leg) -> u32 {
+    match aboard.get(leg.0 as usize) {
+        Some(count) => *count,
+        None => 0,
+    }
+}
+
 // The rank of a changed leg.
-fn rank_of(picture: &Picture, changed: &ChangedLeg) -> Rank {
+fn rank_of(aboard: &[u32], changed: &ChangedLeg) -> Rank {
     let (kind, minutes) = match changed.change {
         LegChange::Cancelled => (0, 0),
         LegChange::Moved { shift, .. } => (1, minutes_of(shift)),
@@ -39,16 +46,16 @@ fn rank_of(picture: &Picture, changed: &ChangedLeg) -> Rank {
     Rank {
         kind,
         unshifted: u32::MAX - minutes,
-        unfilled: u32::MAX - picture.aboard(changed.leg.0),
+        unfilled: u32::MAX - aboard_of(aboard, changed.leg),
         leg: changed.leg.0,
     }
 }
 
 // The changed legs by their numbers, worst first.
-fn in_order(alloc: Global, picture: &Picture, legs: &[ChangedLeg]) -> Result<Vec<Rank>, NoMem> {
+fn in_order(alloc: Global, aboard: &[u32], legs: &[ChangedLeg]) -> Result<Vec<Rank>, NoMem> {
     let mut ranks = Vec::with_capacity(alloc, legs.len())?;
     for changed in legs {
-        ranks.push(rank_of(picture, changed))?;
+        ranks.push(rank_of(aboard, changed))?;
     }
     ranks.sort()?;
     Ok(ranks)
@@ -111,7 +118,7 @@ fn put_leg(
     page: &mut Page,
     inst: &Instance,
     plan: &Plan,
-    picture: &Picture,
+    aboard: &[u32],
     leg: Leg,
 ) -> Result<(), NoMem>
     requires plan { IsPlanFor inst.now plan.now }
@@ -131,7 +138,7 @@ fn put_leg(
         Part::Own("&#8211;"),
         Part::Given(airport_name(inst, info.dest)),
         Part::Own("</td><td class=\"r\">"),
-        Part::Number(u64::from(picture.aboard(leg.0))),
+        Part::Number(u64::from(aboard_of(aboard, leg))),
         Part::Own("</td><td class=\"was\">"),
     ])?;
     put_times(page, info, info.sched)?;
@@ -142,13 +149,14 @@ fn put_leg(
     page.put(&[Part::Own("</tr>\n")])
 }
 
-/// Puts the legs whose row is not the scheduled one: the cancelled ones, then those that are shifted most.
+/// Puts the legs whose row is not the scheduled one: the cancelled ones, then those that are shifted most. How many passengers
+/// are aboard each leg of the day is handed in, by its number.
 pub fn put_legs(
     page: &mut Page,
     alloc: Global,
     inst: &Instance,
     plan: &Plan,
-    picture: &Picture,
+    aboard: &[u32],
     legs: &[ChangedLeg],
 ) -> Result<(), NoMem>
     requires plan { IsPlanFor inst.now plan.now }
@@ -168,9 +176,9 @@ pub fn put_legs(
 <th scope=\"col\">Route</th><th scope=\"col\" class=\"r\">Aboard</th><th scope=\"col\">Scheduled</th>\
 <th scope=\"col\">Recovered</th><th scope=\"col\" class=\"r\">Minutes</th><th scope=\"col\">Aircraft</th></tr></thead>\n<tbody>\n",
     )])?;
-    let ranks = in_order(alloc, picture, legs)?;
+    let ranks = in_order(alloc, aboard, legs)?;
     for rank in ranks.iter() {
-        put_leg(page, inst, plan, picture, Leg(rank.leg))?;
+        put_leg(page, inst, plan, aboard, Leg(rank.leg))?;
     }
     page.put(&[Part::Own("</tbody></table></section>\n")])
 }
