@@ -7,7 +7,7 @@ ghost use Rattle.desk_runs.specs.Commands.{files_read};
 ghost use Rattle.desk_runs.specs.Inputs.{Inputs, Tells};
 ghost use Rattle.desk_runs.specs.Reading.{ReadsAmong};
 ghost use Rattle.desk_story.specs.Facts.{CanBeDone, as_judged, as_task};
-ghost use Rattle.desk_tasks.specs.Judge.{Judged};
+ghost use Rattle.desk_tasks.specs.Judge.{Judged, verdict_end};
 ghost use Rattle.desk_tasks.specs.Tasks.{judge};
 ghost use Rattle.page_day.specs.Runs.{IsVerdict, PutsPage, Shows};
 
@@ -38,7 +38,9 @@ fn judged_of(task: InputTask) -> Option<InputPlan>
 }
 
 // How a page ends that was put whole.
-fn verdict_of(broken: Option<Broken>) -> Ending {
+fn verdict_of(broken: Option<Broken>) -> Ending
+    ensures { result ≡ verdict_end broken }
+{
     match broken {
         None => Ending::Done,
         Some(_) => Ending::BrokenRule,

@@ -57,12 +57,8 @@ fn put_path(page: &mut Page, inst: &Instance, path: &[(Leg, Cabin)]) -> Result<(
     }
     for pair in path {
         if let Some(info) = leg_of(inst, pair.0) {
-            page.put(&[
-                Part::Given(info.flight.as_slice()),
-                Part::Own(" "),
-                Part::Given(&cabin_letter(pair.1)),
-                Part::Own(" "),
-            ])?;
+            page.put(&[Part::Given(info.flight.as_slice()), Part::Own(" ")])?;
+            page.put(&[Part::Given(&cabin_letter(pair.1)), Part::Own(" ")])?;
         }
     }
     Ok(())
@@ -109,6 +105,8 @@ fn put_group(
         Part::Own("<tr><th scope=\"row\">"),
         Part::Given(info.name.as_slice()),
         Part::Own(" "),
+    ])?;
+    page.put(&[
         Part::Given(&direction_letter(info.inbound)),
         Part::Own("</th><td class=\"r\">"),
         Part::Number(u64::from(group.count)),

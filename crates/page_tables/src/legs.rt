@@ -132,8 +132,12 @@ fn put_leg(
         Part::Own("\">"),
         Part::Given(info.flight.as_slice()),
         Part::Own("</a></th><td class=\"was\">"),
+    ])?;
+    page.put(&[
         Part::Given(&date(Minute(info.day.saturating_mul(1_440)))),
         Part::Own("</td><td>"),
+    ])?;
+    page.put(&[
         Part::Given(airport_name(inst, info.origin)),
         Part::Own("&#8211;"),
         Part::Given(airport_name(inst, info.dest)),
