@@ -33,9 +33,9 @@ fn rank_of(group: &ChangedGroup, place: usize) -> Rank {
     };
     Rank {
         kind,
-        in_time: u32::MAX - late,
-        as_booked: usize::MAX - group.below,
-        fewer: u32::MAX - group.count,
+        in_time: u32::MAX.saturating_sub(late),
+        as_booked: usize::MAX.saturating_sub(group.below),
+        fewer: u32::MAX.saturating_sub(group.count),
         place,
     }
 }
