@@ -3,7 +3,7 @@
 ghost use Rattle.std.specs.Prelude.{◌<◌};
 ghost use Rattle.desk_data.specs.Valid.{IsPlanFor};
 
-use desk_data::{Cabin, Instance, Leg, NoMem, Plan};
+use desk_data::{Cabin, Instance, Leg, LegInfo, NoMem, Plan, ResInfo};
 use desk_text::{cabin_letter, direction_letter};
 use page_text::{Page, Part};
 use page_values::{leg_of, res_of};
@@ -50,6 +50,17 @@ fn in_order(alloc: Global, groups: &[ChangedGroup]) -> Result<Vec<Rank>, NoMem> 
     Ok(ranks)
 }
 
+// Puts a flight.
+fn put_flight(page: &mut Page, info: &LegInfo) -> Result<(), NoMem> {
+    page.put(&[Part::Given(info.flight.as_slice()), Part::Own(" ")])
+}
+
+// Puts the letter of a cabin.
+fn put_cabin(page: &mut Page, cabin: Cabin) -> Result<(), NoMem> {
+    let letter = cabin_letter(cabin);
+    page.put(&[Part::Given(&letter), Part::Own(" ")])
+}
+
 // Puts a path: each flight with its cabin.
 fn put_path(page: &mut Page, inst: &Instance, path: &[(Leg, Cabin)]) -> Result<(), NoMem> {
     if path.is_empty() {
@@ -57,8 +68,8 @@ fn put_path(page: &mut Page, inst: &Instance, path: &[(Leg, Cabin)]) -> Result<(
     }
     for pair in path {
         if let Some(info) = leg_of(inst, pair.0) {
-            page.put(&[Part::Given(info.flight.as_slice()), Part::Own(" ")])?;
-            page.put(&[Part::Given(&cabin_letter(pair.1)), Part::Own(" ")])?;
+            put_flight(page, info)?;
+            put_cabin(page, pair.1)?;
         }
     }
     Ok(())
@@ -89,6 +100,30 @@ fn put_fate(page: &mut Page, group: &ChangedGroup) -> Result<(), NoMem> {
     page.put(&[Part::Own("</td>")])
 }
 
+// Puts the letter of a direction.
+fn put_direction(page: &mut Page, inbound: bool) -> Result<(), NoMem> {
+    let letter = direction_letter(inbound);
+    page.put(&[Part::Given(&letter)])
+}
+
+// Puts the name of a reservation, which begins its row.
+fn put_name(page: &mut Page, info: &ResInfo) -> Result<(), NoMem> {
+    page.put(&[
+        Part::Own("<tr><th scope=\"row\">"),
+        Part::Given(info.name.as_slice()),
+        Part::Own(" "),
+    ])
+}
+
+// Puts how many passengers a group has.
+fn put_count(page: &mut Page, count: u32) -> Result<(), NoMem> {
+    page.put(&[
+        Part::Own("</th><td class=\"r\">"),
+        Part::Number(u64::from(count)),
+        Part::Own("</td><td class=\"was\">"),
+    ])
+}
+
 // Puts a group.
 fn put_group(
     page: &mut Page,
@@ -101,17 +136,9 @@ fn put_group(
     let Some(info) = res_of(inst, group.res) else {
         return Ok(());
     };
-    page.put(&[
-        Part::Own("<tr><th scope=\"row\">"),
-        Part::Given(info.name.as_slice()),
-        Part::Own(" "),
-    ])?;
-    page.put(&[
-        Part::Given(&direction_letter(info.inbound)),
-        Part::Own("</th><td class=\"r\">"),
-        Part::Number(u64::from(group.count)),
-        Part::Own("</td><td class=\"was\">"),
-    ])?;
+    put_name(page, info)?;
+    put_direction(page, info.inbound)?;
+    put_count(page, group.count)?;
     put_path(page, inst, info.path.as_slice())?;
     page.put(&[Part::Own("</td><td>")])?;
     if group.res.0 < inst.reservations() {

@@ -113,6 +113,41 @@ fn put_other(page: &mut Page, inst: &Instance, was: Plane, now: Plane) -> Result
     ])
 }
 
+// Puts the flight of a leg, which leads to its bar in the picture.
+fn put_flight(page: &mut Page, leg: Leg, info: &LegInfo) -> Result<(), NoMem> {
+    page.put(&[
+        Part::Own("<tr><th scope=\"row\"><a href=\"#leg"),
+        Part::Number(u64::from(leg.0)),
+        Part::Own("\">"),
+        Part::Given(info.flight.as_slice()),
+        Part::Own("</a></th><td class=\"was\">"),
+    ])
+}
+
+// Puts the date of a flight, counted in days from 2000-01-01.
+fn put_date(page: &mut Page, day: u32) -> Result<(), NoMem> {
+    let text = date(Minute(day.saturating_mul(1_440)));
+    page.put(&[Part::Given(&text), Part::Own("</td><td>")])
+}
+
+// Puts where a leg leaves and arrives.
+fn put_route(page: &mut Page, inst: &Instance, info: &LegInfo) -> Result<(), NoMem> {
+    page.put(&[
+        Part::Given(airport_name(inst, info.origin)),
+        Part::Own("&#8211;"),
+        Part::Given(airport_name(inst, info.dest)),
+    ])
+}
+
+// Puts how many passengers are aboard.
+fn put_aboard(page: &mut Page, aboard: u32) -> Result<(), NoMem> {
+    page.put(&[
+        Part::Own("</td><td class=\"r\">"),
+        Part::Number(u64::from(aboard)),
+        Part::Own("</td><td class=\"was\">"),
+    ])
+}
+
 // Puts a leg.
 fn put_leg(
     page: &mut Page,
@@ -126,25 +161,10 @@ fn put_leg(
     let Some(info) = leg_of(inst, leg) else {
         return Ok(());
     };
-    page.put(&[
-        Part::Own("<tr><th scope=\"row\"><a href=\"#leg"),
-        Part::Number(u64::from(leg.0)),
-        Part::Own("\">"),
-        Part::Given(info.flight.as_slice()),
-        Part::Own("</a></th><td class=\"was\">"),
-    ])?;
-    page.put(&[
-        Part::Given(&date(Minute(info.day.saturating_mul(1_440)))),
-        Part::Own("</td><td>"),
-    ])?;
-    page.put(&[
-        Part::Given(airport_name(inst, info.origin)),
-        Part::Own("&#8211;"),
-        Part::Given(airport_name(inst, info.dest)),
-        Part::Own("</td><td class=\"r\">"),
-        Part::Number(u64::from(aboard_of(aboard, leg))),
-        Part::Own("</td><td class=\"was\">"),
-    ])?;
+    put_flight(page, leg, info)?;
+    put_date(page, info.day)?;
+    put_route(page, inst, info)?;
+    put_aboard(page, aboard_of(aboard, leg))?;
     put_times(page, info, info.sched)?;
     page.put(&[Part::Own("</td>")])?;
     if leg.0 < inst.legs() {
