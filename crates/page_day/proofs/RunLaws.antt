@@ -70,9 +70,12 @@ verdict_shows x j ending.ReportFault e v = (j, e, v)
 verdict_shows x j ending.Memory e v = tt
 
 -- the verdict of what is broken
+some_none : (item : Broken) → Some item ≡ None → ⊥
+some_none item e = absurd cc
+
 pub verdict_is : (I : Situation) (P : PlanRows) (o : Option Broken) → o ≡ least I P → IsVerdict I P (verdict_end o)
 verdict_is I P None e = sym e
-verdict_is I P (Some item) e = (item, sym e)
+verdict_is I P (Some item) e = λ none. absurd (some_none item (e ∙ none))
 
 pub verdict_puts : (before now : SinkSide) (o : Option Broken) (page : List ℕ) → Appends before.written now.written page → PutsPage before now (verdict_end o)
 verdict_puts before now None page put = (page, put)

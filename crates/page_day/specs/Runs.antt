@@ -1,9 +1,8 @@
 -- What making a page does, by how it ends.
-use Rattle.std.specs.Prelude.{◌≡◌, ℕ, ◌≤◌, List, Some, None, Ok, Err}
+use Rattle.std.specs.Prelude.{◌≡◌, ◌≢◌, ℕ, List, None, Ok, Err}
 use Rattle.std.specs.Io.KnownBytes.{Appends}
 use Rattle.desk_folder.specs.Outside.{SinkSide}
 use Rattle.desk_folder.specs.Calls.{Rose}
-use Rattle.desk_data.specs.declared.broken.Broken.{Broken}
 use Rattle.desk_data.specs.Situation.{Situation}
 use Rattle.desk_data.specs.PlanRows.{PlanRows}
 use Rattle.desk_rules.specs.Least.{least}
@@ -20,7 +19,7 @@ use Rattle.desk_story.specs.Story.{rows_of, task_of}
 -- written, or memory ran out
 abbrev pub IsVerdict : Situation → PlanRows → Ending → Type 0
 IsVerdict I P ending.Done = least I P ≡ None
-IsVerdict I P ending.BrokenRule = (item : Broken) × (least I P ≡ Some item)
+IsVerdict I P ending.BrokenRule = least I P ≢ None
 IsVerdict I P ending.ReportFault = Unit {0}
 IsVerdict I P ending.Memory = Unit {0}
 IsVerdict I P other = ⊥
