@@ -10,20 +10,28 @@
 #![tactic(auto)]
 
 use desk_data::NoMem;
-use desk_folder::{Folder, HostFolder, HostSink, Sink};
+use desk_folder::{Folder, FolderFault, HostFolder, HostSink, Sink};
 use page_day::{Ending, PageFile, directories, fault_text, page_day};
 use std::alloc::Global;
 use std::env;
 use std::env::Env;
+use std::io::ErrorKind;
 use std::process::ExitCode;
 
 // The words after the program's name; none where one of them is no text.
 fn words_of<R: Env + Alloc<A = Global>>(rt: &R) -> Result<Vec<String>, NoMem> {
     let mut words = Vec::new(rt.alloc());
-    if let Ok(args) = env::args(rt) {
-        for (i, word) in args.enumerate() {
-            if i > 0 {
-                words.push(word)?;
+    match env::args(rt) {
+        Ok(args) => {
+            for (i, word) in args.enumerate() {
+                if i > 0 {
+                    words.push(word)?;
+                }
+            }
+        }
+        Err(error) => {
+            if error.kind() == ErrorKind::OutOfMemory {
+                return Err(NoMem);
             }
         }
     }
@@ -40,7 +48,8 @@ fn read_and_put<F: Folder, O: Sink>(
 ) -> Ending {
     match folder.place(alloc, input, output) {
         Ok(()) => page_day(alloc, folder, out),
-        Err(_) => Ending::PlaceFault,
+        Err(FolderFault::Failed) => Ending::PlaceFault,
+        Err(FolderFault::Memory) => Ending::Memory,
     }
 }
 

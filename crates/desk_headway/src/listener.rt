@@ -14,8 +14,8 @@ pub trait Listener {
     fn reached(&mut self, headway: Headway)
         ensures { hears self.old headway self.new };
 
-    /// A move is tried near the plan, or is known without a trial not to be better. No clause says how often this is
-    /// called: it serves a count for whoever waits.
+    /// A move is tried near the plan. Of moves that a law rules out it may be called or not, so no clause says how often
+    /// it is: it serves a count for whoever waits.
     fn tried(&mut self);
 }
 

@@ -17,6 +17,7 @@ const MOST_DAYS: u32 = 60;
 /// A piece of time that is drawn: so many minutes from a moment on.
 #[derive(Clone, Copy)]
 pub(crate) struct Span {
+    /// In minutes since 01/01/2000 00:00.
     pub from: u32,
     pub minutes: u32,
 }
@@ -46,7 +47,7 @@ impl Span {
     }
 }
 
-// The pieces of a time from one hour to another: the whole of it where it is short, and else its days.
+/// The pieces of a time from one hour to another: the whole of it where it is short, and else its days.
 pub(crate) fn spans_of(alloc: Global, first: u32, last: u32) -> Result<Vec<Span>, NoMem> {
     let mut spans = Vec::new(alloc);
     let from = first / 60 * 60;
@@ -93,7 +94,7 @@ pub(crate) fn put_grid(page: &mut Page, span: Span, number: u32) -> Result<(), N
     page.put(&[Part::Own("</g></defs></svg>\n")])
 }
 
-/// Puts the hours above the rows: every hour, or every third one where a piece has many.
+/// Puts the hours above the rows.
 pub(crate) fn put_hours(page: &mut Page, span: Span) -> Result<(), NoMem> {
     page.put(&[
         Part::Own("<thead><tr><th scope=\"col\">"),

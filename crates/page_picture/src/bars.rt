@@ -13,7 +13,7 @@ use std::alloc::Global;
 pub(crate) enum Look {
     /// A leg that is flown: how its time is shifted, and whether another aircraft flies it than is scheduled.
     Flown { shift: Shift, swapped: bool },
-    /// Where a leg is scheduled that is flown at another time or by this aircraft, by its number.
+    /// Where a leg is scheduled that is flown at another time or by another aircraft: `now` is the number of the one that flies it.
     Left { now: u32 },
     /// Where a leg is scheduled that is cancelled.
     Cancelled,
@@ -24,6 +24,7 @@ pub(crate) enum Look {
 pub(crate) struct Bar {
     /// The aircraft, by its number.
     pub plane: u32,
+    /// From when to when it is drawn, in minutes since 01/01/2000 00:00.
     pub from: u32,
     pub to: u32,
     /// The leg, by its number.

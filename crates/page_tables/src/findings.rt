@@ -15,7 +15,7 @@ pub struct Findings {
     pub after: CostTerms,
     /// The legs whose row is not the scheduled one.
     pub legs: Vec<ChangedLeg>,
-    /// The passengers who are not on their scheduled path, or arrive late.
+    /// The groups of the plan to whose path somebody came since the schedule, or of whom something else becomes.
     pub groups: Vec<ChangedGroup>,
 }
 

@@ -17,7 +17,7 @@ pub enum Part<'a> {
     Own(&'static str),
     /// A number, in decimal.
     Number(u64),
-    /// Bytes that came from elsewhere, which are escaped.
+    /// Bytes of any kind, which are escaped.
     Given(&'a [u8]),
 }
 

@@ -16,7 +16,7 @@ pub place_more : (I : Situation) (P Q : PlanRows) (r k : ℕ) (group : Group) �
 place_more I P Q r k group is =
     let f : ℕ → List ChangedGroup = λ place. if_changed (told I P Q r place (slice_index_or (groups_at Q r) place no_group)) in
     rw (add-one k) (
-      flat_map-append f (numbers k) (k ∷ [])
-      ∙ ap (λ more. flat_map f (numbers k) ++ more) (append-nil (f k))
-      ∙ ap (λ (g : Group). flat_map f (numbers k) ++ if_changed (told I P Q r k g)) (sym is)
+    flat_map-append f (numbers k) (k ∷ [])
+    ∙ ap (λ more. flat_map f (numbers k) ++ more) (append-nil (f k))
+    ∙ ap (λ (g : Group). flat_map f (numbers k) ++ if_changed (told I P Q r k g)) (sym is)
     )

@@ -11,8 +11,10 @@ use std::alloc::Global;
 /// By how many minutes a leg departs earlier or later than before.
 #[derive(Clone, Copy, PartialEq, Eq)]
 pub enum Shift {
+    /// By so many minutes, at least one.
     Earlier(u32),
     Same,
+    /// By so many minutes, at least one.
     Later(u32),
 }
 
@@ -30,7 +32,9 @@ pub enum LegChange {
 /// A leg that changed.
 #[derive(Clone, Copy)]
 pub struct ChangedLeg {
+    /// The leg, by its number.
     pub leg: Leg,
+    /// What became of it.
     pub change: LegChange,
 }
 
