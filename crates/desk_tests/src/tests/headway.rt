@@ -78,7 +78,7 @@ impl Listener for Notes {
 }
 
 /// What is heard of the recovery of that day.
-fn notes(alloc: Global) -> Result<Notes, NoMem> {
+fn notes_of_a_run(alloc: Global) -> Result<Notes, NoMem> {
     let mut notes = Notes {
         heard: Vec::new(alloc),
         tried: 0,
@@ -110,7 +110,7 @@ fn is_as_wanted(notes: &Notes) -> bool {
 
 #[test]
 fn a_listener_hears_of_each_batch_and_each_accepted_move(rt: HostRuntime) -> Result<(), Fail> {
-    let is_as_wanted = is_as_wanted(&notes(rt.alloc())?);
+    let is_as_wanted = is_as_wanted(&notes_of_a_run(rt.alloc())?);
     assert!(rt; is_as_wanted);
     Ok(())
 }
