@@ -11,8 +11,8 @@ use desk_data::{Instance, NoMem};
 use desk_model::Event;
 use std::alloc::Global;
 
-// Takes one event.
-fn take_event(alloc: Global, book: &mut Book, caller: u32, event: &Event) -> Result<(), NoMem>
+/// Takes one event, asked by this caller. The only error is out of memory.
+pub fn take_event(alloc: Global, book: &mut Book, caller: u32, event: &Event) -> Result<(), NoMem>
     requires { IsAskable book.old.opening event.now }
     ensures { OnOk result (book.new ≡ with_entry book.old caller event.now) }
 {
@@ -28,8 +28,8 @@ fn take_event(alloc: Global, book: &mut Book, caller: u32, event: &Event) -> Res
     }
 }
 
-/// The book of an instance after these events, each with its caller.
-pub(crate) fn run_events(
+/// The book of an instance after these events, each with its caller. The only error is out of memory.
+pub fn run_events(
     alloc: Global,
     inst: Instance,
     events: &[(u32, Event)],

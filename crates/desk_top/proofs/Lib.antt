@@ -4,3 +4,5 @@ pub mod Written
 pub mod Commands
 pub mod Placed
 pub mod Ranges
+pub mod StoreLaws
+pub mod StorePlaced

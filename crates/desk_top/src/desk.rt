@@ -1,21 +1,30 @@
 //! The top call.
 
-ghost use Rattle.std.specs.Prelude.{◌≡◌, ℕ, ◌≤◌, Bool, false, None, Some, map};
+ghost use Rattle.std.specs.Prelude.{◌≡◌, ◌⊎◌, ℕ, ◌≤◌, Bool, false, None, Some, IfSome, map};
 ghost use Rattle.std.specs.String.{string_bytes};
 ghost use Rattle.desk_folder.specs.Outside.{Directories};
-ghost use Rattle.desk_words.specs.declared.asked.Command.TheVariants.{Replay, Recover, Check, Gen, Trial};
+ghost use Rattle.std.specs.Option.{option_map};
+ghost use Rattle.desk_folder.specs.Calls.{Rose};
+ghost use Rattle.desk_disk.specs.FileStates.{HasNothingPending};
+ghost use Rattle.desk_words.specs.declared.asked.Command.TheVariants.{Replay, Store, Recover, Check, Gen, Trial};
+ghost use Rattle.desk_words.specs.Asked.{named};
 ghost use Rattle.desk_words.specs.Commands.{command};
-ghost use Rattle.desk_runs.specs.Commands.{IsCommand, asked_by, asked_here, files_read};
+ghost use Rattle.desk_runs.specs.Commands.{IsCommand, asked_by, asked_here, asks_disk, files_read, is_of_disk};
 ghost use Rattle.desk_runs.specs.Inputs.{Inputs, Tells};
 ghost use Rattle.desk_runs.specs.Runs.{Between};
 ghost use Rattle.desk_runs.specs.Causes.{IsDoneAt};
+ghost use Rattle.desk_runs.proofs.Composed.{at};
+ghost use Rattle.desk_store.specs.Journal.{OnlyOpens};
+ghost use Rattle.desk_top.specs.Store.{kept_directories, HasBegun, HoldsAll, IsPlacedAt, IsStored, IsWrittenAt, RunsKept, Shown, StandsAlways};
 ghost use Rattle.desk_top.specs.Desk.{Runs, RunsAsPromised, IsReplayed, IsRecovered, IsRecoveredByTeam, IsTried, IsChecked, IsGenerated};
 
 use crate::plain::{run_plain, tell};
+use crate::store::run_store;
 use crate::workers::run_workers;
+use desk_disk::{Disk, DiskFault};
 use desk_folder::{Folder, FolderFault, Gate, Sink};
-use desk_runs::Ending;
-use desk_words::{Command, command};
+use desk_runs::{DiskEnd, Ending};
+use desk_words::{Command, Directories, command};
 use std::alloc::Global;
 use std::sync::Wait;
 use std::thread::Threads;
@@ -29,7 +38,8 @@ fn run<R: Threads + Wait + Sync, F: Folder, O: Sink, G: Gate>(
     out: &mut O,
     gate: &G,
 ) -> u8
-    requires { IsCommand command.now }
+    requires ranges { IsCommand command.now }
+    requires diskless { is_of_disk command.now ≡ false }
     ensures { Between F.outside O.report folder.old out.old folder.new out.new
         (λ before now. RunsAsPromised (asked_here command.now) before now result) }
 {
@@ -48,6 +58,7 @@ fn run<R: Threads + Wait + Sync, F: Folder, O: Sink, G: Gate>(
         Command::Replay | Command::Check | Command::Gen { .. } | Command::Trial { .. } => {
             run_plain(alloc, command, folder, out)
         }
+        Command::Store => unreachable!(),
     }
 }
 
@@ -60,6 +71,7 @@ fn reported_run<R: Threads + Wait + Sync, F: Folder, O: Sink, G: Gate>(
     out: &mut O,
     gate: &G,
 ) -> u8
+    requires diskless { asks_disk (asked_by (map string_bytes words.now)) ≡ false }
     ensures { Between F.outside O.report folder.old out.old folder.new out.new
         (λ before now. Runs (asked_by (map string_bytes words.now)) before now result) }
 {
@@ -76,24 +88,70 @@ fn reported_run<R: Threads + Wait + Sync, F: Folder, O: Sink, G: Gate>(
     }
 }
 
+// The directories of words that ask for a journal on the disk.
+fn kept_directories(words: &[String]) -> Option<Directories<'_>>
+    ensures { option_map named result ≡ kept_directories (command (map string_bytes words.now)) }
+{
+    let asked = command(words)?;
+    match asked.command {
+        Command::Store => asked.directories,
+        _ => None,
+    }
+}
+
+// Keeps the story of these directories, the folder's named first, and puts the line that says why it was not done.
+fn stored_run<F: Folder, O: Sink, D: Disk>(
+    alloc: Global,
+    dirs: &Directories<'_>,
+    folder: &mut F,
+    out: &mut O,
+    disk: &mut D,
+) -> u8
+    requires nothing_pending { IfSome (D.shown disk.old) (λ was. HasNothingPending was.file) }
+    ensures promise { Between F.outside O.report folder.old out.old folder.new out.new (λ before now.
+        RunsKept (Some (at Store (named dirs.now))) before now (D.faults disk.old) (D.faults disk.new) result) }
+    ensures stored { Between F.outside O.report folder.old out.old folder.new out.new (λ before now.
+        (x : Inputs) → Tells (files_read Store) before.folder x → IsWrittenAt result ⊎ HasBegun before now →
+        Shown (D.shown disk.old) (D.shown disk.new) (HoldsAll x)) }
+    ensures untouched { (x : Inputs) → Tells (files_read Store) (F.outside folder.old) x →
+        Shown (D.shown disk.old) (D.shown disk.new) (StandsAlways x) }
+    ensures refused { result ≡ 3 → Shown (D.shown disk.old) (D.shown disk.new) OnlyOpens }
+    ensures failed { result ≡ 8 → Rose (D.faults disk.old) (D.faults disk.new) }
+    ensures directory { IsPlacedAt result → IfSome (D.directory disk.old) (λ _. D.directory disk.new ≡ Some (named dirs.now).output) }
+{
+    match folder.place(alloc, dirs.input, dirs.output) {
+        Ok(()) => {}
+        Err(FolderFault::Failed) => return tell(alloc, Ending::PlaceFault, out),
+        Err(FolderFault::Memory) => return tell(alloc, Ending::Memory, out),
+    }
+    match disk.place(alloc, dirs.output) {
+        Ok(()) => run_store(alloc, folder, out, disk),
+        Err(DiskFault::Failed) => tell(alloc, Ending::OnDisk(DiskEnd::Fault), out),
+        Err(DiskFault::Memory) => tell(alloc, Ending::Memory, out),
+    }
+}
+
 /// The desk: does what the words say, the program's name left out, and answers the status.
 ///
 /// 0: done; of a replay, a recovery or a trial with a plan at the end, of a check with a plan that breaks no
 /// rule. 1: a replay, a recovery or a trial was done, with no plan at the end. 2: the words are no command.
-/// 3: the input is refused. 4: the folder failed to name the directories or to read a file. 5: the folder
+/// 3: the input is refused, or the journal on the disk. 4: the folder failed to name the directories or to read a file. 5: the folder
 /// failed to write a file, or the sink to write the report. 6: memory ran out. 7: a check was done, and the
-/// plan breaks a rule. From 2 to 6, a line in the report says why.
+/// plan breaks a rule. 8: the disk failed. From 2 to 6, and at 8, a line in the report says why.
 ///
+/// `store` keeps each answered event on the disk before the next one is answered; no other command touches the disk.
 /// A recovery with workers starts a thread for each beside the caller, which does the work of those that can't be
 /// started; it may wait, and enters the gate as `run_workers` says. Every other command waits for nobody.
-pub fn desk_main<R: Threads + Wait + Sync, F: Folder, O: Sink, G: Gate>(
+pub fn desk_main<R: Threads + Wait + Sync, F: Folder, O: Sink, G: Gate, D: Disk>(
     rt: &R,
     alloc: Global,
     words: &[String],
     folder: &mut F,
     out: &mut O,
     gate: &G,
+    disk: &mut D,
 ) -> u8
+    requires nothing_pending { IfSome (D.shown disk.old) (λ was. HasNothingPending was.file) }
     // The headline: where the folder shows the bytes of its input, each replay that was done has written
     // the journal of a legal history of the events that it read, and the last plan of that history.
     ensures headline { (dirs : Directories) → command (map string_bytes words.now) ≡ Some (Replay, Some dirs) →
@@ -132,12 +190,56 @@ pub fn desk_main<R: Threads + Wait + Sync, F: Folder, O: Sink, G: Gate>(
         command (map string_bytes words.now) ≡ Some (Gen seed size, Some dirs) → IsDoneAt result →
         Between F.outside O.report folder.old out.old folder.new out.new (λ before now. IsGenerated before now seed size result) }
 
-    // All that is promised of each run of any command, with one and the same work in all of it: how the run
+    // The headline of a run that keeps its journal on the disk: each that was done has written what a replay of the same
+    // input writes, with how many entries the disk held as the first line of its report.
+    ensures stored_headline { (dirs : Directories) → command (map string_bytes words.now) ≡ Some (Store, Some dirs) →
+        (x : Inputs) → Tells (files_read Store) (F.outside folder.old) x → IsDoneAt result →
+        Between F.outside O.report folder.old out.old folder.new out.new (λ before now. IsStored before now x result) }
+
+    // All that is promised of such a run: the journal on the disk ended it, or it keeps all that is promised of a replay, with
+    // that line.
+    ensures stored_promise { (dirs : Directories) → command (map string_bytes words.now) ≡ Some (Store, Some dirs) →
+        Between F.outside O.report folder.old out.old folder.new out.new (λ before now.
+        RunsKept (asked_by (map string_bytes words.now)) before now (D.faults disk.old) (D.faults disk.new) result) }
+
+    // At 0, 1 and 5, and where an output file has got a byte, the file on the disk opens as the whole history, whatever crash
+    // comes.
+    ensures stored { (dirs : Directories) → command (map string_bytes words.now) ≡ Some (Store, Some dirs) →
+        Between F.outside O.report folder.old out.old folder.new out.new (λ before now.
+        (x : Inputs) → Tells (files_read Store) before.folder x → IsWrittenAt result ⊎ HasBegun before now →
+        Shown (D.shown disk.old) (D.shown disk.new) (HoldsAll x)) }
+
+    // Until the comparison with what the disk holds has passed each crash leaves all bytes but the one that opening sets; from
+    // then on, at any moment, a file that opens as a beginning of the history, with all entries that the disk held.
+    ensures untouched { (dirs : Directories) → command (map string_bytes words.now) ≡ Some (Store, Some dirs) →
+        (x : Inputs) → Tells (files_read Store) (F.outside folder.old) x →
+        Shown (D.shown disk.old) (D.shown disk.new) (StandsAlways x) }
+
+    // At 3 it is the former.
+    ensures stored_refused { (dirs : Directories) → command (map string_bytes words.now) ≡ Some (Store, Some dirs) →
+        result ≡ 3 → Shown (D.shown disk.old) (D.shown disk.new) OnlyOpens }
+
+    // 8 comes only where the disk failed.
+    ensures stored_failed { (dirs : Directories) → command (map string_bytes words.now) ≡ Some (Store, Some dirs) →
+        result ≡ 8 → Rose (D.faults disk.old) (D.faults disk.new) }
+
+    // At 0, 1, 3 and 5 the directory of the disk is that of the output.
+    ensures stored_in { (dirs : Directories) → command (map string_bytes words.now) ≡ Some (Store, Some dirs) →
+        IsPlacedAt result → IfSome (D.directory disk.old) (λ _. D.directory disk.new ≡ Some dirs.output) }
+
+    // Every other run leaves the disk as it was.
+    ensures other_disk { asks_disk (asked_by (map string_bytes words.now)) ≡ false → disk.new ≡ disk.old }
+
+    // All that is promised of each run of any other command, with one and the same work in all of it: how the run
     // ended (`runs`); what its status means (`means`: `done`, `read`, `usage`, `usage_only`, `refused_where`,
     // `refused`, `fault`, `complete`); what stands outside after it (`stands`: `named`, `unwritten`, `begun`,
     // `fault_reported`); and what is untouched (`alone`: `unnamed`, `unread`, `in_order`, `unput`).
-    ensures promise { Between F.outside O.report folder.old out.old folder.new out.new
+    ensures promise { asks_disk (asked_by (map string_bytes words.now)) ≡ false →
+        Between F.outside O.report folder.old out.old folder.new out.new
         (λ before now. RunsAsPromised (asked_by (map string_bytes words.now)) before now result) }
 {
-    reported_run(rt, alloc, words, folder, out, gate)
+    match kept_directories(words) {
+        Some(dirs) => stored_run(alloc, &dirs, folder, out, disk),
+        None => reported_run(rt, alloc, words, folder, out, gate),
+    }
 }

@@ -1,0 +1,6 @@
+pub mod Entered
+pub mod Runs
+pub mod Comparing
+pub mod Adding
+pub mod Storing
+pub mod Keeping

@@ -1,0 +1,167 @@
+-- A run that keeps its journal on a disk, from the naming of its directories.
+use Rattle.std.proofs.Common.{◌≡◌, ◌≢◌, ◌⊎◌, inl, inr, ℕ, ◌≤◌, true, false, List, length, refl, sym, ap, subst, ◌∙◌, arith}
+use Rattle.std.specs.Prelude.{Option, Some, None, IfSome, Result, Ok, Err}
+use Rattle.std.specs.Option.{option_map}
+use Rattle.desk_folder.specs.declared.files.File.{File}
+use Rattle.desk_folder.specs.declared.faults.FolderFault.{FolderFault}
+use Rattle.desk_folder.specs.Outside.{Outside, SinkSide, Directories, PlacesOnly}
+use Rattle.desk_folder.specs.Calls.{Names, Rose}
+use Rattle.folder_io.specs.Outputs.{is_among}
+use Rattle.desk_disk.specs.declared.faults.DiskFault.{DiskFault}
+use Rattle.desk_disk.specs.declared.faults.DiskFault.TheVariants as disk_fault
+use Rattle.desk_disk.specs.FileStates.{FileState, DiskSide, HasNothingPending, stays}
+use Rattle.desk_disk.specs.Calls.{Stays}
+use Rattle.desk_disk.specs.Crashes.{Leaves, LeavesOnly}
+use Rattle.desk_disk.proofs.Runs.{starts, goes_on, joins}
+use Rattle.desk_disk.proofs.Torn.{nothing_pending_is}
+use Rattle.disk_records.specs.Files.{IsOpening}
+use Rattle.disk_records.specs.Stored.{Stores}
+use Rattle.desk_words.specs.declared.asked.Command.{Command}
+use Rattle.desk_words.specs.declared.asked.Command.TheVariants as command_is
+use Rattle.desk_words.specs.Commands.{Asking}
+use Rattle.desk_runs.specs.declared.ending.DiskEnd.TheVariants as disk_end
+use Rattle.desk_runs.specs.declared.ending.Ending.{Ending}
+use Rattle.desk_runs.specs.declared.ending.Ending.TheVariants as ending
+use Rattle.desk_runs.specs.Commands.{Ask, asks, asks_disk, files_read, is_of_disk}
+use Rattle.desk_runs.specs.Inputs.{Inputs, Tells}
+use Rattle.desk_runs.specs.Reading.{IsUnread}
+use Rattle.desk_runs.specs.Causes.{IsDoneAt}
+use Rattle.desk_runs.specs.Runs.{World, world, TellsEnd, SetsTask}
+use Rattle.desk_runs.specs.Promised.{IsPromised}
+use Rattle.desk_runs.proofs.Composed.{here, at, runs-placed, runs-tells_end}
+use Rattle.desk_runs.proofs.PromisedLaw.{promised}
+use Rattle.desk_store.specs.Held.{completed, story_payloads}
+use Rattle.desk_store.specs.Journal.{OnlyOpens, PassesComparison}
+use Rattle.desk_top.specs.Store.{kept_directories, kept_meaning, EndsAtDisk, RunsKept, Keeps, StandsAlways, HoldsAll, HasBegun, IsPlacedAt, IsWrittenAt, Shown}
+use Rattle.desk_top.proofs.Placed.{obeys-unplaced, obeys-unnamed, unread_placed, unput_placed}
+use Rattle.desk_top.proofs.StoreLaws.{only_opens, shown_is, shown-same}
+
+-- ---- the folder
+
+pub tells-placed : (before placed : Outside) (x : Inputs) → PlacesOnly before placed → Tells (files_read command_is.Store) before x → Tells (files_read command_is.Store) placed x
+tells-placed before placed x only tells f among = only.left f ∙ tells f among
+
+unread_from : (before placed now : Outside) (f : File) → PlacesOnly before placed → IsUnread placed now f → IsUnread before now f
+unread_from before placed now f only h = record { left = h.left ∙ only.left f; faults = h.faults ∙ only.next_faults f }
+
+at_disk_placed : (dirs : Directories) (before placed now : Outside) (sink sink' : SinkSide) (first faults faults' code : ℕ) → PlacesOnly before placed → first ≤ faults → EndsAtDisk (Some (here command_is.Store)) (world placed sink) (world now sink') faults faults' code → EndsAtDisk (Some (at command_is.Store dirs)) (world before sink) (world now sink') first faults' code
+at_disk_placed dirs before placed now sink sink' first faults faults' code only le h = record {
+  how = h.how;
+  answer = h.answer;
+  line = h.line;
+  status = h.status;
+  cause = λ is. (let rose : Rose faults faults' = h.cause is in omega (arith, le, rose));
+  accepted = λ other x tells. h.accepted other x (tells-placed before placed x only tells);
+  written = λ f. h.written f ∙ only.written f;
+  unread = λ f other. unread_from before placed now f only (h.unread f other);
+  unput = λ f. record { written = (h.unput f).written ∙ only.written f; faults = (h.unput f).faults ∙ only.put_faults f };
+}
+
+pub kept-placed : (dirs : Directories) (before placed now : Outside) (sink sink' : SinkSide) (first faults faults' code : ℕ) (ok : Unit {0}) → Names before.directories placed.directories dirs (let r : Result (Unit {0}) FolderFault = Ok ok in r) → PlacesOnly before placed → first ≤ faults
+    → RunsKept (Some (here command_is.Store)) (world placed sink) (world now sink') faults faults' code → RunsKept (Some (at command_is.Store dirs)) (world before sink) (world now sink') first faults' code
+kept-placed dirs before placed now sink sink' first faults faults' code ok names only le (inl h) = inl (at_disk_placed dirs before placed now sink sink' first faults faults' code only le h)
+kept-placed dirs before placed now sink sink' first faults faults' code ok names only le (inr h) =
+    inr (h.0, promised (kept_meaning h.0) (Some (at command_is.Store dirs)) (world before sink) (world now sink') code
+    (runs-placed (kept_meaning h.0) command_is.Store dirs before placed now sink sink' code ok names only h.1.runs))
+
+pub kept-unplaced : (dirs : Directories) (before placed : Outside) (sink now : SinkSide) (faults faults' code : ℕ) → PlacesOnly before placed → Rose before.place_faults placed.place_faults → TellsEnd ending.PlaceFault sink now code → RunsKept (Some (at command_is.Store dirs)) (world before sink) (world placed now) faults faults' code
+kept-unplaced dirs before placed sink now faults faults' code only rose given =
+    inr (0, promised (kept_meaning 0) (Some (at command_is.Store dirs)) (world before sink) (world placed now) code
+    (runs-tells_end (kept_meaning 0) (Some (at command_is.Store dirs)) (world before sink) (world placed sink) now ending.PlaceFault code (obeys-unplaced (kept_meaning 0) command_is.Store dirs before placed sink only rose) given))
+
+pub kept-unnamed : (dirs : Directories) (before placed : Outside) (sink now : SinkSide) (faults faults' code : ℕ) → PlacesOnly before placed → TellsEnd ending.Memory sink now code → RunsKept (Some (at command_is.Store dirs)) (world before sink) (world placed now) faults faults' code
+kept-unnamed dirs before placed sink now faults faults' code only given =
+    inr (0, promised (kept_meaning 0) (Some (at command_is.Store dirs)) (world before sink) (world placed now) code
+    (runs-tells_end (kept_meaning 0) (Some (at command_is.Store dirs)) (world before sink) (world placed sink) now ending.Memory code (obeys-unnamed (kept_meaning 0) command_is.Store dirs before placed sink only) given))
+
+-- the disk could not name its directory
+pub kept-undisked : (dirs : Directories) (before placed : Outside) (sink now : SinkSide) (faults faults' code : ℕ) → PlacesOnly before placed → Rose faults faults' → TellsEnd (ending.OnDisk disk_end.Fault) sink now code → RunsKept (Some (at command_is.Store dirs)) (world before sink) (world placed now) faults faults' code
+kept-undisked dirs before placed sink now faults faults' code only rose given = inl (record {
+  how = disk_end.Fault;
+  answer = given.answer;
+  line = given.line;
+  status = given.status;
+  cause = λ is. rose;
+  accepted = λ other x tells. absurd (other refl);
+  written = only.written;
+  unread = λ f other. unread_placed before placed f only;
+  unput = λ f. unput_placed before placed f only;
+})
+
+-- a file that had no byte before its directory was named has none that this run put there
+pub begun-placed : (before placed now : Outside) (sink sink' : SinkSide) → PlacesOnly before placed → HasBegun (world before sink) (world now sink') → HasBegun (world placed sink) (world now sink')
+begun-placed before placed now sink sink' only begun = (begun.0, λ e. begun.1 (e ∙ only.written begun.0))
+
+pub began-placed : (before placed now : Outside) (sink sink' : SinkSide) (code : ℕ) → PlacesOnly before placed → IsWrittenAt code ⊎ HasBegun (world before sink) (world now sink') → IsWrittenAt code ⊎ HasBegun (world placed sink) (world now sink')
+began-placed before placed now sink sink' code only (inl at) = inl at
+began-placed before placed now sink sink' code only (inr begun) = inr (begun-placed before placed now sink sink' only begun)
+
+-- ---- the disk
+
+-- one call that leaves the file, and then a run
+placed_leaves : (was now : DiskSide) (P : List ℕ → Type 0) → Leaves P was.file → LeavesOnly (stays was) now P → LeavesOnly was now P
+placed_leaves was now P here run = joins was (stays was) now P (goes_on was was was.file P (starts was P here) here) run
+
+opening_leaves : (was : DiskSide) → HasNothingPending was.file → Leaves (IsOpening was.file.bytes) was.file
+opening_leaves was nothing c left = inl (nothing_pending_is was.file c nothing left)
+
+pub opens-placed : (was now : DiskSide) → HasNothingPending was.file → OnlyOpens (stays was) now → OnlyOpens was now
+opens-placed was now nothing run = placed_leaves was now (IsOpening was.file.bytes) (opening_leaves was nothing) run
+
+keeps_placed : (x : Inputs) (was now : DiskSide) → HasNothingPending was.file → Keeps x (stays was) now → Keeps x was now
+keeps_placed x was now nothing h = record {
+  k = h.k;
+  sets = h.sets;
+  records = h.records;
+  passes = record {
+    held = h.passes.held;
+    first = h.passes.first;
+    stores = record { compared = h.passes.stores.compared; opening = opens-placed was h.passes.stores.compared nothing h.passes.stores.opening; adding = h.passes.stores.adding };
+  };
+}
+
+pub always-placed : (x : Inputs) (was now : DiskSide) → HasNothingPending was.file → StandsAlways x (stays was) now → StandsAlways x was now
+always-placed x was now nothing (inl h) = inl (opens-placed was now nothing h)
+always-placed x was now nothing (inr h) = inr (keeps_placed x was now nothing h)
+
+pub all-placed : (x : Inputs) (was now : DiskSide) → HasNothingPending was.file → HoldsAll x (stays was) now → HoldsAll x was now
+all-placed x was now nothing h = record { keeps = keeps_placed x was now nothing h.keeps; all = h.all }
+
+-- what is shown after such a call
+pub shown-placed : (shown mid shown' : Option DiskSide) (ok : Unit {0}) (P : DiskSide → DiskSide → Type 0) → IfSome shown (λ d. HasNothingPending d.file) → Stays shown mid (let r : Result (Unit {0}) DiskFault = Ok ok in r)
+    → ((was now : DiskSide) → HasNothingPending was.file → P (stays was) now → P was now) → Shown mid shown' P → Shown shown shown' P
+shown-placed shown mid shown' ok P nothing placed from run was is =
+    let there : mid ≡ Some (stays was) = placed ∙ ap (option_map stays) is in
+    let d = run (stays was) there in
+    (d.0, d.1, from was d.0 (shown_is shown was is nothing) d.2)
+
+pub pending-placed : (shown mid : Option DiskSide) (ok : Unit {0}) → IfSome shown (λ d. HasNothingPending d.file) → Stays shown mid (let r : Result (Unit {0}) DiskFault = Ok ok in r) → IfSome mid (λ d. HasNothingPending d.file)
+pending-placed None mid ok nothing placed = subst (λ (o : Option DiskSide). IfSome o (λ d. HasNothingPending d.file)) (sym placed) tt
+pending-placed (Some was) mid ok nothing placed = subst (λ (o : Option DiskSide). IfSome o (λ d. HasNothingPending d.file)) (sym placed) nothing
+
+-- a call that failed to name the directory leaves the file too
+pub shown-failed : (shown mid : Option DiskSide) (P : DiskSide → DiskSide → Type 0) → IfSome shown (λ d. HasNothingPending d.file) → Stays shown mid (let r : Result (Unit {0}) DiskFault = Err disk_fault.Failed in r)
+    → ((was now : DiskSide) → OnlyOpens was now → P was now) → Shown shown mid P
+shown-failed shown mid P nothing placed each was is =
+    let none = shown_is shown was is nothing in
+    (stays was, placed ∙ ap (option_map stays) is, each was (stays was) (opens-placed was (stays was) none (only_opens (stays was) none)))
+
+-- ---- the words
+
+pub kept-asked : (o : Option Asking) (dirs : Directories) → Some dirs ≡ kept_directories o → o ≡ Some (command_is.Store, Some dirs)
+kept-asked None dirs is = absurd cc
+kept-asked (Some (command_is.Store, d)) dirs is = ap (λ (d : Option Directories). Some (command_is.Store, d)) (sym is)
+kept-asked (Some (command_is.Replay, d)) dirs is = absurd cc
+kept-asked (Some (command_is.Recover workers moves live, d)) dirs is = absurd cc
+kept-asked (Some (command_is.Check, d)) dirs is = absurd cc
+kept-asked (Some (command_is.Gen seed size, d)) dirs is = absurd cc
+kept-asked (Some (command_is.Trial seed size, d)) dirs is = absurd cc
+
+pub others-free : (o : Option Asking) → kept_directories o ≡ None → ((c : Command) → Some (c, None) ≡ o → is_of_disk c ≡ false) → asks_disk (option_map asks o) ≡ false
+others-free None none free = refl
+others-free (Some (command_is.Store, d)) none free = free command_is.Store (ap (λ (d : Option Directories). Some (command_is.Store, d)) (sym none))
+others-free (Some (command_is.Replay, d)) none free = refl
+others-free (Some (command_is.Recover workers moves live, d)) none free = refl
+others-free (Some (command_is.Check, d)) none free = refl
+others-free (Some (command_is.Gen seed size, d)) none free = refl
+others-free (Some (command_is.Trial seed size, d)) none free = refl

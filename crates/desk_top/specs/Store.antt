@@ -1,0 +1,100 @@
+-- What is said of a run that keeps its journal on a disk.
+use Rattle.std.specs.Prelude.{◌≡◌, ◌≢◌, ◌≤◌, ◌⊎◌, ℕ, false, List, Option, Some, None, Result, Ok}
+use Rattle.desk_folder.specs.declared.files.File.{File}
+use Rattle.desk_folder.specs.declared.faults.FolderFault.{FolderFault}
+use Rattle.desk_folder.specs.Outside.{Directories}
+use Rattle.desk_folder.specs.Calls.{Rose}
+use Rattle.folder_io.specs.Outputs.{is_among, IsUnput}
+use Rattle.folder_io.specs.Texts.{PutsReport}
+use Rattle.desk_disk.specs.FileStates.{DiskSide}
+use Rattle.desk_model.specs.States.{opening}
+use Rattle.desk_model.specs.Histories.{state}
+use Rattle.desk_words.specs.declared.asked.Command.{Command}
+use Rattle.desk_words.specs.declared.asked.Command.TheVariants as command_is
+use Rattle.desk_words.specs.Commands.{Asking}
+use Rattle.desk_runs.specs.declared.ending.DiskEnd.{DiskEnd}
+use Rattle.desk_runs.specs.declared.ending.DiskEnd.TheVariants as disk_end
+use Rattle.desk_runs.specs.declared.ending.Ending.TheVariants as ending
+use Rattle.desk_runs.specs.Commands.{Ask, files_read, reads}
+use Rattle.desk_runs.specs.Inputs.{Inputs, Tells}
+use Rattle.desk_runs.specs.Reading.{IsUnread}
+use Rattle.desk_runs.specs.Outcome.{fault_text}
+use Rattle.desk_runs.specs.Runs.{World, Meaning, status_after}
+use Rattle.desk_runs.specs.Promised.{IsPromised}
+use Rattle.desk_tasks.specs.Play.{Story, plan_status}
+use Rattle.desk_tasks.specs.Keep.{KeptStory, kept}
+use Rattle.desk_tasks.specs.Tasks.{play, IsRunnable}
+use Rattle.desk_tasks.specs.Headline.{HasKept}
+use Rattle.desk_story.specs.Story.{Rows, rows_of, task_of, kept_of}
+use Rattle.desk_store.specs.Journal.{IsKept, OnlyOpens, PassesComparison}
+
+-- the directories of words that ask for a journal on a disk
+abbrev pub kept_directories : Option Asking → Option Directories
+kept_directories (Some (command_is.Store, dirs)) = dirs
+kept_directories other = None
+
+-- what inputs mean to such a run, where the disk held so many entries: the story with the batches of its day, and what that comes
+-- to, which is what a replay comes to with that number first in the report
+abbrev pub kept_meaning : ℕ → Meaning Rows KeptStory
+kept_meaning held = record { rows = rows_of; task = λ c x. kept_of x; outcome = λ k. kept held k.story; IsSound = λ k. IsRunnable k.story }
+
+-- a run that the journal on the disk ended: its line is reported, and nothing is written
+pub record EndsAtDisk (ask : Option Ask) (before now : World) (faults faults' : ℕ) (code : ℕ) : Type 0 where
+  pub how : DiskEnd
+  pub answer : Result (Unit {0}) FolderFault
+  pub line : PutsReport before.sink now.sink (fault_text (ending.OnDisk how)) answer
+  pub status : code ≡ status_after (ending.OnDisk how) answer
+  -- the disk failed only where its count rose; and else the input was accepted
+  pub cause : how ≡ disk_end.Fault → Rose faults faults'
+  pub accepted : how ≢ disk_end.Fault → (x : Inputs) → Tells (files_read command_is.Store) before.folder x → (k : KeptStory) × (kept_of x ≡ Ok k)
+  pub written : (f : File) → now.folder.written f ≡ before.folder.written f
+  pub unread : (f : File) → is_among f (reads ask) ≡ false → IsUnread before.folder now.folder f
+  pub unput : (f : File) → IsUnput before.folder now.folder f
+
+-- or it keeps all that is promised of each run, as a replay does, where the disk held so many entries
+abbrev pub RunsKept : Option Ask → World → World → ℕ → ℕ → ℕ → Type 0
+RunsKept ask before now faults faults' code = EndsAtDisk ask before now faults faults' code ⊎ ((held : ℕ) × IsPromised (kept_meaning held) ask before now code)
+
+-- once it was done: the inputs give the story that a replay of them gives, and there is a history with the headline, whose number of
+-- entries that the disk held stands first in the report; the status is 1 where it ends with no plan and else 0
+pub record IsStored (before now : World) (x : Inputs) (code : ℕ) : Type 0 where
+  pub story : Story
+  pub sets : task_of command_is.Replay x ≡ Ok (play story)
+  pub held : ℕ
+  pub headline : HasKept before now story held
+  pub status : code ≡ plan_status (state (opening story.day) headline.history).broken
+
+-- ---- the journal on a disk that shows its file
+
+-- the story of the inputs is kept behind the records that the file held
+pub record Keeps (x : Inputs) (was now : DiskSide) : Type 0 where
+  pub k : KeptStory
+  pub sets : kept_of x ≡ Ok k
+  pub records : List (List ℕ)
+  pub passes : PassesComparison k records was now
+
+-- at each moment: until the comparison has passed each crash leaves all bytes but the one that opening sets; and from then on a file
+-- that opens as a beginning of the history, with all entries that the disk held
+abbrev pub StandsAlways : Inputs → DiskSide → DiskSide → Type 0
+StandsAlways x was now = OnlyOpens was now ⊎ Keeps x was now
+
+-- at the end: the file opens as all of the history, whatever crash comes
+pub record HoldsAll (x : Inputs) (was now : DiskSide) : Type 0 where
+  pub keeps : Keeps x was now
+  pub all : IsKept keeps.k keeps.records now
+
+-- an output file has got a byte
+abbrev pub HasBegun : World → World → Type 0
+HasBegun before now = (f : File) × (now.folder.written f ≢ before.folder.written f)
+
+-- the status of a run that wrote all, or could not write all
+abbrev pub IsWrittenAt : ℕ → Type 0
+IsWrittenAt code = (code ≤ 1) ⊎ (code ≡ 5)
+
+-- the statuses at which the disk's directory is that of the output
+abbrev pub IsPlacedAt : ℕ → Type 0
+IsPlacedAt code = (code ≤ 1) ⊎ ((code ≡ 3) ⊎ (code ≡ 5))
+
+-- a file, where it is shown before a run and after it
+abbrev pub Shown : Option DiskSide → Option DiskSide → (DiskSide → DiskSide → Type 0) → Type 0
+Shown shown shown' Holds = (was : DiskSide) → shown ≡ Some was → (now : DiskSide) × (shown' ≡ Some now) × Holds was now
