@@ -29,11 +29,7 @@ pub fn take_event(alloc: Global, book: &mut Book, caller: u32, event: &Event) ->
 }
 
 /// The book of an instance after these events, each with its caller. The only error is out of memory.
-pub fn run_events(
-    alloc: Global,
-    inst: Instance,
-    events: &[(u32, Event)],
-) -> Result<Book, NoMem>
+pub fn run_events(alloc: Global, inst: Instance, events: &[(u32, Event)]) -> Result<Book, NoMem>
     requires fresh { inst ≡ fresh_day inst.parts }
     requires asked { AreAskable inst events.now }
     ensures { IfOk result (λ book. book ≡ record { opening = inst; journal = run (opening inst) events.now }) }

@@ -2,7 +2,7 @@
 use Rattle.std.proofs.Common.{◌≡◌, ◌≢◌, ◌⊎◌, inl, inr, ℕ, ◌+◌, ◌<◌, ◌≤◌, Bool, true, false, cond, List, [], ◌∷◌, ◌++◌, length, get_or, take, drop, refl, sym, ap, subst, ◌∙◌, arith}
 use Rattle.std.specs.Prelude.{Option, Some, slice_get}
 use Rattle.std.proofs.lemmas.Option.{slice_get-get_or}
-use Rattle.std.proofs.lemmas.List.{length-append, take_all, take_more, take-append-drop}
+use Rattle.std.proofs.lemmas.List.{length-append, length-drop, take_all, take_more, take-append-drop}
 use Rattle.desk_model.specs.declared.answer.Entry.{Entry}
 use Rattle.desk_model.specs.declared.answer.Event.{Event}
 use Rattle.desk_model.specs.States.{State}
@@ -22,3 +22,65 @@ pub record Reaches (S : State) (events : List (ℕ × Event)) (held : List (List
 pub reaches-start : (S : State) (events : List (ℕ × Event)) (held : List (List ℕ)) → Reaches S events held 0 0 0
 unfolding Rattle.desk_model.specs.Histories.entries
 reaches-start S events held = record { entries_is = refl; number_is = refl; front = refl; within = omega arith }
+
+-- one event more that gets an entry, which is held next
+pub reaches-enters : (S : State) (events : List (ℕ × Event)) (held : List (List ℕ)) (i n b : ℕ) (e : ℕ × Event) (p : List ℕ) → i < length events → e ≡ get_or events i e → n < length held → p ≡ get_or held n p → has_room n e.1 ≡ true
+    → (r : Reaches S events held i n b) → p ≡ next_payload (run S (take i events)) e → Reaches S events held (i + 1) (n + 1) (b + cond (is_batch e.1) 1 0)
+reaches-enters S events held i n b e p lt is more at room r same =
+    let h = run S (take i events) in
+    let there : has_room (length h) e.1 ≡ true = subst (λ (k : ℕ). has_room k e.1 ≡ true) r.entries_is room in
+    let next : run S (take (i + 1) events) ≡ h ++ entry_of (state S h) e.0 e.1 ∷ [] = run-more S events i e lt is ∙ event-enters S h e there in
+    let size : length (h ++ entry_of (state S h) e.0 e.1 ∷ []) ≡ length h + 1 = length-append h (entry_of (state S h) e.0 e.1 ∷ []) in
+    record {
+      entries_is = ap (λ (k : ℕ). k + 1) r.entries_is ∙ sym size ∙ ap length (sym next);
+      number_is = ap (λ (k : ℕ). k + cond (is_batch e.1) 1 0) r.number_is ∙ sym (batches-enter S h e) ∙ ap (λ (g : List Entry). batches_among (asked_in g)) (sym next);
+      front = ap history_payloads next ∙ payloads-enter S h e ∙ ap (λ (ps : List (List ℕ)). ps ++ next_payload h e ∷ []) r.front
+          ∙ ap (λ (q : List ℕ). take n held ++ q ∷ []) (sym same ∙ at) ∙ sym (take_more held n p more);
+      within = omega (arith, more);
+    }
+
+-- and one that finds no room
+pub reaches-passes : (S : State) (events : List (ℕ × Event)) (held : List (List ℕ)) (i n b : ℕ) (e : ℕ × Event) → i < length events → e ≡ get_or events i e → has_room n e.1 ≡ false → Reaches S events held i n b → Reaches S events held (i + 1) n b
+reaches-passes S events held i n b e lt is full r =
+    let h = run S (take i events) in
+    let there : has_room (length h) e.1 ≡ false = subst (λ (k : ℕ). has_room k e.1 ≡ false) r.entries_is full in
+    let next : run S (take (i + 1) events) ≡ h = run-more S events i e lt is ∙ event-passes S h e there in
+    record {
+      entries_is = r.entries_is ∙ ap length (sym next);
+      number_is = r.number_is ∙ ap (λ (g : List Entry). batches_among (asked_in g)) (sym next);
+      front = ap history_payloads next ∙ r.front;
+      within = r.within;
+    }
+
+-- all that is held was found
+pub reaches-front : (S : State) (events : List (ℕ × Event)) (held : List (List ℕ)) (i n b : ℕ) → i ≤ length events → n ≡ length held → Reaches S events held i n b → IsFront S events held i b
+reaches-front S events held i n b le all r = record {
+  within = le;
+  is = r.front ∙ take_all n held (omega (arith, all));
+  count = r.number_is;
+}
+
+-- an event whose entry is other than what is held next
+pub reaches-other : (S : State) (events : List (ℕ × Event)) (held : List (List ℕ)) (i n b : ℕ) (e : ℕ × Event) (p : List ℕ) → i < length events → e ≡ get_or events i e → n < length held → p ≡ get_or held n p → has_room n e.1 ≡ true
+    → (r : Reaches S events held i n b) → p ≢ next_payload (run S (take i events)) e → IsOther S events held i
+reaches-other S events held i n b e p lt is more at room r other =
+    let h = run S (take i events) in
+    let found : slice_get held (length h) ≡ Some p = subst (λ (k : ℕ). slice_get held k ≡ Some p) r.entries_is (slice_get-get_or held n p more ∙ ap (λ (q : List ℕ). Some q) (sym at)) in
+    record {
+      asked = e;
+      at = slice_get-get_or events i e lt ∙ ap (λ (q : ℕ × Event). Some q) (sym is);
+      front = r.front ∙ ap (λ (k : ℕ). take k held) r.entries_is;
+      more = subst (λ (k : ℕ). k < length held) r.entries_is more;
+      room = subst (λ (k : ℕ). has_room k e.1 ≡ true) r.entries_is room;
+      other = λ same. other (let one : Some p ≡ Some (next_payload h e) = sym found ∙ same in cc one);
+    }
+
+-- no event is left, and more is held
+pub reaches-short : (S : State) (events : List (ℕ × Event)) (held : List (List ℕ)) (i n b : ℕ) → length events ≤ i → n < length held → Reaches S events held i n b → IsShort S events held
+reaches-short S events held i n b le more r =
+    let whole : history_payloads (run S events) ≡ take n held = ap (λ (es : List (ℕ × Event)). history_payloads (run S es)) (sym (take_all i events le)) ∙ r.front in
+    record {
+      rest = drop n held;
+      is = sym (take-append-drop n held) ∙ ap (λ (ps : List (List ℕ)). ps ++ drop n held) (sym whole);
+      some = omega (arith, more, length-drop n held);
+    }

@@ -128,9 +128,12 @@ stopped_runs before mid now faults faults' k ending.ReportFault code p early fai
 
 written_runs : (before mid : World) (now : SinkSide) (at : Outside) (shown shown' : Option DiskSide) (faults faults' : ℕ) (k : KeptStory) (how : Ending) (code : ℕ) → Prepares (kept_meaning 0) command_is.Store before.folder at k → EndsWritten k (world at before.sink) mid shown shown' how → TellsEnd how mid.sink now code → RunsKept (asked_here command_is.Store) before (world mid.folder now) faults faults' code
 written_runs before mid now at shown shown' faults faults' k how code p h given =
-    inr (h.held, promised (kept_meaning h.held) (asked_here command_is.Store) before (world mid.folder now) code
-    (runs-tells_end (kept_meaning h.held) (asked_here command_is.Store) before mid now how code
-    (obeys-done (kept_meaning h.held) command_is.Store before.folder at mid.folder before.sink mid.sink k how (prepares_at h.held before.folder at k p) h.completes) given))
+    inr (
+      h.held,
+      promised (kept_meaning h.held) (asked_here command_is.Store) before (world mid.folder now) code
+          (runs-tells_end (kept_meaning h.held) (asked_here command_is.Store) before mid now how code
+          (obeys-done (kept_meaning h.held) command_is.Store before.folder at mid.folder before.sink mid.sink k how (prepares_at h.held before.folder at k p) h.completes) given),
+    )
 
 early_runs : (before mid : World) (now : SinkSide) (at : Outside) (shown shown' : Option DiskSide) (faults faults' : ℕ) (k : KeptStory) (how : Ending) (code : ℕ) → Prepares (kept_meaning 0) command_is.Store before.folder at k → EndsEarly k (world at before.sink) mid shown shown' how → (how ≡ ending.OnDisk disk_end.Fault → Rose faults faults') → TellsEnd how mid.sink now code → RunsKept (asked_here command_is.Store) before (world mid.folder now) faults faults' code
 early_runs before mid now at shown shown' faults faults' k how code p h failed given =

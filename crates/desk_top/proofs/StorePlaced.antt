@@ -61,18 +61,27 @@ pub kept-placed : (dirs : Directories) (before placed now : Outside) (sink sink'
     → RunsKept (Some (here command_is.Store)) (world placed sink) (world now sink') faults faults' code → RunsKept (Some (at command_is.Store dirs)) (world before sink) (world now sink') first faults' code
 kept-placed dirs before placed now sink sink' first faults faults' code ok names only le (inl h) = inl (at_disk_placed dirs before placed now sink sink' first faults faults' code only le h)
 kept-placed dirs before placed now sink sink' first faults faults' code ok names only le (inr h) =
-    inr (h.0, promised (kept_meaning h.0) (Some (at command_is.Store dirs)) (world before sink) (world now sink') code
-    (runs-placed (kept_meaning h.0) command_is.Store dirs before placed now sink sink' code ok names only h.1.runs))
+    inr (
+      h.0,
+      promised (kept_meaning h.0) (Some (at command_is.Store dirs)) (world before sink) (world now sink') code
+          (runs-placed (kept_meaning h.0) command_is.Store dirs before placed now sink sink' code ok names only h.1.runs),
+    )
 
 pub kept-unplaced : (dirs : Directories) (before placed : Outside) (sink now : SinkSide) (faults faults' code : ℕ) → PlacesOnly before placed → Rose before.place_faults placed.place_faults → TellsEnd ending.PlaceFault sink now code → RunsKept (Some (at command_is.Store dirs)) (world before sink) (world placed now) faults faults' code
 kept-unplaced dirs before placed sink now faults faults' code only rose given =
-    inr (0, promised (kept_meaning 0) (Some (at command_is.Store dirs)) (world before sink) (world placed now) code
-    (runs-tells_end (kept_meaning 0) (Some (at command_is.Store dirs)) (world before sink) (world placed sink) now ending.PlaceFault code (obeys-unplaced (kept_meaning 0) command_is.Store dirs before placed sink only rose) given))
+    inr (
+      0,
+      promised (kept_meaning 0) (Some (at command_is.Store dirs)) (world before sink) (world placed now) code
+          (runs-tells_end (kept_meaning 0) (Some (at command_is.Store dirs)) (world before sink) (world placed sink) now ending.PlaceFault code (obeys-unplaced (kept_meaning 0) command_is.Store dirs before placed sink only rose) given),
+    )
 
 pub kept-unnamed : (dirs : Directories) (before placed : Outside) (sink now : SinkSide) (faults faults' code : ℕ) → PlacesOnly before placed → TellsEnd ending.Memory sink now code → RunsKept (Some (at command_is.Store dirs)) (world before sink) (world placed now) faults faults' code
 kept-unnamed dirs before placed sink now faults faults' code only given =
-    inr (0, promised (kept_meaning 0) (Some (at command_is.Store dirs)) (world before sink) (world placed now) code
-    (runs-tells_end (kept_meaning 0) (Some (at command_is.Store dirs)) (world before sink) (world placed sink) now ending.Memory code (obeys-unnamed (kept_meaning 0) command_is.Store dirs before placed sink only) given))
+    inr (
+      0,
+      promised (kept_meaning 0) (Some (at command_is.Store dirs)) (world before sink) (world placed now) code
+          (runs-tells_end (kept_meaning 0) (Some (at command_is.Store dirs)) (world before sink) (world placed sink) now ending.Memory code (obeys-unnamed (kept_meaning 0) command_is.Store dirs before placed sink only) given),
+    )
 
 -- the disk could not name its directory
 pub kept-undisked : (dirs : Directories) (before placed : Outside) (sink now : SinkSide) (faults faults' code : ℕ) → PlacesOnly before placed → Rose faults faults' → TellsEnd (ending.OnDisk disk_end.Fault) sink now code → RunsKept (Some (at command_is.Store dirs)) (world before sink) (world placed now) faults faults' code

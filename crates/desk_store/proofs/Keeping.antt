@@ -1,0 +1,158 @@
+-- A journal on a disk that is opened, compared and added to.
+use Rattle.std.proofs.Common.{◌≡◌, ◌⊎◌, inl, inr, ℕ, ◌+◌, ◌<◌, ◌≤◌, List, [], ◌∷◌, ◌++◌, length, take, drop, refl, sym, ap, subst, ◌∙◌, arith}
+use Rattle.std.specs.Prelude.{Option, Some, None}
+use Rattle.desk_disk.specs.FileStates.{DiskSide}
+use Rattle.desk_disk.specs.Crashes.{LeavesOnly, RunsTo}
+use Rattle.disk_records.specs.declared.faults.AppendFault.{AppendFault}
+use Rattle.disk_records.specs.declared.faults.AppendFault.TheVariants as appending
+use Rattle.disk_records.specs.declared.faults.OpenFault.{OpenFault}
+use Rattle.disk_records.specs.declared.faults.OpenFault.TheVariants as opening_fault
+use Rattle.disk_records.specs.Records.{AreAccepted, Opens}
+use Rattle.disk_records.specs.Files.{IsAtRest, IsOpening, RefusedBy}
+use Rattle.disk_records.specs.Stored.{OpensFirst}
+use Rattle.desk_data.specs.Situation.{Situation}
+use Rattle.desk_model.specs.declared.answer.Entry.{Entry}
+use Rattle.desk_model.specs.declared.answer.Event.{Event}
+use Rattle.desk_model.specs.States.{State, opening}
+use Rattle.desk_model.specs.Histories.{run}
+use Rattle.desk_runs.specs.declared.ending.DiskEnd.TheVariants as disk_end
+use Rattle.desk_runs.specs.declared.ending.Ending.{Ending}
+use Rattle.desk_runs.specs.declared.ending.Ending.TheVariants as ending
+use Rattle.journal_disk.specs.Payloads.{MayStand, history_payloads}
+use Rattle.desk_tasks.specs.Play.{Story, history}
+use Rattle.desk_tasks.specs.Keep.{KeptStory}
+use Rattle.desk_store.specs.Held.{entered, story_payloads, AreFirst, completed}
+use Rattle.desk_store.specs.Compared.{DiffersAt, IsFront}
+use Rattle.desk_store.specs.Ends.{append_end, open_end}
+use Rattle.desk_store.specs.Journal.{IsEarly, IsKept, IsStopped, LeavesJournal, PassesComparison}
+use Rattle.desk_store.proofs.Runs.{run-parts, length-history}
+use Rattle.desk_store.proofs.Storing.{behind-on}
+
+-- what a run leaves that ended so
+abbrev pub Left : KeptStory → DiskSide → Option DiskSide → Ending → Type 0
+Left k was shown how = (now : DiskSide) × (shown ≡ Some now) × LeavesJournal k was now how
+
+-- ---- opening
+
+pub open-early : (fault : OpenFault) → IsEarly (open_end fault)
+open-early opening_fault.Disk = tt
+open-early (opening_fault.Damaged at) = tt
+open-early opening_fault.Memory = tt
+
+pub open-disk : (fault : OpenFault) → open_end fault ≡ ending.OnDisk disk_end.Fault → fault ≡ opening_fault.Disk
+open-disk opening_fault.Disk e = refl
+open-disk (opening_fault.Damaged at) e = absurd cc
+open-disk opening_fault.Memory e = absurd cc
+
+pub open-left : (k : KeptStory) (was : DiskSide) (shown : Option DiskSide) (fault : OpenFault) → RunsTo was shown (IsOpening was.file.bytes) → RefusedBy (MayStand k.story.day k.batches) was.file.bytes fault → Left k was shown (open_end fault)
+open-left k was shown opening_fault.Disk r h = (r.now, r.shows, inl r.leaves)
+open-left k was shown (opening_fault.Damaged at) r h = (r.now, r.shows, (record { at = at; records = h.0; there = h.1 }, r.leaves))
+open-left k was shown opening_fault.Memory r h = (r.now, r.shows, inl r.leaves)
+
+pub memory-left : (k : KeptStory) (was : DiskSide) (shown : Option DiskSide) → RunsTo was shown (IsOpening was.file.bytes) → Left k was shown ending.Memory
+memory-left k was shown r = (r.now, r.shows, inl r.leaves)
+
+-- ---- comparing
+
+pub other-left : (k : KeptStory) (records held : List (List ℕ)) (was : DiskSide) (shown : Option DiskSide) (place line : ℕ) → Opens records place was.file.bytes → AreAccepted (MayStand k.story.day k.batches) [] records → held ≡ entered records → DiffersAt (opening k.story.day) k.story.events held line
+    → RunsTo was shown (IsOpening was.file.bytes) → Left k was shown (ending.OnDisk (disk_end.Other line))
+other-left k records held was shown place line opens each is differs r =
+    (r.now, r.shows, (record { records = records; held = record { place = place; opens = opens; each = each }; differs = subst (λ (ps : List (List ℕ)). DiffersAt (opening k.story.day) k.story.events ps line) is differs }, r.leaves))
+
+-- ---- adding
+
+story_is : (s : Story) → story_payloads s ≡ history_payloads (run (opening s.day) s.events)
+unfolding history
+story_is s = refl
+
+-- the entries held are the first of the history
+front_first : (S : State) (events : List (ℕ × Event)) (records : List (List ℕ)) (taken number : ℕ) → IsFront S events (entered records) taken number → AreFirst records (history_payloads (run S events))
+front_first S events records taken number f =
+    let more = behind-on S 0 (run S (take taken events)) (drop taken events) (omega arith) in
+    (more.0, ap history_payloads (sym (run-parts S events taken)) ∙ sym more.1 ∙ ap (λ (ps : List (List ℕ)). ps ++ more.0) f.is)
+
+front_size : (S : State) (events : List (ℕ × Event)) (records : List (List ℕ)) (taken number : ℕ) → IsFront S events (entered records) taken number → length (run S (take taken events)) ≡ length (entered records)
+front_size S events records taken number f = sym (length-history (run S (take taken events))) ∙ ap length f.is
+
+-- the records once the rest of the history is added, as the code and as the definitions have it
+abbrev pub added_to : State → List (ℕ × Event) → List (List ℕ) → ℕ → List (List ℕ)
+added_to S events records taken = records ++ drop (length (run S (take taken events))) (history_payloads (run S events))
+
+pub completed-is : (k : KeptStory) (records : List (List ℕ)) (taken number : ℕ) → IsFront (opening k.story.day) k.story.events (entered records) taken number → added_to (opening k.story.day) k.story.events records taken ≡ completed records (story_payloads k.story)
+completed-is k records taken number f =
+    let S = opening k.story.day in
+    ap (λ (n : ℕ). records ++ drop n (history_payloads (run S k.story.events))) (front_size S k.story.events records taken number f)
+    ∙ ap (λ (all : List (List ℕ)). records ++ drop (length (entered records)) all) (sym (story_is k.story))
+
+same_now : (was mid : DiskSide) (shown : Option DiskSide) (P : List ℕ → Type 0) → RunsTo was shown P → shown ≡ Some mid → LeavesOnly was mid P
+same_now was mid shown P r is = (let same : r.now ≡ mid = (let both : Some r.now ≡ Some mid = sym r.shows ∙ is in cc both) in subst (λ (d : DiskSide). LeavesOnly was d P) same r.leaves)
+
+pub passes : (k : KeptStory) (records : List (List ℕ)) (was mid now : DiskSide) (shown : Option DiskSide) (place taken number : ℕ) → Opens records place was.file.bytes → AreAccepted (MayStand k.story.day k.batches) [] records
+    → RunsTo was shown (IsOpening was.file.bytes) → shown ≡ Some mid → IsFront (opening k.story.day) k.story.events (entered records) taken number
+    → LeavesOnly mid now (OpensFirst (added_to (opening k.story.day) k.story.events records taken) (length records)) → PassesComparison k records was now
+passes k records was mid now shown place taken number opens each r is f adding = record {
+  held = record { place = place; opens = opens; each = each };
+  first = subst (λ (all : List (List ℕ)). AreFirst records all) (sym (story_is k.story)) (front_first (opening k.story.day) k.story.events records taken number f);
+  stores = record {
+    compared = mid;
+    opening = same_now was mid shown (IsOpening was.file.bytes) r is;
+    adding = subst (λ (all : List (List ℕ)). LeavesOnly mid now (OpensFirst all (length records))) (completed-is k records taken number f) adding;
+  };
+}
+
+-- where adding stopped
+passes_or : (k : KeptStory) (records : List (List ℕ)) (was now : DiskSide) (how : Ending) → IsStopped how → PassesComparison k records was now → LeavesJournal k was now how
+passes_or k records was now (ending.OnDisk disk_end.Fault) h p = inr (records, p)
+passes_or k records was now (ending.OnDisk disk_end.Damaged) h p = absurd h
+passes_or k records was now (ending.OnDisk (disk_end.Other line)) h p = absurd h
+passes_or k records was now ending.Memory h p = inr (records, p)
+passes_or k records was now (ending.Refused r) h p = absurd h
+passes_or k records was now (ending.ReadFault f) h p = absurd h
+passes_or k records was now ending.Done h p = absurd h
+passes_or k records was now ending.NoPlan h p = absurd h
+passes_or k records was now ending.BrokenRule h p = absurd h
+passes_or k records was now ending.Usage h p = absurd h
+passes_or k records was now ending.PlaceFault h p = absurd h
+passes_or k records was now (ending.WriteFault f) h p = absurd h
+passes_or k records was now ending.ReportFault h p = absurd h
+
+pub stopped-early : (how : Ending) → IsStopped how → IsEarly how
+stopped-early (ending.OnDisk end) h = tt
+stopped-early ending.Memory h = tt
+stopped-early (ending.Refused r) h = absurd h
+stopped-early (ending.ReadFault f) h = absurd h
+stopped-early ending.Done h = absurd h
+stopped-early ending.NoPlan h = absurd h
+stopped-early ending.BrokenRule h = absurd h
+stopped-early ending.Usage h = absurd h
+stopped-early ending.PlaceFault h = absurd h
+stopped-early (ending.WriteFault f) h = absurd h
+stopped-early ending.ReportFault h = absurd h
+
+pub stopped-left : (k : KeptStory) (records : List (List ℕ)) (was mid : DiskSide) (shown shown' : Option DiskSide) (place taken number : ℕ) (how : Ending) → IsStopped how → Opens records place was.file.bytes → AreAccepted (MayStand k.story.day k.batches) [] records
+    → RunsTo was shown (IsOpening was.file.bytes) → shown ≡ Some mid → IsFront (opening k.story.day) k.story.events (entered records) taken number
+    → RunsTo mid shown' (OpensFirst (added_to (opening k.story.day) k.story.events records taken) (length records)) → Left k was shown' how
+stopped-left k records was mid shown shown' place taken number how h opens each r is f adding =
+    (adding.now, adding.shows, passes_or k records was adding.now how h (passes k records was mid adding.now shown place taken number opens each r is f adding.leaves))
+
+-- where it was done
+pub kept-left : (k : KeptStory) (records : List (List ℕ)) (was mid now : DiskSide) (shown shown' : Option DiskSide) (place end taken number held : ℕ) → Opens records place was.file.bytes → AreAccepted (MayStand k.story.day k.batches) [] records
+    → RunsTo was shown (IsOpening was.file.bytes) → shown ≡ Some mid → IsFront (opening k.story.day) k.story.events (entered records) taken number
+    → RunsTo mid shown' (OpensFirst (added_to (opening k.story.day) k.story.events records taken) (length records)) → shown' ≡ Some now → IsAtRest (added_to (opening k.story.day) k.story.events records taken) end now.file
+    → held ≡ length (run (opening k.story.day) (take taken k.story.events))
+    → PassesComparison k records was now × IsKept k records now × (held ≡ length (entered records))
+kept-left k records was mid now shown shown' place end taken number held opens each r is f adding shows rest size = (
+  passes k records was mid now shown place taken number opens each r is f (same_now mid now shown' (OpensFirst (added_to (opening k.story.day) k.story.events records taken) (length records)) adding shows),
+  record { place = end; rest = subst (λ (all : List (List ℕ)). IsAtRest all end now.file) (completed-is k records taken number f) rest },
+  size ∙ front_size (opening k.story.day) k.story.events records taken number f,
+)
+
+-- ---- ends
+
+pub append-stopped : (fault : AppendFault) → IsStopped (append_end fault)
+append-stopped appending.Disk = tt
+append-stopped appending.Memory = tt
+
+pub append-disk : (fault : AppendFault) → append_end fault ≡ ending.OnDisk disk_end.Fault → fault ≡ appending.Disk
+append-disk appending.Disk e = refl
+append-disk appending.Memory e = absurd cc
