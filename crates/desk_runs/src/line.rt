@@ -1,6 +1,6 @@
 //! The line that says why a run was not done.
 
-ghost use Rattle.std.specs.Prelude.{◌≡◌, ◌++◌, IfOk};
+ghost use Rattle.std.specs.Prelude.{◌≡◌, ◌++◌, decimal, IfOk};
 ghost use Rattle.std.specs.String.{string_bytes};
 ghost use Rattle.desk_runs.specs.Outcome.{line, refusal_text, disk_text, fault_text};
 ghost use Rattle.desk_folder.specs.Files.{file_name};
@@ -29,6 +29,13 @@ fn file_line(alloc: Global, words: &str, file: File) -> Result<String, NoMem>
     Ok(format!(in alloc; "{words}{name}\n")?)
 }
 
+// A line of these words, a number, and more words.
+fn number_line(alloc: Global, words: &str, number: u64, more: &str) -> Result<String, NoMem>
+    ensures { IfOk result (λ text. string_bytes text ≡ line (words.now ++ decimal number ++ more.now)) }
+{
+    Ok(format!(in alloc; "{words}{number}{more}\n")?)
+}
+
 // The line of a run that the journal on the disk ended.
 fn disk_text(alloc: Global, end: DiskEnd) -> Result<String, NoMem>
     ensures { IfOk result (λ text. string_bytes text ≡ disk_text end) }
@@ -36,7 +43,7 @@ fn disk_text(alloc: Global, end: DiskEnd) -> Result<String, NoMem>
     match end {
         DiskEnd::Fault => Ok(format!(in alloc; "disk fault\n")?),
         DiskEnd::Damaged => Ok(format!(in alloc; "refused journal.bin 0 Damaged\n")?),
-        DiskEnd::Other { line } => Ok(format!(in alloc; "refused journal.csv {line} Other\n")?),
+        DiskEnd::Other { line } => number_line(alloc, "refused journal.csv ", line, " Other"),
     }
 }
 
