@@ -1,7 +1,7 @@
 -- Records that are added behind others, at each moment.
 use Rattle.std.proofs.Common.{◌≡◌, ◌⊎◌, inl, inr, ℕ, ◌+◌, ◌<◌, ◌≤◌, Bool, true, false, List, [], ◌∷◌, ◌++◌, length, take, drop, refl, sym, ap, subst, ◌∙◌, arith, append_assoc}
 use Rattle.std.specs.Prelude.{Option, Some, None}
-use Rattle.std.proofs.lemmas.List.{append-nil, length-append, take_all, take-append-le}
+use Rattle.std.proofs.lemmas.List.{append-nil, length-append, take_all, take_at, take-append-le}
 use Rattle.desk_disk.specs.FileStates.{FileState, DiskSide, MayLeave}
 use Rattle.desk_disk.specs.Crashes.{LeavesOnly, RunsTo}
 use Rattle.desk_disk.proofs.Torn.{nothing_pending_is}
@@ -9,8 +9,8 @@ use Rattle.desk_disk.proofs.Runs.{starts, weaker, runs_weaker, runs_join}
 use Rattle.disk_records.specs.Records.{records, Opens}
 use Rattle.disk_records.specs.Files.{HasEndMark, IsAtRest, IsWithOrWithout}
 use Rattle.disk_records.specs.Stored.{OpensFirst}
-use Rattle.disk_records.proofs.Unique.{ended_opens}
-use Rattle.disk_records.proofs.Storing.{either_first}
+use Rattle.disk_records.proofs.Unique.{ended_opens, whole_opens}
+use Rattle.disk_records.proofs.Storing.{stopped_is}
 
 -- a file at rest opens as its records
 pub rests_first : (ps : List (List ℕ)) (place : ℕ) (h : FileState) (c : List ℕ) → IsAtRest ps place h → MayLeave h c → OpensFirst ps (length ps) c
@@ -56,6 +56,27 @@ adds_none ps qs place was shown is rest = record {
   leaves = starts was (OpensFirst (ps ++ qs) (length ps)) (λ c left. first_more ps qs (length ps) (length ps) c (omega arith) (rests_first ps place was.file c rest left));
 }
 
+-- a file with one record more, or without it
+found_first : (ps : List (List ℕ)) (p : List ℕ) (found : List (List ℕ)) (place : ℕ) (c : List ℕ) → Opens found place c → (found ≡ ps) ⊎ (found ≡ ps ++ p ∷ []) → OpensFirst (ps ++ p ∷ []) (length ps) c
+found_first ps p found place c opens (inl is) = record {
+  count = length ps;
+  least = omega arith;
+  most = omega (arith, length-append ps (p ∷ []));
+  place = place;
+  opens = subst (λ (qs : List (List ℕ)). Opens qs place c) (is ∙ sym (take_at ps (p ∷ []) (length ps) refl)) opens;
+}
+found_first ps p found place c opens (inr is) = record {
+  count = length (ps ++ p ∷ []);
+  least = omega (arith, length-append ps (p ∷ []));
+  most = omega arith;
+  place = place;
+  opens = subst (λ (qs : List (List ℕ)). Opens qs place c) (is ∙ sym (take_all (length (ps ++ p ∷ [])) (ps ++ p ∷ []) (omega arith))) opens;
+}
+
+one_first : (ps : List (List ℕ)) (p c : List ℕ) → IsWithOrWithout ps p c → OpensFirst (ps ++ p ∷ []) (length ps) c
+one_first ps p c (inl whole) = let a = whole_opens ps None c whole in found_first ps p a.found a.place c a.opens (stopped_is ps a.found p c a.place (inl whole) a.opens)
+one_first ps p c (inr whole) = let a = whole_opens ps (Some p) c whole in found_first ps p a.found a.place c a.opens (stopped_is ps a.found p c a.place (inr whole) a.opens)
+
 -- one is added
 pub adds_one : (ps : List (List ℕ)) (p : List ℕ) (was : DiskSide) (shown : Option DiskSide) → RunsTo was shown (IsWithOrWithout ps p) → RunsTo was shown (OpensFirst (ps ++ p ∷ []) (length ps))
-adds_one ps p was shown run = runs_weaker was shown (IsWithOrWithout ps p) (OpensFirst (ps ++ p ∷ []) (length ps)) (λ c h. either_first ps p [] c h) run
+adds_one ps p was shown run = runs_weaker was shown (IsWithOrWithout ps p) (OpensFirst (ps ++ p ∷ []) (length ps)) (λ c h. one_first ps p c h) run

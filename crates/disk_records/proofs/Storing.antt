@@ -46,7 +46,7 @@ with_first before p rest c a (inr more) =
     let same : p ≡ more.0 = cc in
     opens_next before p rest a.found a.place c a.opens (more.2 ∙ ap (λ (q : List ℕ). before ++ q ∷ []) (sym same))
 
-pub either_first : (before : List (List ℕ)) (p : List ℕ) (rest : List (List ℕ)) (c : List ℕ) → IsWithOrWithout before p c → OpensFirst (before ++ (p ∷ rest)) (length before) c
+either_first : (before : List (List ℕ)) (p : List ℕ) (rest : List (List ℕ)) (c : List ℕ) → IsWithOrWithout before p c → OpensFirst (before ++ (p ∷ rest)) (length before) c
 either_first before p rest c (inl whole) = let a = whole_opens before None c whole in without_first before (p ∷ rest) c a a.which
 either_first before p rest c (inr whole) = let a = whole_opens before (Some p) c whole in with_first before p rest c a a.which
 
