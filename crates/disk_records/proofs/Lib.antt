@@ -4,3 +4,4 @@ pub mod Marks
 pub mod Opened
 pub mod Walked
 pub mod Storing
+pub mod Stopped

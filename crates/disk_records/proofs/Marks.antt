@@ -41,6 +41,16 @@ module _ (front after : List ℕ) (g : ℕ) where
       let rest = drop (length front + 1 + length new) (front ++ (g ∷ after)) in
       ap (λ (l : List ℕ). l ++ (new ++ rest)) (ap (λ (l : List ℕ). take (length front + 1) l) with_mark ∙ take_at (front ++ g ∷ []) after (length front + 1) length-mark) ∙ append_assoc front (g ∷ []) (new ++ rest)
 
+-- bytes are put behind the byte, and then the byte is set: as if all were put at once
+pub put_both : (front after : List ℕ) (g v : ℕ) (new : List ℕ) → put_at (length front) (v ∷ []) (put_at (length front + 1) new (front ++ (g ∷ after))) ≡ put_at (length front) (v ∷ new) (front ++ (g ∷ after))
+put_both front after g v new =
+    let old = front ++ (g ∷ after) in
+    let rest = drop (length front + 1 + length new) old in
+    let place : length front + 1 + length new ≡ length front + length (v ∷ new) = omega arith in
+    ap (λ (l : List ℕ). put_at (length front) (v ∷ []) l) (put_behind front after g new) ∙ put_mark front (new ++ rest) g v
+    ∙ ap (λ (l : List ℕ). l ++ (v ∷ (new ++ rest))) (sym (take_at front (g ∷ after) (length front) refl))
+    ∙ ap (λ (k : ℕ). take (length front) old ++ (v ∷ (new ++ drop k old))) place
+
 -- while a payload is written behind the byte 0
 pub keeps_end_mark : (ps : List (List ℕ)) (place n : ℕ) (old c : List ℕ) → HasEndMark ps old → place ≡ length (records ps) → IsTorn (place + 1) n old c → HasEndMark ps c
 keeps_end_mark ps place n old c ends is torn =

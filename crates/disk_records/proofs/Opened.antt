@@ -7,11 +7,16 @@ use Rattle.desk_disk.specs.FileStates.{FileState, DiskSide, MayLeave, HasNothing
 use Rattle.desk_disk.specs.Crashes.{LeavesOnly, RunsTo, ReadsTo, IsTorn}
 use Rattle.desk_disk.proofs.Torn.{nothing_pending_is, nothing_pending_synced}
 use Rattle.desk_disk.proofs.Runs.{starts, weaker, runs_weaker, runs_join}
+use Rattle.desk_disk.specs.declared.faults.DiskFault.{DiskFault}
+use Rattle.desk_disk.specs.declared.faults.DiskFault.TheVariants as disk
+use Rattle.disk_records.specs.declared.faults.OpenFault.{OpenFault}
+use Rattle.disk_records.specs.declared.faults.OpenFault.TheVariants as fault
+use Rattle.disk_records.specs.Faults.{open_fault}
 use Rattle.disk_records.specs.Records.{framed, records, EndsAt, Opens}
-use Rattle.disk_records.specs.Files.{HasEndMark, IsStaged, IsWhole, IsWithOrWithout, IsAtRest, IsReady, LacksEndMark, SetsEndMark, IsOpening}
+use Rattle.disk_records.specs.Files.{HasEndMark, IsStaged, IsWhole, IsWithOrWithout, IsAtRest, IsReady, LacksEndMark, LeftBy, SetsEndMark, IsOpening, added_at, opened_at}
 use Rattle.disk_records.proofs.Spelled.{length-records-push}
 use Rattle.disk_records.proofs.Unique.{opens_one_way, ended_opens, staged_open, staged_ended}
-use Rattle.disk_records.proofs.Marks.{keeps_end_mark, is_staged, stays_staged, is_added, put_mark}
+use Rattle.disk_records.proofs.Marks.{keeps_end_mark, is_staged, stays_staged, is_added, put_both, put_mark}
 
 -- ---- opening
 
@@ -139,6 +144,17 @@ added_rests was ps p place rest short =
       nothing_pending = nothing_pending_synced (written place 1 (1 ∷ []) mid).file;
     }
 
+-- and its bytes are those from before, but for the record and the byte behind it
+pub added_bytes : (was : DiskSide) (ps : List (List ℕ)) (p : List ℕ) (place : ℕ) → IsAtRest ps place was.file → (added_on place p was).file.bytes ≡ added_at place p was.file.bytes
+added_bytes was ps p place rest =
+    let front = records ps in
+    let c = was.file.bytes in
+    ap (λ (k : ℕ). put_at k (1 ∷ []) (put_at (k + 1) (behind p) c)) rest.place_is
+    ∙ ap (λ (l : List ℕ). put_at (length front) (1 ∷ []) (put_at (length front + 1) (behind p) l)) rest.ends.bytes
+    ∙ put_both front rest.ends.rest 0 1 (behind p)
+    ∙ ap (λ (l : List ℕ). put_at (length front) (1 ∷ behind p) l) (sym rest.ends.bytes)
+    ∙ ap (λ (k : ℕ). put_at k (1 ∷ behind p) c) (sym rest.place_is)
+
 -- the mark stands in the file
 pub mark_within : (shown first : Option DiskSide) (p : List ℕ) (place : ℕ) → length p < 2 ^ 32 → IfSome shown (λ was. (ps : List (List ℕ)) × IsAtRest ps place was.file) → (shown ≡ None → first ≡ None)
     → ((was : DiskSide) → shown ≡ Some was → first ≡ Some (staged_on place p was)) → IfSome first (λ was. place ≤ length was.file.bytes)
@@ -170,15 +186,26 @@ read_bytes (Some was) read bytes reads unshown are =
 pub still : (was : DiskSide) (shown : Option DiskSide) (ps : List (List ℕ)) (next : Option (List ℕ)) → IsWhole ps next was.file.bytes → RunsTo was shown (IsOpening was.file.bytes) → RunsTo was shown (IsWhole ps next)
 still was shown ps next whole run = runs_weaker was shown (IsOpening was.file.bytes) (IsWhole ps next) (λ c opening. still_whole ps next was.file.bytes c whole opening) run
 
+-- a file that was read and found no fault of the disk's was only read
+pub left_by : (was : DiskSide) (shown : Option DiskSide) (e : OpenFault) → ReadsTo was shown → LeftBy was shown e
+left_by was shown (fault.Damaged at) r = r
+left_by was shown fault.Disk r = tt
+left_by was shown fault.Memory r = tt
+
+-- and a fault of the disk says nothing
+pub left_by_disk : (was : DiskSide) (shown : Option DiskSide) (e : DiskFault) → LeftBy was shown (open_fault e)
+left_by_disk was shown disk.Failed = tt
+left_by_disk was shown disk.Memory = tt
+
 -- ---- what the next call asks
 
 pub ready_next : (shown now : Option DiskSide) (p : List ℕ) (place next : ℕ) → IsReady shown place → (shown ≡ None → now ≡ None)
-    → ((was : DiskSide) → shown ≡ Some was → (ps : List (List ℕ)) → IsAtRest ps place was.file → (then_shown : DiskSide) × (now ≡ Some then_shown) × IsAtRest (ps ++ p ∷ []) next then_shown.file) → IsReady now next
+    → ((was : DiskSide) → shown ≡ Some was → (ps : List (List ℕ)) → IsAtRest ps place was.file → (then_shown : DiskSide) × (now ≡ Some then_shown) × IsAtRest (ps ++ p ∷ []) next then_shown.file × (then_shown.file.bytes ≡ added_at place p was.file.bytes)) → IsReady now next
 ready_next None now p place next ready unshown goes = subst (λ (o : Option DiskSide). IsReady o next) (sym (unshown refl)) tt
 ready_next (Some was) now p place next ready unshown goes =
     let to = goes was refl ready.0 ready.1 in
     subst (λ (o : Option DiskSide). IsReady o next) (sym to.1) (ready.0 ++ p ∷ [], to.2)
 
-pub ready_opened : (shown now : Option DiskSide) (ps : List (List ℕ)) (place : ℕ) → (shown ≡ None → now ≡ None) → ((was : DiskSide) → shown ≡ Some was → (then_shown : DiskSide) × (now ≡ Some then_shown) × IsAtRest ps place then_shown.file) → IsReady now place
+pub ready_opened : (shown now : Option DiskSide) (ps : List (List ℕ)) (place : ℕ) → (shown ≡ None → now ≡ None) → ((was : DiskSide) → shown ≡ Some was → (then_shown : DiskSide) × (now ≡ Some then_shown) × IsAtRest ps place then_shown.file × (then_shown.file.bytes ≡ opened_at place was.file.bytes)) → IsReady now place
 ready_opened None now ps place unshown goes = subst (λ (o : Option DiskSide). IsReady o place) (sym (unshown refl)) tt
 ready_opened (Some was) now ps place unshown goes = let to = goes was refl in subst (λ (o : Option DiskSide). IsReady o place) (sym to.1) (ps, to.2)

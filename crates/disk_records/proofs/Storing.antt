@@ -149,7 +149,7 @@ either_opens : (ps : List (List ℕ)) (p c : List ℕ) → IsWithOrWithout ps p 
 either_opens ps p c (inl whole) = let a = whole_opens ps None c whole in (a.found, a.place, a.opens)
 either_opens ps p c (inr whole) = let a = whole_opens ps (Some p) c whole in (a.found, a.place, a.opens)
 
-accepted_front : (accepts : List (List ℕ) → List ℕ → Type 0) (before xs ys : List (List ℕ)) → AreAccepted accepts before (xs ++ ys) → AreAccepted accepts before xs
+pub accepted_front : (accepts : List (List ℕ) → List ℕ → Type 0) (before xs ys : List (List ℕ)) → AreAccepted accepts before (xs ++ ys) → AreAccepted accepts before xs
 accepted_front accepts before [] ys all = tt
 accepted_front accepts before (x ∷ xs) ys all = (all.0, accepted_front accepts (before ++ x ∷ []) xs ys all.1)
 

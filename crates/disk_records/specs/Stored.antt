@@ -31,10 +31,10 @@ pub record Stores (was now : DiskSide) (all : List (List ℕ)) (n : ℕ) : Type 
 -- of which may have been stopped at any moment; n of them are acknowledged
 pub data RunsLeave (all : List (List ℕ)) : ℕ → List ℕ → Type 0 where
   -- there was no run yet
-  nothing : RunsLeave all 0 []
+  no_run : RunsLeave all 0 []
   -- a run was stopped while it opened the file
-  opening : (n : ℕ) (before c : List ℕ) → RunsLeave all n before → IsOpening before c → RunsLeave all n c
+  in_opening : (n : ℕ) (before c : List ℕ) → RunsLeave all n before → IsOpening before c → RunsLeave all n c
   -- a run had opened the file and added more payloads, and was stopped while it added the next one
-  adding : (n : ℕ) (before c : List ℕ) (found more : List (List ℕ)) (place : ℕ) (payload : List ℕ) (rest : List (List ℕ)) → RunsLeave all n before → Opens found place before → all ≡ (found ++ more) ++ payload ∷ rest → IsWithOrWithout (found ++ more) payload c → RunsLeave all (length (found ++ more)) c
+  in_adding : (n : ℕ) (before c : List ℕ) (found more : List (List ℕ)) (place : ℕ) (payload : List ℕ) (rest : List (List ℕ)) → RunsLeave all n before → Opens found place before → all ≡ (found ++ more) ++ payload ∷ rest → IsWithOrWithout (found ++ more) payload c → RunsLeave all (length (found ++ more)) c
   -- a run had opened the file and added more payloads, and was stopped between two calls, or ended
-  resting : (n : ℕ) (before c : List ℕ) (found more rest : List (List ℕ)) (place end : ℕ) (h : FileState) → RunsLeave all n before → Opens found place before → all ≡ (found ++ more) ++ rest → IsAtRest (found ++ more) end h → MayLeave h c → RunsLeave all (length (found ++ more)) c
+  at_rest : (n : ℕ) (before c : List ℕ) (found more rest : List (List ℕ)) (place end : ℕ) (h : FileState) → RunsLeave all n before → Opens found place before → all ≡ (found ++ more) ++ rest → IsAtRest (found ++ more) end h → MayLeave h c → RunsLeave all (length (found ++ more)) c

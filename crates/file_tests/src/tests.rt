@@ -1,5 +1,6 @@
 //! The tests, by what they ask.
 
+mod disk;
 mod folder;
 mod loops;
 mod text;

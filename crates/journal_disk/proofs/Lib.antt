@@ -1,3 +1,5 @@
 pub mod FitLaws
 pub mod NextLaws
 pub mod PayloadLaws
+pub mod EnteredLaws
+pub mod StoreLaws

@@ -11,8 +11,20 @@ use std::alloc::Global;
 /// What a payload spells: who asked, and a batch by its number or a move.
 #[derive(Drop)]
 pub enum StoredEvent {
-    Batch { caller: u32, number: u32 },
-    Move { caller: u32, m: Move },
+    /// A batch of the day.
+    Batch {
+        /// Who asked.
+        caller: u32,
+        /// Its number among the batches of the day, from 0 on.
+        number: u32,
+    },
+    /// A move that was proposed.
+    Move {
+        /// Who asked.
+        caller: u32,
+        /// The move, whether it fits a day or not.
+        m: Move,
+    },
 }
 
 #[tactic(auto, unfolding(crate::specs::Reading::steps_at))]
@@ -75,7 +87,8 @@ fn whole_payload(alloc: Global, bytes: &[u8]) -> Result<Option<StoredEvent>, NoM
     }
 }
 
-/// What a payload spells, all of it; `None` where it spells nothing.
+/// What a payload spells, all of it; `None` where it spells nothing. The only error is that there is no
+/// memory left.
 pub fn read_payload(alloc: Global, bytes: &[u8]) -> Result<Option<StoredEvent>, NoMem>
     ensures found { IfOk result (λ o. IfSome o (λ stored. (bytes.now ≡ payload stored) × HasSpelling stored)) }
     ensures none { IfOk result (λ o. IfNone o ((s : StoredEvent) → HasSpelling s → bytes.now ≡ payload s → ⊥)) }

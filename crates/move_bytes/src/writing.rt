@@ -125,7 +125,8 @@ fn put_step(out: &mut Vec<u8>, step: &Step) -> Result<(), NoMem>
     }
 }
 
-/// The payload of a caller's move: one that fits has at most 16 steps, with paths of at most 8 pairs.
+/// The payload of a caller's move: one that fits has at most 16 steps, with paths of at most 8 pairs. The
+/// only error is that there is no memory left.
 pub fn move_payload(alloc: Global, caller: u32, m: &Move) -> Result<Vec<u8>, NoMem>
     requires few { length m.now.steps < 256 }
     requires short { All HasShortPaths m.now.steps }
@@ -142,7 +143,8 @@ pub fn move_payload(alloc: Global, caller: u32, m: &Move) -> Result<Vec<u8>, NoM
     Ok(out)
 }
 
-/// The payload of a caller's batch.
+/// The payload of a caller's batch, by its number among those of the day, from 0 on. The only error is that
+/// there is no memory left.
 pub fn batch_payload(alloc: Global, caller: u32, number: u32) -> Result<Vec<u8>, NoMem>
     ensures { IfOk result (λ bytes. bytes.items ≡ payload (event.Batch caller number)) }
 {

@@ -1,4 +1,4 @@
-use Rattle.std.proofs.Common.{◌≡◌, ◌∙◌, refl, subst, List, ℕ, [], ◌∷◌, ◌++◌, length, take, arith}
+use Rattle.std.proofs.Common.{◌≡◌, ◌∙◌, refl, subst, List, ℕ, [], ◌∷◌, ◌++◌, take, arith}
 use Rattle.desk_disk.specs.Crashes.{RunsTo}
 use Rattle.disk_records.specs.Files.{IsAtRest, IsWithOrWithout}
 use Rattle.disk_records.specs.Stored.{lists_of}

@@ -1,8 +1,8 @@
 use Rattle.std.proofs.Common.{◌≡◌, ◌∙◌, sym, ap, subst, List, ℕ, Some, length, ◌+◌}
 use Rattle.desk_disk.specs.FileStates.{synced, written}
 use Rattle.desk_disk.proofs.Torn.{nothing_pending_synced}
-use Rattle.disk_records.specs.Files.{IsAtRest}
-use Rattle.disk_records.proofs.Opened.{behind, staged_on, added_on, nothing_on, behind_on, mark_on, added_rests, mark_within, ready_next}
+use Rattle.disk_records.specs.Files.{IsAtRest, added_at}
+use Rattle.disk_records.proofs.Opened.{behind, staged_on, added_on, nothing_on, behind_on, mark_on, added_bytes, added_rests, mark_within, ready_next}
 use Rattle.disk_records.proofs.appending.append.Goals as goal
 
 pub returns-then-place-gt-MAX_PLACE-clause-any_moment : goal.returns-then-place-gt-MAX_PLACE-clause-any_moment
@@ -43,7 +43,7 @@ returns-clause-acknowledged g c = λ was is ps rest.
     let at = subst (λ (k : ℕ). IsAtRest ps k was.file) (sym c.tail.view_is) rest in
     let same : c.deref.result.now ≡ behind p = c.deref.ensures.value ∙ c.in_ok-behind.ensures in
     let staged = c.in_ok-write_through.ensures.ok was is ∙ ap (λ (l : List ℕ). Some (synced (written (mark + 1) (length l) l was))) same in
-    (added_on mark p was, c.in_ok-write_through-2.ensures.ok (staged_on mark p was) staged, added_rests was ps p mark at c.requires.short)
+    (added_on mark p was, c.in_ok-write_through-2.ensures.ok (staged_on mark p was) staged, added_rests was ps p mark at c.requires.short, added_bytes was ps p mark at ∙ ap (λ (k : ℕ). added_at k p was.file.bytes) c.tail.view_is)
 
 pub returns-clause-any_moment : goal.returns-clause-any_moment
 returns-clause-any_moment g c = λ was is ps rest.

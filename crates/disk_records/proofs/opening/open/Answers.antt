@@ -1,7 +1,8 @@
-use Rattle.std.proofs.Common.{◌∙◌, sym, subst}
+use Rattle.std.proofs.Common.{◌∙◌, ap, sym, subst}
 use Rattle.desk_disk.specs.FileStates.{HasNothingPending}
 use Rattle.desk_disk.proofs.Steps.{if_shown}
 use Rattle.disk_records.specs.Records.{Opens}
+use Rattle.disk_records.specs.Files.{opened_at}
 use Rattle.disk_records.proofs.Opened.{read_only, nothing_pending_still, sets_end_mark, rests, read_bytes, still, ready_opened}
 use Rattle.disk_records.proofs.opening.open.Goals as goal
 
@@ -63,7 +64,8 @@ returns-clause-at_rest g c = λ was is.
     let ps = g.R.PayloadReader.taken c.read_records.new.reader in
     let opens = subst (Opens ps c.in_ok-place.place) (c.deref.ensures.value ∙ sym c.deref-2.ensures.value) c.in_ok-place.ensures.opened in
     let ok = c.in_ok-set_end_mark.ensures.ok r.now r.shows (nothing_pending_still was (g.D.Disk.shown c.read_whole.new.disk) nothing_pending r) in
-    (ok.0, ok.1, rests ps c.in_ok-place.place c.deref-2.result.now ok.0 opens ok.2 ok.3)
+    let read = c.deref-2.ensures.value ∙ c.in_ok-bytes.ensures.bytes was is in
+    (ok.0, ok.1, rests ps c.in_ok-place.place c.deref-2.result.now ok.0 opens ok.2 ok.3, ok.2 ∙ ap (opened_at c.in_ok-place.place) read)
 
 pub returns-clause-ready : goal.returns-clause-ready
 returns-clause-ready g c = ready_opened (g.D.Disk.shown c.args.disk.now) (g.D.Disk.shown c.set_end_mark.new.disk) (g.R.PayloadReader.taken c.read_records.new.reader) c.in_ok-place.place (λ is. c.set_end_mark.ensures.unshown (c.read_whole.ensures.unshown is)) (returns-clause-at_rest g c)

@@ -1,6 +1,6 @@
-use Rattle.std.proofs.Common.{◌≡◌, ◌∙◌, subst, List, ℕ, [], ◌∷◌, ◌++◌}
+use Rattle.std.proofs.Common.{◌≡◌, ◌∙◌, ap, subst, List, ℕ, [], ◌∷◌, ◌++◌}
 use Rattle.std.proofs.lemmas.Result.{IfOk-weaker}
-use Rattle.disk_records.specs.Files.{IsAtRest}
+use Rattle.disk_records.specs.Files.{IsAtRest, added_at}
 use Rattle.disk_records.proofs.Opened.{nothing_on}
 use Rattle.journal_disk.specs.Payloads.{payload_by}
 use Rattle.journal_disk.proofs.add.append.Goals as goal
@@ -16,4 +16,4 @@ returns-clause-acknowledged g c =
     let same : c.as_slice.result.now ≡ payload_by c.args.number c.args.entry.now.caller c.args.entry.now.event = c.as_slice.ensures.value ∙ c.in-Ok.ensures in
     IfOk-weaker c.append.result _ _ (λ next done was is ps rest.
     let to = done was is ps rest in
-    (to.0, to.1, subst (λ (p : List ℕ). IsAtRest (ps ++ p ∷ []) next to.0.file) same to.2)) c.append.ensures.acknowledged
+    (to.0, to.1, subst (λ (p : List ℕ). IsAtRest (ps ++ p ∷ []) next to.0.file) same to.2, to.3 ∙ ap (λ (p : List ℕ). added_at c.args.tail p was.file.bytes) same)) c.append.ensures.acknowledged

@@ -11,7 +11,7 @@ returns-then-not-comes_next c =
     let p = c.args.payload.now in
     let spelled = at_some c.in_ok-stored.field-0 s (λ t. (p ≡ payload t) × HasSpelling t) c.in-Some.is c.in_ok-stored.ensures.found in
     λ m.
-    let both : false ≡ true = c.if-not-comes_next.ensures.1 (may_comes c.args.inst.now c.args.batches.now c.args.due c.args.entries s p c.parts-parts.ensures.valid.parts.few c.requires spelled.1 spelled.0 m) in
+    let both : false ≡ true = c.if-not-comes_next.ensures.1 (may_comes c.args.inst.now c.args.batches.now c.args.due s p c.parts-parts.ensures.valid.parts.few spelled.1 spelled.0 m) in
     absurd cc
 
 pub returns : goal.returns
@@ -20,4 +20,4 @@ returns c =
     let p = c.args.payload.now in
     let spelled = at_some c.in_ok-stored.field-0 s (λ t. (p ≡ payload t) × HasSpelling t) c.in-Some.is c.in_ok-stored.ensures.found in
     let next = c.if-not-comes_next.ensures.0 refl in
-    (subst (MayCome c.args.inst.now c.args.batches.now c.args.due c.args.entries) (sym spelled.0) (comes_may c.args.inst.now c.args.batches.now c.args.due c.args.entries s spelled.1 next), spelled.0, spelled.1, next)
+    (subst (MayCome c.args.inst.now c.args.batches.now c.args.due) (sym spelled.0) (comes_may c.args.inst.now c.args.batches.now c.args.due s spelled.1 next), spelled.0, spelled.1, next)
