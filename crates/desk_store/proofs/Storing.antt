@@ -2,7 +2,8 @@
 use Rattle.std.proofs.Common.{◌≡◌, ◌⊎◌, inl, inr, ℕ, ◌+◌, ◌<◌, ◌≤◌, Bool, true, false, cond, List, [], ◌∷◌, ◌++◌, length, get_or, take, drop, refl, sym, ap, subst, ◌∙◌, arith, append_assoc}
 use Rattle.std.specs.Prelude.{Option, Some, None}
 use Rattle.std.proofs.lemmas.Bool.{cases_Bool}
-use Rattle.std.proofs.lemmas.List.{append-nil, length-append, drop-append-le, drop_more}
+use Rattle.std.proofs.lemmas.List.{append-nil, length-append, length-map, drop-append-le, drop_more}
+use Rattle.std.proofs.lemmas.List.Sums.{count_by-le-length}
 use Rattle.std.proofs.Math.ListN.{drop_of_length-le}
 use Rattle.desk_data.specs.Situation.{Situation}
 use Rattle.desk_model.specs.declared.answer.Entry.{Entry}
@@ -105,3 +106,23 @@ stands-next S was told records all n h g e place le is run now shows rest =
 
 pub stands-runs : (was : DiskSide) (shown : Option DiskSide) (records all : List (List ℕ)) (n : ℕ) (h : List Entry) (place : ℕ) → Stands was shown records all n h place → RunsTo was shown (OpensFirst all (length records))
 stands-runs was shown records all n h place s = record { now = s.now; shows = s.shows; leaves = s.leaves }
+
+-- how many batches it has then
+pub count-next : (S : State) (h : List Entry) (e : ℕ × Event) → batches_among (asked_in (with_event S h e)) ≡ batches_among (asked_in h) + cond (has_room (length h) e.1) (cond (is_batch e.1) 1 0) 0
+count-next S h e = elim (cases_Bool (has_room (length h) e.1)) [
+  | inl room ↦ rw room (batches-enter S h e)
+  | inr full ↦ rw full (omega arith)
+]
+
+pub few-next : (S : State) (h : List Entry) (e : ℕ × Event) (n : ℕ) → n ≤ length h → n + cond (has_room (length h) e.1) (cond (is_batch e.1) 1 0) 0 ≤ length (with_event S h e)
+few-next S h e n le = elim (cases_Bool (has_room (length h) e.1)) [
+  | inl room ↦ rw room (omega (arith, le, one_at_most (is_batch e.1), length-append h (entry_of (state S h) e.0 e.1 ∷ [])))
+  | inr full ↦ rw full (omega (arith, le))
+]
+  where
+    one_at_most : (b : Bool) → cond b 1 0 ≤ 1
+    one_at_most true = omega arith
+    one_at_most false = omega arith
+
+pub few-batches : (h : List Entry) → batches_among (asked_in h) ≤ length h
+few-batches h = omega (arith, count_by-le-length (λ (asked : ℕ × Event). is_batch asked.1) (asked_in h), length-map h (λ (entry : Entry). let asked : ℕ × Event = (entry.caller, entry.event) in asked))

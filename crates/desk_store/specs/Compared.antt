@@ -1,11 +1,12 @@
 -- The entries that a disk holds, compared with the history of events.
-use Rattle.std.specs.Prelude.{◌≡◌, ◌≢◌, ℕ, zero, suc, ◌<◌, ◌≤◌, Bool, true, List, ◌++◌, length, take, Some, slice_get}
+use Rattle.std.specs.Prelude.{◌≡◌, ◌≢◌, ◌⊎◌, ℕ, zero, suc, ◌+◌, ◌<◌, ◌≤◌, true, false, cond, List, [], ◌++◌, length, take, get_or, Option, Some, None, slice_get}
 use Rattle.desk_model.specs.declared.answer.Entry.{Entry}
 use Rattle.desk_model.specs.declared.answer.Event.{Event}
 use Rattle.desk_model.specs.States.{State}
-use Rattle.desk_model.specs.Histories.{has_room, run}
+use Rattle.desk_model.specs.Histories.{has_room, is_batch, run}
 use Rattle.journal_disk.specs.Payloads.{asked_in, batches_among, history_payloads, payload_by}
 use Rattle.desk_store.specs.declared.compare.Compared.{Compared}
+use Rattle.desk_store.specs.declared.compare.Reached.{Reached}
 use Rattle.desk_store.specs.declared.compare.Compared.TheVariants as compared
 
 -- the payload of an event after a history
@@ -37,6 +38,13 @@ pub record IsFront (S : State) (events : List (ℕ × Event)) (held : List (List
   pub within : taken ≤ length events
   pub is : history_payloads (run S (take taken events)) ≡ held
   pub count : number ≡ batches_among (asked_in (run S (take taken events)))
+
+-- one event more: where there is room its entry is the one that is held next, and so many are the same; or it is another
+abbrev pub Steps : List (List ℕ) → Reached → ℕ × Event → Option Reached → Type 0
+Steps held at asked None = (has_room at.entries asked.1 ≡ true) × (get_or held at.entries [] ≢ payload_by at.number asked.0 asked.1)
+Steps held at asked (Some next) =
+    ((has_room at.entries asked.1 ≡ false) × (next ≡ at))
+    ⊎ ((has_room at.entries asked.1 ≡ true) × (get_or held at.entries [] ≡ payload_by at.number asked.0 asked.1) × (next.entries ≡ at.entries + 1) × (next.number ≡ at.number + cond (is_batch asked.1) 1 0))
 
 -- what a comparison says
 abbrev pub Compares : State → List (ℕ × Event) → List (List ℕ) → Compared → Type 0

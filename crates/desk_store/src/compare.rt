@@ -1,14 +1,14 @@
 //! Comparing what a disk holds with the history of events, before any event is answered.
 
-ghost use Rattle.std.specs.Prelude.{◌≡◌, ◌≢◌, ◌≤◌, ◌<◌, ◌+◌, ◌^◌, ℕ, IfOk, MatchOption, length, map, slice_get, Some, if◌then◌else◌};
+ghost use Rattle.std.specs.Prelude.{◌≡◌, ◌≢◌, ◌≤◌, ◌<◌, ℕ, IfOk, cond, length, map};
 ghost use Rattle.std.specs.Bool.{MatchBool};
 ghost use Rattle.desk_data.specs.Situation.{Situation};
 ghost use Rattle.desk_model.specs.States.{State};
-ghost use Rattle.desk_model.specs.Histories.{AreAskable, IsAskable, has_room, is_batch};
+ghost use Rattle.desk_model.specs.Histories.{AreAskable, IsAskable, is_batch};
 ghost use Rattle.journal_disk.specs.Payloads.{payload_by};
-ghost use Rattle.desk_store.specs.Compared.{Compares};
+ghost use Rattle.desk_store.specs.Compared.{Compares, Steps};
 
-use crate::room::has_room;
+use crate::room::{batches_of, has_room};
 use desk_data::NoMem;
 use desk_model::Event;
 use journal_disk::event_payload;
@@ -39,6 +39,37 @@ fn has_payload(
     Ok(own.as_slice() == payload)
 }
 
+/// How far a comparison has come: so many entries are the same, and so many of them are batches.
+#[derive(Clone, Copy)]
+pub struct Reached {
+    pub entries: usize,
+    pub number: u32,
+}
+
+// How far the comparison has come after one event more; `None` where its entry is another than the one that is held.
+fn compare_one(
+    alloc: Global,
+    at: Reached,
+    asked: &(u32, Event),
+    held: &[&[u8]],
+) -> Result<Option<Reached>, NoMem>
+    requires askable { (I : Situation) × IsAskable I asked.now.1 }
+    requires more { at.entries < length held.now }
+    requires few { at.number ≤ at.entries }
+    ensures { IfOk result (λ next. Steps (map (λ p. p.now) held.now) at asked.now next) }
+{
+    if !has_room(at.entries, &asked.1) {
+        return Ok(Some(at));
+    }
+    if !has_payload(alloc, asked.0, &asked.1, at.number, held[at.entries])? {
+        return Ok(None);
+    }
+    Ok(Some(Reached {
+        entries: at.entries + 1,
+        number: at.number + batches_of(&asked.1),
+    }))
+}
+
 /// Compares the entries that are held with those of the history of events, each with its caller.
 pub(crate) fn compare(
     alloc: Global,
@@ -48,27 +79,28 @@ pub(crate) fn compare(
     requires askable { (I : Situation) × AreAskable I events.now }
     ensures { IfOk result (λ is. (S : State) → Compares S events.now (map (λ p. p.now) held.now) is) }
 {
-    let mut entries = 0usize;
-    let mut number = 0u32;
+    let mut at = Reached {
+        entries: 0,
+        number: 0,
+    };
     let mut taken = 0usize;
     for asked in events {
-        if entries == held.len() {
+        if at.entries == held.len() {
+            let number = at.number;
             return Ok(Compared::First { taken, number });
         }
-        if has_room(entries, &asked.1) {
-            if !has_payload(alloc, asked.0, &asked.1, number, held[entries])? {
+        match compare_one(alloc, at, asked, held)? {
+            Some(next) => at = next,
+            None => {
                 let line = taken as u64 + 1;
                 return Ok(Compared::Other { line });
-            }
-            entries += 1;
-            if asked.1.is_batch() {
-                number += 1;
             }
         }
         taken += 1;
     }
-    if entries < held.len() {
+    if at.entries < held.len() {
         return Ok(Compared::Other { line: 0 });
     }
+    let number = at.number;
     Ok(Compared::First { taken, number })
 }

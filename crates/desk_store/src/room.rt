@@ -1,7 +1,7 @@
 //! Whether a journal has room for an event.
 
-ghost use Rattle.std.specs.Prelude.{◌≡◌};
-ghost use Rattle.desk_model.specs.Histories.{batch_limit, has_room, proposal_limit};
+ghost use Rattle.std.specs.Prelude.{◌≡◌, cond};
+ghost use Rattle.desk_model.specs.Histories.{batch_limit, has_room, is_batch, proposal_limit};
 ghost use Rattle.journal_disk.specs.Payloads.{spells_batch};
 ghost use Rattle.desk_store.specs.Held.{takes};
 
@@ -29,14 +29,28 @@ pub(crate) fn has_room(entries: usize, event: &Event) -> bool
     }
 }
 
+/// How many batches an event is: one or none.
+pub(crate) fn batches_of(event: &Event) -> u32
+    ensures { result ≡ cond (is_batch event.now) 1 0 }
+{
+    match event {
+        Event::Batch(_) => 1,
+        Event::Move(_) => 0,
+    }
+}
+
+/// How many it adds to a journal that has room for it, or none.
+pub(crate) fn batches_added(room: bool, event: &Event) -> u32
+    ensures { result ≡ cond room (cond (is_batch event.now) 1 0) 0 }
+{
+    if room { batches_of(event) } else { 0 }
+}
+
 // Whether a payload spells a batch.
 fn spells_batch(payload: &[u8]) -> bool
     ensures { result ≡ spells_batch payload.now }
 {
-    match payload {
-        [_, _, _, _, kind, ..] => *kind == 0,
-        _ => true,
-    }
+    payload.len() < 5 || payload[4] == 0
 }
 
 /// Whether a journal of so many entries takes the event that a payload spells.

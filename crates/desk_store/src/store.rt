@@ -12,7 +12,7 @@ ghost use Rattle.desk_core.specs.Recorded.{with_entry};
 ghost use Rattle.journal_disk.specs.Payloads.{asked_in, batches_among, history_payloads};
 ghost use Rattle.desk_store.specs.Added.{added, all_entries, lacking};
 
-use crate::room::has_room;
+use crate::room::{batches_added, has_room};
 use desk_core::Book;
 use desk_disk::Disk;
 use desk_model::Event;
@@ -94,12 +94,10 @@ pub(crate) fn store_events<D: Disk>(
     let mut tail = tail;
     let mut number = number;
     for asked in events {
-        let entries = book.entries();
+        let room = has_room(book.entries() as usize, &asked.1);
         let next = store_event(alloc, disk, &mut book, tail, number, asked)?;
         tail = next;
-        if asked.1.is_batch() && book.entries() > entries {
-            number += 1;
-        }
+        number += batches_added(room, &asked.1);
     }
     Ok(book)
 }
