@@ -6,3 +6,4 @@ pub mod Placed
 pub mod Ranges
 pub mod StoreLaws
 pub mod StorePlaced
+pub mod StoreObeyed

@@ -25,10 +25,10 @@ use Rattle.desk_runs.specs.declared.ending.Ending.TheVariants as ending
 use Rattle.desk_runs.specs.Commands.{Ask, asks, asks_disk, files_read, is_of_disk}
 use Rattle.desk_runs.specs.Inputs.{Inputs, Tells}
 use Rattle.desk_runs.specs.Reading.{IsUnread}
-use Rattle.desk_runs.specs.Causes.{IsDoneAt}
-use Rattle.desk_runs.specs.Runs.{World, world, TellsEnd, SetsTask}
-use Rattle.desk_runs.specs.Promised.{IsPromised}
-use Rattle.desk_runs.proofs.Composed.{here, at, runs-placed, runs-tells_end}
+use Rattle.desk_runs.specs.Outcome.{status_of}
+use Rattle.desk_runs.proofs.CausesLaw.{status_cases}
+use Rattle.desk_runs.specs.Runs.{World, world, TellsEnd, status_after}
+use Rattle.desk_runs.proofs.Composed.{here, at, Tries, obeys-memory, runs-placed, runs-tells_end}
 use Rattle.desk_runs.proofs.PromisedLaw.{promised}
 use Rattle.desk_store.specs.Held.{completed, story_payloads}
 use Rattle.desk_store.specs.Journal.{OnlyOpens, PassesComparison}
@@ -83,19 +83,40 @@ kept-unnamed dirs before placed sink now faults faults' code only given =
           (runs-tells_end (kept_meaning 0) (Some (at command_is.Store dirs)) (world before sink) (world placed sink) now ending.Memory code (obeys-unnamed (kept_meaning 0) command_is.Store dirs before placed sink only) given),
     )
 
--- the disk could not name its directory
-pub kept-undisked : (dirs : Directories) (before placed : Outside) (sink now : SinkSide) (faults faults' code : ℕ) → PlacesOnly before placed → Rose faults faults' → TellsEnd (ending.OnDisk disk_end.Fault) sink now code → RunsKept (Some (at command_is.Store dirs)) (world before sink) (world placed now) faults faults' code
-kept-undisked dirs before placed sink now faults faults' code only rose given = inl (record {
+-- the disk could not name its directory: nothing is read
+pub kept-undisked : (before : World) (now : SinkSide) (faults faults' code : ℕ) → Rose faults faults' → TellsEnd (ending.OnDisk disk_end.Fault) before.sink now code → RunsKept (Some (here command_is.Store)) before (world before.folder now) faults faults' code
+kept-undisked before now faults faults' code rose given = inl (record {
   how = disk_end.Fault;
   answer = given.answer;
   line = given.line;
   status = given.status;
   cause = λ is. rose;
   accepted = λ other x tells. absurd (other refl);
-  written = only.written;
-  unread = λ f other. unread_placed before placed f only;
-  unput = λ f. unput_placed before placed f only;
+  written = λ f. refl;
+  unread = λ f other. record { left = refl; faults = refl };
+  unput = λ f. record { written = refl; faults = refl };
 })
+
+nothing_read : (folder : Outside) → Tries (kept_meaning 0) command_is.Store folder folder
+nothing_read folder = record {
+  only = record {
+    unread = λ f other. record { left = refl; faults = refl };
+    kept = λ f. omega arith;
+    directories = refl;
+    written = λ f. refl;
+    place_faults = refl;
+    put_faults = λ f. refl;
+  };
+  in_order = λ x tells r refused g lt. record { left = refl; faults = refl };
+}
+
+pub kept-unremembered : (before : World) (now : SinkSide) (faults faults' code : ℕ) → TellsEnd ending.Memory before.sink now code → RunsKept (Some (here command_is.Store)) before (world before.folder now) faults faults' code
+kept-unremembered before now faults faults' code given =
+    inr (
+      0,
+      promised (kept_meaning 0) (Some (here command_is.Store)) before (world before.folder now) code
+          (runs-tells_end (kept_meaning 0) (Some (here command_is.Store)) before before now ending.Memory code (obeys-memory (kept_meaning 0) command_is.Store before.folder before.folder before.sink (nothing_read before.folder)) given),
+    )
 
 -- a file that had no byte before its directory was named has none that this run put there
 pub begun-placed : (before placed now : Outside) (sink sink' : SinkSide) → PlacesOnly before placed → HasBegun (world before sink) (world now sink') → HasBegun (world placed sink) (world now sink')
@@ -154,6 +175,55 @@ pub shown-failed : (shown mid : Option DiskSide) (P : DiskSide → DiskSide → 
 shown-failed shown mid P nothing placed each was is =
     let none = shown_is shown was is nothing in
     (stays was, placed ∙ ap (option_map stays) is, each was (stays was) (opens-placed was (stays was) none (only_opens (stays was) none)))
+
+-- ---- the directory of the disk
+
+pub named-there : (d mid now : Option (List ℕ)) (output : List ℕ) → mid ≡ option_map (λ _. output) d → now ≡ mid → IfSome d (λ _. now ≡ Some output)
+named-there None mid now output named same = tt
+named-there (Some was) mid now output named same = same ∙ named
+
+-- the statuses of runs whose directory may not be named
+pub not-placed : (how : Ending) (answer : Result (Unit {0}) FolderFault) (code : ℕ) → code ≡ status_after how answer → (status_of how ≡ 4) ⊎ ((status_of how ≡ 6) ⊎ (status_of how ≡ 8)) → IsPlacedAt code → ⊥
+not-placed how answer code is late at = elim (status_cases how answer code is) [
+  | inl e ↦ never (status_of how) code e late at
+  | inr e ↦ never 6 code e (inr (inl refl)) at
+]
+  where
+    never : (s code : ℕ) → code ≡ s → (s ≡ 4) ⊎ ((s ≡ 6) ⊎ (s ≡ 8)) → IsPlacedAt code → ⊥
+    never s code e (inl four) (inl le) = omega (arith, e, four, le)
+    never s code e (inl four) (inr (inl is)) = omega (arith, e, four, is)
+    never s code e (inl four) (inr (inr is)) = omega (arith, e, four, is)
+    never s code e (inr (inl six)) (inl le) = omega (arith, e, six, le)
+    never s code e (inr (inl six)) (inr (inl is)) = omega (arith, e, six, is)
+    never s code e (inr (inl six)) (inr (inr is)) = omega (arith, e, six, is)
+    never s code e (inr (inr eight)) (inl le) = omega (arith, e, eight, le)
+    never s code e (inr (inr eight)) (inr (inl is)) = omega (arith, e, eight, is)
+    never s code e (inr (inr eight)) (inr (inr is)) = omega (arith, e, eight, is)
+
+-- where no directory is named, nothing is written, and the status says neither 0, 1 nor 5, nor 3, nor 8 unless the disk failed
+pub not-written : (how : Ending) (answer : Result (Unit {0}) FolderFault) (code : ℕ) → code ≡ status_after how answer → (status_of how ≡ 4) ⊎ ((status_of how ≡ 6) ⊎ (status_of how ≡ 8)) → IsWrittenAt code → ⊥
+not-written how answer code is late (inl le) = not-placed how answer code is late (inl le)
+not-written how answer code is late (inr five) = not-placed how answer code is late (inr (inr five))
+
+pub not-begun : (before placed : Outside) (sink sink' : SinkSide) → PlacesOnly before placed → HasBegun (world before sink) (world placed sink') → ⊥
+not-begun before placed sink sink' only begun = begun.1 (only.written begun.0)
+
+pub still : (folder : Outside) → PlacesOnly folder folder
+still folder = record { left = λ f. refl; written = λ f. refl; next_faults = λ f. refl; put_faults = λ f. refl }
+
+pub never-began : (before placed : Outside) (sink sink' : SinkSide) (how : Ending) (answer : Result (Unit {0}) FolderFault) (code : ℕ) → PlacesOnly before placed → code ≡ status_after how answer → (status_of how ≡ 4) ⊎ ((status_of how ≡ 6) ⊎ (status_of how ≡ 8)) → IsWrittenAt code ⊎ HasBegun (world before sink) (world placed sink') → ⊥
+never-began before placed sink sink' how answer code only is late (inl at) = not-written how answer code is late at
+never-began before placed sink sink' how answer code only is late (inr begun) = not-begun before placed sink sink' only begun
+
+pub eight-only : (how : Ending) (answer : Result (Unit {0}) FolderFault) (code : ℕ) → code ≡ status_after how answer → (status_of how ≡ 4) ⊎ (status_of how ≡ 6) → code ≡ 8 → ⊥
+eight-only how answer code is late eight = elim (status_cases how answer code is) [
+  | inl e ↦ never (status_of how) (sym e ∙ eight) late
+  | inr e ↦ omega (arith, e, eight)
+]
+  where
+    never : (s : ℕ) → s ≡ 8 → (s ≡ 4) ⊎ (s ≡ 6) → ⊥
+    never s is (inl four) = omega (arith, is, four)
+    never s is (inr six) = omega (arith, is, six)
 
 -- ---- the words
 

@@ -99,7 +99,34 @@ fn kept_directories(words: &[String]) -> Option<Directories<'_>>
     }
 }
 
-// Keeps the story of these directories, the folder's named first, and puts the line that says why it was not done.
+// Keeps the story of the folder's directories, once the disk's is named, and puts the line that says why it was not done.
+fn run_on_disk<F: Folder, O: Sink, D: Disk>(
+    alloc: Global,
+    dirs: &Directories<'_>,
+    folder: &mut F,
+    out: &mut O,
+    disk: &mut D,
+) -> u8
+    requires nothing_pending { IfSome (D.shown disk.old) (λ was. HasNothingPending was.file) }
+    ensures promise { Between F.outside O.report folder.old out.old folder.new out.new (λ before now.
+        RunsKept (asked_here Store) before now (D.faults disk.old) (D.faults disk.new) result) }
+    ensures stored { Between F.outside O.report folder.old out.old folder.new out.new (λ before now.
+        (x : Inputs) → Tells (files_read Store) before.folder x → IsWrittenAt result ⊎ HasBegun before now →
+        Shown (D.shown disk.old) (D.shown disk.new) (HoldsAll x)) }
+    ensures untouched { (x : Inputs) → Tells (files_read Store) (F.outside folder.old) x →
+        Shown (D.shown disk.old) (D.shown disk.new) (StandsAlways x) }
+    ensures refused { result ≡ 3 → Shown (D.shown disk.old) (D.shown disk.new) OnlyOpens }
+    ensures failed { result ≡ 8 → Rose (D.faults disk.old) (D.faults disk.new) }
+    ensures directory { IsPlacedAt result → IfSome (D.directory disk.old) (λ _. D.directory disk.new ≡ Some (named dirs.now).output) }
+{
+    match disk.place(alloc, dirs.output) {
+        Ok(()) => run_store(alloc, folder, out, disk),
+        Err(DiskFault::Failed) => tell(alloc, Ending::OnDisk(DiskEnd::Fault), out),
+        Err(DiskFault::Memory) => tell(alloc, Ending::Memory, out),
+    }
+}
+
+// Keeps the story of these directories, and puts the line that says why it was not done.
 fn stored_run<F: Folder, O: Sink, D: Disk>(
     alloc: Global,
     dirs: &Directories<'_>,
@@ -120,14 +147,9 @@ fn stored_run<F: Folder, O: Sink, D: Disk>(
     ensures directory { IsPlacedAt result → IfSome (D.directory disk.old) (λ _. D.directory disk.new ≡ Some (named dirs.now).output) }
 {
     match folder.place(alloc, dirs.input, dirs.output) {
-        Ok(()) => {}
-        Err(FolderFault::Failed) => return tell(alloc, Ending::PlaceFault, out),
-        Err(FolderFault::Memory) => return tell(alloc, Ending::Memory, out),
-    }
-    match disk.place(alloc, dirs.output) {
-        Ok(()) => run_store(alloc, folder, out, disk),
-        Err(DiskFault::Failed) => tell(alloc, Ending::OnDisk(DiskEnd::Fault), out),
-        Err(DiskFault::Memory) => tell(alloc, Ending::Memory, out),
+        Ok(()) => run_on_disk(alloc, dirs, folder, out, disk),
+        Err(FolderFault::Failed) => tell(alloc, Ending::PlaceFault, out),
+        Err(FolderFault::Memory) => tell(alloc, Ending::Memory, out),
     }
 }
 
