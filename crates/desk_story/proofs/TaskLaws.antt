@@ -53,7 +53,7 @@ read-kept x rows (Err (fault.ReadFault f)) read gives faultless = absurd faultle
 read-kept x rows (Err fault.Memory) read gives faultless = tt
 
 -- it is that of a replay of the same input, and what is refused is the same
-abbrev SameStory : Result KeptStory Refusal → Result Task Refusal → Type 0
+abbrev pub SameStory : Result KeptStory Refusal → Result Task Refusal → Type 0
 SameStory (Ok kept) task = task ≡ Ok (play kept.story)
 SameStory (Err r) task = task ≡ Err r
 

@@ -7,3 +7,4 @@ pub mod Ranges
 pub mod StoreLaws
 pub mod StorePlaced
 pub mod StoreObeyed
+pub mod Stored

@@ -244,3 +244,10 @@ others-free (Some (command_is.Recover workers moves live, d)) none free = refl
 others-free (Some (command_is.Check, d)) none free = refl
 others-free (Some (command_is.Gen seed size, d)) none free = refl
 others-free (Some (command_is.Trial seed size, d)) none free = refl
+
+pub other-asked : (o : Option Asking) (dirs : Directories) → kept_directories o ≡ None → o ≡ Some (command_is.Store, Some dirs) → ⊥
+other-asked o dirs none is = (let both : Some dirs ≡ None = sym (ap kept_directories is) ∙ none in cc)
+
+-- of one command's directories there is one pair
+pub same-dirs : (o : Option Asking) (own dirs : Directories) (was now : Option (List ℕ)) → o ≡ Some (command_is.Store, Some own) → o ≡ Some (command_is.Store, Some dirs) → IfSome was (λ _. now ≡ Some own.output) → IfSome was (λ _. now ≡ Some dirs.output)
+same-dirs o own dirs was now is other h = (let same : own ≡ dirs = (let both : Some own ≡ Some dirs = sym (ap kept_directories is) ∙ ap kept_directories other in cc both) in subst (λ (d : Directories). IfSome was (λ _. now ≡ Some d.output)) same h)
