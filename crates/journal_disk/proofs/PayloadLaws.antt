@@ -7,7 +7,7 @@ use Rattle.desk_model.specs.declared.answer.Entry.{Entry}
 use Rattle.desk_model.specs.declared.answer.Event.{Event}
 use Rattle.desk_model.specs.declared.answer.Event.TheVariants as event
 use Rattle.desk_model.specs.Histories.{is_batch}
-use Rattle.journal_disk.specs.Payloads.{batches_among, batches_in, spells_batch, payload_by, payloads_from, payloads_of, asked_in, history_payloads}
+use Rattle.journal_disk.specs.Payloads.{batches_among, batches_in, spells_batch, payload_by, payloads_from, asked_in, history_payloads}
 
 counts : (e : ℕ × Event) (es : List (ℕ × Event)) → batches_among (e ∷ es) ≡ cond (is_batch e.1) 1 0 + batches_among es
 counts e es = sum_by-cons (λ (asked : ℕ × Event). cond (is_batch asked.1) 1 0) e es

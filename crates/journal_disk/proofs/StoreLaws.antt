@@ -1,5 +1,5 @@
 -- What runs that store a history leave.
-use Rattle.std.proofs.Common.{◌≡◌, ℕ, zero, suc, ◌+◌, ◌-◌, ◌<◌, ◌≤◌, ◌^◌, List, [], ◌∷◌, ◌++◌, length, take, drop, refl, sym, ap, subst, ◌∙◌, arith}
+use Rattle.std.proofs.Common.{◌≡◌, ℕ, zero, suc, ◌+◌, ◌-◌, List, [], ◌∷◌, ◌++◌, length, take, drop, refl, sym, ap, subst, ◌∙◌, arith}
 use Rattle.std.specs.Prelude.{if◌then◌else◌}
 use Rattle.std.proofs.lemmas.List.{length-append, take-append-drop}
 use Rattle.std.proofs.Math.Seq.{take-append-add}
@@ -14,7 +14,7 @@ use Rattle.disk_records.specs.Records.{AreAccepted, IsDamagedAt, Opens}
 use Rattle.disk_records.specs.Stored.{OpensFirst, RunsLeave}
 use Rattle.disk_records.proofs.Stopped.{leave_first, leave_undamaged}
 use Rattle.disk_records.proofs.Storing.{accepted_front}
-use Rattle.journal_disk.specs.Payloads.{AreNext, MayBeNext, MayCome, MayStand, asked_in, batches_in, entered, history_payloads, payload_by, payloads_from, payloads_of}
+use Rattle.journal_disk.specs.Payloads.{AreNext, MayCome, MayStand, asked_in, batches_in, entered, history_payloads, payload_by, payloads_from, payloads_of}
 use Rattle.journal_disk.specs.Store.{AreFirst, Holds, HoldsFirst, stored_with}
 use Rattle.journal_disk.proofs.NextLaws.{batches-push}
 use Rattle.journal_disk.proofs.PayloadLaws.{length-payloads}
@@ -35,8 +35,7 @@ next_stand : (I : Situation) (batches : List Batch) (before : List (List ℕ)) (
 next_stand I batches before due [] counted next = tt
 next_stand I batches before due (asked ∷ more) counted next =
     let p = payload_by due asked.0 asked.1 in
-    let here : MayCome I batches due p = record { asked = asked; caller = next.0; next = next.1.0; is = refl } in
-    (
+    let here : MayCome I batches due p = record { asked = asked; caller = next.0; next = next.1.0; is = refl } in (
       subst (λ (k : ℕ). MayCome I batches k p) (sym counted) here,
       next_stand I batches (before ++ p ∷ []) (if is_batch asked.1 then due + 1 else due) more (batches_more before p due asked.0 asked.1 counted refl) next.1.1,
     )
