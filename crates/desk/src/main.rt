@@ -10,20 +10,24 @@
 //! breaks, and its cost. `gen OUT` makes up a day, by `--seed` and `--size`, and writes its files to OUT;
 //! `trial` makes up such a day in memory, recovers it and reports that alone.
 //!
-//! `main` gives `desk_main` of desk_top the host's threads, the words, the host's folder, disk and standard output, ends with
+//! `main` gives `desk_main_heard` of desk_top the host's threads, the words, the host's folder, disk and standard output, ends with
 //! the status that it answers, and empties output files that an earlier run left. On standard error it explains an end that is not
-//! the wanted one, by `explain` of desk_help and a copy of the report. All that is promised
-//! of a run is proved of `desk_main`; how `main` calls it is tested by the stored run in `data/`.
+//! the wanted one, by `explain` of desk_help and a copy of the report, and says how far a recovery has come where the environment
+//! asks for that. All that is promised of a run is proved of `desk_main_heard`, as of `desk_main`; how `main` calls it is tested by
+//! the stored run in `data/`.
 #![tactic(auto)]
+
+mod headway;
 
 use desk_data::NoMem;
 use desk_disk::HostDisk;
 use desk_folder::{File, FreeGate, HostFolder, HostSink, Sink};
 use desk_help::{CopyingSink, explain, faulty_path};
 use desk_runs::files_written;
-use desk_top::desk_main;
+use desk_top::desk_main_heard;
 use desk_words::command;
 use folder_io::put_report;
+use headway::{HeadwayLines, lines_asked};
 use std::alloc::Global;
 use std::env::Env;
 use std::fs::OpenOptions;
@@ -143,7 +147,7 @@ fn main(rt: HostRuntime) -> ExitCode {
     let outputs = outputs_of(words.as_slice());
     let mut folder = HostFolder::new(rt, alloc).with_outputs(outputs);
     let mut disk = HostDisk::new(rt, alloc);
-    let status = desk_main(
+    let status = desk_main_heard(
         &rt,
         alloc,
         words.as_slice(),
@@ -151,6 +155,7 @@ fn main(rt: HostRuntime) -> ExitCode {
         &mut out,
         &FreeGate,
         &mut disk,
+        &mut HeadwayLines::new(rt, lines_asked(&rt)),
     );
     // a run that was refused has read, and touches nothing
     if !matches!(status, 2..=4) {

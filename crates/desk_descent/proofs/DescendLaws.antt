@@ -1,24 +1,32 @@
 -- What a book's steps come to.
-use Rattle.std.proofs.Common.{◌≡◌, ℕ, zero, suc, ◌+◌, ◌-◌, ◌≤◌, Bool, true, false, List, length, refl, sym, ap, ◌∙◌, arith}
+use Rattle.std.proofs.Common.{◌≡◌, ℕ, zero, suc, ◌+◌, ◌-◌, ◌≤◌, Bool, true, false, List, length, refl, sym, ap, ◌∙◌, arith, [], ◌∷◌}
 use Rattle.std.specs.Prelude.{Option, None, Some, is_some, find, Result, Ok, Err, IfOk, OnErr}
 use Rattle.std.specs.Option.{ForSome}
 use Rattle.std.proofs.lemmas.Bool.{lt-ltb}
+use Rattle.std.proofs.lemmas.List.{append-nil}
+use Rattle.std.proofs.lemmas.List.Concat.{flat_map-append}
 use Rattle.plan_moves.specs.declared.moves.Move.{Move}
 use Rattle.plan_moves.specs.Fits.{Fits}
 use Rattle.desk_data.specs.declared.broken.Broken.{Broken}
+use Rattle.desk_units.specs.declared.money.Grains.{Grains}
 use Rattle.desk_data.specs.Situation.{Situation}
+use Rattle.desk_rules.specs.Cost.{grains}
 use Rattle.desk_model.specs.declared.answer.Entry.{Entry}
 use Rattle.desk_model.specs.declared.answer.Event.TheVariants as event
 use Rattle.desk_model.specs.States.{State, opening}
-use Rattle.desk_model.specs.Histories.{proposal_limit, has_room}
+use Rattle.desk_model.specs.Histories.{state, proposal_limit, has_room, entry_of, changes}
+use Rattle.desk_model.specs.Promises.{cost_of}
 use Rattle.desk_model.proofs.HistoryLaws.{state-parts, askable-parts}
 use Rattle.desk_model.proofs.StateLaws.{opening-inst}
 use Rattle.desk_core.specs.Recorded.{Recorded, state_of, with_entry}
 use Rattle.near_moves.specs.Descent.{is_better, first_better, IsQuiet, end_by, is_spent, next_proposal, with_proposal, descent_of}
+use Rattle.near_moves.specs.Descents.{batch_in, batches_in}
 use Rattle.near_moves.proofs.ShardLaws.{shard-one}
 use Rattle.near_moves.proofs.DescentLaws.{next-some, next-is, next-quiet, next-unplanned, unspent-room, descent-rests, descent-ends}
 use Rattle.near_moves.specs.declared.ended.SearchEnd.TheVariants.{Quiet}
 use Rattle.desk_descent.specs.Ending.{ending, after_descent, after_steps}
+use Rattle.desk_headway.specs.declared.headway.Headway.{Headway}
+use Rattle.desk_descent.specs.Reached.{headway_of}
 use Rattle.desk_descent.specs.Steps.{next_of, stepped}
 
 -- ---- what is proposed
@@ -121,3 +129,35 @@ quiet-end most B N is given =
     let none : next_of most N ≡ None = ap (next_of most) is ∙ descent-ends most (opening B.opening) B.journal in
     let facts = quiet_parts (state_of N).broken (is_spent most N.journal) given in
     next-quiet most (opening N.opening) N.journal none facts.0 facts.1
+
+-- ---- how far it has come
+
+-- a proposal is no batch
+with_batches : (S : State) (h : List Entry) (o : Option Move) → batches_in (with_proposal S h o) ≡ batches_in h
+with_batches S h None = refl
+with_batches S h (Some m) =
+    let entry : Entry = entry_of (state S h) 0 (event.Move m) in
+    flat_map-append (λ (e : Entry). batch_in e.event) h (entry ∷ []) ∙ append-nil (batches_in h)
+
+steps_batches : (n most : ℕ) (S : State) (h : List Entry) → batches_in (descent_of n most S h) ≡ batches_in h
+unfolding descent_of
+steps_batches zero most S h = refl
+steps_batches (suc n) most S h = steps_batches n most S (with_proposal S h (next_proposal most S h)) ∙ with_batches S h (next_proposal most S h)
+
+-- after some steps of a descent the last batch is the same
+pub still-batch : (i most : ℕ) (B N : Recorded) (batch : ℕ) → N ≡ after_steps i most B → length (batches_in B.journal) ≡ batch + 1 → length (batches_in N.journal) ≡ batch + 1
+still-batch i most B N batch is given =
+    ap (λ (E : Recorded). length (batches_in E.journal)) is
+    ∙ ap length (steps_batches i most (opening B.opening) B.journal)
+    ∙ given
+
+-- what is told of a book
+abbrev pub told : ℕ → ℕ → Grains → Headway
+told batch changed cost = record { batch = batch; changes = changed; cost = cost }
+
+pub told-is : (B : Recorded) (batch changed : ℕ) (cost : Grains) → length (batches_in B.journal) ≡ batch + 1 → changed ≡ changes B.journal → cost ≡ grains (cost_of (state_of B)) → told batch changed cost ≡ headway_of B
+told-is B batch changed cost given changed_is cost_is =
+    let last : batch ≡ length (batches_in B.journal) - 1 = omega (arith, given) in
+    ap (λ (n : ℕ). told n changed cost) last
+    ∙ ap (λ (n : ℕ). told (length (batches_in B.journal) - 1) n cost) changed_is
+    ∙ ap (told (length (batches_in B.journal) - 1) (changes B.journal)) cost_is

@@ -7,7 +7,7 @@ pub record CopySide : Type 0 where
   pub side : SinkSide
   pub copy : Option (List ℕ)
 
--- a copy goes on with what was taken, or is given up; what was given up stays so
+-- a copy goes on with what was taken or refused, or is given up; what was given up stays so
 abbrev pub Copies : Option (List ℕ) → Option (List ℕ) → List ℕ → Type 0
 Copies None now taken = now ≡ None
 Copies (Some was) now taken = IfSome now (λ bytes. bytes ≡ was ++ taken)

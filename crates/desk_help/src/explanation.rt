@@ -8,7 +8,7 @@ ghost use Rattle.desk_help.specs.Explained.{IsSilent};
 use crate::causes::{causes_of_lines, causes_of_the_whole, section_of, text_of};
 use crate::path::faulty_path;
 use crate::report::{Fault, Refused, fault_of, first_words, is_damaged, last_words, refusal_of};
-use crate::rules::{Rule, rule_of};
+use crate::rules::{RULES, Rule, rule_of};
 use crate::shown::ShownText;
 use crate::usage::USAGE;
 use desk_folder::File;
@@ -125,7 +125,7 @@ fn say_broken(text: &mut ShownText, start: &str, mut words: Fields<'_>) -> Resul
     let Some(number) = words.next() else {
         return Ok(());
     };
-    let Some(rule) = rule_of(number) else {
+    let Some(rule) = rule_of(RULES, number) else {
         return Ok(());
     };
     text.say(start.as_bytes())?;

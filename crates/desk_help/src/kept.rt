@@ -1,4 +1,4 @@
-//! A sink that passes everything on and keeps a copy.
+//! A sink that passes everything on and keeps a copy of it.
 
 ghost use Rattle.std.specs.Prelude.{◌≡◌, ◌≤◌, ◌++◌, Some, None, option_map, length};
 ghost use Rattle.desk_help.specs.Kept.{Copies};
@@ -10,8 +10,9 @@ use std::marker::Model;
 /// How many bytes of a report are kept at most: more than the longest report has.
 pub const MOST_KEPT: usize = 262_144;
 
-/// A sink that passes each piece on to another, and keeps a copy of what that took, up to `MOST_KEPT` bytes. Where there is
-/// more, or no memory for it, it gives the copy up; what it passes on stays the same.
+/// A sink that passes each piece on to another, and keeps a copy up to `MOST_KEPT` bytes: of what the other one took, and
+/// of all of a piece that it refused, so that a report can be explained that nobody could read. Where there is more, or no
+/// memory for it, it gives the copy up; what it passes on stays the same.
 #[derive(Drop)]
 pub struct CopyingSink<S: Sink + Drop> {
     sink: S,
@@ -54,7 +55,7 @@ impl<S: Sink + Drop> CopyingSink<S> {
         }
     }
 
-    /// The copy of all that was taken; none where it was given up.
+    /// The copy of all that was taken or refused; none where it was given up.
     pub fn copy(&self) -> Option<&[u8]>
         ensures { option_map (λ bytes. bytes.now) result ≡ self.now.copy }
     {
@@ -73,11 +74,14 @@ impl<S: Sink + Drop> Sink for CopyingSink<S> {
         requires { 0 < length piece.now }
         ensures puts { PutsToSink self.old.side self.new.side piece.now result }
         ensures copies { IfOk result (λ n. Copies self.old.copy self.new.copy (take n piece.now)) }
-        ensures err { OnErr result (self.new.copy ≡ self.old.copy) }
+        ensures refused { OnErr result (Copies self.old.copy self.new.copy piece.now) }
     {
-        let count = self.sink.put(alloc, piece)?;
-        let (taken, _) = piece.split_at(count);
-        self.copy = with_more(self.copy.take(), taken);
-        Ok(count)
+        let answer = self.sink.put(alloc, piece);
+        let copied = match answer {
+            Ok(count) => &piece[..count],
+            Err(_) => piece,
+        };
+        self.copy = with_more(self.copy.take(), copied);
+        answer
     }
 }

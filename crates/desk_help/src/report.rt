@@ -1,6 +1,6 @@
 //! What the lines of a report name.
 
-ghost use Rattle.std.specs.Prelude.{◌≡◌, bytes_eq, IfSome};
+ghost use Rattle.std.specs.Prelude.{◌≡◌, bytes_eq, find};
 ghost use Rattle.desk_folder.specs.Files.{file_name};
 
 use desk_folder::{ALL_FILES, File};
@@ -34,7 +34,7 @@ fn is_named(file: File, name: &[u8]) -> bool
 
 /// The file with this name; none where no file has it.
 pub fn file_of(name: &[u8]) -> Option<File>
-    ensures { IfSome result (λ file. file_name file ≡ name.now) }
+    ensures { result ≡ find (λ file. bytes_eq (file_name file) name.now) ALL_FILES }
 {
     ALL_FILES.iter().copied().find(|file| is_named(*file, name))
 }

@@ -1,6 +1,6 @@
 //! The rules in a sentence each, as docs/RULES-AND-COST.md has them; `bench/help.py` compares the two.
 
-ghost use Rattle.std.specs.Prelude.{◌≡◌, bytes_eq, IfSome};
+ghost use Rattle.std.specs.Prelude.{◌≡◌, bytes_eq, find, option_map};
 
 /// What an item of a rule names.
 #[derive(Clone, Copy, PartialEq, Eq)]
@@ -143,9 +143,9 @@ fn is_named(rule: &Rule, number: &[u8]) -> bool
     rule.number.as_bytes() == number
 }
 
-/// The rule with a number, as `C2`; none where no rule has it.
-pub fn rule_of(number: &[u8]) -> Option<&'static Rule>
-    ensures { IfSome result (λ rule. rule.now.number.now ≡ number.now) }
+/// The first of some rules that has this number, as `C2`; none where none has it.
+pub fn rule_of<'a>(rules: &'a [Rule], number: &[u8]) -> Option<&'a Rule>
+    ensures { option_map (λ rule. rule.now) result ≡ find (λ rule. bytes_eq rule.number.now number.now) rules.now }
 {
-    RULES.iter().find(|rule| is_named(rule, number))
+    rules.iter().find(|rule| is_named(rule, number))
 }

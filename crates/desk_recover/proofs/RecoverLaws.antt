@@ -1,9 +1,11 @@
 -- Batches are taken one after another, each with its descent.
-use Rattle.std.proofs.Common.{◌≡◌, ℕ, ◌+◌, ◌<◌, ◌≤◌, List, [], ◌∷◌, ◌++◌, length, get_or, drop, refl, sym, ap, subst, ◌∙◌, arith, add-one, suc, length-append}
+use Rattle.std.proofs.Common.{◌≡◌, ℕ, ◌+◌, ◌-◌, ◌<◌, ◌≤◌, List, [], ◌∷◌, ◌++◌, length, get_or, drop, refl, sym, ap, subst, ◌∙◌, arith, add-one, suc, length-append}
 use Rattle.std.specs.Prelude.{Option}
 use Rattle.std.proofs.lemmas.Bool.{lt-ltb}
 use Rattle.std.proofs.Math.Seq.{drop-cons}
+use Rattle.std.proofs.lemmas.List.{length-drop}
 use Rattle.std.proofs.Math.ListN.{drop_of_length-le}
+use Rattle.std.proofs.lemmas.List.Concat.{flat_map-append}
 use Rattle.day_orders.specs.declared.orders.Batch.{Batch}
 use Rattle.desk_data.specs.Situation.{Situation}
 use Rattle.desk_model.specs.declared.answer.Event.TheVariants as event
@@ -12,7 +14,9 @@ use Rattle.desk_model.specs.States.{opening}
 use Rattle.desk_model.specs.Histories.{state, proposal_limit, batch_limit, entry_of}
 use Rattle.desk_core.specs.Recorded.{Recorded, state_of, with_entry}
 use Rattle.near_moves.specs.Descent.{descent, recovery_after, recovery}
+use Rattle.near_moves.specs.Descents.{batch_in, batches_in}
 use Rattle.near_moves.proofs.DescentLaws.{descent-length}
+use Rattle.near_moves.proofs.RecoveryLaws.{recovery-batches}
 use Rattle.desk_descent.specs.Ending.{ending, after_descent}
 use Rattle.near_moves.specs.declared.ended.SearchEnd.{SearchEnd}
 use Rattle.desk_runs.specs.declared.ending.Ending.{Ending}
@@ -40,6 +44,31 @@ continues-start I moves B ended batches is =
 -- the book after a batch for which there is room
 taken_in : (B : Recorded) (batch : Batch) → length B.journal < batch_limit → with_entry B 0 (event.Batch batch) ≡ record B { journal = B.journal ++ entry_of (state_of B) 0 (event.Batch batch) ∷ [] }
 taken_in B batch lt = rw (lt-ltb (length B.journal) batch_limit lt) refl
+
+-- the batches that were taken are all but those that are left
+taken_count : (I : Situation) (moves : ℕ) (B : Recorded) (ended : Option SearchEnd) (i : ℕ) (batches : List Batch) → i < length batches → Continues I moves B ended i (drop i batches) batches → length (batches_in B.journal) ≡ i
+taken_count I moves B ended i batches lt h =
+    let all : batches_in B.journal ++ drop i batches ≡ batches =
+    sym (recovery-batches moves (opening I) B.journal (drop i batches))
+    ∙ ap batches_in h.rest
+    ∙ recovery-batches moves (opening I) [] batches in
+    let both : length (batches_in B.journal) + length (drop i batches) ≡ length batches = sym (length-append (batches_in B.journal) (drop i batches)) ∙ ap length all in
+    let left : length (drop i batches) ≡ length batches - i = length-drop i batches in
+    omega (arith, both, left, lt)
+
+-- once the next one is taken, it has the number that so many were taken before
+pub continues-taken : (I : Situation) (moves : ℕ) (B C : Recorded) (was : Option SearchEnd) (batch : Batch) (i n : ℕ) (batches : List Batch) → i < length batches → length batches ≤ 1001
+    → C ≡ with_entry B 0 (event.Batch batch) → n ≡ i → Continues I moves B was i (drop i batches) batches → length (batches_in C.journal) ≡ n + 1
+continues-taken I moves B C was batch i n batches lt most taken is h =
+    let entry : Entry = entry_of (state_of B) 0 (event.Batch batch) in
+    let room : length B.journal < batch_limit = omega (arith, h.few, lt, most) in
+    let more : batches_in C.journal ≡ batches_in B.journal ++ batches_in (entry ∷ []) =
+    ap (λ (E : Recorded). batches_in E.journal) (taken ∙ taken_in B batch room)
+    ∙ flat_map-append (λ (e : Entry). batch_in e.event) B.journal (entry ∷ []) in
+    let one : length (batches_in (entry ∷ [])) ≡ 1 = refl in
+    let count : length (batches_in C.journal) ≡ length (batches_in B.journal) + length (batches_in (entry ∷ [])) = ap length more ∙ length-append (batches_in B.journal) (batches_in (entry ∷ [])) in
+    let before : length (batches_in B.journal) ≡ i = taken_count I moves B was i batches lt h in
+    omega (arith, count, one, before, is)
 
 -- the journal after a batch and its descent
 abbrev descended : Situation → ℕ → List Entry → Batch → List Entry

@@ -12,6 +12,7 @@ use crate::run::run_batches;
 use book_texts::{report_history, write_history};
 use desk_data::{Batch, Instance};
 use desk_folder::{Folder, Sink};
+use desk_headway::Listener;
 use desk_runs::Ending;
 use std::alloc::Global;
 
@@ -21,13 +22,16 @@ use std::alloc::Global;
 ///
 /// It ends with `Done` or `NoPlan` when all is written. A write that fails ends it with that fault, and
 /// `Memory` may come at any time: what is written by then is a beginning of the texts, in their order.
-pub fn recover_day<F: Folder, O: Sink>(
+///
+/// The listener is told how far the recovery has come, and of each move that is tried; what is written depends on none.
+pub fn recover_day<F: Folder, O: Sink, L: Listener>(
     alloc: Global,
     inst: Instance,
     batches: &[Batch],
     moves: u32,
     folder: &mut F,
     out: &mut O,
+    listener: &mut L,
 ) -> Ending
     requires fresh { inst ≡ fresh_day inst.parts }
     requires asked { All (IsBatch inst.parts) batches.now }
@@ -36,7 +40,7 @@ pub fn recover_day<F: Folder, O: Sink>(
     ensures { Between F.outside O.report folder.old out.old folder.new out.new (λ before now.
         Completes (files_for (recover (recovery_on inst batches.now moves))) before now (recovered (recovery_on inst batches.now moves)) result) }
 {
-    match run_batches(alloc, inst, batches, moves) {
+    match run_batches(alloc, inst, batches, moves, listener) {
         Ok(done) => write_history(alloc, &done.book, done.search, folder, out),
         Err(_) => Ending::Memory,
     }
@@ -46,13 +50,14 @@ pub fn recover_day<F: Folder, O: Sink>(
 ///
 /// It ends with `Done` or `NoPlan` when the report is written, with `ReportFault` where the sink fails, and
 /// with `Memory` at any time: what is written by then is a beginning of the report.
-pub fn try_day<F: Folder, O: Sink>(
+pub fn try_day<F: Folder, O: Sink, L: Listener>(
     alloc: Global,
     inst: Instance,
     batches: &[Batch],
     moves: u32,
     folder: &mut F,
     out: &mut O,
+    listener: &mut L,
 ) -> Ending
     requires fresh { inst ≡ fresh_day inst.parts }
     requires asked { All (IsBatch inst.parts) batches.now }
@@ -61,7 +66,7 @@ pub fn try_day<F: Folder, O: Sink>(
     ensures { Between F.outside O.report folder.old out.old folder.new out.new (λ before now.
         Completes (files_for (trial (recovery_on inst batches.now moves))) before now (tried (recovery_on inst batches.now moves)) result) }
 {
-    match run_batches(alloc, inst, batches, moves) {
+    match run_batches(alloc, inst, batches, moves, listener) {
         Ok(done) => report_history(alloc, &done.book, done.search, folder, out),
         Err(_) => Ending::Memory,
     }

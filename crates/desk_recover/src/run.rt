@@ -10,6 +10,7 @@ ghost use Rattle.desk_core.specs.Recorded.{state_of};
 use desk_core::Book;
 use desk_data::{Batch, Instance, NoMem};
 use desk_descent::{SearchEnd, descend};
+use desk_headway::Listener;
 use std::alloc::Global;
 
 /// The book of a day that was recovered, and why its last search ended, where there is a plan.
@@ -20,12 +21,13 @@ pub(crate) struct Recovered {
 }
 
 /// The book of an instance after these batches, of which each is taken and then followed by a descent of at
-/// most so many accepted moves.
-pub(crate) fn run_batches(
+/// most so many accepted moves. The listener is told how far it has come.
+pub(crate) fn run_batches<L: Listener>(
     alloc: Global,
     inst: Instance,
     batches: &[Batch],
     moves: u32,
+    listener: &mut L,
 ) -> Result<Recovered, NoMem>
     requires fresh { inst ≡ fresh_day inst.parts }
     requires asked { All (IsBatch inst.parts) batches.now }
@@ -35,9 +37,11 @@ pub(crate) fn run_batches(
 {
     let mut book = Book::open(alloc, inst)?;
     let mut search = None;
+    let mut number = 0;
     for batch in batches {
         book.intake(alloc, 0, batch)?;
-        search = descend(alloc, &mut book, moves)?;
+        search = descend(alloc, &mut book, moves, number, listener)?;
+        number += 1;
     }
     Ok(Recovered { book, search })
 }

@@ -3,6 +3,7 @@
 mod book;
 mod changes;
 mod days;
+mod headway;
 mod memory;
 mod orders;
 mod parts;

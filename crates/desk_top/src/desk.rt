@@ -23,6 +23,7 @@ use crate::store::run_store;
 use crate::workers::run_workers;
 use desk_disk::{Disk, DiskFault};
 use desk_folder::{Folder, FolderFault, Gate, Sink};
+use desk_headway::{Listener, Nobody};
 use desk_runs::{DiskEnd, Ending};
 use desk_words::{Command, Directories, command};
 use std::alloc::Global;
@@ -30,13 +31,14 @@ use std::sync::Wait;
 use std::thread::Threads;
 
 // Does what a command says, with as many workers as it asks for, and puts the line that says why it was not done.
-fn run<R: Threads + Wait + Sync, F: Folder, O: Sink, G: Gate>(
+fn run<R: Threads + Wait + Sync, F: Folder, O: Sink, G: Gate, L: Listener>(
     rt: &R,
     alloc: Global,
     command: &Command,
     folder: &mut F,
     out: &mut O,
     gate: &G,
+    listener: &mut L,
 ) -> u8
     requires ranges { IsCommand command.now }
     requires diskless { is_of_disk command.now ≡ false }
@@ -50,26 +52,27 @@ fn run<R: Threads + Wait + Sync, F: Folder, O: Sink, G: Gate>(
             live,
         } => {
             if *workers == 0 {
-                run_plain(alloc, command, folder, out)
+                run_plain(alloc, command, folder, out, listener)
             } else {
                 run_workers(rt, alloc, *workers, *moves, *live, folder, out, gate)
             }
         }
         Command::Replay | Command::Check | Command::Gen { .. } | Command::Trial { .. } => {
-            run_plain(alloc, command, folder, out)
+            run_plain(alloc, command, folder, out, listener)
         }
         Command::Store => unreachable!(),
     }
 }
 
 // Does what the words say, and puts the line that says why it was not done.
-fn reported_run<R: Threads + Wait + Sync, F: Folder, O: Sink, G: Gate>(
+fn reported_run<R: Threads + Wait + Sync, F: Folder, O: Sink, G: Gate, L: Listener>(
     rt: &R,
     alloc: Global,
     words: &[String],
     folder: &mut F,
     out: &mut O,
     gate: &G,
+    listener: &mut L,
 ) -> u8
     requires diskless { asks_disk (asked_by (map string_bytes words.now)) ≡ false }
     ensures { Between F.outside O.report folder.old out.old folder.new out.new
@@ -79,10 +82,10 @@ fn reported_run<R: Threads + Wait + Sync, F: Folder, O: Sink, G: Gate>(
         return tell(alloc, Ending::Usage, out);
     };
     let Some(dirs) = asked.directories else {
-        return run(rt, alloc, &asked.command, folder, out, gate);
+        return run(rt, alloc, &asked.command, folder, out, gate, listener);
     };
     match folder.place(alloc, dirs.input, dirs.output) {
-        Ok(()) => run(rt, alloc, &asked.command, folder, out, gate),
+        Ok(()) => run(rt, alloc, &asked.command, folder, out, gate, listener),
         Err(FolderFault::Failed) => tell(alloc, Ending::PlaceFault, out),
         Err(FolderFault::Memory) => tell(alloc, Ending::Memory, out),
     }
@@ -260,8 +263,111 @@ pub fn desk_main<R: Threads + Wait + Sync, F: Folder, O: Sink, G: Gate, D: Disk>
         Between F.outside O.report folder.old out.old folder.new out.new
         (λ before now. RunsAsPromised (asked_by (map string_bytes words.now)) before now result) }
 {
+    desk_main_heard(rt, alloc, words, folder, out, gate, disk, &mut Nobody)
+}
+
+/// The desk, as `desk_main`, with a listener: a recovery without workers and a trial tell it how far they have come and
+/// of each move that is tried; a team of workers does not. The listener answers nothing, and all clauses of `desk_main`
+/// hold for every one.
+pub fn desk_main_heard<R: Threads + Wait + Sync, F: Folder, O: Sink, G: Gate, D: Disk, L: Listener>(
+    rt: &R,
+    alloc: Global,
+    words: &[String],
+    folder: &mut F,
+    out: &mut O,
+    gate: &G,
+    disk: &mut D,
+    listener: &mut L,
+) -> u8
+    requires nothing_pending { IfSome (D.shown disk.old) (λ was. HasNothingPending was.file) }
+    // The headline: where the folder shows the bytes of its input, each replay that was done has written
+    // the journal of a legal history of the events that it read, and the last plan of that history.
+    ensures headline { (dirs : Directories) → command (map string_bytes words.now) ≡ Some (Replay, Some dirs) →
+        (x : Inputs) → Tells (files_read Replay) (F.outside folder.old) x → IsDoneAt result →
+        Between F.outside O.report folder.old out.old folder.new out.new (λ before now. IsReplayed before now x) }
+
+    // The headline of a recovery: each that was done has written the journal of a legal history in which the
+    // batches that it read stand in their order, each with exactly its descent after it, and the last plan of
+    // that history; and it has reported how the last search ended.
+    ensures recovered { (moves : ℕ) → (dirs : Directories) →
+        command (map string_bytes words.now) ≡ Some (Recover 0 moves false, Some dirs) →
+        (x : Inputs) → Tells (files_read (Recover 0 moves false)) (F.outside folder.old) x → IsDoneAt result →
+        Between F.outside O.report folder.old out.old folder.new out.new (λ before now. IsRecovered before now moves x result) }
+
+    // The headline of a recovery by a team: each that was done has written the journal of one legal history, whatever
+    // worker came first. In it the batches that it read stand in their order, each once, and each other entry is the
+    // first better move of its worker's shard, after a beginning that has all that worker's earlier entries and by
+    // which the budget is not spent; and it has written the last plan of that history, and why its search ended.
+    ensures searched { (workers : ℕ) → (moves : ℕ) → (live : Bool) → (dirs : Directories) →
+        command (map string_bytes words.now) ≡ Some (Recover workers moves live, Some dirs) → 1 ≤ workers →
+        (x : Inputs) → Tells (files_read (Recover workers moves live)) (F.outside folder.old) x → IsDoneAt result →
+        Between F.outside O.report folder.old out.old folder.new out.new (λ before now. IsRecoveredByTeam before now workers moves live x result) }
+
+    // Each trial that was done has reported the same of the day that is made up of its seed and size.
+    ensures tried { (seed : ℕ) → (size : ℕ) → command (map string_bytes words.now) ≡ Some (Trial seed size, None) → IsDoneAt result →
+        Between F.outside O.report folder.old out.old folder.new out.new (λ before now. IsTried before now seed size result) }
+
+    // Each check that was done has reported the first item that the plan breaks, or that it breaks none, and the
+    // whole cost of the plan, under the orders of all batches.
+    ensures checked { (dirs : Directories) → command (map string_bytes words.now) ≡ Some (Check, Some dirs) →
+        (x : Inputs) → Tells (files_read Check) (F.outside folder.old) x → IsDoneAt result →
+        Between F.outside O.report folder.old out.old folder.new out.new (λ before now. IsChecked before now x result) }
+
+    // Each day that was generated is written whole.
+    ensures generated { (seed : ℕ) → (size : ℕ) → (dirs : Directories) →
+        command (map string_bytes words.now) ≡ Some (Gen seed size, Some dirs) → IsDoneAt result →
+        Between F.outside O.report folder.old out.old folder.new out.new (λ before now. IsGenerated before now seed size result) }
+
+    // The headline of a run that keeps its journal on the disk: each that was done has written what a replay of the same
+    // input writes, with how many entries the disk held as the first line of its report.
+    ensures stored_headline { (dirs : Directories) → command (map string_bytes words.now) ≡ Some (Store, Some dirs) →
+        (x : Inputs) → Tells (files_read Store) (F.outside folder.old) x → IsDoneAt result →
+        Between F.outside O.report folder.old out.old folder.new out.new (λ before now. IsStored before now x result) }
+
+    // All that is promised of such a run: the journal on the disk ended it, or it keeps all that is promised of a replay, with
+    // that line.
+    ensures stored_promise { (dirs : Directories) → command (map string_bytes words.now) ≡ Some (Store, Some dirs) →
+        Between F.outside O.report folder.old out.old folder.new out.new (λ before now.
+        RunsKept (asked_by (map string_bytes words.now)) before now (D.faults disk.old) (D.faults disk.new) result) }
+
+    // At 0, 1 and 5, and where an output file has got a byte, the file on the disk opens as the whole history, whatever crash
+    // comes.
+    ensures stored { (dirs : Directories) → command (map string_bytes words.now) ≡ Some (Store, Some dirs) →
+        Between F.outside O.report folder.old out.old folder.new out.new (λ before now.
+        (x : Inputs) → Tells (files_read Store) before.folder x → IsWrittenAt result ⊎ HasBegun before now →
+        Shown (D.shown disk.old) (D.shown disk.new) (HoldsAll x)) }
+
+    // Until the comparison with what the disk holds has passed each crash leaves all bytes but the one that opening sets; from
+    // then on, at any moment, a file that opens as a beginning of the history, with all entries that the disk held.
+    ensures untouched { (dirs : Directories) → command (map string_bytes words.now) ≡ Some (Store, Some dirs) →
+        (x : Inputs) → Tells (files_read Store) (F.outside folder.old) x →
+        Shown (D.shown disk.old) (D.shown disk.new) (StandsAlways x) }
+
+    // At 3 it is the former.
+    ensures stored_refused { (dirs : Directories) → command (map string_bytes words.now) ≡ Some (Store, Some dirs) →
+        result ≡ 3 → Shown (D.shown disk.old) (D.shown disk.new) OnlyOpens }
+
+    // 8 comes only where the disk failed.
+    ensures stored_failed { (dirs : Directories) → command (map string_bytes words.now) ≡ Some (Store, Some dirs) →
+        result ≡ 8 → Rose (D.faults disk.old) (D.faults disk.new) }
+
+    // At 0, 1, 3 and 5 the directory of the disk is that of the output.
+    ensures stored_in { (dirs : Directories) → command (map string_bytes words.now) ≡ Some (Store, Some dirs) →
+        IsPlacedAt result → IfSome (D.directory disk.old) (λ _. D.directory disk.new ≡ Some dirs.output) }
+
+    // Every other run leaves the disk as it was.
+    ensures other_disk { asks_disk (asked_by (map string_bytes words.now)) ≡ false → disk.new ≡ disk.old }
+
+    // All that is promised of each run of any other command, with one and the same work in all of it: how the run
+    // ended (`runs`); what its status means (`means`: `done`, `read`, `usage`, `usage_only`, `refused_where`,
+    // `refused`, `fault`, `complete`); what stands outside after it (`stands`: `named`, `unwritten`, `begun`,
+    // `fault_reported`); and what is untouched (`alone`: `unnamed`, `unread`, `in_order`, `unput`).
+    ensures promise { asks_disk (asked_by (map string_bytes words.now)) ≡ false →
+        Between F.outside O.report folder.old out.old folder.new out.new
+        (λ before now. RunsAsPromised (asked_by (map string_bytes words.now)) before now result) }
+{
     match kept_directories(words) {
         Some(dirs) => stored_run(alloc, &dirs, folder, out, disk),
-        None => reported_run(rt, alloc, words, folder, out, gate),
+        None => reported_run(rt, alloc, words, folder, out, gate, listener),
     }
 }

@@ -12,6 +12,7 @@ ghost use Rattle.desk_top.specs.Desk.{Obeys, RunsWith, RunsAsPromised};
 
 use crate::day::write_day;
 use desk_folder::{Folder, FolderFault, Sink};
+use desk_headway::Listener;
 use desk_judge::judge_plan;
 use desk_recover::{recover_day, try_day};
 use desk_replay::play_events;
@@ -22,11 +23,12 @@ use folder_io::put_report;
 use std::alloc::Global;
 
 // Does what the input asks for, and writes what it comes to.
-fn do_task<F: Folder, O: Sink>(
+fn do_task<F: Folder, O: Sink, L: Listener>(
     alloc: Global,
     task: InputTask,
     folder: &mut F,
     out: &mut O,
+    listener: &mut L,
 ) -> Ending
     requires sound { CanBeDone task }
     requires alone { team_size (as_task task) ≡ 0 }
@@ -44,7 +46,15 @@ fn do_task<F: Folder, O: Sink>(
                 batches,
                 moves,
             } = recovery;
-            recover_day(alloc, inst, batches.0.as_slice(), moves, folder, out)
+            recover_day(
+                alloc,
+                inst,
+                batches.0.as_slice(),
+                moves,
+                folder,
+                out,
+                listener,
+            )
         }
         InputTask::Try(recovery) => {
             let InputRecovery {
@@ -52,7 +62,15 @@ fn do_task<F: Folder, O: Sink>(
                 batches,
                 moves,
             } = recovery;
-            try_day(alloc, inst, batches.0.as_slice(), moves, folder, out)
+            try_day(
+                alloc,
+                inst,
+                batches.0.as_slice(),
+                moves,
+                folder,
+                out,
+                listener,
+            )
         }
         InputTask::Judge(judged) => {
             let InputPlan { inst, plan } = judged;
@@ -64,14 +82,20 @@ fn do_task<F: Folder, O: Sink>(
 }
 
 // Reads what a command asks for, and does it.
-fn obey<F: Folder, O: Sink>(alloc: Global, command: &Command, folder: &mut F, out: &mut O) -> Ending
+fn obey<F: Folder, O: Sink, L: Listener>(
+    alloc: Global,
+    command: &Command,
+    folder: &mut F,
+    out: &mut O,
+    listener: &mut L,
+) -> Ending
     requires ranges { IsCommand command.now }
     requires alone { workers_of command.now ≡ 0 }
     ensures { Between F.outside O.report folder.old out.old folder.new out.new
         (λ before now. Obeys nothing (here command.now) before now result) }
 {
     match read_task(alloc, command, folder) {
-        Ok(task) => do_task(alloc, task, folder, out),
+        Ok(task) => do_task(alloc, task, folder, out, listener),
         Err(fault) => Ending::from(fault),
     }
 }
@@ -90,33 +114,36 @@ pub(crate) fn tell<O: Sink>(alloc: Global, ending: Ending, out: &mut O) -> u8
 }
 
 // Reads what a command asks for, does it, and puts the line that says why it was not done.
-fn obey_and_tell<F: Folder, O: Sink>(
+fn obey_and_tell<F: Folder, O: Sink, L: Listener>(
     alloc: Global,
     command: &Command,
     folder: &mut F,
     out: &mut O,
+    listener: &mut L,
 ) -> u8
     requires ranges { IsCommand command.now }
     requires alone { workers_of command.now ≡ 0 }
     ensures { Between F.outside O.report folder.old out.old folder.new out.new
         (λ before now. RunsWith nothing (asked_here command.now) before now result) }
 {
-    let ending = obey(alloc, command, folder, out);
+    let ending = obey(alloc, command, folder, out, listener);
     tell(alloc, ending, out)
 }
 
 /// Does what a command says that asks for no workers and for no disk, in the directories that the folder has, and answers the status.
-/// It waits for nobody.
+/// It waits for nobody. A recovery and a trial tell the listener how far they have come; what is answered, reported and
+/// written depends on no listener.
 ///
 /// 0: done; of a replay, a recovery or a trial with a plan at the end, of a check with a plan that breaks no
 /// rule. 1: a replay, a recovery or a trial was done, with no plan at the end. 3: the input is refused. 4: the
 /// folder failed to read a file. 5: the folder failed to write a file, or the sink to write the report. 6:
 /// memory ran out. 7: a check was done, and the plan breaks a rule. From 3 to 6 a line in the report says why.
-pub fn run_plain<F: Folder, O: Sink>(
+pub fn run_plain<F: Folder, O: Sink, L: Listener>(
     alloc: Global,
     command: &Command,
     folder: &mut F,
     out: &mut O,
+    listener: &mut L,
 ) -> u8
     requires ranges { IsCommand command.now }
     requires alone { workers_of command.now ≡ 0 }
@@ -129,5 +156,5 @@ pub fn run_plain<F: Folder, O: Sink>(
     // 2 is the status of words that are no command.
     ensures no_usage { result ≢ 2 }
 {
-    obey_and_tell(alloc, command, folder, out)
+    obey_and_tell(alloc, command, folder, out, listener)
 }

@@ -11,6 +11,7 @@ use crate::passengers::first_of_passengers;
 use crate::rotations::Rotations;
 use desk_data::NoMem;
 use desk_eval::Evaluator;
+use desk_headway::{Listener, Nobody};
 use near_legs::LegUnits;
 use near_pax::PaxMoves;
 use plan_moves::Move;
@@ -34,12 +35,30 @@ pub fn first_better(
     ensures fits { IfOk result (λ found. ForSome found (Fits eval.old.inst)) }
     ensures eval { eval.new ≡ eval.old }
 {
+    first_better_heard(alloc, eval, finder, shard, shards, &mut Nobody)
+}
+
+/// The same, and a listener is told of each move that is tried. What is found depends on no listener.
+pub fn first_better_heard<L: Listener>(
+    alloc: Global,
+    eval: &mut Evaluator,
+    _finder: &mut Finder,
+    shard: u32,
+    shards: u32,
+    listener: &mut L,
+) -> Result<Option<Move>, NoMem>
+    requires shard { shard < shards }
+    requires depth { length eval.old.past < 1900000000 }
+    ensures ok { IfOk result (λ found. found ≡ first_better eval.old.inst eval.old.rows shard shards) }
+    ensures fits { IfOk result (λ found. ForSome found (Fits eval.old.inst)) }
+    ensures eval { eval.new ≡ eval.old }
+{
     let _rows = eval.instance().parts();
     let rotations = Rotations::of(alloc, eval)?;
     let mut units = LegUnits::of(alloc, eval.instance(), eval.plan(), shard, shards)?;
-    if let Some(m) = first_of_legs(alloc, eval, &rotations, &mut units)? {
+    if let Some(m) = first_of_legs(alloc, eval, &rotations, &mut units, listener)? {
         return Ok(Some(m));
     }
     let mut passengers = PaxMoves::of(alloc, eval.instance(), eval.plan(), shard, shards)?;
-    first_of_passengers(alloc, eval, &rotations, &mut passengers)
+    first_of_passengers(alloc, eval, &rotations, &mut passengers, listener)
 }

@@ -15,17 +15,19 @@ use crate::rotations::Rotations;
 use crate::trial::first_of;
 use desk_data::NoMem;
 use desk_eval::Evaluator;
+use desk_headway::Listener;
 use near_legs::{LegUnit, LegUnits};
 use plan_moves::Move;
 use std::alloc::Global;
 
-/// The first better one of the moves of the units that are left, which fit. The evaluator stands where it stood,
-/// after an error too.
-pub(crate) fn first_of_legs(
+/// The first better one of the moves of the units that are left, which fit; the listener is told of each that is
+/// tried. The evaluator stands where it stood, after an error too.
+pub(crate) fn first_of_legs<L: Listener>(
     alloc: Global,
     eval: &mut Evaluator,
     rotations: &Rotations,
     units: &mut LegUnits,
+    listener: &mut L,
 ) -> Result<Option<Move>, NoMem>
     requires rotations { AreRotations eval.old.inst eval.old.rows rotations.now }
     requires units { IsUnitWalk eval.old.inst eval.old.rows units.old }
@@ -36,7 +38,7 @@ pub(crate) fn first_of_legs(
     ensures eval { eval.new ≡ eval.old }
 {
     while let Some(unit) = units.next(alloc, eval.instance(), eval.plan())? {
-        if let Some(m) = first_of_unit(alloc, eval, rotations, units, unit)? {
+        if let Some(m) = first_of_unit(alloc, eval, rotations, units, unit, listener)? {
             return Ok(Some(m));
         }
     }
@@ -45,12 +47,13 @@ pub(crate) fn first_of_legs(
 
 /// The first better one of the moves of a unit, which fit. They are made only where it is not known that none of
 /// them is better.
-fn first_of_unit(
+fn first_of_unit<L: Listener>(
     alloc: Global,
     eval: &mut Evaluator,
     rotations: &Rotations,
     units: &LegUnits,
     unit: LegUnit,
+    listener: &mut L,
 ) -> Result<Option<Move>, NoMem>
     requires rotations { AreRotations eval.old.inst eval.old.rows rotations.now }
     requires units { IsUnitWalk eval.old.inst eval.old.rows units.now }
@@ -65,5 +68,5 @@ fn first_of_unit(
         return Ok(None);
     }
     let made = units.moves(alloc, eval.instance(), eval.plan(), unit)?;
-    first_of(alloc, eval, rotations, &mut MadeMoves::of(made))
+    first_of(alloc, eval, rotations, &mut MadeMoves::of(made), listener)
 }

@@ -3,6 +3,7 @@
 //!     let mut finder = Finder::new();
 //!     let found = first_better(alloc, &mut eval, &mut finder, 0, 1)?;   // of all moves near the plan
 //!     let found = first_better(alloc, &mut eval, &mut finder, 2, 8)?;   // of shard 2 of 8
+//!     let found = first_better_heard(alloc, &mut eval, &mut finder, 0, 1, &mut listener)?;   // and is told of each trial
 //!
 //! The moves of legs come first (`near_legs`), and then those of passengers (`near_pax`): together they are the
 //! shard, which is a law. A move is tried on the
@@ -27,7 +28,7 @@ mod ruled_out;
 mod trial;
 
 pub use finder::Finder;
-pub use first::first_better;
+pub use first::{first_better, first_better_heard};
 pub use laws::{
     a_rebooking_to_a_path_that_costs_no_less_is_not_better,
     moves_of_legs_and_then_of_passengers_are_the_shard,

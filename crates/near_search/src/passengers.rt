@@ -14,17 +14,19 @@ use crate::ruled_out::costs_nothing;
 use crate::trial::first_of;
 use desk_data::NoMem;
 use desk_eval::Evaluator;
+use desk_headway::Listener;
 use near_pax::PaxMoves;
 use plan_moves::Move;
 use std::alloc::Global;
 
-/// The first better one of the moves of passengers that are left, which fit. The evaluator stands where it
-/// stood, after an error too.
-pub(crate) fn first_of_passengers(
+/// The first better one of the moves of passengers that are left, which fit; the listener is told of each that is
+/// tried. The evaluator stands where it stood, after an error too.
+pub(crate) fn first_of_passengers<L: Listener>(
     alloc: Global,
     eval: &mut Evaluator,
     rotations: &Rotations,
     moves: &mut PaxMoves,
+    listener: &mut L,
 ) -> Result<Option<Move>, NoMem>
     requires rotations { AreRotations eval.old.inst eval.old.rows rotations.now }
     requires moves { IsOf eval.old.inst eval.old.rows moves.old }
@@ -35,7 +37,7 @@ pub(crate) fn first_of_passengers(
     ensures eval { eval.new ≡ eval.old }
 {
     'paths: loop {
-        if let Some(m) = first_of(alloc, eval, rotations, moves)? {
+        if let Some(m) = first_of(alloc, eval, rotations, moves, listener)? {
             return Ok(Some(m));
         }
         if !go_on(eval, moves) {

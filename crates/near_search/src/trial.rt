@@ -11,17 +11,20 @@ use crate::rotations::Rotations;
 use crate::ruled_out::ruled_out;
 use desk_data::NoMem;
 use desk_eval::Evaluator;
+use desk_headway::Listener;
 use desk_moves::{apply, undo};
 use near_draft::is_known_worse;
 use plan_moves::Move;
 use std::alloc::Global;
 
-/// The first better one of some moves, which fit. The evaluator stands where it stood, after an error too.
-pub(crate) fn first_of<M: MovesLeft>(
+/// The first better one of some moves, which fit; the listener is told of each that is tried. The evaluator stands
+/// where it stood, after an error too.
+pub(crate) fn first_of<M: MovesLeft, L: Listener>(
     alloc: Global,
     eval: &mut Evaluator,
     rotations: &Rotations,
     moves: &mut M,
+    listener: &mut L,
 ) -> Result<Option<Move>, NoMem>
     requires rotations { AreRotations eval.old.inst eval.old.rows rotations.now }
     requires moves { M.is_of eval.old.inst eval.old.rows moves.old }
@@ -34,6 +37,7 @@ pub(crate) fn first_of<M: MovesLeft>(
     ensures eval { eval.new ≡ eval.old }
 {
     while let Some(m) = moves.next_left(alloc, eval.instance(), eval.plan())? {
+        listener.tried();
         if is_better(alloc, eval, rotations, &m)? {
             return Ok(Some(m));
         }

@@ -4,4 +4,4 @@ use Rattle.desk_descent.proofs.descent.descend.Given as goal
 
 -- so many steps were taken
 abbrev pub invariant-loop : goal.invariant-loop
-invariant-loop l = l.book ≡ after_steps l.counter l.most l.fn.book
+invariant-loop g l = l.book ≡ after_steps l.counter l.most l.fn.book

@@ -13,7 +13,7 @@ use Rattle.desk_descent.proofs.step.proposal.Goals as goal
 use Rattle.desk_descent.proofs.step.proposal.Goals.{then-is_some-via-then-is_some, then-is_some-via-else-is_some+then-is_spent}
 
 pub returns-then-is_some-clause-ok : goal.returns-then-is_some-clause-ok
-returns-then-is_some-clause-ok c =
+returns-then-is_some-clause-ok g c =
     let B = c.args.book.now in
     elim c.then-is_some.branch [
       | then-is_some-via-then-is_some w ↦ unplanned c.args.most B c.broken.result c.broken.ensures (sym c.is_some.ensures ∙ w.if-is_some.true)
@@ -21,7 +21,7 @@ returns-then-is_some-clause-ok c =
     ]
 
 pub returns-clause-ok : goal.returns-clause-ok
-returns-clause-ok c =
+returns-clause-ok g c =
     let B = c.args.book.now in
     let had : (state_of B).broken ≡ None = planned B c.broken.result c.broken.ensures (sym c.is_some.ensures ∙ c.if-is_some.false) in
     let unspent : is_spent c.args.most B.journal ≡ false = sym c.is_spent.ensures ∙ c.if-is_spent.false in
@@ -29,7 +29,7 @@ returns-clause-ok c =
     (λ found is. is.first ∙ first-next c.args.most B had unspent) c.search.ensures.found
 
 pub returns-clause-fits : goal.returns-clause-fits
-returns-clause-fits c =
+returns-clause-fits g c =
     let B = c.args.book.now in
     if-ok c.search.result (IsFirstBetter (state_of B).inst (state_of B).plan) (λ (found : Option Move). ForSome found (Fits B.opening))
     (λ found is. found-fits B found is.fits) c.search.ensures.found

@@ -7,7 +7,7 @@ use Rattle.desk_descent.proofs.DescendLaws.{step-recorded}
 use Rattle.desk_descent.proofs.step.step.Goals as goal
 
 pub returns-in_ok-propose-in-Some-clause-ok : goal.returns-in_ok-propose-in-Some-clause-ok
-returns-in_ok-propose-in-Some-clause-ok c =
+returns-in_ok-propose-in-Some-clause-ok g c =
     let m = c.in-Some.m in
     let is : next_of c.args.most c.args.book.now ≡ Some m = sym c.in_ok-m.ensures.ok ∙ c.in-Some.is in
     c.in_ok-propose-in-Some.ensures.after

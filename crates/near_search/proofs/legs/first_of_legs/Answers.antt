@@ -11,7 +11,7 @@ use Rattle.near_search.proofs.VainLaws.{given-is}
 use Rattle.near_search.proofs.legs.first_of_legs.Goals as goal
 
 pub returns-in-Some-2-clause-ok : goal.returns-in-Some-2-clause-ok
-returns-in-Some-2-clause-ok c =
+returns-in-Some-2-clause-ok g c =
     let I = c.args.eval.now.inst in
     let P = c.args.eval.now.rows in
     let u = c.in-Some.unit in
@@ -24,7 +24,7 @@ returns-in-Some-2-clause-ok c =
     ∙ c.loop-unit.invariant.same
 
 pub loop-unit-preserved : goal.loop-unit-preserved
-loop-unit-preserved c =
+loop-unit-preserved g c =
     let I = c.args.eval.now.inst in
     let P = c.args.eval.now.rows in
     let u = c.in-Some.unit in

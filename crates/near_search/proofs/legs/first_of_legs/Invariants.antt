@@ -8,7 +8,7 @@ use Rattle.near_search.proofs.legs.first_of_legs.Given as goal
 
 -- what is found among the moves of the units that are left is what is found among all
 abbrev pub invariant-loop-unit : goal.invariant-loop-unit
-invariant-loop-unit l = record {
+invariant-loop-unit g l = record {
   walk : IsUnitWalk l.fn.eval.inst l.fn.eval.rows l.units;
   eval : l.eval ≡ l.fn.eval;
   same : find (is_better l.fn.eval.inst l.fn.eval.rows) (moves_of l.fn.eval.inst l.fn.eval.rows (units_left l.fn.eval.inst l.fn.eval.rows l.units)) ≡ find (is_better l.fn.eval.inst l.fn.eval.rows) (moves_of l.fn.eval.inst l.fn.eval.rows (units_left l.fn.eval.inst l.fn.eval.rows l.fn.units));
@@ -16,4 +16,4 @@ invariant-loop-unit l = record {
 }
 
 abbrev pub decreases-loop-unit : goal.decreases-loop-unit
-decreases-loop-unit l = length (units_left l.fn.eval.inst l.fn.eval.rows l.units)
+decreases-loop-unit g l = length (units_left l.fn.eval.inst l.fn.eval.rows l.units)

@@ -8,7 +8,7 @@ use Rattle.near_search.proofs.PassedLaws.{find-before, find-after, all-back}
 use Rattle.near_search.proofs.passengers.first_of_passengers.Goals as goal
 
 pub returns-in-Some-clause-ok : goal.returns-in-Some-clause-ok
-returns-in-Some-clause-ok c =
+returns-in-Some-clause-ok g c =
     let I = c.args.eval.now.inst in
     let P = c.args.eval.now.rows in
     let found = rw c.paths.invariant.eval at c.in_ok-m.ensures.ok in
@@ -16,7 +16,7 @@ returns-in-Some-clause-ok c =
     ∙ c.paths.invariant.same
 
 pub returns-then-not-go_on-clause-ok : goal.returns-then-not-go_on-clause-ok
-returns-then-not-go_on-clause-ok c =
+returns-then-not-go_on-clause-ok g c =
     let I = c.args.eval.now.inst in
     let P = c.args.eval.now.rows in
     let found = rw c.paths.invariant.eval at c.in_ok-m.ensures.ok in
@@ -28,7 +28,7 @@ returns-then-not-go_on-clause-ok c =
     ∙ none)
 
 pub paths-preserved : goal.paths-preserved
-paths-preserved c =
+paths-preserved g c =
     let I = c.args.eval.now.inst in
     let P = c.args.eval.now.rows in
     let found = rw c.paths.invariant.eval at c.in_ok-m.ensures.ok in

@@ -7,7 +7,7 @@ use Rattle.near_search.proofs.passengers.first_of_passengers.Given as goal
 
 -- what is found among the moves that are left is what is found among all
 abbrev pub invariant-paths : goal.invariant-paths
-invariant-paths l = record {
+invariant-paths g l = record {
   of : IsOf l.fn.eval.inst l.fn.eval.rows l.moves;
   eval : l.eval ≡ l.fn.eval;
   same : find (is_better l.fn.eval.inst l.fn.eval.rows) (left l.fn.eval.inst l.fn.eval.rows l.moves) ≡ find (is_better l.fn.eval.inst l.fn.eval.rows) (left l.fn.eval.inst l.fn.eval.rows l.fn.moves);
@@ -15,4 +15,4 @@ invariant-paths l = record {
 }
 
 abbrev pub decreases-paths : goal.decreases-paths
-decreases-paths l = length (units_left l.fn.eval.inst l.fn.eval.rows l.moves)
+decreases-paths g l = length (units_left l.fn.eval.inst l.fn.eval.rows l.moves)

@@ -15,7 +15,7 @@ use Rattle.desk_top.proofs.Commands.{done-by, replayed, recovered-day, recovered
 use Rattle.desk_top.proofs.Ranges.{unplaced-free}
 use Rattle.desk_top.proofs.Stored.{stored}
 use Rattle.desk_top.proofs.StorePlaced.{kept-asked, other-asked, others-free, same-dirs}
-use Rattle.desk_top.proofs.desk.desk_main.Goals as goal
+use Rattle.desk_top.proofs.desk.desk_main_heard.Goals as goal
 
 -- the bytes of no file
 abbrev no_inputs : Inputs

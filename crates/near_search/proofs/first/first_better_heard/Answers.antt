@@ -11,10 +11,10 @@ use Rattle.near_moves.proofs.UnitLaws.{moves_of_legs-fit}
 use Rattle.near_moves.proofs.RebookingLaws.{rebookings-fit}
 use Rattle.near_search.proofs.FirstLaws.{first-leg, first-passengers}
 use Rattle.near_search.proofs.PassedLaws.{shard-all}
-use Rattle.near_search.proofs.first.first_better.Goals as goal
+use Rattle.near_search.proofs.first.first_better_heard.Goals as goal
 
 pub first_of_legs-requires-clause-fits : goal.first_of_legs-requires-clause-fits
-first_of_legs-requires-clause-fits c =
+first_of_legs-requires-clause-fits g c =
     let I = c.args.eval.now.inst in
     let P = c.args.eval.now.rows in
     let plan : IsPlanFor I P = rw c.plan.ensures.rows at c.plan.ensures.valid in
@@ -22,7 +22,7 @@ first_of_legs-requires-clause-fits c =
     subst (λ (us : List MoveUnit). All (Fits I) (moves_of I P us)) (sym left) (shard-all I P (Fits I) c.args.shard c.args.shards (leg_units I P) (moves_of_legs-fit I P plan))
 
 pub first_of_passengers-requires-clause-fits : goal.first_of_passengers-requires-clause-fits
-first_of_passengers-requires-clause-fits c =
+first_of_passengers-requires-clause-fits g c =
     let I = c.args.eval.now.inst in
     let P = c.args.eval.now.rows in
     let valid : IsValid I = rw c.instance.ensures at c.parts-rows.ensures.valid in
@@ -32,7 +32,7 @@ first_of_passengers-requires-clause-fits c =
     rw stays (subst (All (Fits I)) (sym left) (shard-all I P (Fits I) c.args.shard c.args.shards (rebooked_units I P) (rebookings-fit I P valid plan)))
 
 pub returns-in-Some-clause-ok : goal.returns-in-Some-clause-ok
-returns-in-Some-clause-ok c =
+returns-in-Some-clause-ok g c =
     let I = c.args.eval.now.inst in
     let P = c.args.eval.now.rows in
     let left = rw (c.instance-2.ensures, c.plan.ensures.rows) at c.in_ok-units.ensures.left in
@@ -40,7 +40,7 @@ returns-in-Some-clause-ok c =
     first-leg I P c.args.shard c.args.shards c.in_ok-m.field-0 c.in-Some.m found c.in-Some.is
 
 pub returns-clause-ok : goal.returns-clause-ok
-returns-clause-ok c =
+returns-clause-ok g c =
     let I = c.args.eval.now.inst in
     let P = c.args.eval.now.rows in
     let left = rw (c.instance-2.ensures, c.plan.ensures.rows) at c.in_ok-units.ensures.left in
