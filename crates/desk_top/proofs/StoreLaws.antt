@@ -23,10 +23,12 @@ use Rattle.desk_runs.proofs.CausesLaw.{status_cases}
 use Rattle.desk_runs.proofs.Composed.{here, Prepares, obeys-done, obeys-memory, runs-tells_end}
 use Rattle.desk_runs.proofs.PromisedLaw.{promised}
 use Rattle.desk_tasks.specs.Keep.{KeptStory, kept}
-use Rattle.desk_store.specs.Journal.{EndsEarly, EndsWritten, IsEarly, IsKept, KeepsStory, LeavesJournal, OnlyOpens, PassesComparison}
+use Rattle.desk_store.specs.Held.{entered}
+use Rattle.desk_store.specs.Journal.{EndsEarly, EndsWritten, IsEarly, IsKept, KeepsStory, LeavesJournal, OnlyOpens, PassesComparison, WhereShown}
 use Rattle.desk_story.specs.Story.{Rows, kept_of}
-use Rattle.desk_top.specs.Store.{kept_meaning, EndsAtDisk, RunsKept, Keeps, StandsAlways, HoldsAll, HasBegun, IsWrittenAt, Shown}
+use Rattle.desk_top.specs.Store.{kept_meaning, EndsAtDisk, KeepsPromise, RunsKept, Keeps, StandsAlways, HoldsAll, HoldsSince, HasBegun, IsWrittenAt, Shown, WritesNothing}
 use Rattle.desk_top.specs.Obeyed.{IsUnread, SetsNone, SetsStory, ObeysStore}
+use Rattle.desk_top.proofs.Placed.{unbegun-tells_end}
 
 -- ---- statuses
 
@@ -94,59 +96,82 @@ shown-same shown shown' P same nothing each was is = (was, same ∙ is, each was
 
 -- ---- what is promised of the run
 
-none_runs : (before mid : World) (now : SinkSide) (shown shown' : Option DiskSide) (faults faults' : ℕ) (how : Ending) (code : ℕ) → SetsNone before mid shown shown' how → TellsEnd how mid.sink now code → RunsKept (asked_here command_is.Store) before (world mid.folder now) faults faults' code
-none_runs before mid now shown shown' faults faults' how code h given =
-    inr (0, promised (kept_meaning 0) (asked_here command_is.Store) before (world mid.folder now) code (runs-tells_end (kept_meaning 0) (asked_here command_is.Store) before mid now how code h.obeys given))
+-- a run that ended so before it wrote anything
+pub wrote_nothing : (before mid : World) (now : SinkSide) (how : Ending) (code : ℕ) → IsUnreported before mid → IsLate (status_of how) → TellsEnd how mid.sink now code → WritesNothing before (world mid.folder now) code
+wrote_nothing before mid now how code same late given = record {
+  unbegun = unbegun-tells_end before mid now how code same given;
+  late = unwritten_at how given.answer code late given.status;
+}
+
+none_runs : (before mid : World) (now : SinkSide) (shown shown' : Option DiskSide) (faults faults' : ℕ) (how : Ending) (code : ℕ) → SetsNone before mid shown shown' how → TellsEnd how mid.sink now code → RunsKept (asked_here command_is.Store) before (world mid.folder now) faults faults' shown shown' code
+none_runs before mid now shown shown' faults faults' how code h given = inr (record {
+  held = 0;
+  keeps = promised (kept_meaning 0) (asked_here command_is.Store) before (world mid.folder now) code (runs-tells_end (kept_meaning 0) (asked_here command_is.Store) before mid now how code h.obeys given);
+  counts = inl (wrote_nothing before mid now how code h.unreported (unread_late how h.unread) given);
+})
 
 -- the same for any number of entries that were held
 prepares_at : (held : ℕ) (before mid : Outside) (k : KeptStory) → Prepares (kept_meaning 0) command_is.Store before mid k → Prepares (kept_meaning held) command_is.Store before mid k
 prepares_at held before mid k p = record { tries = record { only = p.tries.only; in_order = p.tries.in_order }; read = p.read; sets = p.sets; sound = p.sound }
 
-stopped_runs : (before : World) (mid : Outside) (now : SinkSide) (faults faults' : ℕ) (k : KeptStory) (how : Ending) (code : ℕ) → Prepares (kept_meaning 0) command_is.Store before.folder mid k → IsEarly how → (how ≡ ending.OnDisk disk_end.Fault → Rose faults faults') → TellsEnd how before.sink now code → RunsKept (asked_here command_is.Store) before (world mid now) faults faults' code
-stopped_runs before mid now faults faults' k (ending.OnDisk end) code p early failed given = inl (record {
+stopped_runs : (before : World) (mid : Outside) (now : SinkSide) (faults faults' : ℕ) (shown shown' : Option DiskSide) (k : KeptStory) (how : Ending) (code : ℕ) → Prepares (kept_meaning 0) command_is.Store before.folder mid k → IsEarly how → (how ≡ ending.OnDisk disk_end.Fault → Rose faults faults')
+    → WhereShown shown shown' (λ was now. LeavesJournal k was now how) → TellsEnd how before.sink now code → RunsKept (asked_here command_is.Store) before (world mid now) faults faults' shown shown' code
+stopped_runs before mid now faults faults' shown shown' k (ending.OnDisk end) code p early failed disk given = inl (record {
   how = end;
   answer = given.answer;
   line = given.line;
   status = given.status;
   cause = λ is. failed (ap (λ (e : DiskEnd). let how : Ending = ending.OnDisk e in how) is);
-  accepted = λ other x tells. (k, p.sets x tells);
+  named = record { no_fault = λ e. absurd cc; directories = p.tries.only.directories; faults = p.tries.only.place_faults };
+  read = p.read;
+  says = λ x tells. (k, p.sets x tells, disk);
   written = p.tries.only.written;
   unread = p.tries.only.unread;
   unput = λ f. record { written = p.tries.only.written f; faults = p.tries.only.put_faults f };
+  kept = given.line.faults.kept;
 })
-stopped_runs before mid now faults faults' k ending.Memory code p early failed given =
-    inr (0, promised (kept_meaning 0) (asked_here command_is.Store) before (world mid now) code (runs-tells_end (kept_meaning 0) (asked_here command_is.Store) before (world mid before.sink) now ending.Memory code (obeys-memory (kept_meaning 0) command_is.Store before.folder mid before.sink p.tries) given))
-stopped_runs before mid now faults faults' k (ending.Refused r) code p early failed given = absurd early
-stopped_runs before mid now faults faults' k (ending.ReadFault f) code p early failed given = absurd early
-stopped_runs before mid now faults faults' k ending.Done code p early failed given = absurd early
-stopped_runs before mid now faults faults' k ending.NoPlan code p early failed given = absurd early
-stopped_runs before mid now faults faults' k ending.BrokenRule code p early failed given = absurd early
-stopped_runs before mid now faults faults' k ending.Usage code p early failed given = absurd early
-stopped_runs before mid now faults faults' k ending.PlaceFault code p early failed given = absurd early
-stopped_runs before mid now faults faults' k (ending.WriteFault f) code p early failed given = absurd early
-stopped_runs before mid now faults faults' k ending.ReportFault code p early failed given = absurd early
+stopped_runs before mid now faults faults' shown shown' k ending.Memory code p early failed disk given = inr (record {
+  held = 0;
+  keeps = promised (kept_meaning 0) (asked_here command_is.Store) before (world mid now) code (runs-tells_end (kept_meaning 0) (asked_here command_is.Store) before (world mid before.sink) now ending.Memory code (obeys-memory (kept_meaning 0) command_is.Store before.folder mid before.sink p.tries) given);
+  counts = inl (wrote_nothing before (world mid before.sink) now ending.Memory code (record { written = p.tries.only.written; sink = refl }) six_late given);
+})
+stopped_runs before mid now faults faults' shown shown' k (ending.Refused r) code p early failed disk given = absurd early
+stopped_runs before mid now faults faults' shown shown' k (ending.ReadFault f) code p early failed disk given = absurd early
+stopped_runs before mid now faults faults' shown shown' k ending.Done code p early failed disk given = absurd early
+stopped_runs before mid now faults faults' shown shown' k ending.NoPlan code p early failed disk given = absurd early
+stopped_runs before mid now faults faults' shown shown' k ending.BrokenRule code p early failed disk given = absurd early
+stopped_runs before mid now faults faults' shown shown' k ending.Usage code p early failed disk given = absurd early
+stopped_runs before mid now faults faults' shown shown' k ending.PlaceFault code p early failed disk given = absurd early
+stopped_runs before mid now faults faults' shown shown' k (ending.WriteFault f) code p early failed disk given = absurd early
+stopped_runs before mid now faults faults' shown shown' k ending.ReportFault code p early failed disk given = absurd early
 
-written_runs : (before mid : World) (now : SinkSide) (at : Outside) (shown shown' : Option DiskSide) (faults faults' : ℕ) (k : KeptStory) (how : Ending) (code : ℕ) → Prepares (kept_meaning 0) command_is.Store before.folder at k → EndsWritten k (world at before.sink) mid shown shown' how → TellsEnd how mid.sink now code → RunsKept (asked_here command_is.Store) before (world mid.folder now) faults faults' code
-written_runs before mid now at shown shown' faults faults' k how code p h given =
-    inr (
-      h.held,
-      promised (kept_meaning h.held) (asked_here command_is.Store) before (world mid.folder now) code
-          (runs-tells_end (kept_meaning h.held) (asked_here command_is.Store) before mid now how code
-          (obeys-done (kept_meaning h.held) command_is.Store before.folder at mid.folder before.sink mid.sink k how (prepares_at h.held before.folder at k p) h.completes) given),
-    )
+-- the entries that the file held are counted
+written_counted : (x : Inputs) (before now : World) (shown shown' : Option DiskSide) (k : KeptStory) (how : Ending) → kept_of x ≡ Ok k → (h : EndsWritten k before now shown shown' how) → Shown shown shown' (HoldsSince h.held x)
+written_counted x before now shown shown' k how sets h was is =
+    let d = h.disk was is in
+    (d.0, d.1, (record { keeps = record { k = k; sets = sets; records = d.2.0; passes = d.2.1 }; all = d.2.2 }, d.2.3))
 
-early_runs : (before mid : World) (now : SinkSide) (at : Outside) (shown shown' : Option DiskSide) (faults faults' : ℕ) (k : KeptStory) (how : Ending) (code : ℕ) → Prepares (kept_meaning 0) command_is.Store before.folder at k → EndsEarly k (world at before.sink) mid shown shown' how → (how ≡ ending.OnDisk disk_end.Fault → Rose faults faults') → TellsEnd how mid.sink now code → RunsKept (asked_here command_is.Store) before (world mid.folder now) faults faults' code
+written_runs : (before mid : World) (now : SinkSide) (at : Outside) (shown shown' : Option DiskSide) (faults faults' : ℕ) (k : KeptStory) (how : Ending) (code : ℕ) → Prepares (kept_meaning 0) command_is.Store before.folder at k → EndsWritten k (world at before.sink) mid shown shown' how → TellsEnd how mid.sink now code → RunsKept (asked_here command_is.Store) before (world mid.folder now) faults faults' shown shown' code
+written_runs before mid now at shown shown' faults faults' k how code p h given = inr (record {
+  held = h.held;
+  keeps = promised (kept_meaning h.held) (asked_here command_is.Store) before (world mid.folder now) code
+      (runs-tells_end (kept_meaning h.held) (asked_here command_is.Store) before mid now how code
+      (obeys-done (kept_meaning h.held) command_is.Store before.folder at mid.folder before.sink mid.sink k how (prepares_at h.held before.folder at k p) h.completes) given);
+  counts = inr (λ x tells. written_counted x (world at before.sink) mid shown shown' k how (p.sets x tells) h);
+})
+
+early_runs : (before mid : World) (now : SinkSide) (at : Outside) (shown shown' : Option DiskSide) (faults faults' : ℕ) (k : KeptStory) (how : Ending) (code : ℕ) → Prepares (kept_meaning 0) command_is.Store before.folder at k → EndsEarly k (world at before.sink) mid shown shown' how → (how ≡ ending.OnDisk disk_end.Fault → Rose faults faults') → TellsEnd how mid.sink now code → RunsKept (asked_here command_is.Store) before (world mid.folder now) faults faults' shown shown' code
 early_runs before mid now at shown shown' faults faults' k how code p h failed given =
     let sink : mid.sink ≡ before.sink = ap (λ (w : World). w.sink) h.same in
     let folder : mid.folder ≡ at = ap (λ (w : World). w.folder) h.same in
-    subst (λ (o : Outside). RunsKept (asked_here command_is.Store) before (world o now) faults faults' code) (sym folder)
-    (stopped_runs before at now faults faults' k how code p h.early failed (subst (λ (s : SinkSide). TellsEnd how s now code) sink given))
+    subst (λ (o : Outside). RunsKept (asked_here command_is.Store) before (world o now) faults faults' shown shown' code) (sym folder)
+    (stopped_runs before at now faults faults' shown shown' k how code p h.early failed h.disk (subst (λ (s : SinkSide). TellsEnd how s now code) sink given))
 
-story_runs : (before mid : World) (now : SinkSide) (shown shown' : Option DiskSide) (faults faults' : ℕ) (how : Ending) (code : ℕ) (h : SetsStory before mid shown shown' how) → KeepsStory h.k (world h.mid before.sink) mid shown shown' how → (how ≡ ending.OnDisk disk_end.Fault → Rose faults faults') → TellsEnd how mid.sink now code → RunsKept (asked_here command_is.Store) before (world mid.folder now) faults faults' code
+story_runs : (before mid : World) (now : SinkSide) (shown shown' : Option DiskSide) (faults faults' : ℕ) (how : Ending) (code : ℕ) (h : SetsStory before mid shown shown' how) → KeepsStory h.k (world h.mid before.sink) mid shown shown' how → (how ≡ ending.OnDisk disk_end.Fault → Rose faults faults') → TellsEnd how mid.sink now code → RunsKept (asked_here command_is.Store) before (world mid.folder now) faults faults' shown shown' code
 story_runs before mid now shown shown' faults faults' how code h (inl early) failed given = early_runs before mid now h.mid shown shown' faults faults' h.k how code h.prepares early failed given
 story_runs before mid now shown shown' faults faults' how code h (inr written) failed given = written_runs before mid now h.mid shown shown' faults faults' h.k how code h.prepares written given
 
-pub store-runs : (before mid : World) (now : SinkSide) (shown shown' : Option DiskSide) (faults faults' : ℕ) (how : Ending) (code : ℕ) → ObeysStore before mid shown shown' how → (how ≡ ending.OnDisk disk_end.Fault → Rose faults faults') → TellsEnd how mid.sink now code → RunsKept (asked_here command_is.Store) before (world mid.folder now) faults faults' code
+pub store-runs : (before mid : World) (now : SinkSide) (shown shown' : Option DiskSide) (faults faults' : ℕ) (how : Ending) (code : ℕ) → ObeysStore before mid shown shown' how → (how ≡ ending.OnDisk disk_end.Fault → Rose faults faults') → TellsEnd how mid.sink now code → RunsKept (asked_here command_is.Store) before (world mid.folder now) faults faults' shown shown' code
 store-runs before mid now shown shown' faults faults' how code (inl h) failed given = none_runs before mid now shown shown' faults faults' how code h given
 store-runs before mid now shown shown' faults faults' how code (inr h) failed given = story_runs before mid now shown shown' faults faults' how code h h.keeps failed given
 

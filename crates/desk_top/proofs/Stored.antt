@@ -1,8 +1,10 @@
 -- What a run that kept its journal on a disk did, once it was done.
 use Rattle.std.proofs.Common.{◌≡◌, ◌⊎◌, inl, inr, ℕ, ◌≤◌, List, refl, sym, ap, subst, ◌∙◌, arith}
-use Rattle.std.specs.Prelude.{Option, Some, Result, Ok, Err}
+use Rattle.std.specs.Prelude.{Option, Some, None, Result, Ok, Err}
 use Rattle.desk_folder.specs.declared.faults.FolderFault.{FolderFault}
 use Rattle.desk_folder.specs.Outside.{Directories}
+use Rattle.desk_data.specs.declared.broken.Broken.{Broken}
+use Rattle.desk_disk.specs.FileStates.{DiskSide}
 use Rattle.desk_model.specs.States.{opening}
 use Rattle.desk_model.specs.declared.answer.Entry.{Entry}
 use Rattle.desk_model.specs.Histories.{run, state}
@@ -25,7 +27,7 @@ use Rattle.desk_tasks.specs.Headline.{HasKept}
 use Rattle.desk_tasks.proofs.HeadlineLaw.{has-kept}
 use Rattle.desk_story.specs.Story.{task_of, kept_of}
 use Rattle.desk_story.proofs.TaskLaws.{same-story, SameStory}
-use Rattle.desk_top.specs.Store.{kept_meaning, EndsAtDisk, RunsKept, IsStored}
+use Rattle.desk_top.specs.Store.{kept_meaning, AreCounted, EndsAtDisk, HoldsSince, IsStored, RunsOnDisk, Shown}
 
 status_is : (s : Story) (held : ℕ) (h : List Entry) → h ≡ run (opening s.day) s.events → (kept held s).status ≡ plan_status (state (opening s.day) h).broken
 unfolding opened_first history_outcome history
@@ -34,16 +36,27 @@ status_is s held h is = ap (λ (g : List Entry). plan_status (state (opening s.d
 replays : (x : Inputs) (k : KeptStory) (own : Result KeptStory Refusal) → own ≡ Ok k → SameStory own (task_of command_is.Replay x) → task_of command_is.Replay x ≡ Ok (play k.story)
 replays x k own is same = (let h : SameStory (Ok k) (task_of command_is.Replay x) = subst (λ (r : Result KeptStory Refusal). SameStory r (task_of command_is.Replay x)) is same in h)
 
-stored_done : (held : ℕ) (before now : World) (x : Inputs) (code : ℕ) → IsDone (kept_meaning held) command_is.Store before now x code → IsStored before now x code
-stored_done held before now x code done =
+at_most_one : (broken : Option Broken) (code : ℕ) → code ≡ plan_status broken → code ≤ 1
+at_most_one None code is = omega (arith, is)
+at_most_one (Some item) code is = omega (arith, is)
+
+-- a run that was done wrote
+counted : (held : ℕ) (before now : World) (shown shown' : Option DiskSide) (x : Inputs) (code : ℕ) → Tells (files_read command_is.Store) before.folder x → code ≤ 1 → AreCounted held before now shown shown' code → Shown shown shown' (HoldsSince held x)
+counted held before now shown shown' x code tells le (inl h) = absurd (h.late (inl le))
+counted held before now shown shown' x code tells le (inr h) = h x tells
+
+stored_done : (held : ℕ) (before now : World) (shown shown' : Option DiskSide) (x : Inputs) (code : ℕ) → Tells (files_read command_is.Store) before.folder x → AreCounted held before now shown shown' code → IsDone (kept_meaning held) command_is.Store before now x code → IsStored before now shown shown' x code
+stored_done held before now shown shown' x code tells counts done =
     let k : KeptStory = done.task in
     let head : HasKept before now k.story held = has-kept before now k.story held done.sound done.written in
+    let status = done.status ∙ status_is k.story held head.history head.events in
     record {
       story = k.story;
       sets = replays x k (kept_of x) done.sets (same-story x);
       held = held;
       headline = head;
-      status = done.status ∙ status_is k.story held head.history head.events;
+      counts = counted held before now shown shown' x code tells (at_most_one (state (opening k.story.day) head.history).broken code status) counts;
+      status = status;
     }
 
 -- a run that the journal on the disk ended was not done
@@ -70,6 +83,7 @@ not_done end answer code is done = elim (status_cases (ending.OnDisk end) answer
     never disk_end.Damaged code e done = three code e done
     never (disk_end.Other line) code e done = three code e done
 
-pub stored : (dirs : Directories) (before now : World) (faults faults' : ℕ) (x : Inputs) (code : ℕ) → RunsKept (Some (at command_is.Store dirs)) before now faults faults' code → Tells (files_read command_is.Store) before.folder x → IsDoneAt code → IsStored before now x code
-stored dirs before now faults faults' x code (inl ended) tells done = absurd (not_done ended.how ended.answer code ended.status done)
-stored dirs before now faults faults' x code (inr run) tells done = stored_done run.0 before now x code (run.1.means.done (at command_is.Store dirs) refl x tells done)
+pub stored : (dirs : Directories) (before now : World) (faults faults' : ℕ) (shown shown' : Option DiskSide) (x : Inputs) (code : ℕ) → RunsOnDisk (Some (at command_is.Store dirs)) before now faults faults' shown shown' code → Tells (files_read command_is.Store) before.folder x → IsDoneAt code → IsStored before now shown shown' x code
+stored dirs before now faults faults' shown shown' x code (inl failed) tells done = absurd (not_done disk_end.Fault failed.answer code failed.status done)
+stored dirs before now faults faults' shown shown' x code (inr (inl ended)) tells done = absurd (not_done ended.how ended.answer code ended.status done)
+stored dirs before now faults faults' shown shown' x code (inr (inr run)) tells done = stored_done run.held before now shown shown' x code tells run.counts (run.keeps.means.done (at command_is.Store dirs) refl x tells done)

@@ -1,6 +1,6 @@
 //! The top call.
 
-ghost use Rattle.std.specs.Prelude.{◌≡◌, ◌⊎◌, ℕ, ◌≤◌, Bool, false, None, Some, IfSome, map};
+ghost use Rattle.std.specs.Prelude.{◌≡◌, ◌⊎◌, ℕ, ◌≤◌, Bool, true, false, None, Some, IfSome, Err, map};
 ghost use Rattle.std.specs.String.{string_bytes};
 ghost use Rattle.desk_folder.specs.Outside.{Directories};
 ghost use Rattle.std.specs.Option.{option_map};
@@ -10,12 +10,14 @@ ghost use Rattle.desk_words.specs.declared.asked.Command.TheVariants.{Replay, St
 ghost use Rattle.desk_words.specs.Asked.{named};
 ghost use Rattle.desk_words.specs.Commands.{command};
 ghost use Rattle.desk_runs.specs.Commands.{IsCommand, asked_by, asked_here, asks_disk, files_read, is_of_disk};
+ghost use Rattle.desk_runs.specs.declared.refusal.Refusal.{Refusal};
 ghost use Rattle.desk_runs.specs.Inputs.{Inputs, Tells};
 ghost use Rattle.desk_runs.specs.Runs.{Between};
 ghost use Rattle.desk_runs.specs.Causes.{IsDoneAt};
 ghost use Rattle.desk_runs.proofs.Composed.{at};
+ghost use Rattle.desk_story.specs.Story.{kept_of};
 ghost use Rattle.desk_store.specs.Journal.{OnlyOpens};
-ghost use Rattle.desk_top.specs.Store.{kept_directories, HasBegun, HoldsAll, IsPlacedAt, IsStored, IsWrittenAt, RunsKept, Shown, StandsAlways};
+ghost use Rattle.desk_top.specs.Store.{kept_directories, HasBegun, HoldsAll, IsAtMostNamed, IsPlacedAt, IsStored, IsWrittenAt, RunsOnDisk, Shown, StandsAlways};
 ghost use Rattle.desk_top.specs.Desk.{Runs, RunsAsPromised, IsReplayed, IsRecovered, IsRecoveredByTeam, IsTried, IsChecked, IsGenerated};
 
 use crate::plain::{run_plain, tell};
@@ -112,14 +114,17 @@ fn run_on_disk<F: Folder, O: Sink, D: Disk>(
 ) -> u8
     requires nothing_pending { IfSome (D.shown disk.old) (λ was. HasNothingPending was.file) }
     ensures promise { Between F.outside O.report folder.old out.old folder.new out.new (λ before now.
-        RunsKept (asked_here Store) before now (D.faults disk.old) (D.faults disk.new) result) }
+        RunsOnDisk (asked_here Store) before now (D.faults disk.old) (D.faults disk.new) (D.shown disk.old) (D.shown disk.new) result) }
     ensures stored { Between F.outside O.report folder.old out.old folder.new out.new (λ before now.
         (x : Inputs) → Tells (files_read Store) before.folder x → IsWrittenAt result ⊎ HasBegun before now →
         Shown (D.shown disk.old) (D.shown disk.new) (HoldsAll x)) }
     ensures untouched { (x : Inputs) → Tells (files_read Store) (F.outside folder.old) x →
         Shown (D.shown disk.old) (D.shown disk.new) (StandsAlways x) }
+    ensures unasked { (x : Inputs) → Tells (files_read Store) (F.outside folder.old) x → (r : Refusal) → kept_of x ≡ Err r → IsAtMostNamed (D.shown disk.old) (D.shown disk.new) }
     ensures refused { result ≡ 3 → Shown (D.shown disk.old) (D.shown disk.new) OnlyOpens }
     ensures failed { result ≡ 8 → Rose (D.faults disk.old) (D.faults disk.new) }
+    ensures kept { D.faults disk.old ≤ D.faults disk.new }
+    ensures unshown { D.shown disk.old ≡ None → D.shown disk.new ≡ None }
     ensures directory { IsPlacedAt result → IfSome (D.directory disk.old) (λ _. D.directory disk.new ≡ Some (named dirs.now).output) }
 {
     match disk.place(alloc, dirs.output) {
@@ -139,14 +144,17 @@ fn stored_run<F: Folder, O: Sink, D: Disk>(
 ) -> u8
     requires nothing_pending { IfSome (D.shown disk.old) (λ was. HasNothingPending was.file) }
     ensures promise { Between F.outside O.report folder.old out.old folder.new out.new (λ before now.
-        RunsKept (Some (at Store (named dirs.now))) before now (D.faults disk.old) (D.faults disk.new) result) }
+        RunsOnDisk (Some (at Store (named dirs.now))) before now (D.faults disk.old) (D.faults disk.new) (D.shown disk.old) (D.shown disk.new) result) }
     ensures stored { Between F.outside O.report folder.old out.old folder.new out.new (λ before now.
         (x : Inputs) → Tells (files_read Store) before.folder x → IsWrittenAt result ⊎ HasBegun before now →
         Shown (D.shown disk.old) (D.shown disk.new) (HoldsAll x)) }
     ensures untouched { (x : Inputs) → Tells (files_read Store) (F.outside folder.old) x →
         Shown (D.shown disk.old) (D.shown disk.new) (StandsAlways x) }
+    ensures unasked { (x : Inputs) → Tells (files_read Store) (F.outside folder.old) x → (r : Refusal) → kept_of x ≡ Err r → IsAtMostNamed (D.shown disk.old) (D.shown disk.new) }
     ensures refused { result ≡ 3 → Shown (D.shown disk.old) (D.shown disk.new) OnlyOpens }
     ensures failed { result ≡ 8 → Rose (D.faults disk.old) (D.faults disk.new) }
+    ensures kept { D.faults disk.old ≤ D.faults disk.new }
+    ensures unshown { D.shown disk.old ≡ None → D.shown disk.new ≡ None }
     ensures directory { IsPlacedAt result → IfSome (D.directory disk.old) (λ _. D.directory disk.new ≡ Some (named dirs.now).output) }
 {
     match folder.place(alloc, dirs.input, dirs.output) {
@@ -176,7 +184,7 @@ pub fn desk_main<R: Threads + Wait + Sync, F: Folder, O: Sink, G: Gate, D: Disk>
     gate: &G,
     disk: &mut D,
 ) -> u8
-    requires nothing_pending { IfSome (D.shown disk.old) (λ was. HasNothingPending was.file) }
+    requires nothing_pending { asks_disk (asked_by (map string_bytes words.now)) ≡ true → IfSome (D.shown disk.old) (λ was. HasNothingPending was.file) }
     // The headline: where the folder shows the bytes of its input, each replay that was done has written
     // the journal of a legal history of the events that it read, and the last plan of that history.
     ensures headline { (dirs : Directories) → command (map string_bytes words.now) ≡ Some (Replay, Some dirs) →
@@ -216,16 +224,17 @@ pub fn desk_main<R: Threads + Wait + Sync, F: Folder, O: Sink, G: Gate, D: Disk>
         Between F.outside O.report folder.old out.old folder.new out.new (λ before now. IsGenerated before now seed size result) }
 
     // The headline of a run that keeps its journal on the disk: each that was done has written what a replay of the same
-    // input writes, with how many entries the disk held as the first line of its report.
+    // input writes, with how many entries the disk held as the first line of its report: as many as its file had, where shown.
     ensures stored_headline { (dirs : Directories) → command (map string_bytes words.now) ≡ Some (Store, Some dirs) →
         (x : Inputs) → Tells (files_read Store) (F.outside folder.old) x → IsDoneAt result →
-        Between F.outside O.report folder.old out.old folder.new out.new (λ before now. IsStored before now x result) }
+        Between F.outside O.report folder.old out.old folder.new out.new (λ before now. IsStored before now (D.shown disk.old) (D.shown disk.new) x result) }
 
-    // All that is promised of such a run: the journal on the disk ended it, or it keeps all that is promised of a replay, with
-    // that line.
+    // All that is promised of such a run. The disk failed to name its directory, and nothing was read. Or the journal on the
+    // disk ended it, once the input was read and accepted: the disk failed, or where it shows its file that was damaged, or of
+    // other events. Or it keeps all that is promised of a replay, with that line.
     ensures stored_promise { (dirs : Directories) → command (map string_bytes words.now) ≡ Some (Store, Some dirs) →
         Between F.outside O.report folder.old out.old folder.new out.new (λ before now.
-        RunsKept (asked_by (map string_bytes words.now)) before now (D.faults disk.old) (D.faults disk.new) result) }
+        RunsOnDisk (asked_by (map string_bytes words.now)) before now (D.faults disk.old) (D.faults disk.new) (D.shown disk.old) (D.shown disk.new) result) }
 
     // At 0, 1 and 5, and where an output file has got a byte, the file on the disk opens as the whole history, whatever crash
     // comes.
@@ -240,6 +249,11 @@ pub fn desk_main<R: Threads + Wait + Sync, F: Folder, O: Sink, G: Gate, D: Disk>
         (x : Inputs) → Tells (files_read Store) (F.outside folder.old) x →
         Shown (D.shown disk.old) (D.shown disk.new) (StandsAlways x) }
 
+    // Where the input is refused, at most the directory of the disk was named.
+    ensures stored_unasked { (dirs : Directories) → command (map string_bytes words.now) ≡ Some (Store, Some dirs) →
+        (x : Inputs) → Tells (files_read Store) (F.outside folder.old) x → (r : Refusal) → kept_of x ≡ Err r →
+        IsAtMostNamed (D.shown disk.old) (D.shown disk.new) }
+
     // At 3 it is the former.
     ensures stored_refused { (dirs : Directories) → command (map string_bytes words.now) ≡ Some (Store, Some dirs) →
         result ≡ 3 → Shown (D.shown disk.old) (D.shown disk.new) OnlyOpens }
@@ -251,6 +265,10 @@ pub fn desk_main<R: Threads + Wait + Sync, F: Folder, O: Sink, G: Gate, D: Disk>
     // At 0, 1, 3 and 5 the directory of the disk is that of the output.
     ensures stored_in { (dirs : Directories) → command (map string_bytes words.now) ≡ Some (Store, Some dirs) →
         IsPlacedAt result → IfSome (D.directory disk.old) (λ _. D.directory disk.new ≡ Some dirs.output) }
+
+    // No run lets the count of faults of the disk fall, and a disk that shows nothing goes on so.
+    ensures disk_kept { D.faults disk.old ≤ D.faults disk.new }
+    ensures disk_unshown { D.shown disk.old ≡ None → D.shown disk.new ≡ None }
 
     // Every other run leaves the disk as it was.
     ensures other_disk { asks_disk (asked_by (map string_bytes words.now)) ≡ false → disk.new ≡ disk.old }
@@ -279,7 +297,7 @@ pub fn desk_main_heard<R: Threads + Wait + Sync, F: Folder, O: Sink, G: Gate, D:
     disk: &mut D,
     listener: &mut L,
 ) -> u8
-    requires nothing_pending { IfSome (D.shown disk.old) (λ was. HasNothingPending was.file) }
+    requires nothing_pending { asks_disk (asked_by (map string_bytes words.now)) ≡ true → IfSome (D.shown disk.old) (λ was. HasNothingPending was.file) }
     // The headline: where the folder shows the bytes of its input, each replay that was done has written
     // the journal of a legal history of the events that it read, and the last plan of that history.
     ensures headline { (dirs : Directories) → command (map string_bytes words.now) ≡ Some (Replay, Some dirs) →
@@ -319,16 +337,17 @@ pub fn desk_main_heard<R: Threads + Wait + Sync, F: Folder, O: Sink, G: Gate, D:
         Between F.outside O.report folder.old out.old folder.new out.new (λ before now. IsGenerated before now seed size result) }
 
     // The headline of a run that keeps its journal on the disk: each that was done has written what a replay of the same
-    // input writes, with how many entries the disk held as the first line of its report.
+    // input writes, with how many entries the disk held as the first line of its report: as many as its file had, where shown.
     ensures stored_headline { (dirs : Directories) → command (map string_bytes words.now) ≡ Some (Store, Some dirs) →
         (x : Inputs) → Tells (files_read Store) (F.outside folder.old) x → IsDoneAt result →
-        Between F.outside O.report folder.old out.old folder.new out.new (λ before now. IsStored before now x result) }
+        Between F.outside O.report folder.old out.old folder.new out.new (λ before now. IsStored before now (D.shown disk.old) (D.shown disk.new) x result) }
 
-    // All that is promised of such a run: the journal on the disk ended it, or it keeps all that is promised of a replay, with
-    // that line.
+    // All that is promised of such a run. The disk failed to name its directory, and nothing was read. Or the journal on the
+    // disk ended it, once the input was read and accepted: the disk failed, or where it shows its file that was damaged, or of
+    // other events. Or it keeps all that is promised of a replay, with that line.
     ensures stored_promise { (dirs : Directories) → command (map string_bytes words.now) ≡ Some (Store, Some dirs) →
         Between F.outside O.report folder.old out.old folder.new out.new (λ before now.
-        RunsKept (asked_by (map string_bytes words.now)) before now (D.faults disk.old) (D.faults disk.new) result) }
+        RunsOnDisk (asked_by (map string_bytes words.now)) before now (D.faults disk.old) (D.faults disk.new) (D.shown disk.old) (D.shown disk.new) result) }
 
     // At 0, 1 and 5, and where an output file has got a byte, the file on the disk opens as the whole history, whatever crash
     // comes.
@@ -343,6 +362,11 @@ pub fn desk_main_heard<R: Threads + Wait + Sync, F: Folder, O: Sink, G: Gate, D:
         (x : Inputs) → Tells (files_read Store) (F.outside folder.old) x →
         Shown (D.shown disk.old) (D.shown disk.new) (StandsAlways x) }
 
+    // Where the input is refused, at most the directory of the disk was named.
+    ensures stored_unasked { (dirs : Directories) → command (map string_bytes words.now) ≡ Some (Store, Some dirs) →
+        (x : Inputs) → Tells (files_read Store) (F.outside folder.old) x → (r : Refusal) → kept_of x ≡ Err r →
+        IsAtMostNamed (D.shown disk.old) (D.shown disk.new) }
+
     // At 3 it is the former.
     ensures stored_refused { (dirs : Directories) → command (map string_bytes words.now) ≡ Some (Store, Some dirs) →
         result ≡ 3 → Shown (D.shown disk.old) (D.shown disk.new) OnlyOpens }
@@ -354,6 +378,10 @@ pub fn desk_main_heard<R: Threads + Wait + Sync, F: Folder, O: Sink, G: Gate, D:
     // At 0, 1, 3 and 5 the directory of the disk is that of the output.
     ensures stored_in { (dirs : Directories) → command (map string_bytes words.now) ≡ Some (Store, Some dirs) →
         IsPlacedAt result → IfSome (D.directory disk.old) (λ _. D.directory disk.new ≡ Some dirs.output) }
+
+    // No run lets the count of faults of the disk fall, and a disk that shows nothing goes on so.
+    ensures disk_kept { D.faults disk.old ≤ D.faults disk.new }
+    ensures disk_unshown { D.shown disk.old ≡ None → D.shown disk.new ≡ None }
 
     // Every other run leaves the disk as it was.
     ensures other_disk { asks_disk (asked_by (map string_bytes words.now)) ≡ false → disk.new ≡ disk.old }

@@ -1,14 +1,16 @@
 //! The command `store`, in directories that are named already.
 
-ghost use Rattle.std.specs.Prelude.{◌≡◌, ◌≤◌, ◌⊎◌, None, IfSome};
+ghost use Rattle.std.specs.Prelude.{◌≡◌, ◌≤◌, ◌⊎◌, None, IfSome, Err};
 ghost use Rattle.desk_folder.specs.Calls.{Rose};
 ghost use Rattle.desk_disk.specs.FileStates.{HasNothingPending};
 ghost use Rattle.desk_words.specs.declared.asked.Command.TheVariants.{Store};
 ghost use Rattle.desk_runs.specs.declared.ending.DiskEnd.TheVariants as disk_end;
 ghost use Rattle.desk_runs.specs.declared.ending.Ending.TheVariants as ending;
+ghost use Rattle.desk_runs.specs.declared.refusal.Refusal.{Refusal};
 ghost use Rattle.desk_runs.specs.Commands.{asked_here, files_read};
 ghost use Rattle.desk_runs.specs.Inputs.{Inputs, Tells};
 ghost use Rattle.desk_runs.specs.Runs.{Between};
+ghost use Rattle.desk_story.specs.Story.{kept_of};
 ghost use Rattle.desk_store.specs.Journal.{OnlyOpens};
 ghost use Rattle.desk_top.specs.Store.{HasBegun, HoldsAll, IsWrittenAt, RunsKept, Shown, StandsAlways};
 ghost use Rattle.desk_top.specs.Obeyed.{ObeysStore};
@@ -31,6 +33,7 @@ fn obey_store<F: Folder, O: Sink, D: Disk>(
     requires nothing_pending { IfSome (D.shown disk.old) (λ was. HasNothingPending was.file) }
     ensures obeys { Between F.outside O.report folder.old out.old folder.new out.new (λ before now.
         ObeysStore before now (D.shown disk.old) (D.shown disk.new) result) }
+    ensures unasked { (x : Inputs) → Tells (files_read Store) (F.outside folder.old) x → (r : Refusal) → kept_of x ≡ Err r → disk.new ≡ disk.old }
     ensures failed { result ≡ ending.OnDisk disk_end.Fault → Rose (D.faults disk.old) (D.faults disk.new) }
     ensures kept { D.faults disk.old ≤ D.faults disk.new }
     ensures unshown { D.shown disk.old ≡ None → D.shown disk.new ≡ None }
@@ -61,10 +64,11 @@ pub fn run_store<F: Folder, O: Sink, D: Disk>(
     disk: &mut D,
 ) -> u8
     requires nothing_pending { IfSome (D.shown disk.old) (λ was. HasNothingPending was.file) }
-    // The journal on the disk ended the run, or it keeps all that is promised of a replay, with how many entries the disk held
-    // as the first line of its report.
+    // The journal on the disk ended the run, once the input was read and accepted: the disk failed, or where it shows its file that
+    // was damaged, or of other events. Or the run keeps all that is promised of a replay, with how many entries that file held as
+    // the first line of its report.
     ensures promise { Between F.outside O.report folder.old out.old folder.new out.new (λ before now.
-        RunsKept (asked_here Store) before now (D.faults disk.old) (D.faults disk.new) result) }
+        RunsKept (asked_here Store) before now (D.faults disk.old) (D.faults disk.new) (D.shown disk.old) (D.shown disk.new) result) }
 
     // At 0, 1 and 5, and where an output file has got a byte, the file on the disk opens as the whole history.
     ensures stored { Between F.outside O.report folder.old out.old folder.new out.new (λ before now.
@@ -76,12 +80,18 @@ pub fn run_store<F: Folder, O: Sink, D: Disk>(
     ensures untouched { (x : Inputs) → Tells (files_read Store) (F.outside folder.old) x →
         Shown (D.shown disk.old) (D.shown disk.new) (StandsAlways x) }
 
+    // Where the input is refused, nothing is asked of the disk.
+    ensures unasked { (x : Inputs) → Tells (files_read Store) (F.outside folder.old) x → (r : Refusal) → kept_of x ≡ Err r → disk.new ≡ disk.old }
+
     // At 3 it is the former.
     ensures refused { result ≡ 3 → Shown (D.shown disk.old) (D.shown disk.new) OnlyOpens }
 
     // 8 comes only where the disk failed.
     ensures failed { result ≡ 8 → Rose (D.faults disk.old) (D.faults disk.new) }
     ensures kept { D.faults disk.old ≤ D.faults disk.new }
+
+    // A disk that shows nothing goes on so, and no other directory is named.
+    ensures unshown { D.shown disk.old ≡ None → D.shown disk.new ≡ None }
     ensures directory { D.directory disk.new ≡ D.directory disk.old }
 {
     let ending = obey_store(alloc, folder, out, disk);

@@ -10,11 +10,11 @@ use Rattle.desk_runs.specs.Inputs.{Inputs}
 use Rattle.desk_runs.specs.Runs.{world}
 use Rattle.desk_runs.proofs.PromisedLaw.{runs-as-promised}
 use Rattle.desk_top.specs.Desk.{meanings, RunsAsPromised}
-use Rattle.desk_top.specs.Store.{kept_directories, RunsKept}
+use Rattle.desk_top.specs.Store.{kept_directories, RunsOnDisk}
 use Rattle.desk_top.proofs.Commands.{done-by, replayed, recovered-day, recovered-by-team, tried-day, checked, generated}
 use Rattle.desk_top.proofs.Ranges.{unplaced-free}
 use Rattle.desk_top.proofs.Stored.{stored}
-use Rattle.desk_top.proofs.StorePlaced.{kept-asked, other-asked, others-free, same-dirs}
+use Rattle.desk_top.proofs.StorePlaced.{asks-store, kept-asked, other-asked, others-free, same-dirs}
 use Rattle.desk_top.proofs.desk.desk_main_heard.Goals as goal
 
 -- the bytes of no file
@@ -23,6 +23,9 @@ no_inputs f = []
 
 pub reported_run-requires : goal.reported_run-requires
 reported_run-requires g c = (c.type_bounds.sync-R, (c.type_bounds.sync-G, others-free (command (map string_bytes c.args.words.now)) (sym (ap (option_map named) c.in-None.is) ∙ c.kept_directories.ensures) (unplaced-free (map string_bytes c.args.words.now))))
+
+pub stored_run-requires : goal.stored_run-requires
+stored_run-requires g c = c.requires (asks-store (command (map string_bytes c.args.words.now)) (named c.in-Some.dirs) c.in-Some.ensures)
 
 pub returns-in-None : goal.returns-in-None
 returns-in-None g c =
@@ -45,9 +48,12 @@ returns-in-None g c =
       stored_promise = λ dirs is. absurd (other-asked these dirs none is);
       stored = λ dirs is x tells began. absurd (other-asked these dirs none is);
       untouched = λ dirs is x tells. absurd (other-asked these dirs none is);
+      stored_unasked = λ dirs is x tells r refused. absurd (other-asked these dirs none is);
       stored_refused = λ dirs is three. absurd (other-asked these dirs none is);
       stored_failed = λ dirs is eight. absurd (other-asked these dirs none is);
       stored_in = λ dirs is at. absurd (other-asked these dirs none is);
+      disk_kept = omega arith;
+      disk_unshown = λ unshown. unshown;
       other_disk = λ free. refl;
       promise = λ free. kept;
     }
@@ -64,7 +70,9 @@ returns-in-Some g c =
     let asked : these ≡ Some (command_is.Store, Some own) = kept-asked these own c.in-Some.ensures in
     let faults = g.D.Disk.faults c.args.disk.now in
     let later = g.D.Disk.faults c.stored_run.new.disk in
-    let kept = subst (λ (o : Option Asking). RunsKept (option_map asks o) before now faults later code) (sym asked) run.promise in
+    let shown = g.D.Disk.shown c.args.disk.now in
+    let told = g.D.Disk.shown c.stored_run.new.disk in
+    let kept = subst (λ (o : Option Asking). RunsOnDisk (option_map asks o) before now faults later shown told code) (sym asked) run.promise in
     record {
       headline = λ dirs is x tells done. absurd (let no = sym asked ∙ is in cc);
       recovered = λ moves dirs is x tells done. absurd (let no = sym asked ∙ is in cc);
@@ -72,13 +80,16 @@ returns-in-Some g c =
       tried = λ seed size is done. absurd (let no = sym asked ∙ is in cc);
       checked = λ dirs is x tells done. absurd (let no = sym asked ∙ is in cc);
       generated = λ seed size dirs is done. absurd (let no = sym asked ∙ is in cc);
-      stored_headline = λ dirs is x tells done. stored own before now faults later x code run.promise tells done;
+      stored_headline = λ dirs is x tells done. stored own before now faults later shown told x code run.promise tells done;
       stored_promise = λ dirs is. kept;
       stored = λ dirs is x tells began. run.stored x tells began;
       untouched = λ dirs is x tells. run.untouched x tells;
+      stored_unasked = λ dirs is x tells r refused. run.unasked x tells r refused;
       stored_refused = λ dirs is three. run.refused three;
       stored_failed = λ dirs is eight. run.failed eight;
       stored_in = λ dirs is at. same-dirs these own dirs (g.D.Disk.directory c.args.disk.now) (g.D.Disk.directory c.stored_run.new.disk) asked is (run.directory at);
+      disk_kept = run.kept;
+      disk_unshown = run.unshown;
       other_disk = λ free. absurd (let no = sym (ap (λ (o : Option Asking). asks_disk (option_map asks o)) asked) ∙ free in cc);
       promise = λ free. absurd (let no = sym (ap (λ (o : Option Asking). asks_disk (option_map asks o)) asked) ∙ free in cc);
     }

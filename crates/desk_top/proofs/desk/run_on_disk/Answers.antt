@@ -1,4 +1,4 @@
-use Rattle.std.proofs.Common.{refl, inl, inr}
+use Rattle.std.proofs.Common.{◌∙◌, ap, refl, inl, inr}
 use Rattle.desk_disk.specs.declared.faults.DiskFault.TheVariants as disk_fault
 use Rattle.desk_runs.specs.declared.ending.DiskEnd.TheVariants as disk_end
 use Rattle.desk_runs.specs.declared.ending.Ending.TheVariants as ending
@@ -7,7 +7,7 @@ use Rattle.desk_words.specs.Asked.{named}
 use Rattle.desk_store.specs.Journal.{OnlyOpens}
 use Rattle.desk_top.specs.Store.{HoldsAll, StandsAlways}
 use Rattle.desk_top.proofs.StoreLaws.{shown-same}
-use Rattle.desk_top.proofs.StorePlaced.{kept-undisked, kept-unremembered, named-there, not-placed, never-began, eight-only, still, opens-placed, always-placed, all-placed, shown-placed, pending-placed, shown-failed}
+use Rattle.desk_top.proofs.StorePlaced.{kept-disked, kept-undisked, kept-unremembered, at_most, risen, unshown-placed, named-there, not-placed, never-began, eight-only, still, opens-placed, always-placed, all-placed, shown-placed, pending-placed, shown-failed}
 use Rattle.desk_top.proofs.desk.run_on_disk.Goals as goal
 
 pub run_store-requires : goal.run_store-requires
@@ -19,12 +19,21 @@ returns-in-Ok g c =
     let mid = g.D.Disk.shown c.place.new.self in
     let told = g.D.Disk.shown c.run_store.new.disk in
     let stays = c.in-Ok.ensures.stays in
+    let counts = c.in-Ok.ensures.counts in
+    let before = world (g.F.Folder.outside c.args.folder.now) (g.O.Sink.report c.args.out.now) in
+    let now = world (g.F.Folder.outside c.run_store.new.folder) (g.O.Sink.report c.run_store.new.out) in
+    let faults = g.D.Disk.faults c.args.disk.now in
+    let placed = g.D.Disk.faults c.place.new.self in
+    let later = g.D.Disk.faults c.run_store.new.disk in
     record {
-      promise = c.run_store.ensures.promise;
+      promise = kept-disked before now faults placed later shown mid told c.run_store.result c.in-Ok.field-0 counts.kept c.requires stays c.run_store.ensures.promise;
       stored = λ x tells began. shown-placed shown mid told c.in-Ok.field-0 (HoldsAll x) c.requires stays (all-placed x) (c.run_store.ensures.stored x tells began);
       untouched = λ x tells. shown-placed shown mid told c.in-Ok.field-0 (StandsAlways x) c.requires stays (always-placed x) (c.run_store.ensures.untouched x tells);
+      unasked = λ x tells r is. inr (ap g.D.Disk.shown (c.run_store.ensures.unasked x tells r is) ∙ stays);
       refused = λ three. shown-placed shown mid told c.in-Ok.field-0 OnlyOpens c.requires stays opens-placed (c.run_store.ensures.refused three);
-      failed = λ eight. c.run_store.ensures.failed eight;
+      failed = λ eight. risen faults placed later counts.kept (c.run_store.ensures.failed eight);
+      kept = at_most faults placed later counts.kept c.run_store.ensures.kept;
+      unshown = λ none. c.run_store.ensures.unshown (unshown-placed shown mid stays none);
       directory = λ at. named-there (g.D.Disk.directory c.args.disk.now) (g.D.Disk.directory c.place.new.self) (g.D.Disk.directory c.run_store.new.disk) (named c.args.dirs.now).output c.in-Ok.ensures.names c.run_store.ensures.directory;
     }
 
@@ -40,11 +49,14 @@ returns-in-Err-Failed g c =
     let how = ending.OnDisk disk_end.Fault in
     let failed = rw c.in-Err-Failed.field-0-is at c.in-Err-Failed.ensures in
     record {
-      promise = kept-undisked before now (g.D.Disk.faults c.args.disk.now) (g.D.Disk.faults c.place.new.self) code (failed.counts.rose refl) given;
+      promise = kept-undisked before now (g.D.Disk.faults c.args.disk.now) (g.D.Disk.faults c.place.new.self) shown mid code (failed.counts.rose refl) failed.stays given;
       stored = λ x tells began. absurd (never-began before.folder before.folder sink now how given.answer code (still before.folder) given.status (inr (inr refl)) began);
       untouched = λ x tells. shown-failed shown mid (StandsAlways x) c.requires failed.stays (λ was now opens. inl opens);
+      unasked = λ x tells r is. inr failed.stays;
       refused = λ three. shown-failed shown mid OnlyOpens c.requires failed.stays (λ was now opens. opens);
       failed = λ eight. failed.counts.rose refl;
+      kept = failed.counts.kept;
+      unshown = λ none. unshown-placed shown mid failed.stays none;
       directory = λ at. absurd (not-placed how given.answer code given.status (inr (inr refl)) at);
     }
 
@@ -59,10 +71,13 @@ returns-in-Err-Memory g c =
     let given = c.tell-in-Err-Memory.ensures in
     let memory = rw c.in-Err-Memory.field-0-is at c.in-Err-Memory.ensures in
     record {
-      promise = kept-unremembered before now (g.D.Disk.faults c.args.disk.now) (g.D.Disk.faults c.place.new.self) code given;
+      promise = kept-unremembered before now (g.D.Disk.faults c.args.disk.now) (g.D.Disk.faults c.place.new.self) shown mid code given;
       stored = λ x tells began. absurd (never-began before.folder before.folder sink now ending.Memory given.answer code (still before.folder) given.status (inr (inl refl)) began);
       untouched = λ x tells. shown-same shown mid (StandsAlways x) memory.stays c.requires (λ was opens. inl opens);
+      unasked = λ x tells r is. inl memory.stays;
       refused = λ three. shown-same shown mid OnlyOpens memory.stays c.requires (λ was opens. opens);
       failed = λ eight. absurd (eight-only ending.Memory given.answer code given.status (inr refl) eight);
+      kept = memory.counts.kept;
+      unshown = λ none. memory.stays ∙ none;
       directory = λ at. absurd (not-placed ending.Memory given.answer code given.status (inr (inl refl)) at);
     }

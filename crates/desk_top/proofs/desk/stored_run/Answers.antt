@@ -19,11 +19,14 @@ returns-in-Ok g c =
     let faults = g.D.Disk.faults c.args.disk.now in
     let run = c.run_on_disk.ensures in
     record {
-      promise = kept-placed dirs before placed now sink later faults faults (g.D.Disk.faults c.run_on_disk.new.disk) c.run_on_disk.result c.in-Ok.field-0 c.in-Ok.ensures.names only (omega arith) run.promise;
+      promise = kept-placed dirs before placed now sink later faults (g.D.Disk.faults c.run_on_disk.new.disk) (g.D.Disk.shown c.args.disk.now) (g.D.Disk.shown c.run_on_disk.new.disk) c.run_on_disk.result c.in-Ok.field-0 c.in-Ok.ensures.names only run.promise;
       stored = λ x tells began. run.stored x (tells-placed before placed x only tells) (began-placed before placed now sink later c.run_on_disk.result only began);
       untouched = λ x tells. run.untouched x (tells-placed before placed x only tells);
+      unasked = λ x tells. run.unasked x (tells-placed before placed x only tells);
       refused = run.refused;
       failed = run.failed;
+      kept = run.kept;
+      unshown = run.unshown;
       directory = run.directory;
     }
 
@@ -39,11 +42,14 @@ returns-in-Err-Failed g c =
     let given = c.tell-in-Err-Failed.ensures in
     let only = c.place.ensures.others in
     record {
-      promise = kept-unplaced (named c.args.dirs.now) before placed sink now faults faults code only ((rw c.in-Err-Failed.field-0-is at c.in-Err-Failed.ensures).faults.rose refl) given;
+      promise = kept-unplaced (named c.args.dirs.now) before placed sink now faults faults shown shown code only ((rw c.in-Err-Failed.field-0-is at c.in-Err-Failed.ensures).faults.rose refl) given;
       stored = λ x tells began. absurd (never-began before placed sink now ending.PlaceFault given.answer code only given.status (inl refl) began);
       untouched = λ x tells. shown-same shown shown (StandsAlways x) refl c.requires (λ was opens. inl opens);
+      unasked = λ x tells r is. inl refl;
       refused = λ three. shown-same shown shown OnlyOpens refl c.requires (λ was opens. opens);
       failed = λ eight. absurd (eight-only ending.PlaceFault given.answer code given.status (inl refl) eight);
+      kept = omega arith;
+      unshown = λ none. none;
       directory = λ at. absurd (not-placed ending.PlaceFault given.answer code given.status (inl refl) at);
     }
 
@@ -59,10 +65,13 @@ returns-in-Err-Memory g c =
     let given = c.tell-in-Err-Memory.ensures in
     let only = c.place.ensures.others in
     record {
-      promise = kept-unnamed (named c.args.dirs.now) before placed sink now faults faults code only given;
+      promise = kept-unnamed (named c.args.dirs.now) before placed sink now faults faults shown shown code only given;
       stored = λ x tells began. absurd (never-began before placed sink now ending.Memory given.answer code only given.status (inr (inl refl)) began);
       untouched = λ x tells. shown-same shown shown (StandsAlways x) refl c.requires (λ was opens. inl opens);
+      unasked = λ x tells r is. inl refl;
       refused = λ three. shown-same shown shown OnlyOpens refl c.requires (λ was opens. opens);
       failed = λ eight. absurd (eight-only ending.Memory given.answer code given.status (inr refl) eight);
+      kept = omega arith;
+      unshown = λ none. none;
       directory = λ at. absurd (not-placed ending.Memory given.answer code given.status (inr (inl refl)) at);
     }

@@ -1,4 +1,4 @@
-use Rattle.std.proofs.Common.{refl, sym, subst, inr}
+use Rattle.std.proofs.Common.{◌∙◌, refl, sym, subst, inr}
 use Rattle.desk_runs.specs.declared.ending.Ending.{Ending}
 use Rattle.desk_runs.specs.Runs.{world}
 use Rattle.desk_story.specs.Facts.{as_kept}
@@ -21,3 +21,6 @@ returns-in-Ok-clause-obeys g c =
     obeyed-story (outside c.args.folder.now) (outside c.read_kept.new.folder) (g.O.Sink.report c.args.out.now)
     (world (outside c.keep_events.new.folder) (g.O.Sink.report c.keep_events.new.out)) (g.D.Disk.shown c.args.disk.now) (g.D.Disk.shown c.keep_events.new.disk)
     c.in-Ok.kept c.keep_events.result c.read_kept.ensures.only c.read_kept.ensures.in_order c.in-Ok.ensures.read c.in-Ok.ensures.exact c.in-Ok.ensures.runs c.keep_events.ensures.keeps
+
+pub returns-in-Ok-clause-unasked : goal.returns-in-Ok-clause-unasked
+returns-in-Ok-clause-unasked g c = λ x tells r refused. absurd (let both = sym (c.in-Ok.ensures.exact x tells) ∙ refused in cc)

@@ -18,8 +18,10 @@ returns g c =
       promise = store-runs before mid now shown told faults later how code obeys c.obey_store-ending.ensures.failed c.tell.ensures;
       stored = λ x tells began. store-stored before mid now shown told how code x tells obeys c.tell.ensures began;
       untouched = λ x tells. store-always before mid shown told how x c.requires tells obeys;
+      unasked = c.obey_store-ending.ensures.unasked;
       refused = λ three. store-refused before mid now shown told how code c.requires obeys c.tell.ensures three;
       failed = λ eight. store-failed before mid now shown told faults later how code obeys c.obey_store-ending.ensures.failed c.tell.ensures eight;
       kept = c.obey_store-ending.ensures.kept;
+      unshown = c.obey_store-ending.ensures.unshown;
       directory = c.obey_store-ending.ensures.directory;
     }
