@@ -50,5 +50,8 @@ length-history h = length-payloads 0 (asked_in h) ∙ length-map h (λ (entry : 
 
 pub batches-enter : (S : State) (h : List Entry) (e : ℕ × Event) → batches_among (asked_in (h ++ entry_of (state S h) e.0 e.1 ∷ [])) ≡ batches_among (asked_in h) + cond (is_batch e.1) 1 0
 batches-enter S h e =
+    let parts : batches_among (asked_in (h ++ entry_of (state S h) e.0 e.1 ∷ [])) ≡ batches_among (asked_in h) + batches_among (e ∷ []) =
     ap batches_among (map-append (λ (entry : Entry). let asked : ℕ × Event = (entry.caller, entry.event) in asked) h (entry_of (state S h) e.0 e.1 ∷ []))
-    ∙ sum_by-append (λ (asked : ℕ × Event). cond (is_batch asked.1) 1 0) (asked_in h) (e ∷ [])
+    ∙ sum_by-append (λ (asked : ℕ × Event). cond (is_batch asked.1) 1 0) (asked_in h) (e ∷ []) in
+    let one : batches_among (e ∷ []) ≡ 0 + cond (is_batch e.1) 1 0 = refl in
+    omega (arith, parts, one)

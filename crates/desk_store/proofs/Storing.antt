@@ -2,7 +2,7 @@
 use Rattle.std.proofs.Common.{◌≡◌, ◌⊎◌, inl, inr, ℕ, ◌+◌, ◌<◌, ◌≤◌, Bool, true, false, cond, List, [], ◌∷◌, ◌++◌, length, get_or, take, drop, refl, sym, ap, subst, ◌∙◌, arith, append_assoc}
 use Rattle.std.specs.Prelude.{Option, Some, None}
 use Rattle.std.proofs.lemmas.Bool.{cases_Bool}
-use Rattle.std.proofs.lemmas.List.{append-nil, length-append, length-map, drop-append-le, drop_more}
+use Rattle.std.proofs.lemmas.List.{append-nil, get_or_at, length-append, length-map, drop-append-le, drop_more}
 use Rattle.std.proofs.lemmas.List.Sums.{count_by-le-length}
 use Rattle.std.proofs.Math.ListN.{drop_of_length-le}
 use Rattle.desk_data.specs.Situation.{Situation}
@@ -18,7 +18,7 @@ use Rattle.desk_disk.specs.Crashes.{LeavesOnly, RunsTo}
 use Rattle.desk_disk.proofs.Runs.{runs_weaker, runs_join}
 use Rattle.disk_records.specs.Files.{IsAtRest}
 use Rattle.disk_records.specs.Stored.{OpensFirst}
-use Rattle.journal_disk.specs.Payloads.{asked_in, batches_among, history_payloads}
+use Rattle.journal_disk.specs.Payloads.{asked_in, batches_among, history_payloads, payload_by}
 use Rattle.desk_store.specs.Compared.{next_payload}
 use Rattle.desk_store.specs.Added.{added, all_entries, lacking}
 use Rattle.desk_store.proofs.Runs.{after, event-enters, event-passes, payloads-enter, length-history, batches-enter}
@@ -54,6 +54,18 @@ behind-on S n h (e ∷ events) le =
       added h e ++ rest.0,
       sym (append_assoc (behind n h) (added h e) rest.0) ∙ ap (λ (ps : List (List ℕ)). ps ++ rest.0) (sym (behind-next S n h e le)) ∙ rest.1 ∙ ap (behind n) (sym (run-step S h e events)),
     )
+
+-- ---- the entry of an event
+
+pub entered-entry : (B C : Recorded) (journal : List Entry) (entry : Entry) (caller : ℕ) (asked : Event) (n : ℕ) → C ≡ with_entry B caller asked → has_room (length B.journal) asked ≡ true → journal ≡ C.journal → n ≡ length B.journal → entry ≡ get_or journal n entry → entry ≡ entry_of (state (opening B.opening) B.journal) caller asked
+entered-entry B C journal entry caller asked n is room same size at =
+    let made = entry_of (state (opening B.opening) B.journal) caller asked in
+    let grown : C.journal ≡ B.journal ++ made ∷ [] = journal-next B.opening B C (caller, asked) is refl ∙ event-enters (opening B.opening) B.journal (caller, asked) room in
+    at ∙ ap (λ (h : List Entry). get_or h n entry) (same ∙ grown) ∙ get_or_at B.journal made [] entry n (sym size)
+
+pub added-is : (S : State) (h : List Entry) (entry : Entry) (asked : ℕ × Event) (number : ℕ) → entry ≡ entry_of (state S h) asked.0 asked.1 → number ≡ batches_among (asked_in h) → has_room (length h) asked.1 ≡ true → payload_by number entry.caller entry.event ∷ [] ≡ added h asked
+added-is S h entry asked number is count room =
+    rw room (ap (λ (e : Entry). payload_by number e.caller e.event ∷ []) is ∙ ap (λ (b : ℕ). payload_by b asked.0 asked.1 ∷ []) count)
 
 -- ---- the disk
 
@@ -126,3 +138,10 @@ few-next S h e n le = elim (cases_Bool (has_room (length h) e.1)) [
 
 pub few-batches : (h : List Entry) → batches_among (asked_in h) ≤ length h
 few-batches h = omega (arith, count_by-le-length (λ (asked : ℕ × Event). is_batch asked.1) (asked_in h), length-map h (λ (entry : Entry). let asked : ℕ × Event = (entry.caller, entry.event) in asked))
+
+-- what is still to be added, by the events that are left
+pub goes-on : (records : List (List ℕ)) (B C : Recorded) (e : ℕ × Event) (i : ℕ) (events : List (ℕ × Event)) → i < length events → e ≡ get_or events i e → Continues B.opening C (drop i events) (all_entries B events)
+    → records ++ behind (length B.journal) (after (opening B.opening) C.journal (e ∷ drop (i + 1) events)) ≡ records ++ lacking B events
+goes-on records B C e i events lt is goes =
+    let left : drop i events ≡ e ∷ drop (i + 1) events = drop_more events i e lt ∙ ap (λ (x : ℕ × Event). x ∷ drop (i + 1) events) (sym is) in
+    ap (λ (h : List Entry). records ++ behind (length B.journal) h) (ap (after (opening B.opening) C.journal) (sym left) ∙ goes.rest)

@@ -52,13 +52,13 @@ fn store_event<D: Disk>(
 {
     let entries = book.entries() as usize;
     let room = has_room(entries, &asked.1);
-    if take_event(alloc, book, asked.0, &asked.1).is_err() {
+    let Ok(()) = take_event(alloc, book, asked.0, &asked.1) else {
         return Err(AppendFault::Memory);
+    };
+    if room {
+        return append(alloc, disk, tail, &book.journal()[entries], number);
     }
-    if !room {
-        return Ok(tail);
-    }
-    append(alloc, disk, tail, &book.journal()[entries], number)
+    Ok(tail)
 }
 
 /// Has a book answer events one after another, each with its caller, and keeps the entry of each on the disk before the
