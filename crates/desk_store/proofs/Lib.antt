@@ -4,3 +4,4 @@ pub mod Comparing
 pub mod Adding
 pub mod Storing
 pub mod Keeping
+pub mod Exact

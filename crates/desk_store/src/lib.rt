@@ -14,8 +14,10 @@
 mod compare;
 mod held;
 mod keep;
+mod laws;
 mod room;
 mod store;
 
 pub use desk_runs::Ending;
 pub use keep::keep_events;
+pub use laws::a_file_says_one_thing_of_a_story;
