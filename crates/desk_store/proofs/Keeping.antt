@@ -14,13 +14,20 @@ use Rattle.desk_data.specs.Situation.{Situation}
 use Rattle.desk_model.specs.declared.answer.Entry.{Entry}
 use Rattle.desk_model.specs.declared.answer.Event.{Event}
 use Rattle.desk_model.specs.States.{State, opening}
-use Rattle.desk_model.specs.Histories.{run}
+use Rattle.std.proofs.lemmas.List.{length-append}
+use Rattle.desk_core.specs.Recorded.{Recorded}
+use Rattle.desk_store.specs.Added.{all_entries, lacking}
+use Rattle.desk_model.specs.Histories.{entries, run, state}
 use Rattle.desk_runs.specs.declared.ending.DiskEnd.TheVariants as disk_end
 use Rattle.desk_runs.specs.declared.ending.Ending.{Ending}
 use Rattle.desk_runs.specs.declared.ending.Ending.TheVariants as ending
 use Rattle.journal_disk.specs.Payloads.{MayStand, history_payloads}
-use Rattle.desk_tasks.specs.Play.{Story, history}
-use Rattle.desk_tasks.specs.Keep.{KeptStory}
+use Rattle.desk_runs.specs.Commands.{history_files}
+use Rattle.desk_runs.specs.Outcome.{Outcome}
+use Rattle.desk_runs.specs.Runs.{World}
+use Rattle.desk_runs.specs.Finishing.{Completes}
+use Rattle.desk_tasks.specs.Play.{Story, story_on, history, search_remarks, history_outcome, played}
+use Rattle.desk_tasks.specs.Keep.{KeptStory, opened_first, kept}
 use Rattle.desk_store.specs.Held.{entered, story_payloads, AreFirst, completed}
 use Rattle.desk_store.specs.Compared.{DiffersAt, IsFront}
 use Rattle.desk_store.specs.Ends.{append_end, open_end}
@@ -156,3 +163,45 @@ append-stopped appending.Memory = tt
 pub append-disk : (fault : AppendFault) → append_end fault ≡ ending.OnDisk disk_end.Fault → fault ≡ appending.Disk
 append-disk appending.Disk e = refl
 append-disk appending.Memory e = absurd cc
+
+-- ---- the book of the first events, and the rest
+
+abbrev book_of : Situation → List Entry → Recorded
+book_of I h = record { opening = I; journal = h }
+
+all_is : (I : Situation) (events : List (ℕ × Event)) (n : ℕ) (B : Recorded) (front later : List (ℕ × Event)) → front ≡ take n events → later ≡ drop n events → B ≡ book_of I (run (opening I) front) → all_entries B later ≡ run (opening I) events
+all_is I events n B front later first last is =
+    ap (λ (C : Recorded). all_entries C later) is
+    ∙ ap (λ (es : List (ℕ × Event)). all_entries (book_of I (run (opening I) es)) later) first
+    ∙ ap (λ (es : List (ℕ × Event)). all_entries (book_of I (run (opening I) (take n events))) es) last
+    ∙ run-parts (opening I) events n
+
+pub whole-is : (I : Situation) (events : List (ℕ × Event)) (n : ℕ) (B : Recorded) (front later : List (ℕ × Event)) → front ≡ take n events → later ≡ drop n events → B ≡ book_of I (run (opening I) front) → book_of B.opening (all_entries B later) ≡ book_of I (run (opening I) events)
+whole-is I events n B front later first last is =
+    ap (λ (J : Situation). book_of J (all_entries B later)) (ap (λ (C : Recorded). C.opening) is) ∙ ap (book_of I) (all_is I events n B front later first last is)
+
+pub lacking-is : (I : Situation) (events : List (ℕ × Event)) (n : ℕ) (B : Recorded) (front later : List (ℕ × Event)) → front ≡ take n events → later ≡ drop n events → B ≡ book_of I (run (opening I) front) → lacking B later ≡ drop (length (run (opening I) (take n events))) (history_payloads (run (opening I) events))
+lacking-is I events n B front later first last is =
+    ap (λ (h : List Entry). drop (length B.journal) (history_payloads h)) (all_is I events n B front later first last is)
+    ∙ ap (λ (h : List Entry). drop (length h) (history_payloads (run (opening I) events))) (ap (λ (C : Recorded). C.journal) is ∙ ap (run (opening I)) first)
+
+pub front-within : (S : State) (events : List (ℕ × Event)) (n : ℕ) → length (run S (take n events)) ≤ length (run S events)
+front-within S events n = omega (arith, ap length (run-parts S events n), length-append (run S (take n events)) (entries (length (run S (take n events))) (state S (run S (take n events))) (drop n events)))
+
+-- ---- what is written
+
+history-size : (I : Situation) (events : List (ℕ × Event)) → length (history (story_on I events)) ≡ length (run (opening I) events)
+unfolding history
+history-size I events = refl
+
+pub most-held : (I : Situation) (events : List (ℕ × Event)) (held : ℕ) → held ≤ length (run (opening I) events) → held ≤ length (history (story_on I events))
+most-held I events held le = subst (λ (n : ℕ). held ≤ n) (sym (history-size I events)) le
+
+book_outcome : (I : Situation) (events : List (ℕ × Event)) → history_outcome I (search_remarks None) (run (opening I) events) ≡ played (story_on I events)
+unfolding history
+book_outcome I events = refl
+
+pub written-book : (before now : World) (I : Situation) (events : List (ℕ × Event)) (B : Recorded) (held : ℕ) (how : Ending) → B ≡ book_of I (run (opening I) events)
+    → Completes history_files before now (opened_first held (history_outcome B.opening (search_remarks None) B.journal)) how → Completes history_files before now (kept held (story_on I events)) how
+written-book before now I events B held how is done =
+    subst (λ (o : Outcome). Completes history_files before now (opened_first held o) how) (ap (λ (C : Recorded). history_outcome C.opening (search_remarks None) C.journal) is ∙ book_outcome I events) done

@@ -57,11 +57,11 @@ loop-asked-preserved g c =
     let told = g.D.Disk.shown c.store_event.new.disk in
     let next : c.store_event.new.book.journal ≡ with_event (opening B.opening) h e = journal-next B.opening C c.store_event.new.book e c.in_ok-next.ensures.book inv.goes.same in
     let room : c.has_room-room.result ≡ has_room (length h) e.1 = c.has_room-room.ensures ∙ ap (λ (n : ℕ). has_room n e.1) c.entries.ensures.count in
-    let more : c.batches_added.result ≡ cond (has_room (length h) e.1) (cond (is_batch e.1) 1 0) 0 = c.batches_added.ensures ∙ ap (λ b. cond b (cond (is_batch e.1) 1 0) 0) room in
+    let more : c.batches_added-number.result ≡ cond (has_room (length h) e.1) (cond (is_batch e.1) 1 0) 0 = c.batches_added-number.ensures ∙ ap (λ b. cond b (cond (is_batch e.1) 1 0) 0) room in
     record {
       goes = continues-next B.opening C c.store_event.new.book e i events (all_entries B events) c.loop-asked-test.true c.asked-item.is c.in_ok-next.ensures.book inv.goes;
       longer = (let w : length h ≤ length (with_event (opening B.opening) h e) = length-next (opening B.opening) h e in let size : length c.store_event.new.book.journal ≡ length (with_event (opening B.opening) h e) = ap length next in omega (arith, inv.longer, w, size));
-      count = ap (λ (n : ℕ). n + c.batches_added.result) inv.count ∙ ap (λ (k : ℕ). batches_among (asked_in h) + k) more ∙ sym (count-next (opening B.opening) h e) ∙ ap (λ (j : List Entry). batches_among (asked_in j)) (sym next);
+      count = ap (λ (n : ℕ). n + c.batches_added-number.result) inv.count ∙ ap (λ (k : ℕ). batches_among (asked_in h) + k) more ∙ sym (count-next (opening B.opening) h e) ∙ ap (λ (j : List Entry). batches_among (asked_in j)) (sym next);
       few = (let w = few-next (opening B.opening) h e c.loop-asked.number inv.few in let size : length c.store_event.new.book.journal ≡ length (with_event (opening B.opening) h e) = ap length next in omega (arith, w, size, more));
       stands = λ was is records rest.
           let s = inv.stands was is records rest in
