@@ -128,7 +128,7 @@ stopped_runs before mid now faults faults' shown shown' k (ending.OnDisk end) co
   written = p.tries.only.written;
   unread = p.tries.only.unread;
   unput = λ f. record { written = p.tries.only.written f; faults = p.tries.only.put_faults f };
-  kept = given.line.faults.kept;
+  sink_kept = given.line.faults.kept;
 })
 stopped_runs before mid now faults faults' shown shown' k ending.Memory code p early failed disk given = inr (record {
   held = 0;

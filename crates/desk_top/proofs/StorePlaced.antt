@@ -100,7 +100,7 @@ at_disk_placed dirs before placed now sink sink' faults faults' shown shown' cod
   written = λ f. h.written f ∙ only.written f;
   unread = λ f other. unread_from before placed now f only (h.unread f other);
   unput = λ f. record { written = (h.unput f).written ∙ only.written f; faults = (h.unput f).faults ∙ only.put_faults f };
-  kept = h.kept;
+  sink_kept = h.sink_kept;
 }
 
 no_disk_placed : (dirs : Directories) (before placed now : Outside) (sink sink' : SinkSide) (faults faults' : ℕ) (shown shown' : Option DiskSide) (code : ℕ) (ok : Unit {0}) → Names before.directories placed.directories dirs (let r : Result (Unit {0}) FolderFault = Ok ok in r) → PlacesOnly before placed
@@ -115,7 +115,7 @@ no_disk_placed dirs before placed now sink sink' faults faults' shown shown' cod
   written = λ f. h.written f ∙ only.written f;
   unread = λ f. unread_from before placed now f only (h.unread f);
   unput = λ f. record { written = (h.unput f).written ∙ only.written f; faults = (h.unput f).faults ∙ only.put_faults f };
-  kept = h.kept;
+  sink_kept = h.sink_kept;
 }
 
 counted_placed : (before placed now : Outside) (sink sink' : SinkSide) (shown shown' : Option DiskSide) (held code : ℕ) → PlacesOnly before placed → AreCounted held (world placed sink) (world now sink') shown shown' code → AreCounted held (world before sink) (world now sink') shown shown' code
@@ -168,7 +168,7 @@ kept-undisked before now faults faults' shown shown' code rose same given = inl 
   written = λ f. refl;
   unread = λ f. record { left = refl; faults = refl };
   unput = λ f. record { written = refl; faults = refl };
-  kept = given.line.faults.kept;
+  sink_kept = given.line.faults.kept;
 })
 
 nothing_read : (folder : Outside) → Tries (kept_meaning 0) command_is.Store folder folder
@@ -290,7 +290,7 @@ kept-disked before now first faults faults' shown mid shown' code ok le nothing 
   written = h.written;
   unread = h.unread;
   unput = h.unput;
-  kept = h.kept;
+  sink_kept = h.sink_kept;
 }))
 kept-disked before now first faults faults' shown mid shown' code ok le nothing placed (inr h) = inr (inr (record { held = h.held; keeps = h.keeps; counts = counts_placed h.held before now shown mid shown' code ok nothing placed h.counts }))
 

@@ -104,7 +104,7 @@ pub record EndsAtDisk (ask : Option Ask) (before now : World) (faults faults' : 
   pub written : (f : File) → now.folder.written f ≡ before.folder.written f
   pub unread : (f : File) → is_among f (reads ask) ≡ false → IsUnread before.folder now.folder f
   pub unput : (f : File) → IsUnput before.folder now.folder f
-  pub kept : before.sink.faults ≤ now.sink.faults
+  pub sink_kept : before.sink.faults ≤ now.sink.faults
 
 -- a run that ended since the disk failed to name its directory: the line of that fault is reported, nothing is read or written, and the
 -- file on the disk is as it was
@@ -118,7 +118,7 @@ pub record FailsToName (ask : Option Ask) (before now : World) (faults faults' :
   pub written : (f : File) → now.folder.written f ≡ before.folder.written f
   pub unread : (f : File) → IsUnread before.folder now.folder f
   pub unput : (f : File) → IsUnput before.folder now.folder f
-  pub kept : before.sink.faults ≤ now.sink.faults
+  pub sink_kept : before.sink.faults ≤ now.sink.faults
 
 -- a run whose status is of none that wrote, and that wrote nothing but the line of a fault
 pub record WritesNothing (before now : World) (code : ℕ) : Type 0 where
