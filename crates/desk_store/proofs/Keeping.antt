@@ -1,6 +1,6 @@
 -- A journal on a disk that is opened, compared and added to.
 use Rattle.std.proofs.Common.{◌≡◌, ◌⊎◌, inl, inr, ℕ, ◌+◌, ◌<◌, ◌≤◌, List, [], ◌∷◌, ◌++◌, length, take, drop, refl, sym, ap, subst, ◌∙◌, arith}
-use Rattle.std.specs.Prelude.{Option, Some, None}
+use Rattle.std.specs.Prelude.{Option, Some, None, Result, Ok, Err, IfOk, IfErr}
 use Rattle.desk_disk.specs.FileStates.{DiskSide}
 use Rattle.desk_disk.specs.Crashes.{LeavesOnly, RunsTo}
 use Rattle.disk_records.specs.declared.faults.AppendFault.{AppendFault}
@@ -29,7 +29,9 @@ use Rattle.desk_runs.specs.Finishing.{Completes}
 use Rattle.desk_tasks.specs.Play.{Story, story_on, history, search_remarks, history_outcome, played}
 use Rattle.desk_tasks.specs.Keep.{KeptStory, opened_first, kept}
 use Rattle.desk_store.specs.Held.{entered, story_payloads, AreFirst, completed}
-use Rattle.desk_store.specs.Compared.{DiffersAt, IsFront}
+use Rattle.desk_store.specs.declared.compare.Compared.{Compared}
+use Rattle.desk_store.specs.declared.compare.Compared.TheVariants as compared
+use Rattle.desk_store.specs.Compared.{Compares, DiffersAt, IsFront}
 use Rattle.desk_store.specs.Ends.{append_end, open_end}
 use Rattle.desk_store.specs.Journal.{IsEarly, IsKept, IsStopped, LeavesJournal, PassesComparison}
 use Rattle.desk_store.proofs.Runs.{run-parts, length-history}
@@ -205,3 +207,24 @@ pub written-book : (before now : World) (I : Situation) (events : List (ℕ × E
     → Completes history_files before now (opened_first held (history_outcome B.opening (search_remarks None) B.journal)) how → Completes history_files before now (kept held (story_on I events)) how
 written-book before now I events B held how is done =
     subst (λ (o : Outcome). Completes history_files before now (opened_first held o) how) (ap (λ (C : Recorded). history_outcome C.opening (search_remarks None) C.journal) is ∙ book_outcome I events) done
+
+-- ---- what a comparison said
+
+pub front-of : {E : Type 0} (r : Result Compared E) (m : Compared) (taken number : ℕ) (S : State) (events : List (ℕ × Event)) (held own : List (List ℕ)) → IfOk r (λ is. (S : State) → Compares S events held is) → r ≡ Ok m → m ≡ compared.First taken number → held ≡ own → IsFront S events own taken number
+front-of {E = E} r m taken number S events held own h is first same =
+    subst (λ (ps : List (List ℕ)). IsFront S events ps taken number) same
+    (subst (λ (x : Compared). Compares S events held x) first ((subst (λ (q : Result Compared E). IfOk q (λ x. (S : State) → Compares S events held x)) is h) S))
+
+pub other-of : {E : Type 0} (r : Result Compared E) (m : Compared) (line : ℕ) (S : State) (events : List (ℕ × Event)) (held : List (List ℕ)) → IfOk r (λ is. (S : State) → Compares S events held is) → r ≡ Ok m → m ≡ compared.Other line → DiffersAt S events held line
+other-of {E = E} r m line S events held h is other =
+    subst (λ (x : Compared). Compares S events held x) other ((subst (λ (q : Result Compared E). IfOk q (λ x. (S : State) → Compares S events held x)) is h) S)
+
+-- ---- of an answer
+
+pub if-both : {T E : Type 0} (P Q R : T → Type 0) (r : Result T E) → ((x : T) → P x → Q x → R x) → IfOk r P → IfOk r Q → IfOk r R
+if-both P Q R (Ok x) f p q = f x p q
+if-both P Q R (Err e) f p q = tt
+
+pub if-err : {T E : Type 0} (P Q : E → Type 0) (r : Result T E) → ((e : E) → P e → Q e) → IfErr r P → IfErr r Q
+if-err P Q (Ok x) f p = tt
+if-err P Q (Err e) f p = f e p

@@ -1,4 +1,4 @@
-use Rattle.std.proofs.Common.{◌≡◌, ◌∙◌, ℕ, ◌+◌, Bool, true, false, List, [], ◌∷◌, ◌++◌, length, drop, map, ap, sym, subst}
+use Rattle.std.proofs.Common.{◌≡◌, ◌∙◌, ℕ, ◌+◌, Bool, true, false, List, [], ◌∷◌, ◌++◌, length, drop, map, ap, sym, subst, arith}
 use Rattle.std.proofs.lemmas.List.{length-map, map-append}
 use Rattle.disk_records.specs.Stored.{lists_of}
 use Rattle.desk_store.specs.Held.{takes}
@@ -13,7 +13,8 @@ loop-record-preserved c =
     let r = c.record-item.result in
     let left = lists_of (drop (c.loop-record.record-index + 1) c.args.records.now) in
     let parts : Enters held (r.items ∷ left) all = subst (λ (ps : List (List ℕ)). Enters held ps all) (left_is c.args.records.now c.loop-record.record-index r c.loop-record-test.true c.record-item.is) c.loop-record.invariant in
-    let asks : c.takes.result ≡ takes (length held) r.items = c.takes.ensures ∙ ap (λ (n : ℕ). takes n c.as_slice-payload.result.now) (c.len.ensures ∙ sym (length-map c.loop-record.held.items (λ p. p.now))) ∙ ap (takes (length held)) c.as_slice-payload.ensures.value in
+    let size : c.len.result ≡ length held = omega (arith, c.len.ensures, c.loop-record.held.ok.0, length-map c.loop-record.held.items (λ p. p.now)) in
+    let asks : c.takes.result ≡ takes (length held) r.items = c.takes.ensures ∙ ap (λ (n : ℕ). takes n c.as_slice-payload.result.now) size ∙ ap (takes (length held)) c.as_slice-payload.ensures.value in
     elim c.if-takes.branch [
       | then-takes+in_ok-push w ↦
           let grown : map (λ p. p.now) c.if-takes.held.items ≡ held ++ r.items ∷ [] =

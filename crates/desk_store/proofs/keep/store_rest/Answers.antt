@@ -22,7 +22,7 @@ returns-in-Err-clause-any_moment g c = λ was is records rest.
     adds_none records (drop (length (run S (take c.args.taken c.args.events.now))) (history_payloads (run S c.args.events.now))) c.args.tail was (g.D.Disk.shown c.args.disk.now) is rest
 
 pub store_events-requires-clause-askable : goal.store_events-requires-clause-askable
-store_events-requires-clause-askable g c = λ κs.
+store_events-requires-clause-askable g c =
     let asked : AreAskable c.args.inst c.split_at.result.1.now = subst (AreAskable c.args.inst) (sym c.split_at.ensures.back) (All-drop (λ (asked : ℕ × Event). IsAskable c.args.inst asked.1) c.args.taken c.args.events.now c.requires.asked) in
     subst (λ (I : Situation). AreAskable I c.split_at.result.1.now) (sym (ap (λ (B : Recorded). B.opening) c.in-Ok.ensures)) asked
 

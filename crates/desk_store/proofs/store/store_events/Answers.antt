@@ -70,7 +70,7 @@ loop-asked-preserved g c =
           let run = stands-on (opening B.opening) was (g.D.Disk.shown c.loop-asked.disk) told records all (length B.journal) h e (drop (i + 1) events) c.loop-asked.tail inv.longer
           (goes-on records B C e i events c.loop-asked-test.true c.asked-item.is inv.goes) s (c.store_event.ensures.any_moment s.now s.shows front s.rest) in
           let to = c.in_ok-next.ensures.acknowledged s.now s.shows front s.rest in
-          stands-next (opening B.opening) was told records all (length B.journal) h c.store_event.new.book.journal e c.in_ok-next.field-0 inv.longer next run to.0 to.1 to.2;
+          stands-next (opening B.opening) was told records all (length B.journal) h c.store_event.new.book.journal e c.in_ok-next.next inv.longer next run to.0 to.1 to.2;
       ready = c.in_ok-next.ensures.ready;
       kept = omega (arith, inv.kept, c.store_event.ensures.kept);
       unshown = λ is. c.store_event.ensures.unshown (inv.unshown is);
