@@ -273,7 +273,7 @@ written_ends before now o ending.PlaceFault h = absurd h
 written_ends before now o (ending.OnDisk end) h = absurd h
 
 story_refused : (before now : World) (shown shown' : Option DiskSide) (k : KeptStory) (how : Ending) → status_of how ≡ 3 → KeepsStory k before now shown shown' how → Shown shown shown' OnlyOpens
-story_refused before now shown shown' k how e (inl early) was is = (let d = early.disk was is in (d.0, d.1, three_opens k was d.0 how early.early e d.2))
+story_refused before now shown shown' k how e (inl early) = λ was is. (let d = early.disk was is in (d.0, d.1, three_opens k was d.0 how early.early e d.2))
 story_refused before now shown shown' k how e (inr written) = absurd ((written_ends before now (kept written.held k.story) how written.completes.leaves).0 e)
 
 pub store-refused : (before mid : World) (now : SinkSide) (shown shown' : Option DiskSide) (how : Ending) (code : ℕ) → IfSome shown (λ d. HasNothingPending d.file) → ObeysStore before mid shown shown' how → TellsEnd how mid.sink now code → code ≡ 3 → Shown shown shown' OnlyOpens

@@ -1,5 +1,5 @@
 -- A run that keeps its journal on a disk, from how its reading ended.
-use Rattle.std.proofs.Common.{◌≡◌, inl, inr, refl}
+use Rattle.std.proofs.Common.{◌≡◌, inl, inr, ℕ, List, refl, subst}
 use Rattle.std.specs.Prelude.{Option, Result, Ok, Err}
 use Rattle.desk_folder.specs.Outside.{Outside, SinkSide}
 use Rattle.desk_disk.specs.FileStates.{DiskSide}
@@ -17,7 +17,9 @@ use Rattle.desk_story.specs.Story.{rows_of, kept_of}
 use Rattle.desk_story.specs.Faults.{story_end}
 use Rattle.desk_story.specs.Facts.{as_kept, CanBeRun}
 use Rattle.desk_story.specs.Reading.{StopsAtFault, HasReadCause, GivesTask}
-use Rattle.desk_store.specs.Journal.{KeepsStory}
+use Rattle.day_orders.specs.declared.orders.Batch.{Batch}
+use Rattle.desk_model.specs.declared.answer.Event.{Event}
+use Rattle.desk_store.specs.Journal.{kept_story, KeepsStory}
 use Rattle.desk_top.specs.Store.{kept_meaning}
 use Rattle.desk_top.specs.Obeyed.{IsUnread, ObeysStore}
 
@@ -47,6 +49,13 @@ obeyed-none before now sink shown e only order stops cause gives = inl (record {
   unreported = record { written = only.written; sink = refl };
   same = refl;
 })
+
+-- wherever its lists lie in memory
+pub keeps-as : (kept : InputKept) (batches : List Batch) (events : List (ℕ × Event)) (before now : World) (shown shown' : Option DiskSide) (how : Ending) → batches ≡ (as_kept kept).batches → events ≡ (as_kept kept).story.events
+    → KeepsStory (kept_story (as_kept kept).story.day batches events) before now shown shown' how → KeepsStory (as_kept kept) before now shown shown' how
+keeps-as kept batches events before now shown shown' how same also h =
+    subst (λ (es : List (ℕ × Event)). KeepsStory (kept_story (as_kept kept).story.day (as_kept kept).batches es) before now shown shown' how) also
+    (subst (λ (bs : List Batch). KeepsStory (kept_story (as_kept kept).story.day bs events) before now shown shown' how) same h)
 
 pub obeyed-story : (before mid : Outside) (sink : SinkSide) (now : World) (shown shown' : Option DiskSide) (kept : InputKept) (how : Ending) → ReadsAmong (files_read command_is.Store) before mid → InOrder (kept_meaning 0) command_is.Store before mid → AreRead (files_read command_is.Store) before mid
     → ((x : Inputs) → Tells (files_read command_is.Store) before x → kept_of x ≡ Ok (as_kept kept)) → CanBeRun kept.story → KeepsStory (as_kept kept) (world mid sink) now shown shown' how → ObeysStore (world before sink) now shown shown' how

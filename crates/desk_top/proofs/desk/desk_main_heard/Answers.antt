@@ -22,10 +22,10 @@ abbrev no_inputs : Inputs
 no_inputs f = []
 
 pub reported_run-requires : goal.reported_run-requires
-reported_run-requires g c = (c.type_bounds.sync-R, (c.type_bounds.sync-G, others-free (command (map string_bytes c.args.words.now)) (sym (ap (option_map named) c.in-None.is) ∙ c.kept_directories.ensures) (unplaced-free (map string_bytes c.args.words.now))))
+reported_run-requires g c = (c.type_bounds.sync-R, (c.type_bounds.sync-G, record { diskless = others-free (command (map string_bytes c.args.words.now)) (sym (ap (option_map named) c.in-None.is) ∙ c.kept_directories.ensures) (unplaced-free (map string_bytes c.args.words.now)) }))
 
 pub stored_run-requires : goal.stored_run-requires
-stored_run-requires g c = c.requires (asks-store (command (map string_bytes c.args.words.now)) (named c.in-Some.dirs) c.in-Some.ensures)
+stored_run-requires g c = record { nothing_pending = c.requires.nothing_pending (asks-store (command (map string_bytes c.args.words.now)) (named c.in-Some.dirs) c.in-Some.ensures) }
 
 pub returns-in-None : goal.returns-in-None
 returns-in-None g c =

@@ -13,13 +13,13 @@ pub run-requires-clause-ranges : goal.run-requires-clause-ranges
 run-requires-clause-ranges g c = λ κs. (let range : IsCommand c.in-Some.asked.command = asked-in-range (map string_bytes c.args.words.now) (asking c.in-Some.asked) c.in-Some.ensures in range)
 
 pub run-requires-clause-diskless : goal.run-requires-clause-diskless
-run-requires-clause-diskless g c = λ κs range. ap (λ (o : Option Asking). asks_disk (option_map asks o)) c.in-Some.ensures ∙ c.requires
+run-requires-clause-diskless g c = λ κs range. ap (λ (o : Option Asking). asks_disk (option_map asks o)) c.in-Some.ensures ∙ c.requires.diskless
 
 pub run-requires-in-Ok-clause-ranges : goal.run-requires-in-Ok-clause-ranges
 run-requires-in-Ok-clause-ranges g c = λ κs. (let range : IsCommand c.in-Some.asked.command = asked-in-range (map string_bytes c.args.words.now) (asking c.in-Some.asked) c.in-Some.ensures in range)
 
 pub run-requires-in-Ok-clause-diskless : goal.run-requires-in-Ok-clause-diskless
-run-requires-in-Ok-clause-diskless g c = λ κs range. ap (λ (o : Option Asking). asks_disk (option_map asks o)) c.in-Some.ensures ∙ c.requires
+run-requires-in-Ok-clause-diskless g c = λ κs range. ap (λ (o : Option Asking). asks_disk (option_map asks o)) c.in-Some.ensures ∙ c.requires.diskless
 
 pub returns-in-Ok : goal.returns-in-Ok
 returns-in-Ok g c =

@@ -11,7 +11,7 @@ use Rattle.desk_top.proofs.StorePlaced.{kept-disked, kept-undisked, kept-unremem
 use Rattle.desk_top.proofs.desk.run_on_disk.Goals as goal
 
 pub run_store-requires : goal.run_store-requires
-run_store-requires g c = pending-placed (g.D.Disk.shown c.args.disk.now) (g.D.Disk.shown c.place.new.self) c.in-Ok.field-0 c.requires (rw c.in-Ok.is at c.place.ensures.stays)
+run_store-requires g c = record { nothing_pending = pending-placed (g.D.Disk.shown c.args.disk.now) (g.D.Disk.shown c.place.new.self) c.in-Ok.field-0 c.requires.nothing_pending (rw c.in-Ok.is at c.place.ensures.stays) }
 
 pub returns-in-Ok : goal.returns-in-Ok
 returns-in-Ok g c =
@@ -26,11 +26,11 @@ returns-in-Ok g c =
     let placed = g.D.Disk.faults c.place.new.self in
     let later = g.D.Disk.faults c.run_store.new.disk in
     record {
-      promise = kept-disked before now faults placed later shown mid told c.run_store.result c.in-Ok.field-0 counts.kept c.requires stays c.run_store.ensures.promise;
-      stored = λ x tells began. shown-placed shown mid told c.in-Ok.field-0 (HoldsAll x) c.requires stays (all-placed x) (c.run_store.ensures.stored x tells began);
-      untouched = λ x tells. shown-placed shown mid told c.in-Ok.field-0 (StandsAlways x) c.requires stays (always-placed x) (c.run_store.ensures.untouched x tells);
+      promise = kept-disked before now faults placed later shown mid told c.run_store.result c.in-Ok.field-0 counts.kept c.requires.nothing_pending stays c.run_store.ensures.promise;
+      stored = λ x tells began. shown-placed shown mid told c.in-Ok.field-0 (HoldsAll x) c.requires.nothing_pending stays (all-placed x) (c.run_store.ensures.stored x tells began);
+      untouched = λ x tells. shown-placed shown mid told c.in-Ok.field-0 (StandsAlways x) c.requires.nothing_pending stays (always-placed x) (c.run_store.ensures.untouched x tells);
       unasked = λ x tells r is. inr (ap g.D.Disk.shown (c.run_store.ensures.unasked x tells r is) ∙ stays);
-      refused = λ three. shown-placed shown mid told c.in-Ok.field-0 OnlyOpens c.requires stays opens-placed (c.run_store.ensures.refused three);
+      refused = λ three. shown-placed shown mid told c.in-Ok.field-0 OnlyOpens c.requires.nothing_pending stays opens-placed (c.run_store.ensures.refused three);
       failed = λ eight. risen faults placed later counts.kept (c.run_store.ensures.failed eight);
       kept = at_most faults placed later counts.kept c.run_store.ensures.kept;
       unshown = λ none. c.run_store.ensures.unshown (unshown-placed shown mid stays none);
@@ -51,9 +51,9 @@ returns-in-Err-Failed g c =
     record {
       promise = kept-undisked before now (g.D.Disk.faults c.args.disk.now) (g.D.Disk.faults c.place.new.self) shown mid code (failed.counts.rose refl) failed.stays given;
       stored = λ x tells began. absurd (never-began before.folder before.folder sink now how given.answer code (still before.folder) given.status (inr (inr refl)) began);
-      untouched = λ x tells. shown-failed shown mid (StandsAlways x) c.requires failed.stays (λ was now opens. inl opens);
+      untouched = λ x tells. shown-failed shown mid (StandsAlways x) c.requires.nothing_pending failed.stays (λ was now opens. inl opens);
       unasked = λ x tells r is. inr failed.stays;
-      refused = λ three. shown-failed shown mid OnlyOpens c.requires failed.stays (λ was now opens. opens);
+      refused = λ three. shown-failed shown mid OnlyOpens c.requires.nothing_pending failed.stays (λ was now opens. opens);
       failed = λ eight. failed.counts.rose refl;
       kept = failed.counts.kept;
       unshown = λ none. unshown-placed shown mid failed.stays none;
@@ -73,9 +73,9 @@ returns-in-Err-Memory g c =
     record {
       promise = kept-unremembered before now (g.D.Disk.faults c.args.disk.now) (g.D.Disk.faults c.place.new.self) shown mid code given;
       stored = λ x tells began. absurd (never-began before.folder before.folder sink now ending.Memory given.answer code (still before.folder) given.status (inr (inl refl)) began);
-      untouched = λ x tells. shown-same shown mid (StandsAlways x) memory.stays c.requires (λ was opens. inl opens);
+      untouched = λ x tells. shown-same shown mid (StandsAlways x) memory.stays c.requires.nothing_pending (λ was opens. inl opens);
       unasked = λ x tells r is. inl memory.stays;
-      refused = λ three. shown-same shown mid OnlyOpens memory.stays c.requires (λ was opens. opens);
+      refused = λ three. shown-same shown mid OnlyOpens memory.stays c.requires.nothing_pending (λ was opens. opens);
       failed = λ eight. absurd (eight-only ending.Memory given.answer code given.status (inr refl) eight);
       kept = memory.counts.kept;
       unshown = λ none. memory.stays ∙ none;

@@ -44,9 +44,9 @@ returns-in-Err-Failed g c =
     record {
       promise = kept-unplaced (named c.args.dirs.now) before placed sink now faults faults shown shown code only ((rw c.in-Err-Failed.field-0-is at c.in-Err-Failed.ensures).faults.rose refl) given;
       stored = λ x tells began. absurd (never-began before placed sink now ending.PlaceFault given.answer code only given.status (inl refl) began);
-      untouched = λ x tells. shown-same shown shown (StandsAlways x) refl c.requires (λ was opens. inl opens);
+      untouched = λ x tells. shown-same shown shown (StandsAlways x) refl c.requires.nothing_pending (λ was opens. inl opens);
       unasked = λ x tells r is. inl refl;
-      refused = λ three. shown-same shown shown OnlyOpens refl c.requires (λ was opens. opens);
+      refused = λ three. shown-same shown shown OnlyOpens refl c.requires.nothing_pending (λ was opens. opens);
       failed = λ eight. absurd (eight-only ending.PlaceFault given.answer code given.status (inl refl) eight);
       kept = omega arith;
       unshown = λ none. none;
@@ -67,9 +67,9 @@ returns-in-Err-Memory g c =
     record {
       promise = kept-unnamed (named c.args.dirs.now) before placed sink now faults faults shown shown code only given;
       stored = λ x tells began. absurd (never-began before placed sink now ending.Memory given.answer code only given.status (inr (inl refl)) began);
-      untouched = λ x tells. shown-same shown shown (StandsAlways x) refl c.requires (λ was opens. inl opens);
+      untouched = λ x tells. shown-same shown shown (StandsAlways x) refl c.requires.nothing_pending (λ was opens. inl opens);
       unasked = λ x tells r is. inl refl;
-      refused = λ three. shown-same shown shown OnlyOpens refl c.requires (λ was opens. opens);
+      refused = λ three. shown-same shown shown OnlyOpens refl c.requires.nothing_pending (λ was opens. opens);
       failed = λ eight. absurd (eight-only ending.Memory given.answer code given.status (inr refl) eight);
       kept = omega arith;
       unshown = λ none. none;

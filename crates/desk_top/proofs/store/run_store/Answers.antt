@@ -17,9 +17,9 @@ returns g c =
     record {
       promise = store-runs before mid now shown told faults later how code obeys c.obey_store-ending.ensures.failed c.tell.ensures;
       stored = λ x tells began. store-stored before mid now shown told how code x tells obeys c.tell.ensures began;
-      untouched = λ x tells. store-always before mid shown told how x c.requires tells obeys;
+      untouched = λ x tells. store-always before mid shown told how x c.requires.nothing_pending tells obeys;
       unasked = c.obey_store-ending.ensures.unasked;
-      refused = λ three. store-refused before mid now shown told how code c.requires obeys c.tell.ensures three;
+      refused = λ three. store-refused before mid now shown told how code c.requires.nothing_pending obeys c.tell.ensures three;
       failed = λ eight. store-failed before mid now shown told faults later how code obeys c.obey_store-ending.ensures.failed c.tell.ensures eight;
       kept = c.obey_store-ending.ensures.kept;
       unshown = c.obey_store-ending.ensures.unshown;
