@@ -88,7 +88,7 @@ not_begun before now same begun = begun.1 (same begun.0)
 pub only_opens : (was : DiskSide) → HasNothingPending was.file → OnlyOpens was was
 only_opens was nothing = starts was (IsOpening was.file.bytes) (λ c left. inl (nothing_pending_is was.file c nothing left))
 
-shown_is : (shown : Option DiskSide) (was : DiskSide) → shown ≡ Some was → IfSome shown (λ d. HasNothingPending d.file) → HasNothingPending was.file
+pub shown_is : (shown : Option DiskSide) (was : DiskSide) → shown ≡ Some was → IfSome shown (λ d. HasNothingPending d.file) → HasNothingPending was.file
 shown_is shown was is h = subst (λ (o : Option DiskSide). IfSome o (λ d. HasNothingPending d.file)) is h
 
 pub shown-same : (shown shown' : Option DiskSide) (P : DiskSide → DiskSide → Type 0) → shown' ≡ shown → IfSome shown (λ d. HasNothingPending d.file) → ((was : DiskSide) → OnlyOpens was was → P was was) → Shown shown shown' P

@@ -2,7 +2,7 @@
 
 ghost use Rattle.std.specs.Prelude.{◌≡◌, ◌⊎◌, ℕ, ◌≤◌, Bool, true, false, None, Some, IfSome, Err, map};
 ghost use Rattle.std.specs.String.{string_bytes};
-ghost use Rattle.desk_folder.specs.Outside.{Directories};
+ghost use Rattle.desk_folder.specs.Outside.{Directories as NamedDirectories};
 ghost use Rattle.std.specs.Option.{option_map};
 ghost use Rattle.desk_folder.specs.Calls.{Rose};
 ghost use Rattle.desk_disk.specs.FileStates.{HasNothingPending};
@@ -187,14 +187,14 @@ pub fn desk_main<R: Threads + Wait + Sync, F: Folder, O: Sink, G: Gate, D: Disk>
     requires nothing_pending { asks_disk (asked_by (map string_bytes words.now)) ≡ true → IfSome (D.shown disk.old) (λ was. HasNothingPending was.file) }
     // The headline: where the folder shows the bytes of its input, each replay that was done has written
     // the journal of a legal history of the events that it read, and the last plan of that history.
-    ensures headline { (dirs : Directories) → command (map string_bytes words.now) ≡ Some (Replay, Some dirs) →
+    ensures headline { (dirs : NamedDirectories) → command (map string_bytes words.now) ≡ Some (Replay, Some dirs) →
         (x : Inputs) → Tells (files_read Replay) (F.outside folder.old) x → IsDoneAt result →
         Between F.outside O.report folder.old out.old folder.new out.new (λ before now. IsReplayed before now x) }
 
     // The headline of a recovery: each that was done has written the journal of a legal history in which the
     // batches that it read stand in their order, each with exactly its descent after it, and the last plan of
     // that history; and it has reported how the last search ended.
-    ensures recovered { (moves : ℕ) → (dirs : Directories) →
+    ensures recovered { (moves : ℕ) → (dirs : NamedDirectories) →
         command (map string_bytes words.now) ≡ Some (Recover 0 moves false, Some dirs) →
         (x : Inputs) → Tells (files_read (Recover 0 moves false)) (F.outside folder.old) x → IsDoneAt result →
         Between F.outside O.report folder.old out.old folder.new out.new (λ before now. IsRecovered before now moves x result) }
@@ -203,7 +203,7 @@ pub fn desk_main<R: Threads + Wait + Sync, F: Folder, O: Sink, G: Gate, D: Disk>
     // worker came first. In it the batches that it read stand in their order, each once, and each other entry is the
     // first better move of its worker's shard, after a beginning that has all that worker's earlier entries and by
     // which the budget is not spent; and it has written the last plan of that history, and why its search ended.
-    ensures searched { (workers : ℕ) → (moves : ℕ) → (live : Bool) → (dirs : Directories) →
+    ensures searched { (workers : ℕ) → (moves : ℕ) → (live : Bool) → (dirs : NamedDirectories) →
         command (map string_bytes words.now) ≡ Some (Recover workers moves live, Some dirs) → 1 ≤ workers →
         (x : Inputs) → Tells (files_read (Recover workers moves live)) (F.outside folder.old) x → IsDoneAt result →
         Between F.outside O.report folder.old out.old folder.new out.new (λ before now. IsRecoveredByTeam before now workers moves live x result) }
@@ -214,56 +214,56 @@ pub fn desk_main<R: Threads + Wait + Sync, F: Folder, O: Sink, G: Gate, D: Disk>
 
     // Each check that was done has reported the first item that the plan breaks, or that it breaks none, and the
     // whole cost of the plan, under the orders of all batches.
-    ensures checked { (dirs : Directories) → command (map string_bytes words.now) ≡ Some (Check, Some dirs) →
+    ensures checked { (dirs : NamedDirectories) → command (map string_bytes words.now) ≡ Some (Check, Some dirs) →
         (x : Inputs) → Tells (files_read Check) (F.outside folder.old) x → IsDoneAt result →
         Between F.outside O.report folder.old out.old folder.new out.new (λ before now. IsChecked before now x result) }
 
     // Each day that was generated is written whole.
-    ensures generated { (seed : ℕ) → (size : ℕ) → (dirs : Directories) →
+    ensures generated { (seed : ℕ) → (size : ℕ) → (dirs : NamedDirectories) →
         command (map string_bytes words.now) ≡ Some (Gen seed size, Some dirs) → IsDoneAt result →
         Between F.outside O.report folder.old out.old folder.new out.new (λ before now. IsGenerated before now seed size result) }
 
     // The headline of a run that keeps its journal on the disk: each that was done has written what a replay of the same
     // input writes, with how many entries the disk held as the first line of its report: as many as its file had, where shown.
-    ensures stored_headline { (dirs : Directories) → command (map string_bytes words.now) ≡ Some (Store, Some dirs) →
+    ensures stored_headline { (dirs : NamedDirectories) → command (map string_bytes words.now) ≡ Some (Store, Some dirs) →
         (x : Inputs) → Tells (files_read Store) (F.outside folder.old) x → IsDoneAt result →
         Between F.outside O.report folder.old out.old folder.new out.new (λ before now. IsStored before now (D.shown disk.old) (D.shown disk.new) x result) }
 
     // All that is promised of such a run. The disk failed to name its directory, and nothing was read. Or the journal on the
     // disk ended it, once the input was read and accepted: the disk failed, or where it shows its file that was damaged, or of
     // other events. Or it keeps all that is promised of a replay, with that line.
-    ensures stored_promise { (dirs : Directories) → command (map string_bytes words.now) ≡ Some (Store, Some dirs) →
+    ensures stored_promise { (dirs : NamedDirectories) → command (map string_bytes words.now) ≡ Some (Store, Some dirs) →
         Between F.outside O.report folder.old out.old folder.new out.new (λ before now.
         RunsOnDisk (asked_by (map string_bytes words.now)) before now (D.faults disk.old) (D.faults disk.new) (D.shown disk.old) (D.shown disk.new) result) }
 
     // At 0, 1 and 5, and where an output file has got a byte, the file on the disk opens as the whole history, whatever crash
     // comes.
-    ensures stored { (dirs : Directories) → command (map string_bytes words.now) ≡ Some (Store, Some dirs) →
+    ensures stored { (dirs : NamedDirectories) → command (map string_bytes words.now) ≡ Some (Store, Some dirs) →
         Between F.outside O.report folder.old out.old folder.new out.new (λ before now.
         (x : Inputs) → Tells (files_read Store) before.folder x → IsWrittenAt result ⊎ HasBegun before now →
         Shown (D.shown disk.old) (D.shown disk.new) (HoldsAll x)) }
 
     // Until the comparison with what the disk holds has passed each crash leaves all bytes but the one that opening sets; from
     // then on, at any moment, a file that opens as a beginning of the history, with all entries that the disk held.
-    ensures untouched { (dirs : Directories) → command (map string_bytes words.now) ≡ Some (Store, Some dirs) →
+    ensures untouched { (dirs : NamedDirectories) → command (map string_bytes words.now) ≡ Some (Store, Some dirs) →
         (x : Inputs) → Tells (files_read Store) (F.outside folder.old) x →
         Shown (D.shown disk.old) (D.shown disk.new) (StandsAlways x) }
 
     // Where the input is refused, at most the directory of the disk was named.
-    ensures stored_unasked { (dirs : Directories) → command (map string_bytes words.now) ≡ Some (Store, Some dirs) →
+    ensures stored_unasked { (dirs : NamedDirectories) → command (map string_bytes words.now) ≡ Some (Store, Some dirs) →
         (x : Inputs) → Tells (files_read Store) (F.outside folder.old) x → (r : Refusal) → kept_of x ≡ Err r →
         IsAtMostNamed (D.shown disk.old) (D.shown disk.new) }
 
     // At 3 it is the former.
-    ensures stored_refused { (dirs : Directories) → command (map string_bytes words.now) ≡ Some (Store, Some dirs) →
+    ensures stored_refused { (dirs : NamedDirectories) → command (map string_bytes words.now) ≡ Some (Store, Some dirs) →
         result ≡ 3 → Shown (D.shown disk.old) (D.shown disk.new) OnlyOpens }
 
     // 8 comes only where the disk failed.
-    ensures stored_failed { (dirs : Directories) → command (map string_bytes words.now) ≡ Some (Store, Some dirs) →
+    ensures stored_failed { (dirs : NamedDirectories) → command (map string_bytes words.now) ≡ Some (Store, Some dirs) →
         result ≡ 8 → Rose (D.faults disk.old) (D.faults disk.new) }
 
     // At 0, 1, 3 and 5 the directory of the disk is that of the output.
-    ensures stored_in { (dirs : Directories) → command (map string_bytes words.now) ≡ Some (Store, Some dirs) →
+    ensures stored_in { (dirs : NamedDirectories) → command (map string_bytes words.now) ≡ Some (Store, Some dirs) →
         IsPlacedAt result → IfSome (D.directory disk.old) (λ _. D.directory disk.new ≡ Some dirs.output) }
 
     // No run lets the count of faults of the disk fall, and a disk that shows nothing goes on so.
@@ -300,14 +300,14 @@ pub fn desk_main_heard<R: Threads + Wait + Sync, F: Folder, O: Sink, G: Gate, D:
     requires nothing_pending { asks_disk (asked_by (map string_bytes words.now)) ≡ true → IfSome (D.shown disk.old) (λ was. HasNothingPending was.file) }
     // The headline: where the folder shows the bytes of its input, each replay that was done has written
     // the journal of a legal history of the events that it read, and the last plan of that history.
-    ensures headline { (dirs : Directories) → command (map string_bytes words.now) ≡ Some (Replay, Some dirs) →
+    ensures headline { (dirs : NamedDirectories) → command (map string_bytes words.now) ≡ Some (Replay, Some dirs) →
         (x : Inputs) → Tells (files_read Replay) (F.outside folder.old) x → IsDoneAt result →
         Between F.outside O.report folder.old out.old folder.new out.new (λ before now. IsReplayed before now x) }
 
     // The headline of a recovery: each that was done has written the journal of a legal history in which the
     // batches that it read stand in their order, each with exactly its descent after it, and the last plan of
     // that history; and it has reported how the last search ended.
-    ensures recovered { (moves : ℕ) → (dirs : Directories) →
+    ensures recovered { (moves : ℕ) → (dirs : NamedDirectories) →
         command (map string_bytes words.now) ≡ Some (Recover 0 moves false, Some dirs) →
         (x : Inputs) → Tells (files_read (Recover 0 moves false)) (F.outside folder.old) x → IsDoneAt result →
         Between F.outside O.report folder.old out.old folder.new out.new (λ before now. IsRecovered before now moves x result) }
@@ -316,7 +316,7 @@ pub fn desk_main_heard<R: Threads + Wait + Sync, F: Folder, O: Sink, G: Gate, D:
     // worker came first. In it the batches that it read stand in their order, each once, and each other entry is the
     // first better move of its worker's shard, after a beginning that has all that worker's earlier entries and by
     // which the budget is not spent; and it has written the last plan of that history, and why its search ended.
-    ensures searched { (workers : ℕ) → (moves : ℕ) → (live : Bool) → (dirs : Directories) →
+    ensures searched { (workers : ℕ) → (moves : ℕ) → (live : Bool) → (dirs : NamedDirectories) →
         command (map string_bytes words.now) ≡ Some (Recover workers moves live, Some dirs) → 1 ≤ workers →
         (x : Inputs) → Tells (files_read (Recover workers moves live)) (F.outside folder.old) x → IsDoneAt result →
         Between F.outside O.report folder.old out.old folder.new out.new (λ before now. IsRecoveredByTeam before now workers moves live x result) }
@@ -327,56 +327,56 @@ pub fn desk_main_heard<R: Threads + Wait + Sync, F: Folder, O: Sink, G: Gate, D:
 
     // Each check that was done has reported the first item that the plan breaks, or that it breaks none, and the
     // whole cost of the plan, under the orders of all batches.
-    ensures checked { (dirs : Directories) → command (map string_bytes words.now) ≡ Some (Check, Some dirs) →
+    ensures checked { (dirs : NamedDirectories) → command (map string_bytes words.now) ≡ Some (Check, Some dirs) →
         (x : Inputs) → Tells (files_read Check) (F.outside folder.old) x → IsDoneAt result →
         Between F.outside O.report folder.old out.old folder.new out.new (λ before now. IsChecked before now x result) }
 
     // Each day that was generated is written whole.
-    ensures generated { (seed : ℕ) → (size : ℕ) → (dirs : Directories) →
+    ensures generated { (seed : ℕ) → (size : ℕ) → (dirs : NamedDirectories) →
         command (map string_bytes words.now) ≡ Some (Gen seed size, Some dirs) → IsDoneAt result →
         Between F.outside O.report folder.old out.old folder.new out.new (λ before now. IsGenerated before now seed size result) }
 
     // The headline of a run that keeps its journal on the disk: each that was done has written what a replay of the same
     // input writes, with how many entries the disk held as the first line of its report: as many as its file had, where shown.
-    ensures stored_headline { (dirs : Directories) → command (map string_bytes words.now) ≡ Some (Store, Some dirs) →
+    ensures stored_headline { (dirs : NamedDirectories) → command (map string_bytes words.now) ≡ Some (Store, Some dirs) →
         (x : Inputs) → Tells (files_read Store) (F.outside folder.old) x → IsDoneAt result →
         Between F.outside O.report folder.old out.old folder.new out.new (λ before now. IsStored before now (D.shown disk.old) (D.shown disk.new) x result) }
 
     // All that is promised of such a run. The disk failed to name its directory, and nothing was read. Or the journal on the
     // disk ended it, once the input was read and accepted: the disk failed, or where it shows its file that was damaged, or of
     // other events. Or it keeps all that is promised of a replay, with that line.
-    ensures stored_promise { (dirs : Directories) → command (map string_bytes words.now) ≡ Some (Store, Some dirs) →
+    ensures stored_promise { (dirs : NamedDirectories) → command (map string_bytes words.now) ≡ Some (Store, Some dirs) →
         Between F.outside O.report folder.old out.old folder.new out.new (λ before now.
         RunsOnDisk (asked_by (map string_bytes words.now)) before now (D.faults disk.old) (D.faults disk.new) (D.shown disk.old) (D.shown disk.new) result) }
 
     // At 0, 1 and 5, and where an output file has got a byte, the file on the disk opens as the whole history, whatever crash
     // comes.
-    ensures stored { (dirs : Directories) → command (map string_bytes words.now) ≡ Some (Store, Some dirs) →
+    ensures stored { (dirs : NamedDirectories) → command (map string_bytes words.now) ≡ Some (Store, Some dirs) →
         Between F.outside O.report folder.old out.old folder.new out.new (λ before now.
         (x : Inputs) → Tells (files_read Store) before.folder x → IsWrittenAt result ⊎ HasBegun before now →
         Shown (D.shown disk.old) (D.shown disk.new) (HoldsAll x)) }
 
     // Until the comparison with what the disk holds has passed each crash leaves all bytes but the one that opening sets; from
     // then on, at any moment, a file that opens as a beginning of the history, with all entries that the disk held.
-    ensures untouched { (dirs : Directories) → command (map string_bytes words.now) ≡ Some (Store, Some dirs) →
+    ensures untouched { (dirs : NamedDirectories) → command (map string_bytes words.now) ≡ Some (Store, Some dirs) →
         (x : Inputs) → Tells (files_read Store) (F.outside folder.old) x →
         Shown (D.shown disk.old) (D.shown disk.new) (StandsAlways x) }
 
     // Where the input is refused, at most the directory of the disk was named.
-    ensures stored_unasked { (dirs : Directories) → command (map string_bytes words.now) ≡ Some (Store, Some dirs) →
+    ensures stored_unasked { (dirs : NamedDirectories) → command (map string_bytes words.now) ≡ Some (Store, Some dirs) →
         (x : Inputs) → Tells (files_read Store) (F.outside folder.old) x → (r : Refusal) → kept_of x ≡ Err r →
         IsAtMostNamed (D.shown disk.old) (D.shown disk.new) }
 
     // At 3 it is the former.
-    ensures stored_refused { (dirs : Directories) → command (map string_bytes words.now) ≡ Some (Store, Some dirs) →
+    ensures stored_refused { (dirs : NamedDirectories) → command (map string_bytes words.now) ≡ Some (Store, Some dirs) →
         result ≡ 3 → Shown (D.shown disk.old) (D.shown disk.new) OnlyOpens }
 
     // 8 comes only where the disk failed.
-    ensures stored_failed { (dirs : Directories) → command (map string_bytes words.now) ≡ Some (Store, Some dirs) →
+    ensures stored_failed { (dirs : NamedDirectories) → command (map string_bytes words.now) ≡ Some (Store, Some dirs) →
         result ≡ 8 → Rose (D.faults disk.old) (D.faults disk.new) }
 
     // At 0, 1, 3 and 5 the directory of the disk is that of the output.
-    ensures stored_in { (dirs : Directories) → command (map string_bytes words.now) ≡ Some (Store, Some dirs) →
+    ensures stored_in { (dirs : NamedDirectories) → command (map string_bytes words.now) ≡ Some (Store, Some dirs) →
         IsPlacedAt result → IfSome (D.directory disk.old) (λ _. D.directory disk.new ≡ Some dirs.output) }
 
     // No run lets the count of faults of the disk fall, and a disk that shows nothing goes on so.

@@ -1,5 +1,5 @@
 use Rattle.std.proofs.Common.{map, ap, refl, ◌∙◌}
-use Rattle.desk_runs.specs.Commands.{IsCommand, asks, asks_disk}
+use Rattle.desk_runs.specs.Commands.{asks, asks_disk}
 use Rattle.desk_runs.specs.Runs.{world}
 use Rattle.std.specs.Prelude.{Option, Some, option_map}
 use Rattle.std.specs.String.{string_bytes}
@@ -10,13 +10,13 @@ use Rattle.desk_top.proofs.Ranges.{asked-in-range}
 use Rattle.desk_top.proofs.desk.reported_run.Goals as goal
 
 pub run-requires-clause-ranges : goal.run-requires-clause-ranges
-run-requires-clause-ranges g c = λ κs. (let range : IsCommand c.in-Some.asked.command = asked-in-range (map string_bytes c.args.words.now) (asking c.in-Some.asked) c.in-Some.ensures in range)
+run-requires-clause-ranges g c = λ κs lives. asked-in-range (map string_bytes c.args.words.now) (asking c.in-Some.asked) c.in-Some.ensures
 
 pub run-requires-clause-diskless : goal.run-requires-clause-diskless
 run-requires-clause-diskless g c = λ κs range. ap (λ (o : Option Asking). asks_disk (option_map asks o)) c.in-Some.ensures ∙ c.requires.diskless
 
 pub run-requires-in-Ok-clause-ranges : goal.run-requires-in-Ok-clause-ranges
-run-requires-in-Ok-clause-ranges g c = λ κs. (let range : IsCommand c.in-Some.asked.command = asked-in-range (map string_bytes c.args.words.now) (asking c.in-Some.asked) c.in-Some.ensures in range)
+run-requires-in-Ok-clause-ranges g c = λ κs lives. asked-in-range (map string_bytes c.args.words.now) (asking c.in-Some.asked) c.in-Some.ensures
 
 pub run-requires-in-Ok-clause-diskless : goal.run-requires-in-Ok-clause-diskless
 run-requires-in-Ok-clause-diskless g c = λ κs range. ap (λ (o : Option Asking). asks_disk (option_map asks o)) c.in-Some.ensures ∙ c.requires.diskless

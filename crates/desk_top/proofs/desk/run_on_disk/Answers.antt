@@ -41,11 +41,11 @@ pub returns-in-Err-Failed : goal.returns-in-Err-Failed
 returns-in-Err-Failed g c =
     let before = world (g.F.Folder.outside c.args.folder.now) (g.O.Sink.report c.args.out.now) in
     let sink = g.O.Sink.report c.args.out.now in
-    let now = g.O.Sink.report c.tell-in-Err-Failed.new.out in
+    let now = g.O.Sink.report c.tell.new.out in
     let shown = g.D.Disk.shown c.args.disk.now in
     let mid = g.D.Disk.shown c.place.new.self in
-    let code = c.tell-in-Err-Failed.result in
-    let given = c.tell-in-Err-Failed.ensures in
+    let code = c.tell.result in
+    let given = c.tell.ensures in
     let how = ending.OnDisk disk_end.Fault in
     let failed = rw c.in-Err-Failed.field-0-is at c.in-Err-Failed.ensures in
     record {

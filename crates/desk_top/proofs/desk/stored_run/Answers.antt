@@ -35,11 +35,11 @@ returns-in-Err-Failed g c =
     let before = g.F.Folder.outside c.args.folder.now in
     let placed = g.F.Folder.outside c.place.new.self in
     let sink = g.O.Sink.report c.args.out.now in
-    let now = g.O.Sink.report c.tell-in-Err-Failed.new.out in
+    let now = g.O.Sink.report c.tell.new.out in
     let shown = g.D.Disk.shown c.args.disk.now in
     let faults = g.D.Disk.faults c.args.disk.now in
-    let code = c.tell-in-Err-Failed.result in
-    let given = c.tell-in-Err-Failed.ensures in
+    let code = c.tell.result in
+    let given = c.tell.ensures in
     let only = c.place.ensures.others in
     record {
       promise = kept-unplaced (named c.args.dirs.now) before placed sink now faults faults shown shown code only ((rw c.in-Err-Failed.field-0-is at c.in-Err-Failed.ensures).faults.rose refl) given;

@@ -24,7 +24,7 @@ returns-in-Ok-clause-obeys g c =
     let told = g.D.Disk.shown c.keep_events.new.disk in
     obeyed-story (outside c.args.folder.now) (outside c.read_kept.new.folder) (g.O.Sink.report c.args.out.now) now shown told
     kept c.keep_events.result c.read_kept.ensures.only c.read_kept.ensures.in_order c.in-Ok.ensures.read c.in-Ok.ensures.exact c.in-Ok.ensures.runs
-    (keeps-as kept c.as_slice-batches.result.now c.as_slice.result.now before now shown told c.keep_events.result c.as_slice-batches.ensures.value c.as_slice.ensures.value c.keep_events.ensures.keeps)
+    (keeps-as kept c.as_slice-batches.result.now c.as_slice.result.now before now shown told c.keep_events.result (c.as_slice-batches.ensures.value ∙ c.batches.view_is) c.as_slice.ensures.value c.keep_events.ensures.keeps)
 
 pub returns-in-Ok-clause-unasked : goal.returns-in-Ok-clause-unasked
 returns-in-Ok-clause-unasked g c = λ x tells r refused. absurd (let both = sym (c.in-Ok.ensures.exact x tells) ∙ refused in cc)
