@@ -38,13 +38,17 @@ impl Drop for Faults {
 }
 
 impl Faults {
-    // A folder with these texts, an empty sink, and a disk whose file has these bytes, whose calls fail so.
+    ghost use Rattle.desk_disk.specs.FileStates.{HasNothingPending};
+
+    // A folder with these texts, an empty sink, and a disk whose file has these bytes, whose calls fail so. Nothing is pending on it.
     fn outside(
         self,
         alloc: Global,
         inputs: Texts,
         bytes: Vec<u8>,
-    ) -> (MemFolder, ReportSink, MemDisk) {
+    ) -> (MemFolder, ReportSink, MemDisk)
+        ensures { HasNothingPending result.2.side.file }
+    {
         let Faults {
             place,
             next,

@@ -343,6 +343,10 @@ others-free (Some (command_is.Check, d)) none free = refl
 others-free (Some (command_is.Gen seed size, d)) none free = refl
 others-free (Some (command_is.Trial seed size, d)) none free = refl
 
+-- words that ask for such a journal are those of no other command
+pub store-alone : (o : Option Asking) (own : Directories) → o ≡ Some (command_is.Store, Some own) → asks_disk (option_map asks o) ≡ false → ⊥
+store-alone o own is free = (let no : true ≡ false = sym (ap (λ (o : Option Asking). asks_disk (option_map asks o)) is) ∙ free in cc)
+
 pub other-asked : (o : Option Asking) (dirs : Directories) → kept_directories o ≡ None → o ≡ Some (command_is.Store, Some dirs) → ⊥
 other-asked o dirs none is = (let both : Some dirs ≡ None = sym (ap kept_directories is) ∙ none in cc)
 

@@ -1,4 +1,4 @@
-use Rattle.std.proofs.Common.{◌≡◌, refl, sym, ◌∙◌, ap, subst, [], map, false, inl, inr}
+use Rattle.std.proofs.Common.{◌≡◌, refl, sym, ◌∙◌, ap, subst, [], map, inl, inr, arith}
 use Rattle.std.specs.Option.{option_map}
 use Rattle.std.specs.Prelude.{None, Some, Option}
 use Rattle.std.specs.String.{string_bytes}
@@ -14,7 +14,7 @@ use Rattle.desk_top.specs.Store.{kept_directories, RunsOnDisk}
 use Rattle.desk_top.proofs.Commands.{done-by, replayed, recovered-day, recovered-by-team, tried-day, checked, generated}
 use Rattle.desk_top.proofs.Ranges.{unplaced-free}
 use Rattle.desk_top.proofs.Stored.{stored}
-use Rattle.desk_top.proofs.StorePlaced.{asks-store, kept-asked, other-asked, others-free, same-dirs}
+use Rattle.desk_top.proofs.StorePlaced.{asks-store, kept-asked, other-asked, others-free, same-dirs, store-alone}
 use Rattle.desk_top.proofs.desk.desk_main_heard.Goals as goal
 
 -- the bytes of no file
@@ -22,7 +22,7 @@ abbrev no_inputs : Inputs
 no_inputs f = []
 
 pub reported_run-requires : goal.reported_run-requires
-reported_run-requires g c = (c.type_bounds.sync-R, (c.type_bounds.sync-G, record { diskless = others-free (command (map string_bytes c.args.words.now)) (sym (ap (option_map named) c.in-None.is) ∙ c.kept_directories.ensures) (unplaced-free (map string_bytes c.args.words.now)) }))
+reported_run-requires g c = (c.type_bounds.sync-R, (c.type_bounds.sync-G, others-free (command (map string_bytes c.args.words.now)) (sym (ap (option_map named) c.in-None.is) ∙ c.kept_directories.ensures) (unplaced-free (map string_bytes c.args.words.now))))
 
 pub stored_run-requires : goal.stored_run-requires
 stored_run-requires g c = record { nothing_pending = c.requires.nothing_pending (asks-store (command (map string_bytes c.args.words.now)) (named c.in-Some.dirs) c.in-Some.ensures) }
@@ -74,12 +74,12 @@ returns-in-Some g c =
     let told = g.D.Disk.shown c.stored_run.new.disk in
     let kept = subst (λ (o : Option Asking). RunsOnDisk (option_map asks o) before now faults later shown told code) (sym asked) run.promise in
     record {
-      headline = λ dirs is x tells done. absurd (let no = sym asked ∙ is in cc);
-      recovered = λ moves dirs is x tells done. absurd (let no = sym asked ∙ is in cc);
-      searched = λ workers moves live dirs is some x tells done. absurd (let no = sym asked ∙ is in cc);
-      tried = λ seed size is done. absurd (let no = sym asked ∙ is in cc);
-      checked = λ dirs is x tells done. absurd (let no = sym asked ∙ is in cc);
-      generated = λ seed size dirs is done. absurd (let no = sym asked ∙ is in cc);
+      headline = λ dirs is x tells done. absurd (store-alone these own asked (ap (λ (o : Option Asking). asks_disk (option_map asks o)) is));
+      recovered = λ moves dirs is x tells done. absurd (store-alone these own asked (ap (λ (o : Option Asking). asks_disk (option_map asks o)) is));
+      searched = λ workers moves live dirs is some x tells done. absurd (store-alone these own asked (ap (λ (o : Option Asking). asks_disk (option_map asks o)) is));
+      tried = λ seed size is done. absurd (store-alone these own asked (ap (λ (o : Option Asking). asks_disk (option_map asks o)) is));
+      checked = λ dirs is x tells done. absurd (store-alone these own asked (ap (λ (o : Option Asking). asks_disk (option_map asks o)) is));
+      generated = λ seed size dirs is done. absurd (store-alone these own asked (ap (λ (o : Option Asking). asks_disk (option_map asks o)) is));
       stored_headline = λ dirs is x tells done. stored own before now faults later shown told x code run.promise tells done;
       stored_promise = λ dirs is. kept;
       stored = λ dirs is x tells began. run.stored x tells began;
@@ -90,6 +90,6 @@ returns-in-Some g c =
       stored_in = λ dirs is at. same-dirs these own dirs (g.D.Disk.directory c.args.disk.now) (g.D.Disk.directory c.stored_run.new.disk) asked is (run.directory at);
       disk_kept = run.kept;
       disk_unshown = run.unshown;
-      other_disk = λ free. absurd (let no = sym (ap (λ (o : Option Asking). asks_disk (option_map asks o)) asked) ∙ free in cc);
-      promise = λ free. absurd (let no = sym (ap (λ (o : Option Asking). asks_disk (option_map asks o)) asked) ∙ free in cc);
+      other_disk = λ free. absurd (store-alone these own asked free);
+      promise = λ free. absurd (store-alone these own asked free);
     }
