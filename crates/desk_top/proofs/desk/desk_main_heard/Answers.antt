@@ -1,4 +1,4 @@
-use Rattle.std.proofs.Common.{◌≡◌, refl, sym, ◌∙◌, ap, subst, [], map, inl, inr, arith}
+use Rattle.std.proofs.Common.{◌≡◌, refl, sym, ◌∙◌, ap, subst, [], map, false, arith}
 use Rattle.std.specs.Option.{option_map}
 use Rattle.std.specs.Prelude.{None, Some, Option}
 use Rattle.std.specs.String.{string_bytes}
@@ -22,7 +22,7 @@ abbrev no_inputs : Inputs
 no_inputs f = []
 
 pub reported_run-requires : goal.reported_run-requires
-reported_run-requires g c = (c.type_bounds.sync-R, (c.type_bounds.sync-G, others-free (command (map string_bytes c.args.words.now)) (sym (ap (option_map named) c.in-None.is) ∙ c.kept_directories.ensures) (unplaced-free (map string_bytes c.args.words.now))))
+reported_run-requires g c = (c.type_bounds.sync-R, (c.type_bounds.sync-G, others-free (command (map string_bytes c.args.words.now)) (sym (sym (ap (option_map named) c.in-None.is) ∙ c.kept_directories.ensures)) (unplaced-free (map string_bytes c.args.words.now))))
 
 pub stored_run-requires : goal.stored_run-requires
 stored_run-requires g c = record { nothing_pending = c.requires.nothing_pending (asks-store (command (map string_bytes c.args.words.now)) (named c.in-Some.dirs) c.in-Some.ensures) }

@@ -5,7 +5,7 @@ use Rattle.std.specs.Prelude.{Option, Some, option_map}
 use Rattle.std.specs.String.{string_bytes}
 use Rattle.desk_words.specs.Commands.{Asking, command}
 use Rattle.desk_words.specs.Asked.{named, asking}
-use Rattle.desk_top.proofs.Placed.{run-placed, asked-with, run-usage, run-here, run-unplaced, run-unnamed}
+use Rattle.desk_top.proofs.Placed.{run-placed, asked-with, run-usage, run-unplaced, run-unnamed}
 use Rattle.desk_top.proofs.Ranges.{asked-in-range}
 use Rattle.desk_top.proofs.desk.reported_run.Goals as goal
 

@@ -1,5 +1,4 @@
 use Rattle.std.proofs.Common.{◌∙◌, ap, refl, inl, inr}
-use Rattle.desk_disk.specs.declared.faults.DiskFault.TheVariants as disk_fault
 use Rattle.desk_runs.specs.declared.ending.DiskEnd.TheVariants as disk_end
 use Rattle.desk_runs.specs.declared.ending.Ending.TheVariants as ending
 use Rattle.desk_runs.specs.Runs.{world}

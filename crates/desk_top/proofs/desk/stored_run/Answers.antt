@@ -2,7 +2,7 @@ use Rattle.std.proofs.Common.{refl, inl, inr, arith}
 use Rattle.desk_runs.specs.declared.ending.Ending.TheVariants as ending
 use Rattle.desk_words.specs.Asked.{named}
 use Rattle.desk_store.specs.Journal.{OnlyOpens}
-use Rattle.desk_top.specs.Store.{HoldsAll, StandsAlways}
+use Rattle.desk_top.specs.Store.{StandsAlways}
 use Rattle.desk_top.proofs.StoreLaws.{shown-same}
 use Rattle.desk_top.proofs.StorePlaced.{kept-placed, kept-unplaced, kept-unnamed, began-placed, tells-placed, not-placed, never-began, eight-only}
 use Rattle.desk_top.proofs.desk.stored_run.Goals as goal
