@@ -40,8 +40,7 @@ payload_at S events i asked at room =
     let next = run S (take (i + 1) events) in
     let grown : history_payloads next ≡ history_payloads h ++ next_payload h asked ∷ [] =
     ap history_payloads (run-more S events i asked (slice_get_within events i asked at) (sym (get_or_from_slice_get events i asked asked at)) ∙ event-enters S h asked room) ∙ payloads-enter S h asked in
-    let behind = behind-on S 0 next (drop (i + 1) events) (omega arith) in
-    (
+    let behind = behind-on S 0 next (drop (i + 1) events) (omega arith) in (
       behind.0,
       sym (ap history_payloads (run-parts S events (i + 1))) ∙ sym behind.1 ∙ ap (λ (ps : List (List ℕ)). ps ++ behind.0) grown ∙ append_assoc (history_payloads h) (next_payload h asked ∷ []) behind.0,
     )
