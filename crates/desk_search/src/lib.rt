@@ -18,6 +18,7 @@ mod in_turn;
 mod laws;
 mod searched;
 mod team;
+mod watched;
 mod write;
 
 pub use batches::Intake;
@@ -26,5 +27,6 @@ pub use laws::{
     histories_with_makers_are_made_of_first_better_moves,
     runs_that_made_their_whole_history_are_teamwork,
 };
-pub use team::Team;
+pub use team::{Team, TeamBook};
+pub use watched::{WatchedDay, watch_day};
 pub use write::recover_by_team;

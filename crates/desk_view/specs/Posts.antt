@@ -1,0 +1,23 @@
+-- What is said of the desk's board.
+use Rattle.std.specs.Prelude.{◌≡◌, List, Some}
+use mathlib.Core.List.{IsPrefix}
+use Rattle.desk_model.specs.declared.answer.Entry.{Entry}
+use Rattle.desk_model.specs.States.{opening}
+use Rattle.desk_core.specs.Recorded.{Recorded}
+use Rattle.live_board.specs.declared.told.Told.{Told}
+use Rattle.live_board.specs.Histories.{history, origin}
+use Rattle.desk_view.specs.declared.posted.Posted.{Posted}
+use Rattle.desk_view.specs.declared.view.View.{View}
+use Rattle.desk_view.specs.Views.{view_of}
+
+-- what was told by the time that something was posted
+abbrev pub posted : Posted → List (Told Recorded Entry)
+posted p = p.0.seen.log
+
+-- a board that was opened on this book has told a beginning of this history
+abbrev pub HasTold : Recorded → List Entry → List (Told Recorded Entry) → Type 0
+HasTold B h log = (origin log ≡ Some B) × IsPrefix (history log) h
+
+-- the view of a history of a board that was opened on a book
+abbrev pub views : Recorded → List Entry → View
+views B h = view_of (opening B.opening) h

@@ -1,0 +1,112 @@
+//! Telling a board.
+
+ghost use Rattle.std.specs.Prelude.{◌≡◌, All, List as Items, length, drop, IfOk, OnOk};
+ghost use mathlib.Core.List.{IsPrefix};
+ghost use Rattle.desk_model.specs.declared.answer.Entry.{Entry as Record};
+ghost use Rattle.desk_model.specs.States.{opening};
+ghost use Rattle.desk_model.specs.Histories.{IsLegal};
+ghost use Rattle.desk_core.specs.Recorded.{Recorded};
+ghost use Rattle.live_board.specs.Histories.{history};
+ghost use Rattle.live_board.specs.Words.{told_by, seen_by, stands_for, IsShown};
+ghost use Rattle.desk_view.specs.Posts.{posted, HasTold};
+ghost use Rattle.desk_view.specs.Told.{told_to};
+ghost use Rattle.desk_view.specs.Views.{AreSeen};
+
+use crate::lines::seen_lines;
+use crate::posted::Posted;
+use crate::telling::Telling;
+use crate::view::View;
+use desk_core::{Book, Entry};
+use desk_data::NoMem;
+use live_board::{Naming, Note, Teller, Viewer};
+use std::alloc::Global;
+use std::sync::Wait;
+use turn_book::{Pass, Turn};
+
+/// Publishes on a board what the desk sees of the history.
+#[derive(Drop)]
+pub struct BoardTelling<J: Naming, R: Wait + Drop> {
+    teller: Teller<View, Posted, J, R>,
+    /// How many entries are published.
+    told: u32,
+    ghost counted: { told ≡ length (history (told_by teller)) },
+    ghost shown: { IsShown posted teller },
+}
+
+impl<J: Naming, R: Wait + Drop> BoardTelling<J, R> {
+    /// Of a board on a book whose journal is empty, and to which nothing was told.
+    pub fn new(teller: Teller<View, Posted, J, R>) -> BoardTelling<J, R>
+        requires none { length (history (told_by teller)) ≡ 0 }
+        requires shown { IsShown posted teller }
+        ensures { told_to result ≡ told_by teller }
+    {
+        BoardTelling { teller, told: 0 }
+    }
+
+    /// Publishes the entries of a legal history behind those that are published, which are then `count`. The only error is out
+    /// of memory, and then nothing more is published.
+    fn publish(&mut self, entries: &[Entry], count: u32) -> Result<(), NoMem>
+        requires { (B : Recorded) × (h : Items Record) × HasTold B h (told_to self.old) × IsLegal (opening B.opening) h × (entries.now ≡ drop self.old.told h) × (count ≡ length h) }
+        ensures told { (B : Recorded) (h : Items Record) → HasTold B h (told_to self.old) → entries.now ≡ drop self.old.told h → HasTold B h (told_to self.new) }
+        ensures all { OnOk result ((B : Recorded) (h : Items Record) → HasTold B h (told_to self.old) → entries.now ≡ drop self.old.told h → history (told_to self.new) ≡ h) }
+    {
+        if entries.is_empty() {
+            return Ok(());
+        }
+        let Ok(()) = self.teller.tell(entries) else {
+            return Err(NoMem);
+        };
+        self.told = count;
+        Ok(())
+    }
+
+    /// Publishes the rest of the book's journal, has the viewer learn of that and see once more, and gives what is reported of
+    /// what was seen: the views of its notes, and that of the whole journal. The only error is out of memory.
+    pub fn end(
+        self,
+        alloc: Global,
+        book: &Book,
+        viewer: Viewer<View, Posted, J>,
+        notes: &[Note<View, J>],
+    ) -> Result<Vec<View>, NoMem>
+        requires told { (B : Recorded) × (B.opening ≡ book.now.opening) × HasTold B book.now.journal (told_to self) }
+        requires behind { All (λ n. IsPrefix (stands_for n) (seen_by viewer)) notes.now }
+        ensures { IfOk result (λ lines. AreSeen (opening book.now.opening) book.now.journal lines.items) }
+    {
+        let mut telling = self;
+        let mut viewer = viewer;
+        let rest = &book.journal()[telling.told as usize..];
+        telling.publish(rest, book.entries())?;
+        let note = telling.teller.note();
+        viewer.learn(telling.teller.note());
+        let last = viewer.see();
+        if viewer.kept().is_same(&note) {
+            seen_lines(alloc, notes, last)
+        } else {
+            seen_lines(alloc, &[], note.view())
+        }
+    }
+}
+
+impl<J: Naming, R: Wait + Drop> Telling for BoardTelling<J, R> {
+    ghost use Rattle.turn_book.proofs.Prefixes.{prefix_trans};
+    ghost use Rattle.live_board.specs.Histories.{history};
+    ghost use Rattle.desk_view.specs.Posts.{HasTold};
+    ghost use Rattle.desk_view.specs.Told.{told_to};
+
+    ghost can = { λ x B h. HasTold B h (told_to x) };
+
+    fn tell_more<W: Wait>(
+        &mut self,
+        rt: &W,
+        alloc: Global,
+        turn: &Turn<Book>,
+        pass: &mut Pass<Book>,
+    ) -> Result<(), NoMem> {
+        let items = turn.look(rt, alloc, pass, self.told)?;
+        let count = pass.seen();
+        self.publish(items.as_slice(), count)
+    }
+
+    ghost longer = { λ x B h g p can. (can.0, prefix_trans (history (told_to x)) h g can.1 p) };
+}

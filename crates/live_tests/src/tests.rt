@@ -1,0 +1,98 @@
+ghost use Rattle.std.specs.Prelude.{◌≡◌, ◌<◌, length, [], ◌∷◌};
+ghost use Rattle.live_board.specs.Histories.{history};
+ghost use Rattle.live_board.specs.Words.{board_of, opening_log, told_by, IsShown};
+ghost use Rattle.live_tests.specs.Posts.{posted};
+
+use crate::most::{Blank, Most, Posted};
+use crate::threads::{see_both, tell_and_end, tell_two};
+use desk_units::NoMem;
+use live_board::{Naming, Note, Opened, Teller, Viewer, watch};
+use std::alloc::Global;
+use std::marker::Brand;
+use std::process::Abort;
+use std::sync::Wait;
+use std::sync::atomic::AtomicU64;
+use std::test::Fail;
+use std::thread::{Threads, join};
+
+#[test]
+fn a_first_tell_is_seen_before_the_second(rt: HostRuntime) -> Result<(), Fail> {
+    tell_and_see::<Brand, _>(&rt, rt.alloc(), Opened::new(&Blank))
+}
+
+fn tell_and_see<J: Naming + Send + Sync, R: Threads + Wait + Abort + Sync>(
+    rt: &R,
+    alloc: Global,
+    opened: Opened<Most>,
+) -> Result<(), Fail>
+    requires board { board_of opened ≡ J.book }
+    requires fresh { length (history (opening_log opened)) < 100 }
+{
+    let Ok((teller, mut viewers)) = opened.open::<Posted, J, &R>(rt, alloc, 1) else {
+        panic!(rt; "no memory")
+    };
+    let Some(viewer) = viewers.pop() else {
+        panic!(rt; "no viewer")
+    };
+    let saw = AtomicU64::new(0);
+    let ((teller, told), (mut viewer, one, all)) = join(
+        rt,
+        || -> (Teller<Most, Posted, J, &R>, Result<(), NoMem>)
+            requires room { length (history (told_by teller)) < 100 }
+            requires shown { IsShown posted teller }
+        { tell_two(rt, teller, &saw) },
+        || see_both(rt, viewer, &saw),
+    );
+    viewer.learn(teller.note());
+    let last = viewer.see();
+    drop(teller);
+    assert!(rt; told.is_ok());
+    assert_eq!(rt; (one.entries, one.largest), (1, 5));
+    assert_eq!(rt; (all.entries, all.largest), (3, 9));
+    assert_eq!(rt; (last.entries, last.largest), (3, 9));
+    Ok(())
+}
+
+#[test]
+fn watching_comes_to_the_last(rt: HostRuntime) -> Result<(), Fail> {
+    watch_on::<Brand, _>(&rt, rt.alloc(), Opened::new(&Blank))
+}
+
+fn watch_on<J: Naming + Send + Sync, R: Threads + Wait + Abort + Sync>(
+    rt: &R,
+    alloc: Global,
+    opened: Opened<Most>,
+) -> Result<(), Fail>
+    requires board { board_of opened ≡ J.book }
+    requires fresh { length (history (opening_log opened)) < 100 }
+{
+    let Ok(notes) = Vec::with_capacity(alloc, 63) else {
+        panic!(rt; "no memory")
+    };
+    let Ok((teller, mut viewers)) = opened.open::<Posted, J, &R>(rt, alloc, 1) else {
+        panic!(rt; "no memory")
+    };
+    let Some(viewer) = viewers.pop() else {
+        panic!(rt; "no viewer")
+    };
+    let ended = AtomicU64::new(0);
+    let ((teller, told), (mut viewer, notes)) = join(
+        rt,
+        || -> (Teller<Most, Posted, J, &R>, Result<(), NoMem>)
+            requires room { length (history (told_by teller)) < 100 }
+            requires shown { IsShown posted teller }
+        { tell_and_end(teller, &ended) },
+        || -> (Viewer<Most, Posted, J>, Vec<Note<Most, J>>)
+            requires { notes.items ≡ [] }
+        { watch(rt, viewer, notes, &ended) },
+    );
+    let note = teller.note();
+    viewer.learn(teller.note());
+    let last = viewer.see();
+    drop(teller);
+    assert!(rt; told.is_ok());
+    assert!(rt; viewer.kept().is_same(&note));
+    assert_eq!(rt; (last.entries, last.largest), (3, 9));
+    assert!(rt; 1 <= notes.len() && notes.len() <= 3);
+    Ok(())
+}

@@ -1,0 +1,97 @@
+//! What the threads of the tests do.
+
+ghost use Rattle.std.specs.Prelude.{◌≡◌, ◌+◌, ◌<◌, ◌++◌, ◌∷◌, [], length, OnOk};
+ghost use Rattle.live_board.specs.Histories.{history, tells};
+ghost use Rattle.live_board.specs.Words.{told_by, IsShown};
+ghost use Rattle.live_tests.specs.Posts.{posted};
+
+use crate::most::{Most, Posted};
+use desk_units::NoMem;
+use live_board::{Naming, Teller, Viewer};
+use std::sync::Wait;
+use std::sync::atomic::{AtomicU64, Ordering};
+use std::thread::yield_now;
+
+/// Tells one number, and another once the first was seen.
+pub fn tell_two<J: Naming, R: Wait + Drop, W: Wait>(
+    rt: &W,
+    teller: Teller<Most, Posted, J, R>,
+    saw: &AtomicU64,
+) -> (Teller<Most, Posted, J, R>, Result<(), NoMem>)
+    requires room { length (history (told_by teller)) < 100 }
+    requires shown { IsShown posted teller }
+{
+    let mut teller = teller;
+    let Ok(()) = teller.tell(&[5]) else {
+        return (teller, Err(NoMem));
+    };
+    wait_until_seen(rt, saw);
+    let told = teller.tell(&[3, 9]);
+    (teller, told)
+}
+
+/// Tells one number, and then two, and says that it ended.
+pub fn tell_and_end<J: Naming, R: Wait + Drop>(
+    teller: Teller<Most, Posted, J, R>,
+    ended: &AtomicU64,
+) -> (Teller<Most, Posted, J, R>, Result<(), NoMem>)
+    requires room { length (history (told_by teller)) < 100 }
+    requires shown { IsShown posted teller }
+{
+    let (teller, told) = tell_one_and_two(teller);
+    ended.store(1, Ordering::SeqCst);
+    (teller, told)
+}
+
+fn tell_one_and_two<J: Naming, R: Wait + Drop>(
+    teller: Teller<Most, Posted, J, R>,
+) -> (Teller<Most, Posted, J, R>, Result<(), NoMem>)
+    requires room { length (history (told_by teller)) < 100 }
+    requires shown { IsShown posted teller }
+{
+    let mut teller = teller;
+    let Ok(()) = teller.tell(&[5]) else {
+        return (teller, Err(NoMem));
+    };
+    let told = teller.tell(&[3, 9]);
+    (teller, told)
+}
+
+/// Waits until the first number was seen.
+fn wait_until_seen<R: Wait>(rt: &R, saw: &AtomicU64) {
+    for _ in rt.forever() {
+        if saw.load(Ordering::SeqCst) == 1 {
+            return;
+        }
+        yield_now();
+    }
+}
+
+/// Sees until there is one number, says so, and then until there are three. It answers both views.
+pub fn see_both<J: Naming, R: Wait>(
+    rt: &R,
+    viewer: Viewer<Most, Posted, J>,
+    saw: &AtomicU64,
+) -> (Viewer<Most, Posted, J>, Most, Most) {
+    let mut viewer = viewer;
+    let one = see_until(rt, &mut viewer, 1);
+    saw.store(1, Ordering::SeqCst);
+    let all = see_until(rt, &mut viewer, 3);
+    (viewer, one, all)
+}
+
+fn see_until<J: Naming, R: Wait>(
+    rt: &R,
+    viewer: &mut Viewer<Most, Posted, J>,
+    entries: u32,
+) -> Most {
+    let mut view = viewer.see();
+    for _ in rt.forever() {
+        if view.entries >= entries {
+            break;
+        }
+        yield_now();
+        view = viewer.see();
+    }
+    view
+}
