@@ -12,7 +12,7 @@ ghost use Rattle.desk_search.specs.Taking.{HasTaken, HasTakenAll};
 use desk_core::{Answer, Book, Event};
 use desk_data::{Batch, NoMem};
 use desk_folder::Gate;
-use desk_view::Telling;
+use desk_board::Telling;
 use std::alloc::Global;
 use std::sync::Wait;
 use turn_book::{Pass, Turn};

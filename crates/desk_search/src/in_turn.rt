@@ -15,7 +15,7 @@ use desk_core::Book;
 use desk_data::{Batch, NoMem};
 use desk_folder::Gate;
 use desk_pool::Worker;
-use desk_view::Telling;
+use desk_board::Telling;
 use std::alloc::Global;
 use std::sync::Wait;
 use std::thread::Threads;

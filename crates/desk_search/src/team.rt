@@ -21,7 +21,7 @@ use desk_data::{Batch, Instance, NoMem};
 use desk_folder::Gate;
 use desk_pool::{Vote, Worker, open_workers};
 use desk_tasks::SearchEnd;
-use desk_view::{Telling, TellsNobody};
+use desk_board::{Telling, TellsNobody};
 use std::alloc::Global;
 use std::sync::Wait;
 use std::thread::Threads;

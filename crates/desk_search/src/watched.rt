@@ -10,8 +10,8 @@ ghost use Rattle.desk_core.specs.Turned.{opening_of};
 ghost use Rattle.live_board.specs.Histories.{opens};
 ghost use Rattle.live_board.specs.Words.{board_of, opening_log, seen_by, stands_for};
 ghost use Rattle.desk_view.specs.Views.{AreSeen};
-ghost use Rattle.desk_view.specs.Posts.{HasTold};
-ghost use Rattle.desk_view.specs.Told.{told_to};
+ghost use Rattle.desk_board.specs.Posts.{HasTold};
+ghost use Rattle.desk_board.specs.Told.{told_to};
 ghost use Rattle.desk_pool.specs.Workers.{day_of, AreAllShards, CanAllSearch};
 ghost use Rattle.desk_pool.specs.Laps.{IsReturned};
 ghost use Rattle.desk_search.specs.Running.{IsTeamRun};
@@ -23,7 +23,8 @@ use desk_core::Book;
 use desk_data::{Batch, Instance, NoMem};
 use desk_folder::Gate;
 use desk_pool::{Worker, open_workers};
-use desk_view::{BoardTelling, MOST_SIGHTS, Posted, Telling, View};
+use desk_board::{BoardTelling, MOST_SIGHTS, Posted, Sight, Telling};
+use desk_view::View;
 use live_board::{Naming, Note, Opened, Viewer, watch};
 use std::alloc::Global;
 use std::marker::Brand;
@@ -81,8 +82,8 @@ fn watch_turn<J: Naming + Send + Sync, R: Threads + Wait + Sync, G: Gate>(
     batches: &[Batch],
     team: Team,
     telling: BoardTelling<J, &R>,
-    viewer: Viewer<View, Posted, J>,
-    notes: Vec<Note<View, J>>,
+    viewer: Viewer<Sight, Posted, J>,
+    notes: Vec<Note<Sight, J>>,
 ) -> Result<WatchedDay, NoMem>
     requires some { 0 < vec_len workers }
     requires size { vec_len workers ≡ team.workers }
@@ -116,7 +117,7 @@ fn watch_turn<J: Naming + Send + Sync, R: Threads + Wait + Sync, G: Gate>(
             ensures can { HasTold (first_book turn.entry.now) (seen result.0) (told_to result.2) }
             ensures run { IfOk result.1 (IsTeamRun (vec_len workers) team.moves team.live (day_of turn.entry.now) batches.entry.now (known result.0)) }
         { search_and_end(rt, alloc, workers, &turn, pass, gate, batches, team, telling, &ended) },
-        || -> (Viewer<View, Posted, J>, Vec<Note<View, J>>)
+        || -> (Viewer<Sight, Posted, J>, Vec<Note<Sight, J>>)
             requires { notes.items ≡ [] }
             ensures { All (λ n. IsPrefix (stands_for n) (seen_by result.0)) result.1.items }
         { watch(rt, viewer, notes, &ended) },
@@ -134,7 +135,7 @@ fn watch_turn<J: Naming + Send + Sync, R: Threads + Wait + Sync, G: Gate>(
 fn watch_book<J: Naming + Send + Sync, R: Threads + Wait + Sync, G: Gate>(
     rt: &R,
     alloc: Global,
-    opened: Opened<View>,
+    opened: Opened<Sight>,
     book: Book,
     batches: &[Batch],
     team: Team,

@@ -3,7 +3,6 @@ use Rattle.std.proofs.Common.{◌≡◌, ◌≢◌, ℕ, zero, suc, ◌+◌, ◌
 use Rattle.std.specs.Prelude.{Some, None, slice_get, slice_index_or}
 use Rattle.std.proofs.lemmas.List.{take_at, append-nil}
 use mathlib.Core.List.{IsPrefix}
-use Rattle.turn_book.proofs.Prefixes.{prefix_length}
 use Rattle.desk_model.specs.declared.answer.Entry.{Entry}
 use Rattle.desk_model.specs.States.{State}
 use Rattle.desk_model.specs.Histories.{state, changes}
@@ -21,7 +20,7 @@ pub sight : (S : State) (g h : List Entry) (v : View) → IsPrefix g h → v ≡
 sight S g h v p is =
     let count : v.entries ≡ length g = ap (λ (w : View). w.entries) is ∙ entries_of S g in
     record {
-      within = (let short = prefix_length g h p in omega (arith, count, short));
+      within = (let long : length g + length p.0 ≡ length h = sym (length-append g p.0) ∙ ap length p.1 in omega (arith, count, long));
       view = is ∙ ap (view_of S) (sym (ap (λ (n : ℕ). take n h) count ∙ take_prefix g h p));
     }
 

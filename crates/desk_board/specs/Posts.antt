@@ -6,8 +6,8 @@ use Rattle.desk_model.specs.States.{opening}
 use Rattle.desk_core.specs.Recorded.{Recorded}
 use Rattle.live_board.specs.declared.told.Told.{Told}
 use Rattle.live_board.specs.Histories.{history, origin}
-use Rattle.desk_view.specs.declared.posted.Posted.{Posted}
-use Rattle.desk_view.specs.declared.view.View.{View}
+use Rattle.desk_board.specs.declared.posted.Posted.{Posted}
+use Rattle.desk_board.specs.declared.sight.Sight.{Sight}
 use Rattle.desk_view.specs.Views.{view_of}
 
 -- what was told by the time that something was posted
@@ -18,6 +18,6 @@ posted p = p.0.seen.log
 abbrev pub HasTold : Recorded → List Entry → List (Told Recorded Entry) → Type 0
 HasTold B h log = (origin log ≡ Some B) × IsPrefix (history log) h
 
--- the view of a history of a board that was opened on a book
-abbrev pub views : Recorded → List Entry → View
-views B h = view_of (opening B.opening) h
+-- what is shown of a history of a board that was opened on a book
+abbrev pub sights : Recorded → List Entry → Sight
+sights B h = record { view = view_of (opening B.opening) h }

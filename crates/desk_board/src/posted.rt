@@ -1,38 +1,14 @@
 //! What viewers of the desk are shown, as a board publishes it.
 
-use crate::after::view_after;
-use crate::view::{View, view_of_book};
+use crate::sight::Sight;
 use desk_core::{Book, Entry};
 use left_right::Absorb;
-use live_board::{Boarded, Saw, Shown, Summary};
+use live_board::{Boarded, Saw, Shown};
 use std::alloc::AllocError;
-
-impl Summary for View {
-    type Origin = Book;
-
-    type Item = Entry;
-
-    ghost use Rattle.desk_model.specs.States.{opening};
-    ghost use Rattle.desk_view.specs.Views.{view_of, Follows};
-
-    ghost journal = { λ b. b.journal };
-
-    ghost of = { λ b h. view_of (opening b.opening) h };
-
-    ghost follows = { λ b h entry. Follows (opening b.opening) h entry };
-
-    fn first(book: &Book) -> View {
-        view_of_book(book)
-    }
-
-    fn after(&self, entry: &Entry) -> View {
-        view_after(*self, entry)
-    }
-}
 
 /// What is published.
 #[derive(Drop)]
-pub struct Posted(Shown<View>);
+pub struct Posted(Shown<Sight>);
 
 impl Absorb<Posted> for Posted {
     type State = Saw<Book, Entry>;
@@ -51,7 +27,7 @@ impl Absorb<Posted> for Posted {
     }
 }
 
-impl Boarded<View> for Posted {
+impl Boarded<Sight> for Posted {
     ghost use Rattle.std.proofs.Common.{refl};
     ghost use Rattle.live_board.specs.Saws.{same_saw};
 
@@ -59,7 +35,7 @@ impl Boarded<View> for Posted {
 
     ghost log = { λ p. p.0.seen.log };
 
-    fn new(shown: &Shown<View>) -> Posted {
+    fn new(shown: &Shown<Sight>) -> Posted {
         Posted(shown.again())
     }
 
@@ -67,7 +43,7 @@ impl Boarded<View> for Posted {
         Posted(self.0.again())
     }
 
-    fn shown(&self) -> &Shown<View> {
+    fn shown(&self) -> &Shown<Sight> {
         &self.0
     }
 

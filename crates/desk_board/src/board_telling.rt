@@ -8,16 +8,17 @@ ghost use Rattle.desk_model.specs.Histories.{IsLegal};
 ghost use Rattle.desk_core.specs.Recorded.{Recorded};
 ghost use Rattle.live_board.specs.Histories.{history};
 ghost use Rattle.live_board.specs.Words.{told_by, seen_by, stands_for, IsShown};
-ghost use Rattle.desk_view.specs.Posts.{posted, HasTold};
-ghost use Rattle.desk_view.specs.Told.{told_to};
+ghost use Rattle.desk_board.specs.Posts.{posted, HasTold};
+ghost use Rattle.desk_board.specs.Told.{told_to};
 ghost use Rattle.desk_view.specs.Views.{AreSeen};
 
 use crate::lines::seen_lines;
 use crate::posted::Posted;
+use crate::sight::Sight;
 use crate::telling::Telling;
-use crate::view::View;
 use desk_core::{Book, Entry};
 use desk_data::NoMem;
+use desk_view::View;
 use live_board::{Naming, Note, Teller, Viewer};
 use std::alloc::Global;
 use std::sync::Wait;
@@ -26,7 +27,7 @@ use turn_book::{Pass, Turn};
 /// Publishes on a board what the desk sees of the history.
 #[derive(Drop)]
 pub struct BoardTelling<J: Naming, R: Wait + Drop> {
-    teller: Teller<View, Posted, J, R>,
+    teller: Teller<Sight, Posted, J, R>,
     /// How many entries are published.
     told: u32,
     ghost counted: { told ≡ length (history (told_by teller)) },
@@ -35,7 +36,7 @@ pub struct BoardTelling<J: Naming, R: Wait + Drop> {
 
 impl<J: Naming, R: Wait + Drop> BoardTelling<J, R> {
     /// Of a board on a book whose journal is empty, and to which nothing was told.
-    pub fn new(teller: Teller<View, Posted, J, R>) -> BoardTelling<J, R>
+    pub fn new(teller: Teller<Sight, Posted, J, R>) -> BoardTelling<J, R>
         requires none { length (history (told_by teller)) ≡ 0 }
         requires shown { IsShown posted teller }
         ensures { told_to result ≡ told_by teller }
@@ -66,8 +67,8 @@ impl<J: Naming, R: Wait + Drop> BoardTelling<J, R> {
         self,
         alloc: Global,
         book: &Book,
-        viewer: Viewer<View, Posted, J>,
-        notes: &[Note<View, J>],
+        viewer: Viewer<Sight, Posted, J>,
+        notes: &[Note<Sight, J>],
     ) -> Result<Vec<View>, NoMem>
         requires told { (B : Recorded) × (B.opening ≡ book.now.opening) × HasTold B book.now.journal (told_to self) }
         requires behind { All (λ n. IsPrefix (stands_for n) (seen_by viewer)) notes.now }
@@ -91,8 +92,8 @@ impl<J: Naming, R: Wait + Drop> BoardTelling<J, R> {
 impl<J: Naming, R: Wait + Drop> Telling for BoardTelling<J, R> {
     ghost use Rattle.turn_book.proofs.Prefixes.{prefix_trans};
     ghost use Rattle.live_board.specs.Histories.{history};
-    ghost use Rattle.desk_view.specs.Posts.{HasTold};
-    ghost use Rattle.desk_view.specs.Told.{told_to};
+    ghost use Rattle.desk_board.specs.Posts.{HasTold};
+    ghost use Rattle.desk_board.specs.Told.{told_to};
 
     ghost can = { λ x B h. HasTold B h (told_to x) };
 

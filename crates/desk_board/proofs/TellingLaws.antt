@@ -15,7 +15,7 @@ use Rattle.live_board.specs.declared.told.Told.{Told}
 use Rattle.live_board.specs.Histories.{history, origin, tells, AreNext}
 use Rattle.live_board.proofs.Tellings.{history_grows, origin_same}
 use Rattle.desk_view.specs.Views.{Follows}
-use Rattle.desk_view.specs.Posts.{HasTold}
+use Rattle.desk_board.specs.Posts.{HasTold}
 
 get_right : (g rest : List Entry) (k : ℕ) (x : Entry) → slice_get rest k ≡ Some x → slice_get (g ++ rest) (length g + k) ≡ Some x
 get_right [] rest k x at = ap (slice_get rest) (let e : 0 + k ≡ k = omega arith in e) ∙ at

@@ -4,7 +4,7 @@ use Rattle.desk_model.specs.declared.answer.Entry.{Entry}
 use Rattle.desk_core.specs.Recorded.{Recorded}
 use Rattle.live_board.specs.declared.told.Told.{Told}
 use Rattle.live_board.specs.Words.{told_by}
-use Rattle.desk_view.specs.declared.board_telling.BoardTelling.{BoardTelling}
+use Rattle.desk_board.specs.declared.board_telling.BoardTelling.{BoardTelling}
 
 module _ {J R : Type 0} {j : _} where
   -- what it has told its board
