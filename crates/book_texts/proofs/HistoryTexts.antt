@@ -13,31 +13,32 @@ use Rattle.desk_runs.specs.Finishing.{IsEndOf, Completes}
 use Rattle.desk_runs.proofs.PutLaws.{all_done, ended_by}
 use Rattle.desk_runs.proofs.CompleteLaws.{completes-all, completes-short}
 use Rattle.near_moves.specs.declared.ended.SearchEnd.{SearchEnd}
-use Rattle.desk_tasks.specs.Play.{search_remarks, history_outcome, played_end, plan_status}
+use Rattle.desk_tasks.specs.Play.{watch_remarks, history_outcome, played_end, plan_status}
+use Rattle.desk_view.specs.declared.view.View.{View}
 use Rattle.desk_tasks.specs.Recover.{reported_alone}
 use Rattle.desk_tasks.proofs.FilesLaw.{history-files}
 
 -- what the book's history comes to, and what its report comes to alone
-abbrev pub outcome_of : Recorded → Option SearchEnd → Outcome
-outcome_of B search = history_outcome B.opening (search_remarks search) B.journal
+abbrev pub outcome_of : Recorded → Option SearchEnd → List View → Outcome
+outcome_of B search seen = history_outcome B.opening (watch_remarks B.opening search seen) B.journal
 
 abbrev pub alone : Recorded → Option SearchEnd → Outcome
-alone B search = reported_alone (outcome_of B search)
+alone B search = reported_alone (outcome_of B search [])
 
 alone_files : (B : Recorded) (search : Option SearchEnd) → files_of (alone B search).texts.files ≡ []
 unfolding reported_alone
 alone_files B search = refl
 
-status_is : (B : Recorded) (search : Option SearchEnd) → (outcome_of B search).status ≡ plan_status (state_of B).broken
+status_is : (B : Recorded) (search : Option SearchEnd) (seen : List View) → (outcome_of B search seen).status ≡ plan_status (state_of B).broken
 unfolding history_outcome
-status_is B search = refl
+status_is B search seen = refl
 
-alone_status : (B : Recorded) (search : Option SearchEnd) → (alone B search).status ≡ (outcome_of B search).status
+alone_status : (B : Recorded) (search : Option SearchEnd) → (alone B search).status ≡ (outcome_of B search []).status
 unfolding reported_alone
 alone_status B search = refl
 
-pub files-differ : (B : Recorded) (search : Option SearchEnd) (t : Texts) → t ≡ (outcome_of B search).texts → are_different (files_of t.files) ≡ true
-files-differ B search t is = ap (λ (t : Texts). are_different (files_of t.files)) is ∙ ap are_different (history-files B.opening (search_remarks search) B.journal)
+pub files-differ : (B : Recorded) (search : Option SearchEnd) (seen : List View) (t : Texts) → t ≡ (outcome_of B search seen).texts → are_different (files_of t.files) ≡ true
+files-differ B search seen t is = ap (λ (t : Texts). are_different (files_of t.files)) is ∙ ap are_different (history-files B.opening (watch_remarks B.opening search seen) B.journal)
 
 pub none-differ : (B : Recorded) (search : Option SearchEnd) (t : Texts) → t ≡ (alone B search).texts → are_different (files_of t.files) ≡ true
 none-differ B search t is = ap (λ (t : Texts). are_different (files_of t.files)) is ∙ ap are_different (alone_files B search)
@@ -46,18 +47,18 @@ end_is : (o : Outcome) (b : Option Broken) → o.status ≡ plan_status b → Is
 end_is o None e = e
 end_is o (Some item) e = e
 
-pub history-all : (before now : World) (B : Recorded) (search : Option SearchEnd) (t : Texts) (b : Option Broken) (ok : Unit {0}) → t ≡ (outcome_of B search).texts → b ≡ (state_of B).broken → PutsOutputs before now t (all_done ok) → Completes history_files before now (outcome_of B search) (played_end b)
-history-all before now B search t b ok is broken put =
-    completes-all history_files before now (outcome_of B search) t (played_end b) ok (history-files B.opening (search_remarks search) B.journal) is
-    (end_is (outcome_of B search) b (status_is B search ∙ ap plan_status (sym broken))) put
+pub history-all : (before now : World) (B : Recorded) (search : Option SearchEnd) (seen : List View) (t : Texts) (b : Option Broken) (ok : Unit {0}) → t ≡ (outcome_of B search seen).texts → b ≡ (state_of B).broken → PutsOutputs before now t (all_done ok) → Completes history_files before now (outcome_of B search seen) (played_end b)
+history-all before now B search seen t b ok is broken put =
+    completes-all history_files before now (outcome_of B search seen) t (played_end b) ok (history-files B.opening (watch_remarks B.opening search seen) B.journal) is
+    (end_is (outcome_of B search seen) b (status_is B search seen ∙ ap plan_status (sym broken))) put
 
-pub history-short : (before now : World) (B : Recorded) (search : Option SearchEnd) (t : Texts) (how : Ending) → t ≡ (outcome_of B search).texts → PutsOutputs before now t (ended_by how) → Completes history_files before now (outcome_of B search) how
-history-short before now B search t how is put = completes-short history_files before now (outcome_of B search) t how (history-files B.opening (search_remarks search) B.journal) is put
+pub history-short : (before now : World) (B : Recorded) (search : Option SearchEnd) (seen : List View) (t : Texts) (how : Ending) → t ≡ (outcome_of B search seen).texts → PutsOutputs before now t (ended_by how) → Completes history_files before now (outcome_of B search seen) how
+history-short before now B search seen t how is put = completes-short history_files before now (outcome_of B search seen) t how (history-files B.opening (watch_remarks B.opening search seen) B.journal) is put
 
 pub alone-all : (before now : World) (B : Recorded) (search : Option SearchEnd) (t : Texts) (b : Option Broken) (ok : Unit {0}) → t ≡ (alone B search).texts → b ≡ (state_of B).broken → PutsOutputs before now t (all_done ok) → Completes [] before now (alone B search) (played_end b)
 alone-all before now B search t b ok is broken put =
     completes-all [] before now (alone B search) t (played_end b) ok (alone_files B search) is
-    (end_is (alone B search) b (alone_status B search ∙ status_is B search ∙ ap plan_status (sym broken))) put
+    (end_is (alone B search) b (alone_status B search ∙ status_is B search [] ∙ ap plan_status (sym broken))) put
 
 pub alone-short : (before now : World) (B : Recorded) (search : Option SearchEnd) (t : Texts) (how : Ending) → t ≡ (alone B search).texts → PutsOutputs before now t (ended_by how) → Completes [] before now (alone B search) how
 alone-short before now B search t how is put = completes-short [] before now (alone B search) t how (alone_files B search) is put

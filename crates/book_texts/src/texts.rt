@@ -1,12 +1,15 @@
 //! The texts that a run writes.
 
-ghost use Rattle.std.specs.Prelude.{◌≡◌, ◌++◌, All, IfOk, OnOk, Option};
+ghost use Rattle.std.specs.Prelude.{◌≡◌, ◌++◌, [], All, IfOk, OnOk, Option};
 ghost use Rattle.desk_core.specs.Recorded.{state_of};
 ghost use Rattle.journal_text.specs.Lines.{journal_text};
 ghost use Rattle.journal_text.specs.Writable.{AnswerNames, CanBeWritten};
-ghost use Rattle.desk_tasks.specs.Play.{planned_rotations, planned_itineraries, batch_line, batch_lines, search_line, end_lines, search_remarks, report_text, history_outcome};
+ghost use Rattle.desk_tasks.specs.Play.{planned_rotations, planned_itineraries, batch_line, batch_lines, search_line, end_lines, seen_line, seen_lines, watch_remarks, report_text, history_outcome};
 ghost use Rattle.desk_tasks.specs.Recover.{reported_alone};
 ghost use Rattle.desk_runs.specs.Writing.{as_texts};
+ghost use Rattle.journal_text.specs.Writable.{Names};
+ghost use Rattle.desk_model.specs.States.{opening};
+ghost use Rattle.desk_view.specs.Views.{IsSightOf};
 
 use desk_core::Book;
 use desk_data::{Instance, NoMem};
@@ -14,6 +17,7 @@ use desk_folder::File;
 use desk_model::{Answer, Entry};
 use desk_runs::OutputTexts;
 use desk_tasks::SearchEnd;
+use desk_view::View;
 use journal_text::{journal_text, legal_entries_can_be_written, push_answer, push_broken};
 use sol_text::{itineraries_text, rotations_text};
 use std::alloc::Global;
@@ -106,8 +110,44 @@ fn push_search(text: &mut Vec<u8>, search: Option<SearchEnd>) -> Result<(), NoMe
     Ok(())
 }
 
-// What was answered to each batch, how the last search ended, how many changes there were, and the cost of
-// the plan or what is broken.
+// Adds the line of a view that was seen: its numbers of entries and of changes, and its cost or what is broken.
+fn push_seen(text: &mut Vec<u8>, inst: &Instance, view: &View) -> Result<(), NoMem>
+    requires { ForSome view.now.broken (Names inst.now) }
+    ensures { OnOk result (text.new.items ≡ text.old.items ++ seen_line inst.now view.now) }
+{
+    let alloc = *text.allocator();
+    let entries = view.entries;
+    let changes = view.changes;
+    match view.broken {
+        None => {
+            let cost = view.cost.0;
+            let line = format!(in alloc; "seen {entries} {changes} {cost}\n")?;
+            text.extend_from_slice(line.as_bytes())?;
+            Ok(())
+        }
+        Some(item) => {
+            let head = format!(in alloc; "seen {entries} {changes} no plan ")?;
+            text.extend_from_slice(head.as_bytes())?;
+            push_broken(text, inst, &item)?;
+            text.push(b'\n')?;
+            Ok(())
+        }
+    }
+}
+
+// Adds a line for each view that was seen.
+fn push_views(text: &mut Vec<u8>, inst: &Instance, seen: &[View]) -> Result<(), NoMem>
+    requires { All (λ v. ForSome v.broken (Names inst.now)) seen.now }
+    ensures { OnOk result (text.new.items ≡ text.old.items ++ seen_lines inst.now seen.now) }
+{
+    for view in seen {
+        push_seen(text, inst, view)?;
+    }
+    Ok(())
+}
+
+// What was answered to each batch, how the last search ended, what was seen meanwhile, how many changes there were, and the
+// cost of the plan or what is broken.
 #[tactic(auto, unfolding(desk_tasks::specs::Play::report_text))]
 fn report_text(alloc: Global, book: &Book, search: Option<SearchEnd>) -> Result<Vec<u8>, NoMem>
     ensures { IfOk result (λ text. text.items ≡ report_text book.now.opening (search_remarks search) book.now.journal) }
