@@ -56,7 +56,16 @@ def code_rows():
         for variant, file in files.items():
             for cause, sentence in tables[arms.get(variant, arms.get(""))].items():
                 rows[file, whole, cause] = sentence
+    found = consts()
+    rows["journal.csv", False, "Other"] = found["OTHER"]
+    rows["journal.csv", True, "Other"] = found["OTHER_WHOLE"]
     return rows
+
+
+def consts():
+    """The sentences of the code that stand in no table."""
+    text = (SOURCES / "explanation.rt").read_text(encoding="utf-8")
+    return dict(re.findall(r"const (\w+): &str =\s*" + STRING, text))
 
 
 def file_names():
@@ -149,13 +158,17 @@ def answer(case, rows, rules):
     status, report = case.split()[0], case.split(" > ", 1)[1].split(";")
     if status == "2":
         return usage()
+    if report[-1] == "refused journal.bin 0 Damaged":
+        return [consts()["DAMAGED"]]
     if status == "3":
         return refusal(report[-1], rows)
+    if status == "8":
+        return [consts()["DISK_FAULT"]]
     if status == "1":
         return broken("There is no plan: ", report[-1].removeprefix("no plan "), rules)
     if status == "7":
         return broken("The plan breaks a rule: ", report[0].removeprefix("broken "), rules)
-    return [] if status in ("0", "6", "8") else None
+    return [] if status in ("0", "6", "9") else None
 
 
 def run_faults(rows, rules):

@@ -24,12 +24,12 @@ import time
 from typing import NamedTuple
 
 import hostile_inputs
-from hostile_room import NOBODY, SAMPLE, TOP, WRITTEN, Room, files_of, left_in, printed, row_of, run
+from hostile_room import NOBODY, SAMPLE, TOP, WRITTEN, Room, disk_left, files_of, left_in, printed, row_of, run
 from judge import expected
 from judge.files import DAY_FILES
 
 PROGRAM = os.path.join(TOP, "crates", "desk", "out", "desk")
-REPLAY = ("replay", "in", "out")
+REPLAY, STORE = ("replay", "in", "out"), ("store", "in", "out")
 
 
 class Case(NamedTuple):
@@ -65,6 +65,7 @@ def try_case(program, asked):
             may_be_any = how.pop("any", False)
             given = run(program, asked.words, path, **how)
             left = "what the search found" if may_be_any else left_in(room, new)
+            left += disk_left(room) if asked.words[0] == "store" else ""
     good = given.status in asked.statuses and given.said.startswith(asked.said) and "OTHER" not in left
     return row_of(asked.title, asked.words, given, left), good
 
@@ -332,6 +333,93 @@ full_disk(40, 0, b"batch 0 ")
 def _(room):
     long_journal(room)
     return {"limits": [(resource.RLIMIT_FSIZE, 4096)], "new": room.new()}
+
+
+# The journal on a disk
+
+DISK = 8
+
+
+@case("journal", "journal.bin is not there", 0, b"opened 0\n", STORE)
+def _(_):
+    pass
+
+
+@case("journal", "journal.bin is a folder", DISK, b"disk fault\n", STORE)
+def _(room):
+    os.mkdir(room.of("out", "journal.bin"))
+
+
+@case("journal", "journal.bin leads to itself", DISK, b"disk fault\n", STORE)
+def _(room):
+    room.link("out", "journal.bin", "journal.bin")
+
+
+@case("journal", "OUT is a file", DISK, b"disk fault\n", ("store", "in", "in/config.csv"))
+def _(_):
+    pass
+
+
+@case("journal", "journal.bin is a pipe", DISK, b"disk fault\n", STORE)
+def _(room):
+    os.mkfifo(room.of("out", "journal.bin"))
+
+
+def no_disk(device):
+    @case("journal", "journal.bin leads to %s" % device, DISK, b"disk fault\n", STORE)
+    def _(room):
+        room.link("out", "journal.bin", device)
+
+
+for each in ("/dev/full", "/dev/null", "/dev/zero", "/dev/urandom"):
+    no_disk(each)
+
+
+@case("journal", "journal.bin may not be written", DISK, b"disk fault\n", STORE)
+def _(room):
+    room.put("out", "journal.bin", b"\0")
+    room.out_of_nobody()
+    return {"user": NOBODY}
+
+
+@case("journal", "OUT may not be written, and has no journal.bin", DISK, b"disk fault\n", STORE)
+def _(room):
+    for name in WRITTEN:
+        room.take("out", name)
+    return {"user": NOBODY}
+
+
+def bytes_on_disk(title, text, statuses, said):
+    @case("journal", "journal.bin has %s" % title, statuses, said, STORE)
+    def _(room):
+        room.put("out", "journal.bin", text)
+
+
+bytes_on_disk("a byte 0 and then noise", b"\0" + b"noise" * 10_000, 0, b"opened 0\n")
+bytes_on_disk("a byte 1 and then noise", b"\1" + b"noise" * 10_000, 3, b"refused journal.bin 0 Damaged\n")
+bytes_on_disk("a move that is another than the first", b"\1\0\0\0\x07\0\0\0\1\1\1\4\0", 3, b"refused journal.csv 1 Other\n")
+
+
+@case("journal", "journal.bin has 1,024 MB of nothing, and the run 256 MB of memory", 6, b"memory\n", STORE)
+def _(room):
+    with open(room.of("out", "journal.bin"), "wb") as file:
+        file.truncate(1 << 30)
+    return {"limits": [(resource.RLIMIT_AS, 256 << 20)]}
+
+
+def full_disk_of_store(pages, statuses, said):
+    @case("journal", "OUT is a disk of %d kB, and journal.bin has 24 and the texts 76" % (4 * pages), statuses, said, STORE)
+    def _(room):
+        long_journal(room)
+        new = room.new()
+        mounted(room, "%dk" % (4 * pages))
+        return {"new": new}
+
+
+full_disk_of_store(1, DISK, b"disk fault\n")
+full_disk_of_store(4, DISK, b"disk fault\n")
+full_disk_of_store(10, WRITE, b"write fault journal.csv\n")
+full_disk_of_store(40, 0, b"opened 0\n")
 
 
 # Standard output

@@ -12,6 +12,7 @@ from typing import NamedTuple
 
 from judge import expected
 from judge.files import DAY_FILES
+from stopped import payloads
 
 TOP = os.path.dirname(os.path.dirname(os.path.abspath(__file__)))
 SAMPLE = os.path.join(TOP, "examples", "disrupted")
@@ -139,6 +140,18 @@ def left_in(room, new):
     """What stands in the outputs, in their order; one word where they are alike."""
     states = [state_of(room.of("out", name), new[name]) for name in WRITTEN]
     return states[0] if len(set(states)) == 1 else ", ".join(states)
+
+
+def disk_left(room):
+    """What stands in journal.bin: no file, damaged, or how many entries it has."""
+    path = room.of("out", "journal.bin")
+    if not os.path.isfile(path):
+        return "; journal.bin: " + ("no file" if os.path.lexists(path) else "none")
+    if os.path.getsize(path) > 1 << 24:
+        return "; journal.bin: as it was"
+    with open(path, "rb") as file:
+        found = payloads(file.read())
+    return "; journal.bin: " + ("damaged" if found is None else "%d entries" % len(found))
 
 
 def printed(text):

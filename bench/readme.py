@@ -42,7 +42,7 @@ def shown_on(page):
 
 def is_answer(line):
     """Whether a line of the transcript is one that the desk prints or writes."""
-    return bool(line) and not line.startswith(("#", "$ ", "status ")) and not FILE.fullmatch(line)
+    return bool(line) and not line.startswith(("#", "$ ", "status ", "journal.bin:")) and not FILE.fullmatch(line)
 
 
 def reports_in(lines):

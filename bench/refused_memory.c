@@ -5,6 +5,8 @@
 #include <dlfcn.h>
 #include <stdio.h>
 #include <stdlib.h>
+#include <sys/syscall.h>
+#include <unistd.h>
 
 static void *(*next_malloc)(size_t);
 static void *(*next_realloc)(void *, size_t);
@@ -21,14 +23,26 @@ __attribute__((destructor)) static void end(void) {
         dprintf(2, "%lu\n", calls);
 }
 
+/* A program may end by this, and then nothing is called at its end. */
+__attribute__((noreturn)) void _exit(int status) {
+    end();
+    syscall(SYS_exit_group, status);
+    __builtin_unreachable();
+}
+
+/* Threads share the count. */
+static unsigned long next_call(void) {
+    return __atomic_add_fetch(&calls, 1, __ATOMIC_SEQ_CST);
+}
+
 void *malloc(size_t size) {
     if (next_malloc == NULL)
         next_malloc = (void *(*)(size_t))dlsym(RTLD_NEXT, "malloc");
-    return ++calls == refused ? NULL : next_malloc(size);
+    return next_call() == refused ? NULL : next_malloc(size);
 }
 
 void *realloc(void *old, size_t size) {
     if (next_realloc == NULL)
         next_realloc = (void *(*)(void *, size_t))dlsym(RTLD_NEXT, "realloc");
-    return ++calls == refused ? NULL : next_realloc(old, size);
+    return next_call() == refused ? NULL : next_realloc(old, size);
 }

@@ -7,7 +7,7 @@ With --second the cases are played by the package bench/judge.
 
 Prints each transcript as it comes, and ends with 1 where one is not as it stands in the case. A run
 whose calls are to fail, whose sink has little room, or in which somebody waits at the gate, can't be made so: it is left out, with
-its answer.
+its answer. So are all runs of a case that keeps a journal on a disk, whose bytes one run hands to the next.
 """
 import os
 import re
@@ -155,11 +155,12 @@ def play(case, folder, run):
     """The transcript of a case as it comes."""
     lines = read(os.path.join(case, "transcript")).decode().splitlines()
     text, before, changes = b"", {}, []
+    on_disk = any(line.startswith("$ ./desk store") for line in lines)
     for at, line in enumerate(lines):
         if not line or line.startswith(("#", "$ ")):
             text += line.encode() + b"\n"
         if line.startswith("$ ./desk"):
-            by_hand = not any(words.startswith(("fail ", "room ", "hold ")) for words in changes)
+            by_hand = not on_disk and not any(words.startswith(("fail ", "room ", "hold ")) for words in changes)
             if by_hand:
                 day = new_day(case, folder)
                 for words in changes:

@@ -1,5 +1,5 @@
 -- What came of a history is written, or reported alone.
-use Rattle.std.proofs.Common.{◌≡◌, true, List, [], refl, sym, ap, ◌∙◌}
+use Rattle.std.proofs.Common.{◌≡◌, ℕ, true, List, [], refl, sym, ap, ◌∙◌}
 use Rattle.std.specs.Prelude.{Option, Some, None}
 use Rattle.folder_io.specs.Outputs.{files_of, are_different}
 use Rattle.desk_data.specs.declared.broken.Broken.{Broken}
@@ -15,6 +15,7 @@ use Rattle.desk_runs.proofs.CompleteLaws.{completes-all, completes-short}
 use Rattle.near_moves.specs.declared.ended.SearchEnd.{SearchEnd}
 use Rattle.desk_tasks.specs.Play.{search_remarks, history_outcome, played_end, plan_status}
 use Rattle.desk_tasks.specs.Recover.{reported_alone}
+use Rattle.desk_tasks.specs.Keep.{opened_first}
 use Rattle.desk_tasks.proofs.FilesLaw.{history-files}
 
 -- what the book's history comes to, and what its report comes to alone
@@ -61,3 +62,27 @@ alone-all before now B search t b ok is broken put =
 
 pub alone-short : (before now : World) (B : Recorded) (search : Option SearchEnd) (t : Texts) (how : Ending) → t ≡ (alone B search).texts → PutsOutputs before now t (ended_by how) → Completes [] before now (alone B search) how
 alone-short before now B search t how is put = completes-short [] before now (alone B search) t how (alone_files B search) is put
+
+-- ---- with how many entries a disk held
+
+abbrev pub opened : Recorded → ℕ → Outcome
+opened B held = opened_first held (outcome_of B None)
+
+opened_files : (B : Recorded) (held : ℕ) → files_of (opened B held).texts.files ≡ history_files
+unfolding opened_first
+opened_files B held = history-files B.opening (search_remarks None) B.journal
+
+opened_status : (B : Recorded) (held : ℕ) → (opened B held).status ≡ plan_status (state_of B).broken
+unfolding opened_first
+opened_status B held = status_is B None
+
+pub opened-differ : (B : Recorded) (held : ℕ) (t : Texts) → t ≡ (opened B held).texts → are_different (files_of t.files) ≡ true
+opened-differ B held t is = ap (λ (t : Texts). are_different (files_of t.files)) is ∙ ap are_different (opened_files B held)
+
+pub opened-all : (before now : World) (B : Recorded) (held : ℕ) (t : Texts) (b : Option Broken) (ok : Unit {0}) → t ≡ (opened B held).texts → b ≡ (state_of B).broken → PutsOutputs before now t (all_done ok) → Completes history_files before now (opened B held) (played_end b)
+opened-all before now B held t b ok is broken put =
+    completes-all history_files before now (opened B held) t (played_end b) ok (opened_files B held) is
+    (end_is (opened B held) b (opened_status B held ∙ ap plan_status (sym broken))) put
+
+pub opened-short : (before now : World) (B : Recorded) (held : ℕ) (t : Texts) (how : Ending) → t ≡ (opened B held).texts → PutsOutputs before now t (ended_by how) → Completes history_files before now (opened B held) how
+opened-short before now B held t how is put = completes-short history_files before now (opened B held) t how (opened_files B held) is put

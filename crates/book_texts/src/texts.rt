@@ -1,11 +1,12 @@
 //! The texts that a run writes.
 
-ghost use Rattle.std.specs.Prelude.{◌≡◌, ◌++◌, All, IfOk, OnOk, Option};
+ghost use Rattle.std.specs.Prelude.{◌≡◌, ◌++◌, All, IfOk, OnOk, Option, None};
 ghost use Rattle.desk_core.specs.Recorded.{state_of};
 ghost use Rattle.journal_text.specs.Lines.{journal_text};
 ghost use Rattle.journal_text.specs.Writable.{AnswerNames, CanBeWritten};
 ghost use Rattle.desk_tasks.specs.Play.{planned_rotations, planned_itineraries, batch_line, batch_lines, search_line, end_lines, search_remarks, report_text, history_outcome};
 ghost use Rattle.desk_tasks.specs.Recover.{reported_alone};
+ghost use Rattle.desk_tasks.specs.Keep.{opened_line, opened_first};
 ghost use Rattle.desk_runs.specs.Writing.{as_texts};
 
 use desk_core::Book;
@@ -141,6 +142,27 @@ pub(crate) fn output_texts(
     files.push((File::SolItineraries, planned_itineraries(alloc, book)?))?;
     files.push((File::Journal, book_journal(alloc, book)?))?;
     let report = report_text(alloc, book, search)?;
+    Ok(OutputTexts { files, report })
+}
+
+// The line that says how many entries a disk held, and a report after it.
+fn opened_report(alloc: Global, held: u32, report: &[u8]) -> Result<Vec<u8>, NoMem>
+    ensures { IfOk result (λ text. text.items ≡ opened_line held ++ report.now) }
+{
+    let head = format!(in alloc; "opened {held}\n")?;
+    let mut text = Vec::from_slice(alloc, head.as_bytes())?;
+    text.extend_from_slice(report)?;
+    Ok(text)
+}
+
+/// The texts of a book's journal and state, the report with how many entries a disk held as its first line.
+#[tactic(auto, unfolding(desk_tasks::specs::Keep::opened_first))]
+pub(crate) fn opened_texts(alloc: Global, book: &Book, held: u32) -> Result<OutputTexts, NoMem>
+    ensures { IfOk result (λ t. as_texts t ≡ (opened_first held (history_outcome book.now.opening (search_remarks None) book.now.journal)).texts) }
+{
+    let texts = output_texts(alloc, book, None)?;
+    let OutputTexts { files, report } = texts;
+    let report = opened_report(alloc, held, report.as_slice())?;
     Ok(OutputTexts { files, report })
 }
 

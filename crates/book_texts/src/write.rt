@@ -1,13 +1,14 @@
 //! Writing what a history came to.
 
-ghost use Rattle.std.specs.Prelude.{◌≡◌, []};
+ghost use Rattle.std.specs.Prelude.{◌≡◌, [], None};
 ghost use Rattle.desk_runs.specs.Commands.{history_files};
 ghost use Rattle.desk_runs.specs.Runs.{Between};
 ghost use Rattle.desk_runs.specs.Finishing.{Completes};
 ghost use Rattle.desk_tasks.specs.Play.{search_remarks, history_outcome, played_end};
 ghost use Rattle.desk_tasks.specs.Recover.{reported_alone};
+ghost use Rattle.desk_tasks.specs.Keep.{opened_first};
 
-use crate::texts::{output_texts, report_alone};
+use crate::texts::{opened_texts, output_texts, report_alone};
 use desk_core::Book;
 use desk_data::Broken;
 use desk_folder::{Folder, Sink};
@@ -41,6 +42,28 @@ pub fn write_history<F: Folder, O: Sink>(
         Completes history_files before now (history_outcome book.now.opening (search_remarks search) book.now.journal) result) }
 {
     let texts = match output_texts(alloc, book, search) {
+        Ok(texts) => texts,
+        Err(_) => return Ending::Memory,
+    };
+    match put_outputs(alloc, folder, out, &texts) {
+        Ok(()) => end_with(book.broken()),
+        Err(end) => end,
+    }
+}
+
+/// Writes the same as `write_history` where no search is reported, with a line `opened N` first in the report: so many entries
+/// of the journal a disk held. It ends as that does.
+pub fn write_opened<F: Folder, O: Sink>(
+    alloc: Global,
+    book: &Book,
+    held: u32,
+    folder: &mut F,
+    out: &mut O,
+) -> Ending
+    ensures { Between F.outside O.report folder.old out.old folder.new out.new (λ before now.
+        Completes history_files before now (opened_first held (history_outcome book.now.opening (search_remarks None) book.now.journal)) result) }
+{
+    let texts = match opened_texts(alloc, book, held) {
         Ok(texts) => texts,
         Err(_) => return Ending::Memory,
     };

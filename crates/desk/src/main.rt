@@ -2,14 +2,15 @@
 //!
 //! `replay IN OUT` reads the day, its batches of orders and the journal of the directory IN, takes each
 //! recorded batch and answers each recorded move in order, and writes the journal with its answers and the
-//! two files of the last plan to OUT. `recover IN OUT` takes the batches of the day and searches for a
+//! two files of the last plan to OUT. `store IN OUT` does the same and keeps each answered event in OUT/journal.bin before it answers
+//! the next, so that a run that was stopped goes on. `recover IN OUT` takes the batches of the day and searches for a
 //! cheaper plan after each, until `--moves` moves are accepted, and writes the same files; with `--workers`
 //! so many threads search side by side, and with `--live` the batches but the first are taken while they do. `check IN OUT`
 //! judges the plan that two files of OUT give, under all the orders of the day in IN: the first rule that it
 //! breaks, and its cost. `gen OUT` makes up a day, by `--seed` and `--size`, and writes its files to OUT;
 //! `trial` makes up such a day in memory, recovers it and reports that alone.
 //!
-//! `main` gives `desk_main_heard` of desk_top the host's threads, the words, the host's folder and its standard output, ends with
+//! `main` gives `desk_main_heard` of desk_top the host's threads, the words, the host's folder, disk and standard output, ends with
 //! the status that it answers, and empties output files that an earlier run left. On standard error it explains an end that is not
 //! the wanted one, by `explain` of desk_help and a copy of the report, and says how far a recovery has come where the environment
 //! asks for that. All that is promised of a run is proved of `desk_main_heard`, as of `desk_main`; how `main` calls it is tested by
@@ -19,6 +20,7 @@
 mod headway;
 
 use desk_data::NoMem;
+use desk_disk::HostDisk;
 use desk_folder::{File, FreeGate, HostFolder, HostSink, Sink};
 use desk_help::{CopyingSink, explain, faulty_path};
 use desk_runs::files_written;
@@ -144,6 +146,7 @@ fn main(rt: HostRuntime) -> ExitCode {
     };
     let outputs = outputs_of(words.as_slice());
     let mut folder = HostFolder::new(rt, alloc).with_outputs(outputs);
+    let mut disk = HostDisk::new(rt, alloc);
     let status = desk_main_heard(
         &rt,
         alloc,
@@ -151,6 +154,7 @@ fn main(rt: HostRuntime) -> ExitCode {
         &mut folder,
         &mut out,
         &FreeGate,
+        &mut disk,
         &mut HeadwayLines::new(rt, lines_asked(&rt)),
     );
     // a run that was refused has read, and touches nothing

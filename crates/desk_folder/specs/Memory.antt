@@ -1,19 +1,20 @@
 -- What a folder in memory shows of itself.
-use Rattle.std.specs.Prelude.{◌≡◌, ℕ, ◌+◌, ◌-◌, ◌^◌, ◌==◌, min, Bool, List, [], Some, drop, slice_index}
+use Rattle.std.specs.Prelude.{◌≡◌, ℕ, ◌+◌, ◌-◌, ◌^◌, ◌==◌, min, Bool, List, [], Some, drop, length, slice_index}
 use Rattle.std.specs.List.{list_any}
 use Rattle.desk_folder.specs.Entries.{entry_of, text_at}
 use Rattle.desk_folder.specs.Files.{file_number}
 use Rattle.desk_folder.specs.Outside.{Directories, Outside}
 use Rattle.desk_folder.specs.declared.files.File.{File}
 
--- whether the next call of `place` fails, how many calls of `next` and `put` were made, and the numbers of those that
--- fail
+-- whether the next call of `place` fails, how many calls of `next` and `put` were made, the numbers of those that
+-- fail, and how many bytes one of them gives or takes at most
 pub record CallPlan : Type 0 where
   pub place_fails : Bool
   pub next_calls : ℕ
   pub put_calls : ℕ
   pub fail_next : List ℕ
   pub fail_put : List ℕ
+  pub most_bytes : ℕ
 
 -- a folder in memory: the directories last named, its input files, and of each file, by its number, how many bytes
 -- are taken, what is written, and how many reads and writes failed, and how many namings did
@@ -51,6 +52,10 @@ next_fails p = list_any (λ n. n == next_call p) p.fail_next
 
 abbrev pub put_fails : CallPlan → Bool
 put_fails p = list_any (λ n. n == put_call p) p.fail_put
+
+-- how many bytes the next call of `next` gives, if it does not fail, where so many fit: those that are left, up to the most
+abbrev pub bytes_given : MemoryFolder → File → ℕ → ℕ
+bytes_given m file room = min m.calls.most_bytes (min room (length (drop (slice_index m.taken (file_number file)) (entry_of file m.inputs))))
 
 -- nothing is read, nothing is written, no directory is named and no call has failed
 pub record IsNew (inputs : List (File × List ℕ)) (now : Outside) : Type 0 where

@@ -19,15 +19,18 @@ pub(crate) fn entry(entries: &[(File, Vec<u8>)], file: File) -> &[u8]
     &[]
 }
 
-/// Copies the bytes from `from` on into the front of a buffer, as many as fit, and answers how many.
-pub(crate) fn hand_out(bytes: &[u8], from: usize, into: &mut [u8]) -> usize
+/// Copies the bytes from `from` on into the front of a buffer, as many as fit, but no more than `most`, and answers how
+/// many.
+pub(crate) fn hand_out(bytes: &[u8], from: usize, most: usize, into: &mut [u8]) -> usize
+    requires { 0 < most }
+    ensures count { result ≡ min most (min (length into.new) (length (drop from bytes.now))) }
     ensures fits { result ≤ length into.new }
     ensures ends { from + result < 2 ^ 64 }
     ensures handed { drop from bytes.now ≡ take result into.new ++ drop (from + result) bytes.now }
     ensures end { result ≡ 0 → 0 < length into.new → drop from bytes.now ≡ [] }
 {
     let (_, rest) = bytes.split_at(from.min(bytes.len()));
-    let count = rest.len().min(into.len());
+    let count = most.min(into.len().min(rest.len()));
     let (front, _) = rest.split_at(count);
     let (room, _) = into.split_at_mut(count);
     room.copy_from_slice(front);

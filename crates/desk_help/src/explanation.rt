@@ -7,7 +7,7 @@ ghost use Rattle.desk_help.specs.Explained.{IsSilent};
 
 use crate::causes::{causes_of_lines, causes_of_the_whole, section_of, text_of};
 use crate::path::faulty_path;
-use crate::report::{Fault, Refused, fault_of, first_words, last_words, refusal_of};
+use crate::report::{Fault, Refused, fault_of, first_words, is_damaged, last_words, refusal_of};
 use crate::rules::{RULES, Rule, rule_of};
 use crate::shown::ShownText;
 use crate::usage::USAGE;
@@ -25,6 +25,16 @@ const WRITE_FAULT: &str =
 
 const REPORT_FAULT: &str =
     "The report can't be written: standard output is closed or has no room. What the command writes to files is written.";
+
+const DISK_FAULT: &str =
+    "journal.bin in OUT can't be read, written or brought to the disk. What it holds stays; once it can, run the same again.";
+
+const DAMAGED: &str = "journal.bin in OUT is damaged, or was written for another day.";
+
+const OTHER: &str =
+    "journal.bin in OUT holds another event than this record; take the journal that it was begun with, or another OUT.";
+
+const OTHER_WHOLE: &str = "journal.bin in OUT holds more events than this journal has.";
 
 // What stands before a line's number: comma files are counted in records.
 fn place_word(file: File) -> &'static str {
@@ -44,6 +54,18 @@ fn say_place(text: &mut ShownText, refused: &Refused<'_>, is_whole: bool) -> Res
     text.say(b": ")
 }
 
+// What is wrong with an event that the journal on the disk has otherwise; else the name of the cause.
+fn stored_text(cause: &[u8], is_whole: bool) -> &[u8] {
+    if cause != b"Other".as_slice() {
+        return cause;
+    }
+    if is_whole {
+        OTHER_WHOLE.as_bytes()
+    } else {
+        OTHER.as_bytes()
+    }
+}
+
 // Says why a line is refused, which columns it can be, what is allowed, and where that is written.
 fn say_refusal(text: &mut ShownText, refused: &Refused<'_>) -> Result<(), NoMem> {
     let is_whole = refused.line == b"0".as_slice();
@@ -55,7 +77,7 @@ fn say_refusal(text: &mut ShownText, refused: &Refused<'_>) -> Result<(), NoMem>
     say_place(text, refused, is_whole)?;
     match text_of(rows, refused.cause) {
         Some(sentence) => text.say_line(sentence.as_bytes())?,
-        None => text.say_line(refused.cause)?,
+        None => text.say_line(stored_text(refused.cause, is_whole))?,
     }
     text.say(b"See \"")?;
     text.say(section_of(refused.file).as_bytes())?;
@@ -132,10 +154,53 @@ fn after_no_plan(report: &[u8]) -> Option<Fields<'_>> {
     }
 }
 
+// The words of all commands.
+fn usage_text(alloc: Global) -> Result<ShownText, NoMem>
+    ensures { IfOk result (λ text. text ≡ flat_map (λ line. shown_line line.now) USAGE.now) }
+{
+    let mut text = ShownText::new(alloc);
+    text.say_lines(USAGE)?;
+    Ok(text)
+}
+
+// What the end of a run means whose words are a command.
+fn end_text(alloc: Global, words: &[String], status: u8, report: &[u8]) -> Result<ShownText, NoMem>
+    ensures { IsSilent status → IfOk result (λ text. text ≡ []) }
+{
+    let mut text = ShownText::new(alloc);
+    match status {
+        1 => {
+            if let Some(words) = after_no_plan(report) {
+                say_broken(&mut text, "There is no plan: ", words)?;
+            }
+        }
+        3 => {
+            if let Some(refused) = refusal_of(report) {
+                say_refusal(&mut text, &refused)?;
+            } else if is_damaged(report) {
+                text.say_line(DAMAGED.as_bytes())?;
+            }
+        }
+        4 | 5 => {
+            let path = faulty_path(alloc, words, report)?;
+            say_fault(&mut text, path.as_ref().map(|path| path.as_str()), report)?;
+        }
+        8 => text.say_line(DISK_FAULT.as_bytes())?,
+        7 => {
+            if let Some(words) = after_broken(report) {
+                say_broken(&mut text, "The plan breaks a rule: ", words)?;
+            }
+        }
+        _ => {}
+    }
+    Ok(text)
+}
+
 /// What the end of a run means, by the words after the program's name, its status and its report: text for standard
 /// error, which says the same as the report and more. Of status 2 the words of all commands; of 3 what is wrong with
 /// the line that is refused, which columns it can be and what they may have; of 4 and 5 which path could not be read or
-/// written; of 7 and 1 the rule that is broken first, in a sentence with its names. Of all other statuses nothing.
+/// written; of 8 that the disk failed; of 7 and 1 the rule that is broken first, in a sentence with its names. Of all other
+/// statuses nothing.
 ///
 /// What the words and the report have in them is shown as `ShownText` says. A report that this program does not write
 /// gets the parts of an explanation that it has, or none. The only error is out of memory.
@@ -148,29 +213,8 @@ pub fn explain(
     ensures silent { IsSilent status → IfOk result (λ text. text ≡ []) }
     ensures usage { status ≡ 2 → IfOk result (λ text. text ≡ flat_map (λ line. shown_line line.now) USAGE.now) }
 {
-    let mut text = ShownText::new(alloc);
-    match status {
-        1 => {
-            if let Some(words) = after_no_plan(report) {
-                say_broken(&mut text, "There is no plan: ", words)?;
-            }
-        }
-        2 => text.say_lines(USAGE)?,
-        3 => {
-            if let Some(refused) = refusal_of(report) {
-                say_refusal(&mut text, &refused)?;
-            }
-        }
-        4 | 5 => {
-            let path = faulty_path(alloc, words, report)?;
-            say_fault(&mut text, path.as_ref().map(|path| path.as_str()), report)?;
-        }
-        7 => {
-            if let Some(words) = after_broken(report) {
-                say_broken(&mut text, "The plan breaks a rule: ", words)?;
-            }
-        }
-        _ => {}
+    if status == 2 {
+        return usage_text(alloc);
     }
-    Ok(text)
+    end_text(alloc, words, status, report)
 }

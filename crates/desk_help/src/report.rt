@@ -96,6 +96,16 @@ pub fn refusal_of(report: &[u8]) -> Option<Refused<'_>> {
     Some(Refused { file, line, cause })
 }
 
+/// Whether the last line reports that the journal on the disk is damaged.
+pub fn is_damaged(report: &[u8]) -> bool {
+    let Some(mut words) = last_words(report) else {
+        return false;
+    };
+    let first = words.next();
+    let second = words.next();
+    first == Some(b"refused".as_slice()) && second == Some(b"journal.bin".as_slice())
+}
+
 /// The fault that the last line reports.
 pub fn fault_of(report: &[u8]) -> Option<Fault> {
     let mut words = last_words(report)?;

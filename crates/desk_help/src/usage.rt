@@ -6,6 +6,7 @@ pub const USAGE: &[&str] = &[
     "The words are no command. The commands are:",
     "",
     "  replay IN OUT                  answers the events of journal.csv",
+    "  store IN OUT                   does so, and keeps each in journal.bin, so that a stopped run goes on",
     "  recover IN OUT [OPTIONS]       searches for a cheaper plan after each batch",
     "    --moves N                    stops after N accepted moves since the last batch, 1 to 100000; 1000 if left out",
     "    --workers N                  searches with N threads, 0 to 64; 0, the desk alone, if left out",

@@ -26,16 +26,19 @@ recorded-opening B caller event =
       | inr full ↦ rw full refl
     ]
 
--- the journal and the entries of the events that are left are the run of all events
-pub record Continues (I : Situation) (B : Recorded) (left events : List (ℕ × Event)) : Type 0 where
+-- the journal and the entries of the events that are left are this history
+pub record Continues (I : Situation) (B : Recorded) (left : List (ℕ × Event)) (h : List Entry) : Type 0 where
   pub same : B.opening ≡ I
-  pub rest : B.journal ++ entries (length B.journal) (state (opening I) B.journal) left ≡ run (opening I) events
+  pub rest : B.journal ++ entries (length B.journal) (state (opening I) B.journal) left ≡ h
 
-pub continues-next : (I : Situation) (B C : Recorded) (e : ℕ × Event) (i : ℕ) (events : List (ℕ × Event)) → i < length events → e ≡ get_or events i e → C ≡ with_entry B e.0 e.1 → Continues I B (drop i events) events → Continues I C (drop (i + 1) events) events
-continues-next I B C e i events lt at is h =
+-- the journal of a book with one event more
+pub journal-next : (I : Situation) (B C : Recorded) (e : ℕ × Event) → C ≡ with_entry B e.0 e.1 → B.opening ≡ I → C.journal ≡ with_event (opening I) B.journal e
+journal-next I B C e is same = ap (λ (D : Recorded). D.journal) is ∙ recorded-with B e.0 e.1 ∙ ap (λ (J : Situation). with_event (opening J) B.journal e) same
+
+pub continues-next : (I : Situation) (B C : Recorded) (e : ℕ × Event) (i : ℕ) (events : List (ℕ × Event)) (h : List Entry) → i < length events → e ≡ get_or events i e → C ≡ with_entry B e.0 e.1 → Continues I B (drop i events) h → Continues I C (drop (i + 1) events) h
+continues-next I B C e i events g lt at is h =
     let left : drop i events ≡ e ∷ drop (i + 1) events = rw add-one (drop-cons events i e lt ∙ ap (λ (x : ℕ × Event). x ∷ drop (suc i) events) (sym at)) in
-    let journal : C.journal ≡ with_event (opening I) B.journal e =
-    ap (λ (D : Recorded). D.journal) is ∙ recorded-with B e.0 e.1 ∙ ap (λ (J : Situation). with_event (opening J) B.journal e) h.same in
+    let journal : C.journal ≡ with_event (opening I) B.journal e = journal-next I B C e is h.same in
     record {
       same = ap (λ (D : Recorded). D.opening) is ∙ recorded-opening B e.0 e.1 ∙ h.same;
       rest = rw journal
@@ -44,17 +47,17 @@ continues-next I B C e i events lt at is h =
           ∙ h.rest);
     }
 
--- where no event is left the journal is the run
-pub continues-end : (I : Situation) (B : Recorded) (i : ℕ) (events : List (ℕ × Event)) → length events ≤ i → Continues I B (drop i events) events → B ≡ record { opening = I; journal = run (opening I) events }
-continues-end I B i events le h =
+-- where no event is left the journal is that history
+pub continues-end : (I : Situation) (B : Recorded) (i : ℕ) (events : List (ℕ × Event)) (h : List Entry) → length events ≤ i → Continues I B (drop i events) h → B ≡ record { opening = I; journal = h }
+continues-end I B i events g le h =
     let left : drop i events ≡ [] = drop_of_length-le events le in
-    let journal : B.journal ≡ run (opening I) events =
+    let journal : B.journal ≡ g =
     sym (run-nil (opening I) B.journal)
     ∙ ap (λ (xs : List (ℕ × Event)). B.journal ++ entries (length B.journal) (state (opening I) B.journal) xs) (sym left)
     ∙ h.rest in
     let made = λ (J : Situation) (h : List Entry). let B : Recorded = record { opening = J; journal = h } in B in
     ap (λ (J : Situation). made J B.journal) h.same ∙ ap (made I) journal
 
-pub continues-start : (I : Situation) (B : Recorded) (events : List (ℕ × Event)) → B ≡ record { opening = I; journal = [] } → Continues I B (drop 0 events) events
+pub continues-start : (I : Situation) (B : Recorded) (events : List (ℕ × Event)) → B ≡ record { opening = I; journal = [] } → Continues I B (drop 0 events) (run (opening I) events)
 continues-start I B events is =
-    subst (λ (D : Recorded). Continues I D (drop 0 events) events) (sym is) (record { same = refl; rest = refl })
+    subst (λ (D : Recorded). Continues I D (drop 0 events) (run (opening I) events)) (sym is) (record { same = refl; rest = refl })

@@ -1,6 +1,7 @@
 //! Playing a story: its events are taken one after another, and what came of them is written.
 //!
-//! `play_events` opens the book of a day, has it answer each event, and writes what came of its history.
+//! `play_events` opens the book of a day, has it answer each event, and writes what came of its history. `run_events` gives
+//! the book alone, and `take_event` has a book answer one event more.
 //!
 //! Proved: what is written is what that day and these events come to, `played` of desk_tasks: the journal of
 //! their history and, where there is one, the rotations and itineraries of its last plan; or a beginning of
@@ -12,3 +13,4 @@ mod run;
 
 pub use desk_runs::Ending;
 pub use play::play_events;
+pub use run::{run_events, take_event};

@@ -11,8 +11,8 @@ use desk_data::{Instance, NoMem};
 use desk_model::Event;
 use std::alloc::Global;
 
-// Takes one event.
-fn take_event(alloc: Global, book: &mut Book, caller: u32, event: &Event) -> Result<(), NoMem>
+/// Takes one event, asked by this caller. The only error is out of memory.
+pub fn take_event(alloc: Global, book: &mut Book, caller: u32, event: &Event) -> Result<(), NoMem>
     requires { IsAskable book.old.opening event.now }
     ensures { OnOk result (book.new ≡ with_entry book.old caller event.now) }
 {
@@ -28,12 +28,8 @@ fn take_event(alloc: Global, book: &mut Book, caller: u32, event: &Event) -> Res
     }
 }
 
-/// The book of an instance after these events, each with its caller.
-pub(crate) fn run_events(
-    alloc: Global,
-    inst: Instance,
-    events: &[(u32, Event)],
-) -> Result<Book, NoMem>
+/// The book of an instance after these events, each with its caller. The only error is out of memory.
+pub fn run_events(alloc: Global, inst: Instance, events: &[(u32, Event)]) -> Result<Book, NoMem>
     requires fresh { inst ≡ fresh_day inst.parts }
     requires asked { AreAskable inst events.now }
     ensures { IfOk result (λ book. book ≡ record { opening = inst; journal = run (opening inst) events.now }) }

@@ -26,6 +26,11 @@ pub(crate) enum Command<'a> {
     Take(File),
     /// `fail place`: the naming of the directories fails
     FailPlace,
+    /// `fail disk NUMBER BYTES`: the call of the disk of this number fails, counted from 1, and so many bytes of what it was to
+    /// write stand
+    FailDisk(u64, usize),
+    /// `disk TEXT`: the file on the disk has these bytes, written as those of `text`
+    Disk(&'a str),
     /// `fail CALL NUMBER`: the call of this number fails, counted from 1
     Fail(Call, u64),
     /// `room NUMBER`: the sink takes so many bytes, and then fails
@@ -86,8 +91,13 @@ fn fail_of(words: &str) -> Option<Command<'_>> {
     if words == "place" {
         return Some(Command::FailPlace);
     }
-    let (name, number) = cut_word(words);
-    Some(Command::Fail(call_of(name)?, number.parse().ok()?))
+    let (name, rest) = cut_word(words);
+    let (number, bytes) = cut_word(rest);
+    let number = number.parse().ok()?;
+    if name == "disk" {
+        return Some(Command::FailDisk(number, bytes.parse().ok()?));
+    }
+    Some(Command::Fail(call_of(name)?, number))
 }
 
 fn hold_of(words: &str) -> Option<Command<'_>> {
@@ -108,6 +118,7 @@ fn command_of(words: &str) -> Option<Command<'_>> {
     match verb {
         "./desk" => Some(Command::Desk(rest)),
         "text" => text_of(rest),
+        "disk" => Some(Command::Disk(rest)),
         "rows" => rows_of(rest),
         "take" => Some(Command::Take(file_of(rest)?)),
         "fail" => fail_of(rest),

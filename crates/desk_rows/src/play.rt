@@ -4,6 +4,7 @@ use crate::gate::{Entrance, HoldingGate};
 use crate::lines::{Call, Command, Line, line_of, unescaped};
 use crate::sink::ReportSink;
 use crate::texts::{Texts, add_all, push_rows, text_of, written_texts};
+use desk_disk::MemDisk;
 use desk_folder::{ALL_FILES, File, MemFolder};
 use desk_top::desk_main;
 use std::alloc::{AllocError, Global};
@@ -17,6 +18,8 @@ struct Faults {
     put: Vec<u64>,
     report: Vec<u64>,
     room: usize,
+    disk: Vec<u64>,
+    torn: usize,
 }
 
 // Dropped in one call, so that a function that owns one proves it once, and not part by part.
@@ -28,19 +31,32 @@ impl Drop for Faults {
             put: _,
             report: _,
             room: _,
+            disk: _,
+            torn: _,
         } = self;
     }
 }
 
 impl Faults {
-    // A folder with these texts, and an empty sink, whose calls fail so.
-    fn outside(self, alloc: Global, inputs: Texts) -> (MemFolder, ReportSink) {
+    ghost use Rattle.desk_disk.specs.FileStates.{HasNothingPending};
+
+    // A folder with these texts, an empty sink, and a disk whose file has these bytes, whose calls fail so. Nothing is pending on it.
+    fn outside(
+        self,
+        alloc: Global,
+        inputs: Texts,
+        bytes: Vec<u8>,
+    ) -> (MemFolder, ReportSink, MemDisk)
+        ensures { HasNothingPending result.2.side.file }
+    {
         let Faults {
             place,
             next,
             put,
             report,
             room,
+            disk,
+            torn,
         } = self;
         let mut folder = MemFolder::new(inputs, next, put);
         if place {
@@ -53,7 +69,9 @@ impl Faults {
             calls: 0,
             faults: 0,
         };
-        (folder, sink)
+        let mut disk = MemDisk::new(bytes, disk);
+        disk.tear(torn);
+        (folder, sink, disk)
     }
 }
 
@@ -64,6 +82,8 @@ fn no_faults(alloc: Global) -> Faults {
         put: Vec::new(alloc),
         report: Vec::new(alloc),
         room: usize::MAX,
+        disk: Vec::new(alloc),
+        torn: 0,
     }
 }
 
@@ -81,6 +101,8 @@ struct Player {
     sizes: bool,
     /// what the run before wrote
     written: Texts,
+    /// the bytes of the file on the disk, which each run goes on with
+    stored: Vec<u8>,
     runs: u64,
     played: Vec<u8>,
 }
@@ -96,6 +118,7 @@ impl Drop for Player {
             holds: _,
             sizes: _,
             written: _,
+            stored: _,
             runs: _,
             played: _,
         } = self;
@@ -117,6 +140,7 @@ pub(crate) fn play<R: Threads + Wait + Sync>(
         holds: Vec::new(alloc),
         sizes: false,
         written: Vec::new(alloc),
+        stored: Vec::new(alloc),
         runs: 0,
         played: Vec::new(alloc),
     };
@@ -127,6 +151,16 @@ pub(crate) fn play<R: Threads + Wait + Sync>(
         player.push("nothing was run\n")?;
     }
     Ok(player.end())
+}
+
+// A hexadecimal digit.
+fn digit(number: u8) -> u8 {
+    let number = number.min(15);
+    if number < 10 {
+        b'0' + number
+    } else {
+        b'a' + (number - 10)
+    }
 }
 
 // The words of a run; `''` is one of no bytes.
@@ -150,6 +184,7 @@ impl Player {
             holds: _,
             sizes: _,
             written: _,
+            stored: _,
             runs: _,
             played,
         } = self;
@@ -212,6 +247,15 @@ impl Player {
                 self.faults.place = true;
                 Ok(())
             }
+            Command::FailDisk(number, torn) => {
+                self.faults.disk.push(number)?;
+                self.faults.torn = torn;
+                Ok(())
+            }
+            Command::Disk(text) => {
+                self.stored = unescaped(self.alloc, text)?;
+                Ok(())
+            }
             Command::Fail(call, number) => self.fail(call, number),
             Command::Room(room) => {
                 self.faults.room = room as usize;
@@ -262,7 +306,8 @@ impl Player {
         let mut inputs = std::mem::replace(&mut self.changed, Vec::new(alloc));
         add_all(&mut inputs, self.day.as_slice())?;
         let faults = std::mem::replace(&mut self.faults, no_faults(alloc));
-        let (mut folder, mut sink) = faults.outside(alloc, inputs);
+        let stored = std::mem::replace(&mut self.stored, Vec::new(alloc));
+        let (mut folder, mut sink, mut disk) = faults.outside(alloc, inputs, stored);
         let holds = std::mem::replace(&mut self.holds, Vec::new(alloc));
         let gate = HoldingGate::new(holds.as_slice());
         let status = desk_main(
@@ -272,12 +317,14 @@ impl Player {
             &mut folder,
             &mut sink,
             &gate,
+            &mut disk,
         );
         if !gate.all_came() {
             self.push("not all came to the gate\n")?;
         }
         self.runs = self.runs.saturating_add(1);
-        self.tell(status, sink.bytes.as_slice(), &folder)
+        self.tell(status, sink.bytes.as_slice(), &folder)?;
+        self.keep_disk(disk.bytes())
     }
 
     // Adds what a run gave, and keeps what it wrote.
@@ -293,6 +340,22 @@ impl Player {
         }
         self.sizes = false;
         self.written = written_texts(self.alloc, folder, &ALL_FILES)?;
+        Ok(())
+    }
+
+    // Adds the bytes of the file on the disk in hexadecimal, where it has any, and keeps them.
+    fn keep_disk(&mut self, bytes: &[u8]) -> Result<(), AllocError> {
+        if bytes.is_empty() {
+            return Ok(());
+        }
+        self.push("journal.bin:")?;
+        for byte in bytes {
+            self.played.push(b' ')?;
+            self.played.push(digit(*byte / 16))?;
+            self.played.push(digit(*byte % 16))?;
+        }
+        self.push("\n")?;
+        self.stored = Vec::from_slice(self.alloc, bytes)?;
         Ok(())
     }
 

@@ -10,6 +10,7 @@ use Rattle.folder_io.specs.Outputs.{is_among}
 use Rattle.desk_runs.specs.declared.refusal.Refusal.{Refusal}
 use Rattle.desk_runs.specs.declared.ending.Ending.{Ending}
 use Rattle.desk_runs.specs.declared.ending.Ending.TheVariants as ending
+use Rattle.desk_runs.specs.declared.ending.DiskEnd.TheVariants as disk_end
 use Rattle.desk_runs.specs.Commands.{Ask, files_read, files_written, reads, writes}
 use Rattle.desk_runs.specs.Inputs.{Inputs, Tells}
 use Rattle.desk_runs.specs.Reading.{StandsFirst}
@@ -38,6 +39,9 @@ usage_by (ending.ReadFault f) e = absurd (omega arith)
 usage_by (ending.WriteFault f) e = absurd (omega arith)
 usage_by ending.ReportFault e = absurd (omega arith)
 usage_by ending.Memory e = absurd (omega arith)
+usage_by (ending.OnDisk disk_end.Fault) e = absurd (omega arith)
+usage_by (ending.OnDisk disk_end.Damaged) e = absurd (omega arith)
+usage_by (ending.OnDisk (disk_end.Other at)) e = absurd (omega arith)
 
 -- ---- usage
 
@@ -83,6 +87,7 @@ refused_by M a before now sink x (ending.ReadFault f) answer e tells run line = 
 refused_by M a before now sink x (ending.WriteFault f) answer e tells run line = absurd (omega arith)
 refused_by M a before now sink x ending.ReportFault answer e tells run line = absurd (omega arith)
 refused_by M a before now sink x ending.Memory answer e tells run line = absurd (omega arith)
+refused_by M a before now sink x (ending.OnDisk end) answer e tells run line = absurd run.cause
 
 pub refused-of : {Rows Task : Type 0} (M : Meaning Rows Task) (a : Ask) (before now : World) (code : ℕ) → Runs M (Some a) before now code → (x : Inputs) → Tells (files_read a.command) before.folder x → code ≡ 3 → IsRefused M a.command before now x
 refused-of M a before now code run x tells is =
@@ -105,6 +110,7 @@ cause_after inputs outputs before now sink ending.BrokenRule kept h = tt
 cause_after inputs outputs before now sink ending.Usage kept h = tt
 cause_after inputs outputs before now sink (ending.Refused r) kept h = tt
 cause_after inputs outputs before now sink ending.Memory kept h = tt
+cause_after inputs outputs before now sink (ending.OnDisk end) kept h = h
 
 -- a run that ended so had a cause
 pub caused-by : {Rows Task : Type 0} (M : Meaning Rows Task) (ask : Option Ask) (before mid : World) (how : Ending) → EndsBy M ask before mid how → HasCause (reads ask) (writes ask) before mid how
@@ -154,6 +160,7 @@ faultless_by M a before now sink x (ending.ReadFault f) code e tells run cause n
 faultless_by M a before now sink x (ending.WriteFault f) code e tells run cause none = absurd (none.put f cause.0 cause.1)
 faultless_by M a before now sink x ending.ReportFault code e tells run cause none = absurd (none.sink cause)
 faultless_by M a before now sink x ending.Memory code e tells run cause none = memory_answers M (M.task a.command x) code e
+faultless_by M a before now sink x (ending.OnDisk end) code e tells run cause none = absurd cause
 
 pub complete-of : {Rows Task : Type 0} (M : Meaning Rows Task) (a : Ask) (before now : World) (code : ℕ) → Runs M (Some a) before now code → (x : Inputs) → Tells (files_read a.command) before.folder x → IsFaultless (Some a) before now → Answers M a.command x code
 complete-of M a before now code run x tells none =
@@ -187,6 +194,7 @@ readable_by M a before now sink x r (ending.ReadFault f) code e tells run cause 
 readable_by M a before now sink x r (ending.WriteFault f) code e tells run cause none err = let does = run.does x tells in absurd (ok_or_refused M (M.task a.command x) does.0 r does.1 err)
 readable_by M a before now sink x r ending.ReportFault code e tells run cause none err = let does = run.does x tells in absurd (ok_or_refused M (M.task a.command x) does.0 r does.1 err)
 readable_by M a before now sink x r ending.Memory code e tells run cause none err = inr e
+readable_by M a before now sink x r (ending.OnDisk end) code e tells run cause none err = absurd cause
 
 pub refused-from : {Rows Task : Type 0} (M : Meaning Rows Task) (a : Ask) (before now : World) (code : ℕ) → Runs M (Some a) before now code → (x : Inputs) → Tells (files_read a.command) before.folder x → IsReadable M a.command before now x → (r : Refusal) → M.task a.command x ≡ Err r → IsUnlessMemory code 3
 refused-from M a before now code run x tells none r err =

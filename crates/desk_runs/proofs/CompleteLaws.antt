@@ -21,6 +21,7 @@ leaves_all before now o (ending.ReadFault f) e h = absurd e
 leaves_all before now o (ending.WriteFault f) e h = absurd e
 leaves_all before now o ending.ReportFault e h = absurd e
 leaves_all before now o ending.Memory e h = absurd e
+leaves_all before now o (ending.OnDisk end) e h = absurd e
 
 no_cause : (files : List File) (before now : World) (o : Outcome) (how : Ending) → IsEndOf o how → HasCause [] files before now how
 no_cause files before now o ending.Done e = tt
@@ -33,6 +34,7 @@ no_cause files before now o (ending.ReadFault f) e = absurd e
 no_cause files before now o (ending.WriteFault f) e = absurd e
 no_cause files before now o ending.ReportFault e = absurd e
 no_cause files before now o ending.Memory e = tt
+no_cause files before now o (ending.OnDisk end) e = absurd e
 
 leaves_short : (before now : World) (o : Outcome) (how : Ending) → StandsBy before now o.texts (ended_by how) → Leaves before now o how
 leaves_short before now o (ending.WriteFault f) h = h
@@ -45,6 +47,7 @@ leaves_short before now o ending.Usage h = absurd h
 leaves_short before now o (ending.Refused r) h = absurd h
 leaves_short before now o ending.PlaceFault h = absurd h
 leaves_short before now o (ending.ReadFault f) h = absurd h
+leaves_short before now o (ending.OnDisk end) h = absurd h
 
 -- all texts were put
 pub completes-all : (files : List File) (before now : World) (o : Outcome) (t : Texts) (how : Ending) (ok : Unit {0}) → files_of o.texts.files ≡ files → t ≡ o.texts → IsEndOf o how → PutsOutputs before now t (all_done ok) → Completes files before now o how

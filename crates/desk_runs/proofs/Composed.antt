@@ -79,6 +79,7 @@ does_from M c before mid now sink sink' t ending.Usage x p h tells = absurd h
 does_from M c before mid now sink sink' t (ending.Refused r) x p h tells = absurd h
 does_from M c before mid now sink sink' t ending.PlaceFault x p h tells = absurd h
 does_from M c before mid now sink sink' t (ending.ReadFault f) x p h tells = absurd h
+does_from M c before mid now sink sink' t (ending.OnDisk end) x p h tells = absurd h
 
 cause_from : (inputs outputs : List File) (before mid now : Outside) (sink sink' : SinkSide) (o : Outcome) (how : Ending) → ((f : File) → mid.put_faults f ≡ before.put_faults f) → Leaves (world mid sink) (world now sink') o how → HasCause [] outputs (world mid sink) (world now sink') how → HasCause inputs outputs (world before sink) (world now sink') how
 cause_from inputs outputs before mid now sink sink' o (ending.WriteFault f) same leaves h = (h.0, subst (λ (n : ℕ). Rose n (now.put_faults f)) (same f) h.1)
@@ -91,6 +92,7 @@ cause_from inputs outputs before mid now sink sink' o ending.BrokenRule same lea
 cause_from inputs outputs before mid now sink sink' o ending.Usage same leaves h = tt
 cause_from inputs outputs before mid now sink sink' o (ending.Refused r) same leaves h = tt
 cause_from inputs outputs before mid now sink sink' o ending.Memory same leaves h = tt
+cause_from inputs outputs before mid now sink sink' o (ending.OnDisk end) same leaves h = absurd leaves
 
 no_place_fault : (before now : World) (o : Outcome) (how : Ending) → Leaves before now o how → how ≢ ending.PlaceFault
 no_place_fault before now o how h e = subst (λ (e : Ending). Leaves before now o e) e h
@@ -116,6 +118,7 @@ read_whole_from files before now sink sink' (ending.ReadFault f) h = tt
 read_whole_from files before now sink sink' (ending.WriteFault f) h = tt
 read_whole_from files before now sink sink' ending.ReportFault h = tt
 read_whole_from files before now sink sink' ending.Memory h = tt
+read_whole_from files before now sink sink' (ending.OnDisk end) h = tt
 
 silent_by : (before mid now : World) (o : Outcome) (how : Ending) → Leaves mid now o how → IsSilent before now how
 silent_by before mid now o (ending.Refused r) leaves = absurd leaves
@@ -128,6 +131,7 @@ silent_by before mid now o ending.Usage leaves = tt
 silent_by before mid now o (ending.WriteFault f) leaves = tt
 silent_by before mid now o ending.ReportFault leaves = tt
 silent_by before mid now o ending.Memory leaves = tt
+silent_by before mid now o (ending.OnDisk end) leaves = absurd leaves
 
 unread_on : (files : List File) (before mid now : Outside) (f : File) → WritesAmong files mid now → IsUnread before mid f → IsUnread before now f
 unread_on files before mid now f only h = record { left = only.left f ∙ h.left; faults = only.next_faults f ∙ h.faults }
@@ -232,6 +236,7 @@ named_from dirs before now sink sink' (ending.Refused r) h = h
 named_from dirs before now sink sink' (ending.ReadFault f) h = h
 named_from dirs before now sink sink' (ending.WriteFault f) h = h
 named_from dirs before now sink sink' ending.ReportFault h = h
+named_from dirs before now sink sink' (ending.OnDisk end) h = h
 
 cause_placed : (inputs outputs : List File) (before placed now : Outside) (sink sink' : SinkSide) (how : Ending) → PlacesOnly before placed → how ≢ ending.PlaceFault → HasCause inputs outputs (world placed sink) (world now sink') how → HasCause inputs outputs (world before sink) (world now sink') how
 cause_placed inputs outputs before placed now sink sink' (ending.ReadFault f) only other h = (h.0, subst (λ (n : ℕ). Rose n (now.next_faults f)) (only.next_faults f) h.1)
@@ -244,6 +249,7 @@ cause_placed inputs outputs before placed now sink sink' ending.BrokenRule only 
 cause_placed inputs outputs before placed now sink sink' ending.Usage only other h = tt
 cause_placed inputs outputs before placed now sink sink' (ending.Refused r) only other h = tt
 cause_placed inputs outputs before placed now sink sink' ending.Memory only other h = tt
+cause_placed inputs outputs before placed now sink sink' (ending.OnDisk end) only other h = h
 
 finishes_placed : {Rows Task : Type 0} (M : Meaning Rows Task) (before placed now : Outside) (sink sink' : SinkSide) (t : Task) (status : ℕ) → SameWritten before placed → Finishes M (world placed sink) (world now sink') t status → Finishes M (world before sink) (world now sink') t status
 finishes_placed M before placed now sink sink' t status same h = finishes_from M before placed now sink sink' t status same h.sound h.status_is h.written
@@ -256,6 +262,7 @@ does_placed M c before placed now sink sink' x ending.Usage same h = h
 does_placed M c before placed now sink sink' x (ending.Refused r) same h = h
 does_placed M c before placed now sink sink' x ending.PlaceFault same h = h
 does_placed M c before placed now sink sink' x (ending.ReadFault f) same h = h
+does_placed M c before placed now sink sink' x (ending.OnDisk end) same h = h
 does_placed M c before placed now sink sink' x (ending.WriteFault f) same h = (h.0, h.1, put_from (λ g. (g ≡ f) × Keeps sink.written sink'.written) ⊥ (M.outcome h.0).texts before placed now same h.2)
 does_placed M c before placed now sink sink' x ending.ReportFault same h = (h.0, h.1, put_from (λ f. ⊥) (AppendsPrefix sink.written sink'.written (M.outcome h.0).texts.report) (M.outcome h.0).texts before placed now same h.2)
 does_placed M c before placed now sink sink' x ending.Memory same (inl h) = inl (unreported_from before placed now sink sink' same h)
@@ -278,6 +285,7 @@ read_whole_placed files before placed now sink sink' (ending.ReadFault f) only h
 read_whole_placed files before placed now sink sink' (ending.WriteFault f) only h = tt
 read_whole_placed files before placed now sink sink' ending.ReportFault only h = tt
 read_whole_placed files before placed now sink sink' ending.Memory only h = tt
+read_whole_placed files before placed now sink sink' (ending.OnDisk end) only h = tt
 
 silent_placed : (before placed now : Outside) (sink sink' : SinkSide) (how : Ending) → PlacesOnly before placed → IsSilent (world placed sink) (world now sink') how → IsSilent (world before sink) (world now sink') how
 silent_placed before placed now sink sink' (ending.Refused r) only h = unreported_from before placed now sink sink' only.written h
@@ -290,6 +298,7 @@ silent_placed before placed now sink sink' ending.Usage only h = tt
 silent_placed before placed now sink sink' (ending.WriteFault f) only h = tt
 silent_placed before placed now sink sink' ending.ReportFault only h = tt
 silent_placed before placed now sink sink' ending.Memory only h = tt
+silent_placed before placed now sink sink' (ending.OnDisk end) only h = tt
 
 pub obeys-placed : {Rows Task : Type 0} (M : Meaning Rows Task) (c : Command) (dirs : Directories) (before placed now : Outside) (sink sink' : SinkSide) (how : Ending) (ok : Unit {0}) → Names before.directories placed.directories dirs (let r : Result (Unit {0}) FolderFault = Ok ok in r) → PlacesOnly before placed
     → Obeys M (here c) (world placed sink) (world now sink') how → Obeys M (at c dirs) (world before sink) (world now sink') how

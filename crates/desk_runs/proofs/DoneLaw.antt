@@ -73,6 +73,7 @@ done_by M c before now sink x (ending.ReadFault f) answer code e done does line 
 done_by M c before now sink x (ending.WriteFault f) answer code e done does line = absurd (not_done code 5 e (omega arith) (omega arith) done)
 done_by M c before now sink x ending.ReportFault answer code e done does line = absurd (not_done code 5 e (omega arith) (omega arith) done)
 done_by M c before now sink x ending.Memory answer code e done does line = absurd (not_done code 6 e (omega arith) (omega arith) done)
+done_by M c before now sink x (ending.OnDisk end) answer code e done does line = absurd does
 
 -- where the folder shows its input, at 0, 1 and 7 all texts of the task are written
 pub done-of : {Rows Task : Type 0} (M : Meaning Rows Task) (a : Ask) (before now : World) (code : ℕ) → Runs M (Some a) before now code → (x : Inputs) → Tells (files_read a.command) before.folder x → IsDoneAt code → IsDone M a.command before now x code

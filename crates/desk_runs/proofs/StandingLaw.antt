@@ -65,6 +65,7 @@ stops_does M a before mid x (ending.WriteFault f) run does = stops_reported M a 
 stops_does M a before mid x ending.ReportFault run does = stops_reported M a before mid x does.0 does.1 (stops_in_report before mid (M.outcome does.0).texts does.2)
 stops_does M a before mid x ending.Memory run (inl h) = stops_unreported before mid (finished_texts M (Some a) x) h
 stops_does M a before mid x ending.Memory run (inr does) = stops_reported M a before mid x does.0 does.1 does.2
+stops_does M a before mid x (ending.OnDisk end) run does = absurd does
 
 untouched : (before mid : World) → IsUntouched before mid → IsUnreported before mid
 untouched before mid h = record { written = λ f. ap (λ (o : Outside). o.written f) h.folder; sink = h.sink }
@@ -102,6 +103,7 @@ silent_by M a before mid ending.BrokenRule low high run = absurd (omega arith)
 silent_by M a before mid (ending.WriteFault f) low high run = absurd (omega arith)
 silent_by M a before mid ending.ReportFault low high run = absurd (omega arith)
 silent_by M a before mid ending.Memory low high run = absurd (omega arith)
+silent_by M a before mid (ending.OnDisk end) low high run = absurd run.cause
 
 silent_ask : {Rows Task : Type 0} (M : Meaning Rows Task) (ask : Option Ask) (before mid : World) (how : Ending) → 2 ≤ status_of how → status_of how ≤ 4 → EndsBy M ask before mid how → IsUnreported before mid
 silent_ask M None before mid how low high ends = untouched before mid ends.1
@@ -152,6 +154,7 @@ read_by M a before mid ending.ReportFault code e (inl le) run = absurd (omega ar
 read_by M a before mid ending.ReportFault code e (inr is) run = absurd (omega arith)
 read_by M a before mid ending.Memory code e (inl le) run = absurd (omega arith)
 read_by M a before mid ending.Memory code e (inr is) run = absurd (omega arith)
+read_by M a before mid (ending.OnDisk end) code e done run = absurd run.cause
 
 not_memory : (code : ℕ) → code ≡ 6 → IsDoneAt code → ⊥
 not_memory code e (inl le) = omega (arith, e, le)
@@ -250,6 +253,7 @@ named_by dirs before mid (ending.Refused r) code e at h = h
 named_by dirs before mid (ending.ReadFault f) code e at h = h
 named_by dirs before mid (ending.WriteFault f) code e at h = h
 named_by dirs before mid ending.ReportFault code e at h = h
+named_by dirs before mid (ending.OnDisk end) code e at h = h
 named_by dirs before mid ending.PlaceFault code e at h = absurd (not_named code 4 e (inl refl) at)
 named_by dirs before mid ending.Memory code e at h = absurd (not_named code 6 e (inr refl) at)
 

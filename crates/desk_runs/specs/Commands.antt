@@ -1,5 +1,5 @@
 -- The files that each command reads and writes, and what is asked of the desk.
-use Rattle.std.specs.Prelude.{◌≡◌, ◌≤◌, ℕ, true, List, [], ◌∷◌, ◌++◌, Option, Some, None}
+use Rattle.std.specs.Prelude.{◌≡◌, ◌≤◌, ℕ, Bool, true, false, List, [], ◌∷◌, ◌++◌, Option, Some, None}
 use Rattle.std.specs.Option.{option_map}
 use Rattle.desk_folder.specs.declared.files.File.{File}
 use Rattle.desk_folder.specs.declared.files.File.TheVariants as file
@@ -12,6 +12,7 @@ use Rattle.desk_words.specs.Commands.{Asking, command}
 -- the files that a command reads, in file order
 abbrev pub files_read : Command → List File
 files_read command_is.Replay = day_files ++ file.Journal ∷ []
+files_read command_is.Store = day_files ++ file.Journal ∷ []
 files_read (command_is.Recover workers moves live) = day_files
 files_read command_is.Check = day_files ++ plan_files
 files_read (command_is.Gen seed size) = []
@@ -24,6 +25,7 @@ history_files = file.SolRotations ∷ file.SolItineraries ∷ file.Journal ∷ [
 -- the files that a command may write, in the order in which it writes them
 abbrev pub files_written : Command → List File
 files_written command_is.Replay = history_files
+files_written command_is.Store = history_files
 files_written (command_is.Recover workers moves live) = history_files
 files_written command_is.Check = []
 files_written (command_is.Gen seed size) = day_files
@@ -58,6 +60,7 @@ writes (Some a) = files_written a.command
 -- accepted moves, where batches are taken live only beside a worker
 abbrev pub IsCommand : Command → Type 0
 IsCommand command_is.Replay = Unit {0}
+IsCommand command_is.Store = Unit {0}
 IsCommand (command_is.Recover workers moves live) = (workers ≤ 64) × (1 ≤ moves) × (moves ≤ 100000) × (live ≡ true → 1 ≤ workers)
 IsCommand command_is.Check = Unit {0}
 IsCommand (command_is.Gen seed size) = (seed ≤ 999999999) × (1 ≤ size) × (size ≤ 40)
@@ -67,3 +70,13 @@ IsCommand (command_is.Trial seed size) = (seed ≤ 999999999) × (1 ≤ size) ×
 abbrev pub workers_of : Command → ℕ
 workers_of (command_is.Recover workers moves live) = workers
 workers_of other = 0
+
+-- whether a command keeps its journal on a disk
+abbrev pub is_of_disk : Command → Bool
+is_of_disk command_is.Store = true
+is_of_disk other = false
+
+-- the same of what is asked
+abbrev pub asks_disk : Option Ask → Bool
+asks_disk None = false
+asks_disk (Some a) = is_of_disk a.command

@@ -74,6 +74,7 @@ Does {Task = Task} M c before now x ending.Done = (t : Task) × SetsTask M c x t
 Does {Task = Task} M c before now x ending.NoPlan = (t : Task) × SetsTask M c x t × Finishes M before now t 1
 Does {Task = Task} M c before now x ending.BrokenRule = (t : Task) × SetsTask M c x t × Finishes M before now t 7
 Does M c before now x ending.Usage = ⊥
+Does M c before now x (ending.OnDisk end) = ⊥
 Does M c before now x (ending.Refused r) = M.task c x ≡ Err r
 Does M c before now x ending.PlaceFault = Unit {0}
 Does M c before now x (ending.ReadFault f) = StandsFirst f (M.rows c x)
@@ -82,12 +83,13 @@ Does {Task = Task} M c before now x ending.ReportFault = (t : Task) × SetsTask 
 Does {Task = Task} M c before now x ending.Memory = IsUnreported before now ⊎ ((t : Task) × SetsTask M c x t × Stops before now (M.outcome t).texts)
 
 -- only a fault of the outside ends a run so: its count of that very call and file rose, and the file is one of those that are
--- read or written
+-- read or written. What a run does without a disk no journal on a disk ends
 abbrev pub HasCause : List File → List File → World → World → Ending → Type 0
 HasCause inputs outputs before now ending.PlaceFault = Rose before.folder.place_faults now.folder.place_faults
 HasCause inputs outputs before now (ending.ReadFault f) = (is_among f inputs ≡ true) × Rose (before.folder.next_faults f) (now.folder.next_faults f)
 HasCause inputs outputs before now (ending.WriteFault f) = (is_among f outputs ≡ true) × Rose (before.folder.put_faults f) (now.folder.put_faults f)
 HasCause inputs outputs before now ending.ReportFault = Rose before.sink.faults now.sink.faults
+HasCause inputs outputs before now (ending.OnDisk end) = ⊥
 HasCause inputs outputs before now other = Unit {0}
 
 -- no directories are named, and no naming failed

@@ -1,12 +1,39 @@
 //! How a run of the desk ends.
 
 ghost use Rattle.std.specs.Prelude.{◌≡◌};
-ghost use Rattle.desk_runs.specs.Outcome.{status_of};
+ghost use Rattle.desk_runs.specs.Outcome.{disk_status, status_of};
 ghost use Rattle.desk_runs.specs.Writing.{write_end};
 
 use crate::refusal::Refusal;
 use desk_folder::File;
 use folder_io::WriteFault;
+
+/// How a run ends by the journal that it keeps on a disk.
+#[derive(Clone, Copy, PartialEq, Eq)]
+pub enum DiskEnd {
+    /// The disk failed.
+    Fault,
+    /// The journal on the disk is damaged.
+    Damaged,
+    /// The journal on the disk is of other events than these.
+    Other {
+        /// The record of journal.csv that is the first other one, counted from 1; 0 where the disk holds more events than
+        /// there are.
+        line: u64,
+    },
+}
+
+impl DiskEnd {
+    // The status of a run that ends so.
+    fn status(self) -> u8
+        ensures { result ≡ disk_status self }
+    {
+        match self {
+            DiskEnd::Damaged | DiskEnd::Other { .. } => 3,
+            DiskEnd::Fault => 8,
+        }
+    }
+}
 
 /// How a run ends.
 #[derive(Clone, Copy, PartialEq, Eq)]
@@ -32,6 +59,8 @@ pub enum Ending {
     ReportFault,
     /// Memory ran out.
     Memory,
+    /// The journal on the disk ended it. Only a run that keeps one ends so.
+    OnDisk(DiskEnd),
 }
 
 impl Ending {
@@ -48,6 +77,7 @@ impl Ending {
             Ending::WriteFault(_) | Ending::ReportFault => 5,
             Ending::Memory => 6,
             Ending::BrokenRule => 7,
+            Ending::OnDisk(end) => end.status(),
         }
     }
 }

@@ -14,7 +14,7 @@ pub fn files_read(command: &Command) -> &'static [File]
     ensures { result.now ≡ files_read command.now }
 {
     match command {
-        Command::Replay => &DAY_AND_JOURNAL,
+        Command::Replay | Command::Store => &DAY_AND_JOURNAL,
         Command::Recover { .. } => &DAY_FILES,
         Command::Check => &DAY_AND_PLAN,
         Command::Gen { .. } | Command::Trial { .. } => &[],
@@ -26,7 +26,7 @@ pub fn files_written(command: &Command) -> &'static [File]
     ensures { result.now ≡ files_written command.now }
 {
     match command {
-        Command::Replay | Command::Recover { .. } => &HISTORY_FILES,
+        Command::Replay | Command::Store | Command::Recover { .. } => &HISTORY_FILES,
         Command::Check | Command::Trial { .. } => &[],
         Command::Gen { .. } => &DAY_FILES,
     }

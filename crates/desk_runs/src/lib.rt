@@ -18,7 +18,7 @@ mod line;
 mod refusal;
 mod write;
 
-pub use ending::Ending;
+pub use ending::{DiskEnd, Ending};
 pub use files::{files_read, files_written};
 pub use line::fault_text;
 pub use refusal::{Cause, Refusal};

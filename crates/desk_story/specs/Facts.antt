@@ -8,11 +8,13 @@ use Rattle.desk_data.specs.Situation.{fresh_day}
 use Rattle.desk_data.specs.Valid.{IsPlanFor}
 use Rattle.desk_gen.specs.Generated.{IsSize}
 use Rattle.desk_story.specs.declared.story.InputStory.{InputStory}
+use Rattle.desk_story.specs.declared.keep.InputKept.{InputKept}
 use Rattle.desk_story.specs.declared.recovery.InputRecovery.{InputRecovery}
 use Rattle.desk_story.specs.declared.plan.InputPlan.{InputPlan}
 use Rattle.desk_story.specs.declared.task.InputTask.{InputTask}
 use Rattle.desk_story.specs.declared.task.InputTask.TheVariants as input
 use Rattle.desk_tasks.specs.Play.{Story}
+use Rattle.desk_tasks.specs.Keep.{KeptStory}
 use Rattle.desk_tasks.specs.Recover.{Recovery}
 use Rattle.desk_tasks.specs.Team.{team_on}
 use Rattle.desk_tasks.specs.Judge.{Judged}
@@ -36,6 +38,10 @@ as_story s = record { day = s.inst; events = s.events.items }
 pub record CanBeRun (s : InputStory) : Type 0 where
   pub fresh : s.inst ≡ fresh_day s.inst.parts
   pub asked : AreAskable s.inst s.events.items
+
+-- the story and the batches of its day, wherever they lie in memory
+abbrev pub as_kept : InputKept → KeptStory
+as_kept k = record { story = as_story k.story; batches = k.batches }
 
 -- the recovery, wherever it lies in memory
 abbrev pub as_recovery : InputRecovery → Recovery

@@ -34,6 +34,7 @@ use Rattle.desk_gen.specs.Generated.{text_of}
 use Rattle.desk_runs.specs.Inputs.{Inputs}
 use Rattle.desk_runs.specs.Commands.{files_read}
 use Rattle.desk_tasks.specs.Play.{Story}
+use Rattle.desk_tasks.specs.Keep.{KeptStory}
 use Rattle.desk_tasks.specs.Recover.{Recovery}
 use Rattle.desk_tasks.specs.Judge.{Judged, with_batches}
 use Rattle.desk_tasks.specs.Tasks.{Task, play, trial, judge, generate, recover_by}
@@ -181,6 +182,13 @@ story_of_rows rows = do
   events ← or_refused (in_file file.Journal) (events_of built rows.journal)
   Ok (record { day = built.inst; events = events })
 
+-- to keep: the same story, with all batches of its day
+unfoldable pub kept_of_rows : Rows → Result KeptStory Refusal
+kept_of_rows rows = do
+  built ← or_refused not_joined (built_of rows.files)
+  events ← or_refused (in_file file.Journal) (events_of built rows.journal)
+  Ok (record { story = record { day = built.inst; events = events }; batches = built.batches })
+
 -- to recover: the files are joined, and all batches are taken, with so many accepted moves at most after each
 unfoldable pub recovery_of_rows : ℕ → Rows → Result Recovery Refusal
 recovery_of_rows moves rows = do
@@ -207,6 +215,9 @@ unfoldable pub task_of_rows : Command → Rows → Result Task Refusal
 task_of_rows command_is.Replay rows = do
   story ← story_of_rows rows
   Ok (play story)
+task_of_rows command_is.Store rows = do
+  story ← story_of_rows rows
+  Ok (play story)
 task_of_rows (command_is.Recover workers moves live) rows = do
   recovery ← recovery_of_rows moves rows
   Ok (recover_by workers live recovery)
@@ -221,3 +232,7 @@ task_of_rows (command_is.Trial seed size) rows = do
 -- the grammar of each file comes before the join of any
 unfoldable pub task_of : Command → Inputs → Result Task Refusal
 task_of c x = rows_of c x >>= task_of_rows c
+
+-- the story that `store` keeps, with the batches of its day
+unfoldable pub kept_of : Inputs → Result KeptStory Refusal
+kept_of x = rows_of command_is.Store x >>= kept_of_rows

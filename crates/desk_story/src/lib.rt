@@ -15,6 +15,7 @@
 
 mod fault;
 mod files;
+mod keep;
 mod plan;
 mod recovery;
 mod rows;
@@ -23,6 +24,7 @@ mod task;
 
 pub use desk_runs::{Cause, Ending, Refusal};
 pub use fault::StoryFault;
+pub use keep::{InputKept, read_kept};
 pub use plan::InputPlan;
 pub use recovery::InputRecovery;
 pub use story::InputStory;

@@ -79,7 +79,7 @@ fn joined_task(alloc: Global, command: &Command, rows: &InputRows) -> Result<Inp
     ensures cause { IfErr result NeedsNoFault }
 {
     match command {
-        Command::Replay => {
+        Command::Replay | Command::Store => {
             let story = joined_story(alloc, rows)?;
             Ok(InputTask::Play(story))
         }
@@ -106,8 +106,8 @@ fn joined_task(alloc: Global, command: &Command, rows: &InputRows) -> Result<Inp
     }
 }
 
-// Reads the files of a command, one after another, for their rows.
-fn read_rows<F: Folder>(
+/// Reads the files of a command, one after another, for their rows.
+pub(crate) fn read_rows<F: Folder>(
     alloc: Global,
     command: &Command,
     folder: &mut F,

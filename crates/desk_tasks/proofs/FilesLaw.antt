@@ -6,6 +6,7 @@ use Rattle.desk_model.specs.declared.answer.Entry.{Entry}
 use Rattle.desk_gen.specs.Generated.{generated}
 use Rattle.desk_runs.specs.Commands.{history_files}
 use Rattle.desk_tasks.specs.Play.{Story, Remarks, history_outcome, played}
+use Rattle.desk_tasks.specs.Keep.{opened_first, kept}
 use Rattle.desk_tasks.specs.Recover.{Recovery, reported_alone, recovered, tried}
 use Rattle.desk_tasks.specs.Team.{TeamRecovery, Work, recovered_by_team}
 use Rattle.desk_tasks.specs.Judge.{Judged, verdict, judged}
@@ -19,6 +20,10 @@ history-files I remarks h = refl
 pub played-files : (s : Story) → files_of (played s).texts.files ≡ files_for (play s)
 unfolding history_outcome
 played-files s = refl
+
+pub kept-files : (held : ℕ) (s : Story) → files_of (kept held s).texts.files ≡ history_files
+unfolding opened_first
+kept-files held s = played-files s
 
 pub recovered-files : (r : Recovery) → files_of (recovered r).texts.files ≡ files_for (recover r)
 unfolding history_outcome

@@ -1,5 +1,5 @@
 -- A story that was played, and a day that was recovered, all of whose texts are written, carry the headline.
-use Rattle.std.proofs.Common.{◌≡◌, ℕ, List, [], ◌∷◌, refl, sym, subst, ◌∙◌, arith}
+use Rattle.std.proofs.Common.{◌≡◌, ℕ, List, [], ◌∷◌, ◌++◌, refl, sym, ap, subst, ◌∙◌, arith, append_assoc}
 use Rattle.std.specs.Prelude.{Option, Some, None, IsSome}
 use Rattle.std.specs.Io.KnownBytes.{Appends, Keeps}
 use Rattle.std.proofs.lemmas.Bool.{false≢true}
@@ -21,11 +21,12 @@ use Rattle.near_moves.specs.Descent.{recovery}
 use Rattle.desk_teams.proofs.TeamLaws.{refused-between}
 use Rattle.near_moves.proofs.LegalLaws.{recovery-legal}
 use Rattle.near_moves.proofs.RecoveryLaws.{recovery-all_wait, recovery-along, recovery-batches}
-use Rattle.desk_tasks.specs.Play.{Story, history, Remarks, search_remarks, planned_rotations, planned_itineraries, report_text, history_outcome, played}
+use Rattle.desk_tasks.specs.Play.{Story, history, Remarks, search_remarks, batch_lines, end_lines, planned_rotations, planned_itineraries, report_text, history_outcome, played}
+use Rattle.desk_tasks.specs.Keep.{opened_line, opened_remarks, opened_first, kept}
 use Rattle.desk_tasks.specs.Recover.{Recovery, recovered_history, search_end, reported_alone, recovered, tried}
 use Rattle.desk_tasks.specs.Team.{TeamRecovery, Work, IsTeamWork, recovered_by_team}
 use Rattle.desk_tasks.specs.Tasks.{Task, play, recover, team, trial, judge, generate, team_size, IsWorkOf, outcome_at, outcome, IsRunnable, IsRecoverable, IsSound}
-use Rattle.desk_tasks.specs.Headline.{TellsHistory, Headline, HasHeadline, Recovers, HasRecovered, HasTried, TeamRecovers, HasTeamRecovered}
+use Rattle.desk_tasks.specs.Headline.{TellsHistory, Headline, HasHeadline, HasKept, Recovers, HasRecovered, HasTried, TeamRecovers, HasTeamRecovered}
 use Rattle.desk_tasks.proofs.RecoveryLaw.{recovery-rests, search-ended}
 
 keeps_of : (before now : Option (List ℕ)) → Appends before now [] → Keeps before now
@@ -110,6 +111,30 @@ has-headline before now s runs w = record {
     promises = promises s.day (history s) (story_legal s runs);
     written = tells before now s.day (search_remarks None) (history s) w;
   };
+}
+
+-- ---- a story that is kept on a disk
+
+-- the line before the report of a history stands where its remarks have it
+report_opened : (I : Situation) (held : ℕ) (h : List Entry) → opened_line held ++ report_text I (search_remarks None) h ≡ report_text I (opened_remarks held) h
+unfolding report_text
+report_opened I held h =
+    let o = opened_line held in
+    let b = batch_lines I h in
+    let e = end_lines I h in
+    ap (λ (t : List ℕ). o ++ t) (append_assoc b [] e) ∙ sym (append_assoc (o ++ b) [] e ∙ append_assoc o b e)
+
+kept_is : (s : Story) (held : ℕ) → (kept held s).texts ≡ (history_outcome s.day (opened_remarks held) (history s)).texts
+unfolding opened_first history_outcome
+kept_is s held = ap (λ (report : List ℕ). let t : Texts = record { files = files_are s.day (history s); report = report } in t) (report_opened s.day held (history s))
+
+pub has-kept : (before now : World) (s : Story) (held : ℕ) → IsRunnable s → IsWritten before now (kept held s).texts → HasKept before now s held
+has-kept before now s held runs w = record {
+  history = history s;
+  events = history_is s;
+  legal = story_legal s runs;
+  promises = promises s.day (history s) (story_legal s runs);
+  written = tells before now s.day (opened_remarks held) (history s) (subst (λ (t : Texts). IsWritten before now t) (kept_is s held) w);
 }
 
 -- ---- a recovery

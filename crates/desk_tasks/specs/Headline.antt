@@ -16,6 +16,7 @@ use Rattle.sol_text.specs.Rotations.{rotations_text}
 use Rattle.sol_text.specs.Itineraries.{itineraries_text}
 use Rattle.desk_runs.specs.Runs.{World}
 use Rattle.desk_tasks.specs.Play.{Story, Remarks, search_remarks, report_text}
+use Rattle.desk_tasks.specs.Keep.{opened_remarks}
 use Rattle.desk_tasks.specs.Recover.{Recovery, search_end, IsSearchEnd}
 use Rattle.desk_tasks.specs.Team.{TeamRecovery, Work, IsTeamEnd}
 
@@ -52,6 +53,14 @@ pub record Headline (before now : World) (s : Story) (h : List Entry) : Type 0 w
 pub record HasHeadline (before now : World) (s : Story) : Type 0 where
   pub history : List Entry
   pub headline : Headline before now s history
+
+-- the same of a story that was kept on a disk, which held so many entries: the report begins with how many they were
+pub record HasKept (before now : World) (s : Story) (held : ℕ) : Type 0 where
+  pub history : List Entry
+  pub events : history ≡ run (opening s.day) s.events
+  pub legal : IsLegal (opening s.day) history
+  pub promises : KeepsPromises s.day history
+  pub written : TellsHistory before now s.day (opened_remarks held) history
 
 -- ---- a recovery
 

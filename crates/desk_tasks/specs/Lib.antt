@@ -1,4 +1,5 @@
 pub mod Play
+pub mod Keep
 pub mod Recover
 pub mod Team
 pub mod Judge

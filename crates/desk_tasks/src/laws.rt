@@ -2,17 +2,25 @@
 
 ghost use Rattle.desk_runs.specs.Runs.{World, IsWritten};
 ghost use Rattle.desk_tasks.specs.Play.{Story, played};
+ghost use Rattle.desk_tasks.specs.Keep.{kept};
 ghost use Rattle.desk_tasks.specs.Recover.{Recovery, recovered, tried};
-ghost use Rattle.std.specs.Prelude.{◌≡◌};
+ghost use Rattle.std.specs.Prelude.{◌≡◌, ℕ};
 ghost use Rattle.desk_tasks.specs.Team.{TeamRecovery, Work, IsTeamWork, recovered_by_team};
 ghost use Rattle.desk_tasks.specs.Tasks.{Task, team_size, IsWorkOf, outcome, outcome_at, IsRunnable, IsRecoverable, IsSound};
-ghost use Rattle.desk_tasks.specs.Headline.{HasHeadline, HasRecovered, HasTried, HasTeamRecovered};
+ghost use Rattle.desk_tasks.specs.Headline.{HasHeadline, HasKept, HasRecovered, HasTried, HasTeamRecovered};
 
 /// Whoever has written all that a story comes to, whose events can be asked on its day, keeps the
 /// promise of the desk.
 pub fn played_stories_carry_the_headline()
     ensures { (before : World) → (now : World) → (story : Story) → IsRunnable story →
         IsWritten before now (played story).texts → HasHeadline before now story }
+{}
+
+/// So does whoever has written all that a story comes to that is kept on a disk: the journal is that of the same
+/// history, and the report begins with how many entries the disk held.
+pub fn kept_stories_carry_the_headline()
+    ensures { (before : World) → (now : World) → (story : Story) → (held : ℕ) → IsRunnable story →
+        IsWritten before now (kept held story).texts → HasKept before now story held }
 {}
 
 /// So does whoever has written all that a recovery comes to, whose batches can be taken on its day: after

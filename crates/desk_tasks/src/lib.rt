@@ -15,7 +15,8 @@
 mod laws;
 
 pub use laws::{
-    played_stories_carry_the_headline, recoveries_by_teams_carry_the_headline,
-    recoveries_carry_the_headline, tasks_come_to_one_outcome,
+    kept_stories_carry_the_headline, played_stories_carry_the_headline,
+    recoveries_by_teams_carry_the_headline, recoveries_carry_the_headline,
+    tasks_come_to_one_outcome,
 };
 pub use near_moves::SearchEnd;

@@ -7,3 +7,4 @@ mod headway;
 mod memory;
 mod orders;
 mod parts;
+mod stops;

@@ -26,7 +26,7 @@ use Rattle.desk_tasks.specs.Play.{Story, Remarks, search_remarks, history_outcom
 use Rattle.desk_tasks.specs.Recover.{Recovery, recovered_history, search_end, recovered, reported_alone, tried}
 use Rattle.desk_tasks.specs.Judge.{Judged, verdict, verdict_report, rule_status, judged}
 use Rattle.desk_tasks.specs.Generate.{generation}
-use Rattle.desk_tasks.specs.Team.{TeamRecovery, team_on, Work, nothing, IsTeamWork}
+use Rattle.desk_tasks.specs.Team.{team_on, Work, nothing, IsTeamWork}
 use Rattle.desk_tasks.specs.Tasks.{Task, play, recover, team, recover_by, trial, judge, generate, outcome_at, IsSound, IsWorkOf, IsSoundAt}
 use Rattle.desk_tasks.proofs.HeadlineLaw.{has-headline, has-recovered, has-tried, has-team-recovered}
 use Rattle.desk_story.specs.Story.{Rows, rows_of, usual_moves, story_of_rows, recovery_of_rows, trial_of, judged_of_rows, task_of_rows, task_of}
@@ -67,6 +67,11 @@ unfolding task_of_rows
 replay_rows (Ok rows) t e = played_task (story_of_rows rows) t e
 replay_rows (Err r) t e = absurd cc
 
+store_rows : (read : Read) (t : Task) → (read >>= task_of_rows command_is.Store) ≡ Ok t → (s : Story) × (t ≡ play s)
+unfolding task_of_rows
+store_rows (Ok rows) t e = played_task (story_of_rows rows) t e
+store_rows (Err r) t e = absurd cc
+
 recover_rows : (workers moves : ℕ) (live : Bool) (read : Read) (t : Task) → (read >>= task_of_rows (command_is.Recover workers moves live)) ≡ Ok t → (r : Recovery) × (t ≡ recover_by workers live r)
 unfolding task_of_rows
 recover_rows workers moves live (Ok rows) t e = let held = recover_task workers live (recovery_of_rows moves rows) t e in (held.0, held.1)
@@ -90,6 +95,10 @@ gen_rows seed size (Err r) t e = absurd cc
 replay_task : (x : Inputs) (t : Task) → task_of command_is.Replay x ≡ Ok t → (s : Story) × (t ≡ play s)
 unfolding task_of
 replay_task x t e = replay_rows (rows_of command_is.Replay x) t e
+
+store_task : (x : Inputs) (t : Task) → task_of command_is.Store x ≡ Ok t → (s : Story) × (t ≡ play s)
+unfolding task_of
+store_task x t e = store_rows (rows_of command_is.Store x) t e
 
 recovery_task : (workers moves : ℕ) (live : Bool) (x : Inputs) (t : Task) → task_of (command_is.Recover workers moves live) x ≡ Ok t → (r : Recovery) × (t ≡ recover_by workers live r)
 unfolding task_of
@@ -125,6 +134,7 @@ gen_task seed size x t e = gen_rows seed size (rows_of (command_is.Gen seed size
 -- a run of a command that asks for no worker has one work
 pub plain-work : (c : Command) (x : Inputs) (t : Task) → workers_of c ≡ 0 → task_of c x ≡ Ok t → IsWorkOf t nothing
 plain-work command_is.Replay x t none e = let s = replay_task x t e in subst (λ (t : Task). IsWorkOf t nothing) (sym s.1) refl
+plain-work command_is.Store x t none e = let s = store_task x t e in subst (λ (t : Task). IsWorkOf t nothing) (sym s.1) refl
 plain-work (command_is.Recover workers moves live) x t none e =
     let alone : task_of (command_is.Recover 0 moves live) x ≡ Ok t = subst (λ (n : ℕ). task_of (command_is.Recover n moves live) x ≡ Ok t) none e in
     let r = recovery_task 0 moves live x t alone in

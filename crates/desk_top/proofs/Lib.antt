@@ -4,3 +4,9 @@ pub mod Written
 pub mod Commands
 pub mod Placed
 pub mod Ranges
+pub mod StoreLaws
+pub mod StorePlaced
+pub mod StoreObeyed
+pub mod SameStory
+pub mod Stored
+pub mod Owned

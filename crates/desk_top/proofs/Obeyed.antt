@@ -1,5 +1,5 @@
 -- A command from how its reading ended.
-use Rattle.std.proofs.Common.{◌≡◌, ◌⊎◌, ℕ, ◌≤◌, Bool, List, refl, sym, ap, ◌∙◌, subst, inl, inr, arith}
+use Rattle.std.proofs.Common.{◌≡◌, ℕ, ◌≤◌, Bool, List, refl, sym, ◌∙◌, subst, inl, inr, arith}
 use Rattle.std.specs.Prelude.{Result, Ok, Err}
 use Rattle.desk_folder.specs.declared.files.File.{File}
 use Rattle.desk_folder.specs.Outside.{Outside, SinkSide}
@@ -10,7 +10,7 @@ use Rattle.desk_runs.specs.Inputs.{Inputs, Tells}
 use Rattle.desk_runs.specs.Reading.{ReadsAmong}
 use Rattle.desk_runs.specs.declared.refusal.Refusal.{Refusal}
 use Rattle.desk_runs.specs.declared.ending.Ending.TheVariants as ending
-use Rattle.desk_runs.specs.Runs.{World, world, Meaning, IsUnreported, AreRead}
+use Rattle.desk_runs.specs.Runs.{World, world, Meaning, AreRead}
 use Rattle.desk_runs.specs.Finishing.{Completes}
 use Rattle.desk_runs.proofs.Composed.{here, InOrder, Tries, obeys-done, obeys-refused, obeys-unread, obeys-memory}
 use Rattle.desk_tasks.specs.Team.{Work, nothing}

@@ -1,5 +1,5 @@
 -- A run by the words, from that of their command after the naming of its directories.
-use Rattle.std.proofs.Common.{◌≡◌, ℕ, ◌⊎◌, List, refl, sym, ap, subst, ◌∙◌, inl, inr, arith}
+use Rattle.std.proofs.Common.{◌≡◌, ℕ, List, refl, sym, ap, subst, ◌∙◌, inl, inr, arith}
 use Rattle.std.specs.Prelude.{Option, None, Some, Result, Ok, Err}
 use Rattle.std.specs.Option.{option_map}
 use Rattle.desk_folder.specs.declared.faults.FolderFault.{FolderFault}
@@ -17,12 +17,12 @@ use Rattle.desk_runs.specs.declared.ending.Ending.TheVariants as ending
 use Rattle.desk_runs.specs.Reading.{IsUnread}
 use Rattle.desk_runs.specs.Outcome.{fault_text}
 use Rattle.desk_runs.specs.Works.{IsUnbegun, IsFair}
-use Rattle.desk_runs.specs.Runs.{World, world, IsUnreported, EndsBy, TellsEnd}
+use Rattle.desk_runs.specs.Runs.{World, world, Meaning, IsUnreported, EndsBy, TellsEnd}
+use Rattle.desk_runs.specs.Runs as runs
 use Rattle.desk_runs.proofs.Composed.{here, at, works-placed, runs-tells_end}
 use Rattle.desk_runs.proofs.PromisedLaw.{runs-of}
-use Rattle.desk_tasks.specs.Team.{Work, nothing}
-use Rattle.desk_tasks.specs.Tasks.{IsWorkOf}
-use Rattle.desk_top.specs.Desk.{meaning_at, meanings, Obeys, ObeysSomehow, RunsWith, Runs, RunsAsPromised}
+use Rattle.desk_tasks.specs.Team.{nothing}
+use Rattle.desk_top.specs.Desk.{meaning_at, meanings, ObeysSomehow, RunsWith, Runs, RunsAsPromised}
 use Rattle.desk_top.proofs.Commands.{plain-work}
 
 asked_as : (these : Option Asking) (asked : Asking) (before now : World) (code : ℕ) → Some asked ≡ these → Runs (Some (asks asked)) before now code → Runs (option_map asks these) before now code
@@ -91,15 +91,15 @@ run-usage these before now code is given =
 pub run-here : (these : Option Asking) (c : Command) (before now : World) (code : ℕ) → Some (c, None) ≡ these → RunsAsPromised (asked_here c) before now code → Runs (option_map asks these) before now code
 run-here these c before now code is kept = asked_as these (c, None) before now code is (runs-of meanings (asked_here c) before now code kept)
 
-unread_placed : (before placed : Outside) (f : File) → PlacesOnly before placed → IsUnread before placed f
+pub unread_placed : (before placed : Outside) (f : File) → PlacesOnly before placed → IsUnread before placed f
 unread_placed before placed f only = record { left = only.left f; faults = only.next_faults f }
 
-unput_placed : (before placed : Outside) (f : File) → PlacesOnly before placed → IsUnput before placed f
+pub unput_placed : (before placed : Outside) (f : File) → PlacesOnly before placed → IsUnput before placed f
 unput_placed before placed f only = record { written = only.written f; faults = only.put_faults f }
 
 -- its directories could not be named
-obeys_unplaced : (c : Command) (dirs : Directories) (before placed : Outside) (sink : SinkSide) → PlacesOnly before placed → Rose before.place_faults placed.place_faults → Obeys nothing (at c dirs) (world before sink) (world placed sink) ending.PlaceFault
-obeys_unplaced c dirs before placed sink only rose = record {
+pub obeys-unplaced : {Rows Task : Type 0} (M : Meaning Rows Task) (c : Command) (dirs : Directories) (before placed : Outside) (sink : SinkSide) → PlacesOnly before placed → Rose before.place_faults placed.place_faults → runs.Obeys M (at c dirs) (world before sink) (world placed sink) ending.PlaceFault
+obeys-unplaced M c dirs before placed sink only rose = record {
   no_usage = λ e. absurd cc;
   cause = rose;
   does = λ x tells. tt;
@@ -112,8 +112,8 @@ obeys_unplaced c dirs before placed sink only rose = record {
   unput = λ f other. unput_placed before placed f only;
 }
 
-obeys_unnamed : (c : Command) (dirs : Directories) (before placed : Outside) (sink : SinkSide) → PlacesOnly before placed → Obeys nothing (at c dirs) (world before sink) (world placed sink) ending.Memory
-obeys_unnamed c dirs before placed sink only = record {
+pub obeys-unnamed : {Rows Task : Type 0} (M : Meaning Rows Task) (c : Command) (dirs : Directories) (before placed : Outside) (sink : SinkSide) → PlacesOnly before placed → runs.Obeys M (at c dirs) (world before sink) (world placed sink) ending.Memory
+obeys-unnamed M c dirs before placed sink only = record {
   no_usage = λ e. absurd cc;
   cause = tt;
   does = λ x tells. inl (record { written = only.written; sink = refl });
@@ -129,9 +129,9 @@ obeys_unnamed c dirs before placed sink only = record {
 pub run-unplaced : (these : Option Asking) (c : Command) (dirs : Directories) (before placed : Outside) (sink now : SinkSide) (code : ℕ) → Some (c, Some dirs) ≡ these → PlacesOnly before placed → Rose before.place_faults placed.place_faults → TellsEnd ending.PlaceFault sink now code → Runs (option_map asks these) (world before sink) (world placed now) code
 run-unplaced these c dirs before placed sink now code is only rose given =
     asked_as these (c, Some dirs) (world before sink) (world placed now) code is
-    (run-unbegun (Some (at c dirs)) (world before sink) (world placed sink) now ending.PlaceFault code (record { written = only.written; sink = refl }) (obeys_unplaced c dirs before placed sink only rose) given)
+    (run-unbegun (Some (at c dirs)) (world before sink) (world placed sink) now ending.PlaceFault code (record { written = only.written; sink = refl }) (obeys-unplaced (meaning_at nothing) c dirs before placed sink only rose) given)
 
 pub run-unnamed : (these : Option Asking) (c : Command) (dirs : Directories) (before placed : Outside) (sink now : SinkSide) (code : ℕ) → Some (c, Some dirs) ≡ these → PlacesOnly before placed → TellsEnd ending.Memory sink now code → Runs (option_map asks these) (world before sink) (world placed now) code
 run-unnamed these c dirs before placed sink now code is only given =
     asked_as these (c, Some dirs) (world before sink) (world placed now) code is
-    (run-unbegun (Some (at c dirs)) (world before sink) (world placed sink) now ending.Memory code (record { written = only.written; sink = refl }) (obeys_unnamed c dirs before placed sink only) given)
+    (run-unbegun (Some (at c dirs)) (world before sink) (world placed sink) now ending.Memory code (record { written = only.written; sink = refl }) (obeys-unnamed (meaning_at nothing) c dirs before placed sink only) given)

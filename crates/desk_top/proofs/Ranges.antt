@@ -1,8 +1,8 @@
 -- The numbers of the words are in their ranges.
-use Rattle.std.proofs.Common.{◌≡◌, ℕ, ◌≤◌, Bool, true, false, ◌&&◌, if◌then◌else◌, List, [], ◌∷◌, refl, sym, subst, inl, inr, arith}
+use Rattle.std.proofs.Common.{◌≡◌, ℕ, ◌≤◌, Bool, true, false, ◌&&◌, if◌then◌else◌, List, [], ◌∷◌, refl, sym, subst, ◌∙◌, inl, inr, arith}
 use Rattle.std.proofs.lemmas.Bool.Decides.{nat_tests}
-use Rattle.std.specs.Prelude.{Option, Some, None, IfSome, nat_le, nat_lt, bytes_eq, codes}
-use Rattle.std.proofs.lemmas.Bool.{cases_Bool, leb-true}
+use Rattle.std.specs.Prelude.{Option, Some, None, IfSome, IsSome, nat_le, nat_lt, bytes_eq, codes}
+use Rattle.std.proofs.lemmas.Bool.{cases_Bool, false≢true, leb-true}
 use Rattle.desk_folder.specs.Outside.{Directories}
 use Rattle.desk_text.specs.Fields.{◌>>=◌, only_if, digits_of, number_from}
 use Rattle.desk_words.specs.declared.asked.Command.{Command}
@@ -11,7 +11,7 @@ use Rattle.desk_words.specs.declared.choice.NumberOption.{NumberOption}
 use Rattle.desk_words.specs.declared.choice.NumberOption.TheVariants as choice_is
 use Rattle.desk_words.specs.Arguments.{Argument, arguments, places}
 use Rattle.desk_words.specs.Commands.{Asking, least_of, most_of, value_in, value_of, no_day_options, no_search_options, input_and_output, output_alone, no_directory, plain, search, searching, recovering, making, generating, sampling, trying, command_by, command}
-use Rattle.desk_runs.specs.Commands.{IsCommand}
+use Rattle.desk_runs.specs.Commands.{IsCommand, is_of_disk}
 
 -- from a least to a greatest number
 abbrev Within : ℕ → ℕ → ℕ → Type 0
@@ -45,17 +45,21 @@ value_within choice (text ∷ other ∷ texts) = tt
 
 -- ---- each command
 
+-- the command that is asked for is one, and has directories where it keeps its journal on a disk
+abbrev IsAsking : Asking → Type 0
+IsAsking asked = IsCommand asked.0 × (is_of_disk asked.0 ≡ true → IsSome asked.1)
+
 abbrev InRange : Option Asking → Type 0
-InRange o = IfSome o (λ asked. IsCommand asked.0)
+InRange o = IfSome o IsAsking
 
 -- directories change no number
 with_dirs : (c : Command) (dirs : Option Directories) → IsCommand c → InRange (dirs >>= (λ dirs. Some (c, Some dirs)))
 with_dirs c None h = tt
-with_dirs c (Some d) h = h
+with_dirs c (Some d) h = (h, λ kept. refl)
 
-without_dirs : (c : Command) (none : Option (Unit {0})) → IsCommand c → InRange (none >>= (λ none. Some (c, None)))
-without_dirs c None h = tt
-without_dirs c (Some found) h = h
+without_dirs : (c : Command) (none : Option (Unit {0})) → IsCommand c → is_of_disk c ≡ false → InRange (none >>= (λ none. Some (c, None)))
+without_dirs c None h free = tt
+without_dirs c (Some found) h free = (h, λ kept. absurd (let no : false ≡ true = sym free ∙ kept in cc))
 
 if_range : (test : Bool) (o : Option Asking) → InRange o → InRange (if test then o else None)
 if_range true o h = h
@@ -91,7 +95,7 @@ generating_range list = if_range (no_search_options list) _ (making_in (value_of
 sampling_in : (seed size : Option ℕ) (none : Option (Unit {0})) → IfSome seed (Within 0 999999999) → IfSome size (Within 1 40) → InRange (seed >>= (λ seed. size >>= (λ size. none >>= (λ none. Some (command_is.Trial seed size, None)))))
 sampling_in None size _ a b = tt
 sampling_in (Some seed) None _ a b = tt
-sampling_in (Some seed) (Some size) found a b = without_dirs (command_is.Trial seed size) found (a.1, b.0, b.1)
+sampling_in (Some seed) (Some size) found a b = without_dirs (command_is.Trial seed size) found (a.1, b.0, b.1) refl
 
 trying_range : (list : List Argument) → InRange (trying list)
 unfolding sampling
@@ -104,10 +108,11 @@ plain_range c list h = if_range (no_day_options list && no_search_options list) 
 asked_range : (word : List ℕ) (list : List Argument) → InRange (command_by word list)
 asked_range word list =
     choice_range (bytes_eq word (codes "replay")) (plain command_is.Replay list) _ (plain_range command_is.Replay list tt)
+    (choice_range (bytes_eq word (codes "store")) (plain command_is.Store list) _ (plain_range command_is.Store list tt)
     (choice_range (bytes_eq word (codes "recover")) (recovering list) _ (recovering_range list)
     (choice_range (bytes_eq word (codes "check")) (plain command_is.Check list) _ (plain_range command_is.Check list tt)
     (choice_range (bytes_eq word (codes "gen")) (generating list) _ (generating_range list)
-    (if_range (bytes_eq word (codes "trial")) (trying list) (trying_range list)))))
+    (if_range (bytes_eq word (codes "trial")) (trying list) (trying_range list))))))
   where
     choice_range : (test : Bool) (a b : Option Asking) → InRange a → InRange b → InRange (if test then a else b)
     choice_range true a b h k = h
@@ -122,5 +127,16 @@ unfolding command
 ranges [] = tt
 ranges (word ∷ words) = after_range word (arguments words)
 
+asking : (words : List (List ℕ)) (asked : Asking) → Some asked ≡ command words → IsAsking asked
+asking words asked is = subst (λ (o : Option Asking). InRange o) (sym is) (ranges words)
+
 pub asked-in-range : (words : List (List ℕ)) (asked : Asking) → Some asked ≡ command words → IsCommand asked.0
-asked-in-range words asked is = subst (λ (o : Option Asking). InRange o) (sym is) (ranges words)
+asked-in-range words asked is = (asking words asked is).0
+
+-- where it has no directories it keeps no journal on a disk
+none_kept : (c : Command) (test : Bool) → is_of_disk c ≡ test → (is_of_disk c ≡ true → IsSome (let o : Option Directories = None in o)) → is_of_disk c ≡ false
+none_kept c true is some = absurd (false≢true (some is))
+none_kept c false is some = is
+
+pub unplaced-free : (words : List (List ℕ)) (c : Command) → Some (c, None) ≡ command words → is_of_disk c ≡ false
+unplaced-free words c is = none_kept c (is_of_disk c) refl (asking words (c, None) is).1

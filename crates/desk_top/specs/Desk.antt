@@ -18,7 +18,7 @@ use Rattle.desk_runs.specs.Promised as promised
 use Rattle.desk_runs.specs.Works.{Meanings, AtSomeWork}
 use Rattle.desk_tasks.specs.Play.{Story, search_remarks, report_text, plan_status}
 use Rattle.desk_tasks.specs.Recover.{Recovery, search_end}
-use Rattle.desk_tasks.specs.Team.{TeamRecovery, team_on, Work}
+use Rattle.desk_tasks.specs.Team.{team_on, Work}
 use Rattle.desk_tasks.specs.Judge.{Judged, verdict_report, rule_status}
 use Rattle.desk_tasks.specs.Generate.{generation}
 use Rattle.desk_tasks.specs.Tasks.{Task, play, recover, team, judge, IsWorkOf, outcome_at, IsSoundAt}

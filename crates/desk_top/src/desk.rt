@@ -1,22 +1,33 @@
 //! The top call.
 
-ghost use Rattle.std.specs.Prelude.{◌≡◌, ℕ, ◌≤◌, Bool, false, None, Some, map};
+ghost use Rattle.std.specs.Prelude.{◌≡◌, ◌⊎◌, ℕ, ◌≤◌, Bool, true, false, None, Some, IfSome, Err, map};
 ghost use Rattle.std.specs.String.{string_bytes};
-ghost use Rattle.desk_folder.specs.Outside.{Directories};
-ghost use Rattle.desk_words.specs.declared.asked.Command.TheVariants.{Replay, Recover, Check, Gen, Trial};
+ghost use Rattle.desk_folder.specs.Outside.{Directories as NamedDirectories};
+ghost use Rattle.std.specs.Option.{option_map};
+ghost use Rattle.desk_folder.specs.Calls.{Rose};
+ghost use Rattle.desk_disk.specs.FileStates.{HasNothingPending};
+ghost use Rattle.desk_words.specs.declared.asked.Command.TheVariants.{Replay, Store, Recover, Check, Gen, Trial};
+ghost use Rattle.desk_words.specs.Asked.{named};
 ghost use Rattle.desk_words.specs.Commands.{command};
-ghost use Rattle.desk_runs.specs.Commands.{IsCommand, asked_by, asked_here, files_read};
+ghost use Rattle.desk_runs.specs.Commands.{IsCommand, asked_by, asked_here, asks_disk, files_read, is_of_disk};
+ghost use Rattle.desk_runs.specs.declared.refusal.Refusal.{Refusal};
 ghost use Rattle.desk_runs.specs.Inputs.{Inputs, Tells};
 ghost use Rattle.desk_runs.specs.Runs.{Between};
 ghost use Rattle.desk_runs.specs.Causes.{IsDoneAt};
+ghost use Rattle.desk_runs.proofs.Composed.{at};
+ghost use Rattle.desk_story.specs.Story.{kept_of};
+ghost use Rattle.desk_store.specs.Journal.{OnlyOpens};
+ghost use Rattle.desk_top.specs.Store.{kept_directories, HasBegun, HoldsAll, IsAtMostNamed, IsPlacedAt, IsStored, IsWrittenAt, RunsOnDisk, Shown, StandsAlways};
 ghost use Rattle.desk_top.specs.Desk.{Runs, RunsAsPromised, IsReplayed, IsRecovered, IsRecoveredByTeam, IsTried, IsChecked, IsGenerated};
 
 use crate::plain::{run_plain, tell};
+use crate::store::run_store;
 use crate::workers::run_workers;
+use desk_disk::{Disk, DiskFault};
 use desk_folder::{Folder, FolderFault, Gate, Sink};
 use desk_headway::{Listener, Nobody};
-use desk_runs::Ending;
-use desk_words::{Command, command};
+use desk_runs::{DiskEnd, Ending};
+use desk_words::{Command, Directories, command};
 use std::alloc::Global;
 use std::sync::Wait;
 use std::thread::Threads;
@@ -31,7 +42,8 @@ fn run<R: Threads + Wait + Sync, F: Folder, O: Sink, G: Gate, L: Listener>(
     gate: &G,
     listener: &mut L,
 ) -> u8
-    requires { IsCommand command.now }
+    requires ranges { IsCommand command.now }
+    requires diskless { is_of_disk command.now ≡ false }
     ensures { Between F.outside O.report folder.old out.old folder.new out.new
         (λ before now. RunsAsPromised (asked_here command.now) before now result) }
 {
@@ -50,6 +62,7 @@ fn run<R: Threads + Wait + Sync, F: Folder, O: Sink, G: Gate, L: Listener>(
         Command::Replay | Command::Check | Command::Gen { .. } | Command::Trial { .. } => {
             run_plain(alloc, command, folder, out, listener)
         }
+        Command::Store => unreachable!(),
     }
 }
 
@@ -63,6 +76,7 @@ fn reported_run<R: Threads + Wait + Sync, F: Folder, O: Sink, G: Gate, L: Listen
     gate: &G,
     listener: &mut L,
 ) -> u8
+    requires diskless { asks_disk (asked_by (map string_bytes words.now)) ≡ false }
     ensures { Between F.outside O.report folder.old out.old folder.new out.new
         (λ before now. Runs (asked_by (map string_bytes words.now)) before now result) }
 {
@@ -79,34 +93,108 @@ fn reported_run<R: Threads + Wait + Sync, F: Folder, O: Sink, G: Gate, L: Listen
     }
 }
 
+// The directories of words that ask for a journal on the disk.
+fn kept_directories(words: &[String]) -> Option<Directories<'_>>
+    ensures { option_map named result ≡ kept_directories (command (map string_bytes words.now)) }
+{
+    let asked = command(words)?;
+    match asked.command {
+        Command::Store => asked.directories,
+        _ => None,
+    }
+}
+
+// Keeps the story of the folder's directories, once the disk's is named, and puts the line that says why it was not done.
+fn run_on_disk<F: Folder, O: Sink, D: Disk>(
+    alloc: Global,
+    dirs: &Directories<'_>,
+    folder: &mut F,
+    out: &mut O,
+    disk: &mut D,
+) -> u8
+    requires nothing_pending { IfSome (D.shown disk.old) (λ was. HasNothingPending was.file) }
+    ensures promise { Between F.outside O.report folder.old out.old folder.new out.new (λ before now.
+        RunsOnDisk (asked_here Store) before now (D.faults disk.old) (D.faults disk.new) (D.shown disk.old) (D.shown disk.new) result) }
+    ensures stored { Between F.outside O.report folder.old out.old folder.new out.new (λ before now.
+        (x : Inputs) → Tells (files_read Store) before.folder x → IsWrittenAt result ⊎ HasBegun before now →
+        Shown (D.shown disk.old) (D.shown disk.new) (HoldsAll x)) }
+    ensures untouched { (x : Inputs) → Tells (files_read Store) (F.outside folder.old) x →
+        Shown (D.shown disk.old) (D.shown disk.new) (StandsAlways x) }
+    ensures unasked { (x : Inputs) → Tells (files_read Store) (F.outside folder.old) x → (r : Refusal) → kept_of x ≡ Err r → IsAtMostNamed (D.shown disk.old) (D.shown disk.new) }
+    ensures refused { result ≡ 3 → Shown (D.shown disk.old) (D.shown disk.new) OnlyOpens }
+    ensures failed { result ≡ 8 → Rose (D.faults disk.old) (D.faults disk.new) }
+    ensures kept { D.faults disk.old ≤ D.faults disk.new }
+    ensures unshown { D.shown disk.old ≡ None → D.shown disk.new ≡ None }
+    ensures directory { IsPlacedAt result → IfSome (D.directory disk.old) (λ _. D.directory disk.new ≡ Some (named dirs.now).output) }
+{
+    match disk.place(alloc, dirs.output) {
+        Ok(()) => run_store(alloc, folder, out, disk),
+        Err(DiskFault::Failed) => tell(alloc, Ending::OnDisk(DiskEnd::Fault), out),
+        Err(DiskFault::Memory) => tell(alloc, Ending::Memory, out),
+    }
+}
+
+// Keeps the story of these directories, and puts the line that says why it was not done.
+fn stored_run<F: Folder, O: Sink, D: Disk>(
+    alloc: Global,
+    dirs: &Directories<'_>,
+    folder: &mut F,
+    out: &mut O,
+    disk: &mut D,
+) -> u8
+    requires nothing_pending { IfSome (D.shown disk.old) (λ was. HasNothingPending was.file) }
+    ensures promise { Between F.outside O.report folder.old out.old folder.new out.new (λ before now.
+        RunsOnDisk (Some (at Store (named dirs.now))) before now (D.faults disk.old) (D.faults disk.new) (D.shown disk.old) (D.shown disk.new) result) }
+    ensures stored { Between F.outside O.report folder.old out.old folder.new out.new (λ before now.
+        (x : Inputs) → Tells (files_read Store) before.folder x → IsWrittenAt result ⊎ HasBegun before now →
+        Shown (D.shown disk.old) (D.shown disk.new) (HoldsAll x)) }
+    ensures untouched { (x : Inputs) → Tells (files_read Store) (F.outside folder.old) x →
+        Shown (D.shown disk.old) (D.shown disk.new) (StandsAlways x) }
+    ensures unasked { (x : Inputs) → Tells (files_read Store) (F.outside folder.old) x → (r : Refusal) → kept_of x ≡ Err r → IsAtMostNamed (D.shown disk.old) (D.shown disk.new) }
+    ensures refused { result ≡ 3 → Shown (D.shown disk.old) (D.shown disk.new) OnlyOpens }
+    ensures failed { result ≡ 8 → Rose (D.faults disk.old) (D.faults disk.new) }
+    ensures kept { D.faults disk.old ≤ D.faults disk.new }
+    ensures unshown { D.shown disk.old ≡ None → D.shown disk.new ≡ None }
+    ensures directory { IsPlacedAt result → IfSome (D.directory disk.old) (λ _. D.directory disk.new ≡ Some (named dirs.now).output) }
+{
+    match folder.place(alloc, dirs.input, dirs.output) {
+        Ok(()) => run_on_disk(alloc, dirs, folder, out, disk),
+        Err(FolderFault::Failed) => tell(alloc, Ending::PlaceFault, out),
+        Err(FolderFault::Memory) => tell(alloc, Ending::Memory, out),
+    }
+}
+
 /// The desk: does what the words say, the program's name left out, and answers the status.
 ///
 /// 0: done; of a replay, a recovery or a trial with a plan at the end, of a check with a plan that breaks no
 /// rule. 1: a replay, a recovery or a trial was done, with no plan at the end. 2: the words are no command.
-/// 3: the input is refused. 4: the folder failed to name the directories or to read a file. 5: the folder
+/// 3: the input is refused, or the journal on the disk. 4: the folder failed to name the directories or to read a file. 5: the folder
 /// failed to write a file, or the sink to write the report. 6: memory ran out. 7: a check was done, and the
-/// plan breaks a rule. From 2 to 6, a line in the report says why.
+/// plan breaks a rule. 8: the disk failed. From 2 to 6, and at 8, a line in the report says why.
 ///
+/// `store` keeps each answered event on the disk before the next one is answered; no other command touches the disk.
 /// A recovery with workers starts a thread for each beside the caller, which does the work of those that can't be
 /// started; it may wait, and enters the gate as `run_workers` says. Every other command waits for nobody.
-pub fn desk_main<R: Threads + Wait + Sync, F: Folder, O: Sink, G: Gate>(
+pub fn desk_main<R: Threads + Wait + Sync, F: Folder, O: Sink, G: Gate, D: Disk>(
     rt: &R,
     alloc: Global,
     words: &[String],
     folder: &mut F,
     out: &mut O,
     gate: &G,
+    disk: &mut D,
 ) -> u8
+    requires nothing_pending { asks_disk (asked_by (map string_bytes words.now)) ≡ true → IfSome (D.shown disk.old) (λ was. HasNothingPending was.file) }
     // The headline: where the folder shows the bytes of its input, each replay that was done has written
     // the journal of a legal history of the events that it read, and the last plan of that history.
-    ensures headline { (dirs : Directories) → command (map string_bytes words.now) ≡ Some (Replay, Some dirs) →
+    ensures headline { (dirs : NamedDirectories) → command (map string_bytes words.now) ≡ Some (Replay, Some dirs) →
         (x : Inputs) → Tells (files_read Replay) (F.outside folder.old) x → IsDoneAt result →
         Between F.outside O.report folder.old out.old folder.new out.new (λ before now. IsReplayed before now x) }
 
     // The headline of a recovery: each that was done has written the journal of a legal history in which the
     // batches that it read stand in their order, each with exactly its descent after it, and the last plan of
     // that history; and it has reported how the last search ended.
-    ensures recovered { (moves : ℕ) → (dirs : Directories) →
+    ensures recovered { (moves : ℕ) → (dirs : NamedDirectories) →
         command (map string_bytes words.now) ≡ Some (Recover 0 moves false, Some dirs) →
         (x : Inputs) → Tells (files_read (Recover 0 moves false)) (F.outside folder.old) x → IsDoneAt result →
         Between F.outside O.report folder.old out.old folder.new out.new (λ before now. IsRecovered before now moves x result) }
@@ -115,7 +203,7 @@ pub fn desk_main<R: Threads + Wait + Sync, F: Folder, O: Sink, G: Gate>(
     // worker came first. In it the batches that it read stand in their order, each once, and each other entry is the
     // first better move of its worker's shard, after a beginning that has all that worker's earlier entries and by
     // which the budget is not spent; and it has written the last plan of that history, and why its search ended.
-    ensures searched { (workers : ℕ) → (moves : ℕ) → (live : Bool) → (dirs : Directories) →
+    ensures searched { (workers : ℕ) → (moves : ℕ) → (live : Bool) → (dirs : NamedDirectories) →
         command (map string_bytes words.now) ≡ Some (Recover workers moves live, Some dirs) → 1 ≤ workers →
         (x : Inputs) → Tells (files_read (Recover workers moves live)) (F.outside folder.old) x → IsDoneAt result →
         Between F.outside O.report folder.old out.old folder.new out.new (λ before now. IsRecoveredByTeam before now workers moves live x result) }
@@ -126,47 +214,100 @@ pub fn desk_main<R: Threads + Wait + Sync, F: Folder, O: Sink, G: Gate>(
 
     // Each check that was done has reported the first item that the plan breaks, or that it breaks none, and the
     // whole cost of the plan, under the orders of all batches.
-    ensures checked { (dirs : Directories) → command (map string_bytes words.now) ≡ Some (Check, Some dirs) →
+    ensures checked { (dirs : NamedDirectories) → command (map string_bytes words.now) ≡ Some (Check, Some dirs) →
         (x : Inputs) → Tells (files_read Check) (F.outside folder.old) x → IsDoneAt result →
         Between F.outside O.report folder.old out.old folder.new out.new (λ before now. IsChecked before now x result) }
 
     // Each day that was generated is written whole.
-    ensures generated { (seed : ℕ) → (size : ℕ) → (dirs : Directories) →
+    ensures generated { (seed : ℕ) → (size : ℕ) → (dirs : NamedDirectories) →
         command (map string_bytes words.now) ≡ Some (Gen seed size, Some dirs) → IsDoneAt result →
         Between F.outside O.report folder.old out.old folder.new out.new (λ before now. IsGenerated before now seed size result) }
 
-    // All that is promised of each run of any command, with one and the same work in all of it: how the run
+    // The headline of a run that keeps its journal on the disk: each that was done has written what a replay of the same
+    // input writes, with how many entries the disk held as the first line of its report: as many as its file had, where shown.
+    ensures stored_headline { (dirs : NamedDirectories) → command (map string_bytes words.now) ≡ Some (Store, Some dirs) →
+        (x : Inputs) → Tells (files_read Store) (F.outside folder.old) x → IsDoneAt result →
+        Between F.outside O.report folder.old out.old folder.new out.new (λ before now. IsStored before now (D.shown disk.old) (D.shown disk.new) x result) }
+
+    // All that is promised of such a run. The disk failed to name its directory, and nothing was read. Or the journal on the
+    // disk ended it, once the input was read and accepted: the disk failed, or where it shows its file that was damaged, or of
+    // other events. Or it keeps all that is promised of a replay, with that line.
+    ensures stored_promise { (dirs : NamedDirectories) → command (map string_bytes words.now) ≡ Some (Store, Some dirs) →
+        Between F.outside O.report folder.old out.old folder.new out.new (λ before now.
+        RunsOnDisk (asked_by (map string_bytes words.now)) before now (D.faults disk.old) (D.faults disk.new) (D.shown disk.old) (D.shown disk.new) result) }
+
+    // At 0, 1 and 5, and where an output file has got a byte, the file on the disk opens as the whole history, whatever crash
+    // comes.
+    ensures stored { (dirs : NamedDirectories) → command (map string_bytes words.now) ≡ Some (Store, Some dirs) →
+        Between F.outside O.report folder.old out.old folder.new out.new (λ before now.
+        (x : Inputs) → Tells (files_read Store) before.folder x → IsWrittenAt result ⊎ HasBegun before now →
+        Shown (D.shown disk.old) (D.shown disk.new) (HoldsAll x)) }
+
+    // Until the comparison with what the disk holds has passed each crash leaves all bytes but the one that opening sets; from
+    // then on, at any moment, a file that opens as a beginning of the history, with all entries that the disk held.
+    ensures untouched { (dirs : NamedDirectories) → command (map string_bytes words.now) ≡ Some (Store, Some dirs) →
+        (x : Inputs) → Tells (files_read Store) (F.outside folder.old) x →
+        Shown (D.shown disk.old) (D.shown disk.new) (StandsAlways x) }
+
+    // Where the input is refused, at most the directory of the disk was named.
+    ensures stored_unasked { (dirs : NamedDirectories) → command (map string_bytes words.now) ≡ Some (Store, Some dirs) →
+        (x : Inputs) → Tells (files_read Store) (F.outside folder.old) x → (r : Refusal) → kept_of x ≡ Err r →
+        IsAtMostNamed (D.shown disk.old) (D.shown disk.new) }
+
+    // At 3 it is the former.
+    ensures stored_refused { (dirs : NamedDirectories) → command (map string_bytes words.now) ≡ Some (Store, Some dirs) →
+        result ≡ 3 → Shown (D.shown disk.old) (D.shown disk.new) OnlyOpens }
+
+    // 8 comes only where the disk failed.
+    ensures stored_failed { (dirs : NamedDirectories) → command (map string_bytes words.now) ≡ Some (Store, Some dirs) →
+        result ≡ 8 → Rose (D.faults disk.old) (D.faults disk.new) }
+
+    // At 0, 1, 3 and 5 the directory of the disk is that of the output.
+    ensures stored_in { (dirs : NamedDirectories) → command (map string_bytes words.now) ≡ Some (Store, Some dirs) →
+        IsPlacedAt result → IfSome (D.directory disk.old) (λ _. D.directory disk.new ≡ Some dirs.output) }
+
+    // No run lets the count of faults of the disk fall, and a disk that shows nothing goes on so.
+    ensures disk_kept { D.faults disk.old ≤ D.faults disk.new }
+    ensures disk_unshown { D.shown disk.old ≡ None → D.shown disk.new ≡ None }
+
+    // Every other run leaves the disk as it was.
+    ensures other_disk { asks_disk (asked_by (map string_bytes words.now)) ≡ false → disk.new ≡ disk.old }
+
+    // All that is promised of each run of any other command, with one and the same work in all of it: how the run
     // ended (`runs`); what its status means (`means`: `done`, `read`, `usage`, `usage_only`, `refused_where`,
     // `refused`, `fault`, `complete`); what stands outside after it (`stands`: `named`, `unwritten`, `begun`,
     // `fault_reported`); and what is untouched (`alone`: `unnamed`, `unread`, `in_order`, `unput`).
-    ensures promise { Between F.outside O.report folder.old out.old folder.new out.new
+    ensures promise { asks_disk (asked_by (map string_bytes words.now)) ≡ false →
+        Between F.outside O.report folder.old out.old folder.new out.new
         (λ before now. RunsAsPromised (asked_by (map string_bytes words.now)) before now result) }
 {
-    desk_main_heard(rt, alloc, words, folder, out, gate, &mut Nobody)
+    desk_main_heard(rt, alloc, words, folder, out, gate, disk, &mut Nobody)
 }
 
 /// The desk, as `desk_main`, with a listener: a recovery without workers and a trial tell it how far they have come and
 /// of each move that is tried; a team of workers does not. The listener answers nothing, and all clauses of `desk_main`
 /// hold for every one.
-pub fn desk_main_heard<R: Threads + Wait + Sync, F: Folder, O: Sink, G: Gate, L: Listener>(
+pub fn desk_main_heard<R: Threads + Wait + Sync, F: Folder, O: Sink, G: Gate, D: Disk, L: Listener>(
     rt: &R,
     alloc: Global,
     words: &[String],
     folder: &mut F,
     out: &mut O,
     gate: &G,
+    disk: &mut D,
     listener: &mut L,
 ) -> u8
+    requires nothing_pending { asks_disk (asked_by (map string_bytes words.now)) ≡ true → IfSome (D.shown disk.old) (λ was. HasNothingPending was.file) }
     // The headline: where the folder shows the bytes of its input, each replay that was done has written
     // the journal of a legal history of the events that it read, and the last plan of that history.
-    ensures headline { (dirs : Directories) → command (map string_bytes words.now) ≡ Some (Replay, Some dirs) →
+    ensures headline { (dirs : NamedDirectories) → command (map string_bytes words.now) ≡ Some (Replay, Some dirs) →
         (x : Inputs) → Tells (files_read Replay) (F.outside folder.old) x → IsDoneAt result →
         Between F.outside O.report folder.old out.old folder.new out.new (λ before now. IsReplayed before now x) }
 
     // The headline of a recovery: each that was done has written the journal of a legal history in which the
     // batches that it read stand in their order, each with exactly its descent after it, and the last plan of
     // that history; and it has reported how the last search ended.
-    ensures recovered { (moves : ℕ) → (dirs : Directories) →
+    ensures recovered { (moves : ℕ) → (dirs : NamedDirectories) →
         command (map string_bytes words.now) ≡ Some (Recover 0 moves false, Some dirs) →
         (x : Inputs) → Tells (files_read (Recover 0 moves false)) (F.outside folder.old) x → IsDoneAt result →
         Between F.outside O.report folder.old out.old folder.new out.new (λ before now. IsRecovered before now moves x result) }
@@ -175,7 +316,7 @@ pub fn desk_main_heard<R: Threads + Wait + Sync, F: Folder, O: Sink, G: Gate, L:
     // worker came first. In it the batches that it read stand in their order, each once, and each other entry is the
     // first better move of its worker's shard, after a beginning that has all that worker's earlier entries and by
     // which the budget is not spent; and it has written the last plan of that history, and why its search ended.
-    ensures searched { (workers : ℕ) → (moves : ℕ) → (live : Bool) → (dirs : Directories) →
+    ensures searched { (workers : ℕ) → (moves : ℕ) → (live : Bool) → (dirs : NamedDirectories) →
         command (map string_bytes words.now) ≡ Some (Recover workers moves live, Some dirs) → 1 ≤ workers →
         (x : Inputs) → Tells (files_read (Recover workers moves live)) (F.outside folder.old) x → IsDoneAt result →
         Between F.outside O.report folder.old out.old folder.new out.new (λ before now. IsRecoveredByTeam before now workers moves live x result) }
@@ -186,21 +327,75 @@ pub fn desk_main_heard<R: Threads + Wait + Sync, F: Folder, O: Sink, G: Gate, L:
 
     // Each check that was done has reported the first item that the plan breaks, or that it breaks none, and the
     // whole cost of the plan, under the orders of all batches.
-    ensures checked { (dirs : Directories) → command (map string_bytes words.now) ≡ Some (Check, Some dirs) →
+    ensures checked { (dirs : NamedDirectories) → command (map string_bytes words.now) ≡ Some (Check, Some dirs) →
         (x : Inputs) → Tells (files_read Check) (F.outside folder.old) x → IsDoneAt result →
         Between F.outside O.report folder.old out.old folder.new out.new (λ before now. IsChecked before now x result) }
 
     // Each day that was generated is written whole.
-    ensures generated { (seed : ℕ) → (size : ℕ) → (dirs : Directories) →
+    ensures generated { (seed : ℕ) → (size : ℕ) → (dirs : NamedDirectories) →
         command (map string_bytes words.now) ≡ Some (Gen seed size, Some dirs) → IsDoneAt result →
         Between F.outside O.report folder.old out.old folder.new out.new (λ before now. IsGenerated before now seed size result) }
 
-    // All that is promised of each run of any command, with one and the same work in all of it: how the run
+    // The headline of a run that keeps its journal on the disk: each that was done has written what a replay of the same
+    // input writes, with how many entries the disk held as the first line of its report: as many as its file had, where shown.
+    ensures stored_headline { (dirs : NamedDirectories) → command (map string_bytes words.now) ≡ Some (Store, Some dirs) →
+        (x : Inputs) → Tells (files_read Store) (F.outside folder.old) x → IsDoneAt result →
+        Between F.outside O.report folder.old out.old folder.new out.new (λ before now. IsStored before now (D.shown disk.old) (D.shown disk.new) x result) }
+
+    // All that is promised of such a run. The disk failed to name its directory, and nothing was read. Or the journal on the
+    // disk ended it, once the input was read and accepted: the disk failed, or where it shows its file that was damaged, or of
+    // other events. Or it keeps all that is promised of a replay, with that line.
+    ensures stored_promise { (dirs : NamedDirectories) → command (map string_bytes words.now) ≡ Some (Store, Some dirs) →
+        Between F.outside O.report folder.old out.old folder.new out.new (λ before now.
+        RunsOnDisk (asked_by (map string_bytes words.now)) before now (D.faults disk.old) (D.faults disk.new) (D.shown disk.old) (D.shown disk.new) result) }
+
+    // At 0, 1 and 5, and where an output file has got a byte, the file on the disk opens as the whole history, whatever crash
+    // comes.
+    ensures stored { (dirs : NamedDirectories) → command (map string_bytes words.now) ≡ Some (Store, Some dirs) →
+        Between F.outside O.report folder.old out.old folder.new out.new (λ before now.
+        (x : Inputs) → Tells (files_read Store) before.folder x → IsWrittenAt result ⊎ HasBegun before now →
+        Shown (D.shown disk.old) (D.shown disk.new) (HoldsAll x)) }
+
+    // Until the comparison with what the disk holds has passed each crash leaves all bytes but the one that opening sets; from
+    // then on, at any moment, a file that opens as a beginning of the history, with all entries that the disk held.
+    ensures untouched { (dirs : NamedDirectories) → command (map string_bytes words.now) ≡ Some (Store, Some dirs) →
+        (x : Inputs) → Tells (files_read Store) (F.outside folder.old) x →
+        Shown (D.shown disk.old) (D.shown disk.new) (StandsAlways x) }
+
+    // Where the input is refused, at most the directory of the disk was named.
+    ensures stored_unasked { (dirs : NamedDirectories) → command (map string_bytes words.now) ≡ Some (Store, Some dirs) →
+        (x : Inputs) → Tells (files_read Store) (F.outside folder.old) x → (r : Refusal) → kept_of x ≡ Err r →
+        IsAtMostNamed (D.shown disk.old) (D.shown disk.new) }
+
+    // At 3 it is the former.
+    ensures stored_refused { (dirs : NamedDirectories) → command (map string_bytes words.now) ≡ Some (Store, Some dirs) →
+        result ≡ 3 → Shown (D.shown disk.old) (D.shown disk.new) OnlyOpens }
+
+    // 8 comes only where the disk failed.
+    ensures stored_failed { (dirs : NamedDirectories) → command (map string_bytes words.now) ≡ Some (Store, Some dirs) →
+        result ≡ 8 → Rose (D.faults disk.old) (D.faults disk.new) }
+
+    // At 0, 1, 3 and 5 the directory of the disk is that of the output.
+    ensures stored_in { (dirs : NamedDirectories) → command (map string_bytes words.now) ≡ Some (Store, Some dirs) →
+        IsPlacedAt result → IfSome (D.directory disk.old) (λ _. D.directory disk.new ≡ Some dirs.output) }
+
+    // No run lets the count of faults of the disk fall, and a disk that shows nothing goes on so.
+    ensures disk_kept { D.faults disk.old ≤ D.faults disk.new }
+    ensures disk_unshown { D.shown disk.old ≡ None → D.shown disk.new ≡ None }
+
+    // Every other run leaves the disk as it was.
+    ensures other_disk { asks_disk (asked_by (map string_bytes words.now)) ≡ false → disk.new ≡ disk.old }
+
+    // All that is promised of each run of any other command, with one and the same work in all of it: how the run
     // ended (`runs`); what its status means (`means`: `done`, `read`, `usage`, `usage_only`, `refused_where`,
     // `refused`, `fault`, `complete`); what stands outside after it (`stands`: `named`, `unwritten`, `begun`,
     // `fault_reported`); and what is untouched (`alone`: `unnamed`, `unread`, `in_order`, `unput`).
-    ensures promise { Between F.outside O.report folder.old out.old folder.new out.new
+    ensures promise { asks_disk (asked_by (map string_bytes words.now)) ≡ false →
+        Between F.outside O.report folder.old out.old folder.new out.new
         (λ before now. RunsAsPromised (asked_by (map string_bytes words.now)) before now result) }
 {
-    reported_run(rt, alloc, words, folder, out, gate, listener)
+    match kept_directories(words) {
+        Some(dirs) => stored_run(alloc, &dirs, folder, out, disk),
+        None => reported_run(rt, alloc, words, folder, out, gate, listener),
+    }
 }

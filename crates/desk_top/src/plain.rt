@@ -1,7 +1,7 @@
 //! The commands, one after another on one thread, in directories that are named already.
 
-ghost use Rattle.std.specs.Prelude.{◌≡◌, ◌≢◌};
-ghost use Rattle.desk_runs.specs.Commands.{IsCommand, asked_here, workers_of};
+ghost use Rattle.std.specs.Prelude.{◌≡◌, ◌≢◌, false};
+ghost use Rattle.desk_runs.specs.Commands.{IsCommand, asked_here, is_of_disk, workers_of};
 ghost use Rattle.desk_runs.specs.Runs.{Between, TellsEnd};
 ghost use Rattle.desk_runs.specs.Finishing.{Completes};
 ghost use Rattle.desk_runs.proofs.Composed.{here};
@@ -130,7 +130,7 @@ fn obey_and_tell<F: Folder, O: Sink, L: Listener>(
     tell(alloc, ending, out)
 }
 
-/// Does what a command says that asks for no workers, in the directories that the folder has, and answers the status.
+/// Does what a command says that asks for no workers and for no disk, in the directories that the folder has, and answers the status.
 /// It waits for nobody. A recovery and a trial tell the listener how far they have come; what is answered, reported and
 /// written depends on no listener.
 ///
@@ -147,6 +147,7 @@ pub fn run_plain<F: Folder, O: Sink, L: Listener>(
 ) -> u8
     requires ranges { IsCommand command.now }
     requires alone { workers_of command.now ≡ 0 }
+    requires diskless { is_of_disk command.now ≡ false }
     // All that is promised of each run: how it ended, what its status means, what stands outside after it, and
     // what is untouched.
     ensures promise { Between F.outside O.report folder.old out.old folder.new out.new

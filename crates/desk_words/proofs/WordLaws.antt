@@ -3,7 +3,7 @@ use Rattle.std.proofs.Common.{◌≡◌, ℕ, Bool, true, false, ◌&&◌, if◌
 use Rattle.std.proofs.lemmas.List.{append_assoc, append-nil}
 use Rattle.desk_text.specs.Fields.{◌>>=◌, number_from}
 use Rattle.desk_words.specs.declared.asked.Command.{Command}
-use Rattle.desk_words.specs.declared.asked.Command.TheVariants.{Replay, Check}
+use Rattle.desk_words.specs.declared.asked.Command.TheVariants.{Replay, Store, Check}
 use Rattle.desk_words.specs.declared.choice.NumberOption.{NumberOption}
 use Rattle.desk_words.specs.declared.choice.NumberOption.TheVariants.{Seed, Size, Workers, Moves, Live}
 use Rattle.desk_words.specs.declared.read.Expected.{Expected}
@@ -147,10 +147,11 @@ if_same false a b c d e f = f
 says_all : (word : List ℕ) (done : List Argument) (kept : WordsRead) → Says done kept → command_by word done ≡ asked_kept word kept
 says_all word done kept h =
     if_same (bytes_eq word (codes "replay")) (plain Replay done) (plain_kept Replay kept) _ _ (plain_says Replay done kept h)
+    (if_same (bytes_eq word (codes "store")) (plain Store done) (plain_kept Store kept) _ _ (plain_says Store done kept h)
     (if_same (bytes_eq word (codes "recover")) (recovering done) (recovering_kept kept) _ _ (recovering_says done kept h)
     (if_same (bytes_eq word (codes "check")) (plain Check done) (plain_kept Check kept) _ _ (plain_says Check done kept h)
     (if_same (bytes_eq word (codes "gen")) (generating done) (generating_kept kept) _ _ (generating_says done kept h)
-    (if_same (bytes_eq word (codes "trial")) (trying done) (trying_kept kept) None None (trying_says done kept h) refl))))
+    (if_same (bytes_eq word (codes "trial")) (trying done) (trying_kept kept) None None (trying_says done kept h) refl)))))
 
 -- arguments that no command takes: too many directories, or an option that is set wrongly
 data Fails (list : List Argument) : Type 0 where
@@ -242,10 +243,11 @@ trying_fails list (wrong Live e) = unless (no_search_options list) _ (search_wro
 fails_all : (word : List ℕ) (list : List Argument) → Fails list → command_by word list ≡ None
 fails_all word list h =
     if_none (bytes_eq word (codes "replay")) (plain Replay list) _ (plain_fails Replay list h)
+    (if_none (bytes_eq word (codes "store")) (plain Store list) _ (plain_fails Store list h)
     (if_none (bytes_eq word (codes "recover")) (recovering list) _ (recovering_fails list h)
     (if_none (bytes_eq word (codes "check")) (plain Check list) _ (plain_fails Check list h)
     (if_none (bytes_eq word (codes "gen")) (generating list) _ (generating_fails list h)
-    (if_none (bytes_eq word (codes "trial")) (trying list) None (trying_fails list h) refl))))
+    (if_none (bytes_eq word (codes "trial")) (trying list) None (trying_fails list h) refl)))))
 
 -- an argument more is kept, or it fails whatever follows it
 data Step (done : List Argument) (kept : WordsRead) (argument : Argument) : Type 0 where

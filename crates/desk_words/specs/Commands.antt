@@ -3,7 +3,7 @@ use Rattle.std.specs.Prelude.{ℕ, Bool, true, false, ◌&&◌, nat_lt, if◌the
 use Rattle.desk_folder.specs.Outside.{Directories}
 use Rattle.desk_text.specs.Fields.{◌>>=◌, number_from}
 use Rattle.desk_words.specs.declared.asked.Command.{Command}
-use Rattle.desk_words.specs.declared.asked.Command.TheVariants.{Replay, Recover, Check, Gen, Trial}
+use Rattle.desk_words.specs.declared.asked.Command.TheVariants.{Replay, Store, Recover, Check, Gen, Trial}
 use Rattle.desk_words.specs.declared.choice.NumberOption.{NumberOption}
 use Rattle.desk_words.specs.declared.choice.NumberOption.TheVariants.{Seed, Size, Workers, Moves, Live}
 use Rattle.desk_words.specs.Arguments.{Argument, arguments, places, values}
@@ -126,10 +126,11 @@ trying arguments = if no_search_options arguments then sampling arguments else N
 abbrev pub command_by : List ℕ → List Argument → Option Asking
 command_by word arguments =
     if bytes_eq word (codes "replay") then plain Replay arguments else (
+    if bytes_eq word (codes "store") then plain Store arguments else (
     if bytes_eq word (codes "recover") then recovering arguments else (
     if bytes_eq word (codes "check") then plain Check arguments else (
     if bytes_eq word (codes "gen") then generating arguments else (
-    if bytes_eq word (codes "trial") then trying arguments else None))))
+    if bytes_eq word (codes "trial") then trying arguments else None)))))
 
 -- the command of the words, the program's name left out, with its directories; all other words are a usage refusal
 unfoldable pub command : List (List ℕ) → Option Asking

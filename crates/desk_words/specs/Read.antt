@@ -2,7 +2,7 @@
 use Rattle.std.specs.Prelude.{ℕ, Bool, true, false, ◌&&◌, if◌then◌else◌, List, [], ◌∷◌, Option, Some, None, unwrap_or, codes, bytes_eq}
 use Rattle.desk_text.specs.Fields.{◌>>=◌, number_from}
 use Rattle.desk_words.specs.declared.asked.Command.{Command}
-use Rattle.desk_words.specs.declared.asked.Command.TheVariants.{Replay, Recover, Check, Gen, Trial}
+use Rattle.desk_words.specs.declared.asked.Command.TheVariants.{Replay, Store, Recover, Check, Gen, Trial}
 use Rattle.desk_words.specs.declared.choice.NumberOption.{NumberOption}
 use Rattle.desk_words.specs.declared.choice.NumberOption.TheVariants.{Seed, Size, Workers, Moves, Live}
 use Rattle.desk_words.specs.declared.read.DirectoryWords.{DirectoryWords}
@@ -165,7 +165,8 @@ trying_kept kept =
 abbrev pub asked_kept : List ℕ → WordsRead → Option Asking
 asked_kept word kept =
     if bytes_eq word (codes "replay") then plain_kept Replay kept else (
+    if bytes_eq word (codes "store") then plain_kept Store kept else (
     if bytes_eq word (codes "recover") then recovering_kept kept else (
     if bytes_eq word (codes "check") then plain_kept Check kept else (
     if bytes_eq word (codes "gen") then generating_kept kept else (
-    if bytes_eq word (codes "trial") then trying_kept kept else None))))
+    if bytes_eq word (codes "trial") then trying_kept kept else None)))))

@@ -5,6 +5,8 @@
 pub enum Command {
     /// to take the events of a journal in order
     Replay,
+    /// to take them, and to keep each answered one in a journal on the disk, so that a stopped run goes on
+    Store,
     /// to take the batches of a day, and to search for a cheaper plan after each
     Recover {
         /// how many workers search beside one another, 0 to 64; with 0 the desk searches alone

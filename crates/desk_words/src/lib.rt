@@ -6,6 +6,7 @@
 //! All else is a usage refusal, a call for help among it.
 //!
 //!     replay IN OUT
+//!     store IN OUT
 //!     recover IN OUT [--workers 0 to 64] [--moves 1 to 100000] [--live]    // 0 and 1000 if it isn't there
 //!     check IN OUT
 //!     gen OUT [--seed 0 to 999999999] [--size 1 to 40]      // each 1 if it isn't there

@@ -39,6 +39,7 @@ fn asked<'a>(word: &str, read: Read<'a>) -> Option<Asked<'a>>
 {
     match word {
         "replay" => plain(Command::Replay, read),
+        "store" => plain(Command::Store, read),
         "recover" => recovering(read),
         "check" => plain(Command::Check, read),
         "gen" => generating(read),

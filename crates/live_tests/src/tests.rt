@@ -1,7 +1,6 @@
 ghost use Rattle.std.specs.Prelude.{◌≡◌, ◌<◌, length, [], ◌∷◌};
 ghost use Rattle.live_board.specs.Histories.{history};
 ghost use Rattle.live_board.specs.Words.{board_of, opening_log, told_by, IsShown};
-ghost use Rattle.live_tests.specs.Posts.{posted};
 
 use crate::most::{Blank, Most, Posted};
 use crate::threads::{see_both, tell_and_end, tell_two};
@@ -39,7 +38,7 @@ fn tell_and_see<J: Naming + Send + Sync, R: Threads + Wait + Abort + Sync>(
         rt,
         || -> (Teller<Most, Posted, J, &R>, Result<(), NoMem>)
             requires room { length (history (told_by teller)) < 100 }
-            requires shown { IsShown posted teller }
+            requires shown { IsShown (λ (p : Posted). p.0.seen.log) teller }
         { tell_two(rt, teller, &saw) },
         || see_both(rt, viewer, &saw),
     );
@@ -80,7 +79,7 @@ fn watch_on<J: Naming + Send + Sync, R: Threads + Wait + Abort + Sync>(
         rt,
         || -> (Teller<Most, Posted, J, &R>, Result<(), NoMem>)
             requires room { length (history (told_by teller)) < 100 }
-            requires shown { IsShown posted teller }
+            requires shown { IsShown (λ (p : Posted). p.0.seen.log) teller }
         { tell_and_end(teller, &ended) },
         || -> (Viewer<Most, Posted, J>, Vec<Note<Most, J>>)
             requires { notes.items ≡ [] }

@@ -3,7 +3,6 @@
 ghost use Rattle.std.specs.Prelude.{◌≡◌, ◌+◌, ◌<◌, ◌++◌, ◌∷◌, [], length, OnOk};
 ghost use Rattle.live_board.specs.Histories.{history, tells};
 ghost use Rattle.live_board.specs.Words.{told_by, IsShown};
-ghost use Rattle.live_tests.specs.Posts.{posted};
 
 use crate::most::{Most, Posted};
 use desk_units::NoMem;
@@ -19,7 +18,7 @@ pub fn tell_two<J: Naming, R: Wait + Drop, W: Wait>(
     saw: &AtomicU64,
 ) -> (Teller<Most, Posted, J, R>, Result<(), NoMem>)
     requires room { length (history (told_by teller)) < 100 }
-    requires shown { IsShown posted teller }
+    requires shown { IsShown (λ (p : Posted). p.0.seen.log) teller }
 {
     let mut teller = teller;
     let Ok(()) = teller.tell(&[5]) else {
@@ -36,7 +35,7 @@ pub fn tell_and_end<J: Naming, R: Wait + Drop>(
     ended: &AtomicU64,
 ) -> (Teller<Most, Posted, J, R>, Result<(), NoMem>)
     requires room { length (history (told_by teller)) < 100 }
-    requires shown { IsShown posted teller }
+    requires shown { IsShown (λ (p : Posted). p.0.seen.log) teller }
 {
     let (teller, told) = tell_one_and_two(teller);
     ended.store(1, Ordering::SeqCst);
@@ -47,7 +46,7 @@ fn tell_one_and_two<J: Naming, R: Wait + Drop>(
     teller: Teller<Most, Posted, J, R>,
 ) -> (Teller<Most, Posted, J, R>, Result<(), NoMem>)
     requires room { length (history (told_by teller)) < 100 }
-    requires shown { IsShown posted teller }
+    requires shown { IsShown (λ (p : Posted). p.0.seen.log) teller }
 {
     let mut teller = teller;
     let Ok(()) = teller.tell(&[5]) else {

@@ -46,3 +46,4 @@ verdict_shows x j (ending.ReadFault f) e v = absurd v
 verdict_shows x j (ending.WriteFault f) e v = absurd v
 verdict_shows x j ending.ReportFault e v = (j, e, v)
 verdict_shows x j ending.Memory e v = tt
+verdict_shows x j (ending.OnDisk end) e v = absurd v

@@ -3,13 +3,12 @@
 //! What a call, a join and a close promise is proved. Here stands what no clause says: that threads which
 //! make a hundred calls each come to an end, that a third can look meanwhile, and that the replies and
 //! the places that each was given are those of the book that comes back, one by one. What the threads do
-//! is in `threads`, outside of the tests, since an edit that must fail is not tried in tests.
+//! is in `threads`. There is no code here but of tests: what a crate has beside them is proved twice.
 #![tactic(auto)]
 
+#[cfg(test)]
 mod sums;
-pub mod threads;
-
-pub use sums::Sums;
-
 #[cfg(test)]
 mod tests;
+#[cfg(test)]
+mod threads;

@@ -2,7 +2,6 @@
 
 ghost use Rattle.std.specs.Prelude.{◌≡◌};
 ghost use Rattle.turn_book.specs.Passes.{tags, IsPassOf};
-ghost use Rattle.turn_tests.specs.Rooms.{room};
 
 use crate::sums::Sums;
 use crate::threads::{Answered, ask_and_look, ask_hundred, ask_two_books, look_after_a_call};
@@ -45,16 +44,16 @@ fn calls_of_two_threads_make_one_history(rt: HostRuntime) -> Result<(), Fail> {
     let ((first, one), ((second, two), (third, looked))) = join(
         &rt,
         || -> (Pass<Sums>, Result<Vec<Answered>, NoMem>)
-            requires { IsPassOf room turn first }
-            ensures of { IsPassOf room turn result.0 }
+            requires { IsPassOf (λ (b : Sums). b.room) turn first }
+            ensures of { IsPassOf (λ (b : Sums). b.room) turn result.0 }
             ensures tags { tags result.0 ≡ tags first }
         { ask_hundred(&rt, alloc, &turn, first, 1, 1) },
         || -> (
             (Pass<Sums>, Result<Vec<Answered>, NoMem>),
             (Pass<Sums>, Result<Vec<u16>, NoMem>),
         )
-            requires { IsPassOf room turn second × IsPassOf room turn third }
-            ensures of { IsPassOf room turn result.0.0 × IsPassOf room turn result.1.0 }
+            requires { IsPassOf (λ (b : Sums). b.room) turn second × IsPassOf (λ (b : Sums). b.room) turn third }
+            ensures of { IsPassOf (λ (b : Sums). b.room) turn result.0.0 × IsPassOf (λ (b : Sums). b.room) turn result.1.0 }
             ensures tags { (tags result.0.0 ≡ tags second) × (tags result.1.0 ≡ tags third) }
         { ask_and_look(&rt, alloc, &turn, second, third) },
     );

@@ -2,7 +2,6 @@
 
 ghost use Rattle.std.specs.Prelude.{◌≡◌, ◌≤◌};
 ghost use Rattle.turn_book.specs.Passes.{tags, IsPassOf};
-ghost use Rattle.turn_tests.specs.Rooms.{room};
 
 use crate::sums::Sums;
 use desk_units::NoMem;
@@ -29,8 +28,8 @@ pub fn ask_hundred<R: Wait>(
     first: u16,
 ) -> (Pass<Sums>, Result<Vec<Answered>, NoMem>)
     requires small { first ≤ 10000 }
-    requires of { IsPassOf room turn.now pass }
-    ensures of { IsPassOf room turn.now result.0 }
+    requires of { IsPassOf (λ (b : Sums). b.room) turn.now pass }
+    ensures of { IsPassOf (λ (b : Sums). b.room) turn.now result.0 }
     ensures tags { tags result.0 ≡ tags pass }
 {
     let mut calls = Vec::new(alloc);
@@ -61,8 +60,8 @@ pub fn look_on<R: Wait>(
     turn: &Turn<Sums>,
     mut pass: Pass<Sums>,
 ) -> (Pass<Sums>, Result<Vec<u16>, NoMem>)
-    requires of { IsPassOf room turn.now pass }
-    ensures of { IsPassOf room turn.now result.0 }
+    requires of { IsPassOf (λ (b : Sums). b.room) turn.now pass }
+    ensures of { IsPassOf (λ (b : Sums). b.room) turn.now result.0 }
     ensures tags { tags result.0 ≡ tags pass }
 {
     let mut numbers = Vec::new(alloc);
@@ -89,20 +88,20 @@ pub fn ask_and_look<R: Threads + Wait + Sync>(
     (Pass<Sums>, Result<Vec<Answered>, NoMem>),
     (Pass<Sums>, Result<Vec<u16>, NoMem>),
 )
-    requires of { IsPassOf room turn.now asking × IsPassOf room turn.now looking }
-    ensures of { IsPassOf room turn.now result.0.0 × IsPassOf room turn.now result.1.0 }
+    requires of { IsPassOf (λ (b : Sums). b.room) turn.now asking × IsPassOf (λ (b : Sums). b.room) turn.now looking }
+    ensures of { IsPassOf (λ (b : Sums). b.room) turn.now result.0.0 × IsPassOf (λ (b : Sums). b.room) turn.now result.1.0 }
     ensures tags { (tags result.0.0 ≡ tags asking) × (tags result.1.0 ≡ tags looking) }
 {
     join(
         rt,
         || -> (Pass<Sums>, Result<Vec<Answered>, NoMem>)
-            requires { IsPassOf room turn.now asking }
-            ensures of { IsPassOf room turn.entry.now result.0 }
+            requires { IsPassOf (λ (b : Sums). b.room) turn.now asking }
+            ensures of { IsPassOf (λ (b : Sums). b.room) turn.entry.now result.0 }
             ensures tags { tags result.0 ≡ tags asking }
         { ask_hundred(rt, alloc, turn, asking, 2, 1001) },
         || -> (Pass<Sums>, Result<Vec<u16>, NoMem>)
-            requires { IsPassOf room turn.now looking }
-            ensures of { IsPassOf room turn.entry.now result.0 }
+            requires { IsPassOf (λ (b : Sums). b.room) turn.now looking }
+            ensures of { IsPassOf (λ (b : Sums). b.room) turn.entry.now result.0 }
             ensures tags { tags result.0 ≡ tags looking }
         { look_on(rt, alloc, turn, looking) },
     )

@@ -2,6 +2,7 @@
 
 use super::days::folder_of;
 use desk_data::NoMem;
+use desk_disk::MemDisk;
 use desk_folder::{File, FreeGate, MemSink};
 use desk_top::desk_main;
 use std::alloc::Global;
@@ -57,7 +58,7 @@ const DAY: [(File, &str); 16] = [
 ];
 
 /// The words of a run, a file that is changed, its text, and the status of that run.
-const RUNS: [(&str, File, &str, u8); 11] = [
+const RUNS: [(&str, File, &str, u8); 12] = [
     (
         "replay in out",
         File::Config,
@@ -82,6 +83,12 @@ const RUNS: [(&str, File, &str, u8); 11] = [
         7,
     ),
     ("check in out", File::SolItineraries, "R1 A 10\n", 3),
+    (
+        "store in out",
+        File::Config,
+        "01/03/08 06:00 02/03/08 06:00\n",
+        0,
+    ),
     ("gen out --seed 7 --size=1", File::Config, "", 0),
     ("gen out --size 41", File::Config, "", 2),
 ];
@@ -106,6 +113,7 @@ fn status_of_run<R: Threads + Wait + Sync>(
     let words = words_of(alloc, words)?;
     let mut folder = folder_of(alloc, &[(changed, text)], &DAY)?;
     let mut out = MemSink::new(Vec::new(alloc));
+    let mut disk = MemDisk::new(Vec::new(alloc), Vec::new(alloc));
     Ok(desk_main(
         rt,
         alloc,
@@ -113,6 +121,7 @@ fn status_of_run<R: Threads + Wait + Sync>(
         &mut folder,
         &mut out,
         &FreeGate,
+        &mut disk,
     ))
 }
 

@@ -1,6 +1,7 @@
 use Rattle.std.proofs.Common.{ℕ, sym, subst}
 use Rattle.desk_model.specs.declared.answer.Event.{Event}
-use Rattle.desk_model.specs.Histories.{IsAskable}
+use Rattle.desk_model.specs.States.{opening}
+use Rattle.desk_model.specs.Histories.{IsAskable, run}
 use Rattle.desk_replay.proofs.RunLaws.{continues-next, continues-end}
 use Rattle.desk_replay.proofs.run.run_events.Goals as goal
 
@@ -12,8 +13,8 @@ take_event-requires c =
 
 pub loop-asked-preserved : goal.loop-asked-preserved
 loop-asked-preserved c =
-    continues-next c.args.inst c.loop-asked.book c.take_event.new.book c.asked-item.result c.loop-asked.asked-index c.args.events.now
+    continues-next c.args.inst c.loop-asked.book c.take_event.new.book c.asked-item.result c.loop-asked.asked-index c.args.events.now (run (opening c.args.inst) c.args.events.now)
     c.loop-asked-test.true c.asked-item.is c.in_ok-take_event.ensures c.loop-asked.invariant
 
 pub returns : goal.returns
-returns c = continues-end c.args.inst c.loop-asked.book c.loop-asked.asked-index c.args.events.now c.loop-asked-test.false c.loop-asked.invariant
+returns c = continues-end c.args.inst c.loop-asked.book c.loop-asked.asked-index c.args.events.now (run (opening c.args.inst) c.args.events.now) c.loop-asked-test.false c.loop-asked.invariant

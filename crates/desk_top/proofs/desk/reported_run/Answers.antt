@@ -1,19 +1,25 @@
-use Rattle.std.proofs.Common.{map, ap, refl}
-use Rattle.desk_runs.specs.Commands.{IsCommand}
+use Rattle.std.proofs.Common.{map, ap, refl, ◌∙◌}
+use Rattle.desk_runs.specs.Commands.{asks, asks_disk}
 use Rattle.desk_runs.specs.Runs.{world}
-use Rattle.std.specs.Prelude.{Some, option_map}
+use Rattle.std.specs.Prelude.{Option, Some, option_map}
 use Rattle.std.specs.String.{string_bytes}
-use Rattle.desk_words.specs.Commands.{command}
+use Rattle.desk_words.specs.Commands.{Asking, command}
 use Rattle.desk_words.specs.Asked.{named, asking}
-use Rattle.desk_top.proofs.Placed.{run-placed, asked-with, run-usage, run-here, run-unplaced, run-unnamed}
+use Rattle.desk_top.proofs.Placed.{run-placed, asked-with, run-usage, run-unplaced, run-unnamed}
 use Rattle.desk_top.proofs.Ranges.{asked-in-range}
 use Rattle.desk_top.proofs.desk.reported_run.Goals as goal
 
-pub run-requires : goal.run-requires
-run-requires g c = (let range : IsCommand c.in-Some.asked.command = asked-in-range (map string_bytes c.args.words.now) (asking c.in-Some.asked) c.in-Some.ensures in (c.type_bounds.sync-R, (c.type_bounds.sync-G, range)))
+pub run-requires-clause-ranges : goal.run-requires-clause-ranges
+run-requires-clause-ranges g c = λ κs lives. asked-in-range (map string_bytes c.args.words.now) (asking c.in-Some.asked) c.in-Some.ensures
 
-pub run-requires-in-Ok : goal.run-requires-in-Ok
-run-requires-in-Ok g c = (let range : IsCommand c.in-Some.asked.command = asked-in-range (map string_bytes c.args.words.now) (asking c.in-Some.asked) c.in-Some.ensures in (c.type_bounds.sync-R, (c.type_bounds.sync-G, range)))
+pub run-requires-clause-diskless : goal.run-requires-clause-diskless
+run-requires-clause-diskless g c = λ κs range. ap (λ (o : Option Asking). asks_disk (option_map asks o)) c.in-Some.ensures ∙ c.requires.diskless
+
+pub run-requires-in-Ok-clause-ranges : goal.run-requires-in-Ok-clause-ranges
+run-requires-in-Ok-clause-ranges g c = λ κs lives. asked-in-range (map string_bytes c.args.words.now) (asking c.in-Some.asked) c.in-Some.ensures
+
+pub run-requires-in-Ok-clause-diskless : goal.run-requires-in-Ok-clause-diskless
+run-requires-in-Ok-clause-diskless g c = λ κs range. ap (λ (o : Option Asking). asks_disk (option_map asks o)) c.in-Some.ensures ∙ c.requires.diskless
 
 pub returns-in-Ok : goal.returns-in-Ok
 returns-in-Ok g c =

@@ -1,0 +1,10 @@
+pub mod Entered
+pub mod Runs
+pub mod Comparing
+pub mod Adding
+pub mod Storing
+pub mod Opening
+pub mod Keeping
+pub mod Exact
+pub mod Spelled
+pub mod Owned

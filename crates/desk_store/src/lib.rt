@@ -1,0 +1,27 @@
+//! Keeping a story: its events are taken one after another, each answered one is kept in a journal on a disk before the
+//! next one is answered, and what came of them is written.
+//!
+//! `keep_events` opens the journal on the disk and compares what it holds with the events. Where these go on from there, a
+//! book answers all of them; the answers that the disk does not have yet are added one by one; and then what came of them is
+//! written, with how many entries the disk held first in the report.
+//!
+//! Proved: whatever moment the disk crashes at, it leaves a beginning of the history, with all that it held; until the
+//! comparison has passed no byte is changed but the one that opening sets; and before a file or the report has got a byte, the
+//! whole history is on the disk. What is written is what a replay writes (`kept` of desk_tasks). What one run leaves the next one
+//! opens, in however many runs (`what_one_run_leaves_the_next_one_opens`). It depends on
+//! `journal_disk`, `desk_core`, `desk_replay` and `book_texts`, and on no reader.
+#![tactic(auto)]
+
+mod compare;
+mod held;
+mod keep;
+mod laws;
+mod room;
+mod store;
+
+pub use desk_runs::Ending;
+pub use keep::keep_events;
+pub use laws::{
+    a_file_says_one_thing_of_a_story, entries_are_those_of_the_events_read,
+    what_one_run_leaves_the_next_one_opens,
+};
