@@ -14,13 +14,14 @@ start of the program apart. The schedule that the whole day writes is read
 again and judged by `check`, under all disruptions. Then the whole day is run with a journal
 of each of some usual moves, asked again and again. Last the whole day and
 half of it take a batch: each 50th leg is half an hour late, each 100th aircraft is out of service for an hour, and
-each 50th airport is closed for one, so that the schedule does not stand, and the desk shifts. The desk runs on one
-processor.
+each 50th airport is closed for one, so that the schedule does not stand, and the desk shifts. After it the whole day takes
+another batch, without a moment and with noon for its moment, by which most legs have left. The desk runs on one processor.
 
 The last lines say how many bytes a second were read and joined, how long a check takes beside a replay without a journal,
 how long a move and a batch take, and how much longer twice the rows took. The status is 1 where that is less than 40 MB a
 second, more than 1.5 times the replay, more than 50 microseconds a set or a rebooking, more than 500 a delay or a swap, more
-than 500 ms a batch, more than 1.5 times as long for a set on twice the legs, or more than 2.3 times as long for the rest.
+than 500 ms a batch, more than 1.6 times as long a run where the batch tells a moment, more than 1.5 times as long for a set on twice
+the legs, or more than 2.3 times as long for the rest.
 """
 import os
 import subprocess
@@ -49,6 +50,10 @@ USUAL = [
     ("a refill", "refill F0 01/03/08", 20000, None),
 ]
 BATCH = "0,batch,0\n"
+BATCHES = BATCH + "0,batch,1\n"
+NEWS = "1,flight,F1,01/03/08,30\n"
+AT_NOON = "1,at,01/03/08,12:00\n"
+MOST_OF_MOMENT = 1.6
 LEAST_RATE = 40.0
 MOST_BATCH_MILLISECONDS = 500.0
 MOST_RATIO = 2.3
@@ -135,13 +140,13 @@ def desk(command, folder, into):
     return subprocess.run([PROGRAM, command, folder, into], capture_output=True, text=True, env=AS_DESK)
 
 
-def run(legs, what, journal, command="replay"):
+def run(legs, what, journal, command="replay", feed=""):
     """The bytes of the day, and the shortest time of five runs. A check is of the plan that a replay has written."""
     with tempfile.TemporaryDirectory() as folder:
         into = os.path.join(folder, "out")
         os.mkdir(into)
         size = 0
-        for name, text in dict(day_of(legs), **{"journal.csv": journal}).items():
+        for name, text in dict(day_of(legs), **{"journal.csv": journal, "feed.csv": feed}).items():
             with open(os.path.join(folder, name), "w") as file:
                 file.write(text)
             size += len(text)
@@ -187,7 +192,11 @@ def main():
     batch_ratio = (fallen - whole_checked) / (half_fallen - half_checked)
     print("%.1f ms a batch (at most %.0f)" % (batch, MOST_BATCH_MILLISECONDS))
     print("%.2f times as long for twice the legs (at most %.1f)" % (batch_ratio, MOST_RATIO))
-    held = (rate >= LEAST_RATE and judged <= MOST_OF_CHECK * whole_checked and not slow and move_ratio <= MOST_MOVE_RATIO
+    _, told = run(legs, "and another batch", BATCHES, feed=NEWS)
+    _, told_at_noon = run(legs, "and another batch, at noon", BATCHES, feed=AT_NOON + NEWS)
+    print("%.1f ms more for the moment, and %.2f times as long a run (at most %.1f)"
+          % (1000 * (told_at_noon - told), told_at_noon / told, MOST_OF_MOMENT))
+    held = (told_at_noon <= MOST_OF_MOMENT * told and rate >= LEAST_RATE and judged <= MOST_OF_CHECK * whole_checked and not slow and move_ratio <= MOST_MOVE_RATIO
             and batch <= MOST_BATCH_MILLISECONDS and max(ratio, batch_ratio) <= MOST_RATIO)
     return 0 if held else 1
 

@@ -37,6 +37,8 @@ class Maker:
     def __init__(self, draws):
         self.draws, self.date, self.files = draws, draws.choice(DATES), {}
         self.places = list(PLACES[:draws.randint(2, 4)])
+        # the last moment that was told, first the window's start
+        self.now = 0
         self.planes, self.legs = [], []
 
     def chance(self, share=0.05):
@@ -159,12 +161,22 @@ class Maker:
     def make_orders(self):
         for name, kind in (("alt_flights.csv", b"flight"), ("alt_aircraft.csv", b"aircraft"), ("alt_airports.csv", b"airport")):
             self.put(name, self.orders(kind, self.pick(0, 0, 1, 2)))
+        tells = self.chance(0.36)
         lines = []
-        for batch in range(1, self.pick(1, 1, 2, 3, 4)):
+        for batch in range(1, self.pick(2, 3, 4, 5) if tells else self.pick(1, 1, 2, 3, 4)):
             rows = [b"%d,%s,%s" % (batch, kind, order.replace(b" ", b","))
                     for kind in (b"flight", b"aircraft", b"airport") for order in self.orders(kind, self.pick(0, 1, 1))]
+            if tells and self.chance(0.8):
+                rows.insert(0 if not self.chance(0.02) else len(rows), b"%d,at,%s" % (batch, self.told()))
             lines += rows or [b"%d,none" % batch]
         self.put("feed.csv", lines)
+
+    def told(self):
+        """A moment no earlier than the last one that was told, but now and then a minute: mostly about when a leg departs."""
+        departures = [leg[3] + self.pick(0, 1, 20) for leg in self.legs]
+        now = max(self.now, self.pick(*departures, self.now + self.pick(0, 60, 240)))
+        self.now = now if not self.chance(0.02) else self.now - 1
+        return self.moment(self.now, b",")
 
     def make_prices(self):
         rows = self.draws.sample(TARIFF, self.draws.randint(0, len(TARIFF)))
@@ -173,7 +185,7 @@ class Maker:
         self.put("tariff.csv", rows + ([b"surface,BUS"] if self.chance(0.6) else []))
 
     def make(self):
-        begin = self.draws.randint(30, 65) * 10
+        self.now = begin = self.draws.randint(30, 65) * 10
         self.put("config.csv", [self.moment(begin) + b" " + self.moment(begin + self.pick(600, 1200, 1440))])
         for part in (self.make_planes, self.make_legs, self.make_places, self.make_reservations, self.make_orders, self.make_prices):
             part()
@@ -201,7 +213,8 @@ class Proposer:
     def path(self, number):
         reservation = self.day.reservations[number]
         paths = [reservation.path, (), *self.state.plan.groups[number]]
-        paths.append(tuple((self.leg(), self.draws.randrange(3)) for _ in range(self.draws.choice((1, 1, 1, 2, 3)))))
+        stem = self.draws.choice([()] + self.state.situation.stems(number))
+        paths.append(stem + tuple((self.leg(), self.draws.randrange(3)) for _ in range(self.draws.choice((1, 1, 1, 2, 3)))))
         return self.draws.choice(paths)
 
     def step(self):

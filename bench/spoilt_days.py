@@ -9,12 +9,14 @@ ENDS = (
     b"1/3/8", b"001/03/08", b"D", b"C", b"I", b"F", b"B", b"E", b"A", b"R", b"d", b"P1", b"P9", b"F1", b"F9", b"AAA", b"ZZZ", b"R1",
     b"AAA-01/03/08-11:00-01/03/08-13:00-600", b"D-D-01/03/08-11:00-01/03/08-13:00-0", b"-01/03/08-11:00-01/03/08-13:00-1",
     b"AAA-01/03/08-13:00-01/03/08-13:00-600", b"AAA-01/03/08-11:00-01/03/08-13:00-100001", b"11:00-01/03/08-13:00-600",
-    b"set", b"push", b"swap", b"rebook", b"tidy", b"refill", b"batch", b"move", b"flight", b"aircraft", b"airport", b"surface", b"weight",
+    b"set", b"push", b"swap", b"rebook", b"tidy", b"refill", b"batch", b"move", b"flight", b"aircraft", b"airport", b"at", b"surface",
+    b"weight", b"10:40", b"10:41",
 )
 BYTES = b"\x00\t\n\r #\",-+/:.0159AZaz~\x7f\x80\xff"
 LINES = (
     b"", b" \t ", b"#", b"# the rest is not looked at", b" #", b"\r", b"\xef\xbb\xbf", b'"', b'""', b'"a', b'a"b', b",", b"1,none",
     b"0,move,tidy", b"0,move,", b"0,move,   ", b"0,batch,0", b"0,batch,1", b"1,move,tidy tidy", b"1,none,", b"2,none",
+    b"1,at,12/10/99,10:40", b"1,at,12/10/99,10:41", b"1,at,01/03/08,10:00", b"2,at,01/03/08,12:00,", b"2,at,01/03/08,12:00",
 )
 
 

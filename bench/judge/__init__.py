@@ -6,7 +6,7 @@ over the whole day wherever the desk keeps something. bench/fuzz.py asks both an
 rows         lines, fields and values of text files and comma files
 files        what each of the 16 files is by itself
 day          the join of the 13 files of the day, and the day that comes of it
-situation    what the orders make of a day
+situation    what the orders make of a day, and how far it has gone
 plan         a plan: rows of legs, and paths of passengers
 rules        the fifteen rules, and the first item that a plan breaks
 cost         the six terms

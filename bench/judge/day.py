@@ -9,6 +9,7 @@ MOST_ROWS = {
 }
 MOST_GROUPS, MOST_ORDERS, MOST_BATCHES, MOST_PASSENGERS, MOST_LEGS = 10_000, 100_000, 1_000, 1_000, 8
 LAST_SCHEDULED = 52_480_000
+LAST_MOMENT = 52_480_000
 # an aircraft goes on within a day after its previous leg
 LONGEST_WAIT = 1_440
 
@@ -63,7 +64,7 @@ class Reservation(NamedTuple):
 
 
 class Day(NamedTuple):
-    """The rows of a day that is joined, and its batches of orders, number 0 first."""
+    """The rows of a day that is joined, and its batches, number 0 first: each the moment that it tells or none, and its orders."""
     start: int
     end: int
     airports: list
@@ -110,6 +111,7 @@ class Join:
         for _, (origin, dest, minutes, haul) in files["dist.csv"]:
             self.distances.setdefault((origin, dest), (minutes, haul))
         self.seen, self.groups, self.orders, self.batch = set(), 0, 0, 0
+        self.moment = files["config.csv"][0][1][0]
 
     def distance(self, origin, dest):
         return self.distances.get((origin, dest)) or self.distances.get((dest, origin))
@@ -197,9 +199,20 @@ class Join:
         batch, order = row
         if batch > MOST_BATCHES or not (batch == 1 if index == 0 else batch in (self.batch, self.batch + 1)):
             raise Refused("Batch")
-        self.batch = batch
-        if order:
+        if order and order[0] == "at":
+            self.test_moment(batch, order[1])
+        elif order:
             self.test_order(index, order)
+        self.batch = batch
+
+    def test_moment(self, batch, moment):
+        if batch == self.batch:
+            raise Refused("Batch")
+        if moment > LAST_MOMENT:
+            raise Refused("Limit")
+        if moment < self.moment:
+            raise Refused("BadWindow")
+        self.moment = moment
 
 
 def hours_of_day(groups):
@@ -253,12 +266,12 @@ def order_of(order, numbers):
 
 def batches_of(files, numbers):
     first = [order for file in ("alt_flights.csv", "alt_aircraft.csv", "alt_airports.csv") for _, order in files[file]]
-    batches = [[order_of(order, numbers) for order in first]]
+    batches = [(None, [order_of(order, numbers) for order in first])]
     for _, (batch, order) in files["feed.csv"]:
         if batch == len(batches):
-            batches.append([])
-        if order:
-            batches[batch].append(order_of(order, numbers))
+            batches.append((order[1] if order and order[0] == "at" else None, []))
+        if order and order[0] != "at":
+            batches[batch][1].append(order_of(order, numbers))
     return batches
 
 

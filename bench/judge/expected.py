@@ -122,7 +122,7 @@ def check(given, out):
     plan = Plan(day, *join_solution(day, rotations, itineraries))
     situation = Situation(day)
     for number in range(len(day.batches)):
-        situation = situation.with_batch(number)
+        situation = situation.with_batch(number, plan)
     item = first_broken(situation, plan)
     judged = b"broken %s\n" % Texts(day).item(item) if item else b"feasible\n"
     return Outcome(7 if item else 0, judged + b"cost %d\n" % cost(plan), {})

@@ -59,7 +59,7 @@ class State:
 
     def take_batch(self, number):
         """Takes a batch, and gives the answer to it."""
-        self.situation = self.situation.with_batch(number)
+        self.situation = self.situation.with_batch(number, self.plan)
         self.changes += 1
         self.entries += 1
         for fallback in FALLBACKS:

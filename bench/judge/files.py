@@ -124,12 +124,13 @@ FED = {
     b"flight": (FLIGHT_ORDER, flight_order),
     b"aircraft": (AIRCRAFT_ORDER, aircraft_order),
     b"airport": (AIRPORT_ORDER, airport_order),
+    b"at": (moment, lambda values: ("at", at(*values))),
     b"none": ((), lambda values: None),
 }
 
 
 def fed(fields):
-    """A record of feed.csv: the number of its batch, and its order or none."""
+    """A record of feed.csv: the number of its batch, and its order, its moment or none."""
     rows.all_printed(fields)
     if len(fields) < 2:
         raise Refused("Fields")

@@ -84,19 +84,19 @@ def rebook(_, plan, number, count, source, target):
     plan.move(number, source, target, count)
 
 
-def tidy(_, plan):
-    for number, reservation in enumerate(plan.day.reservations):
-        for path, count in list(plan.groups[number].items()):
-            if path and not plan.is_good(reservation, path):
-                plan.move(number, path, (), count)
+def tidy(situation, plan):
+    for number, groups in enumerate(plan.groups):
+        # asked of all paths before anybody is taken off
+        for path in [path for path in groups if path and not situation.is_good(plan, number, path)]:
+            plan.move(number, path, (), groups[path])
 
 
-def refill(_, plan, leg):
+def refill(situation, plan, leg):
     for number, reservation in enumerate(plan.day.reservations):
         path = reservation.path
-        if any(booked == leg for booked, _ in path) and plan.is_good(reservation, path):
+        if any(booked == leg for booked, _ in path) and situation.is_good(plan, number, path):
             left = min(plan.day.planes[plan.rows[on][0]].seats[cabin] - plan.aboard(on, cabin) for on, cabin in path)
-            plan.move(number, (), path, max(0, left))
+            plan.move(number, (), path, max(0, min(left, situation.room(number, plan.groups[number], path))))
 
 
 STEPS = {"set": set_row, "push": push, "swap": swap, "rebook": rebook, "tidy": tidy, "refill": refill}

@@ -91,21 +91,23 @@ class Near:
                         handed = [("set", one, self.plan.rows[one], (other, self.plan.rows[one][1])) for one in run]
                         yield handed + [("push", other, None), ("push", plane, None), ("tidy",)]
 
-    def routes(self, reservation):
+    def routes(self, number):
         """The paths to which passengers of a reservation may be rebooked."""
-        stem, legs = reservation.begun, range(len(self.legs))
-        tried = [reservation.path, stem]
-        tried += [stem + ((leg, cabin),) for leg in legs for cabin in CABINS]
-        tried += [stem + ((leg, cabin), (then, cabin)) for leg in legs for cabin in CABINS for then in legs]
+        legs = range(len(self.legs))
+        tried = [self.day.reservations[number].path]
+        for stem in self.situation.stems(number):
+            tried.append(stem)
+            tried += [stem + ((leg, cabin),) for leg in legs for cabin in CABINS]
+            tried += [stem + ((leg, cabin), (then, cabin)) for leg in legs for cabin in CABINS for then in legs]
         found = []
         for path in tried:
-            if 1 <= len(path) <= 8 and path not in found and self.plan.is_good(reservation, path):
+            if 1 <= len(path) <= 8 and path not in found and self.situation.is_good(self.plan, number, path):
                 found.append(path)
         return found
 
     def rebooked(self):
-        for number, reservation in enumerate(self.day.reservations):
-            aims = self.routes(reservation) + [()]
+        for number in range(len(self.day.reservations)):
+            aims = self.routes(number) + [()]
             for source, count in sorted(self.plan.groups[number].items()):
                 for aim in aims:
                     if aim != source:

@@ -78,15 +78,6 @@ class Plan:
         longest = 2_160 if reservation.haul == 2 else 1_080
         return not self.is_flown(path) or self.arrival(path[-1][0]) <= reservation.arr + longest
 
-    def begins_as_begun(self, reservation, path):
-        """Whether a path begins with what has begun (C15)."""
-        return path[:len(reservation.begun)] == reservation.begun
-
-    def is_good(self, reservation, path):
-        """Whether a path that is not empty meets C13, C14 and C15."""
-        return (self.takes_there(reservation, path) and self.is_in_time(reservation, path)
-                and self.begins_as_begun(reservation, path))
-
 
 def schedule(day):
     """The first plan: each leg as it is scheduled, and all passengers on their scheduled paths."""

@@ -142,16 +142,16 @@ def of_paths(test):
     """The rule that asks each path of each reservation by a test."""
 
     def rule(judged):
-        for number, reservation in enumerate(judged.day.reservations):
-            if any(path and not test(judged.plan, reservation, path) for path in judged.plan.groups[number]):
+        for number, groups in enumerate(judged.plan.groups):
+            if any(path and not test(judged, number, path) for path in groups):
                 yield number
 
     return rule
 
 
-c13 = of_paths(lambda plan, reservation, path: plan.takes_there(reservation, path))
-c14 = of_paths(lambda plan, reservation, path: plan.is_in_time(reservation, path))
-c15 = of_paths(lambda plan, reservation, path: plan.begins_as_begun(reservation, path))
+c13 = of_paths(lambda judged, number, path: judged.plan.takes_there(judged.day.reservations[number], path))
+c14 = of_paths(lambda judged, number, path: judged.plan.is_in_time(judged.day.reservations[number], path))
+c15 = of_paths(lambda judged, number, path: judged.situation.is_bound(number, judged.plan.groups[number], path))
 
 RULES = (c1, c2, c3, c4, c5, c6, c7, c8, c9, c10, c11, c12, c13, c14, c15)
 

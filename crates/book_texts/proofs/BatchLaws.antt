@@ -86,7 +86,7 @@ reported-move I before now number i h entry lt at is given =
       small = omega (arith, given.small);
     }
 
--- the orders taken make no difference to the lines
+-- the orders taken and how far the day has gone on make no difference to the lines
 pub lines-same : (I J : Situation) → I.parts ≡ J.parts → (h : List Entry) → batch_lines I h ≡ batch_lines J h
 unfolding batch_lines
 lines-same I J same h =

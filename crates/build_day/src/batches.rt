@@ -1,12 +1,12 @@
 //! The batches of the alt files and of the feed.
 
-ghost use Rattle.std.specs.Prelude.{◌≡◌, ◌+◌, ◌≤◌, ◌++◌, [], ◌∷◌, ◌==◌, if◌then◌else◌, length, All, IfOk, OnOk};
+ghost use Rattle.std.specs.Prelude.{◌≡◌, ◌+◌, ◌≤◌, ◌++◌, [], ◌∷◌, ◌==◌, None, if◌then◌else◌, length, All, IfOk, OnOk};
 ghost use Rattle.file_rows.specs.Limits.{most_batches};
 ghost use Rattle.desk_data.specs.Valid.{IsBatch};
 ghost use Rattle.build_tables.specs.Facts.{AreFileRows};
 ghost use Rattle.build_tables.specs.Fitting.{AreFew, FitTogether};
 ghost use Rattle.build_day.specs.Day.{parts_of};
-ghost use Rattle.build_day.specs.Batches.{order_of, orders_of, opening_orders, batch_with, batches_of};
+ghost use Rattle.build_day.specs.Batches.{order_of, orders_of, opening_orders, batch_with, with_row, batches_of};
 
 use crate::legs::{airport_of, leg_at, plane_of};
 use build_tables::NameTables;
@@ -55,6 +55,7 @@ fn order_of(tables: &NameTables<'_>, row: &AltRow) -> Option<Order>
             arrs: *arrs,
         }),
         AltRow::Nothing { .. } => None,
+        AltRow::At { .. } => None,
     }
 }
 
@@ -97,32 +98,43 @@ fn opening_orders(alloc: Global, tables: &NameTables<'_>) -> Result<Vec<Order>, 
     Ok(orders)
 }
 
-/// The orders so far of the batch that a row of the feed is of, with those of the row. Where it is not the
-/// batch of the rows before it, their batch is done.
+/// A batch, with what one more row of it says: its order, or the moment of the batch.
+fn with_row(tables: &NameTables<'_>, batch: Batch, row: &AltRow) -> Result<Batch, NoMem>
+    requires { AreFew tables.now.files.now }
+    ensures { IfOk result (λ taken. taken ≡ with_row tables.now.files.now batch row.now) }
+{
+    let Batch { at, orders } = batch;
+    let mut orders = orders.0;
+    push_order(tables, &mut orders, row)?;
+    Ok(Batch {
+        at: row.moment().or(at),
+        orders: List(orders),
+    })
+}
+
+/// What the batch that a row of the feed is of has so far, with what the row says. Where it is not the batch
+/// of the rows before it, their batch is done.
 fn take_row(
     alloc: Global,
     tables: &NameTables<'_>,
     done: &mut Vec<Batch>,
-    orders: Vec<Order>,
+    batch: Batch,
     number: u32,
     fed: &(u32, AltRow),
-) -> Result<Vec<Order>, NoMem>
+) -> Result<Batch, NoMem>
     requires { AreFew tables.now.files.now }
-    ensures done { OnOk result (done.new.items ≡ (if fed.now.0 == number then done.old.items else done.old.items ++ batch_with orders.items ∷ [])) }
-    ensures orders { IfOk result (λ taken. taken.items ≡ (if fed.now.0 == number then orders.items else []) ++ orders_of tables.now.files.now (fed.now.1 ∷ [])) }
+    ensures done { OnOk result (done.new.items ≡ (if fed.now.0 == number then done.old.items else done.old.items ++ batch ∷ [])) }
+    ensures taken { IfOk result (λ taken. taken ≡ with_row tables.now.files.now (if fed.now.0 == number then batch else batch_with None []) fed.now.1) }
 {
     if fed.0 == number {
-        let mut taken = orders;
-        push_order(tables, &mut taken, &fed.1)?;
-        return Ok(taken);
+        return with_row(tables, batch, &fed.1);
     }
-    done.push(Batch {
+    done.push(batch)?;
+    let next = Batch {
         at: None,
-        orders: List(orders),
-    })?;
-    let mut taken = Vec::new(alloc);
-    push_order(tables, &mut taken, &fed.1)?;
-    Ok(taken)
+        orders: List(Vec::new(alloc)),
+    };
+    with_row(tables, next, &fed.1)
 }
 
 /// Batch 0 and the batches of the feed: each row is looked at once.
@@ -132,23 +144,25 @@ fn filled(alloc: Global, tables: &NameTables<'_>) -> Result<Vec<Batch>, NoMem>
     ensures { IfOk result (λ batches. batches.items ≡ batches_of tables.now.files.now) }
 {
     let rows = tables.files.feed.as_slice();
-    let mut orders = opening_orders(alloc, tables)?;
+    let opening = opening_orders(alloc, tables)?;
+    let mut batch = Batch {
+        at: None,
+        orders: List(opening),
+    };
     let mut done = Vec::new(alloc);
     let mut number = 0;
     for fed in rows {
-        orders = take_row(alloc, tables, &mut done, orders, number, fed)?;
+        batch = take_row(alloc, tables, &mut done, batch, number, fed)?;
         number = fed.0;
     }
-    done.push(Batch {
-        at: None,
-        orders: List(orders),
-    })?;
+    done.push(batch)?;
     Ok(done)
 }
 
 /// The batches: batch 0 has the orders of alt_flights.csv, alt_aircraft.csv and alt_airports.csv in this
-/// order, and batch k those of the rows of the feed with the number k, from 1 to the last number. A batch
-/// may be empty. The only error is out of memory.
+/// order and tells no moment, and batch k, from 1 to the last number, has the orders of the rows of the feed
+/// with the number k, and the moment that one of them tells, if one does. A batch may be empty. The only
+/// error is out of memory.
 pub fn batches_of(alloc: Global, tables: &NameTables<'_>) -> Result<Vec<Batch>, NoMem>
     requires rows { AreFileRows tables.now.files.now }
     requires fit { FitTogether tables.now.files.now }

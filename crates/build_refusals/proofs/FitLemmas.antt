@@ -26,7 +26,7 @@ use Rattle.build_refusals.specs.Aircraft.{has_known_maintenance}
 use Rattle.build_refusals.specs.Itineraries.{is_same_reservation}
 use Rattle.build_refusals.specs.Refusals.{Refusal, refusal_of}
 use Rattle.build_refusals.proofs.NoneLemmas.{none_alike}
-use Rattle.build_refusals.proofs.OrderPasses.{in_turn}
+use Rattle.build_refusals.proofs.OrderPasses.{in_turn, new_batch}
 use Rattle.build_refusals.proofs.PassLemmas.{ItineraryPasses, each_rotation, each_aircraft, each_airport, each_itinerary, each_position, each_tariff, each_alt_flight, each_alt_aircraft, each_alt_airport, each_fed, few_rotations, few_aircraft, few_airports, few_itineraries, few_wanted, few_tariff, few_batches}
 
 -- names that are not tested alike differ
@@ -110,8 +110,12 @@ module _ (x : Files) (e : refusal_of x ≡ None) where
     alt_flights = each_alt_flight x e;
     alt_aircraft = each_alt_aircraft x e;
     alt_airports = each_alt_airport x e;
-    feed = λ k d below. (each_fed x e k d below).1;
-    turns = λ k d below. let turn = in_turn (number_of_last (take k x.feed)) (get_or x.feed k d).0 (each_fed x e k d below).0 in record { least = turn.0; most = turn.1 };
+    feed = λ k d below. (each_fed x e k d below).known;
+    turns = λ k d below. let turn = in_turn (number_of_last (take k x.feed)) (get_or x.feed k d).0 (each_fed x e k d below).turn in record { least = turn.0; most = turn.1 };
+    moments = λ k d below at is.
+        let passes = each_fed x e k d below in
+        let told = passes.told at is in
+        record { first = new_batch (number_of_last (take k x.feed)) (get_or x.feed k d).0 passes.turn told.new; least = told.least; most = told.most };
   }
 
 -- where no refusal is answered

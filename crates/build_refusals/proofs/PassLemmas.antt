@@ -18,7 +18,7 @@ use Rattle.tariff_prices.specs.Rows.{same_key}
 use Rattle.build_tables.specs.declared.files.Files.{Files}
 use Rattle.file_rows.specs.Limits.{most_flights, most_aircraft, most_airports, most_itineraries, most_passengers, most_legs, most_groups, most_tariff_rows, most_orders, most_batches}
 use Rattle.build_tables.specs.Names.{airport_place}
-use Rattle.build_tables.specs.Batches.{number_of_last, last_batch}
+use Rattle.build_tables.specs.Batches.{number_of_last, last_batch, moment_before}
 use Rattle.build_tables.specs.Fitting.{IsAboutKnown}
 use Rattle.build_refusals.specs.First.{first_refusal_in}
 use Rattle.build_refusals.specs.Flights.{flight_cause, has_good_previous}
@@ -29,10 +29,10 @@ use Rattle.build_refusals.specs.Itineraries.{itinerary_cause, is_same_reservatio
 use Rattle.build_refusals.specs.Position.{groups_in, position_cause}
 use Rattle.build_refusals.specs.Tariff.{tariff_cause, tariff_refusal}
 use Rattle.build_refusals.specs.Orders.{line_of, alt_cause}
-use Rattle.build_refusals.specs.Feed.{is_in_turn, feed_cause}
+use Rattle.build_refusals.specs.Feed.{feed_cause}
 use Rattle.build_refusals.specs.Refusals.{refusal_of_schedule, room_for_aircraft, room_for_airports, room_for_feed, refusal_of_alternatives, refusal_of_demand, refusal_of}
 use Rattle.build_refusals.proofs.NoneLemmas.{neither, not_in_file, passed, held, none_refused, none_refused_at, few_rows}
-use Rattle.build_refusals.proofs.OrderPasses.{order_passes, fed_passes}
+use Rattle.build_refusals.proofs.OrderPasses.{order_passes, FedPasses, fed_passes}
 
 -- nothing is refused in any file
 pub record NoneRefused (x : Files) : Type 0 where
@@ -218,12 +218,12 @@ module _ (x : Files) (e : refusal_of x ≡ None) where
   pub each_alt_airport : All (IsAboutKnown x) x.alt_airports
   each_alt_airport = each_order (room_for_airports x) x.alt_airports (none_refused_in x e).alt_airports
 
-  pub each_fed : (k : ℕ) (d : ℕ × AltRow) → k < length x.feed → (is_in_turn (number_of_last (take k x.feed)) (get_or x.feed k d).0 ≡ true) × IsAboutKnown x (get_or x.feed k d).1 × (get_or x.feed k d).0 ≤ most_batches
-  each_fed k d below = fed_passes x (number_of_last (take k x.feed)) _ (get_or x.feed k d) (none_refused (feed_cause x (room_for_feed x) x.feed) (λ fed. line_of fed.1) x.feed (none_refused_in x e).feed k d below)
+  pub each_fed : (k : ℕ) (d : ℕ × AltRow) → k < length x.feed → FedPasses x (number_of_last (take k x.feed)) (moment_before x.config.from (take k x.feed)) (get_or x.feed k d)
+  each_fed k d below = fed_passes x (number_of_last (take k x.feed)) (moment_before x.config.from (take k x.feed)) _ (get_or x.feed k d) (none_refused (feed_cause x (room_for_feed x) x.feed) (λ fed. line_of fed.1) x.feed (none_refused_in x e).feed k d below)
 
   -- the last batch is within the limit
   pub few_batches : last_batch x.feed ≤ most_batches
-  few_batches = last_within most_batches None x.feed (omega arith) (λ k d below. (each_fed k d below).2)
+  few_batches = last_within most_batches None x.feed (omega arith) (λ k d below. (each_fed k d below).few)
 
   -- no file has more rows than its limit
   pub few_flights : length x.flights ≤ most_flights

@@ -14,13 +14,15 @@ line_of (alt.Flight line flight day delay) = line
 line_of (alt.Aircraft line aircraft from to) = line
 line_of (alt.Field line airport from to deps arrs) = line
 line_of (alt.Nothing line) = line
+line_of (alt.At line at) = line
 
--- whether a row is an order: one that only says that there is a batch is none
+-- whether a row is an order: one that only says that there is a batch, or when it becomes known, is none
 abbrev pub is_order : AltRow → Bool
 is_order (alt.Flight line flight day delay) = true
 is_order (alt.Aircraft line aircraft from to) = true
 is_order (alt.Field line airport from to deps arrs) = true
 is_order (alt.Nothing line) = false
+is_order (alt.At line at) = false
 
 -- how many more orders may come after these rows, where so many may come before them
 abbrev pub room_after : ℕ → List AltRow → ℕ
@@ -32,6 +34,7 @@ is_about_known x (alt.Flight line flight day delay) = is_some (rotation_place x.
 is_about_known x (alt.Aircraft line aircraft from to) = is_some (aircraft_place x.aircraft aircraft)
 is_about_known x (alt.Field line airport from to deps arrs) = is_some (airport_place x.airports airport)
 is_about_known x (alt.Nothing line) = true
+is_about_known x (alt.At line at) = true
 
 -- whether the span of an order, where it has one, ends after its start
 abbrev pub has_good_span : AltRow → Bool
@@ -39,6 +42,7 @@ has_good_span (alt.Flight line flight day delay) = true
 has_good_span (alt.Aircraft line aircraft from to) = nat_lt from.0 to.0
 has_good_span (alt.Field line airport from to deps arrs) = nat_lt from.0 to.0
 has_good_span (alt.Nothing line) = true
+has_good_span (alt.At line at) = true
 
 -- one order too many, where there are as many already as there may be; a name that is not there, a span of no length
 unfoldable pub order_cause : Files → Bool → AltRow → Option Cause

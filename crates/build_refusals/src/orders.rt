@@ -16,10 +16,11 @@ pub(crate) fn line_of(row: &AltRow) -> u32
         AltRow::Aircraft { line, .. } => *line,
         AltRow::Field { line, .. } => *line,
         AltRow::Nothing { line } => *line,
+        AltRow::At { line, .. } => *line,
     }
 }
 
-/// Whether a row is an order, and does not only say that there is a batch.
+/// Whether a row is an order, and does not only say that there is a batch, or when it becomes known.
 fn is_order(row: &AltRow) -> bool
     ensures { result ≡ is_order row.now }
 {
@@ -28,6 +29,7 @@ fn is_order(row: &AltRow) -> bool
         AltRow::Aircraft { .. } => true,
         AltRow::Field { .. } => true,
         AltRow::Nothing { .. } => false,
+        AltRow::At { .. } => false,
     }
 }
 
@@ -40,6 +42,7 @@ fn is_about_known(tables: &NameTables<'_>, row: &AltRow) -> bool
         AltRow::Aircraft { aircraft, .. } => tables.aircraft_place(aircraft).is_some(),
         AltRow::Field { airport, .. } => tables.airport_place(airport).is_some(),
         AltRow::Nothing { .. } => true,
+        AltRow::At { .. } => true,
     }
 }
 
@@ -52,6 +55,7 @@ fn has_good_span(row: &AltRow) -> bool
         AltRow::Aircraft { from, to, .. } => from.0 < to.0,
         AltRow::Field { from, to, .. } => from.0 < to.0,
         AltRow::Nothing { .. } => true,
+        AltRow::At { .. } => true,
     }
 }
 

@@ -2,6 +2,7 @@
 use Rattle.std.specs.Prelude.{◌≡◌, ◌≢◌, ℕ, ◌+◌, ◌<◌, ◌≤◌, false, List, length, take, get_or, sum_by, All, Some, IsSome}
 use Rattle.std.specs.List.{AllPairs}
 use Rattle.std.specs.Option.{ForSome}
+use Rattle.desk_units.specs.declared.numbers.Minute.{Minute}
 use Rattle.file_rows.specs.declared.network.AirportRow.{AirportRow}
 use Rattle.file_rows.specs.declared.legs.FlightRow.{FlightRow}
 use Rattle.file_rows.specs.declared.legs.RotationRow.{RotationRow}
@@ -12,9 +13,10 @@ use Rattle.file_rows.specs.declared.disruptions.AltRow.TheVariants as alt
 use Rattle.tariff_prices.specs.Rows.{same_key}
 use Rattle.build_tables.specs.declared.files.Files.{Files}
 use Rattle.build_tables.specs.Departures.{departure_on}
-use Rattle.file_rows.specs.Limits.{most_flights, most_aircraft, most_airports, most_itineraries, most_passengers, most_legs, most_groups, most_tariff_rows, most_batches, latest_departure}
+use Rattle.file_rows.specs.Limits.{most_flights, most_aircraft, most_airports, most_itineraries, most_passengers, most_legs, most_groups, most_tariff_rows, most_batches, latest_departure, latest_moment}
+use Rattle.file_rows.specs.Moments.{moment_in}
 use Rattle.build_tables.specs.Names.{flight_named, rotation_place, airport_place, aircraft_place}
-use Rattle.build_tables.specs.Batches.{last_batch}
+use Rattle.build_tables.specs.Batches.{last_batch, moment_before}
 
 -- no file has more rows than its limit, and the feed has no more batches
 pub record AreFew (x : Files) : Type 0 where
@@ -59,13 +61,20 @@ IsAboutKnown x (alt.Flight line flight day delay) = IsSome (rotation_place x.rot
 IsAboutKnown x (alt.Aircraft line aircraft from to) = IsSome (aircraft_place x.aircraft aircraft)
 IsAboutKnown x (alt.Field line airport from to deps arrs) = IsSome (airport_place x.airports airport)
 IsAboutKnown x (alt.Nothing line) = Unit {0}
+IsAboutKnown x (alt.At line at) = Unit {0}
 
 -- after these rows of the feed, a row is of the batch of the last one or of the next batch
 pub record IsInTurn (before : List (ℕ × AltRow)) (fed : ℕ × AltRow) : Type 0 where
   pub least : last_batch before ≤ fed.0
   pub most : fed.0 ≤ last_batch before + 1
 
--- the rows are few, no two are alike, each name in them is known, and the batches of the feed come in turn
+-- after these rows of the feed, a row may tell this moment of its batch: it is the first row of the batch, and the moment is not before that of the batch before, which is that of the opening at first, and not past the latest one
+pub record IsMomentInTurn (opening : Minute) (before : List (ℕ × AltRow)) (number : ℕ) (at : Minute) : Type 0 where
+  pub first : last_batch before < number
+  pub least : (moment_before opening before).0 ≤ at.0
+  pub most : at.0 ≤ latest_moment
+
+-- the rows are few, no two are alike, each name in them is known, and the batches of the feed and their moments come in turn
 pub record FitTogether (x : Files) : Type 0 where
   pub few : AreFew x
   pub apart : AreApart x
@@ -78,3 +87,4 @@ pub record FitTogether (x : Files) : Type 0 where
   pub alt_airports : All (IsAboutKnown x) x.alt_airports
   pub feed : All (λ fed. IsAboutKnown x fed.1) x.feed
   pub turns : (k : ℕ) (fed : ℕ × AltRow) → k < length x.feed → IsInTurn (take k x.feed) (get_or x.feed k fed)
+  pub moments : (k : ℕ) (fed : ℕ × AltRow) → k < length x.feed → ForSome (moment_in (get_or x.feed k fed).1) (IsMomentInTurn x.config.from (take k x.feed) (get_or x.feed k fed).0)

@@ -3,7 +3,7 @@
 ghost use Rattle.std.specs.Prelude.{◌↔◌, IsTrue, All};
 ghost use Rattle.desk_data.specs.Valid.{IsBatch, IsOrder};
 
-use desk_data::{Batch, Instance, MOST_DELAY, Order, Parts};
+use desk_data::{Batch, Instance, LAST_SCHEDULED, MOST_DELAY, Order, Parts};
 
 fn is_order(parts: &Parts, order: &Order) -> bool
     ensures { IsTrue result ↔ IsOrder parts.now order.now }
@@ -24,10 +24,11 @@ fn are_orders(parts: &Parts, orders: &[Order]) -> bool
     orders.iter().all(|order| is_order(parts, order))
 }
 
-/// Whether a batch can be taken: it gives no moment, the legs, aircraft and airports of its orders are in
-/// range, and their delays at most 2,880.
+/// Whether a batch can be taken: its moment, where it tells one, is at most minute 52,480,000, the legs, aircraft
+/// and airports of its orders are in range, and their delays at most 2,880.
 pub fn can_add(inst: &Instance, batch: &Batch) -> bool
     ensures { IsTrue result ↔ IsBatch inst.now.parts batch.now }
 {
-    batch.at.is_none() && are_orders(inst.parts(), batch.orders.as_slice())
+    batch.at.is_none_or(|at| at.0 <= LAST_SCHEDULED)
+        && are_orders(inst.parts(), batch.orders.as_slice())
 }

@@ -2,3 +2,4 @@ pub mod LastLemmas
 mod ChangeLemmas
 mod TouchLemmas
 pub mod KeptLemmas
+mod SlotLemmas

@@ -1,5 +1,5 @@
 -- What orders say of a leg, an aircraft and an hour of an airport. Hour h is the minutes from 60h to 60h + 59.
-use Rattle.std.specs.Prelude.{ℕ, ◌+◌, ◌*◌, Bool, ◌&&◌, nat_lt, ◌==◌, if◌then◌else◌, List, [], ◌∷◌, Option, Some, None}
+use Rattle.std.specs.Prelude.{ℕ, ◌+◌, ◌*◌, max, Bool, ◌&&◌, nat_lt, ◌==◌, if◌then◌else◌, List, [], ◌∷◌, Option, Some, None}
 use Rattle.std.specs.Option.{option_or}
 use Rattle.desk_units.specs.declared.numbers.Minute.{Minute}
 use Rattle.day_orders.specs.declared.hours.HourCap.{HourCap}
@@ -34,3 +34,7 @@ touches h from to = nat_lt from to && (nat_lt from (60 * h + 60) && nat_lt (60 *
 abbrev pub order_on_hour : ℕ → ℕ → Order → Option HourCap
 order_on_hour a h (Field airport from to deps arrs) = if airport.0 == a && touches h from.0 to.0 then Some (record { deps = deps; arrs = arrs }) else None
 order_on_hour a h order = None
+
+-- what is left of a span after a moment: it begins no earlier than that, and nothing is left where no minute is
+abbrev pub span_after : ℕ → Minute × Minute → Option (Minute × Minute)
+span_after at span = if nat_lt (max span.0.0 at) span.1.0 then Some (record { 0 = max span.0.0 at }, span.1) else None

@@ -1,2 +1,3 @@
 pub mod LastOrders
 pub mod KeptLists
+pub mod Slots

@@ -8,14 +8,21 @@
 //!
 //! `OrderTables` has for each leg, aircraft and airport what the orders taken so far say of it, so that no
 //! look-up walks over the orders; `with` makes the tables with some orders more. Proved: each table
-//! is what the definitions say of the list. `Instance` of desk_data keeps one. It depends on
-//! `desk_units` alone.
+//! is what the definitions say of the list. `Instance` of desk_data keeps one.
+//!
+//! `spans_after` has what is left of spans after a moment. `AirportHours` has how often each hour of each
+//! airport is taken, by departures or by arrivals; `count` finds that by two searches by halves. It depends
+//! on `desk_units` alone.
 #![tactic(auto)]
 
 mod hours;
 mod kept;
 mod orders;
+mod slots;
+mod spans;
 
 pub use hours::{CapChange, HourCap, cap_at};
 pub use kept::OrderTables;
 pub use orders::{Batch, Order};
+pub use slots::{AirportHour, AirportHours};
+pub use spans::spans_after;

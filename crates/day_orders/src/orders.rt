@@ -32,8 +32,7 @@ pub enum Order {
     },
 }
 
-/// Disruptions that become known together, and the moment at which they do, where that is given. No
-/// batch gives one yet.
+/// Disruptions that become known together, and the moment at which they do, where that is given.
 #[derive(Drop)]
 pub struct Batch {
     /// The moment at which they become known, where it is given.

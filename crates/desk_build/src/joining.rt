@@ -21,7 +21,7 @@ pub struct Built {
     /// The joined day, before any batch.
     pub inst: Instance,
     /// Batch 0, which has the orders of the alt files, and those of the feed, each at its number: at most 1,001. Their
-    /// orders are about legs, aircraft and airports of the day.
+    /// orders are about legs, aircraft and airports of the day, and their moments are those that the feed tells.
     pub batches: List<Batch>,
 }
 

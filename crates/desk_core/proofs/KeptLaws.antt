@@ -152,7 +152,7 @@ kept_taken E F counted accepted h caller B given kept few batch taken =
 
 -- ---- what can be asked
 
--- a move that fits the instance before any batch fits it with all their orders
+-- a move that fits the instance before any batch fits it with all of them
 pub fits_disturbed : (I : Situation) (m : Move) → Fits (undisturbed I) m → Fits I m
 fits_disturbed I m fits = askable-parts (undisturbed I) I (event.Move m) refl fits
 

@@ -3,7 +3,7 @@ use Rattle.std.specs.Prelude.{◌≡◌, []}
 use Rattle.day_orders.specs.declared.orders.Batch.{Batch}
 use Rattle.desk_model.specs.declared.answer.Answer.{Answer}
 use Rattle.desk_model.specs.declared.answer.Event.TheVariants as event
-use Rattle.desk_data.specs.Situation.{with_batch}
+use Rattle.desk_data.specs.Progress.{with_batch}
 use Rattle.desk_model.specs.States.{answer, after}
 use Rattle.desk_eval.specs.Evaluated.{Evaluated}
 use Rattle.desk_core.specs.Judged.{state_in}

@@ -55,8 +55,8 @@ impl Book {
     ghost use Rattle.desk_model.specs.Promises.{cost_of, KeepsPromises};
     ghost use Rattle.desk_core.specs.Recorded.{Recorded, state_of, reply, with_entry};
 
-    /// The book of a day before any batch: its plan is the schedule, and nothing is journalled yet.
-    /// The only error is out of memory.
+    /// The book of a day before any batch, which has no orders and whose present moment is the window's
+    /// start: its plan is the schedule, and nothing is journalled yet. The only error is out of memory.
     pub fn open(alloc: Global, inst: Instance) -> Result<Book, NoMem>
         requires { inst ≡ fresh_day inst.parts }
         ensures { IfOk result (λ book. book ≡ record { opening = inst; journal = [] }) }
@@ -71,9 +71,10 @@ impl Book {
         })
     }
 
-    /// Takes a batch of orders. Where the journal has 1,000,000 entries, the answer is `Full` and
-    /// nothing changes. Else the batch's orders are taken, the plan is what the desk falls back on,
-    /// and one entry is journalled. After `NoMem` the book is as before.
+    /// Takes a batch. Where the journal has 1,000,000 entries, the answer is `Full` and nothing
+    /// changes. Else what has left by the batch's moment is frozen with the rows that stand, the
+    /// batch's orders are taken, the plan is what the desk falls back on, and one entry is journalled.
+    /// After `NoMem` the book is as before.
     pub fn intake(&mut self, alloc: Global, caller: u32, batch: &Batch) -> Result<Answer, NoMem>
         requires { IsBatch self.old.opening.parts batch.now }
         ensures answer { IfOk result (λ given. given ≡ reply self.old (event.Batch batch.now)) }
@@ -214,8 +215,8 @@ impl Book {
         search.search(alloc, &mut self.eval)
     }
 
-    /// The instance as it is disrupted: the one that the book was opened with, and the orders of all
-    /// batches.
+    /// The instance as it is disrupted: the one that the book was opened with, and all batches added to
+    /// it, each by the plan that stood when it was taken.
     pub fn instance(&self) -> &Instance
         ensures now { result.now ≡ (state_of self.now).inst }
         ensures parts { result.now.parts ≡ self.now.opening.parts }

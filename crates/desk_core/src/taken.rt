@@ -13,8 +13,7 @@ use std::alloc::Global;
 /// What the desk falls back on when a batch is taken.
 #[derive(Drop)]
 pub(crate) struct Taken {
-    /// The instance with the batch's orders, and the plan; or where there is none, the rows that are
-    /// left.
+    /// The instance with the batch, and the plan; or where there is none, the rows that are left.
     pub eval: Evaluator,
     pub answer: Answer,
 }
@@ -27,7 +26,7 @@ pub(crate) fn take_in(alloc: Global, eval: &Evaluator, batch: &Batch) -> Result<
 {
     let pages = eval.plan();
     let plan = pages.to_plan(alloc)?;
-    let mut inst = eval.instance().copy(alloc)?;
+    let mut inst = eval.instance().copy()?;
     inst.add(alloc, &plan, batch)?;
     match fallback(alloc, &inst, plan, pages)? {
         Fallback::Chosen { which, plan } => {

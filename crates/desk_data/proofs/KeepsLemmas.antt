@@ -1,5 +1,5 @@
 -- What is kept of the orders agrees with them, and goes on doing so.
-use Rattle.std.proofs.Common.{length, List, [], ◌++◌, None, sym, ap, ◌∙◌, get_or, arith}
+use Rattle.std.proofs.Common.{length, List, [], ◌++◌, None, replicate, sym, ap, ◌∙◌, get_or, arith}
 use Rattle.std.specs.Option.{option_or}
 use Rattle.std.specs.List.{All, filter_map}
 use Rattle.std.proofs.lemmas.List.{length-replicate, get_or-replicate}
@@ -13,12 +13,12 @@ use Rattle.day_orders.specs.KeptLists.{KeptLists, AreInOrder, kept_cap, HasPlace
 use Rattle.day_orders.proofs.LastLemmas.{last_word-append}
 use Rattle.day_orders.proofs.KeptLemmas.{last_order_on_leg-append}
 use Rattle.desk_data.specs.declared.parts.Parts.{Parts}
-use Rattle.desk_data.specs.Keeps.{Keeps}
-use Rattle.desk_data.specs.Situation.{Situation, fresh_day, spans}
+use Rattle.desk_data.specs.Keeps.{Keeps, KeepsSpans}
+use Rattle.desk_data.specs.Situation.{Situation, fresh_day, ordered_spans, spans}
 use Rattle.desk_data.specs.Valid.{IsOrder}
 
 pub keeps_nothing : (parts : Parts) → Keeps (fresh_day parts) (nothing_kept (length parts.legs) (length parts.planes) (length parts.airports))
-unfolding last_order_on_leg last_word spans kept_cap
+unfolding last_order_on_leg last_word ordered_spans kept_cap
 keeps_nothing parts = record {
   all_legs = length-replicate (length parts.legs) None;
   all_planes = length-replicate (length parts.planes) [];
@@ -29,8 +29,16 @@ keeps_nothing parts = record {
   hours = λ a h within. ap (λ (l : List CapChange). kept_cap l h) (get_or-replicate (length parts.airports) a [] [] within);
 }
 
+-- and so do the spans that are left, where no order gives any
+pub keeps_no_spans : (parts : Parts) → KeepsSpans (fresh_day parts) (replicate (length parts.planes) [])
+unfolding spans ordered_spans
+keeps_no_spans parts = record {
+  all_planes = length-replicate (length parts.planes) [];
+  spans = λ p within. get_or-replicate (length parts.planes) p [] [] within;
+}
+
 pub keeps_more : (I : Situation) (orders : List Order) (old new : KeptLists) → Keeps I old → Adds orders old new → Keeps (record I { orders = I.orders ++ orders }) new
-unfolding spans
+unfolding ordered_spans
 keeps_more I orders old new keeps adds = record {
   all_legs = adds.all_legs ∙ keeps.all_legs;
   all_planes = adds.all_planes ∙ keeps.all_planes;

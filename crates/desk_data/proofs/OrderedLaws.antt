@@ -1,5 +1,5 @@
 -- What later orders decide, and what a batch changes.
-use Rattle.std.proofs.Common.{◌≡◌, ℕ, ◌+◌, ◌*◌, ◌<◌, inl, inr, true, false, eqb, List, [], ◌∷◌, ◌++◌, refl, sym, ap, ◌∙◌, arith}
+use Rattle.std.proofs.Common.{◌≡◌, ℕ, ◌+◌, ◌*◌, ◌<◌, inl, inr, true, false, eqb, List, [], ◌∷◌, ◌++◌, refl, sym, ap, ◌∙◌, max, arith}
 use Rattle.std.specs.Prelude.{Option, None, Some, is_none, unwrap_or}
 use Rattle.std.specs.Option.{option_or}
 use Rattle.std.specs.List.{All, filter_map}
@@ -11,10 +11,11 @@ use Rattle.day_orders.specs.declared.orders.Order.TheVariants.{Flight, Aircraft,
 use Rattle.day_orders.specs.declared.orders.Batch.{Batch}
 use Rattle.day_orders.specs.LastOrders.{order_on_leg, last_order_on_leg, span_of, last_word, touches, order_on_hour}
 use Rattle.day_orders.proofs.LastLemmas.{last_word-append, last_word_none}
-use Rattle.desk_data.specs.PlanRows.{PlanRows}
-use Rattle.desk_data.specs.Situation.{Situation, with_batch, leg_at, earliest, called_off, delay_of, is_off, spans}
-use Rattle.desk_data.specs.Hours.{hour_cap, dep_cap, arr_cap}
+use Rattle.desk_data.specs.Hours.{hour_cap, dep_cap, arr_cap, frozen_departures, frozen_arrivals}
 use Rattle.desk_data.specs.LaterOrders.{IsOfLeg, HasMinuteIn, IsOfHour, ObeysOfLeg, ObeysOfHour, AddsOrders}
+use Rattle.desk_data.specs.PlanRows.{PlanRows}
+use Rattle.desk_data.specs.Progress.{with_batch}
+use Rattle.desk_data.specs.Situation.{Situation, leg_at, ordered, called_off, delay_of, is_off, ordered_spans}
 
 -- ---- the last word
 
@@ -58,13 +59,13 @@ said_of_leg x before after delay others =
     leg_word x (before ++ Flight (record { 0 = x }) delay ∷ after)
     ∙ word_last (order_on_leg x) before after (Flight (record { 0 = x }) delay) delay (rw (eqb-refl x) refl) (silent_on_legs x after others)
 
-leg_last : (I : Situation) (x : ℕ) (delay : Option ℕ) → last_order_on_leg x I.orders ≡ Some delay → (called_off I x ≡ is_none delay) × (earliest I x ≡ (leg_at I x).sched.0 + unwrap_or delay 0)
-unfolding called_off earliest is_off delay_of
+leg_last : (I : Situation) (x : ℕ) (delay : Option ℕ) → last_order_on_leg x I.orders ≡ Some delay → (called_off I x ≡ is_none delay) × (ordered I x ≡ (leg_at I x).sched.0 + unwrap_or delay 0)
+unfolding called_off ordered is_off delay_of
 leg_last I x delay is = (ap is_off is, ap (λ o. (leg_at I x).sched.0 + delay_of o) is)
 
-leg_none : (I : Situation) (x : ℕ) → last_order_on_leg x I.orders ≡ None → (called_off I x ≡ false) × (earliest I x ≡ (leg_at I x).sched.0)
-unfolding called_off earliest is_off delay_of
-leg_none I x is = (ap is_off is, (let at : earliest I x ≡ (leg_at I x).sched.0 + 0 = ap (λ o. (leg_at I x).sched.0 + delay_of o) is in omega (arith, at)))
+leg_none : (I : Situation) (x : ℕ) → last_order_on_leg x I.orders ≡ None → (called_off I x ≡ false) × (ordered I x ≡ (leg_at I x).sched.0)
+unfolding called_off ordered is_off delay_of
+leg_none I x is = (ap is_off is, (let at : ordered I x ≡ (leg_at I x).sched.0 + 0 = ap (λ o. (leg_at I x).sched.0 + delay_of o) is in omega (arith, at)))
 
 pub obeys_of_leg : (I : Situation) (x : ℕ) → ObeysOfLeg I x
 obeys_of_leg I x = record {
@@ -115,7 +116,7 @@ silent_on_hour a h (Aircraft plane from to) other = refl
 silent_on_hours : (a h : ℕ) (orders : List Order) → All (λ order. IsOfHour a h order → ⊥) orders → All (λ order. order_on_hour a h order ≡ None) orders
 silent_on_hours a h orders others = All-weaker (λ (order : Order). IsOfHour a h order → ⊥) (λ (order : Order). order_on_hour a h order ≡ None) (silent_on_hour a h) orders others
 
-hour_last : (I : Situation) (a h : ℕ) (cap : HourCap) → last_word (order_on_hour a h) I.orders ≡ Some cap → (dep_cap I a h ≡ Some cap.deps) × (arr_cap I a h ≡ Some cap.arrs)
+hour_last : (I : Situation) (a h : ℕ) (cap : HourCap) → last_word (order_on_hour a h) I.orders ≡ Some cap → (dep_cap I a h ≡ Some (max cap.deps (frozen_departures I a h))) × (arr_cap I a h ≡ Some (max cap.arrs (frozen_arrivals I a h)))
 unfolding dep_cap arr_cap hour_cap
 hour_last I a h cap is = (rw is refl, rw is refl)
 
@@ -130,16 +131,16 @@ obeys_of_hour I a h = record {
 
 -- ---- what a batch adds
 
-leg_same : (I J : Situation) (x : ℕ) → J.parts ≡ I.parts → last_order_on_leg x J.orders ≡ last_order_on_leg x I.orders → (called_off J x ≡ called_off I x) × (earliest J x ≡ earliest I x)
-unfolding called_off earliest
+leg_same : (I J : Situation) (x : ℕ) → J.parts ≡ I.parts → last_order_on_leg x J.orders ≡ last_order_on_leg x I.orders → (called_off J x ≡ called_off I x) × (ordered J x ≡ ordered I x)
+unfolding called_off ordered
 leg_same I J x parts is = (ap is_off is, rw (parts, is) refl)
 
-hour_same : (I J : Situation) (a h : ℕ) → J.parts ≡ I.parts → last_word (order_on_hour a h) J.orders ≡ last_word (order_on_hour a h) I.orders → (dep_cap J a h ≡ dep_cap I a h) × (arr_cap J a h ≡ arr_cap I a h)
-unfolding dep_cap arr_cap hour_cap
-hour_same I J a h parts is = (rw (parts, is) refl, rw (parts, is) refl)
+hour_same : (I J : Situation) (a h : ℕ) → J.parts ≡ I.parts → last_word (order_on_hour a h) J.orders ≡ last_word (order_on_hour a h) I.orders → hour_cap J a h ≡ hour_cap I a h
+unfolding hour_cap
+hour_same I J a h parts is = rw (parts, is) refl
 
-spans_more : (I : Situation) (P : PlanRows) (B : Batch) (p : ℕ) → spans (with_batch I P B) p ≡ spans I p ++ filter_map (span_of p) B.orders
-unfolding spans
+spans_more : (I : Situation) (P : PlanRows) (B : Batch) (p : ℕ) → ordered_spans (with_batch I P B) p ≡ ordered_spans I p ++ filter_map (span_of p) B.orders
+unfolding ordered_spans
 spans_more I P B p = filter_map-append (span_of p) I.orders B.orders
 
 pub adds_orders : (I : Situation) (P : PlanRows) (B : Batch) → AddsOrders I P B

@@ -1,10 +1,14 @@
 pub mod Paths
 pub mod Situation
+pub mod Progress
 pub mod Booked
 pub mod Begun
 pub mod Hours
+pub mod HoursTaken
 pub mod Keeps
+pub mod Insides
 pub mod LaterOrders
+pub mod Leaving
 pub mod PlanRows
 pub mod Valid
 pub use Rattle.tariff_prices.specs.Rows

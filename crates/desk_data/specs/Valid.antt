@@ -1,7 +1,8 @@
 -- Which rows make an instance, and which plans are plans for it.
-use Rattle.std.specs.Prelude.{◌≡◌, ◌≢◌, ℕ, ◌<◌, ◌≤◌, List, None, length, All, sum_by}
+use Rattle.std.specs.Prelude.{◌≡◌, ◌≢◌, ℕ, ◌<◌, ◌≤◌, max, true, List, Option, None, length, All, sum_by, is_some, slice_index_or}
 use Rattle.std.specs.List.{AllPairs}
 use Rattle.std.specs.Option.{ForSome}
+use Rattle.std.specs.declared.cmp.Ordering.TheVariants.{Less}
 use Rattle.desk_units.specs.declared.numbers.Leg.{Leg}
 use Rattle.desk_units.specs.declared.numbers.Cabin.{Cabin}
 use Rattle.desk_units.specs.declared.numbers.Seats.{Seats}
@@ -20,8 +21,8 @@ use Rattle.desk_data.specs.declared.parts.Parts.{Parts}
 use Rattle.desk_data.specs.declared.row.Row.{Row}
 use Rattle.desk_data.specs.declared.row.Row.TheVariants.{Flown, Cancelled}
 use Rattle.desk_data.specs.declared.row.Group.{Group}
-use Rattle.desk_data.specs.PlanRows.{PlanRows, IsSound, groups_at}
-use Rattle.desk_data.specs.Situation.{Situation, legs_of, planes_of, first_progress, reservations_of, res_at}
+use Rattle.desk_data.specs.PlanRows.{PlanRows, IsSound, groups_at, path_cmp}
+use Rattle.desk_data.specs.Situation.{Situation, Progress, PassengersGone, legs_of, planes_of, first_progress, reservations_of, res_at}
 
 -- the bytes of a name can be seen: from ! to ~
 abbrev pub IsSeen : List ℕ → Type 0
@@ -130,21 +131,45 @@ IsOrder parts (Flight leg delay) = (leg.0 < length parts.legs) × ForSome delay 
 IsOrder parts (Aircraft plane from to) = plane.0 < length parts.planes
 IsOrder parts (Field airport from to deps arrs) = airport.0 < length parts.airports
 
--- a batch that an instance can take: its orders are about what there is, and it gives no moment
+-- a batch that an instance can take: its orders are about what there is, and its moment is no later than the last scheduled departure may be
 pub record IsBatch (parts : Parts) (batch : Batch) : Type 0 where
   pub orders : All (IsOrder parts) batch.orders
-  pub at : batch.at ≡ None
-
--- what every instance keeps; no batch moves its progress yet
-pub record IsValid (I : Situation) : Type 0 where
-  pub parts : AreParts I.parts
-  pub orders : All (IsOrder I.parts) I.orders
-  pub progress : I.progress ≡ first_progress I.parts
+  pub at : ForSome batch.at (λ at. at.0 ≤ 52480000)
 
 -- a row for n aircraft
 abbrev pub IsRowOf : ℕ → Row → Type 0
 IsRowOf planes (Flown plane dep) = (plane.0 < planes) × (dep.0 < 52500000)
 IsRowOf planes Cancelled = Unit {0}
+
+-- an entry of a tally is of passengers, and of frozen legs, at most 8
+pub record IsTallied (frozen : List (Option Row)) (entry : PassengersGone) : Type 0 where
+  pub some : 1 ≤ entry.1
+  pub few : entry.1 ≤ 1000
+  pub short : length entry.0 ≤ 8
+  pub left : All (λ pair. is_some (slice_index_or frozen pair.0.0 None) ≡ true) entry.0
+
+-- the tally of a reservation: its entries are in the order of paths, no list of legs twice
+pub record AreTallied (frozen : List (Option Row)) (entries : List PassengersGone) : Type 0 where
+  pub each : All (IsTallied frozen) entries
+  pub ascending : AllPairs (λ a b. path_cmp a.0 b.0 ≡ Less) entries
+
+-- what is kept of how far a day has gone on
+pub record IsProgress (parts : Parts) (progress : Progress) : Type 0 where
+  pub legs : length progress.frozen ≡ length parts.legs
+  pub rows : All (λ frozen. ForSome frozen (IsRowOf (length parts.planes))) progress.frozen
+  pub res : length progress.tally ≡ length parts.res
+  pub tallied : All (AreTallied progress.frozen) progress.tally
+  -- time goes on from the window's start, and by batches no further than their moments may be
+  pub started : parts.from.0 ≤ progress.now.0
+  pub soon : progress.now.0 ≤ max parts.from.0 52480000
+  -- as long as no time has passed, nothing has left
+  pub fresh : progress.now ≡ parts.from → progress ≡ first_progress parts
+
+-- what every instance keeps
+pub record IsValid (I : Situation) : Type 0 where
+  pub parts : AreParts I.parts
+  pub orders : All (IsOrder I.parts) I.orders
+  pub progress : IsProgress I.parts I.progress
 
 -- groups whose paths are among the legs, and that have all passengers of the reservation
 pub record AreGroupsOf (legs count : ℕ) (groups : List Group) : Type 0 where

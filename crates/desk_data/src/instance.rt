@@ -1,38 +1,42 @@
 //! The instance: the joined rows, shared, the disruption orders taken so far, and how far the day has gone on.
 
 ghost use Rattle.std.specs.Prelude.{◌≡◌, ◌<◌, ◌≤◌, length, map, IfOk, OnOk, OnErr, IfSome, nat_lt};
-ghost use Rattle.day_orders.specs.KeptLists.{nothing_kept};
 ghost use Rattle.day_orders.specs.LastOrders.{last_order_on_leg};
 ghost use Rattle.desk_data.specs.Booked.{IsBooked};
 ghost use Rattle.desk_data.specs.Hours.{hour_cap, dep_cap, arr_cap};
-ghost use Rattle.desk_data.specs.Situation.{fresh_day, with_batch, legs_of, planes_of, airports_of, reservations_of, leg_at, plane_at, res_at, airport_at, earliest, latest, called_off, fixed, due, spans, begun, bound, delay_of, scheduled_row, groups_of, schedule};
-ghost use Rattle.desk_data.specs.Valid.{AreParts, IsValid, IsLeg, IsPlane, IsReservation, IsAirport, IsBatch, IsRowOf, IsPlanFor};
+ghost use Rattle.desk_data.specs.Keeps.{Keeps};
+ghost use Rattle.desk_data.specs.Progress.{with_batch};
+ghost use Rattle.desk_data.specs.Situation.{fresh_day, legs_of, planes_of, airports_of, reservations_of, leg_at, plane_at, res_at, airport_at, now_of, frozen_at, tally_at, ordered, earliest, latest, called_off, fixed, due, spans, begun, bound, delay_of, scheduled_row, groups_of, schedule};
+ghost use Rattle.desk_data.specs.Valid.{AreParts, IsValid, IsLeg, IsPlane, IsReservation, IsAirport, AreTallied, IsBatch, IsRowOf, IsPlanFor};
 
 use crate::booked::{Booked, bookings_of};
 use crate::hours::cap_of_line;
 use crate::info::{AirportInfo, LegInfo, PlaneInfo, PositionInfo, ResInfo};
+use crate::left::Left;
 use crate::limits::MOST_DELAY;
+use crate::news::News;
 use crate::parts::Parts;
 use crate::path::Path;
 use crate::plan::Plan;
 use crate::row::{Group, Row};
-use day_orders::{Batch, HourCap, Order, OrderTables, cap_at};
+use day_orders::{Batch, HourCap, cap_at};
 use desk_units::{Airport, Leg, List, Minute, NoMem, Plane, Res, Tariff};
 use std::alloc::Global;
 use std::marker::Model;
 use std::sync::Arc;
 use tariff_prices::Prices;
 
-/// A day with the orders taken so far. Contracts see it as its rows, its list of orders and its progress.
-/// No batch moves its progress yet: it is always that of the day before any batch, so nothing is kept of it.
+/// A day with the orders taken so far, and with what has left by the moment up to which it has gone on.
+/// Contracts see it as its rows, its list of orders and its progress. Copies share all that they hold.
 pub struct Instance {
     parts: Arc<Parts>,
     prices: Arc<Prices>,
     /// What each reservation booked.
     bookings: Arc<List<Booked>>,
-    orders: Vec<Order>,
-    /// What the orders say.
-    kept: OrderTables,
+    /// The orders, and what is kept of them.
+    news: Arc<News>,
+    /// How far the day has gone on, and what is kept of it.
+    left: Arc<Left>,
 }
 
 /// Dropped in one call, so that a function that owns one proves it once, and not part by part.
@@ -42,22 +46,22 @@ impl Drop for Instance {
             parts: _,
             prices: _,
             bookings: _,
-            orders: _,
-            kept: _,
+            news: _,
+            left: _,
         } = self;
     }
 }
 
 impl Model for Instance {
-    ghost use Rattle.desk_data.specs.Situation.{Situation, first_progress};
-    ghost use Rattle.desk_data.specs.Keeps.{IsWhole};
+    ghost use Rattle.desk_data.specs.Insides.{IsWhole, day_of};
+    ghost use Rattle.desk_data.specs.Situation.{Situation};
     ghost use Rattle.std.specs.Arc.{arc_value};
 
     ghost Value = { Situation };
 
-    ghost view = { λ i. record { parts = arc_value i.parts; orders = i.orders.items; progress = first_progress (arc_value i.parts) } };
+    ghost view = { λ i. day_of (arc_value i.parts) (arc_value i.news) (arc_value i.left) };
 
-    ghost invariant = { λ i. IsWhole (record { parts = arc_value i.parts; orders = i.orders.items; progress = first_progress (arc_value i.parts) }) i.kept (arc_value i.prices) (arc_value i.bookings) };
+    ghost invariant = { λ i. IsWhole (day_of (arc_value i.parts) (arc_value i.news) (arc_value i.left)) (arc_value i.news) (arc_value i.left) (arc_value i.prices) (arc_value i.bookings) };
 }
 
 impl Instance {
@@ -67,17 +71,17 @@ impl Instance {
         requires { AreParts parts }
         ensures { IfOk result (λ inst. inst ≡ fresh_day parts) }
     {
-        let kept = nothing_kept(alloc, &parts)?;
         let prices = Arc::new(alloc, Prices::of(alloc, &parts.tariff)?)?;
         let bookings = Arc::new(alloc, bookings_of(alloc, &parts)?)?;
+        let news = Arc::new(alloc, News::of(alloc, &parts)?)?;
+        let left = Arc::new(alloc, Left::of(alloc, &parts)?)?;
         let parts = Arc::new(alloc, parts)?;
-        let orders = Vec::new(alloc);
         Ok(Instance {
             parts,
             prices,
             bookings,
-            orders,
-            kept,
+            news,
+            left,
         })
     }
 
@@ -159,26 +163,78 @@ impl Instance {
 }
 
 impl Instance {
-    /// The earliest departure of a leg: its scheduled departure, and the delay of its last flight
-    /// order where that is a delay.
-    #[tactic(auto, unfolding(crate::specs::Situation::earliest, crate::specs::Situation::delay_of))]
-    pub fn earliest(&self, leg: Leg) -> Minute
+    /// Up to which moment the day has gone on: the window's start before any batch, and else the latest
+    /// moment that a batch has told.
+    pub fn now(&self) -> Minute
+        ensures { result.0 ≡ now_of self.now }
+    {
+        self.left.now
+    }
+
+    /// The row with which a leg is frozen: it left, or was given up, before the present moment. `None` for a
+    /// leg that is not frozen.
+    pub fn frozen(&self, leg: Leg) -> Option<Row>
         requires { leg.0 < legs_of self.now }
-        ensures earliest { result.0 ≡ earliest self.now leg.0 }
+        ensures row { result ≡ frozen_at self.now leg.0 }
+        ensures ranges { IfSome result (IsRowOf (planes_of self.now)) }
+    {
+        self.left.frozen[leg.0 as usize]
+    }
+
+    /// The rows with which legs are frozen, by leg.
+    pub(crate) fn frozen_rows(&self) -> &[Option<Row>]
+        ensures { result.now ≡ self.now.progress.frozen }
+    {
+        self.left.frozen.as_slice()
+    }
+
+    /// How many passengers of a reservation have flown which frozen legs: lists of legs with at least one
+    /// passenger, in the order of paths. The empty list is of those who have flown nothing yet, or are not
+    /// carried.
+    pub fn tally(&self, res: Res) -> &[(Path, u32)]
+        requires { res.0 < reservations_of self.now }
+        ensures entries { result.now ≡ tally_at self.now res.0 }
+        ensures ranges { AreTallied self.now.progress.frozen result.now }
+    {
+        self.left.tally[res.0 as usize].as_slice()
+    }
+
+    /// The departure of a leg by the orders: its scheduled departure, and the delay of its last flight order
+    /// where that is a delay.
+    #[tactic(auto, unfolding(crate::specs::Situation::ordered, crate::specs::Situation::delay_of))]
+    pub fn ordered(&self, leg: Leg) -> Minute
+        requires { leg.0 < legs_of self.now }
+        ensures ordered { result.0 ≡ ordered self.now leg.0 }
         ensures limit { result.0 ≤ 52482880 }
     {
         let delay = self.last_order_on_leg(leg).flatten().unwrap_or(0);
         Minute(self.leg(leg).sched.0 + delay)
     }
 
-    /// The latest departure of a leg: 2,880 minutes after the earliest.
+    /// The earliest departure of a leg: the ordered one, and for a leg that may move not before the present
+    /// moment.
+    #[tactic(auto, unfolding(crate::specs::Situation::earliest))]
+    pub fn earliest(&self, leg: Leg) -> Minute
+        requires { leg.0 < legs_of self.now }
+        ensures earliest { result.0 ≡ earliest self.now leg.0 }
+        ensures limit { result.0 ≤ 52482880 }
+    {
+        let ordered = self.ordered(leg);
+        if self.fixed(leg) {
+            return ordered;
+        }
+        ordered.max(self.left.now)
+    }
+
+    /// The latest departure of a leg: 2,880 minutes after the ordered one, whatever the present moment is. So
+    /// it may be before the earliest.
     #[tactic(auto, unfolding(crate::specs::Situation::latest))]
     pub fn latest(&self, leg: Leg) -> Minute
         requires { leg.0 < legs_of self.now }
         ensures latest { result.0 ≡ latest self.now leg.0 }
         ensures limit { result.0 ≤ 52485760 }
     {
-        Minute(self.earliest(leg).0 + MOST_DELAY)
+        Minute(self.ordered(leg).0 + MOST_DELAY)
     }
 
     /// Whether the last flight order of a leg takes it out of the plan.
@@ -190,19 +246,22 @@ impl Instance {
         self.last_order_on_leg(leg) == Some(None)
     }
 
-    /// Whether nothing moves the leg: its scheduled aircraft is surface transport, or it is
-    /// scheduled before the window.
+    /// Whether nothing moves the leg: its scheduled aircraft is surface transport, it is scheduled before the
+    /// window, or it is frozen.
     #[tactic(auto, unfolding(crate::specs::Situation::fixed))]
     pub fn fixed(&self, leg: Leg) -> bool
         requires { leg.0 < legs_of self.now }
         ensures { result ≡ fixed self.now leg.0 }
     {
         let info = self.leg(leg);
-        self.plane(info.plane).surface || info.sched.0 < self.parts.from.0
+        self.plane(info.plane).surface
+            || info.sched.0 < self.parts.from.0
+            || self.frozen(leg).is_some()
     }
 
-    /// The row that a fixed leg should have: cancelled if it is called off, else flown by its
-    /// scheduled aircraft at its earliest departure. `None` for a leg that may move.
+    /// The row that a fixed leg should have: the one with which it is frozen, if it is; else cancelled if it
+    /// is called off, and else flown by its scheduled aircraft at its earliest departure. `None` for a leg
+    /// that may move.
     #[tactic(auto, unfolding(crate::specs::Situation::due))]
     pub fn due(&self, leg: Leg) -> Option<Row>
         requires { leg.0 < legs_of self.now }
@@ -212,33 +271,39 @@ impl Instance {
         if !self.fixed(leg) {
             return None;
         }
-        if self.called_off(leg) {
-            return Some(Row::Cancelled);
-        }
-        Some(Row::Flown {
-            plane: self.leg(leg).plane,
-            dep: self.earliest(leg),
-        })
+        let ordered = if self.called_off(leg) {
+            Row::Cancelled
+        } else {
+            Row::Flown {
+                plane: self.leg(leg).plane,
+                dep: self.earliest(leg),
+            }
+        };
+        Some(self.frozen(leg).unwrap_or(ordered))
     }
 
     /// When an aircraft is out of service: spans from one moment up to but not including another,
-    /// in the order of its orders.
+    /// in the order of its orders. Of each order what is left after the aircraft's frozen rows have landed,
+    /// and nothing where that is empty.
     pub fn spans(&self, plane: Plane) -> &[(Minute, Minute)]
         requires { plane.0 < planes_of self.now }
         ensures { result.now ≡ spans self.now plane.0 }
     {
-        self.kept.spans(plane)
+        self.news.spans[plane.0 as usize].as_slice()
     }
 
     /// How many departures an airport takes in an hour, which is counted from 2000-01-01 00:00: as
     /// the last airport order says that has a minute in the hour, else as the last group of the
-    /// airport's line says that covers the hour of the day. `None` where it takes any number.
+    /// airport's line says that covers the hour of the day, and never fewer than frozen rows depart there
+    /// then. `None` where it takes any number.
     #[tactic(auto, unfolding(crate::specs::Hours::dep_cap))]
     pub fn dep_cap(&self, airport: Airport, hour: u32) -> Option<u32>
         requires { airport.0 < airports_of self.now }
         ensures { result ≡ dep_cap self.now airport.0 hour }
     {
-        self.hour_cap(airport, hour).map(|cap| cap.deps)
+        let cap = self.hour_cap(airport, hour)?;
+        let frozen = self.left.departures.count(airport, hour);
+        Some(cap.deps.max(frozen))
     }
 
     /// How many arrivals an airport takes in an hour, found as the departures are.
@@ -247,7 +312,9 @@ impl Instance {
         requires { airport.0 < airports_of self.now }
         ensures { result ≡ arr_cap self.now airport.0 hour }
     {
-        self.hour_cap(airport, hour).map(|cap| cap.arrs)
+        let cap = self.hour_cap(airport, hour)?;
+        let frozen = self.left.arrivals.count(airport, hour);
+        Some(cap.arrs.max(frozen))
     }
 
     /// What a reservation booked, which no order changes.
@@ -274,8 +341,9 @@ impl Instance {
         path.len() as u32
     }
 
-    /// Whether a path of a reservation begins with the legs of its scheduled path that have begun.
-    /// Its groups play no part.
+    /// Whether a path of a reservation keeps to what has left, beside the reservation's groups: it begins with
+    /// the legs of the scheduled path that have begun, some passengers have flown just those of its legs that
+    /// have left, and no more of these groups are carried so than have.
     #[tactic(auto, unfolding(crate::specs::Situation::bound))]
     pub fn bound(&self, res: Res, groups: &[Group], path: &Path) -> bool
         requires { res.0 < reservations_of self.now }
@@ -283,7 +351,7 @@ impl Instance {
     {
         let begun = self.begun(res) as usize;
         let scheduled = self.res(res).path.as_slice();
-        path.as_slice().starts_with(&scheduled[..begun])
+        path.as_slice().starts_with(&scheduled[..begun]) && self.has_room_behind(res, groups, path)
     }
 
     /// The window in which the desk may move legs: its start, and its end, which is not in it.
@@ -314,22 +382,21 @@ impl Instance {
         &self.prices
     }
 
-    /// An equal instance. The rows, the prices and what reservations booked are shared. The only error
-    /// is out of memory.
-    pub fn copy(&self, alloc: Global) -> Result<Instance, NoMem>
+    /// An equal instance, which shares all that this one holds. The only error is out of memory.
+    pub fn copy(&self) -> Result<Instance, NoMem>
         ensures { IfOk result (λ copy. copy ≡ self.now) }
     {
         let parts = self.parts.clone()?;
         let prices = self.prices.clone()?;
         let bookings = self.bookings.clone()?;
-        let orders = Vec::from_slice(alloc, self.orders.as_slice())?;
-        let kept = self.kept.copy(alloc)?;
+        let news = self.news.clone()?;
+        let left = self.left.clone()?;
         Ok(Instance {
             parts,
             prices,
             bookings,
-            orders,
-            kept,
+            news,
+            left,
         })
     }
 
@@ -345,9 +412,10 @@ impl Instance {
         Ok(Plan::of(rows, groups))
     }
 
-    /// Takes the orders of a batch, after those taken before. The plan is the one that stands when the batch
-    /// arrives; it decides nothing yet. After an error the instance is as before. `can_add` of day_checks tests
-    /// the condition of the batch.
+    /// Takes a batch. Where it tells a later moment than the present one, the day goes on to it: what leaves
+    /// before it by the plan, which is the one that stands when the batch arrives, is frozen, and then
+    /// passengers are tallied. Then its orders come after those taken before. After an error the instance is
+    /// as before. `can_add` of day_checks tests the condition of the batch.
     pub fn add(&mut self, alloc: Global, plan: &Plan, batch: &Batch) -> Result<(), NoMem>
         requires batch { IsBatch self.old.parts batch.now }
         requires plan { IsPlanFor self.old plan.now }
@@ -355,10 +423,29 @@ impl Instance {
         ensures err { OnErr result (self.new ≡ self.old) }
     {
         let orders = batch.orders.as_slice();
-        let kept = self.kept.with(alloc, orders)?;
-        self.orders.extend_from_slice(orders)?;
-        self.kept = kept;
+        match batch.at {
+            Some(at) if self.left.now.0 < at.0 => {
+                let left = Left::at(alloc, self, plan, at)?;
+                let news = self.news_with(alloc, orders, left.landings.as_slice())?;
+                let news = Arc::new(alloc, news)?;
+                self.left = Arc::new(alloc, left)?;
+                self.news = news;
+            }
+            _ => {
+                let news = self.news_with(alloc, orders, self.left.landings.as_slice())?;
+                self.news = Arc::new(alloc, news)?;
+            }
+        }
         Ok(())
+    }
+
+    /// The orders taken so far, and what is kept of them.
+    pub(crate) fn news(&self) -> &News
+        ensures orders { result.now.orders.items ≡ self.now.orders }
+        ensures kept { Keeps self.now result.now.kept }
+        ensures valid { IsValid self.now }
+    {
+        &self.news
     }
 
     /// What an airport takes in an hour.
@@ -367,7 +454,7 @@ impl Instance {
         requires { airport.0 < airports_of self.now }
         ensures { result ≡ hour_cap self.now airport.0 hour }
     {
-        let ordered = cap_at(self.kept.hours(airport), hour);
+        let ordered = cap_at(self.news.kept.hours(airport), hour);
         if ordered.is_some() {
             return ordered;
         }
@@ -389,18 +476,8 @@ impl Instance {
         ensures said { result ≡ last_order_on_leg leg.0 self.now.orders }
         ensures limit { delay_of result ≤ 2880 }
     {
-        self.kept.leg(leg)
+        self.news.kept.leg(leg)
     }
-}
-
-/// What is kept of no orders.
-fn nothing_kept(alloc: Global, parts: &Parts) -> Result<OrderTables, NoMem>
-    ensures { IfOk result (λ kept. kept ≡ nothing_kept (length parts.now.legs) (length parts.now.planes) (length parts.now.airports)) }
-{
-    let legs = parts.legs.as_slice().len();
-    let planes = parts.planes.as_slice().len();
-    let airports = parts.airports.as_slice().len();
-    OrderTables::nothing(alloc, legs, planes, airports)
 }
 
 fn scheduled_rows(alloc: Global, legs: &[LegInfo]) -> Result<Vec<Row>, NoMem>

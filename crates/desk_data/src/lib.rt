@@ -1,7 +1,7 @@
 //! The joined day of an airline: its rows, its disruption orders, and plans for it.
 //!
 //! `Instance` is a day: the rows of its airports, aircraft, legs and reservations, shared by its
-//! copies, and the orders taken so far. Airports, aircraft, legs and reservations are numbers, by
+//! copies, the orders taken so far, and what has left. Airports, aircraft, legs and reservations are numbers, by
 //! their places among the rows. `Plan` has a row for each leg, and for each reservation its groups
 //! of passengers by path.
 //!
@@ -23,11 +23,15 @@ mod hours;
 mod info;
 mod instance;
 mod laws;
+mod left;
 mod limits;
+mod news;
 mod parts;
 mod path;
 mod plan;
+mod room;
 mod row;
+mod tally;
 
 pub use booked::Booked;
 pub use broken::Broken;
@@ -39,8 +43,9 @@ pub use desk_units::{
 pub use info::{AirportInfo, Cap, LegInfo, Maint, PlaneInfo, PositionInfo, ResInfo};
 pub use instance::Instance;
 pub use laws::{
-    batches_keep_days_valid, departures_are_in_time, fixed_legs_have_rows_due, later_orders_decide,
-    paths_are_bound_to_what_has_begun,
+    batches_freeze_what_has_left, batches_keep_days_valid,
+    days_of_which_nothing_has_left_are_as_ordered, departures_are_in_time,
+    fixed_legs_have_rows_due, later_orders_decide, paths_are_bound_to_what_has_left,
 };
 pub use limits::{DAY, DEPARTURES_END, LAST_SCHEDULED, MOMENTS_END, MOST_DELAY};
 pub use parts::Parts;

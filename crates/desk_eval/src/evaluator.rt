@@ -94,9 +94,9 @@ impl Evaluator {
         Evaluator::of_pages(alloc, inst, pages, booked)
     }
 
-    /// The evaluator of another plan of the same day, which may have more orders, with an empty past. The plan
-    /// is handed in, and one for the instance that is handed in. What depends on the day alone is shared. The
-    /// only error is out of memory.
+    /// The evaluator of another plan of the same day, which may have gone on and have more orders, with an
+    /// empty past. The plan is handed in, and one for the instance that is handed in. What depends on the rows
+    /// of the day alone is shared. The only error is out of memory.
     pub fn of_same_day(&self, alloc: Global, inst: Instance, plan: Plan) -> Result<Evaluator, NoMem>
         requires day { inst.parts ≡ self.now.inst.parts }
         requires plan { IsPlanFor inst plan }
@@ -242,7 +242,7 @@ impl Evaluator {
     pub fn copy(&self, alloc: Global) -> Result<Evaluator, NoMem>
         ensures { IfOk result (λ copy. copy ≡ record self.now { past = [] }) }
     {
-        let inst = self.inst.copy(alloc)?;
+        let inst = self.inst.copy()?;
         let pages = self.pages.share(alloc)?;
         let booked = self.booked.clone()?;
         Evaluator::of_pages(alloc, inst, pages, booked)

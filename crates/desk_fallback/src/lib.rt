@@ -1,6 +1,6 @@
 //! What the desk falls back on when a disruption arrives.
 //!
-//!     match fallback(alloc, &inst, plan, pages)? {    // the instance with the disruption's orders
+//!     match fallback(alloc, &inst, plan, pages)? {    // the instance with the batch that disrupts it
 //!         Fallback::Chosen { which, plan } => ..,     // a plan that breaks no rule
 //!         Fallback::NoPlan { broken, plan } => ..,    // no plan: rows, and the first item that they break
 //!     }

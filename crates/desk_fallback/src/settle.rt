@@ -8,8 +8,8 @@ ghost use Rattle.desk_model.specs.Fallback.{settled};
 
 use desk_data::{Instance, Leg, Plan};
 
-/// Gives each fixed leg the row that it is due: cancelled if it is called off, else flown by its
-/// scheduled aircraft at its earliest departure. All else stays.
+/// Gives each fixed leg the row that it is due: the one with which it is frozen, if it is; else cancelled if it
+/// is called off, else flown by its scheduled aircraft at its earliest departure. All else stays.
 pub(crate) fn settle(inst: &Instance, plan: &mut Plan)
     requires { IsPlanFor inst.now plan.old }
     ensures made { plan.new ≡ settled inst.now plan.old }

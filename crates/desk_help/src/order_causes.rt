@@ -95,7 +95,7 @@ pub(crate) const FEED: &[CauseRow] = &[
     ),
     (
         Cause::Word,
-        "the second field is none of flight, aircraft, airport and none.",
+        "the second field is none of flight, aircraft, airport, at and none.",
     ),
     (
         Cause::Number,
@@ -109,12 +109,18 @@ pub(crate) const FEED: &[CauseRow] = &[
     (Cause::Time, TIME),
     (
         Cause::Batch,
-        "BATCH is not 1 in the first record, or neither that of the record before nor one more, or above 1,000.",
+        "BATCH is not 1 in the first record, or neither that of the record before nor one more, or above 1,000; or an at record is not the first of its BATCH.",
     ),
-    (Cause::Limit, ORDER_LIMIT),
+    (
+        Cause::Limit,
+        "this is the 100,001st order; alt_flights.csv, alt_aircraft.csv, alt_airports.csv and feed.csv may have 100,000 in all; or the DATE and TIME of an at record are after minute 52,480,000, which is 12/10/2099 10:40.",
+    ),
     (
         Cause::Unknown,
         "FLIGHT and DATE are no leg of rotations.csv, AIRCRAFT is not in aircraft.csv, or AIRPORT is not in airports.csv.",
     ),
-    (Cause::BadWindow, SPAN),
+    (
+        Cause::BadWindow,
+        "the second DATE and TIME, the end of the span, are not later than the first, its start; or the DATE and TIME of an at record are earlier than the moment of the batch before, or than the start of the window.",
+    ),
 ];

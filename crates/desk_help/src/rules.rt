@@ -48,7 +48,7 @@ pub const RULES: &[Rule] = &[
         number: "C1",
         word: "due",
         item: ItemKind::Leg,
-        text: "A fixed leg has the row that is due: cancelled if it is called off, and else flown by its scheduled aircraft at its earliest departure.",
+        text: "A fixed leg has the row that is due: the one with which it is frozen, if it has left; else cancelled if it is called off, and else flown by its scheduled aircraft at its earliest departure.",
     },
     Rule {
         number: "C2",
@@ -132,7 +132,7 @@ pub const RULES: &[Rule] = &[
         number: "C15",
         word: "begun",
         item: ItemKind::Reservation,
-        text: "A carried path begins with the legs of the scheduled path that have begun, in their cabins.",
+        text: "A carried path begins with the legs of the scheduled path that have begun, in their cabins; some passengers have flown just those of its legs that have left, and no more are carried so than have.",
     },
 ];
 

@@ -7,7 +7,8 @@ use Rattle.std.proofs.lemmas.List.Folds.{find-append}
 use Rattle.std.proofs.lemmas.List.Elements.{recursion_from_All}
 use Rattle.day_orders.specs.declared.orders.Batch.{Batch}
 use Rattle.desk_data.specs.declared.broken.Broken.{Broken}
-use Rattle.desk_data.specs.Situation.{Situation, with_batch}
+use Rattle.desk_data.specs.Progress.{with_batch}
+use Rattle.desk_data.specs.Situation.{Situation}
 use Rattle.desk_data.specs.PlanRows.{PlanRows}
 use Rattle.desk_rules.specs.Least.{breaks, least}
 use Rattle.desk_rules.specs.Words.{Meets, IsLeast}

@@ -13,7 +13,7 @@ use Rattle.desk_data.specs.Valid.{IsPathOf, AreGroupsOf, IsPlanFor}
 use Rattle.desk_rules.specs.Numbers.{numbers}
 use Rattle.desk_rules.proofs.HourLaws.{length-numbers}
 use Rattle.desk_model.specs.Rebook.{passengers_on, count_on, groups_after_rebook, after_rebook, RebooksPassengers}
-use Rattle.desk_model.proofs.PathOrder.{pairs_nil}
+use Rattle.desk_data.proofs.PathOrder.{pairs_nil}
 use Rattle.desk_model.proofs.RebookLaws.{Ascends, groups_after_rebook-adds, groups_after_rebook-groups, groups_after_rebook-of, groups_after_rebook-same, groups_after_rebook-none}
 
 -- ---- the numbers below n

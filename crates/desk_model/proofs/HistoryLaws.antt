@@ -1,11 +1,11 @@
 -- What holds of histories.
-use Rattle.std.proofs.Common.{◌≡◌, ◌↔◌, ℕ, zero, suc, ◌+◌, ◌-◌, ◌<◌, ◌≤◌, ◌⊎◌, inl, inr, Bool, true, false, cond, List, [], ◌∷◌, ◌++◌, length, take, refl, sym, ap, subst, ◌∙◌, arith, append_assoc, length-append}
+use Rattle.std.proofs.Common.{◌≡◌, ◌↔◌, ℕ, zero, suc, ◌+◌, ◌-◌, ◌<◌, ◌≤◌, ◌⊎◌, inl, inr, Bool, true, false, cond, List, [], ◌∷◌, ◌++◌, length, take, drop, refl, sym, ap, subst, ◌∙◌, arith, append_assoc, length-append}
 use Rattle.std.specs.Prelude.{None, Some, not, slice_get, take_while, reverse}
 use Rattle.std.specs.List.{AllByRecursion}
 use Rattle.std.specs.Option.{ForSome}
 use Rattle.std.proofs.lemmas.Bool.{cases_Bool}
 use Rattle.std.proofs.lemmas.Option.{slice_get_within, get_or_from_slice_get, slice_get-get_or}
-use Rattle.std.proofs.lemmas.List.{take_more, take-append-le, append-nil, take_all, reverse-append}
+use Rattle.std.proofs.lemmas.List.{take_more, take-take, take-append-drop, take-append-le, append-nil, take_all, reverse-append}
 use Rattle.std.proofs.lemmas.List.Sums.{count_by_more_no, count_by_more_yes, take_while-cons}
 use Rattle.std.proofs.Math.ListN.{get_or-append}
 use Rattle.std.proofs.Math.Seq.{get_or-append_seam}
@@ -17,11 +17,13 @@ use Rattle.plan_moves.specs.Fits.{StepFits, IsPathIn}
 use Rattle.day_orders.specs.declared.orders.Order.{Order}
 use Rattle.day_orders.specs.declared.orders.Batch.{Batch}
 use Rattle.desk_data.specs.declared.parts.Parts.{Parts}
+use Rattle.desk_data.specs.declared.row.Row.{Row}
 use Rattle.desk_data.specs.Valid.{IsBatch, IsRowOf}
 use Rattle.desk_data.proofs.BatchLaws.{with_batch-orders}
 use Rattle.desk_units.specs.declared.money.Grains.{Grains}
 use Rattle.desk_data.specs.declared.broken.Broken.{Broken}
-use Rattle.desk_data.specs.Situation.{Situation, with_batch}
+use Rattle.desk_data.specs.Progress.{with_batch}
+use Rattle.desk_data.specs.Situation.{Situation, frozen_at, legs_of, now_of}
 use Rattle.desk_rules.specs.Cost.{grains}
 use Rattle.desk_rules.proofs.LeastLaws.{feasible-holds, feasible-from, least-holds}
 use Rattle.desk_model.specs.declared.answer.Answer.TheVariants.{Taken, Accepted, Breaks, Dearer, NoPlan}
@@ -31,12 +33,12 @@ use Rattle.desk_model.specs.declared.answer.Event.TheVariants as event
 use Rattle.desk_model.specs.declared.answer.Entry.{Entry}
 use Rattle.desk_model.specs.Steps.{after_move}
 use Rattle.desk_model.specs.States.{State, opening, fallback_on, answer, after}
-use Rattle.desk_model.specs.Histories.{state, has_room, IsAskable, AreAskable, Stands, IsLegal, is_batch, is_accepted, is_change, changes, since_batch, orders_in, orders_of, entry_of, entries, run}
+use Rattle.desk_model.specs.Histories.{state, has_room, IsAskable, AreAskable, Stands, IsLegal, is_batch, is_accepted, is_change, changes, since_batch, orders_in, orders_of, moment_behind, has_no_moment, TellsNoMoment, entry_of, entries, run}
 use Rattle.desk_model.specs.Promises.{state_at, cost_of, IsHonest, Improves, IsTakenIn, HadNoPlan, BreaksFirst, IsDearer, IsKept, AreProposals, KeepsPromises}
 use Rattle.desk_model.specs.Fallback.{grounded, rows_of, rows_named}
 use Rattle.desk_model.specs.Batches.{AnswersBatch}
 use Rattle.desk_model.proofs.BatchLaws.{answers_batch, rows_of_name, rows_left}
-use Rattle.desk_model.proofs.StateLaws.{accepted-cause, accepted-from, batch-not-accepted, batch-priced, batch-published, batch-unplanned, move-not-taken, move-unplanned, move-broken, dearer-cause, after-batch-inst, after-batch-plan, KnowsBroken, after-known, opening-known, after-move-inst, after-parts, after-progress, after-unchanged, after-accepted, accepted-known, after-falls}
+use Rattle.desk_model.proofs.StateLaws.{accepted-cause, accepted-from, batch-not-accepted, batch-priced, batch-published, batch-unplanned, move-not-taken, move-unplanned, move-broken, dearer-cause, after-batch-inst, after-batch-plan, KnowsBroken, after-known, opening-known, after-move-inst, after-parts, after-now, after-progress, after-frozen, after-unchanged, after-accepted, accepted-known, after-falls}
 
 -- ---- the state after a history
 
@@ -57,10 +59,35 @@ after_orders : (S : State) (e : Event) → (after S e).inst.orders ≡ S.inst.or
 after_orders S (event.Batch B) = ap (λ (J : Situation). J.orders) (after-batch-inst S B) ∙ with_batch-orders S.inst S.plan B
 after_orders S (event.Move m) = ap (λ (J : Situation). J.orders) (after-move-inst S m) ∙ sym (append-nil S.inst.orders)
 
--- and how far the day has gone on
-pub state-progress : (S : State) (h : List Entry) → (state S h).inst.progress ≡ S.inst.progress
-state-progress S [] = refl
-state-progress S (entry ∷ h) = state-progress (after S entry.event) h ∙ after-progress S entry.event
+-- and takes the day on to the latest moment of its batches
+pub state-now : (S : State) (h : List Entry) → now_of (state S h).inst ≡ moment_behind (now_of S.inst) h
+state-now S [] = refl
+state-now S (entry ∷ h) = state-now (after S entry.event) h ∙ ap (λ (now : ℕ). moment_behind now h) (after-now S entry.event)
+
+-- where none tells a moment, nothing leaves
+state_progress : (S : State) (h : List Entry) → AllByRecursion (λ entry. has_no_moment entry.event ≡ true) h → (state S h).inst.progress ≡ S.inst.progress
+state_progress S [] none = refl
+state_progress S (entry ∷ h) none = state_progress (after S entry.event) h none.1 ∙ after-progress S entry.event none.0
+
+pub state-progress : (S : State) (h : List Entry) → TellsNoMoment h → (state S h).inst.progress ≡ S.inst.progress
+state-progress S h none = state_progress S h (recursion_from_All (λ entry. has_no_moment entry.event ≡ true) h none)
+
+-- what is frozen stays so
+pub state-frozen : (S : State) (h : List Entry) (x : ℕ) (row : Row) → x < legs_of S.inst → frozen_at S.inst x ≡ Some row → frozen_at (state S h).inst x ≡ Some row
+state-frozen S [] x row within is = is
+state-frozen S (entry ∷ h) x row within is =
+    state-frozen (after S entry.event) h x row (subst (λ (p : Parts). x < length p.legs) (sym (after-parts S entry.event)) within) (after-frozen S entry.event x row within is)
+
+-- from one place of a history to each later one
+pub frozen-along : (S : State) (h : List Entry) (i j x : ℕ) (row : Row) → x < legs_of S.inst → i ≤ j → frozen_at (state S (take i h)).inst x ≡ Some row → frozen_at (state S (take j h)).inst x ≡ Some row
+frozen-along S h i j x row within le is =
+    let first = state S (take i h) in
+    let more = drop i (take j h) in
+    let whole : take j h ≡ take i h ++ more = sym (take-append-drop i (take j h)) ∙ ap (λ (front : List Entry). front ++ more) (take-take i j h le) in
+    let there : x < legs_of first.inst = subst (λ (p : Parts). x < length p.legs) (sym (state-parts S (take i h))) within in
+    ap (λ (t : List Entry). frozen_at (state S t).inst x) whole
+    ∙ ap (λ (T : State). frozen_at T.inst x) (state-append S (take i h) more)
+    ∙ state-frozen first more x row there is
 
 -- the orders are those that there were, and after them those of the history's batches
 pub state-orders : (S : State) (h : List Entry) → (state S h).inst.orders ≡ S.inst.orders ++ orders_of h

@@ -1,5 +1,4 @@
 pub mod ChoiceLaws
-pub mod PathOrder
 pub mod SetLaws
 pub mod RebookLaws
 pub mod GroupPlans

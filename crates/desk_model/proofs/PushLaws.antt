@@ -32,7 +32,7 @@ use Rattle.desk_model.specs.Fallback.{IsFlownBy}
 use Rattle.desk_model.proofs.ChoiceLaws.{FirstAt, found_first, first_within-holds, first_within-none}
 use Rattle.desk_model.proofs.ValidLaws.{with_row-valid}
 use Rattle.desk_model.proofs.RotationOrder.{flown_once, precedes-itself, precedes-total, Contains-filter, All-suffix, pairs_across, pairs_after, rotation-ordered, rotation-flown, rotation-each}
-use Rattle.desk_model.proofs.PathOrder.{pairs_head}
+use Rattle.desk_data.proofs.PathOrder.{pairs_head}
 
 -- ---- the leg before
 

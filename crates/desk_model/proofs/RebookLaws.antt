@@ -15,7 +15,7 @@ use Rattle.desk_data.specs.declared.row.Group.{Group}
 use Rattle.desk_data.specs.PlanRows.{path_cmp, IsGroup, AreGroups, same_path}
 use Rattle.desk_data.specs.Valid.{IsPathOf, AreGroupsOf}
 use Rattle.desk_model.specs.Rebook.{passengers_on, count_on, is_before, is_after, group_of, with_count, with_fewer, with_more, groups_after_rebook}
-use Rattle.desk_model.proofs.PathOrder.{by_order, is_lt-holds, is_gt-holds, path_total, path_same, path_itself, path_after, path_before, pairs_head, pairs_tail, pairs_nil, pairs_append}
+use Rattle.desk_data.proofs.PathOrder.{by_order, is_lt-holds, is_gt-holds, path_total, path_same, path_itself, path_after, path_before, pairs_head, pairs_tail, pairs_nil, pairs_append}
 
 -- the passengers of a group, if its path passes a test
 abbrev pub amount : (List (Leg × Cabin) → Bool) → Group → ℕ

@@ -1,8 +1,9 @@
 -- What Refill does.
-use Rattle.std.proofs.Common.{◌≡◌, ℕ, zero, suc, ◌+◌, ◌<◌, ◌≤◌, ◌⊎◌, inl, inr, Bool, true, false, cond, ◌&&◌, leb, eqb, List, [], ◌∷◌, length, get_or, refl, sym, ap, subst, ◌∙◌, arith}
+use Rattle.std.proofs.Common.{◌≡◌, ℕ, zero, suc, ◌+◌, ◌-◌, ◌<◌, ◌≤◌, ◌⊎◌, inl, inr, Bool, true, false, cond, ◌&&◌, leb, eqb, List, [], ◌∷◌, length, get_or, refl, sym, ap, subst, ◌∙◌, arith}
 use Rattle.std.specs.Prelude.{fold}
 use Rattle.std.specs.List.{All, AllByRecursion, list_all}
-use Rattle.std.proofs.lemmas.Bool.{true≢false, cases_Bool, and_parts, and_from, eq-eqb, leb-true, le-leb}
+use Rattle.std.specs.Ordering.{is_eq}
+use Rattle.std.proofs.lemmas.Bool.{true≢false, cases_Bool, and_parts, and_from, eq-eqb, leb-true, leb-false, le-leb, lt-leb}
 use Rattle.std.proofs.lemmas.List.Elements.{All-nil, All-get_or, All-weaker, recursion_from_All}
 use Rattle.std.proofs.lemmas.List.Folds.{list_any_at}
 use Rattle.std.proofs.lemmas.List.Sums.{fold_push, sum_by-set, AllPass-from_list_all, list_all-from_AllPass}
@@ -11,18 +12,21 @@ use Rattle.desk_units.specs.declared.numbers.Cabin.{Cabin}
 use Rattle.desk_units.specs.Ranks.{cabin_rank}
 use Rattle.desk_data.specs.declared.row.Row.{Row}
 use Rattle.desk_data.specs.declared.row.Group.{Group}
-use Rattle.desk_data.specs.Situation.{Situation, legs_of, reservations_of, res_at, no_res, bound}
+use Rattle.desk_data.specs.Begun.{KeepsToLeft}
+use Rattle.desk_data.specs.Paths.{is_carried}
+use Rattle.desk_data.specs.Situation.{Situation, legs_of, reservations_of, res_at, no_res, gone, carried_gone, tallied, begins_as_begun, bound}
 use Rattle.desk_data.specs.PlanRows.{PlanRows, row_at, groups_at, with_groups, same_path}
 use Rattle.desk_data.specs.Valid.{IsValid, IsReservation, IsPlanFor}
 use Rattle.desk_rules.specs.Numbers.{numbers}
 use Rattle.desk_data.specs.Booked.{booked_path}
 use Rattle.desk_rules.specs.Passengers.{aboard, aboard_of, takes}
-use Rattle.desk_data.proofs.BoundLaws.{same_pair-holds}
+use Rattle.desk_data.proofs.BoundLaws.{same_pair-holds, bound-holds}
+use Rattle.desk_data.proofs.PathOrder.{path_itself}
 use Rattle.desk_rules.specs.Carriage.{is_good_path, is_in_time_path}
 use Rattle.desk_model.specs.Choices.{IsGreatestWithin}
 use Rattle.desk_model.specs.Rebook.{passengers_on, count_on, groups_after_rebook, after_rebook}
 use Rattle.desk_model.specs.Tidy.{is_fit_path}
-use Rattle.desk_model.specs.Refill.{seats_of, has_seats_for, HasSeatsFor, has_leg, refill_count, is_refilled, after_refilling, after_refill, RefillsReservation, IsNotOverfilled}
+use Rattle.desk_model.specs.Refill.{seats_of, has_seats_for, HasSeatsFor, has_leg, may_refill, refill_count, is_refilled, after_refilling, after_refill, RefillsReservation, IsNotOverfilled}
 use Rattle.desk_model.proofs.ChoiceLaws.{greatest_within-holds}
 use Rattle.desk_model.proofs.RebookLaws.{groups_after_rebook-adds}
 use Rattle.desk_model.proofs.GroupPlans.{with_groups-same, with_groups-other, after_rebook-valid}
@@ -88,6 +92,73 @@ seats_on_pair I Q (pair ∷ path) n y c has fits =
       | inr elsewhere ↦ seats_on_pair I Q path n y c (rw elsewhere at has) parts.1
     ]
 
+-- ---- what C15 leaves room for
+
+carried-some : (path : List (Leg × Cabin)) → is_carried path ≡ true → same_path path [] ≡ false
+carried-some [] carried = absurd (true≢false (sym carried))
+carried-some (pair ∷ path) carried = refl
+
+pub has_leg-carried : (x : ℕ) (path : List (Leg × Cabin)) → has_leg x path ≡ true → is_carried path ≡ true
+has_leg-carried x [] has = absurd (true≢false (sym has))
+has_leg-carried x (pair ∷ path) has = refl
+
+-- those who go to a path are so many more with just the legs of it that have left
+rebook-gone : (I : Situation) (path : List (Leg × Cabin)) (n : ℕ) (groups : List Group) → is_carried path ≡ true → n ≤ count_on [] groups → carried_gone I.progress.frozen (groups_after_rebook [] path n groups) (gone I path) ≡ carried_gone I.progress.frozen groups (gone I path) + n
+rebook-gone I path n groups carried few =
+    let test : List (Leg × Cabin) → Bool = λ other. is_carried other && same_path (gone I other) (gone I path) in
+    let here : test path ≡ true = and_from (is_carried path) (same_path (gone I path) (gone I path)) carried (ap is_eq (path_itself (gone I path))) in
+    let adds : passengers_on test (groups_after_rebook [] path n groups) + 0 ≡ passengers_on test groups + cond (test path) n 0 = groups_after_rebook-adds test [] path n groups few in
+    let all : cond (test path) n 0 ≡ n = ap (λ (b : Bool). cond b n 0) here in
+    omega (arith, adds, all)
+
+-- a path is bound beside some groups as it is beside others of which as many are carried with just the legs of it that have left
+bound-as : (I : Situation) (r : ℕ) (some others : List Group) (path : List (Leg × Cabin)) → carried_gone I.progress.frozen some (gone I path) ≡ carried_gone I.progress.frozen others (gone I path) → bound I r some path ≡ bound I r others path
+unfolding bound
+bound-as I r some others path same =
+    ap (λ (n : ℕ). begins_as_begun I r path && (leb 1 (tallied I r (gone I path)) && leb n (tallied I r (gone I path)))) same
+
+le_room : (carried n most : ℕ) → carried ≤ most → leb (carried + n) most ≡ leb n (most - carried)
+le_room carried n most few =
+    elim (cases_Bool (leb n (most - carried))) [
+      | inl fits ↦ le-leb (carried + n) most (let le = leb-true n (most - carried) fits in omega (arith, le, few)) ∙ sym fits
+      | inr over ↦ lt-leb (carried + n) most (let lt = leb-false n (most - carried) over in omega (arith, lt, few)) ∙ sym over
+    ]
+
+-- a path that is bound stays so just where no more go to it than C15 leaves room for
+pub bound-room : (I : Situation) (r : ℕ) (path : List (Leg × Cabin)) (n : ℕ) (groups : List Group) → is_carried path ≡ true → n ≤ count_on [] groups → bound I r groups path ≡ true → bound I r (groups_after_rebook [] path n groups) path ≡ leb n (tallied I r (gone I path) - carried_gone I.progress.frozen groups (gone I path))
+unfolding bound
+bound-room I r path n groups carried few is =
+    let most = tallied I r (gone I path) in
+    let before = carried_gone I.progress.frozen groups (gone I path) in
+    let front = and_parts (begins_as_begun I r path) (leb 1 most && leb before most) is in
+    let room = and_parts (leb 1 most) (leb before most) front.1 in
+    let begins : begins_as_begun I r path ≡ true = front.0 in
+    let some : leb 1 most ≡ true = room.0 in
+    rw (begins, some) (ap (λ (k : ℕ). leb k most) (rebook-gone I path n groups carried few) ∙ le_room before n most (leb-true before most room.1))
+
+-- how many may go is seen from the seats and from that room
+pub may_refill-room : (I : Situation) (P : PlanRows) (r n : ℕ) → is_carried (booked_path I r) ≡ true → n ≤ count_on [] (groups_at P r) → bound I r (groups_at P r) (booked_path I r) ≡ true → may_refill I P r n ≡ (has_seats_for I P (booked_path I r) n && leb n (tallied I r (gone I (booked_path I r)) - carried_gone I.progress.frozen (groups_at P r) (gone I (booked_path I r))))
+unfolding may_refill
+may_refill-room I P r n carried few is =
+    ap (λ (b : Bool). has_seats_for I P (booked_path I r) n && b) (bound-room I r (booked_path I r) n (groups_at P r) carried few is)
+
+and_false : (b : Bool) → (b && false) ≡ false
+and_false true = refl
+and_false false = refl
+
+-- where more passengers are aboard, and the reservation's groups are the same, one who might not go may not
+may_refill-more : (I : Situation) (Q R : PlanRows) (r n : ℕ) → R.rows ≡ Q.rows → groups_at R r ≡ groups_at Q r → ((y : ℕ) (c : Cabin) → aboard Q y c ≤ aboard R y c) → may_refill I Q r n ≡ false → may_refill I R r n ≡ false
+unfolding may_refill
+may_refill-more I Q R r n rows own more lacks =
+    let path = booked_path I r in
+    let bound_by : List Group → Bool = λ groups. bound I r (groups_after_rebook [] path n groups) path in
+    elim (cases_Bool (has_seats_for I Q path n)) [
+      | inl seats ↦
+          let over : bound_by (groups_at Q r) ≡ false = ap (λ (b : Bool). b && bound_by (groups_at Q r)) (sym seats) ∙ lacks in
+          ap (λ (b : Bool). has_seats_for I R path n && b) (ap bound_by own ∙ over) ∙ and_false (has_seats_for I R path n)
+      | inr lacking ↦ ap (λ (b : Bool). b && bound_by (groups_at R r)) (seats-more I Q R path n rows more lacking)
+    ]
+
 -- ---- one reservation
 
 -- those who go to a path are aboard its legs then
@@ -99,17 +170,17 @@ rebook-aboard P r path n y c within few =
     let adds : passengers_on (takes y c) moved + 0 ≡ passengers_on (takes y c) (groups_at P r) + cond (takes y c path) n 0 = groups_after_rebook-adds (takes y c) [] path n (groups_at P r) few in
     omega (arith, set, adds)
 
+pub fit-bound : (I : Situation) (Q : PlanRows) (r : ℕ) (path : List (Leg × Cabin)) → is_fit_path I Q r path ≡ true → bound I r (groups_at Q r) path ≡ true
+unfolding is_fit_path
+fit-bound I Q r path fit = (and_parts (is_good_path I Q r path && is_in_time_path I Q r path) (bound I r (groups_at Q r) path) fit).1
+
 booked_sound : (I : Situation) (r : ℕ) → IsValid I → r < reservations_of I → IsReservation (legs_of I) (res_at I r)
 booked_sound I r valid within = All-get_or (IsReservation (legs_of I)) I.parts.res r no_res within valid.parts.res
 
-has_leg-some : (x : ℕ) (path : List (Leg × Cabin)) → has_leg x path ≡ true → same_path path [] ≡ false
-has_leg-some x [] has = absurd (true≢false (sym has))
-has_leg-some x (pair ∷ path) has = refl
-
--- what refilling a reservation does: n of those not carried go to the scheduled path, as many as have seats
+-- what refilling a reservation does: n of those not carried go to the scheduled path, as many as may
 record Refills (I : Situation) (Q R : PlanRows) (r n : ℕ) : Type 0 where
   is : R ≡ with_groups Q r (groups_after_rebook [] (booked_path I r) n (groups_at Q r))
-  greatest : IsGreatestWithin (count_on [] (groups_at Q r)) (has_seats_for I Q (booked_path I r)) n
+  greatest : IsGreatestWithin (count_on [] (groups_at Q r)) (may_refill I Q r) n
 
 after_refilling-no : (I : Situation) (x : ℕ) (Q : PlanRows) (r : ℕ) → is_refilled I Q x r ≡ false → after_refilling I x Q r ≡ Q
 after_refilling-no I x Q r fails = rw fails refl
@@ -120,7 +191,7 @@ after_refilling-yes I x Q r holds = rw holds refl
 refill-refills : (I : Situation) (Q : PlanRows) (r : ℕ) → Refills I Q (after_rebook Q r [] (booked_path I r) (refill_count I Q r)) r (refill_count I Q r)
 unfolding after_rebook refill_count
 refill-refills I Q r =
-    let greatest = greatest_within-holds (count_on [] (groups_at Q r)) (has_seats_for I Q (booked_path I r)) in
+    let greatest = greatest_within-holds (count_on [] (groups_at Q r)) (may_refill I Q r) in
     let to = greatest.to in
     record {
       is = ap (λ (n : ℕ). with_groups Q r (groups_after_rebook [] (booked_path I r) n (groups_at Q r))) (omega arith);
@@ -130,39 +201,75 @@ refill-refills I Q r =
 le_cases : (n w : ℕ) → n ≤ w → (n ≡ w) ⊎ (n < w)
 le_cases n w le = grind arith
 
--- one more would lack a seat, or none is left
-refills-full : (I : Situation) (Q R : PlanRows) (r n : ℕ) → r < length Q.groups → same_path (booked_path I r) [] ≡ false → Refills I Q R r n → (count_on [] (groups_at R r) ≡ 0) ⊎ (has_seats_for I R (booked_path I r) 1 ≡ false)
+-- the groups of the reservation then
+refills-groups : (I : Situation) (Q R : PlanRows) (r n : ℕ) → r < length Q.groups → Refills I Q R r n → groups_at R r ≡ groups_after_rebook [] (booked_path I r) n (groups_at Q r)
+refills-groups I Q R r n within refills =
+    ap (λ (S : PlanRows). groups_at S r) refills.is ∙ with_groups-same Q r (groups_after_rebook [] (booked_path I r) n (groups_at Q r)) within
+
+-- one more has a seat then just where one more than went had one before
+refills-next_seat : (I : Situation) (Q R : PlanRows) (r n : ℕ) → r < length Q.groups → Refills I Q R r n → has_seats_for I R (booked_path I r) 1 ≡ has_seats_for I Q (booked_path I r) (n + 1)
 unfolding has_seats_for
-refills-full I Q R r n within some refills =
+refills-next_seat I Q R r n within refills =
     let path = booked_path I r in
-    let moved = groups_after_rebook [] path n (groups_at Q r) in
     let few = refills.greatest.to in
-    let there : groups_at R r ≡ moved = ap (λ (S : PlanRows). groups_at S r) refills.is ∙ with_groups-same Q r moved within in
-    elim (le_cases n (count_on [] (groups_at Q r)) few) [
-      | inl all ↦
-          let adds = rw some at (groups_after_rebook-adds (λ other. same_path other []) [] path n (groups_at Q r) few) in
-          let left : count_on [] moved ≡ 0 = omega (arith, adds, all) in
-          inl (ap (count_on []) there ∙ left)
+    let before : Leg × Cabin → Bool = λ pair. leb (aboard Q pair.0.0 pair.1 + (n + 1)) (seats_of I pair.1 (row_at Q pair.0.0)) in
+    let after : Leg × Cabin → Bool = λ pair. leb (aboard R pair.0.0 pair.1 + 1) (seats_of I pair.1 (row_at R pair.0.0)) in
+    let same : AllByRecursion (λ (pair : Leg × Cabin). after pair ≡ before pair) path =
+    recursion_from_All (λ (pair : Leg × Cabin). after pair ≡ before pair) path
+    (All-weaker (λ (pair : Leg × Cabin). takes pair.0.0 pair.1 path ≡ true) (λ (pair : Leg × Cabin). after pair ≡ before pair)
+    (λ pair has.
+    let aboard_is : aboard R pair.0.0 pair.1 ≡ aboard Q pair.0.0 pair.1 + n =
+    ap (λ (S : PlanRows). aboard S pair.0.0 pair.1) refills.is ∙ rebook-aboard Q r path n pair.0.0 pair.1 within few ∙ rw has refl in
+    let row_is : row_at R pair.0.0 ≡ row_at Q pair.0.0 = ap (λ (S : PlanRows). row_at S pair.0.0) refills.is in
+    let sum : aboard R pair.0.0 pair.1 + 1 ≡ aboard Q pair.0.0 pair.1 + (n + 1) = omega (arith, aboard_is) in
+    rw (sum, row_is) refl)
+    path (takes_each path)) in
+    agree_all after before path same
+
+-- none is left, or one more may not go
+refills-full : (I : Situation) (Q R : PlanRows) (r n : ℕ) → r < length Q.groups → is_carried (booked_path I r) ≡ true → Refills I Q R r n → (count_on [] (groups_at R r) ≡ 0) ⊎ (may_refill I R r 1 ≡ false)
+unfolding may_refill
+refills-full I Q R r n within carried refills =
+    let path = booked_path I r in
+    let groups = groups_at Q r in
+    let moved = groups_after_rebook [] path n groups in
+    let few = refills.greatest.to in
+    let there : groups_at R r ≡ moved = refills-groups I Q R r n within refills in
+    let adds : count_on [] moved + n ≡ count_on [] groups + 0 = rw (carried-some path carried) at (groups_after_rebook-adds (λ other. same_path other []) [] path n groups few) in
+    elim (le_cases n (count_on [] groups) few) [
+      | inl all ↦ let left : count_on [] moved ≡ 0 = omega (arith, adds, all) in inl (ap (count_on []) there ∙ left)
       | inr more ↦
-          let before : Leg × Cabin → Bool = λ pair. leb (aboard Q pair.0.0 pair.1 + (n + 1)) (seats_of I pair.1 (row_at Q pair.0.0)) in
-          let lacks : list_all before path ≡ false = refills.greatest.greatest (n + 1) (omega arith) (omega arith) in
-          let after : Leg × Cabin → Bool = λ pair. leb (aboard R pair.0.0 pair.1 + 1) (seats_of I pair.1 (row_at R pair.0.0)) in
-          let same : AllByRecursion (λ (pair : Leg × Cabin). after pair ≡ before pair) path =
-          recursion_from_All (λ (pair : Leg × Cabin). after pair ≡ before pair) path
-          (All-weaker (λ (pair : Leg × Cabin). takes pair.0.0 pair.1 path ≡ true) (λ (pair : Leg × Cabin). after pair ≡ before pair)
-          (λ pair has.
-          let aboard_is : aboard R pair.0.0 pair.1 ≡ aboard Q pair.0.0 pair.1 + n =
-          ap (λ (S : PlanRows). aboard S pair.0.0 pair.1) refills.is ∙ rebook-aboard Q r path n pair.0.0 pair.1 within few ∙ rw has refl in
-          let row_is : row_at R pair.0.0 ≡ row_at Q pair.0.0 = ap (λ (S : PlanRows). row_at S pair.0.0) refills.is in
-          let sum : aboard R pair.0.0 pair.1 + 1 ≡ aboard Q pair.0.0 pair.1 + (n + 1) = omega (arith, aboard_is) in
-          rw (sum, row_is) refl)
-          path (takes_each path)) in
-          inr (agree_all after before path same ∙ lacks)
+          let lacks : may_refill I Q r (n + 1) ≡ false = refills.greatest.greatest (n + 1) (omega arith) (omega arith) in
+          let first = rebook-gone I path n groups carried few in
+          let second = rebook-gone I path 1 moved carried (omega (arith, adds, more)) in
+          let both = rebook-gone I path (n + 1) groups carried (omega (arith, more)) in
+          let bounds : bound I r (groups_after_rebook [] path 1 moved) path ≡ bound I r (groups_after_rebook [] path (n + 1) groups) path =
+          bound-as I r (groups_after_rebook [] path 1 moved) (groups_after_rebook [] path (n + 1) groups) path (omega (arith, first, second, both)) in
+          inr (ap (λ (gs : List Group). has_seats_for I R path 1 && bound I r (groups_after_rebook [] path 1 gs) path) there
+          ∙ ap (λ (b : Bool). has_seats_for I R path 1 && b) bounds
+          ∙ ap (λ (b : Bool). b && bound I r (groups_after_rebook [] path (n + 1) groups) path) (refills-next_seat I Q R r n within refills)
+          ∙ lacks)
+    ]
+
+-- the path is bound then, too
+refills-bound : (I : Situation) (Q R : PlanRows) (r n : ℕ) → r < length Q.groups → is_carried (booked_path I r) ≡ true → bound I r (groups_at Q r) (booked_path I r) ≡ true → Refills I Q R r n → bound I r (groups_at R r) (booked_path I r) ≡ true
+unfolding may_refill
+refills-bound I Q R r n within carried is refills =
+    let path = booked_path I r in
+    let groups = groups_at Q r in
+    let moved = groups_after_rebook [] path n groups in
+    let there : groups_at R r ≡ moved = refills-groups I Q R r n within refills in
+    ap (λ (gs : List Group). bound I r gs path) there
+    ∙ elim refills.greatest.holds [
+      | inl none ↦
+          let same = rebook-gone I path n groups carried refills.greatest.to in
+          bound-as I r moved groups path (omega (arith, same, none)) ∙ is
+      | inr fits ↦ (and_parts (has_seats_for I Q path n) (bound I r moved path) fits).1
     ]
 
 -- the path's legs are within their seats then, where anyone goes to it
 refills-seats : (I : Situation) (Q R : PlanRows) (r n y : ℕ) (c : Cabin) → r < length Q.groups → Refills I Q R r n → IsNotOverfilled I Q R y c
-unfolding has_seats_for
+unfolding may_refill
 refills-seats I Q R r n y c within refills =
     let path = booked_path I r in
     let few = refills.greatest.to in
@@ -174,7 +281,7 @@ refills-seats I Q R r n y c within refills =
         | inl none ↦ inl (aboard_is ∙ rw (has, none) (omega arith))
         | inr fits ↦
             let here : aboard R y c ≡ aboard Q y c + n = aboard_is ∙ rw has refl in
-            let le = seats_on_pair I Q path n y c has fits in
+            let le = seats_on_pair I Q path n y c has (and_parts (has_seats_for I Q path n) (bound I r (groups_after_rebook [] path n (groups_at Q r)) path) fits).0 in
             inr (subst (λ (row : Row). aboard R y c ≤ seats_of I c row) (sym row_is) (omega (arith, here, le)))
       ]
     ]
@@ -214,8 +321,9 @@ refills-later I P Q R x r is rows own more = record {
   going = λ test. ap (λ (gs : List Group). passengers_on test gs + cond (test []) is.count 0) own ∙ is.going test;
   full = λ refilled. elim (is.full refilled) [
     | inl none ↦ inl (ap (count_on []) own ∙ none)
-    | inr lacks ↦ inr (seats-more I Q R (booked_path I r) 1 rows more lacks)
+    | inr lacks ↦ inr (may_refill-more I Q R r 1 rows own more lacks)
   ];
+  keeps = λ refilled. subst (λ (gs : List Group). KeepsToLeft I r gs (booked_path I r)) (sym own) (is.keeps refilled);
   other = λ fails. own ∙ is.other fails;
 }
 
@@ -240,6 +348,7 @@ step-no I x P Q k fails is = record {
       count = 0;
       going = λ test. ap (λ (gs : List Group). passengers_on test gs + cond (test []) 0 0) (is.ahead k (omega arith)) ∙ nobody_goes (test []) (test (booked_path I k)) (passengers_on test (groups_at P k));
       full = λ refilled. absurd (true≢false (sym refilled ∙ fails));
+      keeps = λ refilled. absurd (true≢false (sym refilled ∙ fails));
       other = λ other. is.ahead k (omega arith);
     })
   ];
@@ -247,9 +356,10 @@ step-no I x P Q k fails is = record {
 }
 
 -- a reservation that is refilled
-step-yes : (I : Situation) (x : ℕ) (P Q R : PlanRows) (k n : ℕ) → IsPlanFor I R → k < length Q.groups → has_leg x (booked_path I k) ≡ true → is_refilled I P x k ≡ true → Refills I Q R k n → RefilledTo I x P Q k → RefilledTo I x P R (suc k)
-step-yes I x P Q R k n plan within has holds refills is =
+step-yes : (I : Situation) (x : ℕ) (P Q R : PlanRows) (k n : ℕ) → IsPlanFor I R → k < length Q.groups → is_refilled I P x k ≡ true → has_leg x (booked_path I k) ≡ true → bound I k (groups_at Q k) (booked_path I k) ≡ true → Refills I Q R k n → RefilledTo I x P Q k → RefilledTo I x P R (suc k)
+step-yes I x P Q R k n plan within holds has is_bound refills is =
     let path = booked_path I k in
+    let carried = has_leg-carried x path has in
     let moved = groups_after_rebook [] path n (groups_at Q k) in
     let few = refills.greatest.to in
     let rows : R.rows ≡ Q.rows = ap (λ (S : PlanRows). S.rows) refills.is in
@@ -269,7 +379,8 @@ step-yes I x P Q R k n plan within has holds refills is =
               ap (λ (gs : List Group). passengers_on test gs + cond (test []) n 0) there
               ∙ groups_after_rebook-adds test [] path n (groups_at Q k) few
               ∙ ap (λ (gs : List Group). passengers_on test gs + cond (test path) n 0) (is.ahead k (omega arith));
-          full = λ refilled. refills-full I Q R k n within (has_leg-some x path has) refills;
+          full = λ refilled. refills-full I Q R k n within carried refills;
+          keeps = λ refilled. bound-holds I k (groups_at R k) path (refills-bound I Q R k n within carried is_bound refills);
           other = λ fails. absurd (true≢false (sym holds ∙ fails));
         })
       ];
@@ -302,7 +413,7 @@ refilled_to I x P (suc k) valid plan le =
           let parts = and_parts (has_leg x path) (is_fit_path I Q k path) holds in
           let there : IsPlanFor I R = after_rebook-valid I Q k [] path (refill_count I Q k) (omega arith) booked.short (All-nil (λ (pair : Leg × Cabin). pair.0.0 < legs_of I)) booked.path is.plan in
           subst (λ (S : PlanRows). RefilledTo I x P S (suc k)) (sym (plan_to-more I x P k ∙ after_refilling-yes I x Q k holds))
-          (step-yes I x P Q R k (refill_count I Q k) there within parts.0 (sym same ∙ holds) (refill-refills I Q k) is)
+          (step-yes I x P Q R k (refill_count I Q k) there within (sym same ∙ holds) parts.0 (fit-bound I Q k path parts.1) (refill-refills I Q k) is)
     ]
 
 module _ (I : Situation) (P : PlanRows) (x : ℕ) (valid : IsValid I) (plan : IsPlanFor I P) where

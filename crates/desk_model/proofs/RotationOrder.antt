@@ -16,7 +16,7 @@ use Rattle.desk_rules.specs.Words.{Flies, Precedes}
 use Rattle.desk_rules.proofs.RotationLaws.{precedes-holds, precedes-from}
 use Rattle.desk_rules.proofs.MaintenanceLaws.{flies-holds, flies-from, dep-is}
 use Rattle.desk_model.specs.Push.{with_leg, rotation}
-use Rattle.desk_model.proofs.PathOrder.{pairs_head, pairs_tail, pairs_nil, pairs_append}
+use Rattle.desk_data.proofs.PathOrder.{pairs_head, pairs_tail, pairs_nil, pairs_append}
 
 -- ---- the order on an aircraft
 

@@ -1,13 +1,17 @@
 -- What answers say of states.
 use Rattle.std.proofs.Common.{◌≡◌, ℕ, ◌<◌, ◌≤◌, Bool, true, false, cond, leb, refl, sym, ap, ◌∙◌, arith}
-use Rattle.std.specs.Prelude.{None, Some, Option}
+use Rattle.std.specs.Prelude.{None, Some, Option, is_none}
 use Rattle.std.proofs.lemmas.Bool.{leb-false, leb-true, lt-leb, true≢false}
 use Rattle.desk_units.specs.declared.money.Grains.{Grains}
+use Rattle.desk_units.specs.declared.numbers.Minute.{Minute}
 use Rattle.day_orders.specs.declared.orders.Batch.{Batch}
 use Rattle.desk_data.specs.declared.broken.Broken.{Broken}
+use Rattle.desk_data.specs.declared.row.Row.{Row}
 use Rattle.plan_moves.specs.declared.moves.Move.{Move}
-use Rattle.desk_data.specs.Situation.{Situation, schedule, with_batch}
-use Rattle.desk_data.proofs.BatchLaws.{with_batch-parts, with_batch-progress}
+use Rattle.desk_data.specs.Progress.{moment_or_now, with_batch}
+use Rattle.desk_data.specs.Situation.{Situation, frozen_at, legs_of, now_of, schedule}
+use Rattle.desk_data.proofs.BatchLaws.{with_batch-parts}
+use Rattle.desk_data.proofs.LeavingLaws.{freezes_rows}
 use Rattle.desk_data.specs.PlanRows.{PlanRows}
 use Rattle.desk_rules.specs.Least.{least}
 use Rattle.desk_rules.specs.Cost.{cost, grains}
@@ -22,7 +26,7 @@ use Rattle.desk_model.specs.declared.fallbacks.Fallback.TheVariants as fallen
 use Rattle.desk_model.specs.Fallback.{fallback, shifted, grounded, chosen_or, last_choice, rows_of}
 use Rattle.desk_model.specs.Steps.{after_move}
 use Rattle.desk_model.specs.States.{State, opening, fallback_on, batch_answer, fallen_state, verdict, move_answer, answer, answered_state, after}
-use Rattle.desk_model.specs.Histories.{is_batch, is_accepted, is_change}
+use Rattle.desk_model.specs.Histories.{is_batch, is_accepted, is_change, moment_after, has_no_moment}
 use Rattle.desk_model.specs.Promises.{cost_of}
 
 -- why a move was accepted
@@ -256,10 +260,24 @@ pub after-parts : (S : State) (e : Event) → (after S e).inst.parts ≡ S.inst.
 after-parts S (event.Batch B) = ap (λ (J : Situation). J.parts) (after-batch-inst S B) ∙ with_batch-parts S.inst S.plan B
 after-parts S (event.Move m) = ap (λ (J : Situation). J.parts) (after-move-inst S m)
 
--- and, for now, how far the day has gone on
-pub after-progress : (S : State) (e : Event) → (after S e).inst.progress ≡ S.inst.progress
-after-progress S (event.Batch B) = ap (λ (J : Situation). J.progress) (after-batch-inst S B) ∙ with_batch-progress S.inst S.plan B
-after-progress S (event.Move m) = ap (λ (J : Situation). J.progress) (after-move-inst S m)
+-- a batch takes the day on to its moment
+pub after-now : (S : State) (e : Event) → now_of (after S e).inst ≡ moment_after (now_of S.inst) e
+after-now S (event.Batch B) = ap now_of (after-batch-inst S B) ∙ (freezes_rows S.inst S.plan B).goes_on
+after-now S (event.Move m) = ap now_of (after-move-inst S m)
+
+told_none : (now : ℕ) (at : Option Minute) → is_none at ≡ true → moment_or_now now at ≡ now
+told_none now None none = refl
+told_none now (Some at) none = absurd (true≢false (sym none))
+
+-- and where it tells none nothing leaves
+pub after-progress : (S : State) (e : Event) → has_no_moment e ≡ true → (after S e).inst.progress ≡ S.inst.progress
+after-progress S (event.Batch B) none = ap (λ (J : Situation). J.progress) (after-batch-inst S B) ∙ (freezes_rows S.inst S.plan B).waits (told_none (now_of S.inst) B.at none)
+after-progress S (event.Move m) none = ap (λ (J : Situation). J.progress) (after-move-inst S m)
+
+-- what is frozen stays so
+pub after-frozen : (S : State) (e : Event) (x : ℕ) (row : Row) → x < legs_of S.inst → frozen_at S.inst x ≡ Some row → frozen_at (after S e).inst x ≡ Some row
+after-frozen S (event.Batch B) x row within is = ap (λ (J : Situation). frozen_at J x) (after-batch-inst S B) ∙ (freezes_rows S.inst S.plan B).stays x row within is
+after-frozen S (event.Move m) x row within is = ap (λ (J : Situation). frozen_at J x) (after-move-inst S m) ∙ is
 
 pub opening-inst : (I : Situation) → (opening I).inst ≡ I
 unfolding opening

@@ -1,16 +1,23 @@
 -- Which plans histories have.
-use Rattle.std.proofs.Common.{◌≡◌, ◌↔◌, ℕ, zero, suc, ◌+◌, ◌<◌, ◌≤◌, ◌⊎◌, inl, inr, List, ◌++◌, length, take, sym, ap, subst, ◌∙◌, arith}
+use Rattle.std.proofs.Common.{◌≡◌, ◌↔◌, ℕ, zero, suc, ◌+◌, ◌<◌, ◌≤◌, ◌⊎◌, inl, inr, Bool, true, false, ◌||◌, ltb, List, [], ◌++◌, length, take, refl, sym, ap, subst, ◌∙◌, arith}
 use Rattle.std.specs.Prelude.{None, Some}
 use Rattle.std.proofs.lemmas.List.{take_all}
+use Rattle.std.proofs.lemmas.List.Elements.{All-weaker}
 use Rattle.day_orders.specs.declared.orders.Batch.{Batch}
 use Rattle.desk_data.specs.declared.broken.Broken.{Broken}
+use Rattle.desk_data.specs.declared.parts.Parts.{Parts}
+use Rattle.desk_data.specs.declared.row.Row.{Row}
+use Rattle.desk_data.specs.declared.row.Group.{Group}
 use Rattle.plan_moves.specs.declared.moves.Move.{Move}
 use Rattle.plan_moves.specs.Fits.{Fits}
-use Rattle.desk_data.specs.Situation.{Situation, with_batch}
+use Rattle.desk_data.specs.Progress.{with_batch}
+use Rattle.desk_data.specs.Begun.{HasRoomBehind, KeepsToLeft}
+use Rattle.desk_data.specs.PlanRows.{groups_at, row_at}
+use Rattle.desk_data.specs.Situation.{Situation, due, fixed, frozen_at, leg_at, legs_of, now_of, plane_at, reservations_of}
 use Rattle.desk_data.specs.Valid.{IsBatch, IsValid, IsPlanFor}
 use Rattle.desk_data.proofs.BatchLaws.{with_batch-valid, with_batch-plan}
 use Rattle.desk_data.proofs.ScheduleLemmas.{plan_for_schedule}
-use Rattle.desk_rules.specs.Words.{IsFeasible, IsLeast}
+use Rattle.desk_rules.specs.Words.{EachCarried, IsFeasible, IsLeast}
 use Rattle.desk_rules.proofs.LeastLaws.{feasible-holds, feasible-from, least-holds}
 use Rattle.desk_model.specs.declared.answer.Answer.{Answer}
 use Rattle.desk_model.specs.declared.answer.Answer.TheVariants.{Taken, Accepted, Breaks, Dearer, NoPlan, Full}
@@ -19,14 +26,14 @@ use Rattle.desk_model.specs.declared.answer.Event.TheVariants as event
 use Rattle.desk_model.specs.declared.answer.Entry.{Entry}
 use Rattle.desk_model.specs.Fallback.{rows_of}
 use Rattle.desk_model.specs.States.{State, opening, fallback_on, answer, answered_state, after}
-use Rattle.desk_model.specs.Histories.{state, IsAskable, IsLegal, orders_of}
+use Rattle.desk_model.specs.Histories.{state, IsAskable, IsLegal, TellsNoMoment, moment_behind, orders_of}
 use Rattle.desk_model.specs.Promises.{state_at}
 use Rattle.desk_model.specs.Batches.{HasPlanRows}
 use Rattle.desk_model.proofs.MoveLaws.{after_move-valid}
 use Rattle.desk_model.proofs.FallbackLaws.{fallback-valid}
 use Rattle.desk_model.proofs.StateLaws.{after-batch-inst, after-batch-plan, opening-known, opening-inst, opening-plan}
 use Rattle.desk_model.proofs.BatchLaws.{least-from}
-use Rattle.desk_model.proofs.HistoryLaws.{state-known, state-parts, state-orders, state-progress, state-next, entry_at, askable-parts}
+use Rattle.desk_model.proofs.HistoryLaws.{state-known, state-parts, state-orders, state-now, state-progress, frozen-along, state-next, entry_at, askable-parts}
 
 -- ---- a plan, exactly where the rows are feasible
 
@@ -42,15 +49,48 @@ unplanned I h item =
 
 -- ---- the instance of a state
 
--- its rows and how far it has gone on are those of the day at the opening; its orders have those of the batches after them
+-- its rows are those of the day at the opening, its orders have those of the batches after them, and it has gone on to the latest of their moments
 pub rows_of_state : (I : Situation) (h : List Entry) → (state (opening I) h).inst.parts ≡ I.parts
 rows_of_state I h = state-parts (opening I) h ∙ ap (λ (J : Situation). J.parts) (opening-inst I)
 
 pub orders_of_state : (I : Situation) (h : List Entry) → (state (opening I) h).inst.orders ≡ I.orders ++ orders_of h
 orders_of_state I h = state-orders (opening I) h ∙ ap (λ (J : Situation). J.orders ++ orders_of h) (opening-inst I)
 
-pub progress_of_state : (I : Situation) (h : List Entry) → (state (opening I) h).inst.progress ≡ I.progress
-progress_of_state I h = state-progress (opening I) h ∙ ap (λ (J : Situation). J.progress) (opening-inst I)
+pub now_of_state : (I : Situation) (h : List Entry) → now_of (state (opening I) h).inst ≡ moment_behind (now_of I) h
+now_of_state I h = state-now (opening I) h ∙ ap (λ (J : Situation). moment_behind (now_of J) h) (opening-inst I)
+
+pub progress_of_state : (I : Situation) (h : List Entry) → TellsNoMoment h → (state (opening I) h).inst.progress ≡ I.progress
+progress_of_state I h none = state-progress (opening I) h none ∙ ap (λ (J : Situation). J.progress) (opening-inst I)
+
+-- ---- what has left
+
+pub frozen_stays : (I : Situation) (h : List Entry) (i j x : ℕ) (row : Row) → x < legs_of I → i ≤ j → frozen_at (state_at I h i).inst x ≡ Some row → frozen_at (state_at I h j).inst x ≡ Some row
+frozen_stays I h i j x row within le is =
+    frozen-along (opening I) h i j x row (subst (λ (J : Situation). x < legs_of J) (sym (opening-inst I)) within) le is
+
+third_true : (a b : Bool) → (a || b || true) ≡ true
+third_true true b = refl
+third_true false true = refl
+third_true false false = refl
+
+-- a frozen leg is due the row with which it is frozen
+due_frozen : (I : Situation) (x : ℕ) (row : Row) → frozen_at I x ≡ Some row → due I x ≡ Some row
+unfolding due fixed
+due_frozen I x row is = rw (is, third_true (plane_at I (leg_at I x).plane.0).surface (ltb (leg_at I x).sched.0 I.parts.from.0)) refl
+
+pub frozen_flies : (I : Situation) (h : List Entry) (x : ℕ) (row : Row) → x < legs_of I → (state (opening I) h).broken ≡ None → frozen_at (state (opening I) h).inst x ≡ Some row → row_at (state (opening I) h).plan x ≡ row
+frozen_flies I h x row within none is =
+    let J = (state (opening I) h).inst in
+    let feasible = (planned I h).0 none in
+    feasible.c1 x (subst (λ (p : Parts). x < length p.legs) (sym (rows_of_state I h)) within) row (due_frozen J x row is)
+
+pub carried_as_flown : (I : Situation) (h : List Entry) (r : ℕ) → r < reservations_of I → (state (opening I) h).broken ≡ None → EachCarried (state (opening I) h).plan r (HasRoomBehind (state (opening I) h).inst r (groups_at (state (opening I) h).plan r))
+carried_as_flown I h r within none =
+    let S = state (opening I) h in
+    let groups = groups_at S.plan r in
+    let keeps = ((planned I h).0 none).c15 r (subst (λ (p : Parts). r < length p.res) (sym (rows_of_state I h)) within) in
+    All-weaker (λ (group : Group). (group.path ≡ [] → ⊥) → KeepsToLeft S.inst r groups group.path) (λ (group : Group). (group.path ≡ [] → ⊥) → HasRoomBehind S.inst r groups group.path)
+    (λ group kept some. (kept some).room) groups keeps
 
 pub askable_along : (I : Situation) (h : List Entry) (e : Event) → IsAskable (state (opening I) h).inst e ↔ IsAskable I e
 askable_along I h e =

@@ -13,10 +13,11 @@ use Rattle.std.proofs.lemmas.List.Sums.{sum_by-cons, sum_by-append, list_all-fro
 use Rattle.desk_units.specs.declared.numbers.Leg.{Leg}
 use Rattle.desk_units.specs.declared.numbers.Cabin.{Cabin}
 use Rattle.desk_data.specs.declared.row.Group.{Group}
+use Rattle.desk_data.specs.Begun.{AreNoMoreCarried}
 use Rattle.desk_data.specs.Situation.{Situation, legs_of, reservations_of, res_at, bound}
 use Rattle.desk_data.specs.PlanRows.{PlanRows, IsGroup, AreGroups, groups_at, path_cmp, same_path}
 use Rattle.desk_data.specs.Valid.{IsPathOf, AreGroupsOf, IsPlanFor}
-use Rattle.desk_data.proofs.BoundLaws.{bound-fewer}
+use Rattle.desk_data.proofs.BoundLaws.{bound-fewer, bound-from, bound-holds}
 use Rattle.desk_rules.specs.Numbers.{numbers, implies}
 use Rattle.desk_rules.specs.Passengers.{all_flown, connects}
 use Rattle.desk_data.specs.Paths.{is_carried}
@@ -25,8 +26,8 @@ use Rattle.desk_rules.proofs.HourLaws.{length-numbers}
 use Rattle.desk_rules.proofs.Tests.{implies-from}
 use Rattle.desk_rules.proofs.CarriageLaws.{is_good_path-holds, is_good_path-from, is_in_time-holds, is_in_time-from, keeps_c13-holds, keeps_c14-holds, keeps_c15-holds}
 use Rattle.desk_model.specs.Rebook.{passengers_on, count_on, group_of}
-use Rattle.desk_model.specs.Tidy.{is_fit_path, IsFit, stays_carried, groups_after_tidy, after_tidy, AreNoMoreCarried, TidiesReservation}
-use Rattle.desk_model.proofs.PathOrder.{path_same, is_eq-holds, pairs_append}
+use Rattle.desk_model.specs.Tidy.{is_fit_path, IsFit, stays_carried, groups_after_tidy, after_tidy, TidiesReservation}
+use Rattle.desk_data.proofs.PathOrder.{path_same, is_eq-holds, pairs_append}
 use Rattle.desk_model.proofs.RebookLaws.{amount, Ascends, one_group, one_group-all, one_group-pairs}
 use Rattle.desk_model.proofs.GroupPlans.{numbers-at, map_numbers-agree, groups_at-groups}
 
@@ -247,11 +248,11 @@ fit_from I P r path good in_time is_bound =
 pub is_fit-holds : (I : Situation) (P : PlanRows) (r : ℕ) (path : List (Leg × Cabin)) → is_fit_path I P r path ≡ true → IsFit I P r path
 is_fit-holds I P r path fit =
     let parts = fit_parts I P r path fit in
-    record { there = is_good_path-holds I P r path parts.0; in_time = is_in_time-holds I P r path parts.1; begun = parts.2 }
+    record { there = is_good_path-holds I P r path parts.0; in_time = is_in_time-holds I P r path parts.1; keeps = bound-holds I r (groups_at P r) path parts.2 }
 
 pub is_fit-from : (I : Situation) (P : PlanRows) (r : ℕ) (path : List (Leg × Cabin)) → IsFit I P r path → is_fit_path I P r path ≡ true
 is_fit-from I P r path fit =
-    fit_from I P r path (is_good_path-from I P r path fit.there) (is_in_time-from I P r path fit.in_time) fit.begun
+    fit_from I P r path (is_good_path-from I P r path fit.there) (is_in_time-from I P r path fit.in_time) (bound-from I r (groups_at P r) path fit.keeps)
 
 tidy-good : (I : Situation) (P : PlanRows) (r : ℕ) (path : List (Leg × Cabin)) → is_good_path I (after_tidy I P) r path ≡ is_good_path I P r path
 unfolding after_tidy

@@ -1,6 +1,7 @@
 -- Histories: lists of entries, each with who asked, what was asked and the answer.
-use Rattle.std.specs.Prelude.{◌≡◌, ℕ, ◌+◌, Bool, true, false, not, nat_lt, if◌then◌else◌, List, [], ◌∷◌, ◌++◌, Some, length, take, take_while, reverse, slice_get, count_by, All}
+use Rattle.std.specs.Prelude.{◌≡◌, ℕ, ◌+◌, Bool, true, false, not, nat_lt, if◌then◌else◌, List, [], ◌∷◌, ◌++◌, Some, is_none, length, take, take_while, reverse, slice_get, count_by, All}
 use Rattle.day_orders.specs.declared.orders.Order.{Order}
+use Rattle.desk_data.specs.Progress.{moment_or_now}
 use Rattle.desk_data.specs.Situation.{Situation}
 use Rattle.desk_data.specs.Valid.{IsBatch}
 use Rattle.plan_moves.specs.Fits.{Fits}
@@ -72,6 +73,25 @@ orders_in (event.Move m) = []
 abbrev pub orders_of : List Entry → List Order
 orders_of [] = []
 orders_of (entry ∷ entries) = orders_in entry.event ++ orders_of entries
+
+-- the moment up to which a day has gone on after an event: a batch that tells a later one takes it on to that
+abbrev pub moment_after : ℕ → Event → ℕ
+moment_after now (event.Batch B) = moment_or_now now B.at
+moment_after now (event.Move m) = now
+
+-- and after a history: the latest of the moments that its batches tell, or the one before it where that is later
+abbrev pub moment_behind : ℕ → List Entry → ℕ
+moment_behind now [] = now
+moment_behind now (entry ∷ entries) = moment_behind (moment_after now entry.event) entries
+
+-- whether the event tells no moment: no proposal does
+abbrev pub has_no_moment : Event → Bool
+has_no_moment (event.Batch B) = is_none B.at
+has_no_moment (event.Move m) = true
+
+-- no batch of a history tells a moment
+abbrev pub TellsNoMoment : List Entry → Type 0
+TellsNoMoment h = All (λ entry. has_no_moment entry.event ≡ true) h
 
 -- how many entries of a history changed the state
 abbrev pub changes : List Entry → ℕ

@@ -4,7 +4,8 @@ use Rattle.desk_units.specs.declared.money.Grains.{Grains}
 use Rattle.desk_data.specs.declared.broken.Broken.{Broken}
 use Rattle.plan_moves.specs.declared.moves.Move.{Move}
 use Rattle.day_orders.specs.declared.orders.Batch.{Batch}
-use Rattle.desk_data.specs.Situation.{Situation, with_batch}
+use Rattle.desk_data.specs.Progress.{with_batch}
+use Rattle.desk_data.specs.Situation.{Situation}
 use Rattle.desk_rules.specs.Cost.{cost, grains}
 use Rattle.desk_rules.specs.Words.{IsFeasible, IsLeast}
 use Rattle.desk_model.specs.declared.answer.Answer.{Answer}
@@ -36,7 +37,7 @@ pub record Improves (S : State) (m : Move) : Type 0 where
   pub feasible : IsFeasible S.inst (after_move S.inst S.plan m)
   pub cheaper : cost S.inst (after_move S.inst S.plan m) < cost_of S
 
--- a batch and the answer to it, between the state before it and the state after it: its orders are taken after the others. The answer names the first of the three that is feasible, made of the rows as they stood, under the orders that there are then, or it is the first item that the rows of Ground break. The rows are those that the desk falls back on: those that the name stands for, or where no name is given those of Ground
+-- a batch and the answer to it, between the state before it and the state after it: the rows that have left before its moment are frozen, and its orders are taken after the others. The answer names the first of the three that is feasible, made of the rows as they stood, on the day as it is then, or it is the first item that the rows of Ground break. The rows are those that the desk falls back on: those that the name stands for, or where no name is given those of Ground
 pub record IsTakenIn (before : State) (B : Batch) (given : Answer) (after : State) : Type 0 where
   pub orders : after.inst ≡ with_batch before.inst before.plan B
   pub answered : AnswersBatch after.inst before.plan given

@@ -3,7 +3,8 @@ use Rattle.std.specs.Prelude.{ℕ, nat_le, if◌then◌else◌, Option, Some, No
 use Rattle.day_orders.specs.declared.orders.Batch.{Batch}
 use Rattle.desk_data.specs.declared.broken.Broken.{Broken}
 use Rattle.plan_moves.specs.declared.moves.Move.{Move}
-use Rattle.desk_data.specs.Situation.{Situation, with_batch, schedule}
+use Rattle.desk_data.specs.Progress.{with_batch}
+use Rattle.desk_data.specs.Situation.{Situation, schedule}
 use Rattle.desk_data.specs.PlanRows.{PlanRows}
 use Rattle.desk_rules.specs.Least.{least}
 use Rattle.desk_rules.specs.Cost.{cost, grains}
@@ -28,16 +29,16 @@ opening I = record { inst = I; plan = schedule I; broken = least I (schedule I) 
 
 -- ---- batches
 
--- what the desk falls back on when the batch is taken: it is made of the rows as they stand, on the day as it is then
+-- what the desk falls back on when the batch is taken: it is made of the rows as they stand, under the orders that there are then, once those that have left are frozen
 unfoldable pub fallback_on : State → Batch → Fallback
 fallback_on S B = fallback (with_batch S.inst S.plan B) S.plan
 
--- the answer to a batch: the name of the plan that is chosen, and its cost under the new orders; or where there is no plan the item
+-- the answer to a batch: the name of the plan that is chosen, and its cost on the day with the batch; or where there is no plan the item
 abbrev pub batch_answer : Situation → Fallback → Answer
 batch_answer J (fallen.Chosen which Q) = Taken which (grains (cost J Q))
 batch_answer J (fallen.NoPlan item Q) = NoPlan item
 
--- the state after a batch: the new orders, and the rows that were chosen or are left
+-- the state after a batch: the day with it, and the rows that were chosen or are left
 abbrev pub fallen_state : Situation → Fallback → State
 fallen_state J (fallen.Chosen which Q) = record { inst = J; plan = Q; broken = None }
 fallen_state J (fallen.NoPlan item Q) = record { inst = J; plan = Q; broken = Some item }

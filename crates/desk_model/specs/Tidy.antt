@@ -1,8 +1,9 @@
 -- Tidy: passengers on paths that break a rule are no longer carried.
-use Rattle.std.specs.Prelude.{◌≡◌, ℕ, ◌≤◌, Bool, true, false, ◌&&◌, not, List, [], ◌++◌, filter, map, All}
+use Rattle.std.specs.Prelude.{◌≡◌, ℕ, Bool, true, false, ◌&&◌, not, List, [], ◌++◌, filter, map, All}
 use Rattle.desk_units.specs.declared.numbers.Leg.{Leg}
 use Rattle.desk_units.specs.declared.numbers.Cabin.{Cabin}
 use Rattle.desk_data.specs.declared.row.Group.{Group}
+use Rattle.desk_data.specs.Begun.{KeepsToLeft}
 use Rattle.desk_data.specs.Situation.{Situation, reservations_of, bound}
 use Rattle.desk_data.specs.PlanRows.{PlanRows, groups_at}
 use Rattle.desk_rules.specs.Numbers.{numbers}
@@ -29,11 +30,11 @@ groups_after_tidy I P r =
 unfoldable pub after_tidy : Situation → PlanRows → PlanRows
 after_tidy I P = record P { groups = map (groups_after_tidy I P) (numbers (reservations_of I)) }
 
--- the path meets them in words: it takes passengers of reservation r where they want to go, arrives in time where all its legs are flown, and is one that they are bound to
+-- the path meets them in words: it takes passengers of reservation r where they want to go, arrives in time where all its legs are flown, and keeps to what has left
 pub record IsFit (I : Situation) (P : PlanRows) (r : ℕ) (path : List (Leg × Cabin)) : Type 0 where
   pub there : TakesThere I P r path
   pub in_time : All (λ pair. IsFlown P pair.0.0) path → ArrivesInTime I P r path
-  pub begun : bound I r (groups_at P r) path ≡ true
+  pub keeps : KeepsToLeft I r (groups_at P r) path
 
 -- what a Tidy makes of reservation r, of plan P before the step and plan Q after it
 pub record TidiesReservation (I : Situation) (P Q : PlanRows) (r : ℕ) : Type 0 where
@@ -44,7 +45,3 @@ pub record TidiesReservation (I : Situation) (P Q : PlanRows) (r : ℕ) : Type 0
   pub c13 : MeetsC13 I Q r
   pub c14 : MeetsC14 I Q r
   pub c15 : MeetsC15 I Q r
-
--- of the passengers on carried paths that pass a test, whichever it is, there are no more in the first groups than in the second
-abbrev pub AreNoMoreCarried : List Group → List Group → Type 0
-AreNoMoreCarried fewer more = (test : List (Leg × Cabin) → Bool) → passengers_on (λ path. is_carried path && test path) fewer ≤ passengers_on (λ path. is_carried path && test path) more

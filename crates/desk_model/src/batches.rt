@@ -1,7 +1,7 @@
 //! What holds of batches: what is answered.
 
 ghost use Rattle.day_orders.specs.declared.orders.Batch.{Batch as Orders};
-ghost use Rattle.desk_data.specs.Situation.{with_batch};
+ghost use Rattle.desk_data.specs.Progress.{with_batch};
 ghost use Rattle.desk_model.specs.declared.answer.Event.TheVariants as event;
 ghost use Rattle.desk_model.specs.States.{State, answer};
 ghost use Rattle.desk_model.specs.Batches.{AnswersBatch};

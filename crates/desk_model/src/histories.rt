@@ -1,20 +1,23 @@
 //! What holds of the desk's histories.
 
-ghost use Rattle.std.specs.Prelude.{◌≡◌, ◌↔◌, ℕ, ◌++◌, None, Some, List as Items};
+ghost use Rattle.std.specs.Prelude.{◌≡◌, ◌↔◌, ℕ, ◌<◌, ◌≤◌, ◌++◌, None, Some, List as Items};
 ghost use Rattle.desk_data.specs.declared.broken.Broken.{Broken};
-ghost use Rattle.desk_data.specs.Situation.{Situation};
+ghost use Rattle.desk_data.specs.declared.row.Row.{Row};
+ghost use Rattle.desk_data.specs.Begun.{HasRoomBehind};
+ghost use Rattle.desk_data.specs.PlanRows.{groups_at, row_at};
+ghost use Rattle.desk_data.specs.Situation.{Situation, frozen_at, legs_of, now_of, reservations_of};
 ghost use Rattle.desk_data.specs.Valid.{IsValid};
-ghost use Rattle.desk_rules.specs.Words.{IsFeasible, IsLeast};
+ghost use Rattle.desk_rules.specs.Words.{EachCarried, IsFeasible, IsLeast};
 ghost use Rattle.desk_model.specs.declared.answer.Entry.{Entry as Recorded};
 ghost use Rattle.desk_model.specs.declared.answer.Event.{Event as Asked};
 ghost use Rattle.desk_model.specs.States.{opening};
-ghost use Rattle.desk_model.specs.Histories.{AreAskable, IsAskable, IsLegal, orders_of, run, state};
+ghost use Rattle.desk_model.specs.Histories.{AreAskable, IsAskable, IsLegal, TellsNoMoment, moment_behind, orders_of, run, state};
 ghost use Rattle.desk_model.specs.Batches.{HasPlanRows};
 ghost use Rattle.desk_model.specs.Promises.{KeepsPromises, state_at};
 
 /// In a legal history from the opening of an instance each published plan meets all rules, and each
-/// stored cost is the cost of the rows. A batch adds its orders, and leaves the rows that the desk
-/// falls back on; it is answered with the name of the first of the three that is feasible, or with the
+/// stored cost is the cost of the rows. A batch freezes what has left before its moment, adds its orders, and
+/// leaves the rows that the desk falls back on; it is answered with the name of the first of the three that is feasible, or with the
 /// first item that the rows of Ground break. Where the answer is that there is no plan, the state after
 /// it has none, and breaks the item that was reported. A proposal to a published plan is accepted exactly
 /// where the moved plan is feasible and cheaper, and every other answer to one changes nothing, so that
@@ -36,13 +39,25 @@ pub fn a_state_has_a_plan_exactly_where_its_rows_are_feasible()
     ensures unplanned { (I : Situation) (h : Items Recorded) (item : Broken) → (state (opening I) h).broken ≡ Some item ↔ IsLeast (state (opening I) h).inst (state (opening I) h).plan item }
 {}
 
-/// The rows of a state's day are those of the opening, and so are the orders, with those of all batches
-/// after them in the order in which they were taken. For now each state's day has gone on no further
-/// than the opening's.
+/// The rows of a state's day are those of the opening. Its orders are those of the opening, with those of all
+/// batches after them in the order in which they were taken. It has gone on to the latest moment that its
+/// batches tell, and where none tells a later one to that of the opening. Where no batch tells a moment,
+/// nothing more has left than at the opening.
 pub fn a_states_orders_are_those_of_its_batches()
     ensures rows { (I : Situation) (h : Items Recorded) → (state (opening I) h).inst.parts ≡ I.parts }
     ensures orders { (I : Situation) (h : Items Recorded) → (state (opening I) h).inst.orders ≡ I.orders ++ orders_of h }
-    ensures progress { (I : Situation) (h : Items Recorded) → (state (opening I) h).inst.progress ≡ I.progress }
+    ensures now { (I : Situation) (h : Items Recorded) → now_of (state (opening I) h).inst ≡ moment_behind (now_of I) h }
+    ensures progress { (I : Situation) (h : Items Recorded) → TellsNoMoment h → (state (opening I) h).inst.progress ≡ I.progress }
+{}
+
+/// What has left stays as it left. A leg that is frozen in a state is frozen with the same row in each later
+/// one. Where the rows of a state break nothing, each frozen leg has the row with which it is frozen; and of
+/// each carried path of a reservation, some of its passengers have flown just those legs that have left, and
+/// no more are carried so than have.
+pub fn what_has_left_stays_as_it_left()
+    ensures stays { (I : Situation) (h : Items Recorded) (i j x : ℕ) (row : Row) → x < legs_of I → i ≤ j → frozen_at (state_at I h i).inst x ≡ Some row → frozen_at (state_at I h j).inst x ≡ Some row }
+    ensures flies { (I : Situation) (h : Items Recorded) (x : ℕ) (row : Row) → x < legs_of I → (state (opening I) h).broken ≡ None → frozen_at (state (opening I) h).inst x ≡ Some row → row_at (state (opening I) h).plan x ≡ row }
+    ensures passengers { (I : Situation) (h : Items Recorded) (r : ℕ) → r < reservations_of I → (state (opening I) h).broken ≡ None → EachCarried (state (opening I) h).plan r (HasRoomBehind (state (opening I) h).inst r (groups_at (state (opening I) h).plan r)) }
 {}
 
 /// What can be asked depends on the joined rows alone: on none of the orders taken, and not on how far

@@ -32,7 +32,7 @@ pub use histories::{
     a_state_has_a_plan_exactly_where_its_rows_are_feasible,
     a_states_orders_are_those_of_its_batches, legal_histories_keep_the_promises,
     orders_make_no_difference_to_what_can_be_asked, runs_are_legal,
-    the_rows_of_each_state_are_a_plan_for_its_instance,
+    the_rows_of_each_state_are_a_plan_for_its_instance, what_has_left_stays_as_it_left,
 };
 pub use plan_moves::Move;
 pub use steps::{

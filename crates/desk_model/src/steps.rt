@@ -5,6 +5,7 @@ ghost use Rattle.desk_units.specs.declared.numbers.Leg.{Leg};
 ghost use Rattle.desk_units.specs.declared.numbers.Cabin.{Cabin};
 ghost use Rattle.desk_data.specs.declared.row.Row.{Row};
 ghost use Rattle.desk_data.specs.declared.row.Group.{Group};
+ghost use Rattle.desk_data.specs.Begun.{AreNoMoreCarried};
 ghost use Rattle.desk_data.specs.Situation.{Situation, bound, legs_of, planes_of, reservations_of};
 ghost use Rattle.desk_data.specs.PlanRows.{PlanRows, groups_at, row_at};
 ghost use Rattle.desk_data.specs.Valid.{IsPathOf, IsPlanFor, IsRowOf, IsValid};
@@ -16,7 +17,7 @@ ghost use Rattle.desk_model.specs.Choices.{HoldsOfNone, IsFirstWithin, IsGreates
 ghost use Rattle.desk_model.specs.Push.{ArrivesBeside, DepartsBeside, IsPushed, PlacesLeg, after_push, arrives_beside, departs_beside, pushed_legs};
 ghost use Rattle.desk_model.specs.Swap.{SwapsLeg, after_swap};
 ghost use Rattle.desk_model.specs.Rebook.{RebooksPassengers, after_rebook, count_on};
-ghost use Rattle.desk_model.specs.Tidy.{AreNoMoreCarried, IsFit, TidiesReservation, after_tidy, is_fit_path};
+ghost use Rattle.desk_model.specs.Tidy.{IsFit, TidiesReservation, after_tidy, is_fit_path};
 ghost use Rattle.desk_model.specs.Refill.{HasSeatsFor, IsNotOverfilled, RefillsReservation, after_refill, after_refilling, has_seats_for};
 ghost use Rattle.desk_model.specs.Steps.{SetsLeg, after_move, after_set};
 
@@ -109,9 +110,9 @@ pub fn a_path_stays_bound_where_fewer_are_carried()
 
 /// A Refill has passengers who are not carried go to their scheduled path, for each reservation whose
 /// scheduled path has the leg and meets C13, C14 and C15: until none is left, or one more would lack a
-/// seat. Those that stand earlier come first: each gets its seats in the plan as those before it left
-/// it. All others keep their groups, and no row changes. No leg's cabin gets more passengers than it
-/// has seats.
+/// seat or break C15, which holds of the path then too. Those that stand earlier come first: each gets its
+/// seats in the plan as those before it left it. All others keep their groups, and no row changes. No leg's
+/// cabin gets more passengers than it has seats.
 pub fn a_refill_fills_the_seats_that_are_left()
     ensures reservation { (I : Situation) (P : PlanRows) (x r : ℕ) → IsValid I → IsPlanFor I P → r < reservations_of I → RefillsReservation I P (after_refill I P x) x r }
     ensures turn { (I : Situation) (P : PlanRows) (x r : ℕ) → r < reservations_of I → groups_at (after_refill I P x) r ≡ groups_at (after_refilling I x (fold (after_refilling I x) P (numbers r)) r) r }

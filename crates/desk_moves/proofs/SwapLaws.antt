@@ -17,7 +17,7 @@ use Rattle.desk_rules.specs.Maintenance.{flies}
 use Rattle.desk_rules.proofs.MaintenanceLaws.{flies-holds, flies-from}
 use Rattle.desk_model.specs.Push.{rotation}
 use Rattle.desk_model.specs.Swap.{row_after_swap, after_swap}
-use Rattle.desk_model.proofs.PathOrder.{pairs_head, pairs_tail, pairs_append}
+use Rattle.desk_data.proofs.PathOrder.{pairs_head, pairs_tail, pairs_append}
 use Rattle.desk_model.proofs.RotationOrder.{flown_once, precedes-itself, rotation-ordered, rotation-flown, rotation-each}
 use Rattle.desk_moves.specs.Swapped.{legs_of_both}
 use Rattle.desk_moves.proofs.PushLaws.{length-rotation}

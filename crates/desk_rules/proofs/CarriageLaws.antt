@@ -6,13 +6,13 @@ use Rattle.std.proofs.lemmas.Bool.{and_parts, and_from, cases_Bool, cond-true, c
 use Rattle.std.proofs.lemmas.List.Elements.{All-from_recursion, recursion_from_All}
 use Rattle.desk_units.specs.declared.numbers.Leg.{Leg}
 use Rattle.desk_units.specs.declared.numbers.Cabin.{Cabin}
-use Rattle.desk_units.specs.declared.numbers.Cabin.TheVariants as cabin
 use Rattle.desk_units.specs.declared.numbers.Haul.{Haul}
 use Rattle.desk_units.specs.declared.numbers.Haul.TheVariants as haul
 use Rattle.desk_units.specs.declared.numbers.Plane.{Plane}
 use Rattle.desk_data.specs.declared.row.Row.{Row}
 use Rattle.desk_data.specs.declared.row.Row.TheVariants.{Flown, Cancelled}
 use Rattle.desk_data.specs.declared.row.Group.{Group}
+use Rattle.desk_data.specs.Begun.{KeepsToLeft}
 use Rattle.desk_data.specs.Situation.{Situation, leg_at, plane_at, bound}
 use Rattle.desk_data.specs.PlanRows.{PlanRows, row_at, groups_at}
 use Rattle.desk_rules.specs.Numbers.{implies}
@@ -21,7 +21,8 @@ use Rattle.desk_data.specs.Paths.{leg_in, first_leg, last_leg, is_carried}
 use Rattle.desk_data.specs.Booked.{origin_of, dest_of, booked_departure, booked_arrival, haul_of}
 use Rattle.desk_rules.specs.Passengers.{aboard, seats_in, is_flown, all_flown, share_plane, connection, reaches, connects, arrival_of, longest_delay}
 use Rattle.desk_rules.specs.Carriage.{has_seats, keeps_c12, each_carried, is_good_path, keeps_c13, is_in_time_path, keeps_c14, keeps_c15}
-use Rattle.desk_rules.specs.Words.{IsFlown, StaysAboard, GoesOn, TakesThere, EachCarried, ArrivesInTime, IsBound, MeetsC12, MeetsC13, MeetsC14, MeetsC15}
+use Rattle.desk_rules.specs.Words.{IsFlown, StaysAboard, GoesOn, TakesThere, EachCarried, ArrivesInTime, MeetsC12, MeetsC13, MeetsC14, MeetsC15}
+use Rattle.desk_data.proofs.BoundLaws.{bound-holds, bound-from}
 use Rattle.desk_rules.proofs.Tests.{each_below-holds, each_below-from, implies-holds, implies-from}
 
 -- ---- C12
@@ -267,8 +268,8 @@ keeps_c14-from I P r h = each_carried-from P r (is_in_time_path I P r) (IsInTime
 
 pub keeps_c15-holds : (I : Situation) (P : PlanRows) (r : ℕ) → keeps_c15 I P r ≡ true → MeetsC15 I P r
 unfolding keeps_c15
-keeps_c15-holds I P r h = each_carried-holds P r (bound I r (groups_at P r)) (IsBound I r (groups_at P r)) (λ path is. is) h
+keeps_c15-holds I P r h = each_carried-holds P r (bound I r (groups_at P r)) (KeepsToLeft I r (groups_at P r)) (bound-holds I r (groups_at P r)) h
 
 pub keeps_c15-from : (I : Situation) (P : PlanRows) (r : ℕ) → MeetsC15 I P r → keeps_c15 I P r ≡ true
 unfolding keeps_c15
-keeps_c15-from I P r h = each_carried-from P r (bound I r (groups_at P r)) (IsBound I r (groups_at P r)) (λ path is. is) h
+keeps_c15-from I P r h = each_carried-from P r (bound I r (groups_at P r)) (KeepsToLeft I r (groups_at P r)) (bound-from I r (groups_at P r)) h

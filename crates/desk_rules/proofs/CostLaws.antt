@@ -1,21 +1,16 @@
 -- What a plan costs is bounded, term by term, and so is the whole.
-use Rattle.std.proofs.Common.{◌≡◌, ℕ, ◌+◌, ◌-◌, ◌*◌, ◌^◌, ◌<◌, ◌≤◌, inl, inr, Bool, true, false, cond, ltb, List, [], ◌∷◌, length, get_or, Option, Some, None, refl, subst, add-one, arith}
-use Rattle.std.specs.Prelude.{sum_by, find}
-use Rattle.std.specs.List.{AllByRecursion, filter_map}
-use Rattle.std.specs.Option.{ForSome, option_or, option_map_or, unwrap_or}
+use Rattle.std.proofs.Common.{◌≡◌, ℕ, ◌+◌, ◌-◌, ◌*◌, ◌^◌, ◌<◌, ◌≤◌, inl, inr, Bool, true, false, cond, ltb, List, [], ◌∷◌, length, get_or, subst, add-one, arith}
+use Rattle.std.specs.Prelude.{sum_by}
+use Rattle.std.specs.List.{AllByRecursion}
 use Rattle.std.proofs.Math.Nat.{mul-le-mul, mul-le-mul_left, mul-le-mul_right}
 use Rattle.std.proofs.lemmas.Bool.{cases_lt}
-use Rattle.std.proofs.lemmas.Option.{none-some, same_Some}
 use Rattle.std.proofs.lemmas.List.{get_or_past}
 use Rattle.std.proofs.lemmas.List.Sums.{sum_by-cons, sum_by_push, sum_by-le, get_or-le-sum_by}
 use Rattle.std.proofs.lemmas.List.Elements.{All-get_or, All-from_recursion, recursion_from_All}
 use Rattle.desk_units.specs.declared.numbers.Leg.{Leg}
 use Rattle.desk_units.specs.declared.numbers.Cabin.{Cabin}
-use Rattle.desk_units.specs.declared.numbers.Haul.{Haul}
 use Rattle.desk_units.specs.declared.tariff.Term.{Term}
 use Rattle.desk_units.specs.declared.tariff.Term.TheVariants as term
-use Rattle.desk_units.specs.declared.tariff.TariffRow.{TariffRow}
-use Rattle.desk_units.specs.declared.tariff.TariffRow.TheVariants.{Weight, Delay, Cancel, Downgrade, Care, Compensation, Position}
 use Rattle.desk_units.specs.Ranks.{cabin_rank}
 use Rattle.tariff_prices.specs.Rows.{IsPrice}
 use Rattle.tariff_prices.specs.Prices.{delay_price, cancel_price, downgrade_price, position_price, uncarried_care, uncarried_compensation, care_price, compensation_price}

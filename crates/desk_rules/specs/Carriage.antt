@@ -44,6 +44,6 @@ is_in_time_path I P r path = implies (all_flown P path) (nat_le (arrival_of I P 
 unfoldable pub keeps_c14 : Situation → PlanRows → ℕ → Bool
 keeps_c14 I P r = each_carried P r (is_in_time_path I P r)
 
--- C15: a carried path is bound to what has begun, beside the groups of its reservation
+-- C15: a carried path is bound to what has begun and to what has left, beside the groups of its reservation
 unfoldable pub keeps_c15 : Situation → PlanRows → ℕ → Bool
 keeps_c15 I P r = each_carried P r (bound I r (groups_at P r))

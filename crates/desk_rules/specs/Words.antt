@@ -7,7 +7,7 @@
 --   d, dep, later  departures, at  a moment: minutes     h  an hour: a moment divided by 60, rounded down
 --   c  a cabin                                           i  a place in a path, from 0
 -- Numbers of legs and the like are from 0 to one less than there are. A pair of a path is a leg and a cabin.
-use Rattle.std.specs.Prelude.{◌≡◌, ℕ, ◌+◌, ◌*◌, ◌<◌, ◌≤◌, ◌⊎◌, true, false, List, [], ◌∷◌, ◌++◌, length, All, Some, slice_index_or}
+use Rattle.std.specs.Prelude.{◌≡◌, ℕ, ◌+◌, ◌*◌, ◌<◌, ◌≤◌, ◌⊎◌, false, List, [], ◌∷◌, ◌++◌, length, All, Some, slice_index_or}
 use Rattle.desk_units.specs.declared.numbers.Leg.{Leg}
 use Rattle.desk_units.specs.declared.numbers.Cabin.{Cabin}
 use Rattle.desk_units.specs.declared.numbers.Haul.{Haul}
@@ -16,11 +16,11 @@ use Rattle.desk_units.specs.declared.numbers.Minute.{Minute}
 use Rattle.desk_units.specs.Ranks.{cabin_rank, haul_rank}
 use Rattle.desk_data.specs.declared.row.Row.{Row}
 use Rattle.desk_data.specs.declared.row.Row.TheVariants.{Flown}
-use Rattle.desk_data.specs.declared.row.Group.{Group}
 use Rattle.desk_data.specs.declared.info.Maint.{Maint}
 use Rattle.desk_data.specs.declared.broken.Broken.{Broken}
 use Rattle.desk_data.specs.declared.broken.Broken.TheVariants.{C1, C2, C3, C4, C5, C6, C7, C8, C9, C10, C11, C12, C13, C14, C15}
-use Rattle.desk_data.specs.Situation.{Situation, legs_of, planes_of, airports_of, reservations_of, leg_at, plane_at, fixed, called_off, earliest, latest, due, spans, bound}
+use Rattle.desk_data.specs.Situation.{Situation, legs_of, planes_of, airports_of, reservations_of, leg_at, plane_at, fixed, called_off, earliest, latest, due, spans}
+use Rattle.desk_data.specs.Begun.{KeepsToLeft}
 use Rattle.desk_data.specs.Hours.{dep_cap, arr_cap}
 use Rattle.desk_data.specs.PlanRows.{PlanRows, row_at, groups_at}
 use Rattle.desk_rules.specs.Rotations.{dep, arr, ground_time}
@@ -53,7 +53,7 @@ pub record Follows (I : Situation) (P : PlanRows) (x y : ℕ) : Type 0 where
 abbrev pub IsFirst : Situation → PlanRows → ℕ → Type 0
 IsFirst I P y = (x : ℕ) → x < legs_of I → Precedes P x y → ⊥
 
--- C1: a fixed leg has the row that is due: cancelled if it is called off, else flown by its scheduled aircraft at its earliest departure
+-- C1: a fixed leg has the row that is due: the one with which it is frozen, if it is; else cancelled if it is called off, else flown by its scheduled aircraft at its earliest departure
 abbrev pub MeetsC1 : Situation → PlanRows → ℕ → Type 0
 MeetsC1 I P x = (row : Row) → due I x ≡ Some row → row_at P x ≡ row
 
@@ -202,13 +202,9 @@ pub record ArrivesInTime (I : Situation) (P : PlanRows) (r : ℕ) (path : List (
 abbrev pub MeetsC14 : Situation → PlanRows → ℕ → Type 0
 MeetsC14 I P r = EachCarried P r (λ path. All (λ pair. IsFlown P pair.0.0) path → ArrivesInTime I P r path)
 
--- a path is bound to what the passengers of its reservation have begun, beside these groups: it begins with it, as the law `paths_are_bound_to_what_has_begun` of desk_data says
-abbrev pub IsBound : Situation → ℕ → List Group → List (Leg × Cabin) → Type 0
-IsBound I r groups path = bound I r groups path ≡ true
-
--- C15: a carried path is bound to what has begun, beside the groups of its reservation
+-- C15: a carried path keeps to what has left, beside the groups of its reservation: it begins with the legs of the booked path that have begun, in their cabins; some passengers have flown just those of its legs that are frozen; and no more of the groups are carried so than have
 abbrev pub MeetsC15 : Situation → PlanRows → ℕ → Type 0
-MeetsC15 I P r = EachCarried P r (IsBound I r (groups_at P r))
+MeetsC15 I P r = EachCarried P r (KeepsToLeft I r (groups_at P r))
 
 -- what an item asks
 abbrev pub Meets : Situation → PlanRows → Broken → Type 0

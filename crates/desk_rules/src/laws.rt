@@ -30,8 +30,9 @@ ghost use Rattle.desk_rules.specs.Order.{ComesBefore};
 /// - C12: a flown leg has a seat for each passenger of a cabin.
 /// - C13: a carried path is flown, runs from origin to destination, connects and leaves no earlier
 ///   than booked.
-/// - C14 and C15: a carried path arrives not too late, and is bound to what has begun: it begins with the
-///   legs that have begun, as the law `paths_are_bound_to_what_has_begun` of desk_data says.
+/// - C14: a carried path arrives not too late.
+/// - C15: a carried path begins with the legs that have begun, some passengers of its reservation have flown
+///   just those of its legs that have left, and no more of them are carried so than have.
 pub fn feasible_plans_meet_the_rules()
     ensures meets { (I : Situation) (P : PlanRows) → least I P ≡ None → IsFeasible I P }
     ensures only { (I : Situation) (P : PlanRows) → IsFeasible I P → least I P ≡ None }

@@ -1,5 +1,5 @@
 -- What holds of the rows that were read, and of the task.
-use Rattle.std.specs.Prelude.{◌≡◌, ℕ, ◌≤◌}
+use Rattle.std.specs.Prelude.{◌≡◌, ◌≤◌}
 use Rattle.build_tables.specs.Facts.{AreFileRows}
 use Rattle.journal_rows.specs.Facts.{AreRows}
 use Rattle.desk_model.specs.Histories.{AreAskable}

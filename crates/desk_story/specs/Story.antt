@@ -195,7 +195,7 @@ recovery_of_rows moves rows = do
   built ← or_refused not_joined (built_of rows.files)
   Ok (record { day = built.inst; batches = built.batches; moves = moves })
 
--- to judge: the files are joined, and then those of the plan; the batches are added by it, and it is judged under the orders of all of them
+-- to judge: the files are joined, and then those of the plan; the batches are added by it, and it is judged on the day with all of them
 unfoldable pub judged_of_rows : Rows → Result Judged Refusal
 judged_of_rows rows = do
   built ← or_refused not_joined (built_of rows.files)

@@ -23,7 +23,8 @@ pub struct InputPlan {
     pub plan: Plan,
 }
 
-/// The day with these batches, one after another, by the plan that is to be judged.
+/// The day with these batches, one after another, each by the plan that is to be judged. The only error is out
+/// of memory.
 fn with_batches(
     alloc: Global,
     mut inst: Instance,

@@ -18,8 +18,8 @@ use std::alloc::Global;
 pub struct InputStory {
     /// The joined day, before any batch.
     pub inst: Instance,
-    /// The recorded events in their order, batches with their orders and moves, each with its caller
-    /// from 0 to 64.
+    /// The recorded events in their order, batches with their moments and orders, and moves, each with its
+    /// caller from 0 to 64.
     pub events: Vec<(u32, Event)>,
 }
 

@@ -43,8 +43,8 @@ pub record Headline (before now : World) (s : Story) (h : List Entry) : Type 0 w
   -- it is the history of the events that were read, in their order, from the opening of the day that was read
   pub events : h ≡ run (opening s.day) s.events
   pub legal : IsLegal (opening s.day) h
-  -- whatever batches are taken between the proposals: each published plan meets all rules of the day under the orders taken by then,
-  -- each stored cost is the cost of the rows under these, between two batches costs only fall, and a proposal to a published
+  -- whatever batches are taken between the proposals: each published plan meets all rules of the day with the batches taken by then,
+  -- each stored cost is the cost of the rows on that day, between two batches costs only fall, and a proposal to a published
   -- plan is accepted exactly where the moved plan is feasible and cheaper
   pub promises : KeepsPromises s.day h
   pub written : TellsHistory before now s.day (search_remarks None) h

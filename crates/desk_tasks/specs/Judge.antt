@@ -1,6 +1,7 @@
 -- Judging a plan: what it breaks, and what it costs.
 use Rattle.std.specs.Prelude.{ℕ, List, [], ◌∷◌, ◌++◌, Option, Some, None, codes, decimal}
-use Rattle.desk_data.specs.Situation.{Situation, with_batch}
+use Rattle.desk_data.specs.Progress.{with_batch}
+use Rattle.desk_data.specs.Situation.{Situation}
 use Rattle.desk_data.specs.PlanRows.{PlanRows}
 use Rattle.desk_data.specs.declared.broken.Broken.{Broken}
 use Rattle.day_orders.specs.declared.orders.Batch.{Batch}
@@ -16,7 +17,7 @@ pub record Judged : Type 0 where
   pub day : Situation
   pub plan : PlanRows
 
--- a day with these batches, one after another, by one plan
+-- a day with these batches, one after another, each by the same plan, which decides what has left by its moment
 abbrev pub with_batches : Situation → PlanRows → List Batch → Situation
 with_batches I P [] = I
 with_batches I P (B ∷ batches) = with_batches (with_batch I P B) P batches

@@ -4,9 +4,8 @@ use Rattle.desk_data.specs.declared.broken.Broken.{Broken}
 use Rattle.desk_teams.specs.declared.report.End.{End}
 use Rattle.desk_teams.specs.declared.report.End.TheVariants as end
 use Rattle.desk_teams.specs.declared.report.Report.{Report}
-use Rattle.desk_teams.specs.declared.report.Vote.{Vote}
 use Rattle.desk_teams.specs.declared.report.Vote.TheVariants.{Quiet, Spent, NoPlan}
-use Rattle.desk_teams.specs.Votes.{MostChanges, OneReportedLast, HasVote, HasNoVote}
+use Rattle.desk_teams.specs.Votes.{MostChanges, OneReportedLast, HasNoVote}
 
 -- a report doesn't speak for all: it is of an earlier plan, or says neither that there is none nor that the history is spent
 pub record SpeaksNot (last : ℕ) (r : Report) : Type 0 where

@@ -5,6 +5,7 @@ mod changes;
 mod days;
 mod headway;
 mod memory;
+mod moments;
 mod orders;
 mod parts;
 mod stops;

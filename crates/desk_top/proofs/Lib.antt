@@ -7,6 +7,5 @@ pub mod Ranges
 pub mod StoreLaws
 pub mod StorePlaced
 pub mod StoreObeyed
-pub mod SameStory
 pub mod Stored
 pub mod Owned

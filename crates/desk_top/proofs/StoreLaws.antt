@@ -27,8 +27,8 @@ use Rattle.desk_store.specs.Journal.{EndsEarly, EndsWritten, IsEarly, KeepsStory
 use Rattle.desk_store.proofs.Opening.{read_opens}
 use Rattle.desk_story.specs.Story.{kept_of}
 use Rattle.kept_laws.proofs.Kept.{kept_stored}
-use Rattle.desk_top.specs.Store.{kept_meaning, RunsKept, StandsAlways, HoldsAll, HoldsSince, HasBegun, IsWrittenAt, Shown, WritesNothing}
-use Rattle.desk_top.specs.Obeyed.{IsUnread, SetsNone, SetsStory, ObeysStore}
+use Rattle.desk_top.specs.Store.{kept_meaning, RunsKept, StandsAlways, HoldsAll, HoldsSince, HasBegun, IsWrittenAt, WritesNothing}
+use Rattle.desk_top.specs.Obeyed.{SetsNoStory, SetsNone, SetsStory, ObeysStore}
 use Rattle.desk_top.proofs.Placed.{unbegun-tells_end}
 
 -- ---- statuses
@@ -37,7 +37,7 @@ use Rattle.desk_top.proofs.Placed.{unbegun-tells_end}
 abbrev IsLate : ℕ → Type 0
 IsLate s = (2 ≤ s) × (s ≢ 5)
 
-unread_late : (how : Ending) → IsUnread how → IsLate (status_of how)
+unread_late : (how : Ending) → SetsNoStory how → IsLate (status_of how)
 unread_late (ending.Refused r) h = (omega arith, λ e. omega (arith, e))
 unread_late (ending.ReadFault f) h = (omega arith, λ e. omega (arith, e))
 unread_late ending.Memory h = (omega arith, λ e. omega (arith, e))
@@ -92,7 +92,7 @@ only_opens was nothing = starts was (IsOpening was.file.bytes) (λ c left. inl (
 pub shown_is : (shown : Option DiskSide) (was : DiskSide) → shown ≡ Some was → IfSome shown (λ d. HasNothingPending d.file) → HasNothingPending was.file
 shown_is shown was is h = subst (λ (o : Option DiskSide). IfSome o (λ d. HasNothingPending d.file)) is h
 
-pub shown-same : (shown shown' : Option DiskSide) (P : DiskSide → DiskSide → Type 0) → shown' ≡ shown → IfSome shown (λ d. HasNothingPending d.file) → ((was : DiskSide) → OnlyOpens was was → P was was) → Shown shown shown' P
+pub shown-same : (shown shown' : Option DiskSide) (P : DiskSide → DiskSide → Type 0) → shown' ≡ shown → IfSome shown (λ d. HasNothingPending d.file) → ((was : DiskSide) → OnlyOpens was was → P was was) → WhereShown shown shown' P
 shown-same shown shown' P same nothing each was is = (was, same ∙ is, each was (only_opens was (shown_is shown was is nothing)))
 
 -- ---- what is promised of the run
@@ -147,7 +147,7 @@ stopped_runs before mid now faults faults' shown shown' k (ending.WriteFault f) 
 stopped_runs before mid now faults faults' shown shown' k ending.ReportFault code p early failed disk given = absurd early
 
 -- the entries that the file held are counted
-written_counted : (x : Inputs) (before now : World) (shown shown' : Option DiskSide) (k : KeptStory) (how : Ending) → kept_of x ≡ Ok k → (h : EndsWritten k before now shown shown' how) → Shown shown shown' (HoldsSince h.held x)
+written_counted : (x : Inputs) (before now : World) (shown shown' : Option DiskSide) (k : KeptStory) (how : Ending) → kept_of x ≡ Ok k → (h : EndsWritten k before now shown shown' how) → WhereShown shown shown' (HoldsSince h.held x)
 written_counted x before now shown shown' k how sets h was is =
     let d = h.disk was is in
     (d.0, d.1, (record { keeps = record { k = k; sets = sets; can = kept_stored x k sets; records = d.2.0; passes = d.2.1 }; all = d.2.2 }, d.2.3))
@@ -197,7 +197,7 @@ left_always k x was now ending.PlaceFault sets h = passes k x was now sets h
 left_always k x was now (ending.WriteFault f) sets h = passes k x was now sets h
 left_always k x was now ending.ReportFault sets h = passes k x was now sets h
 
-story_always : (x : Inputs) (before now : World) (shown shown' : Option DiskSide) (k : KeptStory) (how : Ending) → kept_of x ≡ Ok k → KeepsStory k before now shown shown' how → Shown shown shown' (StandsAlways x)
+story_always : (x : Inputs) (before now : World) (shown shown' : Option DiskSide) (k : KeptStory) (how : Ending) → kept_of x ≡ Ok k → KeepsStory k before now shown shown' how → WhereShown shown shown' (StandsAlways x)
 story_always x before now shown shown' k how sets (inl early) was is =
     let d = early.disk was is in
     (d.0, d.1, left_always k x was d.0 how sets d.2)
@@ -205,13 +205,13 @@ story_always x before now shown shown' k how sets (inr written) was is =
     let d = written.disk was is in
     (d.0, d.1, inr (record { k = k; sets = sets; can = kept_stored x k sets; records = d.2.0; passes = d.2.1 }))
 
-pub store-always : (before mid : World) (shown shown' : Option DiskSide) (how : Ending) (x : Inputs) → IfSome shown (λ d. HasNothingPending d.file) → Tells (files_read command_is.Store) before.folder x → ObeysStore before mid shown shown' how → Shown shown shown' (StandsAlways x)
+pub store-always : (before mid : World) (shown shown' : Option DiskSide) (how : Ending) (x : Inputs) → IfSome shown (λ d. HasNothingPending d.file) → Tells (files_read command_is.Store) before.folder x → ObeysStore before mid shown shown' how → WhereShown shown shown' (StandsAlways x)
 store-always before mid shown shown' how x nothing tells (inl h) = shown-same shown shown' (StandsAlways x) h.same nothing (λ was opens. inl opens)
 store-always before mid shown shown' how x nothing tells (inr h) = story_always x (world h.mid before.sink) mid shown shown' h.k how (h.prepares.sets x tells) h.keeps
 
 -- ---- at the end
 
-written_all : (x : Inputs) (before now : World) (shown shown' : Option DiskSide) (k : KeptStory) (how : Ending) → kept_of x ≡ Ok k → EndsWritten k before now shown shown' how → Shown shown shown' (HoldsAll x)
+written_all : (x : Inputs) (before now : World) (shown shown' : Option DiskSide) (k : KeptStory) (how : Ending) → kept_of x ≡ Ok k → EndsWritten k before now shown shown' how → WhereShown shown shown' (HoldsAll x)
 written_all x before now shown shown' k how sets h was is =
     let d = h.disk was is in
     (d.0, d.1, record { keeps = record { k = k; sets = sets; can = kept_stored x k sets; records = d.2.0; passes = d.2.1 }; all = d.2.2 })
@@ -227,12 +227,12 @@ never_began before now how answer code late is same (inr begun) = not_begun befo
 early_same : (before mid : World) (at : Outside) → ((f : File) → at.written f ≡ before.folder.written f) → mid ≡ world at before.sink → (f : File) → mid.folder.written f ≡ before.folder.written f
 early_same before mid at same is f = ap (λ (w : World). w.folder.written f) is ∙ same f
 
-story_stored : (before mid : World) (now : SinkSide) (shown shown' : Option DiskSide) (how : Ending) (code : ℕ) (x : Inputs) (h : SetsStory before mid shown shown' how) → KeepsStory h.k (world h.mid before.sink) mid shown shown' how → Tells (files_read command_is.Store) before.folder x → TellsEnd how mid.sink now code → Began before (world mid.folder now) code → Shown shown shown' (HoldsAll x)
+story_stored : (before mid : World) (now : SinkSide) (shown shown' : Option DiskSide) (how : Ending) (code : ℕ) (x : Inputs) (h : SetsStory before mid shown shown' how) → KeepsStory h.k (world h.mid before.sink) mid shown shown' how → Tells (files_read command_is.Store) before.folder x → TellsEnd how mid.sink now code → Began before (world mid.folder now) code → WhereShown shown shown' (HoldsAll x)
 story_stored before mid now shown shown' how code x h (inl early) tells given began =
     absurd (never_began before (world mid.folder now) how given.answer code (early_late how early.early) given.status (early_same before mid h.mid h.prepares.tries.only.written early.same) began)
 story_stored before mid now shown shown' how code x h (inr written) tells given began = written_all x (world h.mid before.sink) mid shown shown' h.k how (h.prepares.sets x tells) written
 
-pub store-stored : (before mid : World) (now : SinkSide) (shown shown' : Option DiskSide) (how : Ending) (code : ℕ) (x : Inputs) → Tells (files_read command_is.Store) before.folder x → ObeysStore before mid shown shown' how → TellsEnd how mid.sink now code → IsWrittenAt code ⊎ HasBegun before (world mid.folder now) → Shown shown shown' (HoldsAll x)
+pub store-stored : (before mid : World) (now : SinkSide) (shown shown' : Option DiskSide) (how : Ending) (code : ℕ) (x : Inputs) → Tells (files_read command_is.Store) before.folder x → ObeysStore before mid shown shown' how → TellsEnd how mid.sink now code → IsWrittenAt code ⊎ HasBegun before (world mid.folder now) → WhereShown shown shown' (HoldsAll x)
 store-stored before mid now shown shown' how code x tells (inl h) given began = absurd (never_began before (world mid.folder now) how given.answer code (unread_late how h.unread) given.status h.unreported.written began)
 store-stored before mid now shown shown' how code x tells (inr h) given began = story_stored before mid now shown shown' how code x h h.keeps tells given began
 
@@ -273,11 +273,11 @@ written_ends before now o ending.Usage h = absurd h
 written_ends before now o ending.PlaceFault h = absurd h
 written_ends before now o (ending.OnDisk end) h = absurd h
 
-story_refused : (before now : World) (shown shown' : Option DiskSide) (k : KeptStory) (how : Ending) → status_of how ≡ 3 → KeepsStory k before now shown shown' how → Shown shown shown' OnlyOpens
+story_refused : (before now : World) (shown shown' : Option DiskSide) (k : KeptStory) (how : Ending) → status_of how ≡ 3 → KeepsStory k before now shown shown' how → WhereShown shown shown' OnlyOpens
 story_refused before now shown shown' k how e (inl early) = λ was is. (let d = early.disk was is in (d.0, d.1, three_opens k was d.0 how early.early e d.2))
 story_refused before now shown shown' k how e (inr written) = absurd ((written_ends before now (kept written.held k.story) how written.completes.leaves).0 e)
 
-pub store-refused : (before mid : World) (now : SinkSide) (shown shown' : Option DiskSide) (how : Ending) (code : ℕ) → IfSome shown (λ d. HasNothingPending d.file) → ObeysStore before mid shown shown' how → TellsEnd how mid.sink now code → code ≡ 3 → Shown shown shown' OnlyOpens
+pub store-refused : (before mid : World) (now : SinkSide) (shown shown' : Option DiskSide) (how : Ending) (code : ℕ) → IfSome shown (λ d. HasNothingPending d.file) → ObeysStore before mid shown shown' how → TellsEnd how mid.sink now code → code ≡ 3 → WhereShown shown shown' OnlyOpens
 store-refused before mid now shown shown' how code nothing (inl h) given three = shown-same shown shown' OnlyOpens h.same nothing (λ was opens. opens)
 store-refused before mid now shown shown' how code nothing (inr h) given three =
     story_refused (world h.mid before.sink) mid shown shown' h.k how (code_is how given.answer code 3 given.status three (λ e. omega (arith, e))) h.keeps
@@ -299,7 +299,7 @@ eight_is ending.PlaceFault early e = absurd early
 eight_is (ending.WriteFault f) early e = absurd early
 eight_is ending.ReportFault early e = absurd early
 
-unread_eight : (how : Ending) → IsUnread how → status_of how ≡ 8 → ⊥
+unread_eight : (how : Ending) → SetsNoStory how → status_of how ≡ 8 → ⊥
 unread_eight (ending.Refused r) h e = omega (arith, e)
 unread_eight (ending.ReadFault f) h e = omega (arith, e)
 unread_eight ending.Memory h e = omega (arith, e)

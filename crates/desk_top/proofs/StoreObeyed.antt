@@ -21,7 +21,7 @@ use Rattle.day_orders.specs.declared.orders.Batch.{Batch}
 use Rattle.desk_model.specs.declared.answer.Event.{Event}
 use Rattle.desk_store.specs.Journal.{kept_story, KeepsStory}
 use Rattle.desk_top.specs.Store.{kept_meaning}
-use Rattle.desk_top.specs.Obeyed.{IsUnread, ObeysStore}
+use Rattle.desk_top.specs.Obeyed.{SetsNoStory, ObeysStore}
 
 -- with a story that can't be had, the definition's view of one plays no part
 abbrev Gives : StoryFault → Inputs → Type 0
@@ -36,7 +36,7 @@ by_fault before now sink (fault.Refused r) t stops cause gives = obeys-refused (
 by_fault before now sink (fault.ReadFault f) t stops cause gives = obeys-unread (kept_meaning 0) command_is.Store before now sink f t cause.0 cause.1 stops gives
 by_fault before now sink fault.Memory t stops cause gives = obeys-memory (kept_meaning 0) command_is.Store before now sink t
 
-unread_end : (e : StoryFault) → IsUnread (story_end e)
+unread_end : (e : StoryFault) → SetsNoStory (story_end e)
 unread_end (fault.Refused r) = tt
 unread_end (fault.ReadFault f) = tt
 unread_end fault.Memory = tt

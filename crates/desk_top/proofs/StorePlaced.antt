@@ -30,8 +30,8 @@ use Rattle.desk_runs.specs.Runs.{World, world, TellsEnd, status_after}
 use Rattle.desk_runs.proofs.Composed.{here, at, Tries, obeys-memory, runs-placed, runs-tells_end}
 use Rattle.desk_runs.proofs.PromisedLaw.{promised}
 use Rattle.desk_tasks.specs.Keep.{KeptStory}
-use Rattle.desk_store.specs.Journal.{IsOnlyRead, IsOpened, LeavesJournal, OnlyOpens, PassesComparison}
-use Rattle.desk_top.specs.Store.{kept_directories, kept_meaning, AreCounted, EndsAtDisk, FailsToName, JournalSays, RunsKept, RunsOnDisk, Keeps, StandsAlways, HoldsAll, HoldsSince, HasBegun, IsPlacedAt, IsWrittenAt, Shown, WritesNothing}
+use Rattle.desk_store.specs.Journal.{IsOnlyRead, IsOpened, LeavesJournal, OnlyOpens, PassesComparison, WhereShown}
+use Rattle.desk_top.specs.Store.{kept_directories, kept_meaning, AreCounted, EndsAtDisk, FailsToName, JournalSays, RunsKept, RunsOnDisk, Keeps, StandsAlways, HoldsAll, HoldsSince, HasBegun, IsPlacedAt, IsWrittenAt, WritesNothing}
 use Rattle.desk_top.proofs.Placed.{obeys-unplaced, obeys-unnamed, unbegun-tells_end}
 use Rattle.desk_top.proofs.StoreLaws.{only_opens, shown_is}
 
@@ -246,7 +246,7 @@ leaves_placed k was now (disk_end.Other line) nothing h = (h.0, opens-placed was
 
 -- what is shown after such a call
 pub shown-placed : (shown mid shown' : Option DiskSide) (ok : Unit {0}) (P : DiskSide → DiskSide → Type 0) → IfSome shown (λ d. HasNothingPending d.file) → Stays shown mid (let r : Result (Unit {0}) DiskFault = Ok ok in r)
-    → ((was now : DiskSide) → HasNothingPending was.file → P (stays was) now → P was now) → Shown mid shown' P → Shown shown shown' P
+    → ((was now : DiskSide) → HasNothingPending was.file → P (stays was) now → P was now) → WhereShown mid shown' P → WhereShown shown shown' P
 shown-placed shown mid shown' ok P nothing placed from run was is =
     let there : mid ≡ Some (stays was) = placed ∙ ap (option_map stays) is in
     let d = run (stays was) there in
@@ -258,7 +258,7 @@ pending-placed (Some was) mid ok nothing placed = subst (λ (o : Option DiskSide
 
 -- a call that failed to name the directory leaves the file too
 pub shown-failed : (shown mid : Option DiskSide) (P : DiskSide → DiskSide → Type 0) → IfSome shown (λ d. HasNothingPending d.file) → Stays shown mid (let r : Result (Unit {0}) DiskFault = Err disk_fault.Failed in r)
-    → ((was now : DiskSide) → OnlyOpens was now → P was now) → Shown shown mid P
+    → ((was now : DiskSide) → OnlyOpens was now → P was now) → WhereShown shown mid P
 shown-failed shown mid P nothing placed each was is =
     let none = shown_is shown was is nothing in
     (stays was, placed ∙ ap (option_map stays) is, each was (stays was) (opens-placed was (stays was) none (only_opens (stays was) none)))

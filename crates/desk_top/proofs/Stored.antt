@@ -26,8 +26,9 @@ use Rattle.desk_tasks.specs.Tasks.{play}
 use Rattle.desk_tasks.specs.Headline.{HasKept}
 use Rattle.desk_tasks.proofs.HeadlineLaw.{has-kept}
 use Rattle.desk_story.specs.Story.{task_of, kept_of}
-use Rattle.desk_top.proofs.SameStory.{same-story, SameStory}
-use Rattle.desk_top.specs.Store.{kept_meaning, AreCounted, HoldsSince, IsStored, RunsOnDisk, Shown}
+use Rattle.desk_story.proofs.TaskLaws.{same-story, SameStory}
+use Rattle.desk_store.specs.Journal.{WhereShown}
+use Rattle.desk_top.specs.Store.{kept_meaning, AreCounted, HoldsSince, IsStored, RunsOnDisk}
 
 status_is : (s : Story) (held : ℕ) (h : List Entry) → h ≡ run (opening s.day) s.events → (kept held s).status ≡ plan_status (state (opening s.day) h).broken
 unfolding opened_first history_outcome history
@@ -41,7 +42,7 @@ at_most_one None code is = omega (arith, is)
 at_most_one (Some item) code is = omega (arith, is)
 
 -- a run that was done wrote
-counted : (held : ℕ) (before now : World) (shown shown' : Option DiskSide) (x : Inputs) (code : ℕ) → Tells (files_read command_is.Store) before.folder x → code ≤ 1 → AreCounted held before now shown shown' code → Shown shown shown' (HoldsSince held x)
+counted : (held : ℕ) (before now : World) (shown shown' : Option DiskSide) (x : Inputs) (code : ℕ) → Tells (files_read command_is.Store) before.folder x → code ≤ 1 → AreCounted held before now shown shown' code → WhereShown shown shown' (HoldsSince held x)
 counted held before now shown shown' x code tells le (inl h) = absurd (h.late (inl le))
 counted held before now shown shown' x code tells le (inr h) = h x tells
 

@@ -100,7 +100,7 @@ pub record IsTried (before now : World) (seed size : ℕ) (code : ℕ) : Type 0 
   pub reported : Appends before.sink.written now.sink.written (report_text recovery.day (search_remarks (search_end recovery.day recovery.moves history)) history)
 
 -- `check`: the inputs give a day and a plan; the status is 7 where the plan breaks a rule and else 0, and the report gives the
--- first item that is broken, or that none is, and the cost of the plan under the orders of all batches
+-- first item that is broken, or that none is, and the cost of the plan on the day with all batches
 pub record IsChecked (before now : World) (x : Inputs) (code : ℕ) : Type 0 where
   pub judged : Judged
   pub sets : task_of command_is.Check x ≡ Ok (judge judged)

@@ -12,15 +12,15 @@ use Rattle.desk_store.specs.Journal.{KeepsStory}
 use Rattle.desk_top.specs.Store.{kept_meaning}
 
 -- how a run ends whose input sets no story
-abbrev pub IsUnread : Ending → Type 0
-IsUnread (ending.Refused r) = Unit {0}
-IsUnread (ending.ReadFault f) = Unit {0}
-IsUnread ending.Memory = Unit {0}
-IsUnread other = ⊥
+abbrev pub SetsNoStory : Ending → Type 0
+SetsNoStory (ending.Refused r) = Unit {0}
+SetsNoStory (ending.ReadFault f) = Unit {0}
+SetsNoStory ending.Memory = Unit {0}
+SetsNoStory other = ⊥
 
 -- the input sets no story: the disk is not asked
 pub record SetsNone (before now : World) (shown shown' : Option DiskSide) (how : Ending) : Type 0 where
-  pub unread : IsUnread how
+  pub unread : SetsNoStory how
   pub obeys : Obeys (kept_meaning 0) (here command_is.Store) before now how
   pub unreported : IsUnreported before now
   pub same : shown' ≡ shown

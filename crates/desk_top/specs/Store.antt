@@ -29,7 +29,7 @@ use Rattle.desk_tasks.specs.Tasks.{play, IsRunnable}
 use Rattle.desk_tasks.specs.Headline.{HasKept}
 use Rattle.desk_story.specs.Story.{Rows, rows_of, task_of, kept_of}
 use Rattle.desk_store.specs.Held.{entered}
-use Rattle.desk_store.specs.Journal.{IsKept, LeavesJournal, OnlyOpens, PassesComparison}
+use Rattle.desk_store.specs.Journal.{IsKept, LeavesJournal, OnlyOpens, PassesComparison, WhereShown}
 use Rattle.desk_store.specs.Own.{CanBeStored, IsOwn, OpensFor}
 
 -- the directories of words that ask for a journal on a disk
@@ -41,10 +41,6 @@ kept_directories other = None
 -- to, which is what a replay comes to with that number first in the report
 abbrev pub kept_meaning : ℕ → Meaning Rows KeptStory
 kept_meaning held = record { rows = rows_of; task = λ c x. kept_of x; outcome = λ k. kept held k.story; IsSound = λ k. IsRunnable k.story }
-
--- a file, where it is shown before a run and after it
-abbrev pub Shown : Option DiskSide → Option DiskSide → (DiskSide → DiskSide → Type 0) → Type 0
-Shown shown shown' Holds = (was : DiskSide) → shown ≡ Some was → (now : DiskSide) × (shown' ≡ Some now) × Holds was now
 
 -- ---- the journal on a disk that shows its file
 
@@ -93,7 +89,7 @@ AreNamedFor (Some a) before now how = IsPlaced a.place before now how
 -- the input was accepted, and the file on the disk, where it is shown, says that the run ends so: at `Damaged` it was damaged, and at
 -- `Other` it was of other events, with the line at which they differ first. Only opening has changed a byte then
 abbrev pub JournalSays : Inputs → Option DiskSide → Option DiskSide → DiskEnd → Type 0
-JournalSays x shown shown' how = (k : KeptStory) × (kept_of x ≡ Ok k) × Shown shown shown' (λ was now. LeavesJournal k was now (ending.OnDisk how))
+JournalSays x shown shown' how = (k : KeptStory) × (kept_of x ≡ Ok k) × WhereShown shown shown' (λ was now. LeavesJournal k was now (ending.OnDisk how))
 
 -- a run that the journal on the disk ended: its line is reported, and nothing is written
 pub record EndsAtDisk (ask : Option Ask) (before now : World) (faults faults' : ℕ) (shown shown' : Option DiskSide) (code : ℕ) : Type 0 where
@@ -137,7 +133,7 @@ HoldsSince held x was now = (all : HoldsAll x was now) × (held ≡ length (ente
 
 -- so many entries were in the file, where it is shown; of a run that wrote nothing that says how many, nothing is said
 abbrev pub AreCounted : ℕ → World → World → Option DiskSide → Option DiskSide → ℕ → Type 0
-AreCounted held before now shown shown' code = WritesNothing before now code ⊎ ((x : Inputs) → Tells (files_read command_is.Store) before.folder x → Shown shown shown' (HoldsSince held x))
+AreCounted held before now shown shown' code = WritesNothing before now code ⊎ ((x : Inputs) → Tells (files_read command_is.Store) before.folder x → WhereShown shown shown' (HoldsSince held x))
 
 -- a run that keeps all that is promised of each run, as a replay does, with the number of entries that the file on the disk held
 pub record KeepsPromise (ask : Option Ask) (before now : World) (shown shown' : Option DiskSide) (code : ℕ) : Type 0 where
@@ -165,5 +161,5 @@ pub record IsStored (before now : World) (shown shown' : Option DiskSide) (x : I
   pub sets : task_of command_is.Replay x ≡ Ok (play story)
   pub held : ℕ
   pub headline : HasKept before now story held
-  pub counts : Shown shown shown' (HoldsSince held x)
+  pub counts : WhereShown shown shown' (HoldsSince held x)
   pub status : code ≡ plan_status (state (opening story.day) headline.history).broken

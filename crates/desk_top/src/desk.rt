@@ -16,8 +16,8 @@ ghost use Rattle.desk_runs.specs.Runs.{Between};
 ghost use Rattle.desk_runs.specs.Causes.{IsDoneAt};
 ghost use Rattle.desk_runs.proofs.Composed.{at};
 ghost use Rattle.desk_story.specs.Story.{kept_of};
-ghost use Rattle.desk_store.specs.Journal.{OnlyOpens};
-ghost use Rattle.desk_top.specs.Store.{kept_directories, HasBegun, HoldsAll, IsAtMostNamed, IsPlacedAt, IsStored, IsWrittenAt, RunsOnDisk, Shown, StandsAlways};
+ghost use Rattle.desk_store.specs.Journal.{OnlyOpens, WhereShown};
+ghost use Rattle.desk_top.specs.Store.{kept_directories, HasBegun, HoldsAll, IsAtMostNamed, IsPlacedAt, IsStored, IsWrittenAt, RunsOnDisk, StandsAlways};
 ghost use Rattle.desk_top.specs.Desk.{Runs, RunsAsPromised, IsReplayed, IsRecovered, IsRecoveredByTeam, IsTried, IsChecked, IsGenerated};
 
 use crate::plain::{run_plain, tell};
@@ -117,11 +117,11 @@ fn run_on_disk<F: Folder, O: Sink, D: Disk>(
         RunsOnDisk (asked_here Store) before now (D.faults disk.old) (D.faults disk.new) (D.shown disk.old) (D.shown disk.new) result) }
     ensures stored { Between F.outside O.report folder.old out.old folder.new out.new (λ before now.
         (x : Inputs) → Tells (files_read Store) before.folder x → IsWrittenAt result ⊎ HasBegun before now →
-        Shown (D.shown disk.old) (D.shown disk.new) (HoldsAll x)) }
+        WhereShown (D.shown disk.old) (D.shown disk.new) (HoldsAll x)) }
     ensures untouched { (x : Inputs) → Tells (files_read Store) (F.outside folder.old) x →
-        Shown (D.shown disk.old) (D.shown disk.new) (StandsAlways x) }
+        WhereShown (D.shown disk.old) (D.shown disk.new) (StandsAlways x) }
     ensures unasked { (x : Inputs) → Tells (files_read Store) (F.outside folder.old) x → (r : Refusal) → kept_of x ≡ Err r → IsAtMostNamed (D.shown disk.old) (D.shown disk.new) }
-    ensures refused { result ≡ 3 → Shown (D.shown disk.old) (D.shown disk.new) OnlyOpens }
+    ensures refused { result ≡ 3 → WhereShown (D.shown disk.old) (D.shown disk.new) OnlyOpens }
     ensures failed { result ≡ 8 → Rose (D.faults disk.old) (D.faults disk.new) }
     ensures kept { D.faults disk.old ≤ D.faults disk.new }
     ensures unshown { D.shown disk.old ≡ None → D.shown disk.new ≡ None }
@@ -147,11 +147,11 @@ fn stored_run<F: Folder, O: Sink, D: Disk>(
         RunsOnDisk (Some (at Store (named dirs.now))) before now (D.faults disk.old) (D.faults disk.new) (D.shown disk.old) (D.shown disk.new) result) }
     ensures stored { Between F.outside O.report folder.old out.old folder.new out.new (λ before now.
         (x : Inputs) → Tells (files_read Store) before.folder x → IsWrittenAt result ⊎ HasBegun before now →
-        Shown (D.shown disk.old) (D.shown disk.new) (HoldsAll x)) }
+        WhereShown (D.shown disk.old) (D.shown disk.new) (HoldsAll x)) }
     ensures untouched { (x : Inputs) → Tells (files_read Store) (F.outside folder.old) x →
-        Shown (D.shown disk.old) (D.shown disk.new) (StandsAlways x) }
+        WhereShown (D.shown disk.old) (D.shown disk.new) (StandsAlways x) }
     ensures unasked { (x : Inputs) → Tells (files_read Store) (F.outside folder.old) x → (r : Refusal) → kept_of x ≡ Err r → IsAtMostNamed (D.shown disk.old) (D.shown disk.new) }
-    ensures refused { result ≡ 3 → Shown (D.shown disk.old) (D.shown disk.new) OnlyOpens }
+    ensures refused { result ≡ 3 → WhereShown (D.shown disk.old) (D.shown disk.new) OnlyOpens }
     ensures failed { result ≡ 8 → Rose (D.faults disk.old) (D.faults disk.new) }
     ensures kept { D.faults disk.old ≤ D.faults disk.new }
     ensures unshown { D.shown disk.old ≡ None → D.shown disk.new ≡ None }
@@ -213,7 +213,7 @@ pub fn desk_main<R: Threads + Wait + Sync, F: Folder, O: Sink, G: Gate, D: Disk>
         Between F.outside O.report folder.old out.old folder.new out.new (λ before now. IsTried before now seed size result) }
 
     // Each check that was done has reported the first item that the plan breaks, or that it breaks none, and the
-    // whole cost of the plan, under the orders of all batches.
+    // whole cost of the plan, on the day with all batches.
     ensures checked { (dirs : NamedDirectories) → command (map string_bytes words.now) ≡ Some (Check, Some dirs) →
         (x : Inputs) → Tells (files_read Check) (F.outside folder.old) x → IsDoneAt result →
         Between F.outside O.report folder.old out.old folder.new out.new (λ before now. IsChecked before now x result) }
@@ -241,22 +241,22 @@ pub fn desk_main<R: Threads + Wait + Sync, F: Folder, O: Sink, G: Gate, D: Disk>
     ensures stored { (dirs : NamedDirectories) → command (map string_bytes words.now) ≡ Some (Store, Some dirs) →
         Between F.outside O.report folder.old out.old folder.new out.new (λ before now.
         (x : Inputs) → Tells (files_read Store) before.folder x → IsWrittenAt result ⊎ HasBegun before now →
-        Shown (D.shown disk.old) (D.shown disk.new) (HoldsAll x)) }
+        WhereShown (D.shown disk.old) (D.shown disk.new) (HoldsAll x)) }
 
     // Until the comparison with what the disk holds has passed each crash leaves all bytes but the one that opening sets; from
     // then on, at any moment, a file that opens as a beginning of the history, with all entries that the disk held.
     ensures untouched { (dirs : NamedDirectories) → command (map string_bytes words.now) ≡ Some (Store, Some dirs) →
         (x : Inputs) → Tells (files_read Store) (F.outside folder.old) x →
-        Shown (D.shown disk.old) (D.shown disk.new) (StandsAlways x) }
+        WhereShown (D.shown disk.old) (D.shown disk.new) (StandsAlways x) }
 
     // Where the input is refused, at most the directory of the disk was named.
     ensures stored_unasked { (dirs : NamedDirectories) → command (map string_bytes words.now) ≡ Some (Store, Some dirs) →
         (x : Inputs) → Tells (files_read Store) (F.outside folder.old) x → (r : Refusal) → kept_of x ≡ Err r →
         IsAtMostNamed (D.shown disk.old) (D.shown disk.new) }
 
-    // At 3 it is the former.
+    // At 3 no byte on the disk is changed but the one that opening sets.
     ensures stored_refused { (dirs : NamedDirectories) → command (map string_bytes words.now) ≡ Some (Store, Some dirs) →
-        result ≡ 3 → Shown (D.shown disk.old) (D.shown disk.new) OnlyOpens }
+        result ≡ 3 → WhereShown (D.shown disk.old) (D.shown disk.new) OnlyOpens }
 
     // 8 comes only where the disk failed.
     ensures stored_failed { (dirs : NamedDirectories) → command (map string_bytes words.now) ≡ Some (Store, Some dirs) →
@@ -326,7 +326,7 @@ pub fn desk_main_heard<R: Threads + Wait + Sync, F: Folder, O: Sink, G: Gate, D:
         Between F.outside O.report folder.old out.old folder.new out.new (λ before now. IsTried before now seed size result) }
 
     // Each check that was done has reported the first item that the plan breaks, or that it breaks none, and the
-    // whole cost of the plan, under the orders of all batches.
+    // whole cost of the plan, on the day with all batches.
     ensures checked { (dirs : NamedDirectories) → command (map string_bytes words.now) ≡ Some (Check, Some dirs) →
         (x : Inputs) → Tells (files_read Check) (F.outside folder.old) x → IsDoneAt result →
         Between F.outside O.report folder.old out.old folder.new out.new (λ before now. IsChecked before now x result) }
@@ -354,22 +354,22 @@ pub fn desk_main_heard<R: Threads + Wait + Sync, F: Folder, O: Sink, G: Gate, D:
     ensures stored { (dirs : NamedDirectories) → command (map string_bytes words.now) ≡ Some (Store, Some dirs) →
         Between F.outside O.report folder.old out.old folder.new out.new (λ before now.
         (x : Inputs) → Tells (files_read Store) before.folder x → IsWrittenAt result ⊎ HasBegun before now →
-        Shown (D.shown disk.old) (D.shown disk.new) (HoldsAll x)) }
+        WhereShown (D.shown disk.old) (D.shown disk.new) (HoldsAll x)) }
 
     // Until the comparison with what the disk holds has passed each crash leaves all bytes but the one that opening sets; from
     // then on, at any moment, a file that opens as a beginning of the history, with all entries that the disk held.
     ensures untouched { (dirs : NamedDirectories) → command (map string_bytes words.now) ≡ Some (Store, Some dirs) →
         (x : Inputs) → Tells (files_read Store) (F.outside folder.old) x →
-        Shown (D.shown disk.old) (D.shown disk.new) (StandsAlways x) }
+        WhereShown (D.shown disk.old) (D.shown disk.new) (StandsAlways x) }
 
     // Where the input is refused, at most the directory of the disk was named.
     ensures stored_unasked { (dirs : NamedDirectories) → command (map string_bytes words.now) ≡ Some (Store, Some dirs) →
         (x : Inputs) → Tells (files_read Store) (F.outside folder.old) x → (r : Refusal) → kept_of x ≡ Err r →
         IsAtMostNamed (D.shown disk.old) (D.shown disk.new) }
 
-    // At 3 it is the former.
+    // At 3 no byte on the disk is changed but the one that opening sets.
     ensures stored_refused { (dirs : NamedDirectories) → command (map string_bytes words.now) ≡ Some (Store, Some dirs) →
-        result ≡ 3 → Shown (D.shown disk.old) (D.shown disk.new) OnlyOpens }
+        result ≡ 3 → WhereShown (D.shown disk.old) (D.shown disk.new) OnlyOpens }
 
     // 8 comes only where the disk failed.
     ensures stored_failed { (dirs : NamedDirectories) → command (map string_bytes words.now) ≡ Some (Store, Some dirs) →

@@ -11,8 +11,8 @@ ghost use Rattle.desk_runs.specs.Commands.{asked_here, files_read};
 ghost use Rattle.desk_runs.specs.Inputs.{Inputs, Tells};
 ghost use Rattle.desk_runs.specs.Runs.{Between};
 ghost use Rattle.desk_story.specs.Story.{kept_of};
-ghost use Rattle.desk_store.specs.Journal.{OnlyOpens};
-ghost use Rattle.desk_top.specs.Store.{HasBegun, HoldsAll, IsWrittenAt, RunsKept, Shown, StandsAlways};
+ghost use Rattle.desk_store.specs.Journal.{OnlyOpens, WhereShown};
+ghost use Rattle.desk_top.specs.Store.{HasBegun, HoldsAll, IsWrittenAt, RunsKept, StandsAlways};
 ghost use Rattle.desk_top.specs.Obeyed.{ObeysStore};
 
 use crate::plain::tell;
@@ -73,18 +73,18 @@ pub fn run_store<F: Folder, O: Sink, D: Disk>(
     // At 0, 1 and 5, and where an output file has got a byte, the file on the disk opens as the whole history.
     ensures stored { Between F.outside O.report folder.old out.old folder.new out.new (λ before now.
         (x : Inputs) → Tells (files_read Store) before.folder x → IsWrittenAt result ⊎ HasBegun before now →
-        Shown (D.shown disk.old) (D.shown disk.new) (HoldsAll x)) }
+        WhereShown (D.shown disk.old) (D.shown disk.new) (HoldsAll x)) }
 
     // Until the comparison has passed each crash leaves all bytes but the one that opening sets; from then on a file that opens
     // as a beginning of the history, with all that the disk held.
     ensures untouched { (x : Inputs) → Tells (files_read Store) (F.outside folder.old) x →
-        Shown (D.shown disk.old) (D.shown disk.new) (StandsAlways x) }
+        WhereShown (D.shown disk.old) (D.shown disk.new) (StandsAlways x) }
 
     // Where the input is refused, nothing is asked of the disk.
     ensures unasked { (x : Inputs) → Tells (files_read Store) (F.outside folder.old) x → (r : Refusal) → kept_of x ≡ Err r → disk.new ≡ disk.old }
 
-    // At 3 it is the former.
-    ensures refused { result ≡ 3 → Shown (D.shown disk.old) (D.shown disk.new) OnlyOpens }
+    // At 3 no byte on the disk is changed but the one that opening sets.
+    ensures refused { result ≡ 3 → WhereShown (D.shown disk.old) (D.shown disk.new) OnlyOpens }
 
     // 8 comes only where the disk failed.
     ensures failed { result ≡ 8 → Rose (D.faults disk.old) (D.faults disk.new) }

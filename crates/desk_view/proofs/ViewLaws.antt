@@ -14,7 +14,8 @@ use Rattle.desk_model.specs.declared.answer.Event.TheVariants as event
 use Rattle.desk_model.specs.declared.answer.Answer.{Answer}
 use Rattle.desk_model.specs.declared.answer.Answer.TheVariants.{Taken, Accepted, Breaks, Dearer, NoPlan, Full}
 use Rattle.desk_model.specs.declared.fallbacks.Which.{Which}
-use Rattle.desk_data.specs.Situation.{Situation, with_batch}
+use Rattle.desk_data.specs.Progress.{with_batch}
+use Rattle.desk_data.specs.Situation.{Situation}
 use Rattle.desk_model.specs.declared.fallbacks.Fallback.{Fallback}
 use Rattle.desk_model.specs.declared.fallbacks.Fallback.TheVariants as fallen
 use Rattle.desk_model.specs.States.{State, answer, after, batch_answer, fallen_state, fallback_on}

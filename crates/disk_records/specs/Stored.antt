@@ -2,8 +2,7 @@
 use Rattle.std.specs.Prelude.{◌≡◌, ℕ, ◌≤◌, List, [], ◌∷◌, ◌++◌, length, take, map}
 use Rattle.std.specs.declared.alloc.Global.{Global}
 use Rattle.std.specs.declared.vec.Vec.{Vec}
-use Rattle.desk_disk.specs.FileStates.{DiskSide, FileState, MayLeave}
-use Rattle.desk_disk.specs.Crashes.{LeavesOnly}
+use Rattle.desk_disk.specs.FileStates.{FileState, MayLeave}
 use Rattle.disk_records.specs.Records.{Opens}
 use Rattle.disk_records.specs.Files.{IsAtRest, IsOpening, IsWithOrWithout}
 
@@ -18,14 +17,6 @@ pub record OpensFirst (all : List (List ℕ)) (n : ℕ) (c : List ℕ) : Type 0 
   pub most : count ≤ length all
   pub place : ℕ
   pub opens : Opens (take count all) place c
-
--- a run that opens a file, compares what it holds with these payloads, n of which it had, and adds those that are missing: until
--- the comparison has passed the bytes stay but for the one that opening sets; from then on a crash leaves the first of them, n at
--- least
-pub record Stores (was now : DiskSide) (all : List (List ℕ)) (n : ℕ) : Type 0 where
-  pub compared : DiskSide
-  pub opening : LeavesOnly was compared (IsOpening was.file.bytes)
-  pub adding : LeavesOnly compared now (OpensFirst all n)
 
 -- a file that only runs of these calls wrote, each of which opens it and adds payloads, those of one list in their order, and each
 -- of which may have been stopped at any moment; n of them are acknowledged

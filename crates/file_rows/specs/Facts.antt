@@ -119,14 +119,15 @@ pub record IsItinerary (row : ItineraryRow) : Type 0 where
 
 -- ---- alt_flights.csv, alt_aircraft.csv, alt_airports.csv and feed.csv
 
--- a day of the years 2000 to 2099, moments of these years, at most 2,880 minutes of delay, and at most 100,000 an hour
+-- a day of the years 2000 to 2099, moments of these years, at most 2,880 minutes of delay, and at most 100,000 an hour; a batch becomes known in these years too
 abbrev pub IsAlt : AltRow → Type 0
 IsAlt (alt.Flight line flight day delay) = (day < 36525) × ForSome delay (λ minutes. minutes ≤ 2880)
 IsAlt (alt.Aircraft line aircraft from to) = (from.0 < 52596000) × (to.0 < 52596000)
 IsAlt (alt.Field line airport from to deps arrs) = ((from.0 < 52596000) × (to.0 < 52596000)) × ((deps ≤ 100000) × (arrs ≤ 100000))
 IsAlt (alt.Nothing line) = Unit {0}
+IsAlt (alt.At line at) = at.0 < 52596000
 
--- an order of the feed, with the number of its batch
+-- a row of the feed, with the number of its batch
 pub record IsFed (fed : ℕ × AltRow) : Type 0 where
   pub least : 1 ≤ fed.0
   pub most : fed.0 ≤ 999999999

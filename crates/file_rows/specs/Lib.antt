@@ -3,3 +3,4 @@ pub mod Limits
 pub mod Causes
 pub mod Seen
 pub mod Facts
+pub mod Moments

@@ -53,6 +53,10 @@ most_orders = 100000
 abbrev pub latest_departure : ℕ
 latest_departure = 52480000
 
+-- the latest moment at which a batch may become known, in minutes from the start of 2000
+abbrev pub latest_moment : ℕ
+latest_moment = 52480000
+
 -- the moment before which each departure of a plan is, in minutes from the start of 2000
 abbrev pub end_of_time : ℕ
 end_of_time = 52500000

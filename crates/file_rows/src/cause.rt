@@ -32,9 +32,9 @@ pub enum Cause {
     Limit,
     /// A previous flight that is none, or that ends elsewhere.
     BadPrev,
-    /// A window that does not end after its start.
+    /// A window that does not end after its start, or a moment before that of the batch before.
     BadWindow,
-    /// A batch that is not the next one.
+    /// A batch that is not the next one, or whose moment is told after another row of it.
     Batch,
     /// A move that is not of 1 to 16 steps, or that departs too late.
     Move,

@@ -1,8 +1,11 @@
 //! The rows of alt_flights.csv, alt_aircraft.csv, alt_airports.csv and feed.csv.
 
+ghost use Rattle.std.specs.Prelude.{◌≡◌};
+ghost use Rattle.file_rows.specs.Moments.{moment_in};
+
 use desk_units::{Minute, Name};
 
-/// What an order of the files of disruptions says.
+/// What a row of the files of disruptions says.
 #[derive(Clone, Copy)]
 pub enum AltRow {
     /// A leg is late, or is not flown.
@@ -47,4 +50,26 @@ pub enum AltRow {
         /// Its line in the file, from 1.
         line: u32,
     },
+    /// The moment at which a batch becomes known. It is no order.
+    At {
+        /// Its line in the file, from 1.
+        line: u32,
+        /// The moment, before the year 2100.
+        at: Minute,
+    },
+}
+
+impl AltRow {
+    /// The moment that the row tells of its batch, where it tells one.
+    pub fn moment(&self) -> Option<Minute>
+        ensures { result ≡ moment_in self.now }
+    {
+        match self {
+            AltRow::Flight { .. } => None,
+            AltRow::Aircraft { .. } => None,
+            AltRow::Field { .. } => None,
+            AltRow::Nothing { .. } => None,
+            AltRow::At { at, .. } => Some(*at),
+        }
+    }
 }

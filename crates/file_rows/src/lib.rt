@@ -30,9 +30,9 @@ pub use disruptions::AltRow;
 pub use fleet::{AircraftRow, MaintRow, PositionGroup, PositionRow};
 pub use legs::{FlightRow, RotationRow};
 pub use limits::{
-    END_OF_TIME, LATEST_DEPARTURE, MOST_AIRCRAFT, MOST_AIRPORTS, MOST_BATCHES, MOST_BYTES,
-    MOST_DISTANCES, MOST_FLIGHTS, MOST_GROUPS, MOST_ITINERARIES, MOST_JOURNAL_BYTES, MOST_LEGS,
-    MOST_ORDERS, MOST_PASSENGERS, MOST_TARIFF_ROWS, limits_are_as_defined,
+    END_OF_TIME, LATEST_DEPARTURE, LATEST_MOMENT, MOST_AIRCRAFT, MOST_AIRPORTS, MOST_BATCHES,
+    MOST_BYTES, MOST_DISTANCES, MOST_FLIGHTS, MOST_GROUPS, MOST_ITINERARIES, MOST_JOURNAL_BYTES,
+    MOST_LEGS, MOST_ORDERS, MOST_PASSENGERS, MOST_TARIFF_ROWS, limits_are_as_defined,
 };
 pub use network::{AirportRow, CapRow, DistRow, Window};
 pub use passengers::{ItineraryRow, LegRow};

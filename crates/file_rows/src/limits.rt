@@ -1,7 +1,7 @@
 //! How many bytes and rows the files may have, and what else in them has a limit.
 
 ghost use Rattle.std.specs.Prelude.{◌≡◌};
-ghost use Rattle.file_rows.specs.Limits.{most_bytes, most_journal_bytes, most_flights, most_aircraft, most_airports, most_distances, most_itineraries, most_passengers, most_legs, most_groups, most_tariff_rows, most_batches, most_orders, latest_departure, end_of_time};
+ghost use Rattle.file_rows.specs.Limits.{most_bytes, most_journal_bytes, most_flights, most_aircraft, most_airports, most_distances, most_itineraries, most_passengers, most_legs, most_groups, most_tariff_rows, most_batches, most_orders, latest_departure, latest_moment, end_of_time};
 
 /// The most bytes of a text file: 64 MiB.
 pub const MOST_BYTES: usize = 67_108_864;
@@ -45,6 +45,9 @@ pub const MOST_ORDERS: usize = 100_000;
 /// The latest departure that a schedule may have, in minutes from the start of 2000.
 pub const LATEST_DEPARTURE: u64 = 52_480_000;
 
+/// The latest moment at which a batch may become known, in minutes from the start of 2000.
+pub const LATEST_MOMENT: u32 = 52_480_000;
+
 /// The moment before which each departure of a plan is, in minutes from the start of 2000.
 pub const END_OF_TIME: u32 = 52_500_000;
 
@@ -64,5 +67,6 @@ pub fn limits_are_as_defined()
     ensures batches { MOST_BATCHES ≡ most_batches }
     ensures orders { MOST_ORDERS ≡ most_orders }
     ensures latest { LATEST_DEPARTURE ≡ latest_departure }
+    ensures moment { LATEST_MOMENT ≡ latest_moment }
     ensures end { END_OF_TIME ≡ end_of_time }
 {}

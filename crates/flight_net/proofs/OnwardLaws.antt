@@ -16,22 +16,20 @@ use Rattle.desk_rules.specs.Rotations.{arr}
 use Rattle.desk_rules.proofs.HourLaws.{length-numbers}
 use Rattle.desk_model.proofs.GroupPlans.{numbers-at}
 use Rattle.near_moves.specs.MoveParts.{leg}
-use Rattle.near_moves.specs.Routes.{stem}
-use Rattle.near_moves.specs.RouteParts.{is_other_route}
 use Rattle.flight_net.specs.declared.sought.Sought.{Sought}
 use Rattle.flight_net.specs.Sought.{is_sought}
 use Rattle.flight_net.specs.Onward.{onward_from, leads_on}
-use Rattle.flight_net.specs.Tried.{others, doubles_in, doubles_of}
+use Rattle.flight_net.specs.Tried.{new_routes, doubles_in, doubles_of}
 use Rattle.flight_net.proofs.SoughtLaws.{sought-holds, sought-from}
-use Rattle.flight_net.proofs.StartLaws.{SeeksAfter, first-sought, second-sought}
-use Rattle.flight_net.proofs.TriedLaws.{doubles-seconds, others-cabins}
+use Rattle.flight_net.proofs.StartLaws.{IsTaken, SeeksAfter, new-taken, first-sought, second-sought}
+use Rattle.flight_net.proofs.TriedLaws.{doubles-seconds, new-cabins}
 
 -- the second of two legs goes on from where the first arrives, in the time of the first
-onward-sought : (I : Situation) (P : PlanRows) (r x y : ℕ) (c : Cabin) (sought : Sought) (dest : Airport) → SeeksAfter I P r (stem I r) sought → sought.to ≡ None → dest.0 ≡ dest_of I r → is_other_route I P r (stem I r ++ (leg x, c) ∷ (leg y, c) ∷ []) ≡ true → is_sought I P (onward_from sought dest (leg_at I x).dest.0) y ≡ true
-onward-sought I P r x y c sought dest seeks none is h =
+onward-sought : (I : Situation) (P : PlanRows) (r : ℕ) (stem : List (Leg × Cabin)) (x y : ℕ) (c : Cabin) (sought : Sought) (dest : Airport) → SeeksAfter I P r stem sought → sought.to ≡ None → dest.0 ≡ dest_of I r → IsTaken I P r (stem ++ (leg x, c) ∷ (leg y, c) ∷ []) → is_sought I P (onward_from sought dest (leg_at I x).dest.0) y ≡ true
+onward-sought I P r stem x y c sought dest seeks none is taken =
     let next : Sought = record { from = (leg_at I x).dest; to = Some dest; earliest = arr I P x; until = sought.until } in
-    let first = sought-holds I P sought x (first-sought I P r x y c sought seeks none h) in
-    let second = sought-holds I P next y (second-sought I P r x y c next dest (record { from = refl; earliest = refl; until = seeks.until }) refl is h) in
+    let first = sought-holds I P sought x (first-sought I P r stem x y c sought seeks none taken) in
+    let second = sought-holds I P next y (second-sought I P r stem x y c next dest (record { from = refl; earliest = refl; until = seeks.until }) refl is taken) in
     let early = first.early in
     let later = second.early in
     sought-from I P (onward_from sought dest (leg_at I x).dest.0) y (record {
@@ -60,16 +58,16 @@ table-at g n a table is lt =
     let long : a < length (numbers n) = (let e = length-numbers n in omega (arith, lt, e)) in
     ap (λ (bs : List Bool). get_or bs a false) is ∙ get_or-map g (numbers n) a 0 false long ∙ ap g (numbers-at n a 0 lt)
 
--- no route has this leg and another after what was begun
-pub none-onward : (I : Situation) (P : PlanRows) (r x : ℕ) (sought : Sought) (dest : Airport) → SeeksAfter I P r (stem I r) sought → sought.to ≡ None → dest.0 ≡ dest_of I r → leads_on I P sought dest (leg_at I x).dest.0 ≡ false → others I P r (doubles_of I r x (numbers (legs_of I))) ≡ []
-none-onward I P r x sought dest seeks named is none =
+-- no new route has this leg and another after the stem
+pub none-onward : (I : Situation) (P : PlanRows) (r : ℕ) (told : List (List (Leg × Cabin))) (stem : List (Leg × Cabin)) (x : ℕ) (sought : Sought) (dest : Airport) → SeeksAfter I P r stem sought → sought.to ≡ None → dest.0 ≡ dest_of I r → leads_on I P sought dest (leg_at I x).dest.0 ≡ false → new_routes I P r told (doubles_of stem x (numbers (legs_of I))) ≡ []
+none-onward I P r told stem x sought dest seeks named is none =
     let ns = numbers (legs_of I) in
     let test = is_sought I P (onward_from sought dest (leg_at I x).dest.0) in
     let nobody : filter test ns ≡ [] = none-of (filter test ns) none in
-    let whole : (k : Cabin) → others I P r (doubles_in I r x ns k) ≡ [] = λ k.
-    sym (doubles-seconds I P r x test k (λ y on. onward-sought I P r x y k sought dest seeks named is on))
-    ∙ ap (λ (ys : List ℕ). others I P r (doubles_in I r x ys k)) nobody in
-    others-cabins I P r x ns
-    ∙ ap (λ (paths : List (List (Leg × Cabin))). paths ++ (others I P r (doubles_in I r x ns cabin.B) ++ others I P r (doubles_in I r x ns cabin.E))) (whole cabin.F)
-    ∙ ap (λ (paths : List (List (Leg × Cabin))). paths ++ others I P r (doubles_in I r x ns cabin.E)) (whole cabin.B)
+    let whole : (k : Cabin) → new_routes I P r told (doubles_in stem x ns k) ≡ [] = λ k.
+    sym (doubles-seconds I P r told stem x test k (λ y on. onward-sought I P r stem x y k sought dest seeks named is (new-taken I P r told (stem ++ (leg x, k) ∷ (leg y, k) ∷ []) on)))
+    ∙ ap (λ (ys : List ℕ). new_routes I P r told (doubles_in stem x ys k)) nobody in
+    new-cabins I P r told stem x ns
+    ∙ ap (λ (paths : List (List (Leg × Cabin))). paths ++ (new_routes I P r told (doubles_in stem x ns cabin.B) ++ new_routes I P r told (doubles_in stem x ns cabin.E))) (whole cabin.F)
+    ∙ ap (λ (paths : List (List (Leg × Cabin))). paths ++ new_routes I P r told (doubles_in stem x ns cabin.E)) (whole cabin.B)
     ∙ whole cabin.E

@@ -1,15 +1,16 @@
 -- The legs of routes are among those that are sought.
-use Rattle.std.proofs.Common.{◌≡◌, ℕ, ◌+◌, ◌-◌, ◌<◌, ◌≤◌, inl, inr, true, ◌&&◌, not, leb, List, [], ◌∷◌, ◌++◌, length, refl, sym, ap, subst, ◌∙◌, arith, append_assoc}
+use Rattle.std.proofs.Common.{◌≡◌, ℕ, ◌+◌, ◌-◌, ◌<◌, ◌≤◌, inl, inr, true, ◌&&◌, not, leb, List, [], ◌∷◌, ◌++◌, length, get_or, refl, sym, ap, subst, ◌∙◌, arith, append_assoc}
 use Rattle.std.specs.Prelude.{Some, None}
 use Rattle.std.proofs.lemmas.Bool.{and_parts, leb-true, eq-eqb}
 use Rattle.std.proofs.lemmas.List.{get_or_append_left, get_or_at, length-append}
 use Rattle.desk_units.specs.declared.numbers.Leg.{Leg}
 use Rattle.desk_units.specs.declared.numbers.Cabin.{Cabin}
 use Rattle.desk_units.specs.declared.numbers.Airport.{Airport}
-use Rattle.desk_data.specs.Situation.{Situation, leg_at, bound}
+use Rattle.desk_data.specs.Situation.{PassengersGone, Situation, leg_at, bound}
 use Rattle.desk_data.specs.Paths.{no_pair, leg_in, last_leg}
-use Rattle.desk_data.specs.Booked.{booked_path, dest_of, booked_arrival, haul_of}
-use Rattle.desk_data.specs.PlanRows.{PlanRows, row_at, groups_at, same_path}
+use Rattle.desk_data.specs.Booked.{dest_of, booked_arrival, haul_of}
+use Rattle.desk_data.specs.PlanRows.{PlanRows, row_at, groups_at}
+use Rattle.desk_data.specs.Valid.{IsValid, AreTallied}
 use Rattle.desk_rules.specs.Rotations.{dep, arr}
 use Rattle.desk_rules.specs.Passengers.{is_flown, all_flown, arrival_of, longest_delay}
 use Rattle.desk_rules.specs.Carriage.{is_good_path, is_in_time_path}
@@ -18,13 +19,20 @@ use Rattle.desk_rules.proofs.Tests.{implies-holds}
 use Rattle.desk_rules.proofs.CarriageLaws.{is_good_path-holds, all_flown-from}
 use Rattle.desk_model.specs.Tidy.{is_fit_path}
 use Rattle.near_moves.specs.MoveParts.{leg}
-use Rattle.near_moves.specs.Routes.{is_route, stem}
-use Rattle.near_moves.specs.RouteParts.{is_other_route}
+use Rattle.near_moves.specs.Routes.{is_route}
+use Rattle.near_moves.specs.RouteParts.{stands_among, is_new_route}
+use Rattle.near_moves.proofs.RebookingLaws.{tallied-within}
 use Rattle.near_moves.proofs.RouteLaws.{is_route-fit}
 use Rattle.flight_net.specs.declared.sought.Sought.{Sought}
 use Rattle.flight_net.specs.Sought.{is_sought}
-use Rattle.flight_net.specs.Start.{place_after, ready_after, due_before}
+use Rattle.flight_net.specs.Start.{IsStemPath, place_after, ready_after, due_before}
 use Rattle.flight_net.proofs.SoughtLaws.{sought-from}
+
+-- what some passengers have flown is the path of a stem
+pub tallied-stem : (I : Situation) (entries : List PassengersGone) (i : ℕ) (d : PassengersGone) → IsValid I → AreTallied I.progress.frozen entries → i < length entries → IsStemPath I (get_or entries i d).0
+tallied-stem I entries i d valid tallied lt =
+    let own = tallied-within I (get_or entries i d) valid (tallied.each i d lt) in
+    record { among = own.among; short = own.short }
 
 -- ---- what C13 and C14 say of a route
 
@@ -42,8 +50,8 @@ fit-taken I P r path h =
     (implies-holds (all_flown P path) (leb (arrival_of I P path) (booked_arrival I r + longest_delay (haul_of I r))) one.1 (all_flown-from P path there.flown)) in
     record { there = there; soon = omega (arith, late) }
 
-other-taken : (I : Situation) (P : PlanRows) (r : ℕ) (path : List (Leg × Cabin)) → is_other_route I P r path ≡ true → IsTaken I P r path
-other-taken I P r path h = fit-taken I P r path (is_route-fit I P r path (and_parts (is_route I P r path) (not (same_path (booked_path I r) path)) h).0)
+pub new-taken : (I : Situation) (P : PlanRows) (r : ℕ) (told : List (List (Leg × Cabin))) (path : List (Leg × Cabin)) → is_new_route I P r told path ≡ true → IsTaken I P r path
+new-taken I P r told path h = fit-taken I P r path (is_route-fit I P r path (and_parts (is_route I P r path) (not (stands_among told path)) h).0)
 
 -- ---- the legs of a path that is made of parts
 
@@ -85,7 +93,7 @@ leg-next I P r start rest a b h =
     let second : leg_in path (i + 1) ≡ b.0.0 = ap (λ (p : List (Leg × Cabin)). leg_in p (i + 1)) whole ∙ leg_after (start ++ a ∷ []) rest b (i + 1) (omega (arith, n)) in
     subst (λ (y : ℕ). GoesOn I P a.0.0 y) second (subst (λ (x : ℕ). GoesOn I P x (leg_in path (i + 1))) first at)
 
--- the first leg after what was begun
+-- the first leg after a path
 pub record Follows (I : Situation) (P : PlanRows) (r : ℕ) (start : List (Leg × Cabin)) (x : ℕ) : Type 0 where
   pub place : (leg_at I x).origin.0 ≡ place_after I r start
   pub time : ready_after I P r start ≤ dep P x
@@ -112,10 +120,8 @@ pub record SeeksAfter (I : Situation) (P : PlanRows) (r : ℕ) (start : List (Le
   pub earliest : sought.earliest ≡ ready_after I P r start
   pub until : sought.until ≡ due_before I r
 
-pub single-sought : (I : Situation) (P : PlanRows) (r x : ℕ) (c : Cabin) (sought : Sought) (dest : Airport) → SeeksAfter I P r (stem I r) sought → sought.to ≡ Some dest → dest.0 ≡ dest_of I r → is_other_route I P r (stem I r ++ (leg x, c) ∷ []) ≡ true → is_sought I P sought x ≡ true
-single-sought I P r x c sought dest seeks named is h =
-    let start = stem I r in
-    let taken = other-taken I P r (start ++ (leg x, c) ∷ []) h in
+pub single-sought : (I : Situation) (P : PlanRows) (r : ℕ) (start : List (Leg × Cabin)) (x : ℕ) (c : Cabin) (sought : Sought) (dest : Airport) → SeeksAfter I P r start sought → sought.to ≡ Some dest → dest.0 ≡ dest_of I r → IsTaken I P r (start ++ (leg x, c) ∷ []) → is_sought I P sought x ≡ true
+single-sought I P r start x c sought dest seeks named is taken =
     let follows = first-follows I P r start [] (leg x, c) taken.there in
     let last = last-is start (leg x, c) in
     let arrives : (leg_at I x).dest.0 ≡ dest_of I r = ap (λ (y : ℕ). (leg_at I y).dest.0) (sym last) ∙ taken.there.dest in
@@ -133,11 +139,9 @@ single-sought I P r x c sought dest seeks named is h =
     })
 
 -- the first of two legs
-pub first-sought : (I : Situation) (P : PlanRows) (r x y : ℕ) (c : Cabin) (sought : Sought) → SeeksAfter I P r (stem I r) sought → sought.to ≡ None → is_other_route I P r (stem I r ++ (leg x, c) ∷ (leg y, c) ∷ []) ≡ true → is_sought I P sought x ≡ true
-first-sought I P r x y c sought seeks none h =
-    let start = stem I r in
+pub first-sought : (I : Situation) (P : PlanRows) (r : ℕ) (start : List (Leg × Cabin)) (x y : ℕ) (c : Cabin) (sought : Sought) → SeeksAfter I P r start sought → sought.to ≡ None → IsTaken I P r (start ++ (leg x, c) ∷ (leg y, c) ∷ []) → is_sought I P sought x ≡ true
+first-sought I P r start x y c sought seeks none taken =
     let path = start ++ (leg x, c) ∷ (leg y, c) ∷ [] in
-    let taken = other-taken I P r path h in
     let follows = first-follows I P r start ((leg y, c) ∷ []) (leg x, c) taken.there in
     let next = goes_on-time I P x y (leg-next I P r start [] (leg x, c) (leg y, c) taken.there) in
     let last : last_leg path ≡ y = ap last_leg (sym (append_assoc start ((leg x, c) ∷ []) ((leg y, c) ∷ []))) ∙ last-is (start ++ (leg x, c) ∷ []) (leg y, c) in
@@ -160,11 +164,9 @@ pub record SeeksNext (I : Situation) (P : PlanRows) (r x : ℕ) (sought : Sought
   pub earliest : sought.earliest ≡ arr I P x
   pub until : sought.until ≡ due_before I r
 
-pub second-sought : (I : Situation) (P : PlanRows) (r x y : ℕ) (c : Cabin) (sought : Sought) (dest : Airport) → SeeksNext I P r x sought → sought.to ≡ Some dest → dest.0 ≡ dest_of I r → is_other_route I P r (stem I r ++ (leg x, c) ∷ (leg y, c) ∷ []) ≡ true → is_sought I P sought y ≡ true
-second-sought I P r x y c sought dest seeks named is h =
-    let start = stem I r in
+pub second-sought : (I : Situation) (P : PlanRows) (r : ℕ) (start : List (Leg × Cabin)) (x y : ℕ) (c : Cabin) (sought : Sought) (dest : Airport) → SeeksNext I P r x sought → sought.to ≡ Some dest → dest.0 ≡ dest_of I r → IsTaken I P r (start ++ (leg x, c) ∷ (leg y, c) ∷ []) → is_sought I P sought y ≡ true
+second-sought I P r start x y c sought dest seeks named is taken =
     let path = start ++ (leg x, c) ∷ (leg y, c) ∷ [] in
-    let taken = other-taken I P r path h in
     let goes = leg-next I P r start [] (leg x, c) (leg y, c) taken.there in
     let next = goes_on-time I P x y goes in
     let whole : path ≡ (start ++ (leg x, c) ∷ []) ++ (leg y, c) ∷ [] = sym (append_assoc start ((leg x, c) ∷ []) ((leg y, c) ∷ [])) in

@@ -1,4 +1,4 @@
--- The paths that are tried after the scheduled path, leg by leg.
+-- The paths that are tried after a stem, leg by leg.
 use Rattle.std.specs.Prelude.{ℕ, List, [], ◌∷◌, ◌++◌, filter, map}
 use Rattle.std.specs.List.{flat_map}
 use Rattle.desk_units.specs.declared.numbers.Leg.{Leg}
@@ -7,20 +7,19 @@ use Rattle.desk_units.specs.declared.numbers.Cabin.TheVariants.{F, B, E}
 use Rattle.desk_data.specs.Situation.{Situation}
 use Rattle.desk_data.specs.PlanRows.{PlanRows}
 use Rattle.near_moves.specs.MoveParts.{leg}
-use Rattle.near_moves.specs.Routes.{stem}
-use Rattle.near_moves.specs.RouteParts.{is_other_route}
+use Rattle.near_moves.specs.RouteParts.{is_new_route}
 
--- those of some paths that are routes and not the scheduled path
-abbrev pub others : Situation → PlanRows → ℕ → List (List (Leg × Cabin)) → List (List (Leg × Cabin))
-others I P r paths = filter (is_other_route I P r) paths
+-- those of some paths that are routes of reservation r and not told yet
+abbrev pub new_routes : Situation → PlanRows → ℕ → List (List (Leg × Cabin)) → List (List (Leg × Cabin)) → List (List (Leg × Cabin))
+new_routes I P r told paths = filter (is_new_route I P r told) paths
 
--- leg x after the legs that were begun, in each cabin
-abbrev pub singles_of : Situation → ℕ → ℕ → List (List (Leg × Cabin))
-singles_of I r x = map (λ c. stem I r ++ (leg x, c) ∷ []) (F ∷ B ∷ E ∷ [])
+-- leg x after a stem, in each cabin
+abbrev pub singles_of : List (Leg × Cabin) → ℕ → List (List (Leg × Cabin))
+singles_of stem x = map (λ c. stem ++ (leg x, c) ∷ []) (F ∷ B ∷ E ∷ [])
 
--- leg x and each of some legs after them, in one cabin
-abbrev pub doubles_in : Situation → ℕ → ℕ → List ℕ → Cabin → List (List (Leg × Cabin))
-doubles_in I r x ys c = map (λ y. stem I r ++ (leg x, c) ∷ (leg y, c) ∷ []) ys
+-- leg x and each of some legs after it, in one cabin
+abbrev pub doubles_in : List (Leg × Cabin) → ℕ → List ℕ → Cabin → List (List (Leg × Cabin))
+doubles_in stem x ys c = map (λ y. stem ++ (leg x, c) ∷ (leg y, c) ∷ []) ys
 
-abbrev pub doubles_of : Situation → ℕ → ℕ → List ℕ → List (List (Leg × Cabin))
-doubles_of I r x ys = flat_map (doubles_in I r x ys) (F ∷ B ∷ E ∷ [])
+abbrev pub doubles_of : List (Leg × Cabin) → ℕ → List ℕ → List (List (Leg × Cabin))
+doubles_of stem x ys = flat_map (doubles_in stem x ys) (F ∷ B ∷ E ∷ [])

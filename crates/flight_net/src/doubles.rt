@@ -1,19 +1,20 @@
-//! Routes with two legs after what was begun, in one cabin.
+//! Routes with two legs after a stem, in one cabin.
 
 ghost use Rattle.std.specs.Prelude.{◌≡◌, ◌<◌, ◌++◌, IfOk, OnOk, All, map};
 ghost use Rattle.desk_data.specs.Situation.{airports_of, legs_of, reservations_of};
 ghost use Rattle.desk_data.specs.Valid.{IsPlanFor};
 ghost use Rattle.desk_rules.specs.Numbers.{numbers};
-ghost use Rattle.near_moves.specs.Routes.{all_doubles, stem};
+ghost use Rattle.near_moves.specs.Routes.{all_doubles};
 ghost use Rattle.flight_net.specs.Flights.{IsNetOf};
 ghost use Rattle.flight_net.specs.Onward.{leads_on};
-ghost use Rattle.flight_net.specs.Tried.{others, doubles_in, doubles_of};
+ghost use Rattle.flight_net.specs.Start.{IsStemPath};
+ghost use Rattle.flight_net.specs.Tried.{new_routes, doubles_in, doubles_of};
 
 use crate::flights::FlightNet;
 use crate::sought::Sought;
-use crate::start::{due_before, start_after, stem};
+use crate::start::{Outset, due_before, start_after};
 use crate::tried::take_after;
-use desk_data::{Airport, Cabin, Instance, Leg, NoMem, Path, Res};
+use desk_data::{Airport, Cabin, Instance, Leg, NoMem, Path};
 use plan_pages::Pages;
 use plan_reads::arrival;
 use std::alloc::Global;
@@ -26,26 +27,27 @@ impl FlightNet {
         alloc: Global,
         inst: &Instance,
         plan: &Pages,
-        res: Res,
-        routes: &mut Vec<Path>,
+        outset: &Outset,
+        found: &mut Vec<Path>,
     ) -> Result<(), NoMem>
         requires plan { IsPlanFor inst.now plan.now }
         requires net { IsNetOf inst.now plan.now self.now }
-        requires res { res.0 < reservations_of inst.now }
-        ensures { OnOk result (routes.new.items ≡ routes.old.items ++ others inst.now plan.now res.0 (map (λ double. stem inst.now res.0 ++ double) (all_doubles inst.now))) }
+        requires res { outset.now.res.0 < reservations_of inst.now }
+        requires stem { IsStemPath inst.now outset.now.stem.now }
+        ensures { OnOk result (found.new.items ≡ found.old.items ++ new_routes inst.now plan.now outset.now.res.0 outset.now.told.now (map (λ double. outset.now.stem.now ++ double) (all_doubles inst.now))) }
     {
-        let (from, earliest) = start_after(inst, plan, res, stem(inst, res));
+        let (from, earliest) = start_after(inst, plan, outset.res, outset.stem);
         let sought = Sought {
             from,
             to: None,
             earliest,
-            until: due_before(inst, res),
+            until: due_before(inst, outset.res),
         };
-        let onward = self.onward(alloc, inst, plan, &sought, inst.booked(res).dest)?;
+        let onward = self.onward(alloc, inst, plan, &sought, inst.booked(outset.res).dest)?;
         let legs = self.legs(alloc, inst, plan, &sought)?;
         for leg in &legs {
             if onward[inst.leg(*leg).dest.0 as usize] {
-                self.take_doubles_of(alloc, inst, plan, res, *leg, routes)?;
+                self.take_doubles_of(alloc, inst, plan, outset, *leg, found)?;
             }
         }
         Ok(())
@@ -102,27 +104,28 @@ impl FlightNet {
         alloc: Global,
         inst: &Instance,
         plan: &Pages,
-        res: Res,
+        outset: &Outset,
         first: Leg,
-        routes: &mut Vec<Path>,
+        found: &mut Vec<Path>,
     ) -> Result<(), NoMem>
         requires plan { IsPlanFor inst.now plan.now }
         requires net { IsNetOf inst.now plan.now self.now }
-        requires res { res.0 < reservations_of inst.now }
+        requires res { outset.now.res.0 < reservations_of inst.now }
+        requires stem { IsStemPath inst.now outset.now.stem.now }
         requires first { first.0 < legs_of inst.now }
-        ensures { OnOk result (routes.new.items ≡ routes.old.items ++ others inst.now plan.now res.0 (doubles_of inst.now res.0 first.0 (numbers (legs_of inst.now)))) }
+        ensures { OnOk result (found.new.items ≡ found.old.items ++ new_routes inst.now plan.now outset.now.res.0 outset.now.told.now (doubles_of outset.now.stem.now first.0 (numbers (legs_of inst.now)))) }
     {
         let sought = Sought {
             from: inst.leg(first).dest,
-            to: Some(inst.booked(res).dest),
+            to: Some(inst.booked(outset.res).dest),
             earliest: arrival(inst, plan, first),
-            until: due_before(inst, res),
+            until: due_before(inst, outset.res),
         };
         let legs = self.legs(alloc, inst, plan, &sought)?;
         let legs = legs.as_slice();
-        take_doubles_in(alloc, inst, plan, res, (first, Cabin::F), legs, routes)?;
-        take_doubles_in(alloc, inst, plan, res, (first, Cabin::B), legs, routes)?;
-        take_doubles_in(alloc, inst, plan, res, (first, Cabin::E), legs, routes)
+        take_doubles_in(alloc, inst, plan, outset, (first, Cabin::F), legs, found)?;
+        take_doubles_in(alloc, inst, plan, outset, (first, Cabin::B), legs, found)?;
+        take_doubles_in(alloc, inst, plan, outset, (first, Cabin::E), legs, found)
     }
 }
 
@@ -131,19 +134,27 @@ fn take_doubles_in(
     alloc: Global,
     inst: &Instance,
     plan: &Pages,
-    res: Res,
+    outset: &Outset,
     first: (Leg, Cabin),
     seconds: &[Leg],
-    routes: &mut Vec<Path>,
+    found: &mut Vec<Path>,
 ) -> Result<(), NoMem>
     requires plan { IsPlanFor inst.now plan.now }
-    requires res { res.0 < reservations_of inst.now }
+    requires res { outset.now.res.0 < reservations_of inst.now }
+    requires stem { IsStemPath inst.now outset.now.stem.now }
     requires first { first.0.0 < legs_of inst.now }
     requires seconds { All (λ leg. leg.0 < legs_of inst.now) seconds.now }
-    ensures { OnOk result (routes.new.items ≡ routes.old.items ++ others inst.now plan.now res.0 (doubles_in inst.now res.0 first.0.0 (map (λ leg. leg.0) seconds.now) first.1)) }
+    ensures { OnOk result (found.new.items ≡ found.old.items ++ new_routes inst.now plan.now outset.now.res.0 outset.now.told.now (doubles_in outset.now.stem.now first.0.0 (map (λ leg. leg.0) seconds.now) first.1)) }
 {
     for second in seconds {
-        take_after(alloc, inst, plan, res, &[first, (*second, first.1)], routes)?;
+        take_after(
+            alloc,
+            inst,
+            plan,
+            outset,
+            &[first, (*second, first.1)],
+            found,
+        )?;
     }
     Ok(())
 }

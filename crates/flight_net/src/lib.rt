@@ -4,9 +4,10 @@
 //!     let paths = net.routes(alloc, &inst, &pages, res)?;     // the scheduled path first
 //!     let paths = routes(alloc, &inst, &pages, res)?;         // both at once
 //!
-//! Legs are found by the airports between which they go and by departure: the first where passengers stand, no
-//! earlier than they may go, the second from where the first arrives to where they want to go, no earlier than
-//! that arrives, and none that arrives too late. What is found is judged as a whole path, by `is_fit_path` of plan_groups.
+//! Legs are found by the airports between which they go and by departure: the first where passengers stand after
+//! a stem, no earlier than they may go, the second from where the first arrives to where they want to go, no earlier
+//! than that arrives, and none that arrives too late. Of one stem no path is tried twice, so a path is looked for
+//! among the routes of the stems before it alone. What is found is judged as a whole path, by `is_fit_path` of plan_groups.
 //!
 //! Proved: the paths are `routes` of near_moves, in its order. It depends on `near_moves`, `plan_reads`,
 //! `plan_groups` and `plan_pages`.

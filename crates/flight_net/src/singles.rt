@@ -1,17 +1,18 @@
-//! Routes with one leg after what was begun.
+//! Routes with one leg after a stem.
 
-ghost use Rattle.std.specs.Prelude.{◌≡◌, ◌<◌, ◌≤◌, ◌++◌, ◌∷◌, [], OnOk, map};
+ghost use Rattle.std.specs.Prelude.{◌≡◌, ◌<◌, ◌++◌, ◌∷◌, [], OnOk, map};
 ghost use Rattle.desk_data.specs.Situation.{legs_of, reservations_of};
 ghost use Rattle.desk_data.specs.Valid.{IsPlanFor};
-ghost use Rattle.near_moves.specs.Routes.{all_pairs, stem};
+ghost use Rattle.near_moves.specs.Routes.{all_pairs};
 ghost use Rattle.flight_net.specs.Flights.{IsNetOf};
-ghost use Rattle.flight_net.specs.Tried.{others, singles_of};
+ghost use Rattle.flight_net.specs.Start.{IsStemPath};
+ghost use Rattle.flight_net.specs.Tried.{new_routes, singles_of};
 
 use crate::flights::FlightNet;
 use crate::sought::Sought;
-use crate::start::{due_before, start_after, stem};
+use crate::start::{Outset, due_before, start_after};
 use crate::tried::take_after;
-use desk_data::{Cabin, Instance, Leg, NoMem, Path, Res};
+use desk_data::{Cabin, Instance, Leg, NoMem, Path};
 use plan_pages::Pages;
 use std::alloc::Global;
 
@@ -22,24 +23,25 @@ impl FlightNet {
         alloc: Global,
         inst: &Instance,
         plan: &Pages,
-        res: Res,
-        routes: &mut Vec<Path>,
+        outset: &Outset,
+        found: &mut Vec<Path>,
     ) -> Result<(), NoMem>
         requires plan { IsPlanFor inst.now plan.now }
         requires net { IsNetOf inst.now plan.now self.now }
-        requires res { res.0 < reservations_of inst.now }
-        ensures { OnOk result (routes.new.items ≡ routes.old.items ++ others inst.now plan.now res.0 (map (λ pair. stem inst.now res.0 ++ pair ∷ []) (all_pairs inst.now))) }
+        requires res { outset.now.res.0 < reservations_of inst.now }
+        requires stem { IsStemPath inst.now outset.now.stem.now }
+        ensures { OnOk result (found.new.items ≡ found.old.items ++ new_routes inst.now plan.now outset.now.res.0 outset.now.told.now (map (λ pair. outset.now.stem.now ++ pair ∷ []) (all_pairs inst.now))) }
     {
-        let (from, earliest) = start_after(inst, plan, res, stem(inst, res));
+        let (from, earliest) = start_after(inst, plan, outset.res, outset.stem);
         let sought = Sought {
             from,
-            to: Some(inst.booked(res).dest),
+            to: Some(inst.booked(outset.res).dest),
             earliest,
-            until: due_before(inst, res),
+            until: due_before(inst, outset.res),
         };
         let legs = self.legs(alloc, inst, plan, &sought)?;
         for leg in &legs {
-            take_single(alloc, inst, plan, res, *leg, routes)?;
+            take_single(alloc, inst, plan, outset, *leg, found)?;
         }
         Ok(())
     }
@@ -50,16 +52,17 @@ fn take_single(
     alloc: Global,
     inst: &Instance,
     plan: &Pages,
-    res: Res,
+    outset: &Outset,
     leg: Leg,
-    routes: &mut Vec<Path>,
+    found: &mut Vec<Path>,
 ) -> Result<(), NoMem>
     requires plan { IsPlanFor inst.now plan.now }
-    requires res { res.0 < reservations_of inst.now }
+    requires res { outset.now.res.0 < reservations_of inst.now }
+    requires stem { IsStemPath inst.now outset.now.stem.now }
     requires leg { leg.0 < legs_of inst.now }
-    ensures { OnOk result (routes.new.items ≡ routes.old.items ++ others inst.now plan.now res.0 (singles_of inst.now res.0 leg.0)) }
+    ensures { OnOk result (found.new.items ≡ found.old.items ++ new_routes inst.now plan.now outset.now.res.0 outset.now.told.now (singles_of outset.now.stem.now leg.0)) }
 {
-    take_after(alloc, inst, plan, res, &[(leg, Cabin::F)], routes)?;
-    take_after(alloc, inst, plan, res, &[(leg, Cabin::B)], routes)?;
-    take_after(alloc, inst, plan, res, &[(leg, Cabin::E)], routes)
+    take_after(alloc, inst, plan, outset, &[(leg, Cabin::F)], found)?;
+    take_after(alloc, inst, plan, outset, &[(leg, Cabin::B)], found)?;
+    take_after(alloc, inst, plan, outset, &[(leg, Cabin::E)], found)
 }

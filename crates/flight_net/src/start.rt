@@ -1,26 +1,39 @@
-//! Where and when passengers may go on after what they have begun.
+//! Where and when passengers may go on after a stem.
 
-ghost use Rattle.std.specs.Prelude.{◌≡◌, ◌<◌, ◌≤◌, length};
+ghost use Rattle.std.specs.Prelude.{◌≡◌, ◌<◌};
 ghost use Rattle.desk_data.specs.Situation.{legs_of, reservations_of};
 ghost use Rattle.desk_data.specs.Valid.{IsPathOf, IsPlanFor};
-ghost use Rattle.near_moves.specs.Routes.{stem};
-ghost use Rattle.flight_net.specs.Start.{due_before, place_after, ready_after};
+ghost use Rattle.near_moves.specs.Routes.{begun_path, is_other_stem};
+ghost use Rattle.flight_net.specs.Start.{IsStemPath, due_before, place_after, ready_after};
 
-use desk_data::{Airport, Cabin, Instance, Leg, Res};
+use desk_data::{Airport, Cabin, Instance, Leg, Path, Res, same_path};
 use plan_pages::Pages;
-use plan_reads::{arrival, longest_delay};
+use plan_reads::{arrival, is_carried, longest_delay};
+
+/// What routes are sought from: a stem of a reservation, and the routes that are told already.
+#[derive(Clone, Copy)]
+pub(crate) struct Outset<'a> {
+    pub(crate) res: Res,
+    pub(crate) stem: &'a [(Leg, Cabin)],
+    pub(crate) told: &'a [Path],
+}
 
 /// What passengers of a reservation have begun: the legs of their scheduled path that are scheduled before
 /// the window.
-#[tactic(auto, unfolding(near_moves::specs::Routes::stem))]
-pub(crate) fn stem(inst: &Instance, res: Res) -> &[(Leg, Cabin)]
+pub(crate) fn begun_path(inst: &Instance, res: Res) -> &[(Leg, Cabin)]
     requires { res.0 < reservations_of inst.now }
-    ensures stem { result.now ≡ stem inst.now res.0 }
-    ensures path { IsPathOf (legs_of inst.now) result.now }
-    ensures short { length result.now ≤ 8 }
+    ensures path { result.now ≡ begun_path inst.now res.0 }
+    ensures sound { IsStemPath inst.now result.now }
 {
     let begun = inst.begun(res) as usize;
     &inst.res(res).path.as_slice()[..begun]
+}
+
+/// Whether some legs that passengers have flown are another stem than what they have begun.
+pub(crate) fn is_other_stem(begun: &[(Leg, Cabin)], legs: &[(Leg, Cabin)]) -> bool
+    ensures { result ≡ is_other_stem begun.now legs.now }
+{
+    is_carried(legs) && !same_path(begun, legs)
 }
 
 /// The airport where they stand after the legs of a path, and when they do.

@@ -1,58 +1,58 @@
 //! Paths that are tried, one by one.
 
-ghost use Rattle.std.specs.Prelude.{◌≡◌, ◌<◌, ◌≤◌, ◌++◌, ◌∷◌, [], IfOk, OnOk, if◌then◌else◌, length};
-ghost use Rattle.desk_data.specs.Booked.{booked_path};
+ghost use Rattle.std.specs.Prelude.{◌≡◌, ◌<◌, ◌≤◌, ◌++◌, ◌∷◌, [], IfOk, OnOk, length};
 ghost use Rattle.desk_data.specs.Situation.{legs_of, reservations_of};
 ghost use Rattle.desk_data.specs.Valid.{IsPathOf, IsPlanFor};
-ghost use Rattle.near_moves.specs.Routes.{is_route, stem};
-ghost use Rattle.flight_net.specs.Tried.{others};
+ghost use Rattle.near_moves.specs.Routes.{is_route};
+ghost use Rattle.near_moves.specs.RouteParts.{scheduled_route, stands_among};
+ghost use Rattle.flight_net.specs.Start.{IsStemPath};
+ghost use Rattle.flight_net.specs.Tried.{new_routes};
 
-use crate::start::stem;
+use crate::start::Outset;
 use desk_data::{Cabin, Instance, Leg, List, NoMem, Path, Res, same_path};
 use plan_groups::is_fit_path;
 use plan_pages::Pages;
 use plan_reads::is_carried;
 use std::alloc::Global;
 
-/// Takes the scheduled path, where it is a route.
-pub(crate) fn take_scheduled(
+/// The scheduled path, where it is a route, and nothing else.
+pub(crate) fn scheduled_route(
     alloc: Global,
     inst: &Instance,
     plan: &Pages,
     res: Res,
-    routes: &mut Vec<Path>,
-) -> Result<(), NoMem>
+) -> Result<Vec<Path>, NoMem>
     requires plan { IsPlanFor inst.now plan.now }
     requires res { res.0 < reservations_of inst.now }
-    ensures { OnOk result (routes.new.items ≡ routes.old.items ++ (if is_route inst.now plan.now res.0 (booked_path inst.now res.0) then booked_path inst.now res.0 ∷ [] else [])) }
+    ensures { IfOk result (λ routes. routes.items ≡ scheduled_route inst.now plan.now res.0) }
 {
+    let mut routes = Vec::new(alloc);
     let path = &inst.res(res).path;
     if is_route(inst, plan, res, path) {
         routes.push(path.copy(alloc)?)?;
     }
-    Ok(())
+    Ok(routes)
 }
 
-/// Takes the path that is what was begun and some legs after it, where it is a route and not
-/// the scheduled path.
+/// Takes the path that is a stem and some legs after it, where it is a route that is not told yet.
 pub(crate) fn take_after(
     alloc: Global,
     inst: &Instance,
     plan: &Pages,
-    res: Res,
+    outset: &Outset,
     more: &[(Leg, Cabin)],
-    routes: &mut Vec<Path>,
+    found: &mut Vec<Path>,
 ) -> Result<(), NoMem>
     requires plan { IsPlanFor inst.now plan.now }
-    requires res { res.0 < reservations_of inst.now }
+    requires res { outset.now.res.0 < reservations_of inst.now }
+    requires stem { IsStemPath inst.now outset.now.stem.now }
     requires more { IsPathOf (legs_of inst.now) more.now }
     requires few { length more.now ≤ 2 }
-    ensures { OnOk result (routes.new.items ≡ routes.old.items ++ others inst.now plan.now res.0 ((stem inst.now res.0 ++ more.now) ∷ [])) }
+    ensures { OnOk result (found.new.items ≡ found.old.items ++ new_routes inst.now plan.now outset.now.res.0 outset.now.told.now ((outset.now.stem.now ++ more.now) ∷ [])) }
 {
-    let path = joined(alloc, stem(inst, res), more)?;
-    let scheduled = inst.res(res).path.as_slice();
-    if is_route(inst, plan, res, &path) && !same_path(scheduled, path.as_slice()) {
-        routes.push(path)?;
+    let path = joined(alloc, outset.stem, more)?;
+    if is_route(inst, plan, outset.res, &path) && !stands_among(outset.told, &path) {
+        found.push(path)?;
     }
     Ok(())
 }
@@ -67,6 +67,15 @@ fn joined(alloc: Global, first: &[(Leg, Cabin)], second: &[(Leg, Cabin)]) -> Res
     legs.extend_from_slice(first)?;
     legs.extend_from_slice(second)?;
     Ok(Path { legs: List(legs) })
+}
+
+/// Whether a path stands among some paths.
+fn stands_among(paths: &[Path], path: &Path) -> bool
+    ensures { result ≡ stands_among paths.now path.now }
+{
+    paths
+        .iter()
+        .any(|other| same_path(other.as_slice(), path.as_slice()))
 }
 
 /// Whether a path is a route: it has 1 to 8 legs, and meets C13, C14 and C15.

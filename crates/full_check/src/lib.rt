@@ -1,5 +1,5 @@
 //! The check of a plan against the rules C1 to C15, near linear in the legs and the groups of
-//! passengers.
+//! passengers, and at most quadratic in the groups of one reservation.
 //!
 //!     match full_check(alloc, &inst, &plan)? {
 //!         None => ..,                 // the plan breaks no rule
@@ -22,9 +22,10 @@ use rule_slots::least_slots;
 use std::alloc::Global;
 
 /// The first item of C1 to C15 that the plan breaks, by rule and then by what the items name, or
-/// `None` where it breaks none. The time is near linear in the legs and linear in the groups of
-/// passengers: the legs are sorted once for the rotations, and once for departures and once for
-/// arrivals. The only error is out of memory.
+/// `None` where it breaks none. The time is near linear in the legs, which are sorted once for the rotations,
+/// and once for departures and once for arrivals. It is linear in the groups of passengers, and at most
+/// quadratic in those of one reservation, each of which is looked at beside the others. The only error is out
+/// of memory.
 pub fn full_check(alloc: Global, inst: &Instance, plan: &Plan) -> Result<Option<Broken>, NoMem>
     requires { IsPlanFor inst.now plan.now }
     ensures { IfOk result (λ item. item ≡ least inst.now plan.now) }

@@ -28,8 +28,8 @@ pub struct Slot {
 }
 
 impl Slot {
-    /// How many legs may take it, by the airport's own caps and the closures that are ordered; `None` where
-    /// any number may.
+    /// How many legs may take it, by the airport's own caps and the closures that are ordered, and never fewer
+    /// than have taken it and left; `None` where any number may.
     pub fn cap(self, inst: &Instance) -> Option<u32>
         requires { self.airport.0 < airports_of inst.now }
         ensures { result ≡ cap inst.now self }

@@ -1,4 +1,4 @@
--- How the rows of a journal become events: names become numbers, and a batch's number its orders.
+-- How the rows of a journal become events: names become numbers, and a batch's number that batch.
 use Rattle.std.specs.Prelude.{ℕ, Bool, true, false, ◌&&◌, ◌==◌, nat_le, nat_lt, if◌then◌else◌, List, [], ◌∷◌, ◌++◌, length, count_by, slice_get, Option, Some, None, ok_or, Result, Ok, Err}
 use Rattle.std.specs.List.{list_all}
 use Rattle.desk_units.specs.declared.numbers.Leg.{Leg}

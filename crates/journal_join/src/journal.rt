@@ -74,8 +74,8 @@ fn events(
 
 /// The events of rows in their order, each with its caller.
 ///
-/// A batch is named by its number, and its event has the orders that this batch has among those of the
-/// day. In a move a leg is named by its flight and the day of its schedule, an aircraft by its name, and
+/// A batch is named by its number, and its event has the moment and the orders that this batch has among
+/// those of the day. In a move a leg is named by its flight and the day of its schedule, an aircraft by its name, and
 /// a reservation by its name and its direction. A move may stand before the first batch. The time
 /// is near linear in the rows of the day and of the journal and in the orders.
 ///

@@ -1,4 +1,4 @@
-//! The journal's rows, joined: names become numbers of an instance, and numbers of batches their orders.
+//! The journal's rows, joined: names become numbers of an instance, and numbers of batches those batches.
 //!
 //! `join_journal` gives for each row its caller and its event, in the order of the rows, or the first row
 //! that is refused, with its line and the cause. For a batch that is `Batch`, where it is not the next one

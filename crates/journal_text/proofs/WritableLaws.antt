@@ -15,7 +15,8 @@ use Rattle.desk_data.specs.declared.broken.Broken.{Broken}
 use Rattle.desk_data.specs.declared.broken.Broken.TheVariants.{C1, C2, C3, C4, C5, C6, C7, C8, C9, C10, C11, C12, C13, C14, C15}
 use Rattle.desk_data.specs.declared.parts.Parts.{Parts}
 use Rattle.plan_moves.specs.declared.moves.Move.{Move}
-use Rattle.desk_data.specs.Situation.{Situation, legs_of, planes_of, airports_of, reservations_of, with_batch}
+use Rattle.desk_data.specs.Progress.{with_batch}
+use Rattle.desk_data.specs.Situation.{Situation, legs_of, planes_of, airports_of, reservations_of}
 use Rattle.desk_data.proofs.BatchLaws.{with_batch-parts}
 use Rattle.desk_data.specs.PlanRows.{PlanRows}
 use Rattle.desk_rules.specs.Numbers.{numbers}
@@ -204,7 +205,7 @@ stands_reported I J rows before entry stands =
       answer = answer_under J S.inst same entry.answer (subst (AnswerNames S.inst) (sym stands.answered) (answer_names S entry.event (state-known (opening I) before (opening-known I))));
     }
 
--- a legal history from the opening of a day can be reported of each day of the same rows, whatever orders that has
+-- a legal history from the opening of a day can be reported of each day of the same rows, whatever orders that has and however far it has gone on
 pub legal-written-of : (I J : Situation) → I.parts ≡ J.parts → (h : List Entry) → IsLegal (opening I) h → All (CanBeWritten J) h
 legal-written-of I J rows h legal k d lt = stands_reported I J rows (take k h) (get_or h k d) (legal k (get_or h k d) (slice_get-get_or h k d lt))
 

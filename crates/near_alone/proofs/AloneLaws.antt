@@ -14,6 +14,7 @@ use Rattle.desk_data.specs.Paths.{is_carried}
 use Rattle.desk_data.specs.Situation.{Situation, reservations_of, bound}
 use Rattle.desk_data.specs.PlanRows.{PlanRows, row_at, groups_at}
 use Rattle.desk_data.specs.Valid.{IsPlanFor, IsValid}
+use Rattle.desk_data.proofs.BoundLaws.{bound-from}
 use Rattle.plan_moves.specs.declared.moves.Move.{Move}
 use Rattle.plan_moves.specs.declared.moves.Step.{Step}
 use Rattle.plan_moves.specs.declared.moves.Step.TheVariants.{Set, Push, Swap, Rebook, Tidy, Refill}
@@ -73,7 +74,7 @@ module _ (I : Situation) (P T : PlanRows) (r : ℕ) (lt : r < reservations_of I)
       let there : TakesThere I P r path = feasible.c13 r lt k d within full in
       let goes : is_good_path I T r path ≡ true = is_good_path-from I T r path (there-same I P T r path some rows there) in
       let in_time : is_in_time_path I T r path ≡ true = is_in_time-from I T r path (λ flown. late-same I P T r path some rows (feasible.c14 r lt k d within full (all_flown-to T P path back flown))) in
-      let begun : bound I r (groups_at T r) path ≡ true = subst (λ (groups : List Group). bound I r groups path ≡ true) (sym same) (feasible.c15 r lt k d within full) in
+      let begun : bound I r (groups_at T r) path ≡ true = subst (λ (groups : List Group). bound I r groups path ≡ true) (sym same) (bound-from I r (groups_at P r) path (feasible.c15 r lt k d within full)) in
       and_from (is_good_path I T r path && is_in_time_path I T r path) (bound I r (groups_at T r) path) (and_from (is_good_path I T r path) (is_in_time_path I T r path) goes in_time) begun
 
   all-fit : each_carried T r (is_fit_path I T r) ≡ true

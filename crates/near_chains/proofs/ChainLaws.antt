@@ -10,7 +10,7 @@ use Rattle.desk_rules.specs.Maintenance.{flies}
 use Rattle.desk_rules.specs.Words.{Flies, Precedes, Follows, IsFirst, MeetsC5}
 use Rattle.desk_rules.proofs.MaintenanceLaws.{flies-holds, flies-from}
 use Rattle.desk_model.specs.Push.{rotation}
-use Rattle.desk_model.proofs.PathOrder.{pairs_head, pairs_tail}
+use Rattle.desk_data.proofs.PathOrder.{pairs_head, pairs_tail}
 use Rattle.desk_model.proofs.RotationOrder.{flown_once, precedes-trans, precedes-itself, pairs_across, pairs_after, rotation-ordered, rotation-flown, rotation-each}
 use Rattle.near_moves.proofs.ListLaws.{contains_cases, contains_head, contains_tail}
 use Rattle.near_chains.specs.Chains.{from_airport, to_airport, is_same, tally, led, stand}

@@ -20,7 +20,7 @@ use Rattle.desk_rules.proofs.LeastLaws.{feasible-holds}
 use Rattle.desk_model.specs.Push.{rotation, after_push}
 use Rattle.desk_model.specs.Tidy.{after_tidy}
 use Rattle.desk_model.specs.Steps.{after_set, after_step, after_steps}
-use Rattle.desk_model.proofs.PathOrder.{pairs_head}
+use Rattle.desk_data.proofs.PathOrder.{pairs_head}
 use Rattle.desk_model.proofs.SetLaws.{after_set-sets}
 use Rattle.desk_model.proofs.RotationOrder.{flown_once, precedes-trans, precedes-itself, pairs_across, pairs_after, rotation-ordered, rotation-each}
 use Rattle.plan_push.proofs.FlownLaws.{pushed-flies}

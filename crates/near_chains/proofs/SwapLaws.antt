@@ -20,7 +20,7 @@ use Rattle.desk_rules.proofs.LeastLaws.{feasible-holds}
 use Rattle.desk_model.specs.Push.{rotation}
 use Rattle.desk_model.specs.Swap.{other_plane, row_after_swap, after_swap}
 use Rattle.desk_model.specs.Steps.{after_step, after_steps}
-use Rattle.desk_model.proofs.PathOrder.{pairs_head, pairs_tail}
+use Rattle.desk_data.proofs.PathOrder.{pairs_head, pairs_tail}
 use Rattle.desk_model.proofs.SwapLaws.{after_swap-row}
 use Rattle.desk_model.proofs.RotationOrder.{precedes-itself, rotation-ordered, rotation-each}
 use Rattle.near_moves.specs.MoveParts.{plane, minute}

@@ -2,7 +2,7 @@
 use Rattle.std.proofs.Common.{◌≡◌, ℕ, ◌+◌, ◌⊎◌, inl, inr, List, [], ◌∷◌, ◌++◌, refl, sym, ap, subst, ◌∙◌, arith}
 use Rattle.std.specs.List.{AllPairs, Contains}
 use Rattle.std.proofs.lemmas.List.Elements.{All-contains, Contains-append_left, Contains-append_right, Contains-append_cases}
-use Rattle.desk_model.proofs.PathOrder.{pairs_head, pairs_tail}
+use Rattle.desk_data.proofs.PathOrder.{pairs_head, pairs_tail}
 use Rattle.near_moves.proofs.ListLaws.{contains_cases, contains_head, contains_tail, contains_none}
 use Rattle.near_chains.specs.Chains.{is_same, tally}
 

@@ -17,7 +17,7 @@ use Rattle.desk_rules.specs.Words.{Precedes}
 use Rattle.desk_rules.proofs.RotationLaws.{precedes-holds}
 use Rattle.desk_model.specs.Push.{rotation}
 use Rattle.std.proofs.lemmas.List.Kept.{AllPairs-cons}
-use Rattle.desk_model.proofs.PathOrder.{pairs_head, pairs_tail, pairs_nil}
+use Rattle.desk_data.proofs.PathOrder.{pairs_head, pairs_tail, pairs_nil}
 use Rattle.desk_model.proofs.RotationOrder.{Contains-cases, Contains-head, Contains-tail, Contains-filter, precedes-trans, precedes-itself, rotation-ordered, rotation-flown, rotation-each}
 use Rattle.near_draft.specs.declared.change.Change.{Change}
 use Rattle.near_draft.specs.Drafts.{changed, drafted}

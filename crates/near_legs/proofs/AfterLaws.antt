@@ -17,7 +17,7 @@ use Rattle.desk_rules.specs.Rotations.{precedes, comes_before}
 use Rattle.desk_rules.specs.Passengers.{is_flown}
 use Rattle.desk_rules.specs.Words.{Flies, Precedes}
 use Rattle.desk_rules.proofs.RotationLaws.{precedes-holds, precedes-from}
-use Rattle.desk_model.proofs.PathOrder.{pairs_head, pairs_nil}
+use Rattle.desk_data.proofs.PathOrder.{pairs_head, pairs_nil}
 use Rattle.desk_model.proofs.RotationOrder.{flown_once, precedes-trans, precedes-itself, precedes-total}
 use Rattle.plan_reads.specs.Before.{IsNearest, IsLegBefore, AreBefore}
 use Rattle.plan_reads.proofs.OrderLaws.{comes_before-total, not_both}

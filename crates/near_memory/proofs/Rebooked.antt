@@ -9,7 +9,8 @@ use Rattle.desk_units.specs.declared.numbers.Cabin.{Cabin}
 use Rattle.desk_data.specs.declared.broken.Broken.TheVariants.{C1, C2, C3, C4, C5, C6, C7, C8, C9, C10, C11}
 use Rattle.desk_data.specs.declared.row.Group.{Group}
 use Rattle.desk_data.specs.Paths.{no_pair}
-use Rattle.desk_data.specs.Situation.{Situation, legs_of, reservations_of, plane_at, bound}
+use Rattle.desk_data.specs.Begun.{KeepsToLeft}
+use Rattle.desk_data.specs.Situation.{Situation, legs_of, reservations_of, plane_at}
 use Rattle.desk_data.specs.PlanRows.{PlanRows, groups_at, with_groups, same_path}
 use Rattle.desk_data.specs.Valid.{IsValid, IsPlanFor}
 use Rattle.plan_moves.specs.declared.moves.Move.{Move}
@@ -128,11 +129,11 @@ module _ (I : Situation) (P Q : PlanRows) (r : ℕ) (groups : List Group) (own :
   c15 feasible would s lt =
       elim (cases_eq s r) [
         | inr other ↦
-            let Bound : List Group → Type 0 = λ all. All (λ group. (group.path ≡ [] → ⊥) → bound I s all group.path ≡ true) all in
+            let Bound : List Group → Type 0 = λ all. All (λ group. (group.path ≡ [] → ⊥) → KeepsToLeft I s all group.path) all in
             let was : Bound (groups_at P s) = feasible.c15 s lt in
             subst Bound (sym (with_groups-other P r s groups other)) was
         | inl is ↦
-            let Bound : List Group → Type 0 = λ all. All (λ group. (group.path ≡ [] → ⊥) → bound I r all group.path ≡ true) all in
+            let Bound : List Group → Type 0 = λ all. All (λ group. (group.path ≡ [] → ⊥) → KeepsToLeft I r all group.path) all in
             let at : Bound (groups_at S r) = would.c15 r (subst (λ (q : ℕ). q < reservations_of I) is lt) in
             subst (MeetsC15 I R) (sym is) (subst Bound (later_groups ∙ sym own_groups) at)
       ]
@@ -258,7 +259,7 @@ route-first I P Q r to same rows h =
       fit = record {
         there = there-same I Q P r to h.some back h.fit.there;
         in_time = λ flown. late-same I Q P r to h.some back (h.fit.in_time h.fit.there.flown);
-        begun = subst (λ (groups : List Group). bound I r groups to ≡ true) same h.fit.begun;
+        keeps = subst (λ (groups : List Group). KeepsToLeft I r groups to) same h.fit.keeps;
       };
     }
 

@@ -11,7 +11,7 @@ use Rattle.desk_data.specs.PlanRows.{PlanRows, row_at, groups_at}
 use Rattle.desk_rules.specs.Numbers.{numbers}
 use Rattle.desk_rules.specs.Rotations.{dep, arr}
 use Rattle.desk_rules.specs.Passengers.{aboard, is_flown}
-use Rattle.near_moves.specs.Routes.{stem}
+use Rattle.near_moves.specs.Routes.{stems}
 use Rattle.flight_net.specs.Start.{place_after, ready_after, due_before}
 
 -- whether a path has leg x
@@ -22,23 +22,27 @@ is_on path x = list_any (λ pair. pair.0.0 == x) path
 abbrev pub goes_between : Situation → ℕ → ℕ → Bool
 goes_between I from to = list_any (λ z. ((leg_at I z).origin.0 == from) && ((leg_at I z).dest.0 == to)) (numbers (legs_of I))
 
--- whether leg x leaves where passengers of reservation r stand after what they have begun, and arrives where they want to go, or where a leg goes on to there
-abbrev pub may_begin : Situation → ℕ → ℕ → Bool
-may_begin I r x =
-    ((leg_at I x).origin.0 == place_after I r (stem I r))
+-- whether leg x leaves where passengers of reservation r stand after a stem, and arrives where they want to go, or where a leg goes on to there
+abbrev pub may_begin : Situation → ℕ → List (Leg × Cabin) → ℕ → Bool
+may_begin I r stem x =
+    ((leg_at I x).origin.0 == place_after I r stem)
     && (((leg_at I x).dest.0 == dest_of I r) || goes_between I (leg_at I x).dest.0 (dest_of I r))
 
 -- whether leg x arrives where they want to go, and leaves where a leg arrives from where they stand
-abbrev pub may_end : Situation → ℕ → ℕ → Bool
-may_end I r x = ((leg_at I x).dest.0 == dest_of I r) && goes_between I (place_after I r (stem I r)) (leg_at I x).origin.0
+abbrev pub may_end : Situation → ℕ → List (Leg × Cabin) → ℕ → Bool
+may_end I r stem x = ((leg_at I x).dest.0 == dest_of I r) && goes_between I (place_after I r stem) (leg_at I x).origin.0
 
--- whether leg x is flown, no earlier than passengers of reservation r may go on, and arrives before they have to
-abbrev pub is_in_time : Situation → PlanRows → ℕ → ℕ → Bool
-is_in_time I Q r x = is_flown (row_at Q x) && (nat_le (ready_after I Q r (stem I r)) (dep Q x) && nat_lt (arr I Q x) (due_before I r))
+-- whether leg x is flown, no earlier than passengers of reservation r may go on after a stem, and arrives before they have to
+abbrev pub is_in_time : Situation → PlanRows → ℕ → List (Leg × Cabin) → ℕ → Bool
+is_in_time I Q r stem x = is_flown (row_at Q x) && (nat_le (ready_after I Q r stem) (dep Q x) && nat_lt (arr I Q x) (due_before I r))
 
--- whether leg x may be on a route of reservation r in plan Q: the scheduled path has it, or it may be the first or the second of two legs after what was begun
+-- whether leg x may be on a route that begins with a stem: the stem has it, or it may be the first or the second of two legs after it
+abbrev pub may_use_after : Situation → PlanRows → ℕ → ℕ → List (Leg × Cabin) → Bool
+may_use_after I Q r x stem = is_on stem x || (is_in_time I Q r stem x && (may_begin I r stem x || may_end I r stem x))
+
+-- whether leg x may be on a route of reservation r in plan Q: the scheduled path has it, or it may be on a route that begins with one of the stems
 unfoldable pub may_use : Situation → PlanRows → ℕ → ℕ → Bool
-may_use I Q r x = is_on (booked_path I r) x || (is_in_time I Q r x && (may_begin I r x || may_end I r x))
+may_use I Q r x = is_on (booked_path I r) x || list_any (may_use_after I Q r x) (stems I r)
 
 -- leg x is still: it has the same row, and in no cabin fewer passengers than it had
 pub record IsStill (P Q : PlanRows) (x : ℕ) : Type 0 where

@@ -14,8 +14,8 @@ ghost use Rattle.near_moves.specs.Routes.{routes};
 ghost use Rattle.near_moves.specs.Units.{rebooked};
 ghost use Rattle.near_memory.specs.Untouched.{IsUntouched, may_use};
 
-/// Each leg of a route of a reservation is on its scheduled path; or it is flown in time, and leaves where its
-/// passengers stand after what they have begun, with a leg of the day on to where they want to go unless it
+/// Each leg of a route of a reservation is on its scheduled path or on one of its stems; or it is flown in time, and
+/// leaves where its passengers stand after a stem, with a leg of the day on to where they want to go unless it
 /// arrives there itself; or it arrives there in time, and leaves where a leg of the day comes from where they stand.
 pub fn the_legs_of_routes_can_be_told()
     ensures { (I : Situation) (Q : PlanRows) (r : ℕ) (path : Items (Leg × Cabin)) → Contains (routes I Q r) path → All (λ pair. may_use I Q r pair.0.0 ≡ true) path }

@@ -14,7 +14,7 @@ use Rattle.desk_units.specs.declared.numbers.Cabin.{Cabin}
 use Rattle.desk_data.specs.Situation.{Situation}
 use Rattle.desk_data.specs.PlanRows.{PlanRows}
 use Rattle.desk_rules.specs.Numbers.{numbers}
-use Rattle.desk_model.proofs.PathOrder.{pairs_nil}
+use Rattle.desk_data.proofs.PathOrder.{pairs_nil}
 use Rattle.near_moves.specs.Routes.{routes}
 use Rattle.near_moves.specs.PassengerMoves.{aims, portions}
 use Rattle.near_moves.specs.NeighbourhoodWords.{IsPortion, IsAim}

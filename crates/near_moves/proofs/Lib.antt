@@ -7,6 +7,7 @@ pub mod FitLaws
 pub mod MomentLaws
 pub mod UnitLaws
 pub mod ShardLaws
+pub mod RepeatLaws
 pub mod RouteLaws
 pub mod RebookingLaws
 pub mod DropLaws

@@ -12,7 +12,7 @@ use Rattle.std.proofs.lemmas.List.Folds.{Any-from_list_any, list_any_at}
 use Rattle.std.proofs.lemmas.List.Kept.{AllPairs-cons, AllPairs-filter}
 use Rattle.desk_rules.specs.Numbers.{numbers}
 use Rattle.desk_rules.proofs.HourLaws.{length-numbers}
-use Rattle.desk_model.proofs.PathOrder.{pairs_head, pairs_tail, pairs_nil, pairs_append}
+use Rattle.desk_data.proofs.PathOrder.{pairs_head, pairs_tail, pairs_nil, pairs_append}
 use Rattle.desk_model.proofs.GroupPlans.{numbers-at}
 
 -- ---- what lists contain

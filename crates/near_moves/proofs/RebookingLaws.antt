@@ -1,36 +1,39 @@
 -- Each rebooking near a plan fits.
-use Rattle.std.proofs.Common.{◌≡◌, ℕ, zero, suc, ◌+◌, ◌^◌, ◌<◌, ◌≤◌, inl, inr, false, not, cond, ltb, List, [], ◌∷◌, length, get_or, map, reverse, refl, sym, ap, subst, ◌∙◌, arith, zero-add}
-use Rattle.std.specs.Prelude.{filter, sum_by}
+use Rattle.std.proofs.Common.{◌≡◌, ℕ, zero, suc, ◌+◌, ◌^◌, ◌<◌, ◌≤◌, inl, inr, true, false, not, cond, ltb, List, [], ◌∷◌, length, get_or, map, reverse, refl, sym, ap, subst, ◌∙◌, arith, zero-add}
+use Rattle.std.specs.Prelude.{filter, sum_by, Option, None, is_some}
 use Rattle.std.specs.Ordering.{is_eq}
 use Rattle.std.specs.List.{All, AllPairs, Contains, list_all}
 use Rattle.std.specs.declared.cmp.Ordering.TheVariants.{Less}
-use Rattle.std.proofs.lemmas.Bool.{ltb-true}
+use Rattle.std.proofs.lemmas.Bool.{ltb-true, true≢false}
 use Rattle.std.proofs.lemmas.Nat.{pow_pos}
 use Rattle.std.proofs.lemmas.List.Elements.{All-nil, All-cons, All-append, All-take, All-head, All-tail, All-weaker, All-contains}
 use Rattle.std.proofs.lemmas.List.Sums.{sum_by-cons, get_or-le-sum_by}
 use Rattle.desk_units.specs.declared.numbers.Leg.{Leg}
 use Rattle.desk_units.specs.declared.numbers.Cabin.{Cabin}
 use Rattle.desk_units.specs.declared.numbers.Res.{Res}
+use Rattle.desk_data.specs.declared.row.Row.{Row}
 use Rattle.desk_data.specs.declared.row.Group.{Group}
-use Rattle.desk_data.specs.Situation.{Situation, legs_of, reservations_of, res_at, no_res, begun}
+use Rattle.desk_data.specs.Situation.{PassengersGone, Situation, legs_of, reservations_of, res_at, no_res, tally_at}
+use Rattle.desk_data.specs.Situation.{begun as begun_legs}
 use Rattle.desk_data.specs.Booked.{booked_path}
 use Rattle.desk_data.specs.PlanRows.{PlanRows, groups_at, path_cmp, AreGroups, IsGroup, same_path}
-use Rattle.desk_data.specs.Valid.{IsValid, IsPlanFor, IsPathOf, IsReservation}
+use Rattle.desk_data.specs.Valid.{IsValid, IsPlanFor, IsPathOf, IsReservation, IsTallied, AreTallied}
 use Rattle.desk_rules.specs.Numbers.{numbers}
 use Rattle.plan_moves.specs.declared.moves.Step.{Step}
 use Rattle.plan_moves.specs.declared.moves.Step.TheVariants.{Rebook}
 use Rattle.plan_moves.specs.declared.moves.Move.{Move}
 use Rattle.plan_moves.specs.Fits.{Fits, StepFits, IsPathIn}
 use Rattle.desk_model.specs.Rebook.{count_on}
-use Rattle.desk_model.proofs.PathOrder.{pairs_head, pairs_tail, path_before}
+use Rattle.desk_data.proofs.PathOrder.{pairs_head, pairs_tail, path_before}
 use Rattle.near_moves.specs.Units.{MoveUnit, rebooked}
 use Rattle.near_moves.specs.MoveParts.{leg}
-use Rattle.near_moves.specs.Routes.{stem, routes}
-use Rattle.near_moves.specs.RouteWords.{IsTried, scheduled, begun_alone, one_more, two_more}
+use Rattle.near_moves.specs.Routes.{routes}
+use Rattle.near_moves.specs.RouteWords.{IsStem, begun, flown, IsTried, scheduled, stem_alone, one_more, two_more}
 use Rattle.near_moves.specs.PassengerMoves.{aims, portions, rebooking, rebookings, rebooked_units}
 use Rattle.near_moves.specs.Near.{unit_steps, unit_moves, moves_of, step_in_time, move_of}
 use Rattle.near_moves.proofs.ListLaws.{contains_cases, filter_contains, map_contains, flat_map_contains, numbers_within, All_from_contains}
-use Rattle.near_moves.proofs.RouteLaws.{has-routes, same_path-Decides}
+use Rattle.near_moves.proofs.RepeatLaws.{same_path-Decides}
+use Rattle.near_moves.proofs.RouteLaws.{has-routes}
 
 -- ---- the passengers on a path that has some are those of its group
 
@@ -82,18 +85,45 @@ portions-within n k some most has =
 scheduled-within : (I : Situation) (r : ℕ) → IsValid I → r < reservations_of I → IsReservation (legs_of I) (res_at I r)
 scheduled-within I r valid lt = valid.parts.res r no_res lt
 
-tried-within : (I : Situation) (r : ℕ) (path : List (Leg × Cabin)) → IsPathOf (legs_of I) (booked_path I r) → IsTried I r path → IsPathOf (legs_of I) path
-tried-within I r path own (scheduled is) = subst (IsPathOf (legs_of I)) (sym is) own
-tried-within I r path own (begun_alone is) = subst (IsPathOf (legs_of I)) (sym is) (All-take (λ (pair : Leg × Cabin). pair.0.0 < legs_of I) (begun I r) (booked_path I r) own)
-tried-within I r path own (one_more x c lt is) =
+-- a leg that is frozen is there
+frozen-within : (frozen : List (Option Row)) (x : ℕ) → is_some (get_or frozen x None) ≡ true → x < length frozen
+frozen-within [] x is = absurd (true≢false (sym is))
+frozen-within (row ∷ frozen) zero is = omega arith
+frozen-within (row ∷ frozen) (suc x) is = let lt = frozen-within frozen x is in omega (arith, lt)
+
+-- what some passengers have flown is a path of the day, of at most 8 legs
+pub tallied-within : (I : Situation) (entry : PassengersGone) → IsValid I → IsTallied I.progress.frozen entry → IsPathIn (legs_of I) entry.0
+tallied-within I entry valid own =
+    let frozen = I.progress.frozen in
+    let long = valid.progress.legs in
+    record {
+      short = own.short;
+      among = All-weaker (λ (pair : Leg × Cabin). is_some (get_or frozen pair.0.0 None) ≡ true) (λ (pair : Leg × Cabin). pair.0.0 < legs_of I)
+          (λ pair is. (let lt = frozen-within frozen pair.0.0 is in omega (arith, lt, long))) entry.0 own.left;
+    }
+
+tally-sound : (I : Situation) (r : ℕ) → IsValid I → r < reservations_of I → AreTallied I.progress.frozen (tally_at I r)
+tally-sound I r valid lt = valid.progress.tallied r [] (let n = valid.progress.res in omega (arith, lt, n))
+
+stem-within : (I : Situation) (r : ℕ) (stem : List (Leg × Cabin)) → IsValid I → r < reservations_of I → IsStem I r stem → IsPathOf (legs_of I) stem
+stem-within I r stem valid lt (begun is) =
+    subst (IsPathOf (legs_of I)) (sym is) (All-take (λ (pair : Leg × Cabin). pair.0.0 < legs_of I) (begun_legs I r) (booked_path I r) (scheduled-within I r valid lt).path)
+stem-within I r stem valid lt (flown count has some) =
+    let tally = tally_at I r in
+    (tallied-within I (stem, count) valid (All-contains (IsTallied I.progress.frozen) tally (stem, count) (tally-sound I r valid lt).each has)).among
+
+tried-within : (I : Situation) (r : ℕ) (path : List (Leg × Cabin)) → IsValid I → r < reservations_of I → IsTried I r path → IsPathOf (legs_of I) path
+tried-within I r path valid lt (scheduled is) = subst (IsPathOf (legs_of I)) (sym is) (scheduled-within I r valid lt).path
+tried-within I r path valid lt (stem_alone own) = stem-within I r path valid lt own
+tried-within I r path valid lt (one_more stem x c own there is) =
     let P : Leg × Cabin → Type 0 = λ pair. pair.0.0 < legs_of I in
     subst (IsPathOf (legs_of I)) (sym is)
-    (All-append P (stem I r) ((leg x, c) ∷ []) (All-take P (begun I r) (booked_path I r) own) (All-cons P (leg x, c) [] lt (All-nil P)))
-tried-within I r path own (two_more x y c lt lower is) =
+    (All-append P stem ((leg x, c) ∷ []) (stem-within I r stem valid lt own) (All-cons P (leg x, c) [] there (All-nil P)))
+tried-within I r path valid lt (two_more stem x y c own there lower is) =
     let P : Leg × Cabin → Type 0 = λ pair. pair.0.0 < legs_of I in
     subst (IsPathOf (legs_of I)) (sym is)
-    (All-append P (stem I r) ((leg x, c) ∷ (leg y, c) ∷ []) (All-take P (begun I r) (booked_path I r) own)
-    (All-cons P (leg x, c) ((leg y, c) ∷ []) lt (All-cons P (leg y, c) [] lower (All-nil P))))
+    (All-append P stem ((leg x, c) ∷ (leg y, c) ∷ []) (stem-within I r stem valid lt own)
+    (All-cons P (leg x, c) ((leg y, c) ∷ []) there (All-cons P (leg y, c) [] lower (All-nil P))))
 
 pub aims-within : (I : Situation) (P : PlanRows) (r : ℕ) → IsValid I → r < reservations_of I → All (IsPathIn (legs_of I)) (aims I P r)
 unfolding aims
@@ -101,7 +131,7 @@ aims-within I P r valid lt =
     All-append (IsPathIn (legs_of I)) (routes I P r) ([] ∷ [])
     (All_from_contains (IsPathIn (legs_of I)) (routes I P r) (λ path has.
     let own = has-routes I P r path has in
-    record { short = own.short; among = tried-within I r path (scheduled-within I r valid lt).path own.kind }))
+    record { short = own.short; among = tried-within I r path valid lt own.kind }))
     (All-cons (IsPathIn (legs_of I)) [] [] (record { short = omega arith; among = All-nil (λ (pair : Leg × Cabin). pair.0.0 < legs_of I) }) (All-nil (IsPathIn (legs_of I))))
 
 -- ---- the moves

@@ -28,7 +28,7 @@ use Rattle.near_moves.specs.StepWords.{IsOtherDeparture, at_earliest, later_by_1
 use Rattle.near_moves.proofs.ListLaws.{contains_cases, contains_head, contains_tail, contains_none, contains_filter, filter_contains, contains_map, map_contains, contains_flat_map, flat_map_contains, numbers_each, numbers_within, All_from_contains}
 use Rattle.near_moves.proofs.FromLaws.{from-holds}
 use Rattle.near_moves.proofs.MomentLaws.{moments-hold, moments-each}
-use Rattle.near_moves.proofs.RouteLaws.{other_path, not_other}
+use Rattle.near_moves.proofs.RepeatLaws.{other_path, not_other}
 use Rattle.near_moves.proofs.FamilyLaws.{row_cancelled}
 use Rattle.near_moves.proofs.AimLaws.{aims-hold, aims-each, portions-hold, portions-each}
 

@@ -17,7 +17,7 @@ use Rattle.plan_moves.specs.Fits.{Fits}
 use Rattle.desk_rules.specs.Numbers.{numbers}
 use Rattle.desk_rules.specs.Rotations.{dep}
 use Rattle.desk_rules.specs.Passengers.{is_flown}
-use Rattle.desk_model.proofs.PathOrder.{pairs_nil, pairs_head, pairs_tail, pairs_append}
+use Rattle.desk_data.proofs.PathOrder.{pairs_nil, pairs_head, pairs_tail, pairs_append}
 use Rattle.near_moves.specs.MoveParts.{flier, is_movable_flown, is_restorable, family_of, is_run}
 use Rattle.near_moves.specs.Units.{MoveUnit, retimed, swapped, dropped, restored, handed}
 use Rattle.near_moves.specs.LegMoves.{retimed_units, later_of_family, swapped_units, dropped_units, restored_units, run_lengths, others_of_family, handed_units}

@@ -5,7 +5,7 @@ use Rattle.desk_units.specs.declared.numbers.Leg.{Leg}
 use Rattle.desk_units.specs.declared.numbers.Cabin.{Cabin}
 use Rattle.desk_units.specs.declared.numbers.Cabin.TheVariants.{F, B, E}
 use Rattle.desk_units.specs.Ranks.{cabin_rank}
-use Rattle.desk_data.specs.Situation.{Situation, legs_of, begun}
+use Rattle.desk_data.specs.Situation.{Situation, legs_of, begun, tally_at}
 use Rattle.desk_data.specs.Booked.{booked_path}
 use Rattle.desk_data.specs.PlanRows.{PlanRows, same_path}
 use Rattle.desk_rules.specs.Numbers.{numbers}
@@ -22,16 +22,27 @@ abbrev pub all_doubles : Situation → List (List (Leg × Cabin))
 all_doubles I = flat_map (λ a. map (λ b. a ∷ b ∷ []) (filter (λ b. cabin_rank a.1 == cabin_rank b.1) (all_pairs I))) (all_pairs I)
 
 -- what the passengers have begun: the legs of their scheduled path that are scheduled before the window
-abbrev pub stem : Situation → ℕ → List (Leg × Cabin)
-stem I r = take (begun I r) (booked_path I r)
+abbrev pub begun_path : Situation → ℕ → List (Leg × Cabin)
+begun_path I r = take (begun I r) (booked_path I r)
 
--- the scheduled path; what was begun, alone; and after that one leg, or two legs in one cabin
+-- whether some legs that passengers have flown are another stem: there is one at least, and they are not just what was begun
+abbrev pub is_other_stem : List (Leg × Cabin) → List (Leg × Cabin) → Bool
+is_other_stem first legs = is_carried legs && not (same_path first legs)
+
+-- the stems of reservation r, with which its passengers are under way: what they have begun, and then each other list of legs that some of them have flown, in the order of paths
+unfoldable pub stems : Situation → ℕ → List (List (Leg × Cabin))
+stems I r = begun_path I r ∷ filter (is_other_stem (begun_path I r)) (map (λ entry. entry.0) (tally_at I r))
+
+-- a stem alone; and after it one leg, or two legs in one cabin
+abbrev pub tried_after : Situation → List (Leg × Cabin) → List (List (Leg × Cabin))
+tried_after I stem =
+    stem
+    ∷ map (λ pair. stem ++ pair ∷ []) (all_pairs I)
+    ++ map (λ double. stem ++ double) (all_doubles I)
+
+-- the scheduled path; and then those after each stem in turn
 unfoldable pub tried_paths : Situation → ℕ → List (List (Leg × Cabin))
-tried_paths I r =
-    booked_path I r
-    ∷ stem I r
-    ∷ map (λ pair. stem I r ++ pair ∷ []) (all_pairs I)
-    ++ map (λ double. stem I r ++ double) (all_doubles I)
+tried_paths I r = booked_path I r ∷ flat_map (tried_after I) (stems I r)
 
 -- whether a path is a route: it has 1 to 8 legs, and meets C13, C14 and C15. Seats play no part
 unfoldable pub is_route : Situation → PlanRows → ℕ → List (Leg × Cabin) → Bool

@@ -17,7 +17,7 @@ use Rattle.desk_rules.specs.Numbers.{numbers}
 use Rattle.desk_rules.specs.Passengers.{all_flown, minutes_late}
 use Rattle.desk_rules.specs.Cost.{arrives, delay, delay_cost, cancellation, cancellation_cost, downgrade_on, downgrade_cost, legal, legal_cost, operating_cost, missing_aircraft, position_cost, cost}
 use Rattle.desk_model.specs.Rebook.{count_on, is_before, is_after, group_of, with_count, with_fewer, with_more, groups_after_rebook, after_rebook}
-use Rattle.desk_model.proofs.PathOrder.{by_order, path_same}
+use Rattle.desk_data.proofs.PathOrder.{by_order, path_same}
 use Rattle.desk_model.proofs.RebookLaws.{amount}
 use Rattle.desk_model.proofs.GroupPlans.{with_groups-same, with_groups-other}
 use Rattle.full_cost.specs.Counted.{group_on}

@@ -8,7 +8,7 @@ use Rattle.desk_data.specs.Situation.{Situation, legs_of, reservations_of, res_a
 use Rattle.desk_data.specs.PlanRows.{PlanRows, groups_at, with_groups, same_path}
 use Rattle.desk_data.specs.Valid.{IsPlanFor}
 use Rattle.desk_model.specs.Rebook.{count_on, with_count, with_fewer, groups_after_rebook, after_rebook}
-use Rattle.desk_model.proofs.PathOrder.{path_same, is_eq-holds}
+use Rattle.desk_data.proofs.PathOrder.{path_same, is_eq-holds}
 use Rattle.desk_model.proofs.RebookLaws.{groups_after_rebook-groups, groups_after_rebook-of, groups_after_rebook-none}
 use Rattle.desk_model.proofs.GroupPlans.{groups_at-groups, with_groups-own, after_rebook-same}
 use Rattle.plan_groups.specs.Made.{AreWhole}

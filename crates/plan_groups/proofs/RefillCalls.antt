@@ -1,22 +1,45 @@
 -- What the calls of Refill answer.
-use Rattle.std.proofs.Common.{◌≡◌, ℕ, ◌<◌, ◌≤◌, inl, inr, true, false, List, [], refl, sym, ap, ◌∙◌, arith}
-use Rattle.std.proofs.lemmas.Bool.{cases_Bool, and_from, and_left, and_right}
+use Rattle.std.proofs.Common.{◌≡◌, ℕ, ◌-◌, ◌<◌, ◌≤◌, min, inl, inr, Bool, true, false, ◌&&◌, leb, List, [], refl, sym, ap, ◌∙◌, arith}
+use Rattle.std.proofs.lemmas.Bool.{cases_Bool, and_from, and_left, and_right, leb-true, le-leb}
 use Rattle.std.proofs.lemmas.List.Elements.{All-nil}
 use Rattle.desk_units.specs.declared.numbers.Leg.{Leg}
 use Rattle.desk_units.specs.declared.numbers.Cabin.{Cabin}
 use Rattle.desk_data.specs.declared.row.Group.{Group}
-use Rattle.desk_data.specs.Situation.{Situation, legs_of, reservations_of, res_at}
+use Rattle.desk_data.specs.Situation.{Situation, legs_of, reservations_of, res_at, gone, carried_gone, tallied}
 use Rattle.desk_data.specs.PlanRows.{PlanRows, groups_at, with_groups}
 use Rattle.desk_data.specs.Valid.{IsReservation, IsPlanFor}
 use Rattle.desk_data.specs.Booked.{booked_path}
-use Rattle.desk_model.specs.Choices.{greatest_within}
+use Rattle.desk_model.specs.Choices.{IsGreatestWithin, greatest_within}
 use Rattle.desk_model.specs.Rebook.{count_on, groups_after_rebook, after_rebook}
 use Rattle.desk_model.specs.Tidy.{is_fit_path}
-use Rattle.desk_model.specs.Refill.{has_leg, has_seats_for, refill_count, is_refilled, after_refilling}
-use Rattle.desk_model.proofs.ChoiceLaws.{greatest_within-holds}
+use Rattle.desk_model.specs.Refill.{has_leg, has_seats_for, may_refill, refill_count, is_refilled, after_refilling}
+use Rattle.desk_model.proofs.ChoiceLaws.{greatest_within-holds, greatest_within-is}
 use Rattle.desk_model.proofs.GroupPlans.{with_groups-own}
+use Rattle.desk_model.proofs.RefillLaws.{fit-bound, has_leg-carried, may_refill-room}
 use Rattle.plan_groups.specs.Made.{AreWhole, going_back}
 use Rattle.plan_groups.proofs.RebookCalls.{rebook-nobody, rebook-made, rebooked-whole}
+
+-- the greatest number up to the lesser of two limits that passes a test is the greatest up to the first that passes it and is within the second
+greatest_both : (n most : ℕ) (test both : ℕ → Bool) → ((k : ℕ) → k ≤ n → both k ≡ (test k && leb k most)) → IsGreatestWithin n both (greatest_within (min n most) test)
+greatest_both n most test both is =
+    let k = greatest_within (min n most) test in
+    let found = greatest_within-holds (min n most) test in
+    let few : k ≤ n = let to = found.to in grind (arith, to) in
+    let within : k ≤ most = let to = found.to in grind (arith, to) in
+    record {
+      to = few;
+      holds = elim found.holds [
+        | inl none ↦ inl none
+        | inr passes ↦ inr (is k few ∙ and_from (test k) (leb k most) passes (le-leb k most within))
+      ];
+      greatest = λ j more le.
+          is j le ∙ elim (cases_Bool (leb j most)) [
+            | inl fits ↦
+                let lesser : j ≤ min n most = let top = leb-true j most fits in grind (arith, le, top) in
+                and_left (test j) (leb j most) (found.greatest j more lesser)
+            | inr over ↦ and_right (test j) (leb j most) over
+          ];
+    }
 
 module _ (I : Situation) (P : PlanRows) (x r : ℕ) where
   abbrev path : List (Leg × Cabin)
@@ -38,7 +61,11 @@ module _ (I : Situation) (P : PlanRows) (x r : ℕ) where
 
   count-few : refill_count I P r ≤ count_on [] (groups_at P r)
   unfolding refill_count
-  count-few = (greatest_within-holds (count_on [] (groups_at P r)) (has_seats_for I P path)).to
+  count-few = (greatest_within-holds (count_on [] (groups_at P r)) (may_refill I P r)).to
+
+  -- for how many more C15 leaves room
+  abbrev room : ℕ
+  room = tallied I r (gone I path) - carried_gone I.progress.frozen (groups_at P r) (gone I path)
 
   -- ---- how many go back
 
@@ -57,10 +84,13 @@ module _ (I : Situation) (P : PlanRows) (x r : ℕ) where
   pub going-not_fit : is_fit_path I P r path ≡ false → 0 ≡ going_back I P x r
   going-not_fit fails = sym (going-no (and_right (has_leg x path) (is_fit_path I P r path) fails))
 
-  pub going-fit : (waiting : ℕ) → waiting ≡ count_on [] (groups_at P r) → has_leg x path ≡ true → is_fit_path I P r path ≡ true → greatest_within waiting (has_seats_for I P path) ≡ going_back I P x r
+  pub going-fit : (waiting most : ℕ) → waiting ≡ count_on [] (groups_at P r) → most ≡ min waiting room → has_leg x path ≡ true → is_fit_path I P r path ≡ true → greatest_within most (has_seats_for I P path) ≡ going_back I P x r
   unfolding refill_count
-  going-fit waiting waiting_is has fit =
-      ap (λ (w : ℕ). greatest_within w (has_seats_for I P path)) waiting_is
+  going-fit waiting most waiting_is most_is has fit =
+      let all = count_on [] (groups_at P r) in
+      ap (λ (n : ℕ). greatest_within n (has_seats_for I P path)) (most_is ∙ ap (λ (n : ℕ). min n room) waiting_is)
+      ∙ sym (greatest_within-is all (may_refill I P r) (greatest_within (min all room) (has_seats_for I P path))
+      (greatest_both all room (has_seats_for I P path) (may_refill I P r) (λ n few. may_refill-room I P r n (has_leg-carried x path has) few (fit-bound I P r path fit))))
       ∙ sym (going-yes (and_from (has_leg x path) (is_fit_path I P r path) has fit))
 
   -- ---- the groups then

@@ -17,7 +17,7 @@ use Rattle.desk_data.specs.Paths.{is_carried}
 use Rattle.desk_rules.specs.Carriage.{each_carried}
 use Rattle.desk_model.specs.Rebook.{group_of}
 use Rattle.desk_model.specs.Tidy.{is_fit_path, stays_carried, groups_after_tidy, after_tidy}
-use Rattle.desk_model.proofs.PathOrder.{pairs_head}
+use Rattle.desk_data.proofs.PathOrder.{pairs_head}
 use Rattle.desk_model.proofs.RebookLaws.{amount, Ascends}
 use Rattle.desk_model.proofs.GroupPlans.{groups_at-groups}
 use Rattle.desk_model.proofs.TidyLaws.{after_tidy-at, after_tidy-valid}

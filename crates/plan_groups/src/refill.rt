@@ -1,4 +1,5 @@
-//! Refill: passengers who are not carried go back to their scheduled path, as far as it has seats.
+//! Refill: passengers who are not carried go back to their scheduled path, as far as it has seats and C15
+//! leaves room for them.
 
 ghost use Rattle.std.specs.Prelude.{◌≡◌, ◌<◌, ◌≤◌, ◌==◌, IfOk, is_none};
 ghost use Rattle.std.specs.Option.{ForSome};
@@ -19,7 +20,8 @@ use std::alloc::Global;
 
 /// The groups of a reservation once a Refill of a leg has looked at it: where its scheduled path has
 /// the leg and meets C13, C14 and C15, as many of its passengers who are not carried go to that path
-/// as all its legs have seats for. `None` where nobody goes: the reservation keeps its groups.
+/// as all its legs have seats for and C15 leaves room for. `None` where nobody goes: the reservation keeps
+/// its groups.
 ///
 /// How many passengers are aboard the path's legs is what `seats` knows of the plan. The only error is
 /// out of memory.
@@ -69,7 +71,8 @@ fn going_back<P: ReadPlan, S: KnowsAboard>(
     if waiting == 0 || !has_leg(leg, path.as_slice()) || !is_fit_path(inst, plan, res, path) {
         return 0;
     }
-    fitting(inst, plan, seats, path.as_slice(), waiting)
+    let most = waiting.min(inst.room(res, groups, path));
+    fitting(inst, plan, seats, path.as_slice(), most)
 }
 
 /// Whether a path has a leg.

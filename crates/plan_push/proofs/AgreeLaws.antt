@@ -4,7 +4,7 @@ use Rattle.std.specs.List.{All, AllPairs, Contains}
 use Rattle.std.proofs.lemmas.List.Elements.{All-contains}
 use Rattle.desk_data.specs.PlanRows.{PlanRows}
 use Rattle.desk_rules.specs.Words.{Precedes}
-use Rattle.desk_model.proofs.PathOrder.{pairs_head, pairs_tail}
+use Rattle.desk_data.proofs.PathOrder.{pairs_head, pairs_tail}
 use Rattle.desk_model.proofs.RotationOrder.{precedes-trans, precedes-itself, Contains-cases, Contains-head, Contains-tail}
 
 no_element : (x : ℕ) → Contains [] x → ⊥

@@ -1,4 +1,4 @@
--- The orders of the files of disruptions: what is ordered of a flight, an aircraft or an airport.
+-- The orders of the files of disruptions: what is ordered of a flight, an aircraft or an airport; and the moment of a batch.
 use Rattle.std.specs.Prelude.{ℕ, List, Option, Some, None, Result, Ok, bytes_eq, codes, if◌then◌else◌}
 use Rattle.file_rows.specs.declared.cause.Cause.{Cause}
 use Rattle.file_rows.specs.declared.disruptions.AltRow.{AltRow}
@@ -66,3 +66,11 @@ airport_row line fields = do
   sixth ← next_field fifth.1
   seventh ← next_field sixth.1
   airport_order line first.0 (second.0, third.0) (fourth.0, fifth.0) (sixth.0, seventh.0)
+
+-- DATE TIME: the moment at which a batch becomes known
+unfoldable pub moment_row : RowOf AltRow
+moment_row line fields = do
+  first ← next_field fields
+  second ← next_field first.1
+  at ← moment_of first.0 second.0
+  Ok (alt.At line at)

@@ -4,12 +4,12 @@ ghost use Rattle.std.specs.Prelude.{◌≡◌, ◌+◌, ◌<◌, ◌≤◌, All,
 ghost use Rattle.desk_text.specs.Rows.{Gives};
 ghost use Rattle.file_rows.specs.Facts.{IsAlt, IsFed};
 ghost use Rattle.comma_rows.specs.Records.{printed};
-ghost use Rattle.read_alt.specs.Orders.{flight_row, aircraft_row, airport_row};
+ghost use Rattle.read_alt.specs.Orders.{flight_row, aircraft_row, airport_row, moment_row};
 ghost use Rattle.read_alt.specs.Feed.{kind_of, width_of, order_of, fed_row, feed_rows};
 
 use crate::orders::{aircraft_order, airport_order, flight_order};
 use comma_rows::{Columns, CommaGrammar, read_records};
-use desk_text::{Cause, MOST_BYTES, ReadFault, RowFault, number};
+use desk_text::{Cause, MOST_BYTES, ReadFault, RowFault, moment, number};
 use file_rows::AltRow;
 use std::alloc::Global;
 
@@ -23,6 +23,7 @@ enum OrderKind {
     Aircraft,
     Airport,
     Nothing,
+    At,
 }
 
 impl OrderKind {
@@ -38,6 +39,8 @@ impl OrderKind {
             Ok(OrderKind::Airport)
         } else if word == b"none".as_slice() {
             Ok(OrderKind::Nothing)
+        } else if word == b"at".as_slice() {
+            Ok(OrderKind::At)
         } else {
             Err(Cause::Word)
         }
@@ -52,6 +55,7 @@ impl OrderKind {
             OrderKind::Aircraft => 5,
             OrderKind::Airport => 7,
             OrderKind::Nothing => 0,
+            OrderKind::At => 2,
         }
     }
 }
@@ -109,7 +113,19 @@ fn airport(line: u32, mut columns: Columns<'_>) -> Result<AltRow, Cause>
     )
 }
 
-/// The order of a kind, by the fields after its word.
+/// The moment of a batch, by its fields.
+#[tactic(auto, unfolding(crate::specs::Orders::moment_row))]
+fn batch_moment(line: u32, mut columns: Columns<'_>) -> Result<AltRow, Cause>
+    ensures exact { result ≡ moment_row line columns.entry }
+    ensures facts { IfOk result IsAlt }
+{
+    let day = columns.take()?;
+    let time = columns.take()?;
+    let at = moment(day, time)?;
+    Ok(AltRow::At { line, at })
+}
+
+/// What a record of a kind says, by the fields after its word.
 fn order(kind: OrderKind, line: u32, columns: Columns<'_>) -> Result<AltRow, Cause>
     ensures exact { result ≡ order_of kind line columns.entry }
     ensures facts { IfOk result IsAlt }
@@ -119,10 +135,11 @@ fn order(kind: OrderKind, line: u32, columns: Columns<'_>) -> Result<AltRow, Cau
         OrderKind::Aircraft => aircraft(line, columns),
         OrderKind::Airport => airport(line, columns),
         OrderKind::Nothing => Ok(AltRow::Nothing { line }),
+        OrderKind::At => batch_moment(line, columns),
     }
 }
 
-/// The batch and the order of a record whose bytes were tried.
+/// The batch of a record whose bytes were tried, and what it says.
 #[tactic(auto, unfolding(crate::specs::Feed::fed_row))]
 fn fed(line: u32, mut columns: Columns<'_>) -> Result<(u32, AltRow), Cause>
     ensures exact { result ≡ fed_row line columns.entry }
@@ -161,7 +178,7 @@ impl CommaGrammar<(u32, AltRow)> for FeedRecord {
     }
 }
 
-/// The orders of the feed, each with the number of its batch, in the order of the records; or the
+/// The rows of the feed, each with the number of its batch, in the order of the records; or the
 /// first record that is refused.
 ///
 /// The file is read as the crate `csv` reads one by its default settings, without a header row and
@@ -174,9 +191,11 @@ impl CommaGrammar<(u32, AltRow)> for FeedRecord {
 ///   `1,aircraft,P1,01/03/08,08:00,01/03/08,10:00`.
 /// - `airport`: those of alt_airports.csv, as `2,airport,AAA,01/03/08,08:00,01/03/08,10:00,0,0`.
 /// - `none`: no fields; the batch has a row, `AltRow::Nothing`, and no order by it.
+/// - `at`: the date and the time at which the batch becomes known, as `2,at,01/03/08,09:10`; the row,
+///   `AltRow::At`, is no order.
 ///
-/// Names may have spaces and commas. A file without records has no rows. The order of the batches,
-/// and how many orders there are, is not looked at.
+/// Names may have spaces and commas. A file without records has no rows. The order of the batches and of
+/// their moments, and how many orders there are, is not looked at.
 ///
 /// # Errors
 ///

@@ -3,13 +3,13 @@
 //!
 //! The first three are text files with one order a line: a flight that is late or not flown, an
 //! aircraft that is out of service, an airport with other caps. feed.csv is a comma file; a record
-//! is the number of a batch, one of the words `flight`, `aircraft`, `airport` and `none`, and the
+//! is the number of a batch, one of the words `flight`, `aircraft`, `airport`, `none` and `at`, and the
 //! fields of that kind. docs/FORMATS.md gives the fields.
 //!
 //! `read_alt_flights`, `read_alt_aircraft`, `read_alt_airports` and `read_feed` give the rows of the
 //! bytes of a whole file, in the order of its lines or records, or the first refused one with its
 //! cause. Whether the things named are known, whether an end comes after its start, and the order of
-//! the batches are for the join.
+//! the batches and of their moments are for the join.
 //!
 //! Proved: the answer is what the definition in `specs/` says of the bytes (`exact`), and the rows are
 //! within their ranges (`facts`). It depends on `desk_text` and `comma_rows`.

@@ -1,4 +1,5 @@
-//! C15: the paths on which passengers are carried begin with the legs that have begun.
+//! C15: the paths on which passengers are carried begin with the legs that have begun, and no more are carried
+//! with the legs that have left than have flown them.
 
 ghost use Rattle.std.specs.Prelude.{◌≡◌, ◌<◌};
 ghost use Rattle.desk_data.specs.PlanRows.{groups_at};

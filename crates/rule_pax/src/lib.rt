@@ -1,10 +1,11 @@
 //! The rules of passengers, C12 to C15: whether they have seats, whether the paths on which they are
-//! carried are flown and connect, arrive in time, and keep what was begun.
+//! carried are flown and connect, arrive in time, and keep to what has begun and left.
 //!
 //! `least_pax(alloc, &inst, &plan)` gives the first item that the plan breaks, by rule, then by leg and
 //! cabin or by reservation, or `None`. A file of `src/` is a rule, by its number, as `c12_seats.rt`. The
-//! passengers are counted in one walk over their groups, and each path is looked at once, so the time is
-//! linear in the legs and the groups of passengers.
+//! passengers are counted in one walk over their groups, and each path is looked at once beside the groups of
+//! its reservation, so the time is linear in the legs and the groups of passengers, and at most quadratic in
+//! the groups of one reservation.
 //!
 //! Proved: the answer is `least_pax` of desk_rules. It depends on `desk_rules` and on `plan_reads`, which
 //! knows whether a path keeps C13 and C14.

@@ -4,4 +4,4 @@ use Rattle.build_day.proofs.batches.filled.Given as goal
 
 -- the batches that the rows so far fill
 abbrev pub invariant-loop-fed : goal.invariant-loop-fed
-invariant-loop-fed l = AreFilled l.tables.files.now (take l.fed-index l.rows) l.number l.done.items l.orders.items
+invariant-loop-fed l = AreFilled l.tables.files.now (take l.fed-index l.rows) l.number l.done.items l.batch

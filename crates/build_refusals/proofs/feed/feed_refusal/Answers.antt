@@ -1,7 +1,8 @@
-use Rattle.std.proofs.Common.{◌≡◌, ℕ, leb, Some, None, take, sym, ap, ◌∙◌, arith}
+use Rattle.std.proofs.Common.{◌≡◌, ℕ, Some, None, take, sym, ap, ◌∙◌, arith}
+use Rattle.std.specs.Prelude.{unwrap_or}
 use Rattle.std.specs.List.{count_by}
 use Rattle.file_rows.specs.declared.disruptions.AltRow.{AltRow}
-use Rattle.build_tables.proofs.BatchLemmas.{number_of_next}
+use Rattle.build_tables.proofs.BatchLemmas.{number_of_next, moment_of_next}
 use Rattle.build_refusals.specs.First.{first_refusal_in}
 use Rattle.build_refusals.specs.Orders.{line_of, is_order}
 use Rattle.build_refusals.specs.Feed.{fed_cause, feed_cause}
@@ -18,7 +19,7 @@ returns-in-Some c =
     let cause = feed_cause x c.args.room rows in
     let line = λ (f : ℕ × AltRow). line_of f.1 in
     let full = no_room c.args.room (count_by (λ (f : ℕ × AltRow). is_order f.1) (take at rows)) c.loop-fed.left c.loop-fed.invariant.more in
-    let why : Some c.in-Some.cause ≡ cause at fed = c.in-Some.ensures ∙ ap (λ full. fed_cause x c.loop-fed.before full fed) full ∙ ap (λ before. fed_cause x before (leb c.args.room (count_by (λ (f : ℕ × AltRow). is_order f.1) (take at rows))) fed) c.loop-fed.invariant.last in
+    let why : Some c.in-Some.cause ≡ cause at fed = c.in-Some.ensures ∙ (λ i. fed_cause x (c.loop-fed.invariant.last i) (c.loop-fed.invariant.moment i) (full i) fed) in
     ap (λ n. Some (n, c.in-Some.cause)) c.line_of.ensures
     ∙ refused_here cause (of_row line) rows at fed c.in-Some.cause (first_refusal_in cause line rows) c.loop-fed-test.true c.fed-item.is why c.loop-fed.invariant.so_far
 
@@ -31,11 +32,12 @@ loop-fed-preserved c =
     let cause = feed_cause x c.args.room rows in
     let line = λ (f : ℕ × AltRow). line_of f.1 in
     let full = no_room c.args.room (count_by (λ (f : ℕ × AltRow). is_order f.1) (take at rows)) c.loop-fed.left c.loop-fed.invariant.more in
-    let why : None ≡ cause at fed = c.in_default.ensures ∙ ap (λ full. fed_cause x c.loop-fed.before full fed) full ∙ ap (λ before. fed_cause x before (leb c.args.room (count_by (λ (f : ℕ × AltRow). is_order f.1) (take at rows))) fed) c.loop-fed.invariant.last in
+    let why : None ≡ cause at fed = c.in_default.ensures ∙ (λ i. fed_cause x (c.loop-fed.invariant.last i) (c.loop-fed.invariant.moment i) (full i) fed) in
     record {
       so_far = refused_more cause (of_row line) rows at fed (first_refusal_in cause line rows) c.loop-fed-test.true c.fed-item.is why c.loop-fed.invariant.so_far;
       more = c.room_after_row-left.ensures ∙ room_more (λ (f : ℕ × AltRow). is_order f.1) rows c.args.room at c.loop-fed.left fed c.loop-fed-test.true c.fed-item.is c.loop-fed.invariant.more;
       last = sym (number_of_next rows at fed c.loop-fed-test.true c.fed-item.is);
+      moment = c.unwrap_or-moment.ensures ∙ (λ i. unwrap_or (c.moment.ensures i) (c.loop-fed.invariant.moment i)) ∙ sym (moment_of_next x.config.from rows at fed c.loop-fed-test.true c.fed-item.is);
     }
 
 pub returns : goal.returns

@@ -1,4 +1,4 @@
-use Rattle.std.proofs.Common.{◌≡◌, Some, length, ap, sym, ◌∙◌, arith}
+use Rattle.std.proofs.Common.{length, ap, sym, ◌∙◌, arith}
 use Rattle.std.proofs.lemmas.List.{length-map}
 use Rattle.file_rows.specs.declared.passengers.ItineraryRow.{ItineraryRow}
 use Rattle.build_tables.specs.Names.{leg_place, leg_places}

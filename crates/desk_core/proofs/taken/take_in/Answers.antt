@@ -1,5 +1,6 @@
 use Rattle.std.proofs.Common.{sym, ap, subst, ◌∙◌}
-use Rattle.desk_data.specs.Situation.{Situation, with_batch}
+use Rattle.desk_data.specs.Progress.{with_batch}
+use Rattle.desk_data.specs.Situation.{Situation}
 use Rattle.desk_data.specs.Valid.{IsPlanFor}
 use Rattle.desk_data.proofs.BatchLaws.{with_batch-plan}
 use Rattle.desk_core.proofs.TakenLaws.{batch_added, chosen_by, left_by}

@@ -1,9 +1,15 @@
-use Rattle.std.proofs.Common.{◌∙◌, arith}
+use Rattle.std.proofs.Common.{◌∙◌, sym, subst, arith}
+use Rattle.desk_data.specs.Valid.{IsBatch}
 use Rattle.turn_book.specs.Passes.{known, seen}
 use Rattle.turn_book.proofs.Prefixes.{prefix_trans}
 use Rattle.desk_pool.specs.Workers.{day_of}
 use Rattle.desk_search.proofs.Taking.{takes_more, takes_on, by_full, by_taken}
 use Rattle.desk_search.proofs.batches.take_batches.Goals as goal
+
+-- each batch of the list can be taken
+pub take_batch-requires-clause-asked : goal.take_batch-requires-clause-asked
+take_batch-requires-clause-asked g c =
+    subst (IsBatch (day_of c.args.turn.now).parts) (sym c.batch-item.is) (c.requires.asked c.loop-batch.batch-index c.batch-item.result c.loop-batch-test.true)
 
 pub returns-in-Full-clause-taken : goal.returns-in-Full-clause-taken
 returns-in-Full-clause-taken g c =

@@ -2,6 +2,7 @@ use Rattle.std.proofs.Common.{List, ℕ, false, length, refl, sym, ap, ◌∙◌
 use Rattle.std.specs.Prelude.{take, vec_len}
 use Rattle.turn_book.specs.Passes.{known, seen}
 use Rattle.day_orders.specs.declared.orders.Batch.{Batch}
+use Rattle.desk_data.specs.Valid.{IsBatch}
 use Rattle.desk_pool.specs.Workers.{day_of, CanAllSearch}
 use Rattle.desk_pool.proofs.Gaining.{returned_none, returned_on}
 use Rattle.desk_pool.specs.Voted.{IsVoteOf}
@@ -23,6 +24,11 @@ loop-batch-init g c = record {
   stopped = inl (ap length c.requires.start.0);
   voted = refl;
 }
+
+-- each batch of the list can be taken
+pub take_batch-requires-clause-asked : goal.take_batch-requires-clause-asked
+take_batch-requires-clause-asked g c =
+    subst (IsBatch (day_of c.args.turn.now).parts) (sym c.batch-item.is) (c.requires.asked c.loop-batch.batch-index c.batch-item.result c.loop-batch-test.true)
 
 pub returns-in-Full : goal.returns-in-Full
 returns-in-Full g c =

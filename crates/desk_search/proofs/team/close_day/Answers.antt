@@ -3,10 +3,9 @@ use Rattle.std.specs.Prelude.{Option}
 use Rattle.turn_book.specs.Histories.{items_at}
 use Rattle.turn_book.specs.Passes.{first_book, known, seen, made}
 use Rattle.desk_model.specs.declared.answer.Entry.{Entry}
-use Rattle.desk_teams.specs.declared.report.Vote.{Vote}
 use Rattle.desk_pool.specs.Workers.{day_of}
 use Rattle.near_moves.specs.declared.ended.SearchEnd.{SearchEnd}
-use Rattle.desk_search.specs.Closing.{IsTeamBook, end_of}
+use Rattle.desk_search.specs.Closing.{IsTeamBook}
 use Rattle.desk_search.specs.Running.{IsTeamRun}
 use Rattle.desk_search.proofs.Closing.{closed_full, closed_book, ended_so}
 use Rattle.desk_search.proofs.team.close_day.Goals as goal

@@ -1,4 +1,4 @@
-use Rattle.std.proofs.Common.{◌≡◌, true, not, None, ap, sym, ◌∙◌}
+use Rattle.std.proofs.Common.{◌≡◌, not, None, ap, sym, ◌∙◌}
 use Rattle.std.specs.Map.{lookup}
 use Rattle.std.proofs.lemmas.Bool.{and_parts}
 use Rattle.build_tables.specs.Keys.{is_key}

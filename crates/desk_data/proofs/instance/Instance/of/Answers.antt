@@ -1,15 +1,8 @@
-use Rattle.std.proofs.Common.{refl}
-use Rattle.std.proofs.lemmas.List.Elements.{All-nil}
-use Rattle.desk_data.specs.Valid.{IsOrder}
-use Rattle.desk_data.proofs.KeepsLemmas.{keeps_nothing}
+use Rattle.std.specs.Arc.{arc_value}
+use Rattle.desk_data.proofs.WholeLemmas.{whole_fresh}
 use Rattle.desk_data.proofs.instance.Instance.of.Goals as goal
 
 pub invariant_of-result : goal.invariant_of-result
 invariant_of-result c =
-    rw (c.new-orders.ensures.items, c.in_ok-kept.ensures, c.in_ok-parts.ensures.ok)
-    (record {
-      valid = record { parts = c.requires; orders = All-nil (IsOrder c.args.parts); progress = refl };
-      keeps = keeps_nothing c.args.parts;
-      priced = rw c.in_ok-prices.ensures.ok c.in_ok-of.ensures;
-      booked = rw c.in_ok-bookings.ensures.ok c.in_ok-bookings_of.ensures;
-    })
+    rw (c.in_ok-parts.ensures.ok, c.in_ok-news.ensures.ok, c.in_ok-left.ensures.ok)
+    (whole_fresh c.args.parts c.in_ok-of-2.field-0 c.in_ok-of-3.field-0 (arc_value c.in_ok-prices.prices) (arc_value c.in_ok-bookings.bookings) c.requires c.in_ok-of-2.ensures.orders c.in_ok-of-2.ensures.kept c.in_ok-of-3.ensures.progress c.in_ok-of-3.ensures.kept (rw c.in_ok-prices.ensures.ok c.in_ok-of.ensures) (rw c.in_ok-bookings.ensures.ok c.in_ok-bookings_of.ensures))
