@@ -7,8 +7,10 @@ With --second the cases are played by the package bench/judge.
 
 Prints each transcript as it comes, and ends with 1 where one is not as it stands in the case. A run
 whose calls are to fail, whose sink has little room, or in which somebody waits at the gate, can't be made so: it is left out, with
-its answer. So are all runs of a case that keeps a journal on a disk, whose bytes one run hands to the next.
+its answer. So are all runs of a case that keeps a journal on a disk, whose bytes one run hands to the next. A run whose calls are to give
+and take few bytes is made as any other.
 """
+import itertools
 import os
 import re
 import shutil
@@ -78,7 +80,7 @@ def change(day, before, words):
         write(path, read(path) + b"".join(rows))
     elif verb == "take":
         write(path, before.get(name, b""))
-    elif verb != "sizes":
+    elif verb not in ("cut", "sizes", "repeats"):
         sys.exit("no command: " + words)
 
 
@@ -97,11 +99,20 @@ def directories_of(words):
     return tuple(dirs) if len(dirs) == 2 else ("", "")
 
 
-def file_told(name, text, sizes):
+def repeated(text):
+    """A text of which lines one after another that are the same stand once, after how many times they come."""
+    told = b""
+    for line, same in itertools.groupby(text.splitlines(keepends=True)):
+        times = len(list(same))
+        told += b"%d times %s" % (times, line) if times > 1 else line
+    return told
+
+
+def file_told(name, text, changes):
     """A file that a run wrote: its text, or how many bytes it has."""
-    if sizes:
+    if "sizes" in changes:
         return b"%s: %d bytes\n" % (name.encode(), len(text))
-    return name.encode() + b":\n" + shown(text)
+    return name.encode() + b":\n" + shown(repeated(text) if "repeats" in changes else text)
 
 
 def run_desk(words, day):
@@ -110,7 +121,7 @@ def run_desk(words, day):
     return done.returncode, done.stdout
 
 
-def played(run, day, words, sizes):
+def played(run, day, words, changes):
     """What a run gives, and what it wrote. A check finds the files of the solution in its output directory."""
     words = ["" if word == "''" else word for word in words.split()]
     given, out = directories_of(words)
@@ -127,7 +138,7 @@ def played(run, day, words, sizes):
     written = {name: texts[name] for name in FILES if texts[name] and texts[name] != stood[name]}
     told = b"status %d\n" % status + shown(report)
     for name, text in written.items():
-        told += file_told(name, text, sizes)
+        told += file_told(name, text, changes)
     return told, written
 
 
@@ -137,6 +148,31 @@ def given_below(lines, at):
     while end < len(lines) and lines[end] and not lines[end].startswith(("#", "$ ")):
         end += 1
     return "".join(line + "\n" for line in lines[at:end]).encode()
+
+
+def ready_day(case, folder, before, changes):
+    """A folder in which the next run is made."""
+    day = new_day(case, folder)
+    for words in changes:
+        change(day, before, words)
+    return day
+
+
+def fronts_told(run, day, words):
+    """What runs give with each beginning of a file in its place, once for those one after another that give the same."""
+    name, _, words = words.partition(" ")
+    text = read(os.path.join(day, "in", name))
+    given = []
+    for size in range(len(text) + 1):
+        with tempfile.TemporaryDirectory() as folder:
+            copy = shutil.copytree(day, os.path.join(folder, "day"))
+            write(os.path.join(copy, "in", name), text[:size])
+            given.append(played(run, copy, words, [])[0])
+    told, end = b"", 0
+    for front, same in itertools.groupby(given):
+        start, end = end, end + len(list(same))
+        told += (b"%d bytes:\n" % start if end == start + 1 else b"%d to %d bytes:\n" % (start, end - 1)) + front
+    return told
 
 
 def texts_given(told):
@@ -162,15 +198,16 @@ def play(case, folder, run):
         if line.startswith("$ ./desk"):
             by_hand = not on_disk and not any(words.startswith(("fail ", "room ", "hold ")) for words in changes)
             if by_hand:
-                day = new_day(case, folder)
-                for words in changes:
-                    change(day, before, words)
-                told, before = played(run, day, line[len("$ ./desk"):], "sizes" in changes)
+                day = ready_day(case, folder, before, changes)
+                told, before = played(run, day, line[len("$ ./desk"):], changes)
             else:
                 told = given_below(lines, at + 1)
                 before = texts_given(told)
             text += told
             changes = []
+        elif line.startswith("$ fronts "):
+            text += fronts_told(run, ready_day(case, folder, before, changes), line[len("$ fronts "):])
+            before, changes = {}, []
         elif line.startswith("$ "):
             changes.append(line[2:])
     return text

@@ -12,11 +12,25 @@ pub(crate) enum Call {
     Report,
 }
 
-/// What a command does. All but `Desk` are about the next run alone.
+/// How a transcript gives the files that a run writes.
+#[derive(Clone, Copy)]
+pub(crate) enum Shown {
+    /// by their texts
+    Texts,
+    /// `sizes`: by how many bytes each has
+    Sizes,
+    /// `repeats`: by their texts, but of lines one after another that are the same there is one, after how many times it comes
+    Repeats,
+}
+
+/// What a command does. All but `Desk` and `Fronts` are about the next run alone.
 #[derive(Clone, Copy)]
 pub(crate) enum Command<'a> {
     /// `./desk WORD ..`: runs the desk; `''` is a word of no bytes
     Desk(&'a str),
+    /// `fronts FILE WORD ..`: runs the desk with each beginning of the file in its place, from no bytes on to all, and gives once
+    /// what several of them gave, one after another. Of what is about the next run only texts are about all of these.
+    Fronts(File, &'a str),
     /// `text FILE TEXT`: the file has this text, in which `\n`, `\r`, `\t`, `\\` and `\xNN` are one byte each
     Text(File, &'a str),
     /// `rows FILE FROM TO TEXT`: the file has this text after its own for each number from FROM to TO,
@@ -38,8 +52,10 @@ pub(crate) enum Command<'a> {
     /// `hold WORKER ROUND OTHER ROUND`: who enters the gate as WORKER in that round waits there until OTHER has entered it in
     /// the other one; the desk enters as worker 0 before each live batch, with its number
     Hold(Entrance, Entrance),
-    /// `sizes`: of each file that the run writes its number of bytes is given, and not its text
-    Sizes,
+    /// `cut BYTES`: each call of the folder gives and takes at most so many bytes, at least 1
+    Cut(u32),
+    /// `sizes` and `repeats`: how the files that the run writes are given
+    Show(Shown),
 }
 
 /// A line of a transcript.
@@ -100,6 +116,14 @@ fn fail_of(words: &str) -> Option<Command<'_>> {
     Some(Command::Fail(call_of(name)?, number))
 }
 
+fn cut_of(words: &str) -> Option<Command<'_>> {
+    let bytes = words.parse().ok()?;
+    if bytes == 0 {
+        return None;
+    }
+    Some(Command::Cut(bytes))
+}
+
 fn hold_of(words: &str) -> Option<Command<'_>> {
     let (worker, rest) = cut_word(words);
     let (round, rest) = cut_word(rest);
@@ -113,10 +137,16 @@ fn text_of(words: &str) -> Option<Command<'_>> {
     Some(Command::Text(file_of(name)?, text))
 }
 
+fn fronts_of(words: &str) -> Option<Command<'_>> {
+    let (name, words) = cut_word(words);
+    Some(Command::Fronts(file_of(name)?, words))
+}
+
 fn command_of(words: &str) -> Option<Command<'_>> {
     let (verb, rest) = cut_word(words);
     match verb {
         "./desk" => Some(Command::Desk(rest)),
+        "fronts" => fronts_of(rest),
         "text" => text_of(rest),
         "disk" => Some(Command::Disk(rest)),
         "rows" => rows_of(rest),
@@ -124,7 +154,9 @@ fn command_of(words: &str) -> Option<Command<'_>> {
         "fail" => fail_of(rest),
         "room" => Some(Command::Room(rest.parse().ok()?)),
         "hold" => hold_of(rest),
-        "sizes" => Some(Command::Sizes),
+        "cut" => cut_of(rest),
+        "sizes" => Some(Command::Show(Shown::Sizes)),
+        "repeats" => Some(Command::Show(Shown::Repeats)),
         _ => None,
     }
 }

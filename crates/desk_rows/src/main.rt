@@ -14,6 +14,7 @@ mod lines;
 mod play;
 mod sink;
 mod texts;
+mod told;
 
 use cases::{case_names, play_case};
 use std::io;

@@ -1,9 +1,10 @@
 //! Plays a transcript: runs the desk as its commands say, and puts what each run gave after them.
 
 use crate::gate::{Entrance, HoldingGate};
-use crate::lines::{Call, Command, Line, line_of, unescaped};
+use crate::lines::{Call, Command, Line, Shown, line_of, unescaped};
 use crate::sink::ReportSink;
 use crate::texts::{Texts, add_all, push_rows, text_of, written_texts};
+use crate::told::{push_bytes, push_file, push_front, push_text};
 use desk_disk::MemDisk;
 use desk_folder::{ALL_FILES, File, MemFolder};
 use desk_top::desk_main;
@@ -11,9 +12,11 @@ use std::alloc::{AllocError, Global};
 use std::sync::Wait;
 use std::thread::Threads;
 
-// The calls of the next run that are to fail, and the bytes that its sink takes.
+// The calls of the next run that are to fail, the bytes that its sink takes, and the most that a call of its folder gives and takes,
+// where that is above 0.
 struct Faults {
     place: bool,
+    cut: u32,
     next: Vec<u64>,
     put: Vec<u64>,
     report: Vec<u64>,
@@ -27,6 +30,7 @@ impl Drop for Faults {
     fn drop(self) {
         let Faults {
             place: _,
+            cut: _,
             next: _,
             put: _,
             report: _,
@@ -51,6 +55,7 @@ impl Faults {
     {
         let Faults {
             place,
+            cut,
             next,
             put,
             report,
@@ -61,6 +66,9 @@ impl Faults {
         let mut folder = MemFolder::new(inputs, next, put);
         if place {
             folder.fail_place();
+        }
+        if cut > 0 {
+            folder.cut(cut);
         }
         let sink = ReportSink {
             bytes: Vec::new(alloc),
@@ -78,6 +86,7 @@ impl Faults {
 fn no_faults(alloc: Global) -> Faults {
     Faults {
         place: false,
+        cut: 0,
         next: Vec::new(alloc),
         put: Vec::new(alloc),
         report: Vec::new(alloc),
@@ -97,8 +106,8 @@ struct Player {
     faults: Faults,
     /// who waits at the gate of the next run, and for whom
     holds: Vec<(Entrance, Entrance)>,
-    /// whether of each file that the next run writes its number of bytes is given, and not its text
-    sizes: bool,
+    /// how the files that the next run writes are given
+    shown: Shown,
     /// what the run before wrote
     written: Texts,
     /// the bytes of the file on the disk, which each run goes on with
@@ -116,7 +125,7 @@ impl Drop for Player {
             changed: _,
             faults: _,
             holds: _,
-            sizes: _,
+            shown: _,
             written: _,
             stored: _,
             runs: _,
@@ -138,7 +147,7 @@ pub(crate) fn play<R: Threads + Wait + Sync>(
         changed: Vec::new(alloc),
         faults: no_faults(alloc),
         holds: Vec::new(alloc),
-        sizes: false,
+        shown: Shown::Texts,
         written: Vec::new(alloc),
         stored: Vec::new(alloc),
         runs: 0,
@@ -151,16 +160,6 @@ pub(crate) fn play<R: Threads + Wait + Sync>(
         player.push("nothing was run\n")?;
     }
     Ok(player.end())
-}
-
-// A hexadecimal digit.
-fn digit(number: u8) -> u8 {
-    let number = number.min(15);
-    if number < 10 {
-        b'0' + number
-    } else {
-        b'a' + (number - 10)
-    }
 }
 
 // The words of a run; `''` is one of no bytes.
@@ -182,7 +181,7 @@ impl Player {
             changed: _,
             faults: _,
             holds: _,
-            sizes: _,
+            shown: _,
             written: _,
             stored: _,
             runs: _,
@@ -193,15 +192,6 @@ impl Player {
 
     fn push(&mut self, text: &str) -> Result<(), AllocError> {
         self.played.extend_from_slice(text.as_bytes())
-    }
-
-    // Adds a text of whole lines; a backslash says that the last one has no end.
-    fn push_text(&mut self, text: &[u8]) -> Result<(), AllocError> {
-        self.played.extend_from_slice(text)?;
-        match text.last() {
-            None | Some(b'\n') => Ok(()),
-            Some(_) => self.push("\\\n"),
-        }
     }
 
     fn play_line<R: Threads + Wait + Sync>(
@@ -229,6 +219,7 @@ impl Player {
     ) -> Result<(), AllocError> {
         match command {
             Command::Desk(words) => self.run(threads, words),
+            Command::Fronts(file, words) => self.run_fronts(threads, file, words),
             Command::Text(file, text) => {
                 let text = unescaped(self.alloc, text)?;
                 self.change(file, text)
@@ -265,8 +256,12 @@ impl Player {
                 self.holds.push((held, other))?;
                 Ok(())
             }
-            Command::Sizes => {
-                self.sizes = true;
+            Command::Cut(bytes) => {
+                self.faults.cut = bytes;
+                Ok(())
+            }
+            Command::Show(shown) => {
+                self.shown = shown;
                 Ok(())
             }
         }
@@ -327,47 +322,71 @@ impl Player {
         self.keep_disk(disk.bytes())
     }
 
+    // Runs the desk with a text of one file in the place of the one that these files or the day have, and answers what it gave.
+    fn given_by<R: Threads + Wait + Sync>(
+        &mut self,
+        threads: &R,
+        words: &str,
+        file: File,
+        text: &[u8],
+        others: &[(File, Vec<u8>)],
+    ) -> Result<Vec<u8>, AllocError> {
+        let alloc = self.alloc;
+        let before = std::mem::replace(&mut self.played, Vec::new(alloc));
+        self.change(file, Vec::from_slice(alloc, text)?)?;
+        add_all(&mut self.changed, others)?;
+        self.run(threads, words)?;
+        Ok(std::mem::replace(&mut self.played, before))
+    }
+
+    // Runs the desk with each beginning of a file, and adds what they gave, once for those one after another that gave the same.
+    fn run_fronts<R: Threads + Wait + Sync>(
+        &mut self,
+        threads: &R,
+        file: File,
+        words: &str,
+    ) -> Result<(), AllocError> {
+        let alloc = self.alloc;
+        let text = self.text_now(file)?;
+        let others = std::mem::replace(&mut self.changed, Vec::new(alloc));
+        let mut from = 0;
+        let mut last = Vec::new(alloc);
+        for size in 0..=text.len() {
+            let (front, _) = text.split_at(size.min(text.len()));
+            let given = self.given_by(threads, words, file, front, others.as_slice())?;
+            if given.as_slice() != last.as_slice() {
+                push_front(&mut self.played, from, size, last.as_slice())?;
+                from = size;
+                last = given;
+            }
+        }
+        let after = text.len().saturating_add(1);
+        push_front(&mut self.played, from, after, last.as_slice())
+    }
+
     // Adds what a run gave, and keeps what it wrote.
     fn tell(&mut self, status: u8, report: &[u8], folder: &MemFolder) -> Result<(), AllocError> {
         let ended = format!(in self.alloc; "status {status}\n")?;
         self.push(ended.as_str())?;
-        self.push_text(report)?;
+        push_text(&mut self.played, report)?;
         for file in ALL_FILES {
             let text = folder.written(file);
             if !text.is_empty() {
-                self.push_file(file, text)?;
+                push_file(&mut self.played, file, text, self.shown)?;
             }
         }
-        self.sizes = false;
+        self.shown = Shown::Texts;
         self.written = written_texts(self.alloc, folder, &ALL_FILES)?;
         Ok(())
     }
 
-    // Adds the bytes of the file on the disk in hexadecimal, where it has any, and keeps them.
+    // Adds the bytes of the file on the disk, where it has any, and keeps them.
     fn keep_disk(&mut self, bytes: &[u8]) -> Result<(), AllocError> {
         if bytes.is_empty() {
             return Ok(());
         }
-        self.push("journal.bin:")?;
-        for byte in bytes {
-            self.played.push(b' ')?;
-            self.played.push(digit(*byte / 16))?;
-            self.played.push(digit(*byte % 16))?;
-        }
-        self.push("\n")?;
+        push_bytes(&mut self.played, bytes)?;
         self.stored = Vec::from_slice(self.alloc, bytes)?;
         Ok(())
-    }
-
-    // Adds a file that was written: its name, and its text or how many bytes that has.
-    fn push_file(&mut self, file: File, text: &[u8]) -> Result<(), AllocError> {
-        self.push(file.name())?;
-        if self.sizes {
-            let bytes = text.len();
-            let size = format!(in self.alloc; ": {bytes} bytes\n")?;
-            return self.push(size.as_str());
-        }
-        self.push(":\n")?;
-        self.push_text(text)
     }
 }

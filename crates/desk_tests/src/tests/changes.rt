@@ -23,14 +23,14 @@ const CHANGES: u32 = 1_000_000;
 const LEGS: u32 = 960;
 
 /// The first item that a plan breaks, and what it costs.
-type Said = (Option<Broken>, Grains);
+pub(super) type Said = (Option<Broken>, Grains);
 
-fn said(eval: &Evaluator) -> Said {
+pub(super) fn said(eval: &Evaluator) -> Said {
     (eval.least_broken(), eval.cost())
 }
 
 /// What the rules and the prices say of the plan from scratch.
-fn said_anew(alloc: Global, eval: &Evaluator) -> Result<Said, NoMem> {
+pub(super) fn said_anew(alloc: Global, eval: &Evaluator) -> Result<Said, NoMem> {
     let inst = eval.instance();
     let plan = eval.plan().to_plan(alloc)?;
     Ok((full_check(alloc, inst, &plan)?, full_cost(inst, &plan)))

@@ -58,7 +58,7 @@ const DAY: [(File, &str); 16] = [
 ];
 
 /// The words of a run, a file that is changed, its text, and the status of that run.
-const RUNS: [(&str, File, &str, u8); 12] = [
+const RUNS: [(&str, File, &str, u8); 14] = [
     (
         "replay in out",
         File::Config,
@@ -75,7 +75,19 @@ const RUNS: [(&str, File, &str, u8); 12] = [
     ("replay in out", File::Dist, "AAA BBB 60 X\n", 3),
     ("replay in out", File::Tariff, "position,1\nposition,2\n", 3),
     ("replay in out", File::Feed, "2,none\n", 3),
+    (
+        "replay in out",
+        File::Feed,
+        "1,at,01/03/08,09:30\n1,flight,F2,01/03/08,-1\n",
+        0,
+    ),
     ("check in out", File::Journal, "", 0),
+    (
+        "check in out",
+        File::Feed,
+        "1,at,01/03/08,09:30\n1,flight,F2,01/03/08,-1\n",
+        0,
+    ),
     (
         "check in out",
         File::AltAircraft,

@@ -46,7 +46,7 @@ const MORNING: Texts<'static> = &[
 ];
 
 /// Has a day take a batch without orders, which tells this moment or none, while the schedule stands.
-fn go_on(alloc: Global, inst: &mut Instance, at: Option<Minute>) -> Result<(), Fail> {
+pub(super) fn go_on(alloc: Global, inst: &mut Instance, at: Option<Minute>) -> Result<(), Fail> {
     let batch = Batch {
         at,
         orders: List(Vec::new(alloc)),

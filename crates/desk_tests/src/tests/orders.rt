@@ -40,7 +40,7 @@ fn batch_of(alloc: Global, orders: &[Order]) -> Result<Batch, NoMem> {
 }
 
 /// Has a day take a batch of these orders.
-fn add_orders(alloc: Global, inst: &mut Instance, orders: &[Order]) -> Result<(), Fail> {
+pub(super) fn add_orders(alloc: Global, inst: &mut Instance, orders: &[Order]) -> Result<(), Fail> {
     let batch = batch_of(alloc, orders)?;
     if !can_add(inst, &batch) {
         return Err(Fail::new("an order is out of range"));
@@ -58,14 +58,14 @@ fn disrupted(alloc: Global, orders: &[Order]) -> Result<Instance, Fail> {
 }
 
 /// A leg departs that many minutes late, or is off.
-fn late(leg: u32, delay: Option<u32>) -> Order {
+pub(super) fn late(leg: u32, delay: Option<u32>) -> Order {
     Order::Flight {
         leg: Leg(leg),
         delay,
     }
 }
 
-fn out_of_service(plane: u32, from: u32, to: u32) -> Order {
+pub(super) fn out_of_service(plane: u32, from: u32, to: u32) -> Order {
     Order::Aircraft {
         plane: Plane(plane),
         from: Minute(from),
@@ -73,7 +73,7 @@ fn out_of_service(plane: u32, from: u32, to: u32) -> Order {
     }
 }
 
-fn closure(airport: u32, from: u32, to: u32, deps: u32) -> Order {
+pub(super) fn closure(airport: u32, from: u32, to: u32, deps: u32) -> Order {
     Order::Field {
         airport: Airport(airport),
         from: Minute(from),
