@@ -78,7 +78,7 @@ def change(day, before, words):
         write(path, read(path) + b"".join(rows))
     elif verb == "take":
         write(path, before.get(name, b""))
-    elif verb != "sizes":
+    elif verb not in ("sizes", "last"):
         sys.exit("no command: " + words)
 
 
@@ -90,7 +90,7 @@ def directories_of(words):
             dirs += rest
         elif not word.startswith("-"):
             dirs.append(word)
-        elif "=" not in word and word != "--live":
+        elif "=" not in word and word not in ("--live", "--watch"):
             next(rest, None)  # the number of the option
     if words[:1] == ["gen"]:
         return "", dirs[0] if len(dirs) == 1 else ""

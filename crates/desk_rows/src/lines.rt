@@ -40,6 +40,8 @@ pub(crate) enum Command<'a> {
     Hold(Entrance, Entrance),
     /// `sizes`: of each file that the run writes its number of bytes is given, and not its text
     Sizes,
+    /// `last`: of the views that were seen the last one is given alone; which stand before it depends on when the viewer looked
+    Last,
 }
 
 /// A line of a transcript.
@@ -125,6 +127,7 @@ fn command_of(words: &str) -> Option<Command<'_>> {
         "room" => Some(Command::Room(rest.parse().ok()?)),
         "hold" => hold_of(rest),
         "sizes" => Some(Command::Sizes),
+        "last" => Some(Command::Last),
         _ => None,
     }
 }

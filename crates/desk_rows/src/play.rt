@@ -3,7 +3,7 @@
 use crate::gate::{Entrance, HoldingGate};
 use crate::lines::{Call, Command, Line, line_of, unescaped};
 use crate::sink::ReportSink;
-use crate::texts::{Texts, add_all, push_rows, text_of, written_texts};
+use crate::texts::{Texts, add_all, last_seen, push_rows, text_of, written_texts};
 use desk_disk::MemDisk;
 use desk_folder::{ALL_FILES, File, MemFolder};
 use desk_top::desk_main;
@@ -99,6 +99,8 @@ struct Player {
     holds: Vec<(Entrance, Entrance)>,
     /// whether of each file that the next run writes its number of bytes is given, and not its text
     sizes: bool,
+    /// whether of the views that the next run reports the last one is given alone
+    last: bool,
     /// what the run before wrote
     written: Texts,
     /// the bytes of the file on the disk, which each run goes on with
@@ -117,6 +119,7 @@ impl Drop for Player {
             faults: _,
             holds: _,
             sizes: _,
+            last: _,
             written: _,
             stored: _,
             runs: _,
@@ -139,6 +142,7 @@ pub(crate) fn play<R: Threads + Wait + Sync>(
         faults: no_faults(alloc),
         holds: Vec::new(alloc),
         sizes: false,
+        last: false,
         written: Vec::new(alloc),
         stored: Vec::new(alloc),
         runs: 0,
@@ -183,6 +187,7 @@ impl Player {
             faults: _,
             holds: _,
             sizes: _,
+            last: _,
             written: _,
             stored: _,
             runs: _,
@@ -269,6 +274,10 @@ impl Player {
                 self.sizes = true;
                 Ok(())
             }
+            Command::Last => {
+                self.last = true;
+                Ok(())
+            }
         }
     }
 
@@ -331,7 +340,12 @@ impl Player {
     fn tell(&mut self, status: u8, report: &[u8], folder: &MemFolder) -> Result<(), AllocError> {
         let ended = format!(in self.alloc; "status {status}\n")?;
         self.push(ended.as_str())?;
-        self.push_text(report)?;
+        if self.last {
+            let report = last_seen(self.alloc, report)?;
+            self.push_text(report.as_slice())?;
+        } else {
+            self.push_text(report)?;
+        }
         for file in ALL_FILES {
             let text = folder.written(file);
             if !text.is_empty() {
@@ -339,6 +353,7 @@ impl Player {
             }
         }
         self.sizes = false;
+        self.last = false;
         self.written = written_texts(self.alloc, folder, &ALL_FILES)?;
         Ok(())
     }
