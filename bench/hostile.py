@@ -16,6 +16,7 @@ import argparse
 import contextlib
 import os
 import resource
+import shutil
 import socket
 import subprocess
 import sys
@@ -24,7 +25,7 @@ import time
 from typing import NamedTuple
 
 import hostile_inputs
-from hostile_room import NOBODY, SAMPLE, TOP, WRITTEN, Room, disk_left, files_of, left_in, printed, row_of, run
+from hostile_room import NOBODY, SAMPLE, TOP, WRITTEN, Room, disk_left, entries_left, files_of, left_in, printed, row_of, run
 from judge import expected
 from judge.files import DAY_FILES
 
@@ -33,23 +34,25 @@ REPLAY, STORE = ("replay", "in", "out"), ("store", "in", "out")
 
 
 class Case(NamedTuple):
-    """A case: its group and title, what makes it, the statuses that it may have, how its report may begin, and its words."""
+    """A case: its group and title, what makes it, the statuses that it may have, how its report may begin, its words, and what
+    journal.bin has then, where that is known."""
     group: str
     title: str
     setup: object
     statuses: tuple
     said: bytes
     words: tuple
+    disk: str
 
 
 CASES = []
 
 
-def case(group, title, statuses, said=b"", words=REPLAY):
+def case(group, title, statuses, said=b"", words=REPLAY, disk=""):
     """Adds a case that a function sets up in a room. It may give more of how the desk is run (`how`), by name."""
 
     def add(setup):
-        CASES.append(Case(group, title, setup, statuses if isinstance(statuses, tuple) else (statuses,), said, words))
+        CASES.append(Case(group, title, setup, statuses if isinstance(statuses, tuple) else (statuses,), said, words, disk))
         return setup
 
     return add
@@ -65,9 +68,26 @@ def try_case(program, asked):
             may_be_any = how.pop("any", False)
             given = run(program, asked.words, path, **how)
             left = "what the search found" if may_be_any else left_in(room, new)
-            left += disk_left(room) if asked.words[0] == "store" else ""
-    good = given.status in asked.statuses and given.said.startswith(asked.said) and "OTHER" not in left
+            good = True
+            if asked.words[0] == "store":
+                left += "; journal.bin: " + disk_left(room)
+                good = disk_left(room) == (asked.disk or disk_left(room)) and (given.status not in (DISK, WRITE) or goes_on(program, room, path))
+    good = good and given.status in asked.statuses and given.said.startswith(asked.said) and "OTHER" not in left
     return row_of(asked.title, asked.words, given, left), good
+
+
+def goes_on(program, room, path):
+    """Whether the next run goes on, in another folder, from the journal.bin that a run left with answered events: it opens all of
+    them, comes to its end, and keeps them."""
+    if not os.path.isfile(room.of("out", "journal.bin")):
+        return True
+    kept = entries_left(room)
+    if kept is None:
+        return False
+    shutil.copytree(room.of("out"), room.of("again"), ignore=lambda *_: WRITTEN)
+    given = run(program, ("store", "in", "again"), path)
+    now = entries_left(room, "again") or []
+    return given.status == 0 and given.said.startswith(b"opened %d\n" % len(kept)) and now[:len(kept)] == kept
 
 
 # Inputs
@@ -345,28 +365,28 @@ def _(_):
     pass
 
 
-@case("journal", "journal.bin is a folder", DISK, b"disk fault\n", STORE)
+@case("journal", "journal.bin is a folder", DISK, b"disk fault\n", STORE, "no file")
 def _(room):
     os.mkdir(room.of("out", "journal.bin"))
 
 
-@case("journal", "journal.bin leads to itself", DISK, b"disk fault\n", STORE)
+@case("journal", "journal.bin leads to itself", DISK, b"disk fault\n", STORE, "no file")
 def _(room):
     room.link("out", "journal.bin", "journal.bin")
 
 
-@case("journal", "OUT is a file", DISK, b"disk fault\n", ("store", "in", "in/config.csv"))
+@case("journal", "OUT is a file", DISK, b"disk fault\n", ("store", "in", "in/config.csv"), "none")
 def _(_):
     pass
 
 
-@case("journal", "journal.bin is a pipe", DISK, b"disk fault\n", STORE)
+@case("journal", "journal.bin is a pipe", DISK, b"disk fault\n", STORE, "no file")
 def _(room):
     os.mkfifo(room.of("out", "journal.bin"))
 
 
 def no_disk(device):
-    @case("journal", "journal.bin leads to %s" % device, DISK, b"disk fault\n", STORE)
+    @case("journal", "journal.bin leads to %s" % device, DISK, b"disk fault\n", STORE, "no file")
     def _(room):
         room.link("out", "journal.bin", device)
 
@@ -375,32 +395,32 @@ for each in ("/dev/full", "/dev/null", "/dev/zero", "/dev/urandom"):
     no_disk(each)
 
 
-@case("journal", "journal.bin may not be written", DISK, b"disk fault\n", STORE)
+@case("journal", "journal.bin may not be written", DISK, b"disk fault\n", STORE, "0 entries")
 def _(room):
     room.put("out", "journal.bin", b"\0")
     room.out_of_nobody()
     return {"user": NOBODY}
 
 
-@case("journal", "OUT may not be written, and has no journal.bin", DISK, b"disk fault\n", STORE)
+@case("journal", "OUT may not be written, and has no journal.bin", DISK, b"disk fault\n", STORE, "none")
 def _(room):
     for name in WRITTEN:
         room.take("out", name)
     return {"user": NOBODY}
 
 
-def bytes_on_disk(title, text, statuses, said):
-    @case("journal", "journal.bin has %s" % title, statuses, said, STORE)
+def bytes_on_disk(title, text, statuses, said, disk):
+    @case("journal", "journal.bin has %s" % title, statuses, said, STORE, disk)
     def _(room):
         room.put("out", "journal.bin", text)
 
 
-bytes_on_disk("a byte 0 and then noise", b"\0" + b"noise" * 10_000, 0, b"opened 0\n")
-bytes_on_disk("a byte 1 and then noise", b"\1" + b"noise" * 10_000, 3, b"refused journal.bin 0 Damaged\n")
-bytes_on_disk("a move that is another than the first", b"\1\0\0\0\x07\0\0\0\1\1\1\4\0", 3, b"refused journal.csv 1 Other\n")
+bytes_on_disk("a byte 0 and then noise", b"\0" + b"noise" * 10_000, 0, b"opened 0\n", "5 entries")
+bytes_on_disk("a byte 1 and then noise", b"\1" + b"noise" * 10_000, 3, b"refused journal.bin 0 Damaged\n", "damaged")
+bytes_on_disk("a move that is another than the first", b"\1\0\0\0\x07\0\0\0\1\1\1\4\0", 3, b"refused journal.csv 1 Other\n", "1 entries")
 
 
-@case("journal", "journal.bin has 1,024 MB of nothing, and the run 256 MB of memory", 6, b"memory\n", STORE)
+@case("journal", "journal.bin has 1,024 MB of nothing, and the run 256 MB of memory", 6, b"memory\n", STORE, "as it was")
 def _(room):
     with open(room.of("out", "journal.bin"), "wb") as file:
         file.truncate(1 << 30)

@@ -186,29 +186,83 @@ def names(asked):
         yield row, good
 
 
-# a file, its line with a place for a number, the least and the most that stands there, and whether more is refused by the join
+# the two aircraft of the sample day, of which the first is spelled with a number
+PLANES = b"P1 M1 NB %s AAA %s\nP2 M1 NB 0/0/9 600 120 30 20 AAA NULL\n"
+# the rotations of a plan of the sample day, of which the first is spelled with a number
+FLOWN = b"F1 %s P1 %s\nF2 01/03/08 P1 01/03/08 11:00\nF3 01/03/08 P2 01/03/08 14:00\n"
+
+
+def planes(numbers, maintenance=b"NULL"):
+    return PLANES.replace(b"%s", numbers, 1).replace(b"%s", maintenance, 1)
+
+
+# a file, its line with a place for a number, and the least and the most that stands there
 RANGES = (
-    ("aircraft.csv", b"P1 M1 NB 0/0/%s 600 100 30 20 AAA NULL\nP2 M1 NB 0/0/9 600 120 30 20 AAA NULL\n", 0, 999),
-    ("aircraft.csv", b"P1 M1 NB 0/0/10 %s 100 30 20 AAA NULL\nP2 M1 NB 0/0/9 600 120 30 20 AAA NULL\n", 0, 100_000),
-    ("aircraft.csv", b"P1 M1 NB 0/0/10 600 %s 30 20 AAA NULL\nP2 M1 NB 0/0/9 600 120 30 20 AAA NULL\n", 0, 999_999_999),
-    ("aircraft.csv", b"P1 M1 NB 0/0/10 600 100 %s 20 AAA NULL\nP2 M1 NB 0/0/9 600 120 30 20 AAA NULL\n", 0, 2_880),
-    ("aircraft.csv", b"P1 M1 NB 0/0/10 600 100 30 20 AAA AAA-01/03/08-11:00-01/03/08-13:00-%s\nP2 M1 NB 0/0/9 600 120 30 20 AAA NULL\n",
-     0, 100_000),
-    ("airports.csv", b"AAA %s 10 00:00 24:00\nBBB 10 10 00:00 24:00\n", 0, 100_000),
-    ("dist.csv", b"AAA BBB %s D\n", 0, 100_000),
-    ("itineraries.csv", b"R1 A 100 %s F1 01/03/08 E\n", 1, 1_000),
-    ("itineraries.csv", b"R1 A %s 10 F1 01/03/08 E\n", 0, 999_999_999),
-    ("position.csv", b"AAA M1 0/0/9 %s\n", 0, 1_000),
-    ("alt_flights.csv", b"F3 01/03/08 %s\n", -1, 2_880),
-    ("alt_airports.csv", b"AAA 01/03/08 10:00 01/03/08 11:00 %s 0\n", 0, 100_000),
-    ("tariff.csv", b"care,D,%s,20\n", 1, 10_000),
-    ("tariff.csv", b"weight,delay,%s\n", 0, 999_999),
-    ("feed.csv", b"%s,none\n", 1, 1),
-    ("journal.csv", b"%s,move,tidy\n", 0, 64),
-    ("journal.csv", b"0,batch,%s\n", 0, 0),
-    ("journal.csv", b"0,move,rebook R1 A %s 0 0\n", 1, 1_000),
-    ("journal.csv", b"0,move,rebook R1 A 1 %s 0\n", 0, 0),
+    ("config.csv", b"%d/03/08 06:00 02/04/08 06:00\n", 1, 31),
+    ("config.csv", b"01/%d/08 06:00 02/12/08 06:00\n", 1, 12),
+    ("config.csv", b"01/03/%02d 06:00 02/03/99 06:00\n", 0, 99),
+    ("config.csv", b"01/03/%d 06:00 02/03/2099 06:00\n", 2_000, 2_099),
+    ("config.csv", b"01/03/08 %d:00 02/03/08 06:00\n", 0, 23),
+    ("config.csv", b"01/03/08 06:%02d 02/03/08 06:00\n", 0, 59),
+    ("flights.csv", b"F1 AAA BBB %d:00 09:00 0\nF2 BBB AAA 09:30 10:30 0\nF3 AAA BBB 12:00 13:00 0\n", 0, 23),
+    ("flights.csv", b"F1 AAA BBB 08:00 09:00+%d 0\nF2 BBB AAA 09:30 10:30 0\nF3 AAA BBB 12:00 13:00 0\n", 0, 9),
+    ("rotations.csv", b"F1 %d/03/08 P1\nF2 01/03/08 P1\nF3 01/03/08 P2\n", 1, 31),
+    ("aircraft.csv", planes(b"0/0/%d 600 100 30 20"), 0, 999),
+    ("aircraft.csv", planes(b"0/%d/10 600 100 30 20"), 0, 999),
+    ("aircraft.csv", planes(b"%d/0/10 600 100 30 20"), 0, 999),
+    ("aircraft.csv", planes(b"0/0/10 %d 100 30 20"), 0, 100_000),
+    ("aircraft.csv", planes(b"0/0/10 600 %d 30 20"), 0, 999_999_999),
+    ("aircraft.csv", planes(b"0/0/10 600 100 %d 20"), 0, 2_880),
+    ("aircraft.csv", planes(b"0/0/10 600 100 30 %d"), 0, 2_880),
+    ("aircraft.csv", planes(b"0/0/10 600 100 30 20", b"AAA-01/03/08-11:00-01/03/08-13:00-%d"), 0, 100_000),
+    ("airports.csv", b"AAA %d 10 00:00 24:00\nBBB 10 10 00:00 24:00\n", 0, 100_000),
+    ("airports.csv", b"AAA 10 %d 00:00 24:00\nBBB 10 10 00:00 24:00\n", 0, 100_000),
+    ("airports.csv", b"AAA 10 10 %d:00 24:00\nBBB 10 10 00:00 24:00\n", 0, 23),
+    ("airports.csv", b"AAA 10 10 00:00 %d:00\nBBB 10 10 00:00 24:00\n", 1, 24),
+    ("airports.csv", b"AAA 10 10 00:00 01:%02d\nBBB 10 10 00:00 24:00\n", 0, 59),
+    ("dist.csv", b"AAA BBB %d D\n", 0, 100_000),
+    ("itineraries.csv", b"R1 A 100 %d F1 01/03/08 E\n", 1, 1_000),
+    ("itineraries.csv", b"R1 A %d 10 F1 01/03/08 E\n", 0, 999_999_999),
+    ("itineraries.csv", b"R1 A 100.%04d 10 F1 01/03/08 E\n", 0, 9_999),
+    ("position.csv", b"AAA M1 0/0/9 %d\n", 0, 1_000),
+    ("position.csv", b"AAA M1 %d/0/9 1\n", 0, 999),
+    ("alt_flights.csv", b"F3 01/03/08 %d\n", -1, 2_880),
+    ("alt_aircraft.csv", b"P2 01/03/08 %d:30 01/03/08 23:45\n", 0, 23),
+    ("alt_airports.csv", b"AAA 01/03/08 10:00 01/03/08 11:00 %d 0\n", 0, 100_000),
+    ("alt_airports.csv", b"AAA 01/03/08 10:00 01/03/08 11:00 0 %d\n", 0, 100_000),
+    ("tariff.csv", b"delay,D,E,%d\n", 0, 999_999_999),
+    ("tariff.csv", b"cancel,D,E,%d\n", 0, 999_999_999),
+    ("tariff.csv", b"downgrade,D,B,E,%d\n", 0, 999_999_999),
+    ("tariff.csv", b"care,D,%d,20\n", 1, 10_000),
+    ("tariff.csv", b"care,D,120,%d\n", 0, 999_999_999),
+    ("tariff.csv", b"compensation,D,%d,20\n", 1, 10_000),
+    ("tariff.csv", b"compensation,D,none,%d\n", 0, 999_999_999),
+    ("tariff.csv", b"position,%d\n", 0, 999_999_999),
+    ("tariff.csv", b"weight,delay,%d\n", 0, 999_999),
+    ("tariff.csv", b"weight,operating,%d\n", 0, 999_999),
+    ("feed.csv", b"%d,none\n", 1, 1),
+    ("feed.csv", b"1,at,01/03/08,%d:00\n", 6, 23),
+    ("feed.csv", b"1,flight,F3,01/03/08,%d\n", -1, 2_880),
+    ("feed.csv", b"1,airport,AAA,01/03/08,10:00,01/03/08,11:00,%d,10\n", 0, 100_000),
+    ("journal.csv", b"%d,move,tidy\n", 0, 64),
+    ("journal.csv", b"0,batch,%d\n", 0, 0),
+    ("journal.csv", b"0,move,rebook R1 A %d 0 0\n", 1, 1_000),
+    ("journal.csv", b"0,move,rebook R1 A 1 %d 0\n", 0, 0),
+    ("journal.csv", b"0,move,swap P1 P2 01/03/08 %d:00\n", 0, 23),
+    ("sol_rotations.csv", FLOWN.replace(b"%s", b"%d/03/08", 1).replace(b"%s", b"01/03/08 08:40", 1), 1, 31),
+    ("sol_rotations.csv", FLOWN.replace(b"%s", b"01/03/08", 1).replace(b"%s", b"01/03/08 %d:40", 1), 0, 23),
+    ("sol_itineraries.csv", b"R1 A %d F1 01/03/08 E\n", 1, 1_000),
 )
+
+
+def number_tried(program, files, name, text):
+    """Whether a number in a file gives what the judge says, and what it gives. A plan is checked, with the other of its files as a replay leaves it."""
+    if name not in SOLUTION_FILES:
+        _, fits, given = played(program, {**files, name: text}, "")
+        return fits, given
+    plan = {each: expected.replay(files).files[each] for each in SOLUTION_FILES}
+    _, fits, given = played(program, files, "", {**plan, name: text})
+    return fits, given
 
 
 def numbers(asked):
@@ -217,11 +271,13 @@ def numbers(asked):
     for name, line, least, most in RANGES:
         told, good = [], True
         for number in (least - 1, least, most, most + 1):
-            _, fits, given = played(asked.program, {**files, name: line % (b"%d" % number)}, "")
+            fits, given = number_tried(asked.program, files, name, line % number)
             good = good and fits
             cause = given.said.decode("ascii", "replace").split()[-1] if given.status == 3 else ""
             told.append("%d: %s %s" % (number, given.status, cause))
-        yield "| `%s` in %s | replay | %s | | |" % (line.decode().split("\n")[0] % "N", name, "; ".join(one.strip() for one in told)), good
+        shown = re.sub(r"%0?[24]?d", "N", line.decode().split("\n")[0])
+        words = "check" if name in SOLUTION_FILES else "replay"
+        yield "| `%s` in %s | %s | %s | | |" % (shown, name, words, "; ".join(one.strip() for one in told)), good
 
 
 GROUPS = {"kills": kills, "names": names, "numbers": numbers, "rows": rows, "noise": noise}

@@ -142,16 +142,21 @@ def left_in(room, new):
     return states[0] if len(set(states)) == 1 else ", ".join(states)
 
 
+def entries_left(room, folder="out"):
+    """The entries that stand in journal.bin of a folder; none where it is damaged."""
+    with open(room.of(folder, "journal.bin"), "rb") as file:
+        return payloads(file.read())
+
+
 def disk_left(room):
     """What stands in journal.bin: no file, damaged, or how many entries it has."""
     path = room.of("out", "journal.bin")
     if not os.path.isfile(path):
-        return "; journal.bin: " + ("no file" if os.path.lexists(path) else "none")
+        return "no file" if os.path.lexists(path) else "none"
     if os.path.getsize(path) > 1 << 24:
-        return "; journal.bin: as it was"
-    with open(path, "rb") as file:
-        found = payloads(file.read())
-    return "; journal.bin: " + ("damaged" if found is None else "%d entries" % len(found))
+        return "as it was"
+    found = entries_left(room)
+    return "damaged" if found is None else "%d entries" % len(found)
 
 
 def printed(text):

@@ -143,7 +143,8 @@ pub fn read_steps<F: TokenForm>(
     ensures exact { StepsAre (λ steps. steps.items) result (steps_of (F.readers form.now) (fields detail.now)) }
     ensures facts { IfOk result (λ steps. All IsNamedStep steps.items) }
 {
-    let mut steps = Vec::new(alloc);
+    // room for one step, which most moves have: a vector grows to four at once
+    let mut steps = Vec::with_capacity(alloc, 1)?;
     let mut tokens = Fields::of(detail);
     while let Some(word) = tokens.next() {
         steps.push(step_at(alloc, form, word, &mut tokens)?)?;

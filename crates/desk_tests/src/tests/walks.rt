@@ -27,8 +27,9 @@ use std::test::Fail;
 const STEPS: u32 = 500;
 
 /// Walks: the seed of the day and of the draws, how many of 12 changes are of rows and not of passengers, and whether the day has
-/// orders and legs that have left.
-const WALKS: [(u32, u32, bool); 8] = [
+/// orders and legs that have left. Where no row changes and nothing is ordered, no rule of rows is broken, so that the first broken item
+/// is of the passengers.
+const WALKS: [(u32, u32, bool); 12] = [
     (1, 0, false),
     (2, 0, true),
     (3, 1, false),
@@ -37,6 +38,10 @@ const WALKS: [(u32, u32, bool); 8] = [
     (6, 6, true),
     (7, 12, false),
     (8, 12, true),
+    (9, 0, false),
+    (10, 0, false),
+    (11, 0, false),
+    (12, 0, false),
 ];
 
 /// Numbers that follow from a seed.
