@@ -35,7 +35,9 @@ pub enum Order {
 /// Disruptions that become known together, and the moment at which they do, where that is given.
 #[derive(Drop)]
 pub struct Batch {
-    /// The moment at which they become known, where it is given.
+    /// The moment at which they become known, in minutes from the start of the year 2000; `None` where none is
+    /// told. A day takes one of at most minute 52,480,000 (`can_add` of day_checks), and an earlier one than its
+    /// present moment as none.
     pub at: Option<Minute>,
     /// What they order, in the order in which it is taken.
     pub orders: List<Order>,

@@ -163,8 +163,8 @@ impl Instance {
 }
 
 impl Instance {
-    /// Up to which moment the day has gone on: the window's start before any batch, and else the latest
-    /// moment that a batch has told.
+    /// Up to which moment the day has gone on: the latest moment that a batch has told, and the window's start
+    /// before any batch that tells one. It is before minute 52,596,000, as the window's start is.
     pub fn now(&self) -> Minute
         ensures { result.0 ≡ now_of self.now }
     {
@@ -188,9 +188,10 @@ impl Instance {
         self.left.frozen.as_slice()
     }
 
-    /// How many passengers of a reservation have flown which frozen legs: lists of legs with at least one
-    /// passenger, in the order of paths. The empty list is of those who have flown nothing yet, or are not
-    /// carried.
+    /// How many passengers of a reservation have flown which frozen legs: lists of at most 8 legs, each with 1
+    /// to 1,000 passengers, in the order of paths, no list twice. The empty list is of those who have flown
+    /// nothing yet; whoever is not carried keeps the list that he flew. The counts may sum to more passengers
+    /// than the reservation has, where a batch was added by a plan that breaks C15.
     pub fn tally(&self, res: Res) -> &[(Path, u32)]
         requires { res.0 < reservations_of self.now }
         ensures entries { result.now ≡ tally_at self.now res.0 }
@@ -413,8 +414,8 @@ impl Instance {
     }
 
     /// Takes a batch. Where it tells a later moment than the present one, the day goes on to it: what leaves
-    /// before it by the plan, which is the one that stands when the batch arrives, is frozen, and then
-    /// passengers are tallied. Then its orders come after those taken before. After an error the instance is
+    /// before it by the plan, which is the one that stands when the batch arrives, is frozen, with the fixed
+    /// legs that it cancels and whose earliest departure is before it; and then passengers are tallied. Then its orders come after those taken before. After an error the instance is
     /// as before. `can_add` of day_checks tests the condition of the batch.
     pub fn add(&mut self, alloc: Global, plan: &Plan, batch: &Batch) -> Result<(), NoMem>
         requires batch { IsBatch self.old.parts batch.now }

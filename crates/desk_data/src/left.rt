@@ -24,7 +24,7 @@ use std::alloc::Global;
 
 /// How far a day has gone on, and what is looked up of it.
 pub struct Left {
-    /// Up to which moment.
+    /// Up to which moment the day has gone on.
     pub now: Minute,
     /// By leg, the row with which it is frozen.
     pub frozen: Vec<Option<Row>>,

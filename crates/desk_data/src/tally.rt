@@ -18,7 +18,7 @@ use desk_units::{Cabin, Leg, List, NoMem, Res};
 use std::alloc::Global;
 use std::cmp::Ordering;
 
-/// Before any batch: all passengers of each reservation have flown nothing.
+/// Before any moment is told: all passengers of each reservation have flown nothing yet.
 pub fn all_waiting(alloc: Global, reservations: &[ResInfo]) -> Result<Vec<Vec<(Path, u32)>>, NoMem>
     ensures { IfOk result (λ tally. map (λ entries. entries.items) tally.items ≡ map all_waiting reservations.now) }
 {

@@ -11,7 +11,8 @@ use crate::aboard::KnowsAboard;
 use desk_data::{Cabin, Instance, Leg, Row};
 use plan_reads::{ReadPlan, seats_in};
 
-/// The greatest number of passengers waiting for whom all legs of a path have seats left.
+/// The greatest number of passengers who are not carried, `waiting` at most, for whom all legs of a path have
+/// seats left.
 pub(crate) fn fitting<P: ReadPlan, S: KnowsAboard>(
     inst: &Instance,
     plan: &P,
