@@ -68,6 +68,6 @@ Places-unshown was i o input output next put i_is o_is = record {
 }
 
 -- no call has failed where the counts of all files are 0
-pub count-zero : (f : File) → slice_index (0 ∷ 0 ∷ 0 ∷ 0 ∷ 0 ∷ 0 ∷ 0 ∷ 0 ∷ 0 ∷ 0 ∷ 0 ∷ 0 ∷ 0 ∷ 0 ∷ 0 ∷ 0 ∷ []) (file_number f) ≡ 0
+pub count-zero : (f : File) → slice_index (0 ∷ 0 ∷ 0 ∷ 0 ∷ 0 ∷ 0 ∷ 0 ∷ 0 ∷ 0 ∷ 0 ∷ 0 ∷ 0 ∷ 0 ∷ 0 ∷ 0 ∷ 0 ∷ 0 ∷ 0 ∷ []) (file_number f) ≡ 0
 count-zero Config = refl
 count-zero _ = refl

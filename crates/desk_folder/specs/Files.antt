@@ -1,7 +1,7 @@
 -- The files of the desk's folder: their names, and their places in file order.
 use Rattle.std.specs.Prelude.{ℕ, List, [], ◌∷◌, codes, Bool, true, false}
 use Rattle.desk_folder.specs.declared.files.File.{File}
-use Rattle.desk_folder.specs.declared.files.File.TheVariants.{Config, Flights, Rotations, Aircraft, Airports, Dist, Itineraries, Position, AltFlights, AltAircraft, AltAirports, Tariff, Feed, Journal, SolRotations, SolItineraries}
+use Rattle.desk_folder.specs.declared.files.File.TheVariants.{Config, Flights, Rotations, Aircraft, Airports, Dist, Itineraries, Position, AltFlights, AltAircraft, AltAirports, Tariff, Feed, Crew, Journal, SolRotations, SolItineraries, SolAdded}
 
 -- the file's name in its directory
 abbrev pub file_name : File → List ℕ
@@ -18,9 +18,11 @@ file_name AltAircraft = codes "alt_aircraft.csv"
 file_name AltAirports = codes "alt_airports.csv"
 file_name Tariff = codes "tariff.csv"
 file_name Feed = codes "feed.csv"
+file_name Crew = codes "crew.csv"
 file_name Journal = codes "journal.csv"
 file_name SolRotations = codes "sol_rotations.csv"
 file_name SolItineraries = codes "sol_itineraries.csv"
+file_name SolAdded = codes "sol_added.csv"
 
 -- the file's place in file order, counted from 0
 abbrev pub file_number : File → ℕ
@@ -37,9 +39,11 @@ file_number AltAircraft = 9
 file_number AltAirports = 10
 file_number Tariff = 11
 file_number Feed = 12
-file_number Journal = 13
-file_number SolRotations = 14
-file_number SolItineraries = 15
+file_number Crew = 13
+file_number Journal = 14
+file_number SolRotations = 15
+file_number SolItineraries = 16
+file_number SolAdded = 17
 
 -- the two files that hold a plan are read from the output directory
 abbrev pub is_solution : File → Bool

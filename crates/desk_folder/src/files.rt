@@ -34,16 +34,20 @@ pub enum File {
     Tariff,
     /// the batches of orders that become known later
     Feed,
+    /// the crews, with the legs that each works
+    Crew,
     /// the events of the desk, read and written
     Journal,
     /// the aircraft's rotations in a plan
     SolRotations,
     /// the passengers' paths in a plan
     SolItineraries,
+    /// the legs that a plan adds to bring its aircraft home
+    SolAdded,
 }
 
 /// How many files there are.
-pub const FILES: usize = 16;
+pub const FILES: usize = 18;
 
 // The files that give a day and its disruptions, in file order, and these after them.
 macro_rules! day_files_and {
@@ -78,9 +82,11 @@ pub const DAY_AND_PLAN: [File; 15] = day_files_and!(File::SolRotations, File::So
 
 /// All files, in file order.
 pub const ALL_FILES: [File; FILES] = day_files_and!(
+    File::Crew,
     File::Journal,
     File::SolRotations,
-    File::SolItineraries
+    File::SolItineraries,
+    File::SolAdded
 );
 
 /// The lists of the code are those of the definitions.
@@ -88,7 +94,7 @@ pub fn day_files_are_as_defined()
     ensures day { DAY_FILES ≡ day_files }
     ensures with_journal { DAY_AND_JOURNAL ≡ day_files ++ file.Journal ∷ [] }
     ensures with_plan { DAY_AND_PLAN ≡ day_files ++ plan_files }
-    ensures all { ALL_FILES ≡ day_files ++ file.Journal ∷ plan_files }
+    ensures all { ALL_FILES ≡ day_files ++ file.Crew ∷ file.Journal ∷ plan_files ++ file.SolAdded ∷ [] }
 {}
 
 impl File {
@@ -110,9 +116,11 @@ impl File {
             File::AltAirports => "alt_airports.csv",
             File::Tariff => "tariff.csv",
             File::Feed => "feed.csv",
+            File::Crew => "crew.csv",
             File::Journal => "journal.csv",
             File::SolRotations => "sol_rotations.csv",
             File::SolItineraries => "sol_itineraries.csv",
+            File::SolAdded => "sol_added.csv",
         }
     }
 
@@ -135,9 +143,11 @@ impl File {
             File::AltAirports => 10,
             File::Tariff => 11,
             File::Feed => 12,
-            File::Journal => 13,
-            File::SolRotations => 14,
-            File::SolItineraries => 15,
+            File::Crew => 13,
+            File::Journal => 14,
+            File::SolRotations => 15,
+            File::SolItineraries => 16,
+            File::SolAdded => 17,
         }
     }
 

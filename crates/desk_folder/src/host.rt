@@ -136,7 +136,7 @@ fn marked(files: &[File]) -> [bool; FILES] {
 fn closed<F: Drop>() -> [Option<F>; FILES] {
     [
         None, None, None, None, None, None, None, None, None, None, None, None, None, None, None,
-        None,
+        None, None, None,
     ]
 }
 

@@ -2,7 +2,7 @@
 //! and a gate that each worker passes.
 //!
 //! `Folder` names two directories (`place`), reads the next bytes of a file (`next`) and writes to one
-//! (`put`); `Sink` takes the report. `File` has the 16 files in their order. A contract sees a folder as
+//! (`put`); `Sink` takes the report. `File` has the 18 files in their order. A contract sees a folder as
 //! what it shows: the directories, the bytes left and written of each file, and how often each kind of
 //! call has failed. An answer `Failed` comes only where that count rose in the call.
 //!

@@ -102,6 +102,8 @@ impl MemFolder {
                 Vec::new(alloc),
                 Vec::new(alloc),
                 Vec::new(alloc),
+                Vec::new(alloc),
+                Vec::new(alloc),
             ],
             input: String::new(alloc),
             output: String::new(alloc),

@@ -92,6 +92,7 @@ pub fn causes_of_lines(file: File) -> &'static [CauseRow] {
         File::AltAirports => ALT_AIRPORTS,
         File::Tariff => TARIFF,
         File::Feed => FEED,
+        File::Crew | File::SolAdded => &[],
         File::Journal => JOURNAL,
         File::SolRotations => SOL_ROTATIONS,
         File::SolItineraries => SOL_ITINERARIES,
@@ -102,6 +103,7 @@ pub fn causes_of_lines(file: File) -> &'static [CauseRow] {
 pub fn causes_of_the_whole(file: File) -> &'static [CauseRow] {
     match file {
         File::Config => WHOLE_CONFIG,
+        File::Crew | File::SolAdded => &[],
         File::Journal => WHOLE_JOURNAL,
         File::SolRotations => WHOLE_SOL_ROTATIONS,
         File::SolItineraries => WHOLE_SOL_ITINERARIES,

@@ -142,6 +142,7 @@ with_rows file.Tariff bytes rows = do
 with_rows file.Feed bytes rows = do
   feed ← feed_rows bytes
   Ok (record rows { files = record rows.files { feed = feed } })
+with_rows file.Crew bytes rows = Ok rows
 with_rows file.Journal bytes rows = do
   journal ← journal_rows_of bytes
   Ok (record rows { journal = journal })
@@ -151,6 +152,7 @@ with_rows file.SolRotations bytes rows = do
 with_rows file.SolItineraries bytes rows = do
   tried ← unless_refused (refusal_in file.SolItineraries bytes)
   Ok (record rows { plan_itineraries = bytes })
+with_rows file.SolAdded bytes rows = Ok rows
 
 -- the same for a file of any length: one of too many bytes is refused at line 0, whatever they are
 abbrev pub within_limit : File → List ℕ → Result Rows (ℕ × Cause) → Result Rows (ℕ × Cause)

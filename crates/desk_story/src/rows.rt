@@ -119,6 +119,7 @@ impl InputRows {
                 solution_grammar(alloc, file, bytes),
                 kept,
             ),
+            File::Crew | File::SolAdded => Ok(()),
         }
     }
 }

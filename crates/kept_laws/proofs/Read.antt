@@ -55,11 +55,13 @@ with_numbered file.AltAircraft bytes rows now h are = other_rows (text_rows most
 with_numbered file.AltAirports bytes rows now h are = other_rows (text_rows most_bytes orders.airport_row bytes) (λ x. record rows { files = record rows.files { alt_airports = x } }) rows now (λ x. refl) h are
 with_numbered file.Tariff bytes rows now h are = other_rows (tariff_rows bytes) (λ x. record rows { files = record rows.files { tariff = record { rows = x } } }) rows now (λ x. refl) h are
 with_numbered file.Feed bytes rows now h are = other_rows (feed_rows bytes) (λ x. record rows { files = record rows.files { feed = x } }) rows now (λ x. refl) h are
+with_numbered file.Crew bytes rows now h are = subst AreNumbered (same_Ok rows now h) are
 with_numbered file.Journal bytes rows now h are =
     let own = bound (journal_rows_of bytes) (λ x. Ok (record rows { journal = x })) now h in
     subst AreNumbered (same_Ok (record rows { journal = own.0 }) now own.2) (journal_numbered bytes own.0 own.1)
 with_numbered file.SolRotations bytes rows now h are = other_rows (unless_refused (refusal_in file.SolRotations bytes)) (λ x. record rows { plan_rotations = bytes }) rows now (λ x. refl) h are
 with_numbered file.SolItineraries bytes rows now h are = other_rows (unless_refused (refusal_in file.SolItineraries bytes)) (λ x. record rows { plan_itineraries = bytes }) rows now (λ x. refl) h are
+with_numbered file.SolAdded bytes rows now h are = subst AreNumbered (same_Ok rows now h) are
 
 where_short : (b : Bool) (r : Result Rows (ℕ × Cause)) (now : Rows) → (if b then Err (0, Size) else r) ≡ Ok now → r ≡ Ok now
 where_short true r now h = absurd cc
