@@ -415,8 +415,9 @@ impl Instance {
 
     /// Takes a batch. Where it tells a later moment than the present one, the day goes on to it: what leaves
     /// before it by the plan, which is the one that stands when the batch arrives, is frozen, with the fixed
-    /// legs that it cancels and whose earliest departure is before it; and then passengers are tallied. Then its orders come after those taken before. After an error the instance is
-    /// as before. `can_add` of day_checks tests the condition of the batch.
+    /// legs that it cancels and whose earliest departure is before it; and then passengers are tallied. Then
+    /// its orders come after those taken before. After an error the instance is as before. `can_add` of
+    /// day_checks tests the condition of the batch.
     pub fn add(&mut self, alloc: Global, plan: &Plan, batch: &Batch) -> Result<(), NoMem>
         requires batch { IsBatch self.old.parts batch.now }
         requires plan { IsPlanFor self.old plan.now }

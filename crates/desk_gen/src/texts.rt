@@ -37,11 +37,8 @@ pub(crate) fn text_of(alloc: Global, seed: u32, size: u32, file: File) -> Result
         File::AltAirports => constant(alloc, "AAA 01/03/08 09:00 01/03/08 11:00 0 0\n"),
         File::Tariff => constant(alloc, TARIFF),
         File::Feed => constant(alloc, "1,flight,F5,01/03/08,-1\n"),
-        File::Crew
-        | File::Journal
-        | File::SolRotations
-        | File::SolItineraries
-        | File::SolAdded => constant(alloc, ""),
+        File::Crew | File::Journal | File::SolRotations | File::SolItineraries | File::SolAdded =>
+            constant(alloc, ""),
     }
 }
 
