@@ -10,4 +10,5 @@ mod moments;
 mod orders;
 mod parts;
 mod stops;
+mod under_way;
 mod walks;

@@ -12,7 +12,7 @@ use std::test::Fail;
 
 /// The first aircraft flies out from 480 to 540 and back from 570 to 630, and the second flies out from 720 to 780, in a
 /// window from 360 on. Four passengers booked the first two legs, and two the first alone. The plan is the schedule.
-const MORNING: Texts<'static> = &[
+pub(super) const MORNING: Texts<'static> = &[
     (File::Config, "01/01/00 06:00 02/01/00 06:00\n"),
     (
         File::Flights,
@@ -209,7 +209,11 @@ const THREE_WAYS: &str =
     "R1 A 1 F1 01/01/00 E F2 01/01/00 E\nR1 A 2 F1 01/01/00 E F3 01/01/00 E\nR1 A 1\nR2 A 2 F1 01/01/00 E\n";
 
 /// Of each list of legs that passengers of a reservation have flown how long it is, and how many have.
-fn tally_in(alloc: Global, inst: &Instance, res: Res) -> Result<Vec<(usize, u32)>, Fail> {
+pub(super) fn tally_in(
+    alloc: Global,
+    inst: &Instance,
+    res: Res,
+) -> Result<Vec<(usize, u32)>, Fail> {
     let mut told = Vec::new(alloc);
     if res.0 < inst.reservations() {
         for (path, count) in inst.tally(res) {
@@ -402,9 +406,9 @@ fn caps_have_room_for_what_has_left(rt: HostRuntime) -> Result<(), Fail> {
 }
 
 /// A path of passengers.
-type Way = &'static [(Leg, Cabin)];
+pub(super) type Way = &'static [(Leg, Cabin)];
 
-fn path_of(alloc: Global, way: Way) -> Result<Path, Fail> {
+pub(super) fn path_of(alloc: Global, way: Way) -> Result<Path, Fail> {
     Ok(Path {
         legs: List(Vec::from_slice(alloc, way)?),
     })

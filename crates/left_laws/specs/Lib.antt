@@ -1,0 +1,3 @@
+pub mod WhatLeft
+pub mod LineWords
+pub mod StemWords
