@@ -12,12 +12,9 @@ use crate::taken::taken_seats;
 use desk_data::{Broken, Cabin, Instance, Leg, NoMem, Plan, Row, Seats};
 use std::alloc::Global;
 
-/// The first leg that breaks C12, and its first cabin that does.
-pub(crate) fn first_c12(
-    alloc: Global,
-    inst: &Instance,
-    plan: &Plan,
-) -> Result<Option<Broken>, NoMem>
+/// The first leg that breaks C12, and its first cabin that does. The time is linear in the legs and the groups of
+/// passengers. The only error is out of memory.
+pub fn first_c12(alloc: Global, inst: &Instance, plan: &Plan) -> Result<Option<Broken>, NoMem>
     requires { IsPlanFor inst.now plan.now }
     ensures { IfOk result (λ item. item ≡ find (breaks inst.now plan.now) (each_cabin inst.now broken.C12)) }
 {

@@ -11,7 +11,7 @@ use plan_reads::{is_carried, is_in_time_path};
 
 /// Whether a reservation, with these groups, keeps C14.
 #[tactic(auto, unfolding(desk_rules::specs::Carriage::keeps_c14))]
-pub(crate) fn keeps_c14(inst: &Instance, plan: &Plan, res: Res, groups: &[Group]) -> bool
+pub fn keeps_c14(inst: &Instance, plan: &Plan, res: Res, groups: &[Group]) -> bool
     requires plan { IsPlanFor inst.now plan.now }
     requires res { res.0 < reservations_of inst.now }
     requires paths { All (λ group. IsPathOf (legs_of inst.now) group.path) groups.now }

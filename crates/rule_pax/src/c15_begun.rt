@@ -11,7 +11,7 @@ use plan_reads::is_carried;
 
 /// Whether a reservation, with these groups, keeps C15.
 #[tactic(auto, unfolding(desk_rules::specs::Carriage::keeps_c15))]
-pub(crate) fn keeps_c15(inst: &Instance, plan: &Plan, res: Res, groups: &[Group]) -> bool
+pub fn keeps_c15(inst: &Instance, plan: &Plan, res: Res, groups: &[Group]) -> bool
     requires res { res.0 < reservations_of inst.now }
     requires groups { groups.now ≡ groups_at plan.now res.0 }
     ensures { result ≡ keeps_c15 inst.now plan.now res.0 }

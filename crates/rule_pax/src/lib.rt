@@ -8,7 +8,8 @@
 //! the groups of one reservation.
 //!
 //! Proved: the answer is `least_pax` of desk_rules. It depends on `desk_rules` and on `plan_reads`, which
-//! knows whether a path keeps C13 and C14.
+//! knows whether a path keeps C13 and C14. What it is made of is there for whoever looks for the first item in another way,
+//! as `par_check`: the first leg and cabin that break C12, and whether a reservation keeps C13, C14 or C15.
 #![tactic(auto)]
 
 mod c12_seats;
@@ -19,4 +20,8 @@ mod carried;
 mod least;
 mod taken;
 
+pub use c12_seats::first_c12;
+pub use c13_connection::keeps_c13;
+pub use c14_arrival::keeps_c14;
+pub use c15_begun::keeps_c15;
 pub use least::least_pax;
