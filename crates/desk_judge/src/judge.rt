@@ -2,6 +2,8 @@
 
 ghost use Rattle.std.specs.Prelude.{◌≡◌, ◌++◌, [], IfOk, IfSome, OnOk};
 ghost use Rattle.desk_data.specs.Valid.{IsPlanFor};
+ghost use Rattle.desk_rules.specs.Least.{least};
+ghost use Rattle.desk_rules.specs.Cost.{cost, grains};
 ghost use Rattle.journal_text.specs.Writable.{Names};
 ghost use Rattle.desk_tasks.specs.Judge.{verdict_text, verdict_report, verdict_end, verdict};
 ghost use Rattle.desk_runs.specs.Runs.{Between};
@@ -10,10 +12,18 @@ ghost use Rattle.desk_runs.specs.Finishing.{Completes};
 use desk_data::{Broken, Grains, Instance, NoMem, Plan};
 use desk_folder::{Folder, Sink};
 use desk_runs::{Ending, OutputTexts, put_outputs};
-use full_check::full_check;
 use full_cost::full_cost;
 use journal_text::push_broken;
+use par_check::{is_large, par_check};
 use std::alloc::Global;
+use std::thread::{Threads, join};
+
+// What a plan breaks first, and what it costs.
+#[derive(Clone, Copy)]
+struct Findings {
+    broken: Option<Broken>,
+    cost: Grains,
+}
 
 // How a run ends that reported its verdict.
 fn end_with(broken: Option<Broken>) -> Ending
@@ -42,7 +52,7 @@ fn push_verdict(text: &mut Vec<u8>, inst: &Instance, broken: Option<Broken>) -> 
     }
 }
 
-// What a plan breaks first, and what it costs.
+// The text of what a plan breaks first, and what it costs.
 #[tactic(auto, unfolding(desk_tasks::specs::Judge::verdict_report))]
 fn verdict_report(
     alloc: Global,
@@ -61,12 +71,45 @@ fn verdict_report(
     Ok(text)
 }
 
-/// Reports the first item that a plan breaks, and its cost in grains. It writes no file.
+// What a plan breaks first, and what it costs: of a large day the cost is summed up while the rules are checked.
+fn judged<R: Threads + Sync>(
+    rt: &R,
+    alloc: Global,
+    inst: &Instance,
+    plan: &Plan,
+) -> Result<Findings, NoMem>
+    requires { IsPlanFor inst.now plan.now }
+    ensures broken { IfOk result (λ found. found.broken ≡ least inst.now plan.now) }
+    ensures cost { IfOk result (λ found. found.cost ≡ grains (cost inst.now plan.now)) }
+{
+    if !is_large(inst) {
+        let broken = par_check(rt, alloc, inst, plan)?;
+        let cost = full_cost(inst, plan);
+        return Ok(Findings { broken, cost });
+    }
+    let (broken, cost) = join(
+        rt,
+        || -> Result<Option<Broken>, NoMem>
+            requires { IsPlanFor inst.now plan.now }
+            ensures { IfOk result (λ item. item ≡ least inst.entry.now plan.entry.now) }
+        { par_check(rt, alloc, inst, plan) },
+        || -> Grains
+            requires { IsPlanFor inst.now plan.now }
+            ensures { result ≡ grains (cost inst.entry.now plan.entry.now) }
+        { full_cost(inst, plan) },
+    );
+    let broken = broken?;
+    Ok(Findings { broken, cost })
+}
+
+/// Reports the first item that a plan breaks, and its cost in grains. It writes no file. It waits for the threads that it
+/// starts alone, and starts none where the day is not large.
 ///
 /// It ends with `Done` where the plan breaks nothing and with `BrokenRule` where it breaks a rule, when all
 /// is reported. `ReportFault` says that the report could not be written, and `Memory` may come at any time: what
 /// is written by then is a beginning of the report.
-pub fn judge_plan<F: Folder, O: Sink>(
+pub fn judge_plan<R: Threads + Sync, F: Folder, O: Sink>(
+    rt: &R,
     alloc: Global,
     inst: &Instance,
     plan: &Plan,
@@ -77,11 +120,11 @@ pub fn judge_plan<F: Folder, O: Sink>(
     ensures { Between F.outside O.report folder.old out.old folder.new out.new
         (λ before now. Completes [] before now (verdict inst.now plan.now) result) }
 {
-    let broken = match full_check(alloc, inst, plan) {
-        Ok(broken) => broken,
+    let found = match judged(rt, alloc, inst, plan) {
+        Ok(found) => found,
         Err(_) => return Ending::Memory,
     };
-    let report = match verdict_report(alloc, inst, broken, full_cost(inst, plan)) {
+    let report = match verdict_report(alloc, inst, found.broken, found.cost) {
         Ok(report) => report,
         Err(_) => return Ending::Memory,
     };
@@ -90,7 +133,7 @@ pub fn judge_plan<F: Folder, O: Sink>(
         report,
     };
     match put_outputs(alloc, folder, out, &texts) {
-        Ok(()) => end_with(broken),
+        Ok(()) => end_with(found.broken),
         Err(end) => end,
     }
 }

@@ -1,10 +1,10 @@
 //! Judging a plan: what it breaks first, and what it costs.
 //!
-//! `judge_plan` checks a plan against the rules, sums up its cost, and writes the report of both: `feasible`
+//! `judge_plan` checks a plan against the rules on all processors, sums up its cost, and writes the report of both: `feasible`
 //! or `broken ITEM`, and `cost COST`. It writes no file.
 //!
 //! Proved: what is written is the `verdict` of desk_tasks of that day and plan, or a beginning of it, with
-//! the call that failed. It depends on `full_check`, `full_cost` and the texts of items.
+//! the call that failed. It depends on `par_check`, `full_cost` and the texts of items.
 #![tactic(auto)]
 
 mod judge;

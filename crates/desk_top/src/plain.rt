@@ -1,4 +1,4 @@
-//! The commands, one after another on one thread, in directories that are named already.
+//! The commands, one after another, in directories that are named already: all but `check` on one thread.
 
 ghost use Rattle.std.specs.Prelude.{◌≡◌, ◌≢◌, false};
 ghost use Rattle.desk_runs.specs.Commands.{IsCommand, asked_here, is_of_disk, workers_of};
@@ -21,9 +21,11 @@ use desk_story::{InputPlan, InputRecovery, InputStory, InputTask, read_task};
 use desk_words::Command;
 use folder_io::put_report;
 use std::alloc::Global;
+use std::thread::Threads;
 
 // Does what the input asks for, and writes what it comes to.
-fn do_task<F: Folder, O: Sink, L: Listener>(
+fn do_task<R: Threads + Sync, F: Folder, O: Sink, L: Listener>(
+    rt: &R,
     alloc: Global,
     task: InputTask,
     folder: &mut F,
@@ -74,7 +76,7 @@ fn do_task<F: Folder, O: Sink, L: Listener>(
         }
         InputTask::Judge(judged) => {
             let InputPlan { inst, plan } = judged;
-            judge_plan(alloc, &inst, &plan, folder, out)
+            judge_plan(rt, alloc, &inst, &plan, folder, out)
         }
         InputTask::Generate { seed, size } => write_day(alloc, seed, size, folder, out),
         InputTask::Team { .. } => unreachable!(),
@@ -82,7 +84,8 @@ fn do_task<F: Folder, O: Sink, L: Listener>(
 }
 
 // Reads what a command asks for, and does it.
-fn obey<F: Folder, O: Sink, L: Listener>(
+fn obey<R: Threads + Sync, F: Folder, O: Sink, L: Listener>(
+    rt: &R,
     alloc: Global,
     command: &Command,
     folder: &mut F,
@@ -95,7 +98,7 @@ fn obey<F: Folder, O: Sink, L: Listener>(
         (λ before now. Obeys nothing (here command.now) before now result) }
 {
     match read_task(alloc, command, folder) {
-        Ok(task) => do_task(alloc, task, folder, out, listener),
+        Ok(task) => do_task(rt, alloc, task, folder, out, listener),
         Err(fault) => Ending::from(fault),
     }
 }
@@ -114,7 +117,8 @@ pub(crate) fn tell<O: Sink>(alloc: Global, ending: Ending, out: &mut O) -> u8
 }
 
 // Reads what a command asks for, does it, and puts the line that says why it was not done.
-fn obey_and_tell<F: Folder, O: Sink, L: Listener>(
+fn obey_and_tell<R: Threads + Sync, F: Folder, O: Sink, L: Listener>(
+    rt: &R,
     alloc: Global,
     command: &Command,
     folder: &mut F,
@@ -126,19 +130,20 @@ fn obey_and_tell<F: Folder, O: Sink, L: Listener>(
     ensures { Between F.outside O.report folder.old out.old folder.new out.new
         (λ before now. RunsWith nothing (asked_here command.now) before now result) }
 {
-    let ending = obey(alloc, command, folder, out, listener);
+    let ending = obey(rt, alloc, command, folder, out, listener);
     tell(alloc, ending, out)
 }
 
 /// Does what a command says that asks for no workers and for no disk, in the directories that the folder has, and answers the status.
-/// It waits for nobody. A recovery and a trial tell the listener how far they have come; what is answered, reported and
+/// A check starts threads, and waits for these alone; all else waits for nobody. A recovery and a trial tell the listener how far they have come; what is answered, reported and
 /// written depends on no listener.
 ///
 /// 0: done; of a replay, a recovery or a trial with a plan at the end, of a check with a plan that breaks no
 /// rule. 1: a replay, a recovery or a trial was done, with no plan at the end. 3: the input is refused. 4: the
 /// folder failed to read a file. 5: the folder failed to write a file, or the sink to write the report. 6:
 /// memory ran out. 7: a check was done, and the plan breaks a rule. From 3 to 6 a line in the report says why.
-pub fn run_plain<F: Folder, O: Sink, L: Listener>(
+pub fn run_plain<R: Threads + Sync, F: Folder, O: Sink, L: Listener>(
+    rt: &R,
     alloc: Global,
     command: &Command,
     folder: &mut F,
@@ -156,5 +161,5 @@ pub fn run_plain<F: Folder, O: Sink, L: Listener>(
     // 2 is the status of words that are no command.
     ensures no_usage { result ≢ 2 }
 {
-    obey_and_tell(alloc, command, folder, out, listener)
+    obey_and_tell(rt, alloc, command, folder, out, listener)
 }

@@ -7,6 +7,7 @@ use desk_headway::{Headway, Listener};
 use desk_top::{Command, run_plain};
 use std::alloc::Global;
 use std::test::Fail;
+use std::thread::Threads;
 
 /// The day of the README: an aircraft is out of service and an airport closes, and in batch 1 it opens again.
 const DISRUPTED: Texts<'static> = &[
@@ -78,7 +79,7 @@ impl Listener for Notes {
 }
 
 /// What is heard of the recovery of that day.
-fn notes_of_a_run(alloc: Global) -> Result<Notes, NoMem> {
+fn notes_of_a_run<R: Threads + Sync>(rt: &R, alloc: Global) -> Result<Notes, NoMem> {
     let mut notes = Notes {
         heard: Vec::new(alloc),
         tried: 0,
@@ -91,7 +92,7 @@ fn notes_of_a_run(alloc: Global) -> Result<Notes, NoMem> {
         moves: 1000,
         live: false,
     };
-    let _ = run_plain(alloc, &command, &mut folder, &mut out, &mut notes);
+    let _ = run_plain(rt, alloc, &command, &mut folder, &mut out, &mut notes);
     Ok(notes)
 }
 
@@ -110,7 +111,7 @@ fn is_as_wanted(notes: &Notes) -> bool {
 
 #[test]
 fn a_listener_hears_of_each_batch_and_each_accepted_move(rt: HostRuntime) -> Result<(), Fail> {
-    let is_as_wanted = is_as_wanted(&notes_of_a_run(rt.alloc())?);
+    let is_as_wanted = is_as_wanted(&notes_of_a_run(&rt, rt.alloc())?);
     assert!(rt; is_as_wanted);
     Ok(())
 }

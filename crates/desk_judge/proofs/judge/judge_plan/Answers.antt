@@ -11,7 +11,7 @@ use Rattle.desk_judge.proofs.JudgeLaws.{item-names, report-is, judged-all, judge
 use Rattle.desk_judge.proofs.judge.judge_plan.Goals as goal
 
 pub verdict_report-requires : goal.verdict_report-requires
-verdict_report-requires g c = item-names c.args.inst.now c.args.plan.now c.in-Ok.broken c.in-Ok.ensures
+verdict_report-requires g c = item-names c.args.inst.now c.args.plan.now c.in-Ok.found.broken c.in-Ok.ensures.broken
 
 pub returns-in-Ok-put_outputs : goal.returns-in-Ok-put_outputs
 returns-in-Ok-put_outputs g c =
@@ -20,9 +20,9 @@ returns-in-Ok-put_outputs g c =
     let I = c.args.inst.now in
     let P = c.args.plan.now in
     subst (λ (how : Ending). Completes [] before now (verdict I P) how) (sym c.end_with.ensures)
-    (judged-all before now I P c.in-Ok.broken (named_texts c.new.result.items) c.in-Ok-verdict_report.report.items c.in-Ok-put_outputs.field-0 c.in-Ok.ensures
+    (judged-all before now I P c.in-Ok.found.broken (named_texts c.new.result.items) c.in-Ok-verdict_report.report.items c.in-Ok-put_outputs.field-0 c.in-Ok.ensures.broken
     (ap (λ (files : List (File × Vec ℕ Global)). named_texts files) c.new.ensures.items)
-    (report-is I P c.in-Ok.broken c.in-Ok-verdict_report.report.items c.full_cost.result c.in-Ok-verdict_report.ensures c.full_cost.ensures.cost)
+    (report-is I P c.in-Ok.found.broken c.in-Ok-verdict_report.report.items c.in-Ok.found.cost c.in-Ok-verdict_report.ensures c.in-Ok.ensures.cost)
     c.in-Ok-put_outputs.ensures)
 
 pub returns : goal.returns
@@ -31,7 +31,7 @@ returns g c =
     let now = world (g.F.Folder.outside c.put_outputs.new.folder) (g.O.Sink.report c.put_outputs.new.out) in
     let I = c.args.inst.now in
     let P = c.args.plan.now in
-    judged-short before now I P c.in-Ok.broken (named_texts c.new.result.items) c.in-Ok-verdict_report.report.items c.in-Err-put_outputs.end c.in-Ok.ensures
+    judged-short before now I P c.in-Ok.found.broken (named_texts c.new.result.items) c.in-Ok-verdict_report.report.items c.in-Err-put_outputs.end c.in-Ok.ensures.broken
     (ap (λ (files : List (File × Vec ℕ Global)). named_texts files) c.new.ensures.items)
-    (report-is I P c.in-Ok.broken c.in-Ok-verdict_report.report.items c.full_cost.result c.in-Ok-verdict_report.ensures c.full_cost.ensures.cost)
+    (report-is I P c.in-Ok.found.broken c.in-Ok-verdict_report.report.items c.in-Ok.found.cost c.in-Ok-verdict_report.ensures c.in-Ok.ensures.cost)
     c.in-Err-put_outputs.ensures
