@@ -44,6 +44,9 @@ pub(crate) const ORDER_LIMIT: &str =
 
 const FILE_SIZE: &str = "the file has more than 67,108,864 bytes, the most that it may have.";
 
+// Of a file that no command reads nothing is refused.
+const NOT_READ: &[CauseRow] = &[];
+
 // What is wrong with a file as a whole.
 const WHOLE_FILE: &[CauseRow] = &[(Cause::Size, FILE_SIZE)];
 
@@ -92,10 +95,11 @@ pub fn causes_of_lines(file: File) -> &'static [CauseRow] {
         File::AltAirports => ALT_AIRPORTS,
         File::Tariff => TARIFF,
         File::Feed => FEED,
-        File::Crew | File::SolAdded => &[],
+        File::Crew => NOT_READ,
         File::Journal => JOURNAL,
         File::SolRotations => SOL_ROTATIONS,
         File::SolItineraries => SOL_ITINERARIES,
+        File::SolAdded => NOT_READ,
     }
 }
 
@@ -103,10 +107,11 @@ pub fn causes_of_lines(file: File) -> &'static [CauseRow] {
 pub fn causes_of_the_whole(file: File) -> &'static [CauseRow] {
     match file {
         File::Config => WHOLE_CONFIG,
-        File::Crew | File::SolAdded => &[],
+        File::Crew => NOT_READ,
         File::Journal => WHOLE_JOURNAL,
         File::SolRotations => WHOLE_SOL_ROTATIONS,
         File::SolItineraries => WHOLE_SOL_ITINERARIES,
+        File::SolAdded => NOT_READ,
         _ => WHOLE_FILE,
     }
 }

@@ -1,0 +1,5 @@
+pub mod PlaceLaws
+pub mod RuleLaws
+pub mod DutyLaws
+pub mod WorkedLaws
+pub mod LeastLaws

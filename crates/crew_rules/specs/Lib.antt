@@ -1,0 +1,4 @@
+pub mod Crews
+pub mod Broken
+pub mod Words
+pub mod Valid
