@@ -156,7 +156,7 @@ both-split I P x p y back =
       others = Tidy ∷ Refill (leg x) ∷ Refill (leg y) ∷ [];
       is = refl;
       among = and_from _ _ (set-among (unit_planes P u) (unit_legs I P u) x p (earliest I x) Cancelled (restores-own I P x p x here) own)
-        (two-true _ _ (set-among (unit_planes P u) (unit_legs I P u) y p (back_departure I x p y) Cancelled (restores-own I P x p y there) own) own);
+          (two-true _ _ (set-among (unit_planes P u) (unit_legs I P u) y p (back_departure I x p y) Cancelled (restores-own I P x p y there) own) own);
       tidying = two-true _ _ here there;
     }
 
