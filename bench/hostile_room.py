@@ -12,7 +12,7 @@ from typing import NamedTuple
 
 from judge import expected
 from judge.files import DAY_FILES
-from stopped import payloads
+from judge.stored import file_payloads
 
 TOP = os.path.dirname(os.path.dirname(os.path.abspath(__file__)))
 SAMPLE = os.path.join(TOP, "examples", "disrupted")
@@ -150,7 +150,7 @@ def disk_left(room):
     if os.path.getsize(path) > 1 << 24:
         return "; journal.bin: as it was"
     with open(path, "rb") as file:
-        found = payloads(file.read())
+        found = file_payloads(file.read())
     return "; journal.bin: " + ("damaged" if found is None else "%d entries" % len(found))
 
 
