@@ -12,7 +12,7 @@ from typing import NamedTuple
 
 from judge import expected
 from judge.files import DAY_FILES
-from stopped import payloads
+from judge.stored import file_payloads
 
 TOP = os.path.dirname(os.path.dirname(os.path.abspath(__file__)))
 SAMPLE = os.path.join(TOP, "examples", "disrupted")
@@ -145,7 +145,7 @@ def left_in(room, new):
 def entries_left(room, folder="out"):
     """The entries that stand in journal.bin of a folder; none where it is damaged."""
     with open(room.of(folder, "journal.bin"), "rb") as file:
-        return payloads(file.read())
+        return file_payloads(file.read())
 
 
 def disk_left(room):

@@ -17,7 +17,7 @@ import tempfile
 from concurrent.futures import ThreadPoolExecutor
 from typing import NamedTuple
 
-from stopped import payloads
+from judge.stored import file_payloads
 
 HERE = os.path.dirname(os.path.abspath(__file__))
 CRATES = os.path.join(os.path.dirname(HERE), "crates")
@@ -138,7 +138,7 @@ def is_begun(given, own):
 
 def is_kept(shim, asked, given, own):
     """Whether journal.bin holds a beginning, with all that it held, and whether the next run goes on with it."""
-    found, whole, held = payloads(given.journal), payloads(own.journal), payloads(asked.journal)
+    found, whole, held = file_payloads(given.journal), file_payloads(own.journal), file_payloads(asked.journal)
     if found is None or found != whole[:len(found)] or len(found) < len(held):
         return False
     again = made(shim, asked._replace(journal=given.journal), 0)

@@ -4,11 +4,12 @@
     bench/stopped.py [DAY]          300 stops of a run over DAY; over a made-up day that a recovery was made of, where none is given
     bench/stopped.py --runs N DAY   N stops
 
-The run is killed after a random time. Then the file that it left is read by this program, as docs/FORMATS.md has it: what it holds has
-to be a beginning of the journal that `replay` writes, with all that the run before had left; and the next run goes on from there. Once a
-run has come to its end, the journal, the plan and the report have to be those of `replay`, with the line `opened N` before the report,
-and the file is taken away for the next try. It prints what it counted, and how many events a second were kept; it is no part of
-the checks, since a stop comes where it comes. It ends with 1 where anything was other than it has to be.
+The run is killed after a random time. Then the file that it left is read by this program, as docs/FORMATS.md has it: its records have to
+be those of a beginning of the journal.csv that `replay` writes, which bench/judge spells as records, with all that the run before had
+left; and the next run goes on from there. Once a run has come to its end, the file has to hold all of that journal, the journal.csv, the
+plan and the report have to be those of `replay`, with the line `opened N` before the report, and the file is taken away for the next try.
+It prints what it counted, and how many events a second were kept; it is no part of the checks, since a stop comes where it comes. It ends
+with 1 where anything was other than it has to be.
 """
 
 import os
@@ -18,6 +19,10 @@ import subprocess
 import sys
 import tempfile
 import time
+
+from judge.disk import read as files_of
+from judge.files import DAY_FILES
+from judge.stored import file_payloads, journal_payloads
 
 TOP = os.path.dirname(os.path.dirname(os.path.abspath(__file__)))
 DESK = os.path.join(TOP, "crates", "desk", "out", "desk")
@@ -32,18 +37,9 @@ def read(path):
         return file.read()
 
 
-def payloads(text):
-    """The payloads of a file of records; none where it is damaged."""
-    found, place = [], 0
-    if len(text) < 2:
-        return found
-    while text[place:place + 1] == b"\x01":
-        size = int.from_bytes(text[place + 1:place + 5], "big")
-        if place + 5 + size >= len(text):
-            return None
-        found.append(text[place + 5:place + 5 + size])
-        place += 5 + size
-    return found
+def replayed(day, plain):
+    """The payloads of the journal that `replay` wrote of a day."""
+    return journal_payloads({**files_of(day, DAY_FILES), **files_of(plain, ("journal.csv",))})
 
 
 def run(words, after=None):
@@ -85,14 +81,16 @@ def tried(day, folder, stops):
     begun = time.time()
     whole = run(["store", day, out])
     took = time.time() - begun
-    kept = payloads(read(os.path.join(out, "journal.bin")))
+    kept = replayed(day, plain)
     faults = [] if whole == (status, b"opened 0\n" + report) else [f"a run that was not stopped: {whole}"]
+    if file_payloads(read(os.path.join(out, "journal.bin"))) != kept:
+        faults.append("a run that was not stopped kept another journal than that of replay")
     print(f"{len(kept)} events are kept in {took:.2f} s, {2 * len(kept) / took:.0f} syncs a second")
     counts, ended, held = {}, 0, 0
     shutil.rmtree(out)
     for _ in range(stops):
         given = run(["store", day, out], random.uniform(0, 1.2 * took))
-        found = payloads(read(os.path.join(out, "journal.bin")))
+        found = file_payloads(read(os.path.join(out, "journal.bin")))
         if found is None or found != kept[:len(found)] or len(found) < held:
             faults.append(f"after {held} entries the file holds {found and len(found)}")
             break
@@ -100,7 +98,7 @@ def tried(day, folder, stops):
         if given is None:
             held = len(found)
             continue
-        if given != (status, b"opened %d\n" % held + report):
+        if given != (status, b"opened %d\n" % held + report) or found != kept:
             faults.append(f"a run that went on from {held}: {given}")
         faults += [f"{name} is another" for name in FILES if read(os.path.join(out, name)) != read(os.path.join(plain, name))]
         ended, held = ended + 1, 0

@@ -18,4 +18,5 @@ generated    the day that `gen` makes up
 words        the words of a command
 expected     what is expected of a whole run: status, report and files
 disk         the same over folders of the disk
+stored       journal.bin: the events of a journal as records
 """

@@ -7,10 +7,10 @@ use Rattle.desk_disk.specs.Crashes.{RunsTo}
 use Rattle.desk_disk.proofs.Torn.{nothing_pending_is}
 use Rattle.desk_disk.proofs.Runs.{starts, runs_weaker}
 use Rattle.disk_records.specs.Files.{HasEndMark, IsAtRest, IsWithOrWithout}
-use Rattle.desk_store.specs.Left.{before_others, StandsFirst}
+use Rattle.desk_store.specs.Left.{before_others, HoldsBeginning}
 
 -- a file at rest has its records, whatever crash comes
-pub rests_first : (ps : List (List ℕ)) (place : ℕ) (h : FileState) (c : List ℕ) → IsAtRest ps place h → MayLeave h c → StandsFirst ps (length ps) c
+pub rests_first : (ps : List (List ℕ)) (place : ℕ) (h : FileState) (c : List ℕ) → IsAtRest ps place h → MayLeave h c → HoldsBeginning ps (length ps) c
 rests_first ps place h c rest left = record {
   front = ps;
   next = None;
@@ -25,7 +25,7 @@ others_more : (next : Option (List ℕ)) (rest qs : List (List ℕ)) → before_
 others_more None rest qs = refl
 others_more (Some p) rest qs = refl
 
-pub first_more : (ps qs : List (List ℕ)) (m n : ℕ) (c : List ℕ) → m ≤ n → StandsFirst ps n c → StandsFirst (ps ++ qs) m c
+pub first_more : (ps qs : List (List ℕ)) (m n : ℕ) (c : List ℕ) → m ≤ n → HoldsBeginning ps n c → HoldsBeginning (ps ++ qs) m c
 first_more ps qs m n c le o = record {
   front = o.front;
   next = o.next;
@@ -35,22 +35,22 @@ first_more ps qs m n c le o = record {
   whole = o.whole;
 }
 
-pub first_of : (ps qs all : List (List ℕ)) (m n : ℕ) (c : List ℕ) → ps ++ qs ≡ all → m ≤ n → StandsFirst ps n c → StandsFirst all m c
-first_of ps qs all m n c is le o = subst (λ (rs : List (List ℕ)). StandsFirst rs m c) is (first_more ps qs m n c le o)
+pub first_of : (ps qs all : List (List ℕ)) (m n : ℕ) (c : List ℕ) → ps ++ qs ≡ all → m ≤ n → HoldsBeginning ps n c → HoldsBeginning all m c
+first_of ps qs all m n c is le o = subst (λ (rs : List (List ℕ)). HoldsBeginning rs m c) is (first_more ps qs m n c le o)
 
 -- nothing was added yet of what will be
-pub adds_none : (ps qs : List (List ℕ)) (place : ℕ) (was : DiskSide) (shown : Option DiskSide) → shown ≡ Some was → IsAtRest ps place was.file → RunsTo was shown (StandsFirst (ps ++ qs) (length ps))
+pub adds_none : (ps qs : List (List ℕ)) (place : ℕ) (was : DiskSide) (shown : Option DiskSide) → shown ≡ Some was → IsAtRest ps place was.file → RunsTo was shown (HoldsBeginning (ps ++ qs) (length ps))
 adds_none ps qs place was shown is rest = record {
   now = was;
   shows = is;
-  leaves = starts was (StandsFirst (ps ++ qs) (length ps)) (λ c left. first_more ps qs (length ps) (length ps) c (omega arith) (rests_first ps place was.file c rest left));
+  leaves = starts was (HoldsBeginning (ps ++ qs) (length ps)) (λ c left. first_more ps qs (length ps) (length ps) c (omega arith) (rests_first ps place was.file c rest left));
 }
 
 -- a file with one record more, or without it
-one_first : (ps : List (List ℕ)) (p c : List ℕ) → IsWithOrWithout ps p c → StandsFirst (ps ++ p ∷ []) (length ps) c
+one_first : (ps : List (List ℕ)) (p c : List ℕ) → IsWithOrWithout ps p c → HoldsBeginning (ps ++ p ∷ []) (length ps) c
 one_first ps p c (inl whole) = record { front = ps; next = None; rest = p ∷ []; is = refl; least = omega arith; whole = whole }
 one_first ps p c (inr whole) = record { front = ps; next = Some p; rest = []; is = refl; least = omega arith; whole = whole }
 
 -- one is added
-pub adds_one : (ps : List (List ℕ)) (p : List ℕ) (was : DiskSide) (shown : Option DiskSide) → RunsTo was shown (IsWithOrWithout ps p) → RunsTo was shown (StandsFirst (ps ++ p ∷ []) (length ps))
-adds_one ps p was shown run = runs_weaker was shown (IsWithOrWithout ps p) (StandsFirst (ps ++ p ∷ []) (length ps)) (λ c h. one_first ps p c h) run
+pub adds_one : (ps : List (List ℕ)) (p : List ℕ) (was : DiskSide) (shown : Option DiskSide) → RunsTo was shown (IsWithOrWithout ps p) → RunsTo was shown (HoldsBeginning (ps ++ p ∷ []) (length ps))
+adds_one ps p was shown run = runs_weaker was shown (IsWithOrWithout ps p) (HoldsBeginning (ps ++ p ∷ []) (length ps)) (λ c h. one_first ps p c h) run

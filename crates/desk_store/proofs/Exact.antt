@@ -19,7 +19,7 @@ use Rattle.desk_store.proofs.Storing.{behind-on}
 pub undamaged : (k : KeptStory) (c : List ℕ) (records : List (List ℕ)) → IsDamaged k c → HoldsRecords k records c → ⊥
 undamaged k c records d h = opened_undamaged (MayStand k.story.day k.batches) records d.records h.place d.at c h.opens h.each d.there
 
-story_is : (s : Story) → story_payloads s ≡ history_payloads (run (opening s.day) s.events)
+pub story_is : (s : Story) → story_payloads s ≡ history_payloads (run (opening s.day) s.events)
 unfolding history
 story_is s = refl
 

@@ -9,7 +9,7 @@ use Rattle.disk_records.specs.declared.faults.OpenFault.{OpenFault}
 use Rattle.disk_records.specs.declared.faults.OpenFault.TheVariants as opening_fault
 use Rattle.disk_records.specs.Records.{AreAccepted, Opens}
 use Rattle.disk_records.specs.Files.{IsAtRest, IsOpening, LeftBy, RefusedBy, opened_at}
-use Rattle.desk_store.specs.Left.{StandsFirst}
+use Rattle.desk_store.specs.Left.{HoldsBeginning}
 use Rattle.desk_data.specs.Situation.{Situation}
 use Rattle.desk_model.specs.declared.answer.Entry.{Entry}
 use Rattle.desk_model.specs.declared.answer.Event.{Event}
@@ -107,14 +107,14 @@ completed-is k records taken number f =
 
 pub passes : (k : KeptStory) (records : List (List ℕ)) (was mid now : DiskSide) (shown : Option DiskSide) (place taken number : ℕ) → Opens records place was.file.bytes → AreAccepted (MayStand k.story.day k.batches) [] records
     → RunsTo was shown (IsOpening was.file.bytes) → shown ≡ Some mid → IsFront (opening k.story.day) k.story.events (entered records) taken number
-    → LeavesOnly mid now (StandsFirst (added_to (opening k.story.day) k.story.events records taken) (length records)) → PassesComparison k records was now
+    → LeavesOnly mid now (HoldsBeginning (added_to (opening k.story.day) k.story.events records taken) (length records)) → PassesComparison k records was now
 passes k records was mid now shown place taken number opens each r is f adding = record {
   held = record { place = place; opens = opens; each = each };
   first = subst (λ (all : List (List ℕ)). AreFirst records all) (sym (story_is k.story)) (front_first (opening k.story.day) k.story.events records taken number f);
   stores = record {
     compared = mid;
     opening = same_now was mid shown (IsOpening was.file.bytes) r is;
-    adding = subst (λ (all : List (List ℕ)). LeavesOnly mid now (StandsFirst all (length records))) (completed-is k records taken number f) adding;
+    adding = subst (λ (all : List (List ℕ)). LeavesOnly mid now (HoldsBeginning all (length records))) (completed-is k records taken number f) adding;
   };
 }
 
@@ -149,18 +149,18 @@ stopped-early ending.ReportFault h = absurd h
 
 pub stopped-left : (k : KeptStory) (records : List (List ℕ)) (was mid : DiskSide) (shown shown' : Option DiskSide) (place taken number : ℕ) (how : Ending) → IsStopped how → Opens records place was.file.bytes → AreAccepted (MayStand k.story.day k.batches) [] records
     → RunsTo was shown (IsOpening was.file.bytes) → shown ≡ Some mid → IsFront (opening k.story.day) k.story.events (entered records) taken number
-    → RunsTo mid shown' (StandsFirst (added_to (opening k.story.day) k.story.events records taken) (length records)) → Left k was shown' how
+    → RunsTo mid shown' (HoldsBeginning (added_to (opening k.story.day) k.story.events records taken) (length records)) → Left k was shown' how
 stopped-left k records was mid shown shown' place taken number how h opens each r is f adding =
     (adding.now, adding.shows, passes_or k records was adding.now how h (passes k records was mid adding.now shown place taken number opens each r is f adding.leaves))
 
 -- where it was done
 pub kept-left : (k : KeptStory) (records : List (List ℕ)) (was mid now : DiskSide) (shown shown' : Option DiskSide) (place end taken number held : ℕ) → Opens records place was.file.bytes → AreAccepted (MayStand k.story.day k.batches) [] records
     → RunsTo was shown (IsOpening was.file.bytes) → shown ≡ Some mid → IsFront (opening k.story.day) k.story.events (entered records) taken number
-    → RunsTo mid shown' (StandsFirst (added_to (opening k.story.day) k.story.events records taken) (length records)) → shown' ≡ Some now → IsAtRest (added_to (opening k.story.day) k.story.events records taken) end now.file
+    → RunsTo mid shown' (HoldsBeginning (added_to (opening k.story.day) k.story.events records taken) (length records)) → shown' ≡ Some now → IsAtRest (added_to (opening k.story.day) k.story.events records taken) end now.file
     → held ≡ length (run (opening k.story.day) (take taken k.story.events))
     → PassesComparison k records was now × IsKept k records now × (held ≡ length (entered records))
 kept-left k records was mid now shown shown' place end taken number held opens each r is f adding shows rest size = (
-  passes k records was mid now shown place taken number opens each r is f (same_now mid now shown' (StandsFirst (added_to (opening k.story.day) k.story.events records taken) (length records)) adding shows),
+  passes k records was mid now shown place taken number opens each r is f (same_now mid now shown' (HoldsBeginning (added_to (opening k.story.day) k.story.events records taken) (length records)) adding shows),
   record { place = end; rest = subst (λ (all : List (List ℕ)). IsAtRest all end now.file) (completed-is k records taken number f) rest },
   size ∙ front_size (opening k.story.day) k.story.events records taken number f,
 )

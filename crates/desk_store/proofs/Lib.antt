@@ -8,3 +8,5 @@ pub mod Keeping
 pub mod Exact
 pub mod Spelled
 pub mod Owned
+pub mod Passed
+pub mod Continued

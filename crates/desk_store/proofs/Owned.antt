@@ -22,7 +22,7 @@ use Rattle.desk_runs.specs.Finishing.{Leaves}
 use Rattle.desk_tasks.specs.Play.{history}
 use Rattle.desk_tasks.specs.Keep.{KeptStory, kept}
 use Rattle.desk_store.specs.Held.{completed, entered, story_payloads}
-use Rattle.desk_store.specs.Left.{before_others, StandsFirst}
+use Rattle.desk_store.specs.Left.{before_others, HoldsBeginning}
 use Rattle.desk_store.specs.Own.{CanBeStored, GoesOn, IsOwn, OpensFor}
 use Rattle.desk_store.specs.Journal.{EndsEarly, EndsWritten, IsKept, KeepsStory, LeavesJournal, OnlyOpens, PassesComparison}
 use Rattle.desk_store.proofs.Adding.{rests_first}
@@ -36,19 +36,19 @@ pub own_begins : (k : KeptStory) → IsOwn k 0 []
 own_begins k = record { front = []; next = None; rest = story_payloads k.story; is = refl; least = omega arith; whole = inr (record { none = refl; few = omega arith }) }
 
 -- opening leaves it whole
-own_opening : (all : List (List ℕ)) (n : ℕ) (before c : List ℕ) → StandsFirst all n before → IsOpening before c → StandsFirst all n c
+own_opening : (all : List (List ℕ)) (n : ℕ) (before c : List ℕ) → HoldsBeginning all n before → IsOpening before c → HoldsBeginning all n c
 own_opening all n before c o h = record { front = o.front; next = o.next; rest = o.rest; is = o.is; least = o.least; whole = still_whole o.front o.next before c o.whole h }
 
-fewer : (all : List (List ℕ)) (m n : ℕ) (c : List ℕ) → m ≤ n → StandsFirst all n c → StandsFirst all m c
+fewer : (all : List (List ℕ)) (m n : ℕ) (c : List ℕ) → m ≤ n → HoldsBeginning all n c → HoldsBeginning all m c
 fewer all m n c le o = record { front = o.front; next = o.next; rest = o.rest; is = o.is; least = omega (arith, le, o.least); whole = o.whole }
 
 -- what it opens as is a beginning of all
-record Begins (all records : List (List ℕ)) (n : ℕ) : Type 0 where
-  more : List (List ℕ)
-  is : all ≡ records ++ more
-  least : n ≤ length records
+pub record Begins (all records : List (List ℕ)) (n : ℕ) : Type 0 where
+  pub more : List (List ℕ)
+  pub is : all ≡ records ++ more
+  pub least : n ≤ length records
 
-begins_by : (all : List (List ℕ)) (n : ℕ) (c : List ℕ) (o : StandsFirst all n c) (found : List (List ℕ)) → (found ≡ o.front) ⊎ ((payload : List ℕ) × (o.next ≡ Some payload) × (found ≡ o.front ++ payload ∷ [])) → Begins all found n
+pub begins_by : (all : List (List ℕ)) (n : ℕ) (c : List ℕ) (o : HoldsBeginning all n c) (found : List (List ℕ)) → (found ≡ o.front) ⊎ ((payload : List ℕ) × (o.next ≡ Some payload) × (found ≡ o.front ++ payload ∷ [])) → Begins all found n
 begins_by all n c o found (inl same) = record {
   more = before_others o.next o.rest;
   is = o.is ∙ ap (λ (l : List (List ℕ)). l ++ before_others o.next o.rest) (sym same);
@@ -62,7 +62,7 @@ begins_by all n c o found (inr one) =
       least = omega (arith, o.least, ap length one.2, length-append o.front (p ∷ []));
     }
 
-begins_as : (all : List (List ℕ)) (n : ℕ) (c : List ℕ) (o : StandsFirst all n c) (records : List (List ℕ)) (place : ℕ) → Opens records place c → Begins all records n
+begins_as : (all : List (List ℕ)) (n : ℕ) (c : List ℕ) (o : HoldsBeginning all n c) (records : List (List ℕ)) (place : ℕ) → Opens records place c → Begins all records n
 begins_as all n c o records place opens =
     let a = whole_opens o.front o.next c o.whole in
     let same : records ≡ a.found = (opens_one_way records a.found place a.place c opens a.opens).0 in
@@ -96,8 +96,8 @@ passing_leaves k n records was now own p =
     let b = begins_as all n was.file.bytes own records p.held.place p.held.opens in
     let same : completed records all ≡ all = front_completed k.story records b.more b.is in
     joins was mid now (IsOwn k n) (opening_leaves k n was mid own p.stores.opening)
-    (weaker mid now (StandsFirst (completed records all) (length records)) (IsOwn k n)
-    (λ c o. fewer all n (length records) c b.least (subst (λ (rs : List (List ℕ)). StandsFirst rs (length records) c) same o)) p.stores.adding)
+    (weaker mid now (HoldsBeginning (completed records all) (length records)) (IsOwn k n)
+    (λ c o. fewer all n (length records) c b.least (subst (λ (rs : List (List ℕ)). HoldsBeginning rs (length records) c) same o)) p.stores.adding)
 
 either_leaves : (k : KeptStory) (n : ℕ) (was now : DiskSide) → IsOwn k n was.file.bytes → OnlyOpens was now ⊎ ((records : List (List ℕ)) × PassesComparison k records was now) → LeavesOnly was now (IsOwn k n)
 either_leaves k n was now own (inl opens) = opening_leaves k n was now own opens
@@ -168,4 +168,4 @@ own_kept k n records was now c own p all left =
     let b = begins_as (story_payloads k.story) n was.file.bytes own records p.held.place p.held.opens in
     let same : completed records (story_payloads k.story) ≡ story_payloads k.story = front_completed k.story records b.more b.is in
     let first = rests_first (completed records (story_payloads k.story)) all.place now.file c all.rest left in
-    subst (λ (ps : List (List ℕ)). StandsFirst ps (length ps) c) same first
+    subst (λ (ps : List (List ℕ)). HoldsBeginning ps (length ps) c) same first

@@ -11,35 +11,35 @@ use Rattle.desk_model.specs.declared.answer.Event.{Event}
 use Rattle.desk_model.specs.declared.answer.Event.TheVariants as event
 use Rattle.desk_model.specs.States.{opening}
 use Rattle.desk_model.specs.Histories.{has_room, is_batch}
-use Rattle.journal_disk.specs.Payloads.{AreNext, asked_in, payload_by, payloads_from, payloads_of, entered_from as events_from}
+use Rattle.journal_disk.specs.Payloads.{AreNext, asked_in, payload_by, payloads_from, payloads_of, with_room_from as events_from}
 use Rattle.journal_disk.proofs.EnteredLaws.{entered_history, front_enters}
 use Rattle.desk_tasks.specs.Play.{Story, history}
 use Rattle.desk_store.specs.Held.{takes, entered_from, entered, story_payloads, completed}
 
 -- ---- one payload, and one event
 
-none : (n : ℕ) → entered_from n [] ≡ []
+pub none : (n : ℕ) → entered_from n [] ≡ []
 unfolding entered_from
 none n = refl
 
-takes_one : (n : ℕ) (p : List ℕ) (ps : List (List ℕ)) → takes n p ≡ true → entered_from n (p ∷ ps) ≡ p ∷ entered_from (n + 1) ps
+pub takes_one : (n : ℕ) (p : List ℕ) (ps : List (List ℕ)) → takes n p ≡ true → entered_from n (p ∷ ps) ≡ p ∷ entered_from (n + 1) ps
 unfolding entered_from
 takes_one n p ps is = rw is refl
 
-takes_past : (n : ℕ) (p : List ℕ) (ps : List (List ℕ)) → takes n p ≡ false → entered_from n (p ∷ ps) ≡ entered_from n ps
+pub takes_past : (n : ℕ) (p : List ℕ) (ps : List (List ℕ)) → takes n p ≡ false → entered_from n (p ∷ ps) ≡ entered_from n ps
 unfolding entered_from
 takes_past n p ps is = rw is refl
 
-events_none : (n : ℕ) → events_from n [] ≡ []
-unfolding Rattle.journal_disk.specs.Payloads.entered_from
+pub events_none : (n : ℕ) → events_from n [] ≡ []
+unfolding Rattle.journal_disk.specs.Payloads.with_room_from
 events_none n = refl
 
-events_one : (n : ℕ) (e : ℕ × Event) (es : List (ℕ × Event)) → has_room n e.1 ≡ true → events_from n (e ∷ es) ≡ e ∷ events_from (n + 1) es
-unfolding Rattle.journal_disk.specs.Payloads.entered_from
+pub events_one : (n : ℕ) (e : ℕ × Event) (es : List (ℕ × Event)) → has_room n e.1 ≡ true → events_from n (e ∷ es) ≡ e ∷ events_from (n + 1) es
+unfolding Rattle.journal_disk.specs.Payloads.with_room_from
 events_one n e es is = rw is refl
 
-events_past : (n : ℕ) (e : ℕ × Event) (es : List (ℕ × Event)) → has_room n e.1 ≡ false → events_from n (e ∷ es) ≡ events_from n es
-unfolding Rattle.journal_disk.specs.Payloads.entered_from
+pub events_past : (n : ℕ) (e : ℕ × Event) (es : List (ℕ × Event)) → has_room n e.1 ≡ false → events_from n (e ∷ es) ≡ events_from n es
+unfolding Rattle.journal_disk.specs.Payloads.with_room_from
 events_past n e es is = rw is refl
 
 events_few : (n : ℕ) (es : List (ℕ × Event)) → length (events_from n es) ≤ length es
@@ -98,10 +98,10 @@ front_completed s records more is =
 
 -- ---- of a day with few batches: these always find room
 
-below : (n most : ℕ) → nat_lt n most ≡ true → n < most
+pub below : (n most : ℕ) → nat_lt n most ≡ true → n < most
 below n most is = grind (arith, nat_tests)
 
-has_below : (n most : ℕ) → n < most → nat_lt n most ≡ true
+pub has_below : (n most : ℕ) → n < most → nat_lt n most ≡ true
 has_below n most lt = grind (arith, nat_tests)
 
 entered_both : (I : Situation) (batches : List Batch) (n b : ℕ) (es : List (ℕ × Event)) → length batches ≤ 100000 → n ≤ 900000 + b → AreNext I batches b es → entered_from n (payloads_from b es) ≡ payloads_from b (events_from n es)

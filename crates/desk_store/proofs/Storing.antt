@@ -17,7 +17,7 @@ use Rattle.desk_disk.specs.FileStates.{DiskSide}
 use Rattle.desk_disk.specs.Crashes.{LeavesOnly, RunsTo}
 use Rattle.desk_disk.proofs.Runs.{runs_weaker, runs_join}
 use Rattle.disk_records.specs.Files.{IsAtRest}
-use Rattle.desk_store.specs.Left.{StandsFirst}
+use Rattle.desk_store.specs.Left.{HoldsBeginning}
 use Rattle.journal_disk.specs.Payloads.{asked_in, batches_among, history_payloads, payload_by}
 use Rattle.desk_store.specs.Compared.{next_payload}
 use Rattle.desk_store.specs.Added.{added, all_entries, lacking}
@@ -74,17 +74,17 @@ pub record Stands (was : DiskSide) (shown : Option DiskSide) (records all : List
   pub now : DiskSide
   pub shows : shown ≡ Some now
   pub rest : IsAtRest (records ++ behind n h) place now.file
-  pub leaves : LeavesOnly was now (StandsFirst all (length records))
+  pub leaves : LeavesOnly was now (HoldsBeginning all (length records))
 
 pub stands-start : (was : DiskSide) (shown : Option DiskSide) (records all : List (List ℕ)) (n : ℕ) (h : List Entry) (place : ℕ) → shown ≡ Some was → IsAtRest records place was.file → n ≡ length h → (more : List (List ℕ)) → records ++ more ≡ all → Stands was shown records all n h place
 stands-start was shown records all n h place is rest size more whole =
     let none : behind n h ≡ [] = drop_of_length-le (history_payloads h) (omega (arith, size, length-history h)) in
-    let run = subst (λ (ps : List (List ℕ)). RunsTo was shown (StandsFirst ps (length records))) whole (adds_none records more place was shown is rest) in
+    let run = subst (λ (ps : List (List ℕ)). RunsTo was shown (HoldsBeginning ps (length records))) whole (adds_none records more place was shown is rest) in
     record {
       now = was;
       shows = is;
       rest = subst (λ (ps : List (List ℕ)). IsAtRest ps place was.file) (sym (ap (λ (ps : List (List ℕ)). records ++ ps) none ∙ append-nil records)) rest;
-      leaves = stays_shown was shown (StandsFirst all (length records)) is run;
+      leaves = stays_shown was shown (HoldsBeginning all (length records)) is run;
     }
   where
     stays_shown : (was : DiskSide) (shown : Option DiskSide) (P : List ℕ → Type 0) → shown ≡ Some was → RunsTo was shown P → LeavesOnly was was P
@@ -92,7 +92,7 @@ stands-start was shown records all n h place is rest size more whole =
 
 -- a step, at each moment of it
 pub stands-on : (S : State) (was : DiskSide) (shown told : Option DiskSide) (records all : List (List ℕ)) (n : ℕ) (h : List Entry) (e : ℕ × Event) (events : List (ℕ × Event)) (place : ℕ) → n ≤ length h → records ++ behind n (after S h (e ∷ events)) ≡ all
-    → (s : Stands was shown records all n h place) → RunsTo s.now told (StandsFirst ((records ++ behind n h) ++ added h e) (length (records ++ behind n h))) → RunsTo was told (StandsFirst all (length records))
+    → (s : Stands was shown records all n h place) → RunsTo s.now told (HoldsBeginning ((records ++ behind n h) ++ added h e) (length (records ++ behind n h))) → RunsTo was told (HoldsBeginning all (length records))
 stands-on S was shown told records all n h e events place le whole s run =
     let w = with_event S h e in
     let front : (records ++ behind n h) ++ added h e ≡ records ++ behind n w = append_assoc records (behind n h) (added h e) ∙ ap (λ (ps : List (List ℕ)). records ++ ps) (sym (behind-next S n h e le)) in
@@ -100,23 +100,23 @@ stands-on S was shown told records all n h e events place le whole s run =
     let is : ((records ++ behind n h) ++ added h e) ++ more.0 ≡ all =
     ap (λ (ps : List (List ℕ)). ps ++ more.0) front ∙ append_assoc records (behind n w) more.0 ∙ ap (λ (ps : List (List ℕ)). records ++ ps) (more.1 ∙ ap (behind n) (sym (run-step S h e events))) ∙ whole in
     let least : length records ≤ length (records ++ behind n h) = omega (arith, length-append records (behind n h)) in
-    runs_join was s.now told (StandsFirst all (length records)) s.leaves
-    (runs_weaker s.now told (StandsFirst ((records ++ behind n h) ++ added h e) (length (records ++ behind n h))) (StandsFirst all (length records))
+    runs_join was s.now told (HoldsBeginning all (length records)) s.leaves
+    (runs_weaker s.now told (HoldsBeginning ((records ++ behind n h) ++ added h e) (length (records ++ behind n h))) (HoldsBeginning all (length records))
     (λ c o. first_of ((records ++ behind n h) ++ added h e) more.0 all (length records) (length (records ++ behind n h)) c is least o) run)
 
 -- and after it
 pub stands-next : (S : State) (was : DiskSide) (told : Option DiskSide) (records all : List (List ℕ)) (n : ℕ) (h g : List Entry) (e : ℕ × Event) (place : ℕ) → n ≤ length h → g ≡ with_event S h e
-    → RunsTo was told (StandsFirst all (length records)) → (now : DiskSide) → told ≡ Some now → IsAtRest ((records ++ behind n h) ++ added h e) place now.file → Stands was told records all n g place
+    → RunsTo was told (HoldsBeginning all (length records)) → (now : DiskSide) → told ≡ Some now → IsAtRest ((records ++ behind n h) ++ added h e) place now.file → Stands was told records all n g place
 stands-next S was told records all n h g e place le is run now shows rest =
     let front : (records ++ behind n h) ++ added h e ≡ records ++ behind n g = append_assoc records (behind n h) (added h e) ∙ ap (λ (ps : List (List ℕ)). records ++ ps) (sym (behind-next S n h e le) ∙ ap (behind n) (sym is)) in
     record {
       now = now;
       shows = shows;
       rest = subst (λ (ps : List (List ℕ)). IsAtRest ps place now.file) front rest;
-      leaves = (let same : run.now ≡ now = (let both : Some run.now ≡ Some now = sym run.shows ∙ shows in cc both) in subst (λ (d : DiskSide). LeavesOnly was d (StandsFirst all (length records))) same run.leaves);
+      leaves = (let same : run.now ≡ now = (let both : Some run.now ≡ Some now = sym run.shows ∙ shows in cc both) in subst (λ (d : DiskSide). LeavesOnly was d (HoldsBeginning all (length records))) same run.leaves);
     }
 
-pub stands-runs : (was : DiskSide) (shown : Option DiskSide) (records all : List (List ℕ)) (n : ℕ) (h : List Entry) (place : ℕ) → Stands was shown records all n h place → RunsTo was shown (StandsFirst all (length records))
+pub stands-runs : (was : DiskSide) (shown : Option DiskSide) (records all : List (List ℕ)) (n : ℕ) (h : List Entry) (place : ℕ) → Stands was shown records all n h place → RunsTo was shown (HoldsBeginning all (length records))
 stands-runs was shown records all n h place s = record { now = s.now; shows = s.shows; leaves = s.leaves }
 
 -- how many batches it has then

@@ -19,7 +19,7 @@ use Rattle.desk_tasks.specs.Play.{history, story_on}
 use Rattle.desk_tasks.specs.Keep.{KeptStory, kept}
 use Rattle.desk_store.specs.Held.{entered, story_payloads, AreFirst, completed}
 use Rattle.desk_store.specs.Compared.{DiffersAt}
-use Rattle.desk_store.specs.Left.{StandsFirst}
+use Rattle.desk_store.specs.Left.{HoldsBeginning}
 
 -- these events on this day, and the batches of it
 abbrev pub kept_story : Situation → List Batch → List (ℕ × Event) → KeptStory
@@ -54,7 +54,7 @@ pub record IsOpened (was now : DiskSide) : Type 0 where
 pub record Stores (was now : DiskSide) (all : List (List ℕ)) (n : ℕ) : Type 0 where
   pub compared : DiskSide
   pub opening : LeavesOnly was compared (IsOpening was.file.bytes)
-  pub adding : LeavesOnly compared now (StandsFirst all n)
+  pub adding : LeavesOnly compared now (HoldsBeginning all n)
 
 -- the comparison has passed: the file held these records, and their entries are the first of the history. From then on each crash
 -- leaves a file that opens as these records and the first of the entries that they lack

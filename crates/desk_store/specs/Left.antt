@@ -9,7 +9,7 @@ before_others (Some payload) rest = payload ∷ rest
 
 -- a whole file with the first of these payloads, in their order, and at least n of them; where one more stands behind its records,
 -- that is the next of these. So it opens as the first of them, and opening it may be stopped too
-pub record StandsFirst (all : List (List ℕ)) (n : ℕ) (c : List ℕ) : Type 0 where
+pub record HoldsBeginning (all : List (List ℕ)) (n : ℕ) (c : List ℕ) : Type 0 where
   pub front : List (List ℕ)
   pub next : Option (List ℕ)
   pub rest : List (List ℕ)

@@ -12,7 +12,7 @@ ghost use Rattle.desk_runs.specs.Runs.{Between};
 ghost use Rattle.desk_disk.specs.FileStates.{DiskSide};
 ghost use Rattle.desk_disk.specs.Crashes.{RunsTo};
 ghost use Rattle.disk_records.specs.Files.{IsAtRest, IsReady};
-ghost use Rattle.desk_store.specs.Left.{StandsFirst};
+ghost use Rattle.desk_store.specs.Left.{HoldsBeginning};
 ghost use Rattle.journal_disk.specs.Payloads.{asked_in, batches_among, history_payloads};
 ghost use Rattle.desk_tasks.specs.Play.{story_on};
 ghost use Rattle.desk_store.specs.Held.{entered};
@@ -84,7 +84,7 @@ fn store_rest<D: Disk>(
         (now : DiskSide) × (place : ℕ) × (D.shown disk.new ≡ Some now)
         × IsAtRest (records ++ drop (length (run (opening inst) (take taken events.now))) (history_payloads (run (opening inst) events.now))) place now.file) }
     ensures any_moment { (was : DiskSide) → D.shown disk.old ≡ Some was → (records : List (List ℕ)) → IsAtRest records tail was.file →
-        RunsTo was (D.shown disk.new) (StandsFirst (records ++ drop (length (run (opening inst) (take taken events.now))) (history_payloads (run (opening inst) events.now))) (length records)) }
+        RunsTo was (D.shown disk.new) (HoldsBeginning (records ++ drop (length (run (opening inst) (take taken events.now))) (history_payloads (run (opening inst) events.now))) (length records)) }
     ensures early { IfErr result IsStopped }
     ensures failed { IsErrOf result (ending.OnDisk disk_end.Fault) → Rose (D.faults disk.old) (D.faults disk.new) }
     ensures kept { D.faults disk.old ≤ D.faults disk.new }

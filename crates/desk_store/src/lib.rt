@@ -8,7 +8,8 @@
 //! Proved: whatever moment the disk crashes at, it leaves a beginning of the history, with all that it held; until the
 //! comparison has passed no byte is changed but the one that opening sets; and before a file or the report has got a byte, the
 //! whole history is on the disk. What is written is what a replay writes (`kept` of desk_tasks). What one run leaves the next one
-//! opens, in however many runs (`what_one_run_leaves_the_next_one_opens`). It depends on
+//! opens, in however many runs (`what_one_run_leaves_the_next_one_opens`, and of files that another program wrote
+//! `what_passed_the_comparison_the_next_run_opens`). It depends on
 //! `journal_disk`, `desk_core`, `desk_replay` and `book_texts`, and on no reader.
 #![tactic(auto)]
 
@@ -23,5 +24,5 @@ pub use desk_runs::Ending;
 pub use keep::keep_events;
 pub use laws::{
     a_file_says_one_thing_of_a_story, entries_are_those_of_the_events_read,
-    what_one_run_leaves_the_next_one_opens,
+    what_one_run_leaves_the_next_one_opens, what_passed_the_comparison_the_next_run_opens,
 };

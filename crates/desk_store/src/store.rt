@@ -5,7 +5,7 @@ ghost use Rattle.desk_folder.specs.Calls.{Rose};
 ghost use Rattle.desk_disk.specs.FileStates.{DiskSide};
 ghost use Rattle.desk_disk.specs.Crashes.{LeavesOnly, RunsTo};
 ghost use Rattle.disk_records.specs.Files.{IsAtRest, IsReady};
-ghost use Rattle.desk_store.specs.Left.{StandsFirst};
+ghost use Rattle.desk_store.specs.Left.{HoldsBeginning};
 ghost use Rattle.desk_model.specs.States.{opening};
 ghost use Rattle.desk_model.specs.Histories.{AreAskable, IsAskable, entries, state};
 ghost use Rattle.desk_core.specs.Recorded.{with_entry};
@@ -42,7 +42,7 @@ fn store_event<D: Disk>(
 
     // A crash at any moment of the call leaves the records from before it, with the new one or without.
     ensures any_moment { (was : DiskSide) → D.shown disk.old ≡ Some was → (records : List (List ℕ)) → IsAtRest records tail was.file →
-        RunsTo was (D.shown disk.new) (StandsFirst (records ++ added book.old.journal asked.now) (length records)) }
+        RunsTo was (D.shown disk.new) (HoldsBeginning (records ++ added book.old.journal asked.now) (length records)) }
 
     // A fault has its cause.
     ensures failed { IsErrOf result AppendFault.Disk → Rose (D.faults disk.old) (D.faults disk.new) }
@@ -82,7 +82,7 @@ pub(crate) fn store_events<D: Disk>(
 
     // A crash at any moment leaves the records from before, and the first of the new ones.
     ensures any_moment { (was : DiskSide) → D.shown disk.old ≡ Some was → (records : List (List ℕ)) → IsAtRest records tail was.file →
-        RunsTo was (D.shown disk.new) (StandsFirst (records ++ lacking book events.now) (length records)) }
+        RunsTo was (D.shown disk.new) (HoldsBeginning (records ++ lacking book events.now) (length records)) }
 
     // A fault has its cause.
     ensures failed { IsErrOf result AppendFault.Disk → Rose (D.faults disk.old) (D.faults disk.new) }

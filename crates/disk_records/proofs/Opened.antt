@@ -120,6 +120,18 @@ staged_on place p was = synced (written (place + 1) (length (behind p)) (behind 
 abbrev pub added_on : ℕ → List ℕ → DiskSide → DiskSide
 added_on place p was = synced (written place 1 (1 ∷ []) (staged_on place p was))
 
+-- each of the four is one call more
+pub four_calls : (place : ℕ) (p : List ℕ) (was : DiskSide) → length (added_on place p was).past ≡ length was.past + 4
+four_calls place p was =
+    let first = written (place + 1) (length (behind p)) (behind p) was in
+    let second = staged_on place p was in
+    let third = written place 1 (1 ∷ []) second in
+    let one : length first.past ≡ length was.past + 1 = length-append was.past (was.file ∷ []) in
+    let two : length second.past ≡ length first.past + 1 = length-append first.past (first.file ∷ []) in
+    let three : length third.past ≡ length second.past + 1 = length-append second.past (second.file ∷ []) in
+    let four : length (added_on place p was).past ≡ length third.past + 1 = length-append third.past (third.file ∷ []) in
+    omega (arith, one, two, three, four)
+
 pub nothing_on : (was : DiskSide) (shown : Option DiskSide) (ps : List (List ℕ)) (p : List ℕ) (place : ℕ) → shown ≡ Some was → IsAtRest ps place was.file → RunsTo was shown (IsWithOrWithout ps p)
 nothing_on was shown ps p place is rest = record { now = was; shows = is; leaves = starts was (IsWithOrWithout ps p) (λ c left. rest_leaves ps p place was.file c rest left) }
 

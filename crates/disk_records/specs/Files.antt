@@ -1,5 +1,5 @@
 -- Files that calls leave, whatever moment a crash comes at.
-use Rattle.std.specs.Prelude.{◌≡◌, ℕ, ◌^◌, ◌<◌, ◌⊎◌, List, [], ◌∷◌, ◌++◌, length, slice_index, Option, Some, None, IfSome}
+use Rattle.std.specs.Prelude.{◌≡◌, ℕ, ◌+◌, ◌^◌, ◌<◌, ◌⊎◌, List, [], ◌∷◌, ◌++◌, length, slice_index, Option, Some, None, IfSome}
 use Rattle.desk_disk.specs.FileStates.{FileState, DiskSide, HasNothingPending, put_at}
 use Rattle.desk_disk.specs.Crashes.{IsTorn, ReadsTo}
 use Rattle.disk_records.specs.declared.faults.OpenFault.{OpenFault}
@@ -46,6 +46,10 @@ pub record IsAtRest (payloads : List (List ℕ)) (place : ℕ) (h : FileState) :
 -- where the disk shows it, it is at rest with this end
 abbrev pub IsReady : Option DiskSide → ℕ → Type 0
 IsReady shown place = IfSome shown (λ was. (payloads : List (List ℕ)) × IsAtRest payloads place was.file)
+
+-- where the disk shows its calls, so many were made
+abbrev pub MakesCalls : Option DiskSide → Option DiskSide → ℕ → Type 0
+MakesCalls shown shown' n = (was : DiskSide) → shown ≡ Some was → (now : DiskSide) × (shown' ≡ Some now) × (length now.past ≡ length was.past + n)
 
 -- the bytes once a record was added at this place: it and a byte 0 stand over what was there, and all else is as before
 abbrev pub added_at : ℕ → List ℕ → List ℕ → List ℕ

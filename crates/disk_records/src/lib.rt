@@ -12,7 +12,6 @@
 //! each crash leaves a file with that record. `open` may itself crash at any moment.
 #![tactic(auto)]
 
-mod adding;
 mod appending;
 mod end_mark;
 mod faults;
@@ -23,7 +22,6 @@ mod reader;
 mod tests;
 mod walk;
 
-pub use adding::append_all;
 pub use appending::{Tail, append};
 pub use faults::{AppendFault, OpenFault};
 pub use laws::{

@@ -1,8 +1,7 @@
 -- What runs that store a history leave.
-use Rattle.std.proofs.Common.{◌≡◌, ℕ, zero, suc, ◌+◌, ◌-◌, List, [], ◌∷◌, ◌++◌, length, take, drop, refl, sym, ap, subst, ◌∙◌, arith}
+use Rattle.std.proofs.Common.{◌≡◌, ℕ, zero, suc, ◌+◌, List, [], ◌∷◌, ◌++◌, length, take, drop, refl, sym, ap, subst, ◌∙◌, arith}
 use Rattle.std.specs.Prelude.{if◌then◌else◌}
-use Rattle.std.proofs.lemmas.List.{length-append, take-append-drop}
-use Rattle.std.proofs.Math.Seq.{take-append-add}
+use Rattle.std.proofs.lemmas.List.{take-append-drop}
 use Rattle.day_orders.specs.declared.orders.Batch.{Batch}
 use Rattle.desk_data.specs.Situation.{Situation}
 use Rattle.desk_model.specs.declared.answer.Entry.{Entry}
@@ -14,11 +13,11 @@ use Rattle.disk_records.specs.Records.{AreAccepted, IsDamagedAt, Opens}
 use Rattle.disk_records.specs.Stored.{OpensFirst, RunsLeave}
 use Rattle.disk_records.proofs.Stopped.{leave_first, leave_undamaged}
 use Rattle.disk_records.proofs.Storing.{accepted_front}
-use Rattle.journal_disk.specs.Payloads.{AreNext, MayCome, MayStand, asked_in, batches_in, entered, history_payloads, payload_by, payloads_from, payloads_of}
-use Rattle.journal_disk.specs.Store.{AreFirst, Holds, HoldsFirst, stored_with}
+use Rattle.journal_disk.specs.Payloads.{AreNext, MayCome, MayStand, asked_in, batches_in, history_payloads, payload_by, payloads_from, payloads_of}
+use Rattle.journal_disk.specs.Store.{Holds, HoldsFirst}
 use Rattle.journal_disk.proofs.NextLaws.{batches-push}
 use Rattle.journal_disk.proofs.PayloadLaws.{length-payloads}
-use Rattle.journal_disk.proofs.EnteredLaws.{entered_history, front_enters, length-asked, part_enters, size_lacking}
+use Rattle.journal_disk.proofs.EnteredLaws.{entered_history, front_enters, length-asked}
 
 -- ---- events and payloads that may stand
 
@@ -79,23 +78,6 @@ holds_front I batches es n c all o =
       place = o.place;
       opens = subst (λ (ps : List (List ℕ)). Opens ps o.place c) same o.opens;
       each = subst (AreAccepted (MayStand I batches) []) same (accepted_front (MayStand I batches) [] (take o.count (payloads_of es)) (drop o.count (payloads_of es)) parts);
-    }
-
-pub first_entries : (I : Situation) (batches : List Batch) (S : State) (all events : List (ℕ × Event)) (c : List ℕ) → AreFirst events (run S all) → AreAccepted (MayStand I batches) [] (payloads_of (stored_with events (run S all)))
-    → OpensFirst (payloads_of (stored_with events (run S all))) (length events) c → HoldsFirst I batches (run S all) (length (entered events)) c
-first_entries I batches S all events c first fine o =
-    let h = run S all in
-    let rest = drop (length (entered events)) (asked_in h) in
-    let k = o.count - length events in
-    let size : o.count ≡ length events + k = omega (arith, o.least) in
-    let front : take o.count (stored_with events h) ≡ events ++ take k rest = ap (λ (j : ℕ). take j (stored_with events h)) size ∙ take-append-add events rest k in
-    record {
-      events = events ++ take k rest;
-      holds = subst (λ (es : List (ℕ × Event)). Holds I batches es c) front (holds_front I batches (stored_with events h) (length events) c fine o);
-      count = length (entered events) + k;
-      first = part_enters S all events k first;
-      least = omega arith;
-      most = omega (arith, o.most, size, length-payloads 0 (stored_with events h), length-append events rest, size_lacking h events first);
     }
 
 -- ---- whole runs

@@ -41,13 +41,13 @@ history_payloads h = payloads_of (asked_in h)
 -- ---- what reading adds
 
 -- the events, each with its caller, that get an entry of a journal which has so many: one that finds no room gets none, as in a run
-unfoldable pub entered_from : ℕ → List (ℕ × Event) → List (ℕ × Event)
-entered_from n [] = []
-entered_from n (asked ∷ more) = if has_room n asked.1 then asked ∷ entered_from (n + 1) more else entered_from n more
+unfoldable pub with_room_from : ℕ → List (ℕ × Event) → List (ℕ × Event)
+with_room_from n [] = []
+with_room_from n (asked ∷ more) = if has_room n asked.1 then asked ∷ with_room_from (n + 1) more else with_room_from n more
 
 -- those of the entries of a journal that these events are read into, from the first on
-abbrev pub entered : List (ℕ × Event) → List (ℕ × Event)
-entered events = entered_from 0 events
+abbrev pub with_room : List (ℕ × Event) → List (ℕ × Event)
+with_room events = with_room_from 0 events
 
 -- ---- what may stand in a file
 

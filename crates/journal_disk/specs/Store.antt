@@ -1,11 +1,11 @@
 -- What a file holds of a journal.
-use Rattle.std.specs.Prelude.{◌≡◌, ℕ, ◌≤◌, List, [], ◌++◌, length, take, drop}
+use Rattle.std.specs.Prelude.{◌≡◌, ℕ, ◌≤◌, List, [], length, take}
 use Rattle.day_orders.specs.declared.orders.Batch.{Batch}
 use Rattle.desk_data.specs.Situation.{Situation}
 use Rattle.desk_model.specs.declared.answer.Entry.{Entry}
 use Rattle.desk_model.specs.declared.answer.Event.{Event}
 use Rattle.disk_records.specs.Records.{AreAccepted, Opens}
-use Rattle.journal_disk.specs.Payloads.{asked_in, entered, payloads_of, MayStand}
+use Rattle.journal_disk.specs.Payloads.{asked_in, with_room, payloads_of, MayStand}
 
 -- the file holds these events: it opens so, and each may stand there
 pub record Holds (I : Situation) (batches : List Batch) (events : List (ℕ × Event)) (c : List ℕ) : Type 0 where
@@ -18,14 +18,6 @@ pub record HoldsFirst (I : Situation) (batches : List Batch) (h : List Entry) (n
   pub events : List (ℕ × Event)
   pub holds : Holds I batches events c
   pub count : ℕ
-  pub first : entered events ≡ take count (asked_in h)
+  pub first : with_room events ≡ take count (asked_in h)
   pub least : n ≤ count
   pub most : count ≤ length h
-
--- the entries that the events held are read into, in caller and event, are the first of the history
-abbrev pub AreFirst : List (ℕ × Event) → List Entry → Type 0
-AreFirst events h = (rest : List (ℕ × Event)) × (asked_in h ≡ entered events ++ rest)
-
--- the events of the file once the entries of the history that these lack stand behind them
-abbrev pub stored_with : List (ℕ × Event) → List Entry → List (ℕ × Event)
-stored_with events h = events ++ drop (length (entered events)) (asked_in h)

@@ -1,11 +1,11 @@
 //! Adding an entry.
-ghost use Rattle.std.specs.Prelude.{◌≡◌, ℕ, ◌<◌, ◌≤◌, ◌++◌, ◌∷◌, [], List, None, Some, IfOk, IsErrOf, ◌^◌, length};
+ghost use Rattle.std.specs.Prelude.{◌≡◌, ℕ, ◌<◌, ◌≤◌, ◌++◌, ◌∷◌, [], List, None, Some, IfOk, IsErrOf, OnOk, ◌^◌, length};
 ghost use Rattle.desk_folder.specs.Calls.{Rose};
 ghost use Rattle.desk_data.specs.Situation.{Situation};
 ghost use Rattle.desk_model.specs.Histories.{IsAskable};
 ghost use Rattle.desk_disk.specs.FileStates.{DiskSide};
 ghost use Rattle.desk_disk.specs.Crashes.{RunsTo};
-ghost use Rattle.disk_records.specs.Files.{IsAtRest, IsReady, IsWithOrWithout, added_at};
+ghost use Rattle.disk_records.specs.Files.{IsAtRest, IsReady, IsWithOrWithout, MakesCalls, added_at};
 ghost use Rattle.journal_disk.specs.Payloads.{payload_by};
 
 use desk_data::NoMem;
@@ -51,6 +51,9 @@ pub fn append<D: Disk>(
         (now : DiskSide) × (D.shown disk.new ≡ Some now) × IsAtRest (payloads ++ payload_by number entry.now.caller entry.now.event ∷ []) next now.file
         × (now.file.bytes ≡ added_at tail (payload_by number entry.now.caller entry.now.event) was.file.bytes)) }
     ensures ready { IfOk result (λ next. IsReady (D.shown disk.new) next) }
+
+    // No call is made a second time: two writes, each with a sync.
+    ensures calls { OnOk result (MakesCalls (D.shown disk.old) (D.shown disk.new) 4) }
 
     // A crash at any moment of the call leaves the entries from before it, with the new one or without.
     ensures any_moment { (was : DiskSide) → D.shown disk.old ≡ Some was → (payloads : List (List ℕ)) → IsAtRest payloads tail was.file →

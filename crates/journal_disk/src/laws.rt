@@ -7,9 +7,9 @@ ghost use Rattle.desk_model.specs.declared.answer.Event.{Event};
 ghost use Rattle.desk_model.specs.States.{State};
 ghost use Rattle.desk_model.specs.Histories.{run};
 ghost use Rattle.disk_records.specs.Records.{AreAccepted, IsDamagedAt};
-ghost use Rattle.disk_records.specs.Stored.{OpensFirst, RunsLeave};
-ghost use Rattle.journal_disk.specs.Payloads.{AreNext, MayStand, asked_in, batches_among, entered, history_payloads, payload_by, payloads_of};
-ghost use Rattle.journal_disk.specs.Store.{AreFirst, HoldsFirst, stored_with};
+ghost use Rattle.disk_records.specs.Stored.{RunsLeave};
+ghost use Rattle.journal_disk.specs.Payloads.{AreNext, MayStand, asked_in, batches_among, with_room, history_payloads, payload_by, payloads_of};
+ghost use Rattle.journal_disk.specs.Store.{HoldsFirst};
 
 /// A history with one entry more has its payloads, and that of the entry, by how many batches come before it.
 pub fn an_entry_adds_its_payload()
@@ -18,28 +18,13 @@ pub fn an_entry_adds_its_payload()
 
 /// What events are read into is what a run of them enters: one that finds no room has no entry.
 pub fn a_run_enters_what_finds_room()
-    ensures { (S : State) (events : List (ℕ × Event)) → asked_in (run S events) ≡ entered events }
+    ensures { (S : State) (events : List (ℕ × Event)) → asked_in (run S events) ≡ with_room events }
 {}
 
 /// Events may come one behind another exactly where their payloads may stand so in a file.
 pub fn payloads_that_may_stand_are_of_events()
     ensures stand { (I : Situation) (batches : List Batch) (events : List (ℕ × Event)) → AreNext I batches 0 events → AreAccepted (MayStand I batches) [] (payloads_of events) }
     ensures events { (I : Situation) (batches : List Batch) (ps : List (List ℕ)) → AreAccepted (MayStand I batches) [] ps → (events : List (ℕ × Event)) × (ps ≡ payloads_of events) × AreNext I batches 0 events }
-{}
-
-/// Where the entries that a file holds are the first of a history, the file with those added that it lacks is
-/// read into all of the history.
-pub fn what_is_added_completes_the_history()
-    ensures whole { (S : State) (all events : List (ℕ × Event)) → AreFirst events (run S all) → entered (stored_with events (run S all)) ≡ asked_in (run S all) }
-    // where each event that it holds has an entry, it then holds the payloads of the history and no others
-    ensures same { (h : List Entry) (events : List (ℕ × Event)) → entered events ≡ events → AreFirst events h → stored_with events h ≡ asked_in h }
-{}
-
-/// So whatever such a run is stopped at, once it has compared what is held: the file opens as the first entries
-/// of the history, at least those that it held.
-pub fn a_stopped_run_leaves_the_first_entries()
-    ensures { (I : Situation) (batches : List Batch) (S : State) (all events : List (ℕ × Event)) (c : List ℕ) → AreFirst events (run S all) → AreAccepted (MayStand I batches) [] (payloads_of (stored_with events (run S all)))
-        → OpensFirst (payloads_of (stored_with events (run S all))) (length events) c → HoldsFirst I batches (run S all) (length (entered events)) c }
 {}
 
 /// A file that these calls alone wrote for one day and its batches, in however many runs, and whatever moments

@@ -20,8 +20,7 @@ mod records;
 pub use add::{append, event_payload};
 pub use disk_records::{AppendFault, OpenFault, Tail};
 pub use laws::{
-    a_run_enters_what_finds_room, a_stopped_run_leaves_the_first_entries,
-    an_entry_adds_its_payload, payloads_that_may_stand_are_of_events,
-    stopped_runs_leave_a_beginning_of_the_history, what_is_added_completes_the_history,
+    a_run_enters_what_finds_room, an_entry_adds_its_payload, payloads_that_may_stand_are_of_events,
+    stopped_runs_leave_a_beginning_of_the_history,
 };
 pub use records::open_records;

@@ -26,7 +26,7 @@ events_due : (built : Built) (rows : Rows) (events : List (ℕ × Event)) → Ar
 unfolding events_of
 events_due built rows events numbered h = rows_due built.inst built.batches [] rows.journal events numbered h
 
-abbrev story_with : Built → List (ℕ × Event) → KeptStory
+abbrev pub story_with : Built → List (ℕ × Event) → KeptStory
 story_with built events = record { story = record { day = built.inst; events = events }; batches = built.batches }
 
 -- the story of rows

@@ -6,3 +6,4 @@ pub mod Fits
 pub mod Read
 pub mod Next
 pub mod Kept
+pub mod Few

@@ -20,7 +20,7 @@ use Rattle.journal_rows.specs.declared.rows.NamedEvent.TheVariants as named_even
 use Rattle.journal_rows.specs.declared.rows.NamedStep.{NamedStep}
 use Rattle.journal_join.specs.Join as join
 use Rattle.journal_join.specs.Join.{all_of, all_after, asked_of, batches_in, event_of, is_move, joined_move, move_of, step_of, stated_batch}
-use Rattle.journal_disk.specs.Payloads.{AreNext, entered_from as events_from}
+use Rattle.journal_disk.specs.Payloads.{AreNext, with_room_from as events_from}
 use Rattle.kept_laws.specs.Due.{AreDue, IsDue, IsFew, IsNumbered, IsShort}
 use Rattle.plan_moves.specs.Fits.{Fits}
 use Rattle.kept_laws.proofs.Fits.{move_fits}
@@ -123,15 +123,15 @@ rows_due I batches before (row ∷ rows) events numbered h =
 -- ---- the history
 
 events_none : (n : ℕ) → events_from n [] ≡ []
-unfolding Rattle.journal_disk.specs.Payloads.entered_from
+unfolding Rattle.journal_disk.specs.Payloads.with_room_from
 events_none n = refl
 
 events_one : (n : ℕ) (e : ℕ × Event) (es : List (ℕ × Event)) → has_room n e.1 ≡ true → events_from n (e ∷ es) ≡ e ∷ events_from (n + 1) es
-unfolding Rattle.journal_disk.specs.Payloads.entered_from
+unfolding Rattle.journal_disk.specs.Payloads.with_room_from
 events_one n e es is = rw is refl
 
 events_past : (n : ℕ) (e : ℕ × Event) (es : List (ℕ × Event)) → has_room n e.1 ≡ false → events_from n (e ∷ es) ≡ events_from n es
-unfolding Rattle.journal_disk.specs.Payloads.entered_from
+unfolding Rattle.journal_disk.specs.Payloads.with_room_from
 events_past n e es is = rw is refl
 
 below : (n most : ℕ) → nat_lt n most ≡ true → n < most

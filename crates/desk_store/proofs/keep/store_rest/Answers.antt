@@ -4,7 +4,7 @@ use Rattle.desk_data.specs.Situation.{Situation}
 use Rattle.desk_disk.specs.FileStates.{DiskSide}
 use Rattle.desk_disk.specs.Crashes.{RunsTo}
 use Rattle.disk_records.specs.Files.{IsAtRest}
-use Rattle.desk_store.specs.Left.{StandsFirst}
+use Rattle.desk_store.specs.Left.{HoldsBeginning}
 use Rattle.desk_model.specs.declared.answer.Event.{Event}
 use Rattle.desk_model.specs.declared.answer.Entry.{Entry}
 use Rattle.desk_model.specs.States.{opening}
@@ -48,12 +48,12 @@ returns-in-Ok-store_events-clause-stored g c = λ was is records rest.
 
 pub returns-in-Ok-store_events-clause-any_moment : goal.returns-in-Ok-store_events-clause-any_moment
 returns-in-Ok-store_events-clause-any_moment g c = λ was is records rest.
-    subst (λ (ps : List (List ℕ)). RunsTo was (g.D.Disk.shown c.store_events.new.disk) (StandsFirst (records ++ ps) (length records)))
+    subst (λ (ps : List (List ℕ)). RunsTo was (g.D.Disk.shown c.store_events.new.disk) (HoldsBeginning (records ++ ps) (length records)))
     (lacking-is c.args.inst c.args.events.now c.args.taken c.in-Ok.book c.split_at.result.0.now c.split_at.result.1.now c.split_at.ensures.front c.split_at.ensures.back c.in-Ok.ensures)
     (c.store_events.ensures.any_moment was is records rest)
 
 pub returns-in-Err-store_events-clause-any_moment : goal.returns-in-Err-store_events-clause-any_moment
 returns-in-Err-store_events-clause-any_moment g c = λ was is records rest.
-    subst (λ (ps : List (List ℕ)). RunsTo was (g.D.Disk.shown c.store_events.new.disk) (StandsFirst (records ++ ps) (length records)))
+    subst (λ (ps : List (List ℕ)). RunsTo was (g.D.Disk.shown c.store_events.new.disk) (HoldsBeginning (records ++ ps) (length records)))
     (lacking-is c.args.inst c.args.events.now c.args.taken c.in-Ok.book c.split_at.result.0.now c.split_at.result.1.now c.split_at.ensures.front c.split_at.ensures.back c.in-Ok.ensures)
     (c.store_events.ensures.any_moment was is records rest)

@@ -2,7 +2,7 @@ use Rattle.std.proofs.Common.{◌≡◌, ◌∙◌, ap, sym, subst, true, List, 
 use Rattle.std.proofs.lemmas.Result.{IfOk-weaker}
 use Rattle.desk_disk.specs.Crashes.{RunsTo}
 use Rattle.disk_records.specs.Files.{IsAtRest}
-use Rattle.desk_store.specs.Left.{StandsFirst}
+use Rattle.desk_store.specs.Left.{HoldsBeginning}
 use Rattle.desk_model.specs.declared.answer.Entry.{Entry}
 use Rattle.desk_model.specs.States.{opening}
 use Rattle.desk_model.specs.Histories.{IsAskable, has_room}
@@ -47,5 +47,5 @@ returns-then-room-clause-any_moment g c = λ was shown records rest.
     let room : has_room (length B.journal) asked.1 ≡ true = ap (λ (n : ℕ). has_room n asked.1) (sym c.entries-entries.ensures.count) ∙ sym c.has_room-room.ensures ∙ c.if-room.true in
     let is = entered-entry B c.take_event.new.book c.journal.result.now entry asked.0 asked.1 c.entries-entries.result c.in-Ok.ensures room c.journal.ensures.entries c.entries-entries.ensures.count c.index-journal-entries.is in
     let same : payload_by c.args.number entry.caller entry.event ∷ [] ≡ added B.journal asked = added-is (opening B.opening) B.journal entry asked c.args.number is c.requires.number room in
-    subst (λ (ps : List (List ℕ)). RunsTo was told (StandsFirst (records ++ ps) (length records))) same
+    subst (λ (ps : List (List ℕ)). RunsTo was told (HoldsBeginning (records ++ ps) (length records))) same
     (adds_one records (payload_by c.args.number entry.caller entry.event) was told (c.append.ensures.any_moment was shown records rest))

@@ -1,7 +1,7 @@
 use Rattle.std.proofs.Common.{◌≡◌, ◌∙◌, ℕ, ◌+◌, ◌≤◌, cond, refl, sym, ap, subst, List, [], ◌∷◌, ◌++◌, length, drop, arith}
 use Rattle.desk_disk.specs.Crashes.{RunsTo}
 use Rattle.disk_records.specs.Files.{IsAtRest}
-use Rattle.desk_store.specs.Left.{StandsFirst}
+use Rattle.desk_store.specs.Left.{HoldsBeginning}
 use Rattle.desk_model.specs.declared.answer.Event.{Event}
 use Rattle.desk_model.specs.declared.answer.Entry.{Entry}
 use Rattle.desk_model.specs.States.{opening}

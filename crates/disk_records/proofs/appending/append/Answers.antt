@@ -2,7 +2,7 @@ use Rattle.std.proofs.Common.{◌≡◌, ◌∙◌, sym, ap, subst, List, ℕ, S
 use Rattle.desk_disk.specs.FileStates.{synced, written}
 use Rattle.desk_disk.proofs.Torn.{nothing_pending_synced}
 use Rattle.disk_records.specs.Files.{IsAtRest, added_at}
-use Rattle.disk_records.proofs.Opened.{behind, staged_on, added_on, nothing_on, behind_on, mark_on, added_bytes, added_rests, mark_within, ready_next}
+use Rattle.disk_records.proofs.Opened.{behind, staged_on, added_on, nothing_on, behind_on, mark_on, added_bytes, added_rests, mark_within, four_calls, ready_next}
 use Rattle.disk_records.proofs.appending.append.Goals as goal
 
 pub returns-then-place-gt-MAX_PLACE-clause-any_moment : goal.returns-then-place-gt-MAX_PLACE-clause-any_moment
@@ -44,6 +44,14 @@ returns-clause-acknowledged g c = λ was is ps rest.
     let same : c.deref.result.now ≡ behind p = c.deref.ensures.value ∙ c.in_ok-behind.ensures in
     let staged = c.in_ok-write_through.ensures.ok was is ∙ ap (λ (l : List ℕ). Some (synced (written (mark + 1) (length l) l was))) same in
     (added_on mark p was, c.in_ok-write_through-2.ensures.ok (staged_on mark p was) staged, added_rests was ps p mark at c.requires.short, added_bytes was ps p mark at ∙ ap (λ (k : ℕ). added_at k p was.file.bytes) c.tail.view_is)
+
+pub returns-clause-calls : goal.returns-clause-calls
+returns-clause-calls g c = λ was is.
+    let mark = c.tail.inside.place in
+    let p = c.args.payload.now in
+    let same : c.deref.result.now ≡ behind p = c.deref.ensures.value ∙ c.in_ok-behind.ensures in
+    let staged = c.in_ok-write_through.ensures.ok was is ∙ ap (λ (l : List ℕ). Some (synced (written (mark + 1) (length l) l was))) same in
+    (added_on mark p was, c.in_ok-write_through-2.ensures.ok (staged_on mark p was) staged, four_calls mark p was)
 
 pub returns-clause-any_moment : goal.returns-clause-any_moment
 returns-clause-any_moment g c = λ was is ps rest.
