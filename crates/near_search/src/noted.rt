@@ -1,11 +1,11 @@
 //! What is noted of rebookings.
 
-ghost use Rattle.std.specs.Prelude.{◌≡◌, ◌<◌, None, IfOk, length, true};
+ghost use Rattle.std.specs.Prelude.{◌≡◌, ◌<◌, None, IfOk, IfSome, length, true};
 ghost use Rattle.desk_data.specs.Situation.{reservations_of};
 ghost use Rattle.desk_data.specs.PlanRows.{groups_at};
 ghost use Rattle.desk_rules.specs.Least.{least};
 ghost use Rattle.near_pax.specs.Units.{group_at};
-ghost use Rattle.day_notes.specs.Notes.{AreNotesIfAny, IsInVain};
+ghost use Rattle.day_notes.specs.Notes.{AreNotes, IsInVain};
 ghost use Rattle.near_notes.specs.Later.{AreNotesAt};
 ghost use Rattle.near_search.specs.Noted.{AreNotedAt};
 
@@ -23,7 +23,7 @@ pub(crate) fn noted(alloc: Global, eval: &mut Evaluator) -> Result<Option<Notes>
     ensures notes { IfOk result (AreNotedAt eval.old.inst eval.old.rows) }
     ensures eval { eval.new ≡ eval.old }
 {
-    if eval.least_broken().is_some() {
+    if !is_feasible(eval) {
         return Ok(None);
     }
     let earlier = eval.take_notes();
@@ -31,10 +31,17 @@ pub(crate) fn noted(alloc: Global, eval: &mut Evaluator) -> Result<Option<Notes>
     Ok(Some(notes))
 }
 
+/// Whether the evaluator's plan breaks no rule.
+fn is_feasible(eval: &Evaluator) -> bool
+    ensures { result ≡ true → least eval.now.inst eval.now.rows ≡ None }
+{
+    eval.least_broken().is_none()
+}
+
 /// Notes of the evaluator's plan, which is feasible: of those of an earlier plan what still holds, if there are any.
 fn notes_now(alloc: Global, eval: &Evaluator, earlier: Option<Notes>) -> Result<Notes, NoMem>
     requires feasible { least eval.now.inst eval.now.rows ≡ None }
-    requires earlier { AreNotesIfAny eval.now.inst earlier }
+    requires earlier { IfSome earlier (AreNotes eval.now.inst) }
     ensures { IfOk result (AreNotesAt eval.now.inst eval.now.rows) }
 {
     let (inst, plan) = (eval.instance(), eval.plan());
