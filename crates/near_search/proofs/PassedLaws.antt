@@ -99,8 +99,8 @@ past-goes I P before now r place moves past is made res there =
       same = past.same ∙ sym (ap (find (is_better I P)) all_left);
       fits = λ all. subst (All (Fits I)) (sym all_left) (past.fits all);
       fewer = omega (arith, few, ap length is);
-      res = res;
-      place = there;
+      within = res;
+      there = there;
       unit = made;
     }
 

@@ -21,6 +21,6 @@ pub record GoesOn (I : Situation) (P : PlanRows) (before : List MoveUnit) (r pla
   pub same : find (is_better I P) (moves_of I P before) ≡ find (is_better I P) (left I P moves)
   pub fits : All (Fits I) (moves_of I P before) → All (Fits I) (left I P moves)
   pub fewer : length (units_left I P moves) < length before
-  pub res : r < reservations_of I
-  pub place : place < length (groups_at P r)
+  pub within : r < reservations_of I
+  pub there : place < length (groups_at P r)
   pub unit : unit_left I P moves ≡ unit_moves I P (unit_at P r place)
