@@ -1,12 +1,13 @@
 //! The evaluator.
 
-ghost use Rattle.std.specs.Prelude.{◌≡◌, ◌+◌, ◌<◌, ◌≤◌, [], ◌∷◌, length, map, filter, not, All, IfOk, OnOk, OnErr};
+ghost use Rattle.std.specs.Prelude.{◌≡◌, ◌+◌, ◌<◌, ◌≤◌, [], ◌∷◌, length, map, filter, not, All, IfOk, IfSome, OnOk, OnErr};
 ghost use Rattle.std.specs.Arc.{arc_value};
 ghost use Rattle.desk_eval.specs.Asked.{AreBooked};
 
 use crate::boards::Boards;
 use crate::change::{change_groups, change_row, copied_groups};
 use board_kit::Board;
+use day_notes::{NotedDay, Notes};
 use desk_data::{
     Airport, Broken, Cabin, Grains, Group, Instance, Leg, NoMem, Plan, Plane, Res, Row, Steps,
 };
@@ -22,9 +23,11 @@ use std::sync::ledger::Ledger;
 /// A plan that changes place by place. At each moment it knows the first item that the plan breaks
 /// and what the plan costs, as a check and a cost from scratch would say. It keeps its past, the
 /// plans before each change, so that changes are taken back. Contracts see it as the instance, the
-/// plan's rows and groups, and those of its past, the last first.
+/// plan's rows and groups, and those of its past, the last first. What a search noted of the day it keeps
+/// for the next one, and contracts do not see it.
 pub struct Evaluator {
-    inst: Instance,
+    /// The day, with what a search noted of it.
+    inst: NotedDay,
     pages: Pages,
     boards: Boards,
     /// Who is booked on each leg, which is that of the day: all its evaluators may share it.
@@ -70,6 +73,7 @@ impl Evaluator {
     ghost use Rattle.desk_model.specs.Push.{rotation};
     ghost use Rattle.desk_eval.specs.Asked.{keeps_paths};
     ghost use Rattle.leg_users.specs.Users.{is_booked_on};
+    ghost use Rattle.day_notes.specs.Notes.{AreNotes};
     ghost use Rattle.desk_eval.specs.Evaluated.{after_change, row_reads, group_reads};
 
     /// The evaluator of a plan, with an empty past. The plan is one for the instance. The only error is
@@ -121,7 +125,7 @@ impl Evaluator {
         let boards = Boards::open(alloc, &inst, &pages)?;
         let past = Vec::new(alloc);
         Ok(Evaluator {
-            inst,
+            inst: NotedDay::of(inst),
             pages,
             boards,
             booked,
@@ -133,7 +137,7 @@ impl Evaluator {
     pub fn instance(&self) -> &Instance
         ensures { result.now ≡ self.now.inst }
     {
-        &self.inst
+        self.inst.instance()
     }
 
     /// The plan as it stands.
@@ -190,7 +194,7 @@ impl Evaluator {
         self.past.reserve(1)?;
         let page = change_row(
             alloc,
-            &self.inst,
+            self.inst.instance(),
             &mut self.pages,
             &mut self.boards.all,
             leg,
@@ -226,7 +230,7 @@ impl Evaluator {
         self.past.reserve(1)?;
         let page = change_groups(
             alloc,
-            &self.inst,
+            self.inst.instance(),
             &mut self.pages,
             &mut self.boards.all,
             res,
@@ -242,7 +246,7 @@ impl Evaluator {
     pub fn copy(&self, alloc: Global) -> Result<Evaluator, NoMem>
         ensures { IfOk result (λ copy. copy ≡ record self.now { past = [] }) }
     {
-        let inst = self.inst.copy()?;
+        let inst = self.inst.instance().copy()?;
         let pages = self.pages.share(alloc)?;
         let booked = self.booked.clone()?;
         Evaluator::of_pages(alloc, inst, pages, booked)
@@ -268,6 +272,23 @@ impl Evaluator {
     {
         self.boards.all.forget();
         self.past.clear();
+    }
+
+    /// Hands out what a search noted of the day, at the plan at which it did, and keeps none of it. An evaluator that
+    /// was just made has nothing noted, and no change of the plan touches what is.
+    pub fn take_notes(&mut self) -> Option<Notes>
+        ensures notes { IfSome result (AreNotes self.old.inst) }
+        ensures same { self.new ≡ self.old }
+    {
+        self.inst.take_notes()
+    }
+
+    /// Keeps notes of the day, in the place of those that it has. They may be of any plan for it.
+    pub fn put_notes(&mut self, notes: Notes)
+        requires { AreNotes self.old.inst notes }
+        ensures { self.new ≡ self.old }
+    {
+        self.inst.put_notes(notes);
     }
 
     /// The legs that an aircraft flies, in their order. No others are walked over. The only error is out of
@@ -344,7 +365,7 @@ impl KnowsAboard for Evaluator {
     ghost knows = { λ e Q. Q ≡ e.rows };
 
     fn aboard(&self, leg: Leg, cabin: Cabin) -> u32 {
-        if leg.0 < self.inst.legs() {
+        if leg.0 < self.inst.instance().legs() {
             self.boards.seats().aboard(leg, cabin)
         } else {
             0

@@ -1,5 +1,5 @@
 -- Paths that are passed over, and moves that are left.
-use Rattle.std.proofs.Common.{◌≡◌, ℕ, ◌%◌, inl, inr, Bool, false, eqb, List, [], ◌∷◌, ◌++◌, length, refl, sym, ap, subst, ◌∙◌, arith}
+use Rattle.std.proofs.Common.{◌≡◌, ℕ, ◌<◌, ◌%◌, inl, inr, Bool, true, false, eqb, List, [], ◌∷◌, ◌++◌, length, refl, sym, ap, subst, ◌∙◌, arith}
 use Rattle.std.specs.Prelude.{Option, None, Some, find, All, MatchOption}
 use Rattle.std.specs.Option.{option_or}
 use Rattle.std.specs.List.{AllByRecursion}
@@ -8,17 +8,16 @@ use Rattle.std.proofs.lemmas.List.Elements.{All-head, All-tail, All-from_recursi
 use Rattle.std.proofs.lemmas.List.Folds.{find-append}
 use Rattle.plan_moves.specs.declared.moves.Move.{Move}
 use Rattle.plan_moves.specs.Fits.{Fits}
-use Rattle.desk_data.specs.Situation.{Situation}
-use Rattle.desk_data.specs.PlanRows.{PlanRows}
+use Rattle.desk_data.specs.Situation.{Situation, reservations_of}
+use Rattle.desk_data.specs.PlanRows.{PlanRows, groups_at}
 use Rattle.near_moves.specs.Units.{MoveUnit, owner}
 use Rattle.near_moves.specs.Near.{unit_moves, moves_of, of_shard}
 use Rattle.near_moves.specs.Descent.{is_better}
-use Rattle.near_pax.specs.Units.{unit_at, path_at}
+use Rattle.near_pax.specs.Units.{group_at, unit_at}
 use Rattle.near_pax.specs.declared.pax.PaxMoves.{PaxMoves}
 use Rattle.near_pax.specs.Left.{left, unit_left, units_left}
-use Rattle.full_cost.specs.Amounts.{passenger_cost}
+use Rattle.day_notes.specs.Notes.{IsInVain}
 use Rattle.near_search.specs.Passed.{IsPast, GoesOn}
-use Rattle.near_search.proofs.FirstLaws.{unit-ruled_out}
 
 -- ---- parts of a list
 
@@ -48,16 +47,37 @@ both_by : {X : Type 0} (Q : X → Type 0) (xs ys : List X) → AllByRecursion Q 
 both_by Q [] ys front back = back
 both_by Q (x ∷ xs) ys front back = (front.0, both_by Q xs ys front.1 back)
 
+found_first : {X : Type 0} (p : X → Bool) (x : X) (xs : List X) → p x ≡ true → find p (x ∷ xs) ≡ Some x
+found_first p x xs passes = rw passes refl
+
+found_later : {X : Type 0} (p : X → Bool) (x : X) (xs : List X) → p x ≡ false → find p (x ∷ xs) ≡ find p xs
+found_later p x xs fails = rw fails refl
+
+some-none : {X : Type 0} (x : X) → Some x ≡ None → ⊥
+some-none x is = absurd cc
+
+-- where none is found, none is better
+none_by : {X : Type 0} (p : X → Bool) (xs : List X) → find p xs ≡ None → AllByRecursion (λ x. p x ≡ false) xs
+none_by p [] none = tt
+none_by p (x ∷ xs) none =
+    elim (cases_Bool (p x)) [
+      | inl passes ↦ absurd (some-none x (sym (found_first p x xs passes) ∙ none))
+      | inr fails ↦ (fails, none_by p xs (sym (found_later p x xs fails) ∙ none))
+    ]
+
+pub none_found : {X : Type 0} (p : X → Bool) (xs : List X) → find p xs ≡ None → All (λ x. p x ≡ false) xs
+none_found p xs none = All-from_recursion (λ x. p x ≡ false) xs (none_by p xs none)
+
 -- ---- units that are passed over
 
 pub past-none : (I : Situation) (P : PlanRows) (units : List MoveUnit) → IsPast I P units units
 past-none I P units = record { same = refl; fits = λ all. all; fewer = omega arith }
 
--- one more: a passenger costs nothing on its path
-pub past-more : (I : Situation) (P : PlanRows) (before now units_after : List MoveUnit) (r place : ℕ) → IsPast I P before now → now ≡ unit_at P r place ∷ units_after → passenger_cost I P r (path_at P r place) ≡ 0 → IsPast I P before units_after
-past-more I P before now units_after r place past is none =
+-- one more: no rebooking off its path is better
+pub past-more : (I : Situation) (P : PlanRows) (before now units_after : List MoveUnit) (r place : ℕ) → IsPast I P before now → now ≡ unit_at P r place ∷ units_after → IsInVain I P r (group_at P r place) → IsPast I P before units_after
+past-more I P before now units_after r place past is vain =
     let u = unit_at P r place in
-    let worse = recursion_from_All (λ (m : Move). is_better I P m ≡ false) (unit_moves I P u) (unit-ruled_out I P r (path_at P r place) none) in
+    let worse = recursion_from_All (λ (m : Move). is_better I P m ≡ false) (unit_moves I P u) vain in
     let first : find (is_better I P) (moves_of I P now) ≡ find (is_better I P) (moves_of I P units_after) =
     ap (λ (us : List MoveUnit). find (is_better I P) (moves_of I P us)) is
     ∙ find-after (is_better I P) (unit_moves I P u) (moves_of I P units_after) (find_none (is_better I P) (unit_moves I P u) worse) in
@@ -69,8 +89,8 @@ past-more I P before now units_after r place past is none =
     }
 
 -- the moves of the next one are made
-pub past-goes : (I : Situation) (P : PlanRows) (before now : List MoveUnit) (moves : PaxMoves) (u : MoveUnit) → IsPast I P before now → now ≡ u ∷ units_left I P moves → unit_left I P moves ≡ unit_moves I P u → GoesOn I P before moves
-past-goes I P before now moves u past is made =
+pub past-goes : (I : Situation) (P : PlanRows) (before now : List MoveUnit) (r place : ℕ) (moves : PaxMoves) → IsPast I P before now → now ≡ unit_at P r place ∷ units_left I P moves → unit_left I P moves ≡ unit_moves I P (unit_at P r place) → r < reservations_of I → place < length (groups_at P r) → GoesOn I P before r place moves
+past-goes I P before now r place moves past is made res there =
     let units_after = units_left I P moves in
     let all_left : left I P moves ≡ moves_of I P now =
     ap (λ (ms : List Move). ms ++ moves_of I P units_after) made ∙ sym (ap (moves_of I P) is) in
@@ -79,6 +99,9 @@ past-goes I P before now moves u past is made =
       same = past.same ∙ sym (ap (find (is_better I P)) all_left);
       fits = λ all. subst (All (Fits I)) (sym all_left) (past.fits all);
       fewer = omega (arith, few, ap length is);
+      within = res;
+      there = there;
+      unit = made;
     }
 
 -- none is left

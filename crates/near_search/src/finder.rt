@@ -1,6 +1,7 @@
 //! What a search keeps between its calls.
 
-/// What a search keeps between its calls. It keeps nothing, so one finder serves any evaluators.
+/// What a search keeps between its calls beside what it notes in the evaluator. It keeps nothing, so one finder serves any
+/// evaluators.
 #[derive(Drop)]
 pub struct Finder {}
 

@@ -7,6 +7,7 @@ ghost use Rattle.near_moves.specs.Descent.{first_better};
 
 use crate::finder::Finder;
 use crate::legs::first_of_legs;
+use crate::noted::{keep, noted};
 use crate::passengers::first_of_passengers;
 use crate::rotations::Rotations;
 use desk_data::NoMem;
@@ -20,8 +21,8 @@ use std::alloc::Global;
 /// The first move of a shard of those near the evaluator's plan that makes it feasible and cheaper, or none
 /// where no move of the shard does. A shard's number is below the number of shards: shard 0 of 1 is all moves.
 /// The evaluator's past has fewer than 1,900,000,000 changes. Moves are tried on the evaluator and taken back:
-/// it stands where it stood, after an error too. The finder keeps nothing yet, and is not asked. The only error
-/// is out of memory.
+/// it stands where it stood, after an error too. What is found to be in vain is noted in the evaluator, for the next
+/// search; the finder keeps nothing, and is not asked. The only error is out of memory.
 pub fn first_better(
     alloc: Global,
     eval: &mut Evaluator,
@@ -60,5 +61,15 @@ pub fn first_better_heard<L: Listener>(
         return Ok(Some(m));
     }
     let mut passengers = PaxMoves::of(alloc, eval.instance(), eval.plan(), shard, shards)?;
-    first_of_passengers(alloc, eval, &rotations, &mut passengers, listener)
+    let mut notes = noted(alloc, eval)?;
+    let found = first_of_passengers(
+        alloc,
+        eval,
+        &rotations,
+        &mut passengers,
+        &mut notes,
+        listener,
+    )?;
+    keep(eval, notes);
+    Ok(found)
 }

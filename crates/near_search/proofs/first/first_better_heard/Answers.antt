@@ -29,7 +29,7 @@ first_of_passengers-requires-clause-fits g c =
     let plan : IsPlanFor I P = rw c.plan.ensures.rows at c.plan.ensures.valid in
     let stays = c.first_of_legs.ensures.eval in
     let left = rw (c.instance-3.ensures, c.plan-2.ensures.rows, stays) at c.in_ok-passengers.ensures.left in
-    rw stays (subst (All (Fits I)) (sym left) (shard-all I P (Fits I) c.args.shard c.args.shards (rebooked_units I P) (rebookings-fit I P valid plan)))
+    rw (c.noted.ensures.eval, stays) (subst (All (Fits I)) (sym left) (shard-all I P (Fits I) c.args.shard c.args.shards (rebooked_units I P) (rebookings-fit I P valid plan)))
 
 pub returns-in-Some-clause-ok : goal.returns-in-Some-clause-ok
 returns-in-Some-clause-ok g c =
@@ -49,4 +49,4 @@ returns-clause-ok g c =
     let more = rw (c.instance-3.ensures, c.plan-2.ensures.rows, stays) at c.in_ok-passengers.ensures.left in
     let units_after : find (is_better I P) (moves_of I P (of_shard c.args.shard c.args.shards (rebooked_units I P))) ≡ first_better I P c.args.shard c.args.shards =
     first-passengers I P c.args.shard c.args.shards c.in_ok-m.field-0 found c.in_default.is in
-    subst (λ (n : Option Move). IfOk c.first_of_passengers.result (λ x. x ≡ n)) (ap (find (is_better I P)) more ∙ units_after) (rw stays at c.first_of_passengers.ensures.ok)
+    (rw (c.noted.ensures.eval, stays) at c.in_ok-found.ensures.ok) ∙ ap (find (is_better I P)) more ∙ units_after

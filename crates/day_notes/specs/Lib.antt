@@ -1,0 +1,3 @@
+pub use Rattle.desk_data.specs.Situation
+pub use Rattle.desk_data.specs.PlanRows
+pub mod Notes

@@ -1,0 +1,59 @@
+//! Where passengers go on after a stem, from when on and until when.
+
+ghost use Rattle.std.specs.Prelude.{◌≡◌, ◌<◌};
+ghost use Rattle.desk_data.specs.Situation.{legs_of, reservations_of};
+ghost use Rattle.desk_data.specs.Valid.{IsPathOf, IsPlanFor};
+ghost use Rattle.near_moves.specs.Routes.{begun_path, is_other_stem};
+ghost use Rattle.flight_net.specs.Start.{IsStemPath, due_before, place_after, ready_after};
+
+use desk_data::{Airport, Cabin, Instance, Leg, Res, same_path};
+use plan_pages::Pages;
+use plan_reads::{arrival, is_carried, longest_delay};
+
+/// What passengers of a reservation have begun: the legs of their scheduled path that are scheduled before
+/// the window.
+pub(crate) fn begun_path(inst: &Instance, res: Res) -> &[(Leg, Cabin)]
+    requires { res.0 < reservations_of inst.now }
+    ensures path { result.now ≡ begun_path inst.now res.0 }
+    ensures sound { IsStemPath inst.now result.now }
+{
+    let begun = inst.begun(res) as usize;
+    &inst.res(res).path.as_slice()[..begun]
+}
+
+/// Whether some legs that passengers have flown are another stem than what they have begun.
+pub(crate) fn is_other_stem(begun: &[(Leg, Cabin)], legs: &[(Leg, Cabin)]) -> bool
+    ensures { result ≡ is_other_stem begun.now legs.now }
+{
+    is_carried(legs) && !same_path(begun, legs)
+}
+
+/// The airport where they stand after the legs of a path, and when they do.
+pub(crate) fn start_after(
+    inst: &Instance,
+    plan: &Pages,
+    res: Res,
+    path: &[(Leg, Cabin)],
+) -> (Airport, u32)
+    requires plan { IsPlanFor inst.now plan.now }
+    requires res { res.0 < reservations_of inst.now }
+    requires path { IsPathOf (legs_of inst.now) path.now }
+    ensures place { result.0.0 ≡ place_after inst.now res.0 path.now }
+    ensures ready { result.1 ≡ ready_after inst.now plan.now res.0 path.now }
+{
+    if path.is_empty() {
+        let booked = inst.booked(res);
+        return (booked.origin, booked.departure.0);
+    }
+    let last = path[path.len() - 1].0;
+    (inst.leg(last).dest, arrival(inst, plan, last))
+}
+
+/// The minute before which they have to arrive.
+pub(crate) fn due_before(inst: &Instance, res: Res) -> u32
+    requires { res.0 < reservations_of inst.now }
+    ensures { result ≡ due_before inst.now res.0 }
+{
+    let booked = inst.booked(res);
+    booked.arrival.0 + longest_delay(booked.haul) + 1
+}
