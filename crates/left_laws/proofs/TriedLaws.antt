@@ -141,16 +141,16 @@ tried-ordered I stem =
     let one_more : (pair : Pair) → length (single_of stem pair) ≡ length stem + 1 = λ pair. length-append stem (pair ∷ []) in
     let singles_long : All (λ path. length path ≡ length stem + 1) singles = all_map (λ path. length path ≡ length stem + 1) (single_of stem) no_pair (all_pairs I) one_more in
     let doubles_long : All (λ path. length path ≡ length stem + 2) doubles = λ k d within.
-        let inside : k < length (all_doubles I) = omega (arith, within, length-map (all_doubles I) (λ (double : List Pair). stem ++ double)) in
-        let two = double_length I k [] inside in
-        rw (get_or-map (λ (double : List Pair). stem ++ double) (all_doubles I) k [] d inside) (length-append stem (get_or (all_doubles I) k []) ∙ ap (λ (n : ℕ). length stem + n) two) in
+    let inside : k < length (all_doubles I) = omega (arith, within, length-map (all_doubles I) (λ (double : List Pair). stem ++ double)) in
+    let two = double_length I k [] inside in
+    rw (get_or-map (λ (double : List Pair). stem ++ double) (all_doubles I) k [] d inside) (length-append stem (get_or (all_doubles I) k []) ∙ ap (λ (n : ℕ). length stem + n) two) in
     let longer : All (λ path. All (IsTriedFirst path) doubles) singles = λ k d within j e there.
-        let one = singles_long k d within in
-        let two = doubles_long j e there in
-        inl (omega (arith, one, two)) in
+    let one = singles_long k d within in
+    let two = doubles_long j e there in
+    inl (omega (arith, one, two)) in
     let first : All (IsTriedFirst stem) (singles ++ doubles) = All-append (IsTriedFirst stem) singles doubles
-        (λ k d within. let one = singles_long k d within in inl (omega (arith, one)))
-        (λ k d within. let two = doubles_long k d within in inl (omega (arith, two))) in
+    (λ k d within. let one = singles_long k d within in inl (omega (arith, one)))
+    (λ k d within. let two = doubles_long k d within in inl (omega (arith, two))) in
     AllPairs-cons IsTriedFirst stem (singles ++ doubles) first
     (pairs_append IsTriedFirst singles doubles
     (ordered_map IsTriedFirst IsBefore (single_of stem) no_pair (all_pairs I)
