@@ -77,11 +77,11 @@ story_grows s later more day events =
     let grown = behind-on S 0 h more (omega arith) in (
       grown.0,
       ap (λ (ps : List (List ℕ)). ps ++ grown.0) (story_is s)
-      ∙ grown.1
-      ∙ ap history_payloads (sym (after-append S [] s.events more))
-      ∙ ap (λ (es : List (ℕ × Event)). history_payloads (run S es)) (sym events)
-      ∙ ap (λ (day : Situation). history_payloads (run (opening day) later.events)) (sym day)
-      ∙ sym (story_is later),
+          ∙ grown.1
+          ∙ ap history_payloads (sym (after-append S [] s.events more))
+          ∙ ap (λ (es : List (ℕ × Event)). history_payloads (run S es)) (sym events)
+          ∙ ap (λ (day : Situation). history_payloads (run (opening day) later.events)) (sym day)
+          ∙ sym (story_is later),
     )
 
 pub own_grows : (k later : KeptStory) (n : ℕ) (c : List ℕ) → Extends later k → IsOwn k n c → IsOwn later n c
