@@ -12,13 +12,15 @@ use Rattle.desk_runs.specs.Inputs.{Inputs}
 use Rattle.desk_runs.specs.Runs.{World, world}
 use Rattle.desk_tasks.specs.Keep.{KeptStory}
 use Rattle.desk_story.specs.Story.{kept_of}
-use Rattle.desk_store.specs.Held.{story_payloads}
-use Rattle.desk_store.specs.Own.{IsOwn}
+use Rattle.desk_store.specs.Held.{entered, story_payloads}
+use Rattle.desk_store.specs.Own.{Extends, IsOwn, OpensFor}
 use Rattle.desk_store.specs.Journal.{LeavesJournal, OnlyOpens, PassesComparison}
 use Rattle.desk_store.proofs.Exact.{undamaged, no_others}
 use Rattle.desk_store.proofs.Owned.{own_begins, own_goes_on, own_kept, own_opens}
+use Rattle.desk_store.proofs.Continued.{own_grows, passed_moments, passed_whole}
+use Rattle.kept_laws.proofs.Few.{kept_few}
 use Rattle.kept_laws.proofs.Kept.{kept_stored}
-use Rattle.desk_top.specs.Store.{HoldsAll, IsOpenedNext, JournalSays, StandsAlways}
+use Rattle.desk_top.specs.Store.{HoldsAll, IsOpenedNext, JournalSays, Keeps, StandsAlways}
 
 -- such a file is opened
 opened : (x : Inputs) (k : KeptStory) (n : ℕ) (c : List ℕ) → kept_of x ≡ Ok k → IsOwn k n c → IsOpenedNext k n c
@@ -80,3 +82,15 @@ whole_by k n was now c x h same own left =
 pub opened_whole : (x : Inputs) (k : KeptStory) (n : ℕ) (was now : DiskSide) (c : List ℕ) → kept_of x ≡ Ok k → IsOwn k n was.file.bytes → HoldsAll x was now → MayLeave now.file c → IsOpenedNext k (length (story_payloads k.story)) c
 opened_whole x k n was now c sets own h left =
     opened x k (length (story_payloads k.story)) c sets (whole_by k n was now c x h (one_story x h.keeps.k k h.keeps.sets sets) own left)
+
+-- an input that has grown
+pub opened_grown : (x y : Inputs) (k later : KeptStory) (n : ℕ) (c : List ℕ) → kept_of x ≡ Ok k → kept_of y ≡ Ok later → Extends later k → IsOwn k n c → IsOpenedNext later n c
+opened_grown x y k later n c sets grown e own = opened y later n c grown (own_grows k later n c e own)
+
+-- ---- files that a run accepted, whoever wrote them
+
+pub accepted_moments : (x : Inputs) (was now : DiskSide) → (h : Keeps x was now) → (compared : DiskSide) × OnlyOpens was compared × LeavesOnly compared now (OpensFor h.k (length (entered h.records)))
+accepted_moments x was now h = passed_moments h.k h.records was now (kept_few x h.k h.sets) h.can h.passes
+
+pub accepted_whole : (x : Inputs) (was now : DiskSide) (c : List ℕ) → (h : HoldsAll x was now) → MayLeave now.file c → OpensFor h.keeps.k (length (story_payloads h.keeps.k.story)) c
+accepted_whole x was now c h left = passed_whole h.keeps.k h.keeps.records was now c (kept_few x h.keeps.k h.keeps.sets) h.keeps.can h.keeps.passes h.all left

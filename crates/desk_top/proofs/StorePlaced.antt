@@ -31,7 +31,7 @@ use Rattle.desk_runs.proofs.Composed.{here, at, Tries, obeys-memory, runs-placed
 use Rattle.desk_runs.proofs.PromisedLaw.{promised}
 use Rattle.desk_tasks.specs.Keep.{KeptStory}
 use Rattle.desk_store.specs.Journal.{IsOnlyRead, IsOpened, LeavesJournal, OnlyOpens, PassesComparison, WhereShown}
-use Rattle.desk_top.specs.Store.{kept_directories, kept_meaning, AreCounted, EndsAtDisk, FailsToName, JournalSays, RunsKept, RunsOnDisk, Keeps, StandsAlways, HoldsAll, HoldsSince, HasBegun, IsPlacedAt, IsWrittenAt, WritesNothing}
+use Rattle.desk_top.specs.Store.{kept_directories, kept_meaning, AreCounted, EndsAtDisk, FailsToName, JournalSays, RunsKept, RunsOnDisk, Keeps, StandsAlways, HoldsAll, HoldsSince, HasBegun, IsPlacedAt, IsWrittenAt, UnlessNamed, WritesNothing}
 use Rattle.desk_top.proofs.Placed.{obeys-unplaced, obeys-unnamed, unbegun-tells_end}
 use Rattle.desk_top.proofs.StoreLaws.{only_opens, shown_is}
 
@@ -303,6 +303,37 @@ kept-disked before now first faults faults' shown mid shown' code ok le nothing 
 pub unshown-placed : (shown mid : Option DiskSide) → mid ≡ option_map stays shown → shown ≡ None → mid ≡ None
 unshown-placed shown mid placed none = placed ∙ ap (option_map stays) none
 
+-- ---- the order of the two namings
+
+-- a run that names no directories leaves those that were named
+pub still-placed : (before now : World) (faults faults' : ℕ) (shown shown' : Option DiskSide) (code : ℕ) → RunsOnDisk (Some (here command_is.Store)) before now faults faults' shown shown' code → now.folder.directories ≡ before.folder.directories
+still-placed before now faults faults' shown shown' code (inl h) = h.named.directories
+still-placed before now faults faults' shown shown' code (inr (inl h)) = h.named.directories
+still-placed before now faults faults' shown shown' code (inr (inr h)) = (h.keeps.alone.unnamed (here command_is.Store) refl refl).directories
+
+pub folder-named : (P : Type 0) (d mid now : Option Directories) (dirs : Directories) (ok : Unit {0}) → Names d mid dirs (let r : Result (Unit {0}) FolderFault = Ok ok in r) → now ≡ mid → UnlessNamed d now dirs P
+folder-named P None mid now dirs ok names same = tt
+folder-named P (Some was) mid now dirs ok names same = λ other. absurd (other (same ∙ names))
+
+pub disk-named : (P : Type 0) (d mid now : Option (List ℕ)) (output : List ℕ) → mid ≡ option_map (λ _. output) d → now ≡ mid → UnlessNamed d now output P
+disk-named P None mid now output named same = tt
+disk-named P (Some was) mid now output named same = λ other. absurd (other (same ∙ named))
+
+-- what holds, holds whatever was named
+pub holds-unnamed : {Name P : Type 0} (d now : Option Name) (name : Name) → P → UnlessNamed d now name P
+holds-unnamed None now name h = tt
+holds-unnamed (Some was) now name h = λ other. h
+
+pub weaker-unnamed : {Name P Q : Type 0} (d now : Option Name) (name : Name) → (P → Q) → UnlessNamed d now name P → UnlessNamed d now name Q
+weaker-unnamed None now name less h = tt
+weaker-unnamed (Some was) now name less h = λ other. less (h other)
+
+pub unread-placed : (before placed now : Outside) → PlacesOnly before placed → ((f : File) → IsUnread placed now f) → (f : File) → IsUnread before now f
+unread-placed before placed now only h f = unread_from before placed now f only (h f)
+
+pub unread-still : (folder : Outside) (f : File) → IsUnread folder folder f
+unread-still folder f = record { left = refl; faults = refl }
+
 -- ---- the directory of the disk
 
 pub named-there : (d mid now : Option (List ℕ)) (output : List ℕ) → mid ≡ option_map (λ _. output) d → now ≡ mid → IfSome d (λ _. now ≡ Some output)
@@ -357,5 +388,8 @@ pub other-asked : (o : Option Asking) (dirs : Directories) → kept_directories 
 other-asked o dirs none is = (let both : Some dirs ≡ None = sym (ap kept_directories is) ∙ none in cc)
 
 -- of one command's directories there is one pair
+pub own-dirs : (o : Option Asking) (own dirs : Directories) → o ≡ Some (command_is.Store, Some own) → o ≡ Some (command_is.Store, Some dirs) → own ≡ dirs
+own-dirs o own dirs is other = (let both : Some own ≡ Some dirs = sym (ap kept_directories is) ∙ ap kept_directories other in cc)
+
 pub same-dirs : (o : Option Asking) (own dirs : Directories) (was now : Option (List ℕ)) → o ≡ Some (command_is.Store, Some own) → o ≡ Some (command_is.Store, Some dirs) → IfSome was (λ _. now ≡ Some own.output) → IfSome was (λ _. now ≡ Some dirs.output)
-same-dirs o own dirs was now is other h = (let same : own ≡ dirs = (let both : Some own ≡ Some dirs = sym (ap kept_directories is) ∙ ap kept_directories other in cc both) in subst (λ (d : Directories). IfSome was (λ _. now ≡ Some d.output)) same h)
+same-dirs o own dirs was now is other h = subst (λ (d : Directories). IfSome was (λ _. now ≡ Some d.output)) (own-dirs o own dirs is other) h

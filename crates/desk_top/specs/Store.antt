@@ -1,5 +1,5 @@
 -- What is said of a run that keeps its journal on a disk.
-use Rattle.std.specs.Prelude.{◌≡◌, ◌≢◌, ◌≤◌, ◌⊎◌, ℕ, false, List, length, Option, Some, None, Result, Ok}
+use Rattle.std.specs.Prelude.{◌≡◌, ◌≢◌, ◌≤◌, ◌⊎◌, ℕ, false, List, length, Option, Some, None, IfSome, Result, Ok}
 use Rattle.std.specs.Option.{option_map}
 use Rattle.desk_folder.specs.declared.files.File.{File}
 use Rattle.desk_folder.specs.declared.faults.FolderFault.{FolderFault}
@@ -78,6 +78,10 @@ IsWrittenAt code = (code ≤ 1) ⊎ (code ≡ 5)
 -- the statuses at which the disk's directory is that of the output
 abbrev pub IsPlacedAt : ℕ → Type 0
 IsPlacedAt code = (code ≤ 1) ⊎ ((code ≡ 3) ⊎ (code ≡ 5))
+
+-- where it is shown which name was last given: unless it is this one, this holds
+abbrev pub UnlessNamed : {Name : Type 0} → Option Name → Option Name → Name → Type 0 → Type 0
+UnlessNamed shown shown' name Holds = IfSome shown (λ _. shown' ≢ Some name → Holds)
 
 -- ---- how a run ends
 

@@ -2,6 +2,7 @@
 
 ghost use Rattle.std.specs.Prelude.{◌≡◌, ◌⊎◌, ℕ, ◌≤◌, Bool, true, false, None, Some, IfSome, Err, map};
 ghost use Rattle.std.specs.String.{string_bytes};
+ghost use Rattle.desk_folder.specs.declared.files.File.{File};
 ghost use Rattle.desk_folder.specs.Outside.{Directories as NamedDirectories};
 ghost use Rattle.std.specs.Option.{option_map};
 ghost use Rattle.desk_folder.specs.Calls.{Rose};
@@ -12,12 +13,13 @@ ghost use Rattle.desk_words.specs.Commands.{command};
 ghost use Rattle.desk_runs.specs.Commands.{IsCommand, asked_by, asked_here, asks_disk, files_read, is_of_disk};
 ghost use Rattle.desk_runs.specs.declared.refusal.Refusal.{Refusal};
 ghost use Rattle.desk_runs.specs.Inputs.{Inputs, Tells};
+ghost use Rattle.desk_runs.specs.Reading.{IsUnread};
 ghost use Rattle.desk_runs.specs.Runs.{Between};
 ghost use Rattle.desk_runs.specs.Causes.{IsDoneAt};
 ghost use Rattle.desk_runs.proofs.Composed.{at};
 ghost use Rattle.desk_story.specs.Story.{kept_of};
 ghost use Rattle.desk_store.specs.Journal.{OnlyOpens, WhereShown};
-ghost use Rattle.desk_top.specs.Store.{kept_directories, HasBegun, HoldsAll, IsAtMostNamed, IsPlacedAt, IsStored, IsWrittenAt, RunsOnDisk, StandsAlways};
+ghost use Rattle.desk_top.specs.Store.{kept_directories, HasBegun, HoldsAll, IsAtMostNamed, IsPlacedAt, IsStored, IsWrittenAt, RunsOnDisk, StandsAlways, UnlessNamed};
 ghost use Rattle.desk_top.specs.Desk.{Runs, RunsAsPromised, IsReplayed, IsRecovered, IsRecoveredByTeam, IsTried, IsChecked, IsGenerated};
 
 use crate::plain::{run_plain, tell};
@@ -126,6 +128,7 @@ fn run_on_disk<F: Folder, O: Sink, D: Disk>(
     ensures kept { D.faults disk.old ≤ D.faults disk.new }
     ensures unshown { D.shown disk.old ≡ None → D.shown disk.new ≡ None }
     ensures directory { IsPlacedAt result → IfSome (D.directory disk.old) (λ _. D.directory disk.new ≡ Some (named dirs.now).output) }
+    ensures unread { UnlessNamed (D.directory disk.old) (D.directory disk.new) (named dirs.now).output ((f : File) → IsUnread (F.outside folder.old) (F.outside folder.new) f) }
 {
     match disk.place(alloc, dirs.output) {
         Ok(()) => run_store(alloc, folder, out, disk),
@@ -156,6 +159,8 @@ fn stored_run<F: Folder, O: Sink, D: Disk>(
     ensures kept { D.faults disk.old ≤ D.faults disk.new }
     ensures unshown { D.shown disk.old ≡ None → D.shown disk.new ≡ None }
     ensures directory { IsPlacedAt result → IfSome (D.directory disk.old) (λ _. D.directory disk.new ≡ Some (named dirs.now).output) }
+    ensures unnamed { UnlessNamed (F.outside folder.old).directories (F.outside folder.new).directories (named dirs.now) (disk.new ≡ disk.old) }
+    ensures unread { UnlessNamed (D.directory disk.old) (D.directory disk.new) (named dirs.now).output ((f : File) → IsUnread (F.outside folder.old) (F.outside folder.new) f) }
 {
     match folder.place(alloc, dirs.input, dirs.output) {
         Ok(()) => run_on_disk(alloc, dirs, folder, out, disk),
@@ -266,6 +271,15 @@ pub fn desk_main<R: Threads + Wait + Sync, F: Folder, O: Sink, G: Gate, D: Disk>
     // At 0, 1, 3 and 5 the directory of the disk is that of the output.
     ensures stored_in { (dirs : NamedDirectories) → command (map string_bytes words.now) ≡ Some (Store, Some dirs) →
         IsPlacedAt result → IfSome (D.directory disk.old) (λ _. D.directory disk.new ≡ Some dirs.output) }
+
+    // Nothing is asked of the disk before the folder's directories are named, where the folder shows which were last named: it is
+    // as it was, unless these were.
+    ensures stored_unnamed { (dirs : NamedDirectories) → command (map string_bytes words.now) ≡ Some (Store, Some dirs) →
+        UnlessNamed (F.outside folder.old).directories (F.outside folder.new).directories dirs (disk.new ≡ disk.old) }
+
+    // No file is read before the disk's directory is named, where the disk shows which was last named.
+    ensures stored_unread { (dirs : NamedDirectories) → command (map string_bytes words.now) ≡ Some (Store, Some dirs) →
+        UnlessNamed (D.directory disk.old) (D.directory disk.new) dirs.output ((f : File) → IsUnread (F.outside folder.old) (F.outside folder.new) f) }
 
     // No run lets the count of faults of the disk fall, and a disk that shows nothing goes on so.
     ensures disk_kept { D.faults disk.old ≤ D.faults disk.new }
@@ -379,6 +393,15 @@ pub fn desk_main_heard<R: Threads + Wait + Sync, F: Folder, O: Sink, G: Gate, D:
     // At 0, 1, 3 and 5 the directory of the disk is that of the output.
     ensures stored_in { (dirs : NamedDirectories) → command (map string_bytes words.now) ≡ Some (Store, Some dirs) →
         IsPlacedAt result → IfSome (D.directory disk.old) (λ _. D.directory disk.new ≡ Some dirs.output) }
+
+    // Nothing is asked of the disk before the folder's directories are named, where the folder shows which were last named: it is
+    // as it was, unless these were.
+    ensures stored_unnamed { (dirs : NamedDirectories) → command (map string_bytes words.now) ≡ Some (Store, Some dirs) →
+        UnlessNamed (F.outside folder.old).directories (F.outside folder.new).directories dirs (disk.new ≡ disk.old) }
+
+    // No file is read before the disk's directory is named, where the disk shows which was last named.
+    ensures stored_unread { (dirs : NamedDirectories) → command (map string_bytes words.now) ≡ Some (Store, Some dirs) →
+        UnlessNamed (D.directory disk.old) (D.directory disk.new) dirs.output ((f : File) → IsUnread (F.outside folder.old) (F.outside folder.new) f) }
 
     // No run lets the count of faults of the disk fall, and a disk that shows nothing goes on so.
     ensures disk_kept { D.faults disk.old ≤ D.faults disk.new }

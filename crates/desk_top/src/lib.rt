@@ -23,7 +23,7 @@ mod workers;
 
 pub use desk::{desk_main, desk_main_heard};
 pub use desk_words::Command;
-pub use laws::what_a_run_leaves_the_next_one_opens;
+pub use laws::{what_a_run_accepted_the_next_one_opens, what_a_run_leaves_the_next_one_opens};
 pub use plain::run_plain;
 pub use store::run_store;
 pub use workers::run_workers;

@@ -2,19 +2,22 @@ use Rattle.std.proofs.Common.{◌≡◌, refl, sym, ◌∙◌, ap, subst, [], ma
 use Rattle.std.specs.Option.{option_map}
 use Rattle.std.specs.Prelude.{None, Some, Option}
 use Rattle.std.specs.String.{string_bytes}
+use Rattle.desk_folder.specs.declared.files.File.{File}
+use Rattle.desk_folder.specs.Outside.{Directories}
 use Rattle.desk_words.specs.declared.asked.Command.TheVariants as command_is
 use Rattle.desk_words.specs.Asked.{named}
 use Rattle.desk_words.specs.Commands.{Asking, command}
 use Rattle.desk_runs.specs.Commands.{asked_by, asks, asks_disk}
 use Rattle.desk_runs.specs.Inputs.{Inputs}
+use Rattle.desk_runs.specs.Reading.{IsUnread}
 use Rattle.desk_runs.specs.Runs.{world}
 use Rattle.desk_runs.proofs.PromisedLaw.{runs-as-promised}
 use Rattle.desk_top.specs.Desk.{meanings, RunsAsPromised}
-use Rattle.desk_top.specs.Store.{kept_directories, RunsOnDisk}
+use Rattle.desk_top.specs.Store.{kept_directories, RunsOnDisk, UnlessNamed}
 use Rattle.desk_top.proofs.Commands.{done-by, replayed, recovered-day, recovered-by-team, tried-day, checked, generated}
 use Rattle.desk_top.proofs.Ranges.{unplaced-free}
 use Rattle.desk_top.proofs.Stored.{stored}
-use Rattle.desk_top.proofs.StorePlaced.{asks-store, kept-asked, other-asked, others-free, same-dirs, store-alone}
+use Rattle.desk_top.proofs.StorePlaced.{asks-store, kept-asked, other-asked, others-free, own-dirs, same-dirs, store-alone}
 use Rattle.desk_top.proofs.desk.desk_main_heard.Goals as goal
 
 -- the bytes of no file
@@ -52,6 +55,8 @@ returns-in-None g c =
       stored_refused = λ dirs is three. absurd (other-asked these dirs none is);
       stored_failed = λ dirs is eight. absurd (other-asked these dirs none is);
       stored_in = λ dirs is at. absurd (other-asked these dirs none is);
+      stored_unnamed = λ dirs is. absurd (other-asked these dirs none is);
+      stored_unread = λ dirs is. absurd (other-asked these dirs none is);
       disk_kept = omega arith;
       disk_unshown = λ unshown. unshown;
       other_disk = λ free. refl;
@@ -88,6 +93,8 @@ returns-in-Some g c =
       stored_refused = λ dirs is three. run.refused three;
       stored_failed = λ dirs is eight. run.failed eight;
       stored_in = λ dirs is at. same-dirs these own dirs (g.D.Disk.directory c.args.disk.now) (g.D.Disk.directory c.stored_run.new.disk) asked is (run.directory at);
+      stored_unnamed = λ dirs is. subst (λ (d : Directories). UnlessNamed before.folder.directories now.folder.directories d (c.stored_run.new.disk ≡ c.args.disk.now)) (own-dirs these own dirs asked is) run.unnamed;
+      stored_unread = λ dirs is. subst (λ (d : Directories). UnlessNamed (g.D.Disk.directory c.args.disk.now) (g.D.Disk.directory c.stored_run.new.disk) d.output ((f : File) → IsUnread before.folder now.folder f)) (own-dirs these own dirs asked is) run.unread;
       disk_kept = run.kept;
       disk_unshown = run.unshown;
       other_disk = λ free. absurd (store-alone these own asked free);

@@ -1,12 +1,14 @@
 use Rattle.std.proofs.Common.{◌∙◌, ap, refl, inl, inr}
 use Rattle.desk_runs.specs.declared.ending.DiskEnd.TheVariants as disk_end
 use Rattle.desk_runs.specs.declared.ending.Ending.TheVariants as ending
+use Rattle.desk_folder.specs.declared.files.File.{File}
+use Rattle.desk_runs.specs.Reading.{IsUnread}
 use Rattle.desk_runs.specs.Runs.{world}
 use Rattle.desk_words.specs.Asked.{named}
 use Rattle.desk_store.specs.Journal.{OnlyOpens}
 use Rattle.desk_top.specs.Store.{HoldsAll, StandsAlways}
 use Rattle.desk_top.proofs.StoreLaws.{shown-same}
-use Rattle.desk_top.proofs.StorePlaced.{kept-disked, kept-undisked, kept-unremembered, at_most, risen, unshown-placed, named-there, not-placed, never-began, eight-only, still, opens-placed, always-placed, all-placed, shown-placed, pending-placed, shown-failed}
+use Rattle.desk_top.proofs.StorePlaced.{kept-disked, kept-undisked, kept-unremembered, at_most, risen, unshown-placed, named-there, not-placed, never-began, eight-only, still, opens-placed, always-placed, all-placed, shown-placed, pending-placed, shown-failed, disk-named, holds-unnamed, unread-still}
 use Rattle.desk_top.proofs.desk.run_on_disk.Goals as goal
 
 pub run_store-requires : goal.run_store-requires
@@ -34,6 +36,7 @@ returns-in-Ok g c =
       kept = at_most faults placed later counts.kept c.run_store.ensures.kept;
       unshown = λ none. c.run_store.ensures.unshown (unshown-placed shown mid stays none);
       directory = λ at. named-there (g.D.Disk.directory c.args.disk.now) (g.D.Disk.directory c.place.new.self) (g.D.Disk.directory c.run_store.new.disk) (named c.args.dirs.now).output c.in-Ok.ensures.names c.run_store.ensures.directory;
+      unread = disk-named ((f : File) → IsUnread before.folder now.folder f) (g.D.Disk.directory c.args.disk.now) (g.D.Disk.directory c.place.new.self) (g.D.Disk.directory c.run_store.new.disk) (named c.args.dirs.now).output c.in-Ok.ensures.names c.run_store.ensures.directory;
     }
 
 pub returns-in-Err-Failed : goal.returns-in-Err-Failed
@@ -57,6 +60,7 @@ returns-in-Err-Failed g c =
       kept = failed.counts.kept;
       unshown = λ none. unshown-placed shown mid failed.stays none;
       directory = λ at. absurd (not-placed how given.answer code given.status (inr (inr refl)) at);
+      unread = holds-unnamed (g.D.Disk.directory c.args.disk.now) (g.D.Disk.directory c.place.new.self) (named c.args.dirs.now).output (unread-still before.folder);
     }
 
 pub returns-in-Err-Memory : goal.returns-in-Err-Memory
@@ -79,4 +83,5 @@ returns-in-Err-Memory g c =
       kept = memory.counts.kept;
       unshown = λ none. memory.stays ∙ none;
       directory = λ at. absurd (not-placed ending.Memory given.answer code given.status (inr (inl refl)) at);
+      unread = holds-unnamed (g.D.Disk.directory c.args.disk.now) (g.D.Disk.directory c.place.new.self) (named c.args.dirs.now).output (unread-still before.folder);
     }

@@ -1,10 +1,11 @@
-use Rattle.std.proofs.Common.{refl, inl, inr, arith}
+use Rattle.std.proofs.Common.{◌≡◌, refl, inl, inr, arith}
 use Rattle.desk_runs.specs.declared.ending.Ending.TheVariants as ending
+use Rattle.desk_runs.specs.Runs.{world}
 use Rattle.desk_words.specs.Asked.{named}
 use Rattle.desk_store.specs.Journal.{OnlyOpens}
 use Rattle.desk_top.specs.Store.{StandsAlways}
 use Rattle.desk_top.proofs.StoreLaws.{shown-same}
-use Rattle.desk_top.proofs.StorePlaced.{kept-placed, kept-unplaced, kept-unnamed, began-placed, tells-placed, not-placed, never-began, eight-only}
+use Rattle.desk_top.proofs.StorePlaced.{kept-placed, kept-unplaced, kept-unnamed, began-placed, tells-placed, not-placed, never-began, eight-only, still-placed, folder-named, holds-unnamed, weaker-unnamed, unread-placed, unread-still}
 use Rattle.desk_top.proofs.desk.stored_run.Goals as goal
 
 pub returns-in-Ok : goal.returns-in-Ok
@@ -28,6 +29,9 @@ returns-in-Ok g c =
       kept = run.kept;
       unshown = run.unshown;
       directory = run.directory;
+      unnamed = folder-named (c.run_on_disk.new.disk ≡ c.args.disk.now) before.directories placed.directories now.directories dirs c.in-Ok.field-0 c.in-Ok.ensures.names
+          (still-placed (world placed sink) (world now later) faults (g.D.Disk.faults c.run_on_disk.new.disk) (g.D.Disk.shown c.args.disk.now) (g.D.Disk.shown c.run_on_disk.new.disk) c.run_on_disk.result run.promise);
+      unread = weaker-unnamed (g.D.Disk.directory c.args.disk.now) (g.D.Disk.directory c.run_on_disk.new.disk) dirs.output (unread-placed before placed now only) run.unread;
     }
 
 pub returns-in-Err-Failed : goal.returns-in-Err-Failed
@@ -51,6 +55,8 @@ returns-in-Err-Failed g c =
       kept = omega arith;
       unshown = λ none. none;
       directory = λ at. absurd (not-placed ending.PlaceFault given.answer code given.status (inl refl) at);
+      unnamed = holds-unnamed before.directories placed.directories (named c.args.dirs.now) refl;
+      unread = holds-unnamed (g.D.Disk.directory c.args.disk.now) (g.D.Disk.directory c.args.disk.now) (named c.args.dirs.now).output (unread-placed before placed placed only (unread-still placed));
     }
 
 pub returns-in-Err-Memory : goal.returns-in-Err-Memory
@@ -74,4 +80,6 @@ returns-in-Err-Memory g c =
       kept = omega arith;
       unshown = λ none. none;
       directory = λ at. absurd (not-placed ending.Memory given.answer code given.status (inr (inl refl)) at);
+      unnamed = holds-unnamed before.directories placed.directories (named c.args.dirs.now) refl;
+      unread = holds-unnamed (g.D.Disk.directory c.args.disk.now) (g.D.Disk.directory c.args.disk.now) (named c.args.dirs.now).output (unread-placed before placed placed only (unread-still placed));
     }
