@@ -108,6 +108,8 @@ impl InputRows {
             File::AltAirports => put_rows(&mut files.alt_airports, read_alt_airports(alloc, bytes)),
             File::Tariff => put(&mut files.tariff, read_tariff(alloc, bytes)),
             File::Feed => put_rows(&mut files.feed, read_feed(alloc, bytes)),
+            // no command reads it yet
+            File::Crew => Ok(()),
             File::Journal => put(&mut self.journal, read_journal(alloc, bytes)),
             File::SolRotations => keep(
                 &mut self.plan_rotations,
@@ -119,7 +121,8 @@ impl InputRows {
                 solution_grammar(alloc, file, bytes),
                 kept,
             ),
-            File::Crew | File::SolAdded => Ok(()),
+            // it is written, and never read
+            File::SolAdded => Ok(()),
         }
     }
 }

@@ -1,4 +1,4 @@
-use Rattle.std.proofs.Common.{List, subst}
+use Rattle.std.proofs.Common.{List, refl, subst}
 use Rattle.std.specs.Prelude.{All}
 use Rattle.std.specs.declared.alloc.Global.{Global}
 use Rattle.std.specs.declared.vec.Vec.{Vec}
@@ -136,3 +136,11 @@ returns-in-SolItineraries-clause-exact c =
     let bytes = c.as_slice-bytes.result.now in
     let tried = subst (λ (f : File). Tries c.solution_grammar-in-SolItineraries.result (refusal_in f bytes)) c.in-SolItineraries.is c.solution_grammar-in-SolItineraries.ensures in
     rw c.in-SolItineraries.is (kept_give (λ rows. record (as_rows c.args.self.now) { plan_itineraries = rows }) c.keep-in-SolItineraries.result c.solution_grammar-in-SolItineraries.result c.keep-in-SolItineraries.new.place.items (refusal_in file.SolItineraries) bytes c.args.kept.now.items c.as_slice-bytes.ensures.value c.keep-in-SolItineraries.ensures.same c.keep-in-SolItineraries.ensures.kept tried)
+
+pub returns-in-Crew-clause-exact : goal.returns-in-Crew-clause-exact
+unfolding with_rows
+returns-in-Crew-clause-exact c = rw c.in-Crew.is refl
+
+pub returns-in-SolAdded-clause-exact : goal.returns-in-SolAdded-clause-exact
+unfolding with_rows
+returns-in-SolAdded-clause-exact c = rw c.in-SolAdded.is refl
