@@ -90,6 +90,7 @@ fn notes_of_a_run(alloc: Global) -> Result<Notes, NoMem> {
         workers: 0,
         moves: 1000,
         live: false,
+        watch: false,
     };
     let _ = run_plain(alloc, &command, &mut folder, &mut out, &mut notes);
     Ok(notes)
