@@ -72,8 +72,13 @@ fn search_and_end<R: Threads + Wait + Sync, G: Gate, T: Telling + Send + Drop>(
 }
 
 // Searches the day of a turn by a team while a viewer watches, and notes what it sees.
-fn search_watched<'a, J: Naming + Send + Sync, R: Threads + Wait + Sync, G: Gate>(
-    rt: &'a R,
+fn search_watched<
+    J: Naming + Send + Sync,
+    R: Threads + Wait + Sync,
+    G: Gate,
+    T: Telling + Send + Drop,
+>(
+    rt: &R,
     alloc: Global,
     workers: Vec<Worker>,
     turn: &Turn<Book>,
@@ -81,12 +86,12 @@ fn search_watched<'a, J: Naming + Send + Sync, R: Threads + Wait + Sync, G: Gate
     gate: &G,
     batches: &[Batch],
     team: Team,
-    telling: BoardTelling<J, &'a R>,
+    telling: T,
     viewer: Viewer<Sight, Posted, J>,
     notes: Vec<Note<Sight, J>>,
 ) -> (
     (Viewer<Sight, Posted, J>, Vec<Note<Sight, J>>),
-    (Pass<Book>, Result<Searched, NoMem>, BoardTelling<J, &'a R>),
+    (Pass<Book>, Result<Searched, NoMem>, T),
 )
     requires some { 0 < vec_len workers }
     requires shards { AreAllShards workers.items }
@@ -95,12 +100,12 @@ fn search_watched<'a, J: Naming + Send + Sync, R: Threads + Wait + Sync, G: Gate
     requires asked { All (IsBatch (day_of turn.now).parts) batches.now }
     requires batches { 0 < length batches.now }
     requires start { (seen pass ≡ []) × (made pass ≡ []) }
-    requires can { HasTold (first_book turn.now) (seen pass) (told_to telling) }
+    requires can { T.can telling (first_book turn.now) (seen pass) }
     requires notes { notes.items ≡ [] }
     ensures behind { All (λ n. IsPrefix (stands_for n) (seen_by result.0.0)) result.0.1.items }
     ensures of { IsPassOf opening_of turn.now result.1.0 }
     ensures returned { IsReturned (known pass) (known result.1.0) }
-    ensures can { HasTold (first_book turn.now) (seen result.1.0) (told_to result.1.2) }
+    ensures can { T.can result.1.2 (first_book turn.now) (seen result.1.0) }
     ensures run { IfOk result.1.1 (IsTeamRun (vec_len workers) team.moves team.live (day_of turn.now) batches.now (known result.1.0)) }
 {
     let ended = AtomicU64::new(0);
@@ -112,7 +117,7 @@ fn search_watched<'a, J: Naming + Send + Sync, R: Threads + Wait + Sync, G: Gate
             requires { notes.items ≡ [] }
             ensures { All (λ n. IsPrefix (stands_for n) (seen_by result.0)) result.1.items }
         { watch(rt, viewer, notes, &ended) },
-        || -> (Pass<Book>, Result<Searched, NoMem>, BoardTelling<J, &R>)
+        || -> (Pass<Book>, Result<Searched, NoMem>, T)
             requires some { 0 < vec_len workers }
             requires shards { AreAllShards workers.items }
             requires of { IsPassOf opening_of turn.now pass }
@@ -120,10 +125,10 @@ fn search_watched<'a, J: Naming + Send + Sync, R: Threads + Wait + Sync, G: Gate
             requires asked { All (IsBatch (day_of turn.now).parts) batches.now }
             requires batches { 0 < length batches.now }
             requires start { (seen pass ≡ []) × (made pass ≡ []) }
-            requires can { HasTold (first_book turn.now) (seen pass) (told_to telling) }
+            requires can { T.can telling (first_book turn.now) (seen pass) }
             ensures of { IsPassOf opening_of turn.entry.now result.0 }
             ensures returned { IsReturned (known pass) (known result.0) }
-            ensures can { HasTold (first_book turn.entry.now) (seen result.0) (told_to result.2) }
+            ensures can { T.can result.2 (first_book turn.entry.now) (seen result.0) }
             ensures run { IfOk result.1 (IsTeamRun (vec_len workers) team.moves team.live (day_of turn.entry.now) batches.entry.now (known result.0)) }
         {
             search_and_end(
