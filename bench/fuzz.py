@@ -1,11 +1,13 @@
 #!/usr/bin/env python3
 """Makes small days, spoils some of them, and holds the built desk against a slow reading of the pages.
 
-Usage: bench/fuzz.py [--days FROM TO] [--mutate] [--keep DIR] [--program PATH] [--recover EVERY] [--seconds N] [--judge-alone]
+Usage: bench/fuzz.py [--days FROM TO] [--mutate] [--keep DIR] [--program PATH] [--recover EVERY] [--commands NAME,..] [--seconds N] [--judge-alone]
 
 A day is made up from its number by bench/small_days.py, with a journal and a plan for it; with --mutate it is then spoilt by
 bench/spoilt_days.py. The desk is run on it with `replay` and `check`, each EVERYth day with `recover` and a few moves, and now and then
-with `gen` and with words that are near a command. Its status, what it prints and the files that it leaves have to be what the package
+with `gen` and with words that are near a command. With `--commands workers` each day that is small enough is recovered with workers instead, live
+or not, watched or not; then what it gives has to be what a replay of the journal that it wrote gives, the batches those of the day and from
+caller 0, and each line of what a viewer saw that of a beginning of that journal, the last of them that of the whole. Its status, what it prints and the files that it leaves have to be what the package
 bench/judge says. Build the desk first: it is crates/desk/out/desk, or --program.
 
 Prints a line for each run that differs, and with --keep leaves its files in DIR/NUMBER-COMMAND: `in`, `out` as it stood before,
@@ -39,7 +41,7 @@ MOST_LINES = 9
 NEAR_WORDS = (
     "replay", "recover", "check", "gen", "trial", "help", "--help", "", "-", "--", "-x", "IN", "OUT", "OUT", "--seed", "--seed=3", "--seed=",
     "--size", "--size=0", "--size=41", "--moves", "--moves=0", "--moves=0000000001", "--moves=100001", "--workers", "--workers=1",
-    "--workers=65", "--live", "--live=", "0", "1", "007", "40", "65", "100000", "999999999", "1000000000", "+1", "1.0",
+    "--workers=65", "--live", "--live=", "--watch", "--watch=1", "0", "1", "007", "40", "65", "100000", "999999999", "1000000000", "+1", "1.0",
 )
 
 
@@ -139,6 +141,46 @@ def recover_case(draws, files):
     return Case("recover", words, files, {}, expected.recover(files, most))
 
 
+def workers_case(draws, files):
+    """A recovery by workers. What it has to give depends on the journal that it writes, so that is judged afterwards."""
+    most, flags = draws.randint(1, 3), [flag for flag in ("--live", "--watch") if draws.random() < 0.5]
+    words = ["recover", "in", "out", "--workers", str(draws.choice((1, 2, 7, 64))), "--moves", str(most)] + flags
+    return Case("workers", words, files, {}, expected.recover(files, 0))
+
+
+def seen_fault(lines, views):
+    """What is wrong with the lines of what a viewer saw, or none."""
+    places = [int(line.split()[1]) for line in lines]
+    if places != sorted(set(places)) or not places or places[-1] != len(views) - 1 or len(places) > 64:
+        return "views of %r entries, of %d" % (places, len(views) - 1)
+    return next(("gave %r, wanted %r" % (line, views[at]) for at, line in zip(places, lines) if views[at] != line), None)
+
+
+def workers_difference(case, given, warned):
+    """What a recovery by workers gave that no team may give, or none; and from then on what it has to give is known."""
+    if case.wanted.status not in (0, 1):
+        return first_difference(case, given, warned)
+    files = {**case.given, "journal.csv": given.files.get("journal.csv", b"")}
+    batches = re.findall(rb"(?m)^(\d+),batch,(\d+),", files["journal.csv"])
+    if batches != [(b"0", b"%d" % number) for number in range(len(batches))] or len(batches) != case.wanted.report.count(b"batch "):
+        return "batches %r" % batches
+    wanted = expected.replay(files)
+    lines = given.report.splitlines(True)
+    ended = [line for line in lines if line.startswith(b"ended ")]
+    seen = [line for line in lines if line.startswith(b"seen ")]
+    if len(ended) != (wanted.status == 0) or not set(ended) <= {b"ended quiet\n", b"ended budget\n"}:
+        return "ended %r" % ended
+    if "--watch" in case.words:
+        fault = seen_fault(seen, expected.views(files))
+        if fault:
+            return fault
+    elif seen:
+        return "seen %r" % seen
+    head, changes, end = wanted.report.rpartition(b"changes ")
+    case.wanted = wanted._replace(report=head + b"".join(ended + seen) + changes + end)
+    return first_difference(case, given, warned)
+
+
 def is_small(files):
     return all((files[name] or b"").count(b"\n") <= MOST_LINES for name in ("rotations.csv", "itineraries.csv"))
 
@@ -165,6 +207,10 @@ def cases_of(number, options):
         spoil(draws, both)
         solution = {name: both.pop(name) for name in SOLUTION_FILES}
         files = both
+    if "workers" in options.commands:
+        if is_small(files):
+            yield workers_case(draws, {name: files[name] for name in DAY_FILES})
+        return
     yield replay_case(draws, files)
     yield check_case(draws, {name: files[name] for name in DAY_FILES}, solution)
     if options.recover and number % options.recover == 0 and is_small(files):
@@ -209,7 +255,7 @@ def try_case(number, case, options, tally):
         return
     with tempfile.TemporaryDirectory() as room:
         given, warned = run(options.program, case, room)
-        difference = first_difference(case, given, warned)
+        difference = (workers_difference if case.name == "workers" else first_difference)(case, given, warned)
         if difference:
             tally.differing += 1
             print("day %d, %s: %s" % (number, case.name, difference), flush=True)
@@ -224,6 +270,7 @@ def main():
     parser.add_argument("--keep", metavar="DIR", help="where the files of runs that differ are left")
     parser.add_argument("--program", default=PROGRAM, help="the desk")
     parser.add_argument("--recover", type=int, default=25, metavar="EVERY", help="recover each so many days; 0 for none")
+    parser.add_argument("--commands", type=lambda names: names.split(","), default=[], metavar="NAME,..", help="workers: recover each small day with workers, and do nothing else")
     parser.add_argument("--seconds", type=float, default=float("inf"), help="begin no day after so many seconds")
     parser.add_argument("--judge-alone", action="store_true", help="run the judge and not the desk, to see what the days are like")
     options = parser.parse_args()

@@ -80,7 +80,7 @@ def change(day, before, words):
         write(path, read(path) + b"".join(rows))
     elif verb == "take":
         write(path, before.get(name, b""))
-    elif verb not in ("cut", "sizes", "repeats"):
+    elif verb not in ("cut", "sizes", "repeats", "last"):
         sys.exit("no command: " + words)
 
 
@@ -92,7 +92,7 @@ def directories_of(words):
             dirs += rest
         elif not word.startswith("-"):
             dirs.append(word)
-        elif "=" not in word and word != "--live":
+        elif "=" not in word and word not in ("--live", "--watch"):
             next(rest, None)  # the number of the option
     if words[:1] == ["gen"]:
         return "", dirs[0] if len(dirs) == 1 else ""

@@ -1,7 +1,7 @@
 #!/usr/bin/env python3
 """Times recoveries by teams of workers.
 
-Usage: bench/team.py [--size 8 | --legs N] [--seed 1] [--workers 1,2,4] [--moves N] [--live] [--runs 3] [--processors 0,1,..]
+Usage: bench/team.py [--size 8 | --legs N] [--seed 1] [--workers 1,2,4] [--moves N] [--live] [--watch] [--runs 3] [--processors 0,1,..]
 
 A day is made up by `gen` of a size and a seed, or has so many legs as that of bench/day.py. It is recovered by each number of workers,
 so many times, on those processors alone where some are named. Prints a line for each number of workers, of the run that took least by the
@@ -52,6 +52,7 @@ def best_of(day, workers, asked, processors):
             words = ["recover", day, out, "--workers", str(workers)]
             words += ["--moves", str(asked.moves)] if asked.moves else []
             words += ["--live"] if asked.live else []
+            words += ["--watch"] if asked.watch else []
             done = run(words, processors)
             if done[3] > 1:
                 sys.exit("the desk ended with status %d: %s" % (done[3], "; ".join(done[4])))
@@ -71,6 +72,7 @@ def main():
     words.add_argument("--workers", default="1,2,4")
     words.add_argument("--moves", type=int)
     words.add_argument("--live", action="store_true")
+    words.add_argument("--watch", action="store_true")
     words.add_argument("--runs", type=int, default=3)
     words.add_argument("--processors", default="")
     asked = words.parse_args()

@@ -1,18 +1,21 @@
 #!/usr/bin/env python3
 """Recovers days that are made up with workers, and replays each journal that was written.
 
-Usage: bench/workers.py [--workers 1,2,7,64] [--sizes 1,2] [--seeds 3] [--rounds 1] [--moves N]
+Usage: bench/workers.py [--workers 1,2,7,64] [--sizes 1,2] [--seeds 3] [--rounds 1] [--moves N] [--watch]
 
 Each day is recovered with each number of workers, in turn and live, as often as --rounds says; which entries a run has depends on the
 threads. Its journal is replayed, and has to give the same status, the same files, and the same report but for the line that begins with
 `ended`. The batches of the journal have to be those of the day, in their order and from caller 0, and each move has to come from
-a worker that there is. A run with one worker, in turn, has to give what the desk gives alone, but for the callers. Build the desk first:
-it is crates/desk/out/desk.
+a worker that there is. A run with one worker, in turn, has to give what the desk gives alone, but for the callers. With --watch a viewer
+watches each run, and what it saw has to be 1 to 64 views of beginnings of the journal, each of more entries than the one before it, the last that
+of the whole, each with the changes and the cost that the journal's answers say. Build the desk first: it is crates/desk/out/desk.
 
 Prints a line a day; the status is 1 where a run gave something else.
 """
 import argparse
+import csv
 import os
+import re
 import sys
 import tempfile
 
@@ -36,7 +39,35 @@ def run(words, out):
 
 
 def without_end(report):
-    return b"".join(line for line in report.splitlines(True) if not line.startswith(b"ended "))
+    return b"".join(line for line in report.splitlines(True) if not line.startswith((b"ended ", b"seen ")))
+
+
+def without_views(report):
+    return b"".join(line for line in report.splitlines(True) if not line.startswith(b"seen "))
+
+
+def views_of(journal, first):
+    """What a view says of each beginning of a journal: how many changes there were, and the cost or what is broken; `first` before all."""
+    changes, views = 0, ["0 " + first]
+    for _, kind, _, answer in csv.reader(journal.decode().splitlines()):
+        change = re.fullmatch(r"(?:keep|shift|ground|accepted) (\d+)|(no plan .*)", answer)
+        if change and (kind == "batch" or change[1]):
+            changes += 1
+            views.append("%d %s" % (changes, change[1] or change[2]))
+        else:
+            views.append(views[-1])
+    return views
+
+
+def faults_of_views(report, journal, first):
+    """What is wrong with what a viewer saw."""
+    views, seen = views_of(journal, first), [line.split(" ", 2)[1:] for line in report.decode().splitlines() if line.startswith("seen ")]
+    places = [int(entries) for entries, _ in seen]
+    if not 1 <= len(seen) <= 64 or places != sorted(set(places)) or places[-1] != len(views) - 1:
+        yield "views of %s entries, of %d" % (places, len(views) - 1)
+    for entries, view in seen:
+        if views[min(int(entries), len(views) - 1)] != view:
+            yield "seen %s %s" % (entries, view)
 
 
 def replayed(day, journal):
@@ -69,18 +100,18 @@ def faults_of_journal(journal, workers):
             yield "a move of caller %s" % caller
 
 
-def faults_of_run(day, workers, live, moves, alone):
-    """What is wrong with one run, and its seconds."""
+def faults_of_run(day, workers, live, moves, alone, first):
+    """What is wrong with one run, and its seconds. Where it is watched `first` is what the opening plan costs, or breaks."""
     with tempfile.TemporaryDirectory() as out:
-        words = ["recover", day, out, "--workers", str(workers)] + (["--live"] if live else []) + moves
+        words = ["recover", day, out, "--workers", str(workers)] + (["--live"] if live else []) + (["--watch"] if first else []) + moves
         status, report, files, took = run(words, out)
-    faults = list(faults_of_journal(files[2], workers))
+    faults = list(faults_of_journal(files[2], workers)) + (list(faults_of_views(report, files[2], first)) if first else [])
     other = replayed(day, files[2])
     if (status, without_end(report), files) != (other[0], other[1], other[2]):
         faults.append("its journal replays to something else")
     if workers == 1 and not live:
         as_desk = b"".join(b"0," + line.partition(b",")[2] for line in files[2].splitlines(True))
-        if (status, report, files[:2], as_desk) != (alone[0], alone[1], alone[2][:2], alone[2][2]):
+        if (status, without_views(report), files[:2], as_desk) != (alone[0], alone[1], alone[2][:2], alone[2][2]):
             faults.append("one worker gives something else than the desk alone")
     return faults, took
 
@@ -92,6 +123,7 @@ def main():
     words.add_argument("--seeds", type=int, default=3)
     words.add_argument("--rounds", type=int, default=1)
     words.add_argument("--moves", type=int)
+    words.add_argument("--watch", action="store_true")
     asked = words.parse_args()
     assert set(FILES) == set(WRITTEN)
     moves = ["--moves", str(asked.moves)] if asked.moves else []
@@ -102,11 +134,12 @@ def main():
                 day = make_day(room, seed, size)
                 with tempfile.TemporaryDirectory() as out:
                     alone = run(["recover", day, out] + moves, out)
+                first = replayed(day, b"")[1].decode().splitlines()[-1].removeprefix("cost ") if asked.watch else None
                 told = []
                 for workers in map(int, asked.workers.split(",")):
                     for live in (False, True):
                         for _ in range(asked.rounds):
-                            faults, took = faults_of_run(day, workers, live, moves, alone)
+                            faults, took = faults_of_run(day, workers, live, moves, alone, first)
                             told.append("%d%s %.2f" % (workers, " live" if live else "", took))
                             for fault in faults:
                                 wrong += 1

@@ -63,6 +63,12 @@ class Run:
         if answer:
             self.entries.append(self.texts.entry(who, what, answer))
 
+    def seen(self):
+        """The line of the view of what was taken by now."""
+        state = self.state
+        end = b"no plan %s" % self.texts.item(state.item) if state.item else b"%d" % state.cost
+        return b"seen %d %d %s\n" % (len(self.entries), state.changes, end)
+
     def outcome(self):
         state = self.state
         lines = list(self.lines)
@@ -101,6 +107,17 @@ def replay(given):
     for who, what in events:
         run.take(who, what)
     return run.outcome()
+
+
+def views(given):
+    """The lines of the views of all beginnings of the journal among the files by name, that of no entry first."""
+    day, (records,) = read_day(given, ("journal.csv",))
+    run = Run(day)
+    lines = [run.seen()]
+    for who, what in join_journal(day, records):
+        run.take(who, what)
+        lines.append(run.seen())
+    return lines
 
 
 @guarded

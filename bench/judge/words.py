@@ -9,6 +9,8 @@ OPTIONS = {
     "--moves": (("recover",), 1, 100_000, 1_000),
     "--workers": (("recover",), 0, 64, 0),
 }
+# the options without a value, which need a worker
+FLAGS = ("--live", "--watch")
 NUMBER = re.compile("[0-9]{1,9}")
 
 
@@ -16,7 +18,7 @@ class Command:
     """A command with its directories and the values of its options."""
 
     def __init__(self, word):
-        self.word, self.directories, self.given, self.is_live = word, [], {}, False
+        self.word, self.directories, self.given, self.flags = word, [], {}, set()
 
     def value(self, option):
         return self.given.get(option, OPTIONS[option][3])
@@ -32,10 +34,10 @@ class Command:
     def take(self, word, rest):
         """Takes a word, and where it is an option what follows it; whether it may."""
         option, equals, text = word.partition("=")
-        if word == "--live":
-            if self.word != "recover" or self.is_live:
+        if word in FLAGS:
+            if self.word != "recover" or word in self.flags:
                 return False
-            self.is_live = True
+            self.flags.add(word)
         elif option in OPTIONS:
             return self.set(option, text if equals else next(rest, None))
         elif word.startswith("-") or not word:
@@ -58,6 +60,6 @@ def command(words):
             asked.directories += directories
         elif not asked.take(word, rest):
             return None
-    if len(asked.directories) != DIRECTORIES[asked.word] or asked.is_live and asked.value("--workers") == 0:
+    if len(asked.directories) != DIRECTORIES[asked.word] or asked.flags and asked.value("--workers") == 0:
         return None
     return asked

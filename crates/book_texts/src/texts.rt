@@ -1,13 +1,15 @@
 //! The texts that a run writes.
 
-ghost use Rattle.std.specs.Prelude.{◌≡◌, ◌++◌, All, IfOk, OnOk, Option, None};
+ghost use Rattle.std.specs.Prelude.{◌≡◌, ◌++◌, All, IfOk, IfSome, OnOk, Option, None};
 ghost use Rattle.desk_core.specs.Recorded.{state_of};
 ghost use Rattle.journal_text.specs.Lines.{journal_text};
-ghost use Rattle.journal_text.specs.Writable.{AnswerNames, CanBeWritten};
-ghost use Rattle.desk_tasks.specs.Play.{planned_rotations, planned_itineraries, batch_line, batch_lines, search_line, end_lines, search_remarks, report_text, history_outcome};
+ghost use Rattle.journal_text.specs.Writable.{AnswerNames, CanBeWritten, Names};
+ghost use Rattle.desk_tasks.specs.Play.{planned_rotations, planned_itineraries, batch_line, batch_lines, search_line, end_lines, seen_line, seen_lines, search_remarks, watch_remarks, report_text, history_outcome};
 ghost use Rattle.desk_tasks.specs.Recover.{reported_alone};
 ghost use Rattle.desk_tasks.specs.Keep.{opened_line, opened_first};
 ghost use Rattle.desk_runs.specs.Writing.{as_texts};
+ghost use Rattle.desk_model.specs.States.{opening};
+ghost use Rattle.desk_view.specs.Views.{IsSightOf};
 
 use desk_core::Book;
 use desk_data::{Instance, NoMem};
@@ -15,6 +17,7 @@ use desk_folder::File;
 use desk_model::{Answer, Entry};
 use desk_runs::OutputTexts;
 use desk_tasks::SearchEnd;
+use desk_view::View;
 use journal_text::{journal_text, legal_entries_can_be_written, push_answer, push_broken};
 use sol_text::{itineraries_text, rotations_text};
 use std::alloc::Global;
@@ -107,15 +110,59 @@ fn push_search(text: &mut Vec<u8>, search: Option<SearchEnd>) -> Result<(), NoMe
     Ok(())
 }
 
-// What was answered to each batch, how the last search ended, how many changes there were, and the cost of
-// the plan or what is broken.
-#[tactic(auto, unfolding(desk_tasks::specs::Play::report_text))]
-fn report_text(alloc: Global, book: &Book, search: Option<SearchEnd>) -> Result<Vec<u8>, NoMem>
-    ensures { IfOk result (λ text. text.items ≡ report_text book.now.opening (search_remarks search) book.now.journal) }
+// Adds the line of a view that was seen: its numbers of entries and of changes, and its cost or what is broken.
+fn push_seen(text: &mut Vec<u8>, inst: &Instance, view: &View) -> Result<(), NoMem>
+    requires { IfSome view.now.broken (Names inst.now) }
+    ensures { OnOk result (text.new.items ≡ text.old.items ++ seen_line inst.now view.now) }
 {
+    let alloc = *text.allocator();
+    let entries = view.entries;
+    let changes = view.changes;
+    match view.broken {
+        None => {
+            let cost = view.cost.0;
+            let line = format!(in alloc; "seen {entries} {changes} {cost}\n")?;
+            text.extend_from_slice(line.as_bytes())?;
+            Ok(())
+        }
+        Some(item) => {
+            let head = format!(in alloc; "seen {entries} {changes} no plan ")?;
+            text.extend_from_slice(head.as_bytes())?;
+            push_broken(text, inst, &item)?;
+            text.push(b'\n')?;
+            Ok(())
+        }
+    }
+}
+
+// Adds a line for each view that was seen.
+fn push_views(text: &mut Vec<u8>, inst: &Instance, seen: &[View]) -> Result<(), NoMem>
+    requires { All (λ v. IfSome v.broken (Names inst.now)) seen.now }
+    ensures { OnOk result (text.new.items ≡ text.old.items ++ seen_lines inst.now seen.now) }
+{
+    for view in seen {
+        push_seen(text, inst, view)?;
+    }
+    Ok(())
+}
+
+// What was answered to each batch, how the last search ended, what was seen meanwhile, how many changes there were, and the
+// cost of the plan or what is broken.
+#[tactic(auto, unfolding(desk_tasks::specs::Play::report_text))]
+fn report_text(
+    alloc: Global,
+    book: &Book,
+    search: Option<SearchEnd>,
+    seen: &[View],
+) -> Result<Vec<u8>, NoMem>
+    requires { All (IsSightOf (opening book.now.opening) book.now.journal) seen.now }
+    ensures { IfOk result (λ text. text.items ≡ report_text book.now.opening (watch_remarks book.now.opening search seen.now) book.now.journal) }
+{
+    let inst = book.instance();
     let mut text = Vec::new(alloc);
-    push_batches(&mut text, book.instance(), book.journal())?;
+    push_batches(&mut text, inst, book.journal())?;
     push_search(&mut text, search)?;
+    push_views(&mut text, inst, seen)?;
     push_end(&mut text, book)?;
     Ok(text)
 }
@@ -128,20 +175,22 @@ fn book_journal(alloc: Global, book: &Book) -> Result<Vec<u8>, NoMem>
     journal_text(alloc, book.instance(), book.journal())
 }
 
-/// The texts of a book's journal and state.
+/// The texts of a book's journal and state, the report with a line for each view that was seen.
 #[tactic(auto, unfolding(desk_tasks::specs::Play::history_outcome))]
 pub(crate) fn output_texts(
     alloc: Global,
     book: &Book,
     search: Option<SearchEnd>,
+    seen: &[View],
 ) -> Result<OutputTexts, NoMem>
-    ensures { IfOk result (λ t. as_texts t ≡ (history_outcome book.now.opening (search_remarks search) book.now.journal).texts) }
+    requires { All (IsSightOf (opening book.now.opening) book.now.journal) seen.now }
+    ensures { IfOk result (λ t. as_texts t ≡ (history_outcome book.now.opening (watch_remarks book.now.opening search seen.now) book.now.journal).texts) }
 {
     let mut files = Vec::new(alloc);
     files.push((File::SolRotations, planned_rotations(alloc, book)?))?;
     files.push((File::SolItineraries, planned_itineraries(alloc, book)?))?;
     files.push((File::Journal, book_journal(alloc, book)?))?;
-    let report = report_text(alloc, book, search)?;
+    let report = report_text(alloc, book, search, seen)?;
     Ok(OutputTexts { files, report })
 }
 
@@ -156,18 +205,18 @@ fn opened_report(alloc: Global, held: u32, report: &[u8]) -> Result<Vec<u8>, NoM
 }
 
 /// The texts of a book's journal and state, the report with how many entries a disk held as its first line.
-#[tactic(auto, unfolding(desk_tasks::specs::Keep::opened_first))]
+#[tactic(auto, unfolding(desk_tasks::specs::Keep::opened_first, desk_tasks::specs::Play::seen_lines))]
 pub(crate) fn opened_texts(alloc: Global, book: &Book, held: u32) -> Result<OutputTexts, NoMem>
     ensures { IfOk result (λ t. as_texts t ≡ (opened_first held (history_outcome book.now.opening (search_remarks None) book.now.journal)).texts) }
 {
-    let texts = output_texts(alloc, book, None)?;
+    let texts = output_texts(alloc, book, None, &[])?;
     let OutputTexts { files, report } = texts;
     let report = opened_report(alloc, held, report.as_slice())?;
     Ok(OutputTexts { files, report })
 }
 
 /// The report alone.
-#[tactic(auto, unfolding(desk_tasks::specs::Play::history_outcome, desk_tasks::specs::Recover::reported_alone))]
+#[tactic(auto, unfolding(desk_tasks::specs::Play::history_outcome, desk_tasks::specs::Recover::reported_alone, desk_tasks::specs::Play::seen_lines))]
 pub(crate) fn report_alone(
     alloc: Global,
     book: &Book,
@@ -176,6 +225,6 @@ pub(crate) fn report_alone(
     ensures { IfOk result (λ t. as_texts t ≡ (reported_alone (history_outcome book.now.opening (search_remarks search) book.now.journal)).texts) }
 {
     let files = Vec::new(alloc);
-    let report = report_text(alloc, book, search)?;
+    let report = report_text(alloc, book, search, &[])?;
     Ok(OutputTexts { files, report })
 }

@@ -1,10 +1,12 @@
 //! Writing what a history came to.
 
-ghost use Rattle.std.specs.Prelude.{◌≡◌, [], None};
+ghost use Rattle.std.specs.Prelude.{◌≡◌, [], All, None};
 ghost use Rattle.desk_runs.specs.Commands.{history_files};
 ghost use Rattle.desk_runs.specs.Runs.{Between};
 ghost use Rattle.desk_runs.specs.Finishing.{Completes};
-ghost use Rattle.desk_tasks.specs.Play.{search_remarks, history_outcome, played_end};
+ghost use Rattle.desk_model.specs.States.{opening};
+ghost use Rattle.desk_view.specs.Views.{IsSightOf};
+ghost use Rattle.desk_tasks.specs.Play.{search_remarks, watch_remarks, history_outcome, played_end};
 ghost use Rattle.desk_tasks.specs.Recover.{reported_alone};
 ghost use Rattle.desk_tasks.specs.Keep.{opened_first};
 
@@ -14,6 +16,7 @@ use desk_data::Broken;
 use desk_folder::{Folder, Sink};
 use desk_runs::{Ending, put_outputs};
 use desk_tasks::SearchEnd;
+use desk_view::View;
 use std::alloc::Global;
 
 // How a run ends that wrote all of its texts, by what its last plan breaks.
@@ -31,6 +34,7 @@ fn end_with(broken: Option<Broken>) -> Ending
 ///
 /// It ends with `Done` or `NoPlan` when all is written. A write that fails ends it with that fault, and
 /// `Memory` may come at any time: what is written by then is a beginning of the texts, in their order.
+#[tactic(auto, unfolding(desk_tasks::specs::Play::seen_lines))]
 pub fn write_history<F: Folder, O: Sink>(
     alloc: Global,
     book: &Book,
@@ -41,7 +45,24 @@ pub fn write_history<F: Folder, O: Sink>(
     ensures { Between F.outside O.report folder.old out.old folder.new out.new (λ before now.
         Completes history_files before now (history_outcome book.now.opening (search_remarks search) book.now.journal) result) }
 {
-    let texts = match output_texts(alloc, book, search) {
+    write_watched(alloc, book, search, &[], folder, out)
+}
+
+/// Writes the same as `write_history`, with a line `seen ENTRIES CHANGES COST`, or `seen ENTRIES CHANGES no plan BROKEN`, in the
+/// report before the number of changes for each of these views. Each is that of a beginning of the journal. It ends as that does.
+pub fn write_watched<F: Folder, O: Sink>(
+    alloc: Global,
+    book: &Book,
+    search: Option<SearchEnd>,
+    seen: &[View],
+    folder: &mut F,
+    out: &mut O,
+) -> Ending
+    requires { All (IsSightOf (opening book.now.opening) book.now.journal) seen.now }
+    ensures { Between F.outside O.report folder.old out.old folder.new out.new (λ before now.
+        Completes history_files before now (history_outcome book.now.opening (watch_remarks book.now.opening search seen.now) book.now.journal) result) }
+{
+    let texts = match output_texts(alloc, book, search, seen) {
         Ok(texts) => texts,
         Err(_) => return Ending::Memory,
     };

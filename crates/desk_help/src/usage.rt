@@ -11,6 +11,7 @@ pub const USAGE: &[&str] = &[
     "    --moves N                    stops after N accepted moves since the last batch, 1 to 100000; 1000 if left out",
     "    --workers N                  searches with N threads, 0 to 64; 0, the desk alone, if left out",
     "    --live                       takes the batches but the first while the workers search; needs at least 1 worker",
+    "    --watch                      tells what a viewer beside the workers saw of the plans; needs at least 1 worker",
     "  check IN OUT                   judges the plan of OUT",
     "  gen OUT [OPTIONS]              makes up a day",
     "  trial [OPTIONS]                makes up a day and recovers it, and writes no file",

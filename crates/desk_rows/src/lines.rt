@@ -56,6 +56,8 @@ pub(crate) enum Command<'a> {
     Cut(u32),
     /// `sizes` and `repeats`: how the files that the run writes are given
     Show(Shown),
+    /// `last`: of the views that were seen the last one is given alone; which stand before it depends on when the viewer looked
+    Last,
 }
 
 /// A line of a transcript.
@@ -157,6 +159,7 @@ fn command_of(words: &str) -> Option<Command<'_>> {
         "cut" => cut_of(rest),
         "sizes" => Some(Command::Show(Shown::Sizes)),
         "repeats" => Some(Command::Show(Shown::Repeats)),
+        "last" => Some(Command::Last),
         _ => None,
     }
 }

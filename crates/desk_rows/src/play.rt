@@ -3,7 +3,7 @@
 use crate::gate::{Entrance, HoldingGate};
 use crate::lines::{Call, Command, Line, Shown, line_of, unescaped};
 use crate::sink::ReportSink;
-use crate::texts::{Texts, add_all, push_rows, text_of, written_texts};
+use crate::texts::{Texts, add_all, last_seen, push_rows, text_of, written_texts};
 use crate::told::{push_bytes, push_file, push_front, push_text};
 use desk_disk::MemDisk;
 use desk_folder::{ALL_FILES, File, MemFolder};
@@ -108,6 +108,8 @@ struct Player {
     holds: Vec<(Entrance, Entrance)>,
     /// how the files that the next run writes are given
     shown: Shown,
+    /// whether of the views that the next run reports the last one is given alone
+    last: bool,
     /// what the run before wrote
     written: Texts,
     /// the bytes of the file on the disk, which each run goes on with
@@ -126,6 +128,7 @@ impl Drop for Player {
             faults: _,
             holds: _,
             shown: _,
+            last: _,
             written: _,
             stored: _,
             runs: _,
@@ -148,6 +151,7 @@ pub(crate) fn play<R: Threads + Wait + Sync>(
         faults: no_faults(alloc),
         holds: Vec::new(alloc),
         shown: Shown::Texts,
+        last: false,
         written: Vec::new(alloc),
         stored: Vec::new(alloc),
         runs: 0,
@@ -182,6 +186,7 @@ impl Player {
             faults: _,
             holds: _,
             shown: _,
+            last: _,
             written: _,
             stored: _,
             runs: _,
@@ -262,6 +267,10 @@ impl Player {
             }
             Command::Show(shown) => {
                 self.shown = shown;
+                Ok(())
+            }
+            Command::Last => {
+                self.last = true;
                 Ok(())
             }
         }
@@ -368,7 +377,12 @@ impl Player {
     fn tell(&mut self, status: u8, report: &[u8], folder: &MemFolder) -> Result<(), AllocError> {
         let ended = format!(in self.alloc; "status {status}\n")?;
         self.push(ended.as_str())?;
-        push_text(&mut self.played, report)?;
+        if self.last {
+            let report = last_seen(self.alloc, report)?;
+            push_text(&mut self.played, report.as_slice())?;
+        } else {
+            push_text(&mut self.played, report)?;
+        }
         for file in ALL_FILES {
             let text = folder.written(file);
             if !text.is_empty() {
@@ -376,6 +390,7 @@ impl Player {
             }
         }
         self.shown = Shown::Texts;
+        self.last = false;
         self.written = written_texts(self.alloc, folder, &ALL_FILES)?;
         Ok(())
     }

@@ -16,6 +16,32 @@ pub(crate) fn text_of(texts: &[(File, Vec<u8>)], file: File) -> &[u8] {
     &[]
 }
 
+/// A report in which of the lines of views that were seen, which stand one after another, the last stands alone.
+pub(crate) fn last_seen(alloc: Global, report: &[u8]) -> Result<Vec<u8>, AllocError> {
+    let mut text = Vec::new(alloc);
+    let mut seen: &[u8] = b"";
+    for line in report.split(|byte| *byte == b'\n') {
+        if line.starts_with(b"seen ") {
+            seen = line;
+        } else {
+            push_line(&mut text, seen)?;
+            push_line(&mut text, line)?;
+            seen = b"";
+        }
+    }
+    Ok(text)
+}
+
+// Adds a line and its end, and nothing for one of no bytes.
+fn push_line(text: &mut Vec<u8>, line: &[u8]) -> Result<(), AllocError> {
+    if line.is_empty() {
+        return Ok(());
+    }
+    text.extend_from_slice(line)?;
+    text.push(b'\n')?;
+    Ok(())
+}
+
 /// Adds copies of texts after these.
 pub(crate) fn add_all(texts: &mut Texts, more: &[(File, Vec<u8>)]) -> Result<(), AllocError> {
     let alloc = *texts.allocator();

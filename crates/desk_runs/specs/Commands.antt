@@ -13,7 +13,7 @@ use Rattle.desk_words.specs.Commands.{Asking, command}
 abbrev pub files_read : Command → List File
 files_read command_is.Replay = day_files ++ file.Journal ∷ []
 files_read command_is.Store = day_files ++ file.Journal ∷ []
-files_read (command_is.Recover workers moves live) = day_files
+files_read (command_is.Recover workers moves live watch) = day_files
 files_read command_is.Check = day_files ++ plan_files
 files_read (command_is.Gen seed size) = []
 files_read (command_is.Trial seed size) = []
@@ -26,7 +26,7 @@ history_files = file.SolRotations ∷ file.SolItineraries ∷ file.Journal ∷ [
 abbrev pub files_written : Command → List File
 files_written command_is.Replay = history_files
 files_written command_is.Store = history_files
-files_written (command_is.Recover workers moves live) = history_files
+files_written (command_is.Recover workers moves live watch) = history_files
 files_written command_is.Check = []
 files_written (command_is.Gen seed size) = day_files
 files_written (command_is.Trial seed size) = []
@@ -57,18 +57,18 @@ writes None = []
 writes (Some a) = files_written a.command
 
 -- what a command may ask for: a seed of at most nine digits and a size from 1 to 40; or a search with at most 64 workers and 1 to 100,000
--- accepted moves, where batches are taken live only beside a worker
+-- accepted moves, where batches are taken live and a viewer watches only beside a worker
 abbrev pub IsCommand : Command → Type 0
 IsCommand command_is.Replay = Unit {0}
 IsCommand command_is.Store = Unit {0}
-IsCommand (command_is.Recover workers moves live) = (workers ≤ 64) × (1 ≤ moves) × (moves ≤ 100000) × (live ≡ true → 1 ≤ workers)
+IsCommand (command_is.Recover workers moves live watch) = (workers ≤ 64) × (1 ≤ moves) × (moves ≤ 100000) × (live ≡ true → 1 ≤ workers) × (watch ≡ true → 1 ≤ workers)
 IsCommand command_is.Check = Unit {0}
 IsCommand (command_is.Gen seed size) = (seed ≤ 999999999) × (1 ≤ size) × (size ≤ 40)
 IsCommand (command_is.Trial seed size) = (seed ≤ 999999999) × (1 ≤ size) × (size ≤ 40)
 
 -- how many workers a command asks for
 abbrev pub workers_of : Command → ℕ
-workers_of (command_is.Recover workers moves live) = workers
+workers_of (command_is.Recover workers moves live watch) = workers
 workers_of other = 0
 
 -- whether a command keeps its journal on a disk

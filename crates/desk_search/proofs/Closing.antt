@@ -1,5 +1,5 @@
 -- The turn is closed.
-use Rattle.std.proofs.Common.{◌≡◌, ◌≢◌, ℕ, zero, suc, ◌+◌, ◌-◌, ◌<◌, ◌≤◌, ◌==◌, Bool, true, List, [], length, refl, sym, ap, ◌∙◌, subst, arith}
+use Rattle.std.proofs.Common.{◌≡◌, ◌≢◌, ℕ, zero, suc, ◌+◌, ◌-◌, ◌<◌, ◌≤◌, ◌==◌, Bool, true, false, List, [], length, refl, sym, ap, ◌∙◌, subst, arith}
 use Rattle.std.specs.Prelude.{Option, Some, None, IsSome}
 use Rattle.std.proofs.lemmas.Bool.Decides.{nat_tests}
 use mathlib.Core.Logic.{dite}
@@ -22,11 +22,14 @@ use Rattle.desk_teams.specs.declared.report.Vote.TheVariants.{Quiet, Spent, NoPl
 use Rattle.desk_pool.specs.Rounds.{Knows}
 use Rattle.desk_pool.specs.Laps.{IsReturned}
 use Rattle.desk_pool.specs.Voted.{IsVoteOf}
-use Rattle.desk_tasks.specs.Team.{IsTeamEnd}
+use Rattle.near_moves.specs.declared.ended.SearchEnd.{SearchEnd}
+use Rattle.desk_view.specs.declared.view.View.{View}
+use Rattle.desk_view.specs.Views.{AreSeen}
+use Rattle.desk_tasks.specs.Team.{IsTeamEnd, IsTeamWork, IsWatched}
 use Rattle.desk_search.specs.declared.searched.Searched.TheVariants as searched
 use Rattle.desk_search.specs.declared.team.Team.{Team}
 use Rattle.desk_search.specs.Running.{HasMadeAll, IsTeamRun}
-use Rattle.desk_search.specs.Closing.{end_of, IsTeamBook}
+use Rattle.desk_search.specs.Closing.{end_of, team_of, IsTeamBook}
 
 -- ---- each entry was made by a call
 
@@ -77,12 +80,28 @@ team_book I batches team v B vote same seen legal all run =
     let legal_there : IsLegal (opening I) B.journal = subst (λ (J : Situation). IsLegal (opening J) B.journal) same legal in
     record {
       same = same;
-      work = record {
-        legal = legal_there;
-        teamwork = subst (λ (h : List Entry). Rattle.desk_teams.specs.Teams.IsTeamwork team.workers team.moves team.live (opening I) batches h) (sym seen) (came.0 all);
-        ended = subst (λ (h : List Entry). IsTeamEnd I team.moves h (end_of vote)) (sym seen) (team_end team.moves I team.workers v.seen vote came.1);
-      };
+      legal = legal_there;
+      teamwork = subst (λ (h : List Entry). Rattle.desk_teams.specs.Teams.IsTeamwork team.workers team.moves team.live (opening I) batches h) (sym seen) (came.0 all);
+      ended = subst (λ (h : List Entry). IsTeamEnd I team.moves h (end_of vote)) (sym seen) (team_end team.moves I team.workers v.seen vote came.1);
     }
+
+-- with what was seen meanwhile it is the work of the team
+pub team_work : (I : Situation) (batches : List Batch) (team : Team) (B : Recorded) (reported : Option SearchEnd) (seen : List View) → IsTeamBook I batches team B reported → IsWatched team.watch I B.journal seen → IsTeamWork (team_of I batches team) (record { history = B.journal; ended = reported; seen = seen })
+team_work I batches team B reported seen book watched = record {
+  legal = book.legal;
+  teamwork = book.teamwork;
+  ended = book.ended;
+  seen = watched;
+}
+
+-- where nobody watches nothing is seen, and where one does what may be
+pub unwatched_nothing : (watch : Bool) (I : Situation) (h : List Entry) → watch ≡ false → IsWatched watch I h []
+unwatched_nothing false I h is = refl
+unwatched_nothing true I h is = absurd cc
+
+pub watched_seen : (watch : Bool) (I : Situation) (h : List Entry) (seen : List View) → watch ≡ true → AreSeen (opening I) h seen → IsWatched watch I h seen
+watched_seen true I h seen is are = are
+watched_seen false I h seen is are = absurd cc
 
 -- the journal is never full
 pub never_full : (n most : ℕ) (live : Bool) (I : Situation) (batches : List Batch) (v : Knows) → length batches ≤ 1001 → IsLegal (opening I) v.seen → HasMadeAll v → IsTeamRun n most live I batches v searched.Full → ⊥

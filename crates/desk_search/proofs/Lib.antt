@@ -5,3 +5,5 @@ pub mod Taking
 pub mod Living
 pub mod RunEnds
 pub mod Closing
+pub mod Writing
+pub mod Watching

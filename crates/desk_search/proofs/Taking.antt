@@ -9,6 +9,7 @@ use Rattle.turn_book.specs.Places.{has}
 use Rattle.turn_book.specs.Passes.{Called, Looked}
 use Rattle.turn_book.proofs.Bools.{refute}
 use Rattle.turn_book.proofs.Places.{has_snoc}
+use Rattle.turn_book.proofs.Prefixes.{prefix_trans}
 use Rattle.day_orders.specs.declared.orders.Batch.{Batch}
 use Rattle.desk_data.specs.Situation.{Situation}
 use Rattle.desk_model.specs.declared.answer.Answer.{Answer}
@@ -148,3 +149,18 @@ by_full I B v w b is h = subst (TakesBy I B v w) is h
 
 pub by_taken : (I : Situation) (B : Batch) (v w : Knows) (b : Intake) → b ≡ Taken → TakesBy I B v w b → TakesBy I B v w Taken
 by_taken I B v w b is h = subst (TakesBy I B v w) is h
+
+-- a batch that is taken after a look
+pub taken_later : {E : Type 0} (I : Situation) (B : Batch) (v u w : Knows) (r : Result Intake E) → Looked v u → HasTaken I B u w r → HasTaken I B v w r
+taken_later I B v u w (Ok Taken) look h = record {
+  none = tt;
+  reported = (let one = h.reported in record { before = one.before; began = prefix_trans v.seen u.seen one.before look.began one.began; seen = one.seen; made = one.made ∙ ap (λ (m : List ℕ). m ++ length one.before ∷ []) look.made });
+}
+taken_later I B v u w (Ok Full) look h = record {
+  none = tt;
+  reported = (record { began = prefix_trans v.seen u.seen w.seen look.began h.reported.0.began; made = h.reported.0.made ∙ look.made }, h.reported.1);
+}
+taken_later I B v u w (Err e) look h = record {
+  none = record { began = prefix_trans v.seen u.seen w.seen look.began h.none.began; made = h.none.made ∙ look.made };
+  reported = tt;
+}

@@ -3,12 +3,13 @@
 ghost use Rattle.std.specs.Prelude.{◌≡◌, All, IfOk};
 ghost use mathlib.Core.List.{IsPrefix};
 ghost use Rattle.desk_data.specs.Valid.{IsBatch};
-ghost use Rattle.turn_book.specs.Passes.{known, seen, tags, IsPassOf};
+ghost use Rattle.turn_book.specs.Passes.{first_book, known, seen, tags, IsPassOf};
 ghost use Rattle.desk_core.specs.Turned.{opening_of};
 ghost use Rattle.desk_core.specs.Turned.{is_full};
 ghost use Rattle.desk_pool.specs.Workers.{day_of};
 ghost use Rattle.desk_search.specs.Taking.{HasTaken, HasTakenAll};
 
+use desk_board::Telling;
 use desk_core::{Answer, Book, Event};
 use desk_data::{Batch, NoMem};
 use desk_folder::Gate;
@@ -35,8 +36,8 @@ fn is_full(reply: &Answer) -> bool
     }
 }
 
-/// Has a batch taken, as caller 0. The only error is out of memory, and then the batch has no entry.
-pub(crate) fn take_batch<R: Wait>(
+// Has a batch taken, as caller 0. The only error is out of memory, and then the batch has no entry.
+fn take_one<R: Wait>(
     rt: &R,
     alloc: Global,
     turn: &Turn<Book>,
@@ -60,34 +61,59 @@ pub(crate) fn take_batch<R: Wait>(
     }
 }
 
-/// Has batches taken one after another, and enters the gate as worker 0 with the number of each, from 1 on, before it. It stops
-/// at the first one that is not taken.
-pub(crate) fn take_batches<R: Wait, G: Gate>(
+/// Tells what is new, and has a batch taken, as caller 0. The only error is out of memory, and then the batch has no entry.
+pub(crate) fn take_batch<R: Wait, T: Telling>(
+    rt: &R,
+    alloc: Global,
+    turn: &Turn<Book>,
+    pass: &mut Pass<Book>,
+    batch: &Batch,
+    telling: &mut T,
+) -> Result<Intake, NoMem>
+    requires of { IsPassOf opening_of turn.now pass.old }
+    requires asked { IsBatch (day_of turn.now).parts batch.now }
+    requires can { T.can telling.old (first_book turn.now) (seen pass.old) }
+    ensures of { IsPassOf opening_of turn.now pass.new }
+    ensures tags { tags pass.new ≡ tags pass.old }
+    ensures began { IsPrefix (seen pass.old) (seen pass.new) }
+    ensures taken { HasTaken (day_of turn.now) batch.now (known pass.old) (known pass.new) result }
+    ensures can { T.can telling.new (first_book turn.now) (seen pass.new) }
+{
+    telling.tell_more(rt, alloc, turn, pass)?;
+    take_one(rt, alloc, turn, pass, batch)
+}
+
+/// Has batches taken one after another, tells what is new before each, and enters the gate as worker 0 with the number of each,
+/// from 1 on, before that. It stops at the first one that is not taken.
+pub(crate) fn take_batches<R: Wait, G: Gate, T: Telling>(
     rt: &R,
     alloc: Global,
     turn: &Turn<Book>,
     mut pass: Pass<Book>,
     gate: &G,
     batches: &[Batch],
-) -> (Pass<Book>, Result<Intake, NoMem>)
+    mut telling: T,
+) -> (Pass<Book>, Result<Intake, NoMem>, T)
     requires of { IsPassOf opening_of turn.now pass }
     requires asked { All (IsBatch (day_of turn.now).parts) batches.now }
+    requires can { T.can telling (first_book turn.now) (seen pass) }
     ensures of { IsPassOf opening_of turn.now result.0 }
     ensures tags { tags result.0 ≡ tags pass }
     ensures began { IsPrefix (seen pass) (seen result.0) }
     ensures taken { IfOk result.1 (HasTakenAll batches.now (known pass) (known result.0)) }
+    ensures can { T.can result.2 (first_book turn.now) (seen result.0) }
 {
     let mut number: u32 = 1;
     for batch in batches {
         gate.enter(0, number);
         number = number.saturating_add(1);
-        let Ok(came) = take_batch(rt, alloc, turn, &mut pass, batch) else {
-            return (pass, Err(NoMem));
+        let Ok(came) = take_batch(rt, alloc, turn, &mut pass, batch, &mut telling) else {
+            return (pass, Err(NoMem), telling);
         };
         match came {
             Intake::Taken => {}
-            Intake::Full => return (pass, Ok(Intake::Full)),
+            Intake::Full => return (pass, Ok(Intake::Full), telling),
         }
     }
-    (pass, Ok(Intake::Taken))
+    (pass, Ok(Intake::Taken), telling)
 }

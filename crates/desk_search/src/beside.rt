@@ -4,7 +4,7 @@ ghost use Rattle.std.specs.Prelude.{◌≡◌, ◌<◌, true, [], ◌∷◌, Lis
 ghost use mathlib.Core.List.{IsPrefix};
 ghost use Rattle.day_orders.specs.declared.orders.Batch.{Batch as Orders};
 ghost use Rattle.desk_data.specs.Valid.{IsBatch};
-ghost use Rattle.turn_book.specs.Passes.{known, seen, made, tags, IsPassOf};
+ghost use Rattle.turn_book.specs.Passes.{first_book, known, seen, made, tags, IsPassOf};
 ghost use Rattle.desk_core.specs.Turned.{opening_of};
 ghost use Rattle.desk_pool.specs.Workers.{day_of, AreAllShards, CanAllSearch};
 ghost use Rattle.desk_pool.specs.Laps.{HasGained, IsReturned};
@@ -14,6 +14,7 @@ ghost use Rattle.desk_search.specs.Running.{LiveSoFar, IsLiveRun, IsTeamRun};
 
 use crate::batches::{Intake, take_batch, take_batches};
 use crate::searched::Searched;
+use desk_board::Telling;
 use desk_core::Book;
 use desk_data::{Batch, NoMem};
 use desk_folder::Gate;
@@ -58,8 +59,40 @@ pub(crate) fn own_rounds<R: Threads + Wait + Sync, G: Gate>(
     (workers, pass, voted)
 }
 
+/// Tells what is new, and then the rounds of workers, with a pass of their own.
+pub(crate) fn told_rounds<R: Threads + Wait + Sync, G: Gate, T: Telling>(
+    rt: &R,
+    alloc: Global,
+    workers: Vec<Worker>,
+    turn: &Turn<Book>,
+    mut pass: Pass<Book>,
+    gate: &G,
+    budget: u32,
+    telling: &mut T,
+) -> (Vec<Worker>, Pass<Book>, Result<Vote, NoMem>)
+    requires some { 0 < vec_len workers }
+    requires shards { AreAllShards workers.items }
+    requires of { IsPassOf opening_of turn.now pass }
+    requires ready { CanAllSearch (day_of turn.now) workers.items (seen pass) }
+    requires can { T.can telling.old (first_book turn.now) (seen pass) }
+    ensures len { vec_len result.0 ≡ vec_len workers }
+    ensures shards { AreAllShards result.0.items }
+    ensures of { IsPassOf opening_of turn.now result.1 }
+    ensures ready { CanAllSearch (day_of turn.now) result.0.items (seen result.1) }
+    ensures returned { IsReturned (known pass) (known result.1) }
+    ensures began { IsPrefix (seen pass) (seen result.1) }
+    ensures gained { HasGained budget (length (seen pass)) (known pass) (known result.1) workers.items result.0.items }
+    ensures voted { IfOk result.2 (IsVoteOf budget (day_of turn.now) (vec_len workers) (seen result.1)) }
+    ensures can { T.can telling.new (first_book turn.now) (seen result.1) }
+{
+    let Ok(()) = telling.tell_more(rt, alloc, turn, &mut pass) else {
+        return (workers, pass, Err(NoMem));
+    };
+    own_rounds(rt, alloc, workers, turn, pass, gate, budget)
+}
+
 /// Has batches taken while the workers make rounds, and goes on with rounds until the workers agree.
-fn beside<R: Threads + Wait + Sync, G: Gate>(
+fn beside<R: Threads + Wait + Sync, G: Gate, T: Telling + Send + Drop>(
     rt: &R,
     alloc: Global,
     workers: Vec<Worker>,
@@ -68,27 +101,32 @@ fn beside<R: Threads + Wait + Sync, G: Gate>(
     gate: &G,
     batches: &[Batch],
     budget: u32,
-) -> (Pass<Book>, Result<Searched, NoMem>)
+    telling: T,
+) -> (Pass<Book>, Result<Searched, NoMem>, T)
     requires some { 0 < vec_len workers }
     requires shards { AreAllShards workers.items }
     requires of { IsPassOf opening_of turn.now pass }
     requires ready { CanAllSearch (day_of turn.now) workers.items (seen pass) }
     requires asked { All (IsBatch (day_of turn.now).parts) batches.now }
+    requires can { T.can telling (first_book turn.now) (seen pass) }
     ensures of { IsPassOf opening_of turn.now result.0 }
     ensures returned { IsReturned (known pass) (known result.0) }
+    ensures can { T.can result.2 (first_book turn.now) (seen result.0) }
     ensures run { (done : Items Orders) → LiveSoFar budget (known pass) workers.items done →
         IfOk result.1 (IsLiveRun (vec_len workers) budget (day_of turn.now) done batches.now (known result.0)) }
 {
     let mine = turn.split(&mut pass);
-    let ((mine, taken), (workers, mut pass, searched)) = join(
+    let ((mine, taken, mut telling), (workers, mut pass, searched)) = join(
         rt,
-        || -> (Pass<Book>, Result<Intake, NoMem>)
+        || -> (Pass<Book>, Result<Intake, NoMem>, T)
             requires of { IsPassOf opening_of turn.now mine }
             requires asked { All (IsBatch (day_of turn.now).parts) batches.now }
+            requires can { T.can telling (first_book turn.now) (seen mine) }
             ensures of { IsPassOf opening_of turn.entry.now result.0 }
             ensures tags { tags result.0 ≡ tags mine }
             ensures taken { IfOk result.1 (HasTakenAll batches.entry.now (known mine) (known result.0)) }
-        { take_batches(rt, alloc, turn, mine, gate, batches) },
+            ensures can { T.can result.2 (first_book turn.entry.now) (seen result.0) }
+        { take_batches(rt, alloc, turn, mine, gate, batches, telling) },
         || -> (Vec<Worker>, Pass<Book>, Result<Vote, NoMem>)
             requires some { 0 < vec_len workers }
             requires shards { AreAllShards workers.items }
@@ -104,20 +142,29 @@ fn beside<R: Threads + Wait + Sync, G: Gate>(
     );
     turn.join(&mut pass, mine);
     if searched.is_err() {
-        return (pass, Err(NoMem));
+        return (pass, Err(NoMem), telling);
     }
     let Ok(came) = taken else {
-        return (pass, Err(NoMem));
+        return (pass, Err(NoMem), telling);
     };
     match came {
         Intake::Taken => {
-            let (_workers, pass, voted) = own_rounds(rt, alloc, workers, turn, pass, gate, budget);
+            let (_workers, pass, voted) = told_rounds(
+                rt,
+                alloc,
+                workers,
+                turn,
+                pass,
+                gate,
+                budget,
+                &mut telling,
+            );
             match voted {
-                Ok(vote) => (pass, Ok(Searched::Voted(vote))),
-                Err(_) => (pass, Err(NoMem)),
+                Ok(vote) => (pass, Ok(Searched::Voted(vote)), telling),
+                Err(_) => (pass, Err(NoMem), telling),
             }
         }
-        Intake::Full => (pass, Ok(Searched::Full)),
+        Intake::Full => (pass, Ok(Searched::Full), telling),
     }
 }
 
@@ -133,7 +180,7 @@ fn first_and_others(batches: &[Batch]) -> Option<(&Batch, &[Batch])>
 
 /// Has the first batch taken, the others while the workers make rounds, and goes on with rounds until the workers
 /// agree.
-pub(crate) fn live<R: Threads + Wait + Sync, G: Gate>(
+pub(crate) fn live<R: Threads + Wait + Sync, G: Gate, T: Telling + Send + Drop>(
     rt: &R,
     alloc: Global,
     workers: Vec<Worker>,
@@ -142,7 +189,8 @@ pub(crate) fn live<R: Threads + Wait + Sync, G: Gate>(
     gate: &G,
     batches: &[Batch],
     budget: u32,
-) -> (Pass<Book>, Result<Searched, NoMem>)
+    telling: T,
+) -> (Pass<Book>, Result<Searched, NoMem>, T)
     requires some { 0 < vec_len workers }
     requires shards { AreAllShards workers.items }
     requires of { IsPassOf opening_of turn.now pass }
@@ -150,19 +198,26 @@ pub(crate) fn live<R: Threads + Wait + Sync, G: Gate>(
     requires asked { All (IsBatch (day_of turn.now).parts) batches.now }
     requires batches { 0 < length batches.now }
     requires start { (seen pass ≡ []) × (made pass ≡ []) }
+    requires can { T.can telling (first_book turn.now) (seen pass) }
     ensures of { IsPassOf opening_of turn.now result.0 }
     ensures returned { IsReturned (known pass) (known result.0) }
+    ensures can { T.can result.2 (first_book turn.now) (seen result.0) }
     ensures run { IfOk result.1 (IsTeamRun (vec_len workers) budget true (day_of turn.now) batches.now (known result.0)) }
 {
     match first_and_others(batches) {
         None => unreachable!(),
         Some((first, others)) => {
-            let Ok(came) = take_batch(rt, alloc, turn, &mut pass, first) else {
-                return (pass, Err(NoMem));
+            let mut telling = telling;
+            let Ok(came) = take_batch(rt, alloc, turn, &mut pass, first, &mut telling) else {
+                return (pass, Err(NoMem), telling);
             };
             match came {
-                Intake::Taken => beside(rt, alloc, workers, turn, pass, gate, others, budget),
-                Intake::Full => (pass, Ok(Searched::Full)),
+                Intake::Taken => {
+                    beside(
+                        rt, alloc, workers, turn, pass, gate, others, budget, telling,
+                    )
+                }
+                Intake::Full => (pass, Ok(Searched::Full), telling),
             }
         }
     }

@@ -2,15 +2,16 @@
 
 ghost use Rattle.std.specs.Prelude.{◌≡◌, ◌<◌, [], false, length, All, vec_len, IfOk};
 ghost use Rattle.desk_data.specs.Valid.{IsBatch};
-ghost use Rattle.turn_book.specs.Passes.{known, seen, made, IsPassOf};
+ghost use Rattle.turn_book.specs.Passes.{first_book, known, seen, made, IsPassOf};
 ghost use Rattle.desk_core.specs.Turned.{opening_of};
 ghost use Rattle.desk_pool.specs.Workers.{day_of, AreAllShards, CanAllSearch};
 ghost use Rattle.desk_pool.specs.Laps.{IsReturned};
 ghost use Rattle.desk_search.specs.Running.{IsTeamRun};
 
 use crate::batches::{Intake, take_batch};
-use crate::beside::own_rounds;
+use crate::beside::told_rounds;
 use crate::searched::Searched;
+use desk_board::Telling;
 use desk_core::Book;
 use desk_data::{Batch, NoMem};
 use desk_folder::Gate;
@@ -21,7 +22,7 @@ use std::thread::Threads;
 use turn_book::{Pass, Turn};
 
 /// Has batches taken one after another, each followed by rounds until the workers agree.
-pub(crate) fn in_turn<R: Threads + Wait + Sync, G: Gate>(
+pub(crate) fn in_turn<R: Threads + Wait + Sync, G: Gate, T: Telling + Drop>(
     rt: &R,
     alloc: Global,
     mut workers: Vec<Worker>,
@@ -30,7 +31,8 @@ pub(crate) fn in_turn<R: Threads + Wait + Sync, G: Gate>(
     gate: &G,
     batches: &[Batch],
     budget: u32,
-) -> (Pass<Book>, Result<Searched, NoMem>)
+    mut telling: T,
+) -> (Pass<Book>, Result<Searched, NoMem>, T)
     requires some { 0 < vec_len workers }
     requires shards { AreAllShards workers.items }
     requires of { IsPassOf opening_of turn.now pass }
@@ -38,27 +40,38 @@ pub(crate) fn in_turn<R: Threads + Wait + Sync, G: Gate>(
     requires asked { All (IsBatch (day_of turn.now).parts) batches.now }
     requires batches { 0 < length batches.now }
     requires start { (seen pass ≡ []) × (made pass ≡ []) }
+    requires can { T.can telling (first_book turn.now) (seen pass) }
     ensures of { IsPassOf opening_of turn.now result.0 }
     ensures returned { IsReturned (known pass) (known result.0) }
+    ensures can { T.can result.2 (first_book turn.now) (seen result.0) }
     ensures run { IfOk result.1 (IsTeamRun (vec_len workers) budget false (day_of turn.now) batches.now (known result.0)) }
 {
     let mut voted = None;
     for batch in batches {
-        let Ok(came) = take_batch(rt, alloc, turn, &mut pass, batch) else {
-            return (pass, Err(NoMem));
+        let Ok(came) = take_batch(rt, alloc, turn, &mut pass, batch, &mut telling) else {
+            return (pass, Err(NoMem), telling);
         };
         match came {
             Intake::Taken => {}
-            Intake::Full => return (pass, Ok(Searched::Full)),
+            Intake::Full => return (pass, Ok(Searched::Full), telling),
         }
-        let (ours, after, vote) = own_rounds(rt, alloc, workers, turn, pass, gate, budget);
+        let (ours, after, vote) = told_rounds(
+            rt,
+            alloc,
+            workers,
+            turn,
+            pass,
+            gate,
+            budget,
+            &mut telling,
+        );
         workers = ours;
         pass = after;
         let Ok(vote) = vote else {
-            return (pass, Err(NoMem));
+            return (pass, Err(NoMem), telling);
         };
         voted = Some(vote);
     }
     let Some(vote) = voted else { unreachable!() };
-    (pass, Ok(Searched::Voted(vote)))
+    (pass, Ok(Searched::Voted(vote)), telling)
 }

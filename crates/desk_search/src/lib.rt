@@ -4,11 +4,12 @@
 //!
 //! `in_turn` has a batch taken and then the workers make rounds until they agree, batch after batch; `live` has the first batch
 //! taken and the others while the workers make rounds. `search_day` opens the book and the turn for that, `close_day` closes
-//! them, and `recover_by_team` writes what came of it.
+//! them, and `recover_by_team` writes what came of it. Each of them tells what is new before a batch and before rounds: nobody, or a
+//! board, on which a viewer looks meanwhile (`watch_day`), and then what it saw is written too.
 //!
 //! Proved: the history is one that such a team may make of these batches (`IsTeamWork` of desk_tasks), whichever worker came
-//! first, and what is written is what that comes to, or a beginning of it, with the call that failed. That it is the history of the
-//! calls that were made is said by `close_day` alone. That a worker runs, or two at a time, is not promised. It depends on `desk_pool`, `book_texts`
+//! first, what a viewer saw are views of beginnings of it, the last of the whole, and what is written is what that comes to, or a beginning of it, with the call that failed. That it is the history of the
+//! calls that were made is said by `close_day` alone. That a worker runs, or two at a time, is not promised. It depends on `desk_pool`, `desk_board`, `book_texts`
 //! and `desk_tasks`.
 #![tactic(auto)]
 
@@ -18,6 +19,7 @@ mod in_turn;
 mod laws;
 mod searched;
 mod team;
+mod watched;
 mod write;
 
 pub use batches::Intake;

@@ -16,6 +16,7 @@ ghost use Rattle.desk_search.specs.Closing.{end_of, IsTeamBook};
 use crate::beside::live;
 use crate::in_turn::in_turn;
 use crate::searched::Searched;
+use desk_board::{Telling, TellsNobody};
 use desk_core::Book;
 use desk_data::{Batch, Instance, NoMem};
 use desk_folder::Gate;
@@ -35,6 +36,8 @@ pub struct Team {
     pub moves: u32,
     /// Whether the batches but the first are taken while they search.
     pub live: bool,
+    /// Whether a viewer watches the desk's board meanwhile.
+    pub watch: bool,
 }
 
 /// The book of a day that a team searched, and why the last search ended, where there is a plan.
@@ -55,8 +58,8 @@ fn end_of(vote: Vote) -> Option<SearchEnd>
     }
 }
 
-// Has the batches taken and searched after, in turn or live.
-fn search<R: Threads + Wait + Sync, G: Gate>(
+/// Has the batches taken and searched after, in turn or live, and tells what is new before each of both.
+pub(crate) fn search<R: Threads + Wait + Sync, G: Gate, T: Telling + Send + Drop>(
     rt: &R,
     alloc: Global,
     workers: Vec<Worker>,
@@ -65,7 +68,8 @@ fn search<R: Threads + Wait + Sync, G: Gate>(
     gate: &G,
     batches: &[Batch],
     team: Team,
-) -> (Pass<Book>, Result<Searched, NoMem>)
+    telling: T,
+) -> (Pass<Book>, Result<Searched, NoMem>, T)
     requires some { 0 < vec_len workers }
     requires shards { AreAllShards workers.items }
     requires of { IsPassOf opening_of turn.now pass }
@@ -73,20 +77,26 @@ fn search<R: Threads + Wait + Sync, G: Gate>(
     requires asked { All (IsBatch (day_of turn.now).parts) batches.now }
     requires batches { 0 < length batches.now }
     requires start { (seen pass ≡ []) × (made pass ≡ []) }
+    requires can { T.can telling (first_book turn.now) (seen pass) }
     ensures of { IsPassOf opening_of turn.now result.0 }
     ensures returned { IsReturned (known pass) (known result.0) }
+    ensures can { T.can result.2 (first_book turn.now) (seen result.0) }
     ensures run { IfOk result.1 (IsTeamRun (vec_len workers) team.moves team.live (day_of turn.now) batches.now (known result.0)) }
 {
     if team.live {
-        live(rt, alloc, workers, turn, pass, gate, batches, team.moves)
+        live(
+            rt, alloc, workers, turn, pass, gate, batches, team.moves, telling,
+        )
     } else {
-        in_turn(rt, alloc, workers, turn, pass, gate, batches, team.moves)
+        in_turn(
+            rt, alloc, workers, turn, pass, gate, batches, team.moves, telling,
+        )
     }
 }
 
-// Closes the turn after a search of a team for these batches. The book's journal is all that the pass had seen by then: the entry
-// of each call that the desk and the workers made, once, and no other.
-fn close_day(
+/// Closes the turn after a search of a team for these batches. The book's journal is all that the pass had seen by then: the entry
+/// of each call that the desk and the workers made, once, and no other.
+pub(crate) fn close_day(
     turn: Turn<Book>,
     pass: Pass<Book>,
     batches: &[Batch],
@@ -138,7 +148,17 @@ pub(crate) fn search_day<R: Threads + Wait + Sync, G: Gate>(
         Ok(opened) => opened,
         Err(_) => return Err(NoMem),
     };
-    let (pass, searched) = search(rt, alloc, workers, &turn, pass, gate, batches, team);
+    let (pass, searched, _nobody) = search(
+        rt,
+        alloc,
+        workers,
+        &turn,
+        pass,
+        gate,
+        batches,
+        team,
+        TellsNobody,
+    );
     let Ok(came) = searched else {
         let _book = turn.close(pass);
         return Err(NoMem);

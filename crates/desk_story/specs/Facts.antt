@@ -60,7 +60,7 @@ as_judged p = record { day = p.inst; plan = p.plan }
 abbrev pub as_task : InputTask → Task
 as_task (input.Play s) = play (as_story s)
 as_task (input.Recover r) = recover (as_recovery r)
-as_task (input.Team r workers live) = team (team_on (as_recovery r) workers live)
+as_task (input.Team r workers live watch) = team (team_on (as_recovery r) workers live watch)
 as_task (input.Try r) = trial (as_recovery r)
 as_task (input.Judge p) = judge (as_judged p)
 as_task (input.Generate seed size) = generate seed size
@@ -69,7 +69,7 @@ as_task (input.Generate seed size) = generate seed size
 abbrev pub CanBeDone : InputTask → Type 0
 CanBeDone (input.Play s) = CanBeRun s
 CanBeDone (input.Recover r) = CanRecover r
-CanBeDone (input.Team r workers live) = CanRecover r × (1 ≤ workers) × (workers ≤ 64)
+CanBeDone (input.Team r workers live watch) = CanRecover r × (1 ≤ workers) × (workers ≤ 64)
 CanBeDone (input.Try r) = CanRecover r
 CanBeDone (input.Judge p) = IsPlanFor p.inst p.plan
 CanBeDone (input.Generate seed size) = IsSize size

@@ -210,7 +210,7 @@ usual_moves = default_of Moves
 
 -- to try: the files of a day that is made up are read and joined as those of a folder would be, to be recovered so
 unfoldable pub trial_of : ℕ → ℕ → Result Recovery Refusal
-trial_of seed size = rows_of (command_is.Recover 0 usual_moves false) (text_of seed size) >>= recovery_of_rows usual_moves
+trial_of seed size = rows_of (command_is.Recover 0 usual_moves false false) (text_of seed size) >>= recovery_of_rows usual_moves
 
 -- by the command; what is generated is asked by the words alone
 unfoldable pub task_of_rows : Command → Rows → Result Task Refusal
@@ -220,9 +220,9 @@ task_of_rows command_is.Replay rows = do
 task_of_rows command_is.Store rows = do
   story ← story_of_rows rows
   Ok (play story)
-task_of_rows (command_is.Recover workers moves live) rows = do
+task_of_rows (command_is.Recover workers moves live watch) rows = do
   recovery ← recovery_of_rows moves rows
-  Ok (recover_by workers live recovery)
+  Ok (recover_by workers live watch recovery)
 task_of_rows command_is.Check rows = do
   judged ← judged_of_rows rows
   Ok (judge judged)

@@ -30,11 +30,12 @@ pub enum InputTask {
     /// A day is to be recovered.
     Recover(InputRecovery),
     /// A day is to be recovered by a team of 1 to 64 workers; the batches but the first are taken while they search
-    /// where it is live.
+    /// where it is live, and a viewer watches where it is watched.
     Team {
         recovery: InputRecovery,
         workers: u32,
         live: bool,
+        watch: bool,
     },
     /// A day is to be recovered, and that is reported alone.
     Try(InputRecovery),
@@ -48,10 +49,10 @@ pub enum InputTask {
 }
 
 // Has a day recovered by so many workers, and by the desk alone where there is none.
-fn by_team(recovery: InputRecovery, workers: u32, live: bool) -> InputTask
+fn by_team(recovery: InputRecovery, workers: u32, live: bool, watch: bool) -> InputTask
     requires sound { CanRecover recovery }
     requires few { workers ≤ 64 }
-    ensures exact { as_task result ≡ recover_by workers live (as_recovery recovery) }
+    ensures exact { as_task result ≡ recover_by workers live watch (as_recovery recovery) }
     ensures sound { CanBeDone result }
     ensures files { files_for (as_task result) ≡ history_files }
     ensures team { team_size (as_task result) ≡ workers }
@@ -63,6 +64,7 @@ fn by_team(recovery: InputRecovery, workers: u32, live: bool) -> InputTask
             recovery,
             workers,
             live,
+            watch,
         }
     }
 }
@@ -87,9 +89,10 @@ fn joined_task(alloc: Global, command: &Command, rows: &InputRows) -> Result<Inp
             workers,
             moves,
             live,
+            watch,
         } => {
             let recovery = joined_recovery(alloc, rows, *moves)?;
-            Ok(by_team(recovery, *workers, *live))
+            Ok(by_team(recovery, *workers, *live, *watch))
         }
         Command::Check => {
             let plan = joined_plan(alloc, rows)?;

@@ -21,7 +21,7 @@ use Rattle.near_moves.specs.Descent.{recovery}
 use Rattle.desk_teams.proofs.TeamLaws.{refused-between}
 use Rattle.near_moves.proofs.LegalLaws.{recovery-legal}
 use Rattle.near_moves.proofs.RecoveryLaws.{recovery-all_wait, recovery-along, recovery-batches}
-use Rattle.desk_tasks.specs.Play.{Story, history, Remarks, search_remarks, batch_lines, end_lines, planned_rotations, planned_itineraries, report_text, history_outcome, played}
+use Rattle.desk_tasks.specs.Play.{Story, history, Remarks, search_remarks, watch_remarks, batch_lines, end_lines, planned_rotations, planned_itineraries, report_text, history_outcome, played}
 use Rattle.desk_tasks.specs.Keep.{opened_line, opened_remarks, opened_first, kept}
 use Rattle.desk_tasks.specs.Recover.{Recovery, recovered_history, search_end, reported_alone, recovered, tried}
 use Rattle.desk_tasks.specs.Team.{TeamRecovery, Work, IsTeamWork, recovered_by_team}
@@ -191,7 +191,8 @@ team-recovers t w is = record {
 pub has-team-recovered : (before now : World) (t : TeamRecovery) (w : Work) → IsTeamWork t w → IsWritten before now (recovered_by_team t w).texts → HasTeamRecovered before now t w
 has-team-recovered before now t w is written = record {
   recovers = team-recovers t w is;
-  written = tells before now t.recovery.day (search_remarks w.ended) w.history written;
+  seen = is.seen;
+  written = tells before now t.recovery.day (watch_remarks t.recovery.day w.ended w.seen) w.history written;
 }
 
 -- ---- tasks with one outcome

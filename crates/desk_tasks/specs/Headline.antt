@@ -15,10 +15,10 @@ use Rattle.journal_text.specs.Lines.{journal_text}
 use Rattle.sol_text.specs.Rotations.{rotations_text}
 use Rattle.sol_text.specs.Itineraries.{itineraries_text}
 use Rattle.desk_runs.specs.Runs.{World}
-use Rattle.desk_tasks.specs.Play.{Story, Remarks, search_remarks, report_text}
+use Rattle.desk_tasks.specs.Play.{Story, Remarks, search_remarks, watch_remarks, report_text}
 use Rattle.desk_tasks.specs.Keep.{opened_remarks}
 use Rattle.desk_tasks.specs.Recover.{Recovery, search_end, IsSearchEnd}
-use Rattle.desk_tasks.specs.Team.{TeamRecovery, Work, IsTeamEnd}
+use Rattle.desk_tasks.specs.Team.{TeamRecovery, Work, IsTeamEnd, IsWatched}
 
 -- what is written of a history, with the remarks of its report
 pub record TellsHistory (before now : World) (I : Situation) (remarks : Remarks) (h : List Entry) : Type 0 where
@@ -113,4 +113,5 @@ pub record TeamRecovers (t : TeamRecovery) (h : List Entry) (reported : Option S
 -- there is such a history, to which what was written belongs
 pub record HasTeamRecovered (before now : World) (t : TeamRecovery) (work : Work) : Type 0 where
   pub recovers : TeamRecovers t work.history work.ended
-  pub written : TellsHistory before now t.recovery.day (search_remarks work.ended) work.history
+  pub seen : IsWatched t.watch t.recovery.day work.history work.seen
+  pub written : TellsHistory before now t.recovery.day (watch_remarks t.recovery.day work.ended work.seen) work.history

@@ -2,6 +2,7 @@
 use Rattle.std.specs.Prelude.{ℕ, List, [], ◌∷◌, ◌++◌, Option, Some, None, length, filter, codes, decimal}
 use Rattle.std.specs.List.{flat_map, zip}
 use Rattle.desk_folder.specs.declared.files.File.TheVariants as file
+use Rattle.desk_units.specs.declared.money.Grains.{Grains}
 use Rattle.desk_data.specs.Situation.{Situation}
 use Rattle.desk_data.specs.declared.broken.Broken.{Broken}
 use Rattle.desk_rules.specs.Numbers.{numbers}
@@ -11,6 +12,7 @@ use Rattle.desk_model.specs.declared.answer.Entry.{Entry}
 use Rattle.desk_model.specs.States.{State, opening}
 use Rattle.desk_model.specs.Histories.{state, changes, is_batch, run}
 use Rattle.desk_model.specs.Promises.{cost_of}
+use Rattle.desk_view.specs.declared.view.View.{View}
 use Rattle.journal_text.specs.Items.{broken_text}
 use Rattle.journal_text.specs.Lines.{answer_text, journal_text}
 use Rattle.sol_text.specs.Rotations.{rotations_text}
@@ -41,6 +43,11 @@ abbrev pub cost_or_broken : Situation → ℕ → Option Broken → List ℕ
 cost_or_broken I cost None = codes "cost " ++ decimal cost
 cost_or_broken I cost (Some item) = codes "no plan " ++ broken_text I item
 
+-- the cost of a plan that was seen, or what the rows broke where there was none
+abbrev pub seen_end : Situation → Grains → Option Broken → List ℕ
+seen_end I cost None = decimal cost.0
+seen_end I cost (Some item) = codes "no plan " ++ broken_text I item
+
 -- the entries of the batches of a history, in order
 abbrev pub batch_entries : List Entry → List Entry
 batch_entries h = filter (λ entry. is_batch entry.event) h
@@ -65,6 +72,19 @@ pub record Remarks : Type 0 where
   pub head : List ℕ
   pub search : Option SearchEnd
   pub extra : List ℕ
+
+-- the line of a view that was seen: its numbers of entries and of changes, and its cost or what is broken
+abbrev pub seen_line : Situation → View → List ℕ
+seen_line I v = line (codes "seen " ++ decimal v.entries ++ codes " " ++ decimal v.changes ++ codes " " ++ seen_end I v.cost v.broken)
+
+-- a line for each
+unfoldable pub seen_lines : Situation → List View → List ℕ
+seen_lines I [] = []
+seen_lines I (v ∷ views) = seen_line I v ++ seen_lines I views
+
+-- why the search ended, and what was seen meanwhile
+abbrev pub watch_remarks : Situation → Option SearchEnd → List View → Remarks
+watch_remarks I search seen = record { head = []; search = search; extra = seen_lines I seen }
 
 -- why the search ended, and no line more
 abbrev pub search_remarks : Option SearchEnd → Remarks

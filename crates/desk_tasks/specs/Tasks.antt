@@ -23,8 +23,8 @@ pub data Task : Type 0 where
   generate : ℕ → ℕ → Task
 
 -- a recovery by so many workers: where there is none, by the desk alone
-abbrev pub recover_by : ℕ → Bool → Recovery → Task
-recover_by workers live r = if workers == 0 then recover r else team (team_on r workers live)
+abbrev pub recover_by : ℕ → Bool → Bool → Recovery → Task
+recover_by workers live watch r = if workers == 0 then recover r else team (team_on r workers live watch)
 
 -- what a task comes to at the work of a run: the status, the texts of files and the report. It depends on the work where a team
 -- recovers a day

@@ -5,6 +5,7 @@ mod changes;
 mod days;
 mod headway;
 mod limits;
+mod live;
 mod memory;
 mod moments;
 mod orders;

@@ -22,7 +22,7 @@ use Rattle.desk_runs.proofs.CausesLaw.{usage-only}
 use Rattle.desk_text.specs.Rows.{◌>>=◌}
 use Rattle.near_moves.specs.Descent.{recovery}
 use Rattle.desk_gen.specs.Generated.{text_of}
-use Rattle.desk_tasks.specs.Play.{Story, Remarks, search_remarks, history_outcome, plan_status}
+use Rattle.desk_tasks.specs.Play.{Story, Remarks, search_remarks, watch_remarks, history_outcome, plan_status}
 use Rattle.desk_tasks.specs.Recover.{Recovery, recovered_history, search_end, recovered, reported_alone, tried}
 use Rattle.desk_tasks.specs.Judge.{Judged, verdict, verdict_report, rule_status, judged}
 use Rattle.desk_tasks.specs.Generate.{generation}
@@ -50,9 +50,9 @@ played_task : (read : Result Story Refusal) (t : Task) → (read >>= (λ story. 
 played_task (Ok s) t e = (s, let is : play s ≡ t = cc in sym is)
 played_task (Err r) t e = absurd cc
 
-recover_task : (workers : ℕ) (live : Bool) (read : Result Recovery Refusal) (t : Task) → (read >>= (λ recovery. let r : Result Task Refusal = Ok (recover_by workers live recovery) in r)) ≡ Ok t → (r : Recovery) × (t ≡ recover_by workers live r) × (read ≡ Ok r)
-recover_task workers live (Ok r) t e = (r, (let is : recover_by workers live r ≡ t = cc in sym is), refl)
-recover_task workers live (Err r) t e = absurd cc
+recover_task : (workers : ℕ) (live watch : Bool) (read : Result Recovery Refusal) (t : Task) → (read >>= (λ recovery. let r : Result Task Refusal = Ok (recover_by workers live watch recovery) in r)) ≡ Ok t → (r : Recovery) × (t ≡ recover_by workers live watch r) × (read ≡ Ok r)
+recover_task workers live watch (Ok r) t e = (r, (let is : recover_by workers live watch r ≡ t = cc in sym is), refl)
+recover_task workers live watch (Err r) t e = absurd cc
 
 trial_task : (read : Result Recovery Refusal) (t : Task) → (read >>= (λ recovery. let r : Result Task Refusal = Ok (trial recovery) in r)) ≡ Ok t → (r : Recovery) × (t ≡ trial r) × (read ≡ Ok r)
 trial_task (Ok r) t e = (r, (let is : trial r ≡ t = cc in sym is), refl)
@@ -72,10 +72,10 @@ unfolding task_of_rows
 store_rows (Ok rows) t e = played_task (story_of_rows rows) t e
 store_rows (Err r) t e = absurd cc
 
-recover_rows : (workers moves : ℕ) (live : Bool) (read : Read) (t : Task) → (read >>= task_of_rows (command_is.Recover workers moves live)) ≡ Ok t → (r : Recovery) × (t ≡ recover_by workers live r)
+recover_rows : (workers moves : ℕ) (live watch : Bool) (read : Read) (t : Task) → (read >>= task_of_rows (command_is.Recover workers moves live watch)) ≡ Ok t → (r : Recovery) × (t ≡ recover_by workers live watch r)
 unfolding task_of_rows
-recover_rows workers moves live (Ok rows) t e = let held = recover_task workers live (recovery_of_rows moves rows) t e in (held.0, held.1)
-recover_rows workers moves live (Err r) t e = absurd cc
+recover_rows workers moves live watch (Ok rows) t e = let held = recover_task workers live watch (recovery_of_rows moves rows) t e in (held.0, held.1)
+recover_rows workers moves live watch (Err r) t e = absurd cc
 
 trial_rows : (seed size : ℕ) (read : Read) (t : Task) → (read >>= task_of_rows (command_is.Trial seed size)) ≡ Ok t → (r : Recovery) × (t ≡ trial r) × (trial_of seed size ≡ Ok r)
 unfolding task_of_rows
@@ -100,28 +100,28 @@ store_task : (x : Inputs) (t : Task) → task_of command_is.Store x ≡ Ok t →
 unfolding task_of
 store_task x t e = store_rows (rows_of command_is.Store x) t e
 
-recovery_task : (workers moves : ℕ) (live : Bool) (x : Inputs) (t : Task) → task_of (command_is.Recover workers moves live) x ≡ Ok t → (r : Recovery) × (t ≡ recover_by workers live r)
+recovery_task : (workers moves : ℕ) (live watch : Bool) (x : Inputs) (t : Task) → task_of (command_is.Recover workers moves live watch) x ≡ Ok t → (r : Recovery) × (t ≡ recover_by workers live watch r)
 unfolding task_of
-recovery_task workers moves live x t e = recover_rows workers moves live (rows_of (command_is.Recover workers moves live) x) t e
+recovery_task workers moves live watch x t e = recover_rows workers moves live watch (rows_of (command_is.Recover workers moves live watch) x) t e
 
 -- where there is a worker, by a team
-by_team : (workers : ℕ) (live : Bool) (r : Recovery) → 1 ≤ workers → recover_by workers live r ≡ team (team_on r workers live)
-by_team zero live r some = absurd (omega (arith, some))
-by_team (suc n) live r some = let e : (suc n == 0) ≡ false = grind (arith, nat_tests) in rw e refl
+by_team : (workers : ℕ) (live watch : Bool) (r : Recovery) → 1 ≤ workers → recover_by workers live watch r ≡ team (team_on r workers live watch)
+by_team zero live watch r some = absurd (omega (arith, some))
+by_team (suc n) live watch r some = let e : (suc n == 0) ≡ false = grind (arith, nat_tests) in rw e refl
 
 tried_task : (seed size : ℕ) (x : Inputs) (t : Task) → task_of (command_is.Trial seed size) x ≡ Ok t → (r : Recovery) × (t ≡ trial r) × (trial_of seed size ≡ Ok r)
 unfolding task_of
 tried_task seed size x t e = trial_rows seed size (rows_of (command_is.Trial seed size) x) t e
 
 -- a trial asks for what `recover` asks for of the texts
-asked_rows : (moves : ℕ) (read : Read) (r : Recovery) → (read >>= recovery_of_rows moves) ≡ Ok r → (read >>= task_of_rows (command_is.Recover 0 moves false)) ≡ Ok (recover r)
+asked_rows : (moves : ℕ) (read : Read) (r : Recovery) → (read >>= recovery_of_rows moves) ≡ Ok r → (read >>= task_of_rows (command_is.Recover 0 moves false false)) ≡ Ok (recover r)
 unfolding task_of_rows
 asked_rows moves (Ok rows) r e = ap (λ (made : Result Recovery Refusal). made >>= (λ recovery. let r : Result Task Refusal = Ok (recover recovery) in r)) e
 asked_rows moves (Err why) r e = absurd cc
 
-asked_as_recover : (seed size : ℕ) (r : Recovery) → trial_of seed size ≡ Ok r → task_of (command_is.Recover 0 usual_moves false) (text_of seed size) ≡ Ok (recover r)
+asked_as_recover : (seed size : ℕ) (r : Recovery) → trial_of seed size ≡ Ok r → task_of (command_is.Recover 0 usual_moves false false) (text_of seed size) ≡ Ok (recover r)
 unfolding task_of trial_of
-asked_as_recover seed size r e = asked_rows usual_moves (rows_of (command_is.Recover 0 usual_moves false) (text_of seed size)) r e
+asked_as_recover seed size r e = asked_rows usual_moves (rows_of (command_is.Recover 0 usual_moves false false) (text_of seed size)) r e
 
 check_task : (x : Inputs) (t : Task) → task_of command_is.Check x ≡ Ok t → (j : Judged) × (t ≡ judge j)
 unfolding task_of
@@ -135,9 +135,9 @@ gen_task seed size x t e = gen_rows seed size (rows_of (command_is.Gen seed size
 pub plain-work : (c : Command) (x : Inputs) (t : Task) → workers_of c ≡ 0 → task_of c x ≡ Ok t → IsWorkOf t nothing
 plain-work command_is.Replay x t none e = let s = replay_task x t e in subst (λ (t : Task). IsWorkOf t nothing) (sym s.1) refl
 plain-work command_is.Store x t none e = let s = store_task x t e in subst (λ (t : Task). IsWorkOf t nothing) (sym s.1) refl
-plain-work (command_is.Recover workers moves live) x t none e =
-    let alone : task_of (command_is.Recover 0 moves live) x ≡ Ok t = subst (λ (n : ℕ). task_of (command_is.Recover n moves live) x ≡ Ok t) none e in
-    let r = recovery_task 0 moves live x t alone in
+plain-work (command_is.Recover workers moves live watch) x t none e =
+    let alone : task_of (command_is.Recover 0 moves live watch) x ≡ Ok t = subst (λ (n : ℕ). task_of (command_is.Recover n moves live watch) x ≡ Ok t) none e in
+    let r = recovery_task 0 moves live watch x t alone in
     subst (λ (t : Task). IsWorkOf t nothing) (sym r.1) refl
 plain-work command_is.Check x t none e = let j = check_task x t e in subst (λ (t : Task). IsWorkOf t nothing) (sym j.1) refl
 plain-work (command_is.Gen seed size) x t none e = subst (λ (t : Task). IsWorkOf t nothing) (sym (gen_task seed size x t e)) refl
@@ -176,25 +176,25 @@ tried_status : (r : Recovery) → (tried r).status ≡ (recovered r).status
 unfolding reported_alone
 tried_status r = refl
 
-pub recovered-day : (work : Work) (before now : World) (moves : ℕ) (x : Inputs) (code : ℕ) → IsDone work (command_is.Recover 0 moves false) before now x code → IsRecovered before now moves x code
+pub recovered-day : (work : Work) (before now : World) (moves : ℕ) (x : Inputs) (code : ℕ) → IsDone work (command_is.Recover 0 moves false false) before now x code → IsRecovered before now moves x code
 recovered-day work before now moves x code done =
-    let r = recovery_task 0 moves false x done.task done.sets in
-    let parts = done_as work (command_is.Recover 0 moves false) before now x code (recover r.0) done r.1 in
+    let r = recovery_task 0 moves false false x done.task done.sets in
+    let parts = done_as work (command_is.Recover 0 moves false false) before now x code (recover r.0) done r.1 in
     let held = has-recovered before now r.0 (subst IsSound r.1 done.sound.0) parts.2 in
     record { recovery = r.0; sets = parts.0; history = held.history; status = parts.1 ∙ recovered_status r.0 held.history held.recovers.exact; recovers = held.recovers; written = held.written }
 
-pub recovered-by-team : (work : Work) (before now : World) (workers moves : ℕ) (live : Bool) (x : Inputs) (code : ℕ) → 1 ≤ workers → IsDone work (command_is.Recover workers moves live) before now x code → IsRecoveredByTeam before now workers moves live x code
-recovered-by-team work before now workers moves live x code some done =
-    let r = recovery_task workers moves live x done.task done.sets in
-    let t = team_on r.0 workers live in
-    let is : done.task ≡ team t = r.1 ∙ by_team workers live r.0 some in
-    let parts = done_as work (command_is.Recover workers moves live) before now x code (team t) done is in
+pub recovered-by-team : (work : Work) (before now : World) (workers moves : ℕ) (live watch : Bool) (x : Inputs) (code : ℕ) → 1 ≤ workers → IsDone work (command_is.Recover workers moves live watch) before now x code → IsRecoveredByTeam before now workers moves live watch x code
+recovered-by-team work before now workers moves live watch x code some done =
+    let r = recovery_task workers moves live watch x done.task done.sets in
+    let t = team_on r.0 workers live watch in
+    let is : done.task ≡ team t = r.1 ∙ by_team workers live watch r.0 some in
+    let parts = done_as work (command_is.Recover workers moves live watch) before now x code (team t) done is in
     let made : IsTeamWork t work = (subst (IsSoundAt work) is done.sound).1 in
     record {
       recovery = r.0;
       sets = parts.0;
       work = work;
-      status = parts.1 ∙ history_status r.0.day (search_remarks work.ended) work.history;
+      status = parts.1 ∙ history_status r.0.day (watch_remarks r.0.day work.ended work.seen) work.history;
       headline = has-team-recovered before now t work made parts.2;
     }
 

@@ -51,7 +51,7 @@ obeyed-fault c before now sink e only order stops cause gives = by_fault c befor
 sound_of : (t : InputTask) → CanBeDone t → IsSound (as_task t)
 sound_of (input.Play s) h = h.asked
 sound_of (input.Recover r) h = h.sound
-sound_of (input.Team r workers live) h = record { recovery = h.0.sound; some = h.1; few = h.2 }
+sound_of (input.Team r workers live watch) h = record { recovery = h.0.sound; some = h.1; few = h.2 }
 sound_of (input.Try r) h = h.sound
 sound_of (input.Judge p) h = h
 sound_of (input.Generate seed size) h = tt
@@ -60,7 +60,7 @@ sound_of (input.Generate seed size) h = tt
 alone_of : (t : InputTask) → CanBeDone t → team_size (as_task t) ≡ 0 → IsWorkOf (as_task t) nothing
 alone_of (input.Play s) h none = refl
 alone_of (input.Recover r) h none = refl
-alone_of (input.Team r workers live) h none = absurd (let some = h.1 in omega (arith, some, none))
+alone_of (input.Team r workers live watch) h none = absurd (let some = h.1 in omega (arith, some, none))
 alone_of (input.Try r) h none = refl
 alone_of (input.Judge p) h none = refl
 alone_of (input.Generate seed size) h none = refl
@@ -74,8 +74,8 @@ obeyed-task c before mid now sink sink' t how only order read given can none fil
     (subst (λ (fs : List File). Completes fs (world mid sink) (world now sink') (outcome (as_task t)) how) files done)
 
 -- a task that asks for no worker is none of a team, and one that asks for some is
-pub no-team : (t : InputTask) (r : InputRecovery) (workers : ℕ) (live : Bool) → t ≡ input.Team r workers live → CanBeDone t → team_size (as_task t) ≡ 0 → ⊥
-no-team t r workers live is can none =
+pub no-team : (t : InputTask) (r : InputRecovery) (workers : ℕ) (live watch : Bool) → t ≡ input.Team r workers live watch → CanBeDone t → team_size (as_task t) ≡ 0 → ⊥
+no-team t r workers live watch is can none =
     let some = (subst CanBeDone is can).1 in
     let size : workers ≡ 0 = subst (λ (t : InputTask). team_size (as_task t) ≡ 0) is none in
     omega (arith, some, size)

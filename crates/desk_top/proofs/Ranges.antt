@@ -40,6 +40,7 @@ value_within choice_is.Size [] = (omega arith, omega arith)
 value_within choice_is.Workers [] = (omega arith, omega arith)
 value_within choice_is.Moves [] = (omega arith, omega arith)
 value_within choice_is.Live [] = (omega arith, omega arith)
+value_within choice_is.Watch [] = (omega arith, omega arith)
 value_within choice (text ∷ []) = number_within (least_of choice) (most_of choice) text
 value_within choice (text ∷ other ∷ texts) = tt
 
@@ -65,23 +66,25 @@ if_range : (test : Bool) (o : Option Asking) → InRange o → InRange (if test 
 if_range true o h = h
 if_range false o h = tt
 
--- batches are taken live only beside a worker
-some_worker : (workers live : ℕ) → nat_lt workers live ≡ false → nat_lt 0 live ≡ true → 1 ≤ workers
-some_worker workers live few some = grind (arith, nat_tests)
+-- batches are taken live, and a viewer watches, only beside a worker
+some_worker : (workers flag : ℕ) → nat_lt workers flag ≡ false → nat_lt 0 flag ≡ true → 1 ≤ workers
+some_worker workers flag few some = grind (arith, nat_tests)
 
-search_in : (workers moves live : ℕ) (dirs : Option Directories) (less : Bool) → nat_lt workers live ≡ less → Within 0 64 workers → Within 1 100000 moves → InRange ((if less then None else Some (command_is.Recover workers moves (nat_lt 0 live))) >>= (λ command. dirs >>= (λ dirs. Some (command, Some dirs))))
-search_in workers moves live dirs true is w a = tt
-search_in workers moves live dirs false is w a = with_dirs (command_is.Recover workers moves (nat_lt 0 live)) dirs (w.1, a.0, a.1, λ some. some_worker workers live is some)
+search_in : (workers moves live watch : ℕ) (dirs : Option Directories) (less fewer : Bool) → nat_lt workers live ≡ less → nat_lt workers watch ≡ fewer → Within 0 64 workers → Within 1 100000 moves → InRange ((if less then None else (if fewer then None else Some (command_is.Recover workers moves (nat_lt 0 live) (nat_lt 0 watch)))) >>= (λ command. dirs >>= (λ dirs. Some (command, Some dirs))))
+search_in workers moves live watch dirs true fewer is same w a = tt
+search_in workers moves live watch dirs false true is same w a = tt
+search_in workers moves live watch dirs false false is same w a = with_dirs (command_is.Recover workers moves (nat_lt 0 live) (nat_lt 0 watch)) dirs (w.1, a.0, a.1, (λ some. some_worker workers live is some), λ some. some_worker workers watch same some)
 
-searching_in : (workers moves live : Option ℕ) (dirs : Option Directories) → IfSome workers (Within 0 64) → IfSome moves (Within 1 100000) → InRange (workers >>= (λ workers. moves >>= (λ moves. live >>= (λ live. search workers moves live >>= (λ command. dirs >>= (λ dirs. Some (command, Some dirs)))))))
-searching_in None moves live dirs w a = tt
-searching_in (Some workers) None live dirs w a = tt
-searching_in (Some workers) (Some moves) None dirs w a = tt
-searching_in (Some workers) (Some moves) (Some live) dirs w a = search_in workers moves live dirs (nat_lt workers live) refl w a
+searching_in : (workers moves live watch : Option ℕ) (dirs : Option Directories) → IfSome workers (Within 0 64) → IfSome moves (Within 1 100000) → InRange (workers >>= (λ workers. moves >>= (λ moves. live >>= (λ live. watch >>= (λ watch. search workers moves live watch >>= (λ command. dirs >>= (λ dirs. Some (command, Some dirs))))))))
+searching_in None moves live watch dirs w a = tt
+searching_in (Some workers) None live watch dirs w a = tt
+searching_in (Some workers) (Some moves) None watch dirs w a = tt
+searching_in (Some workers) (Some moves) (Some live) None dirs w a = tt
+searching_in (Some workers) (Some moves) (Some live) (Some watch) dirs w a = search_in workers moves live watch dirs (nat_lt workers live) (nat_lt workers watch) refl refl w a
 
 recovering_range : (list : List Argument) → InRange (recovering list)
 unfolding searching
-recovering_range list = if_range (no_day_options list) _ (searching_in (value_of choice_is.Workers list) (value_of choice_is.Moves list) (value_of choice_is.Live list) (input_and_output (places list)) (value_within choice_is.Workers _) (value_within choice_is.Moves _))
+recovering_range list = if_range (no_day_options list) _ (searching_in (value_of choice_is.Workers list) (value_of choice_is.Moves list) (value_of choice_is.Live list) (value_of choice_is.Watch list) (input_and_output (places list)) (value_within choice_is.Workers _) (value_within choice_is.Moves _))
 
 making_in : (seed size : Option ℕ) (dirs : Option Directories) → IfSome seed (Within 0 999999999) → IfSome size (Within 1 40) → InRange (seed >>= (λ seed. size >>= (λ size. dirs >>= (λ dirs. Some (command_is.Gen seed size, Some dirs)))))
 making_in None size dirs a b = tt

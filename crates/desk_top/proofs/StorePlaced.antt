@@ -363,7 +363,7 @@ pub kept-asked : (o : Option Asking) (dirs : Directories) → Some dirs ≡ kept
 kept-asked None dirs is = absurd cc
 kept-asked (Some (command_is.Store, d)) dirs is = ap (λ (d : Option Directories). Some (command_is.Store, d)) (sym is)
 kept-asked (Some (command_is.Replay, d)) dirs is = absurd cc
-kept-asked (Some (command_is.Recover workers moves live, d)) dirs is = absurd cc
+kept-asked (Some (command_is.Recover workers moves live watch, d)) dirs is = absurd cc
 kept-asked (Some (command_is.Check, d)) dirs is = absurd cc
 kept-asked (Some (command_is.Gen seed size, d)) dirs is = absurd cc
 kept-asked (Some (command_is.Trial seed size, d)) dirs is = absurd cc
@@ -375,7 +375,7 @@ pub others-free : (o : Option Asking) → kept_directories o ≡ None → ((c : 
 others-free None none free = refl
 others-free (Some (command_is.Store, d)) none free = free command_is.Store (ap (λ (d : Option Directories). Some (command_is.Store, d)) (sym none))
 others-free (Some (command_is.Replay, d)) none free = refl
-others-free (Some (command_is.Recover workers moves live, d)) none free = refl
+others-free (Some (command_is.Recover workers moves live watch, d)) none free = refl
 others-free (Some (command_is.Check, d)) none free = refl
 others-free (Some (command_is.Gen seed size, d)) none free = refl
 others-free (Some (command_is.Trial seed size, d)) none free = refl

@@ -75,25 +75,25 @@ pub record IsReplayed (before now : World) (x : Inputs) : Type 0 where
 -- and else 0
 pub record IsRecovered (before now : World) (moves : ℕ) (x : Inputs) (code : ℕ) : Type 0 where
   pub recovery : Recovery
-  pub sets : task_of (command_is.Recover 0 moves false) x ≡ Ok (recover recovery)
+  pub sets : task_of (command_is.Recover 0 moves false false) x ≡ Ok (recover recovery)
   pub history : List Entry
   pub status : code ≡ plan_status (state (opening recovery.day) history).broken
   pub recovers : Recovers recovery history
   pub written : TellsHistory before now recovery.day (search_remarks (search_end recovery.day recovery.moves history)) history
 
 -- `recover` with workers: the inputs give a day and its batches, and there is a history with the headline, which a team of so many may make of
--- them; the status is 1 where it ends with no plan and else 0
-pub record IsRecoveredByTeam (before now : World) (workers moves : ℕ) (live : Bool) (x : Inputs) (code : ℕ) : Type 0 where
+-- them, and of which a viewer saw what is reported, where one watches; the status is 1 where it ends with no plan and else 0
+pub record IsRecoveredByTeam (before now : World) (workers moves : ℕ) (live watch : Bool) (x : Inputs) (code : ℕ) : Type 0 where
   pub recovery : Recovery
-  pub sets : task_of (command_is.Recover workers moves live) x ≡ Ok (team (team_on recovery workers live))
+  pub sets : task_of (command_is.Recover workers moves live watch) x ≡ Ok (team (team_on recovery workers live watch))
   pub work : Work
   pub status : code ≡ plan_status (state (opening recovery.day) work.history).broken
-  pub headline : HasTeamRecovered before now (team_on recovery workers live) work
+  pub headline : HasTeamRecovered before now (team_on recovery workers live watch) work
 
 -- `trial`: the same of the texts of a day that is made up, read as `recover` reads them with its usual options, and reported alone
 pub record IsTried (before now : World) (seed size : ℕ) (code : ℕ) : Type 0 where
   pub recovery : Recovery
-  pub sets : task_of (command_is.Recover 0 usual_moves false) (text_of seed size) ≡ Ok (recover recovery)
+  pub sets : task_of (command_is.Recover 0 usual_moves false false) (text_of seed size) ≡ Ok (recover recovery)
   pub history : List Entry
   pub status : code ≡ plan_status (state (opening recovery.day) history).broken
   pub recovers : Recovers recovery history

@@ -54,11 +54,14 @@ fn run<R: Threads + Wait + Sync, F: Folder, O: Sink, G: Gate, L: Listener>(
             workers,
             moves,
             live,
+            watch,
         } => {
             if *workers == 0 {
                 run_plain(rt, alloc, command, folder, out, listener)
             } else {
-                run_workers(rt, alloc, *workers, *moves, *live, folder, out, gate)
+                run_workers(
+                    rt, alloc, *workers, *moves, *live, *watch, folder, out, gate,
+                )
             }
         }
         Command::Replay | Command::Check | Command::Gen { .. } | Command::Trial { .. } => {
@@ -201,18 +204,20 @@ pub fn desk_main<R: Threads + Wait + Sync, F: Folder, O: Sink, G: Gate, D: Disk>
     // batches that it read stand in their order, each with exactly its descent after it, and the last plan of
     // that history; and it has reported how the last search ended.
     ensures recovered { (moves : ℕ) → (dirs : NamedDirectories) →
-        command (map string_bytes words.now) ≡ Some (Recover 0 moves false, Some dirs) →
-        (x : Inputs) → Tells (files_read (Recover 0 moves false)) (F.outside folder.old) x → IsDoneAt result →
+        command (map string_bytes words.now) ≡ Some (Recover 0 moves false false, Some dirs) →
+        (x : Inputs) → Tells (files_read (Recover 0 moves false false)) (F.outside folder.old) x → IsDoneAt result →
         Between F.outside O.report folder.old out.old folder.new out.new (λ before now. IsRecovered before now moves x result) }
 
     // The headline of a recovery by a team: each that was done has written the journal of one legal history, whatever
     // worker came first. In it the batches that it read stand in their order, each once, and each other entry is the
     // first better move of its worker's shard, after a beginning that has all that worker's earlier entries and by
-    // which the budget is not spent; and it has written the last plan of that history, and why its search ended.
-    ensures searched { (workers : ℕ) → (moves : ℕ) → (live : Bool) → (dirs : NamedDirectories) →
-        command (map string_bytes words.now) ≡ Some (Recover workers moves live, Some dirs) → 1 ≤ workers →
-        (x : Inputs) → Tells (files_read (Recover workers moves live)) (F.outside folder.old) x → IsDoneAt result →
-        Between F.outside O.report folder.old out.old folder.new out.new (λ before now. IsRecoveredByTeam before now workers moves live x result) }
+    // which the budget is not spent; and it has written the last plan of that history, and why its search ended. Where a viewer
+    // watched, it has reported what that saw, in lines before that of the number of changes: views of beginnings of the
+    // history, each of more entries than the one before it, at most 64, the last one that of the whole.
+    ensures searched { (workers : ℕ) → (moves : ℕ) → (live : Bool) → (watch : Bool) → (dirs : NamedDirectories) →
+        command (map string_bytes words.now) ≡ Some (Recover workers moves live watch, Some dirs) → 1 ≤ workers →
+        (x : Inputs) → Tells (files_read (Recover workers moves live watch)) (F.outside folder.old) x → IsDoneAt result →
+        Between F.outside O.report folder.old out.old folder.new out.new (λ before now. IsRecoveredByTeam before now workers moves live watch x result) }
 
     // Each trial that was done has reported the same of the day that is made up of its seed and size.
     ensures tried { (seed : ℕ) → (size : ℕ) → command (map string_bytes words.now) ≡ Some (Trial seed size, None) → IsDoneAt result →
@@ -323,18 +328,20 @@ pub fn desk_main_heard<R: Threads + Wait + Sync, F: Folder, O: Sink, G: Gate, D:
     // batches that it read stand in their order, each with exactly its descent after it, and the last plan of
     // that history; and it has reported how the last search ended.
     ensures recovered { (moves : ℕ) → (dirs : NamedDirectories) →
-        command (map string_bytes words.now) ≡ Some (Recover 0 moves false, Some dirs) →
-        (x : Inputs) → Tells (files_read (Recover 0 moves false)) (F.outside folder.old) x → IsDoneAt result →
+        command (map string_bytes words.now) ≡ Some (Recover 0 moves false false, Some dirs) →
+        (x : Inputs) → Tells (files_read (Recover 0 moves false false)) (F.outside folder.old) x → IsDoneAt result →
         Between F.outside O.report folder.old out.old folder.new out.new (λ before now. IsRecovered before now moves x result) }
 
     // The headline of a recovery by a team: each that was done has written the journal of one legal history, whatever
     // worker came first. In it the batches that it read stand in their order, each once, and each other entry is the
     // first better move of its worker's shard, after a beginning that has all that worker's earlier entries and by
-    // which the budget is not spent; and it has written the last plan of that history, and why its search ended.
-    ensures searched { (workers : ℕ) → (moves : ℕ) → (live : Bool) → (dirs : NamedDirectories) →
-        command (map string_bytes words.now) ≡ Some (Recover workers moves live, Some dirs) → 1 ≤ workers →
-        (x : Inputs) → Tells (files_read (Recover workers moves live)) (F.outside folder.old) x → IsDoneAt result →
-        Between F.outside O.report folder.old out.old folder.new out.new (λ before now. IsRecoveredByTeam before now workers moves live x result) }
+    // which the budget is not spent; and it has written the last plan of that history, and why its search ended. Where a viewer
+    // watched, it has reported what that saw, in lines before that of the number of changes: views of beginnings of the
+    // history, each of more entries than the one before it, at most 64, the last one that of the whole.
+    ensures searched { (workers : ℕ) → (moves : ℕ) → (live : Bool) → (watch : Bool) → (dirs : NamedDirectories) →
+        command (map string_bytes words.now) ≡ Some (Recover workers moves live watch, Some dirs) → 1 ≤ workers →
+        (x : Inputs) → Tells (files_read (Recover workers moves live watch)) (F.outside folder.old) x → IsDoneAt result →
+        Between F.outside O.report folder.old out.old folder.new out.new (λ before now. IsRecoveredByTeam before now workers moves live watch x result) }
 
     // Each trial that was done has reported the same of the day that is made up of its seed and size.
     ensures tried { (seed : ℕ) → (size : ℕ) → command (map string_bytes words.now) ≡ Some (Trial seed size, None) → IsDoneAt result →

@@ -41,6 +41,7 @@ fn do_team_task<R: Threads + Wait + Sync, F: Folder, O: Sink, G: Gate>(
             recovery,
             workers,
             live,
+            watch,
         } => {
             let InputRecovery {
                 inst,
@@ -51,6 +52,7 @@ fn do_team_task<R: Threads + Wait + Sync, F: Folder, O: Sink, G: Gate>(
                 workers,
                 moves,
                 live,
+                watch,
             };
             recover_by_team(
                 rt,
@@ -112,7 +114,8 @@ fn reported_by_team<R: Threads + Wait + Sync, F: Folder, O: Sink, G: Gate>(
 /// Recovers a day with 1 to 64 workers that search side by side, in the directories that the folder has, and answers
 /// the status. A worker that sees so many moves accepted since the last batch, 1 to 100,000, proposes no more; what
 /// another has found by then may still be accepted. Where it is live, the batches but the first are taken while the
-/// workers search. The gate is entered by each worker in each of its rounds, once it has looked and before it
+/// workers search. Where one watches, a viewer looks at the desk's board all the while, and the report has a line for each of the
+/// first 63 different views that it saw and for that of the whole journal. The gate is entered by each worker in each of its rounds, once it has looked and before it
 /// searches, and by the desk as worker 0 before each batch that it takes live.
 ///
 /// 0: done, with a plan at the end. 1: done, with no plan at the end. 3: the input is refused. 4: the folder failed
@@ -124,6 +127,7 @@ pub fn run_workers<R: Threads + Wait + Sync, F: Folder, O: Sink, G: Gate>(
     workers: u32,
     moves: u32,
     live: bool,
+    watch: bool,
     folder: &mut F,
     out: &mut O,
     gate: &G,
@@ -131,14 +135,16 @@ pub fn run_workers<R: Threads + Wait + Sync, F: Folder, O: Sink, G: Gate>(
     requires workers { (1 ≤ workers) × (workers ≤ 64) }
     requires moves { (1 ≤ moves) × (moves ≤ 100000) }
     // Each that was done has written the journal of one legal history that a team of so many workers may make of the
-    // batches that it read, with all that is promised of each history, the last plan of it, and why its search ended.
-    ensures searched { (x : Inputs) → Tells (files_read (Recover workers moves live)) (F.outside folder.old) x → IsDoneAt result →
+    // batches that it read, with all that is promised of each history, the last plan of it, and why its search ended. Where a
+    // viewer watches it has reported what that saw: views of beginnings of the history, each of more entries than the one before
+    // it, at most 64, the last one that of the whole.
+    ensures searched { (x : Inputs) → Tells (files_read (Recover workers moves live watch)) (F.outside folder.old) x → IsDoneAt result →
         Between F.outside O.report folder.old out.old folder.new out.new
-        (λ before now. IsRecoveredByTeam before now workers moves live x result) }
+        (λ before now. IsRecoveredByTeam before now workers moves live watch x result) }
     // All that is promised of each run: how it ended, what its status means, what stands outside after it, and
     // what is untouched.
     ensures promise { Between F.outside O.report folder.old out.old folder.new out.new
-        (λ before now. RunsAsPromised (asked_here (Recover workers moves live)) before now result) }
+        (λ before now. RunsAsPromised (asked_here (Recover workers moves live watch)) before now result) }
     // 2 is the status of words that are no command.
     ensures no_usage { result ≢ 2 }
 {
@@ -146,6 +152,7 @@ pub fn run_workers<R: Threads + Wait + Sync, F: Folder, O: Sink, G: Gate>(
         workers,
         moves,
         live,
+        watch,
     };
     reported_by_team(rt, alloc, &command, folder, out, gate)
 }

@@ -5,10 +5,10 @@ use Rattle.desk_text.specs.Fields.{◌>>=◌, number_from}
 use Rattle.desk_words.specs.declared.asked.Command.{Command}
 use Rattle.desk_words.specs.declared.asked.Command.TheVariants.{Replay, Store, Check}
 use Rattle.desk_words.specs.declared.choice.NumberOption.{NumberOption}
-use Rattle.desk_words.specs.declared.choice.NumberOption.TheVariants.{Seed, Size, Workers, Moves, Live}
+use Rattle.desk_words.specs.declared.choice.NumberOption.TheVariants.{Seed, Size, Workers, Moves, Live, Watch}
 use Rattle.desk_words.specs.declared.read.Expected.{Expected}
 use Rattle.desk_words.specs.declared.read.Expected.TheVariants as expected
-use Rattle.desk_words.specs.Arguments.{Argument, Place, Setting, is_directory, choice_of, setting_of, is_live, before, named_or, set_before, only_places, arguments_after, arguments, places, values, choice_number}
+use Rattle.desk_words.specs.Arguments.{Argument, Place, Setting, is_directory, choice_of, setting_of, flag_of, before, named_or, set_before, only_places, arguments_after, arguments, places, values, choice_number}
 use Rattle.desk_words.specs.Commands.{Asking, default_of, least_of, most_of, value_in, value_of, is_nothing, is_unset, no_day_options, no_search_options, search, input_and_output, plain, searching, recovering, making, generating, sampling, trying, command_by, command}
 use Rattle.desk_words.specs.Read.{WordsRead, nothing, one_more, with_place, with_setting, with_argument, with_all, kept_after, by_choice, next_is, arguments_by, of_any, of_word, value, with_value, unset, no_day_set, no_search_set, number_kept, plain_kept, recovering_kept, generating_kept, trying_kept, asked_kept}
 
@@ -32,23 +32,23 @@ bind_twice (Some kept) next f = refl
 
 kept_any : (kept : WordsRead) (word : List ℕ) (words : List (List ℕ)) → kept_after kept (arguments_after None (word ∷ words)) ≡ (of_any kept word >>= go_on words)
 unfolding of_any arguments_after
-kept_any kept word words = by_tests (is_directory word) (bytes_eq word (codes "--")) (is_live word) (choice_of word) (setting_of word)
+kept_any kept word words = by_tests (is_directory word) (bytes_eq word (codes "--")) (flag_of word) (choice_of word) (setting_of word)
   where
-    by_tests : (place dashes live : Bool) (choice : Option NumberOption) (set : Option (NumberOption × List ℕ)) →
+    by_tests : (place dashes : Bool) (flag choice : Option NumberOption) (set : Option (NumberOption × List ℕ)) →
         kept_after kept (if place then before (Place word) (arguments_after None words) else (
-        if dashes then only_places words else (
-        if live then before (Setting Live (codes "1")) (arguments_after None words) else
-        named_or choice (λ c. arguments_after (Some c) words) (set_before set (arguments_after None words)))))
+        if dashes then only_places words else
+        named_or flag (λ f. before (Setting f (codes "1")) (arguments_after None words))
+        (named_or choice (λ c. arguments_after (Some c) words) (set_before set (arguments_after None words)))))
         ≡ ((if place then (with_place kept word >>= next_is expected.Any) else (
-        if dashes then next_is expected.Place kept else (
-        if live then (with_setting kept Live (codes "1") >>= next_is expected.Any) else
-        by_choice choice (λ c. next_is (expected.Value c) kept) (set >>= λ s. with_setting kept s.0 s.1 >>= next_is expected.Any)))) >>= go_on words)
-    by_tests true dashes live choice set = kept_before kept (Place word) (arguments_after None words) ∙ sym (bind_twice (with_place kept word) expected.Any (go_on words))
-    by_tests false true live choice set = refl
-    by_tests false false true choice set = kept_before kept (Setting Live (codes "1")) (arguments_after None words) ∙ sym (bind_twice (with_setting kept Live (codes "1")) expected.Any (go_on words))
-    by_tests false false false (Some c) set = refl
-    by_tests false false false None None = refl
-    by_tests false false false None (Some s) = kept_before kept (Setting s.0 s.1) (arguments_after None words) ∙ sym (bind_twice (with_setting kept s.0 s.1) expected.Any (go_on words))
+        if dashes then next_is expected.Place kept else
+        by_choice flag (λ f. with_setting kept f (codes "1") >>= next_is expected.Any)
+        (by_choice choice (λ c. next_is (expected.Value c) kept) (set >>= λ s. with_setting kept s.0 s.1 >>= next_is expected.Any)))) >>= go_on words)
+    by_tests true dashes flag choice set = kept_before kept (Place word) (arguments_after None words) ∙ sym (bind_twice (with_place kept word) expected.Any (go_on words))
+    by_tests false true flag choice set = refl
+    by_tests false false (Some f) choice set = kept_before kept (Setting f (codes "1")) (arguments_after None words) ∙ sym (bind_twice (with_setting kept f (codes "1")) expected.Any (go_on words))
+    by_tests false false None (Some c) set = refl
+    by_tests false false None None None = refl
+    by_tests false false None None (Some s) = kept_before kept (Setting s.0 s.1) (arguments_after None words) ∙ sym (bind_twice (with_setting kept s.0 s.1) expected.Any (go_on words))
 
 -- what words say is what the first of them says, and then the others
 pub kept_word : (mode : Expected) (kept : WordsRead) (word : List ℕ) (words : List (List ℕ)) → kept_after kept (arguments_by mode (word ∷ words)) ≡ (of_word mode kept word >>= go_on words)
@@ -119,7 +119,7 @@ day_says : (done : List Argument) (kept : WordsRead) → Says done kept → no_d
 day_says done kept h = rw (unset_read Seed (values Seed done) kept.values.seed (h.set Seed), unset_read Size (values Size done) kept.values.size (h.set Size)) refl
 
 search_says : (done : List Argument) (kept : WordsRead) → Says done kept → no_search_options done ≡ no_search_set kept.values
-search_says done kept h = rw (unset_read Workers (values Workers done) kept.values.workers (h.set Workers), unset_read Moves (values Moves done) kept.values.moves (h.set Moves), unset_read Live (values Live done) kept.values.live (h.set Live)) refl
+search_says done kept h = rw (unset_read Workers (values Workers done) kept.values.workers (h.set Workers), unset_read Moves (values Moves done) kept.values.moves (h.set Moves), unset_read Live (values Live done) kept.values.live (h.set Live), unset_read Watch (values Watch done) kept.values.watch (h.set Watch)) refl
 
 number_says : (choice : NumberOption) (done : List Argument) (kept : WordsRead) → Says done kept → value_of choice done ≡ Some (number_kept choice kept)
 number_says choice done kept h = value_kept choice (values choice done) (value kept.values choice) (h.set choice)
@@ -130,7 +130,7 @@ plain_says command done kept h = rw (day_says done kept h, search_says done kept
 
 recovering_says : (done : List Argument) (kept : WordsRead) → Says done kept → recovering done ≡ recovering_kept kept
 unfolding searching recovering_kept
-recovering_says done kept h = rw (day_says done kept h, number_says Workers done kept h, number_says Moves done kept h, number_says Live done kept h, h.places_are) refl
+recovering_says done kept h = rw (day_says done kept h, number_says Workers done kept h, number_says Moves done kept h, number_says Live done kept h, number_says Watch done kept h, h.places_are) refl
 
 generating_says : (done : List Argument) (kept : WordsRead) → Says done kept → generating done ≡ generating_kept kept
 unfolding making generating_kept
@@ -190,13 +190,15 @@ day_wrong Size list e of = and_false (is_unset Seed list) (is_unset Size list) (
 day_wrong Workers list e of = absurd of
 day_wrong Moves list e of = absurd of
 day_wrong Live list e of = absurd of
+day_wrong Watch list e of = absurd of
 
 search_wrong : (choice : NumberOption) (list : List Argument) → value_in choice (values choice list) ≡ None → (IsOfDay choice → ⊥) → no_search_options list ≡ false
 search_wrong Seed list e of = absurd (of tt)
 search_wrong Size list e of = absurd (of tt)
 search_wrong Workers list e of = rw (unset_wrong Workers (values Workers list) e) refl
-search_wrong Moves list e of = and_first (is_unset Workers list && is_unset Moves list) (is_unset Live list) (and_false (is_unset Workers list) (is_unset Moves list) (unset_wrong Moves (values Moves list) e))
-search_wrong Live list e of = and_false (is_unset Workers list && is_unset Moves list) (is_unset Live list) (unset_wrong Live (values Live list) e)
+search_wrong Moves list e of = and_first (is_unset Workers list && is_unset Moves list && is_unset Live list) (is_unset Watch list) (and_first (is_unset Workers list && is_unset Moves list) (is_unset Live list) (and_false (is_unset Workers list) (is_unset Moves list) (unset_wrong Moves (values Moves list) e)))
+search_wrong Live list e of = and_first (is_unset Workers list && is_unset Moves list && is_unset Live list) (is_unset Watch list) (and_false (is_unset Workers list && is_unset Moves list) (is_unset Live list) (unset_wrong Live (values Live list) e))
+search_wrong Watch list e of = and_false (is_unset Workers list && is_unset Moves list && is_unset Live list) (is_unset Watch list) (unset_wrong Watch (values Watch list) e)
 
 unless : {X : Type 0} (test : Bool) (a : Option X) → test ≡ false → (if test then a else None) ≡ None
 unless test a e = rw e refl
@@ -212,15 +214,17 @@ plain_fails command list (wrong Size e) = unless (no_day_options list && no_sear
 plain_fails command list (wrong Workers e) = unless (no_day_options list && no_search_options list) _ (and_false (no_day_options list) (no_search_options list) (search_wrong Workers list e (λ n. n)))
 plain_fails command list (wrong Moves e) = unless (no_day_options list && no_search_options list) _ (and_false (no_day_options list) (no_search_options list) (search_wrong Moves list e (λ n. n)))
 plain_fails command list (wrong Live e) = unless (no_day_options list && no_search_options list) _ (and_false (no_day_options list) (no_search_options list) (search_wrong Live list e (λ n. n)))
+plain_fails command list (wrong Watch e) = unless (no_day_options list && no_search_options list) _ (and_false (no_day_options list) (no_search_options list) (search_wrong Watch list e (λ n. n)))
 
 recovering_fails : (list : List Argument) → Fails list → recovering list ≡ None
 unfolding searching
-recovering_fails list (many a b c others e) = if_none (no_day_options list) _ None (bind_none (value_of Workers list) _ (λ x. bind_none (value_of Moves list) _ (λ y. bind_none (value_of Live list) _ (λ z. bind_none (search x y z) _ (λ command. rw e refl))))) refl
+recovering_fails list (many a b c others e) = if_none (no_day_options list) _ None (bind_none (value_of Workers list) _ (λ x. bind_none (value_of Moves list) _ (λ y. bind_none (value_of Live list) _ (λ z. bind_none (value_of Watch list) _ (λ w. bind_none (search x y z w) _ (λ command. rw e refl)))))) refl
 recovering_fails list (wrong Seed e) = unless (no_day_options list) _ (day_wrong Seed list e tt)
 recovering_fails list (wrong Size e) = unless (no_day_options list) _ (day_wrong Size list e tt)
 recovering_fails list (wrong Workers e) = if_none (no_day_options list) _ None (rw e refl) refl
 recovering_fails list (wrong Moves e) = if_none (no_day_options list) _ None (bind_none (value_of Workers list) _ (λ x. rw e refl)) refl
 recovering_fails list (wrong Live e) = if_none (no_day_options list) _ None (bind_none (value_of Workers list) _ (λ x. bind_none (value_of Moves list) _ (λ y. rw e refl))) refl
+recovering_fails list (wrong Watch e) = if_none (no_day_options list) _ None (bind_none (value_of Workers list) _ (λ x. bind_none (value_of Moves list) _ (λ y. bind_none (value_of Live list) _ (λ z. rw e refl)))) refl
 
 generating_fails : (list : List Argument) → Fails list → generating list ≡ None
 unfolding making
@@ -230,6 +234,7 @@ generating_fails list (wrong Size e) = if_none (no_search_options list) _ None (
 generating_fails list (wrong Workers e) = unless (no_search_options list) _ (search_wrong Workers list e (λ n. n))
 generating_fails list (wrong Moves e) = unless (no_search_options list) _ (search_wrong Moves list e (λ n. n))
 generating_fails list (wrong Live e) = unless (no_search_options list) _ (search_wrong Live list e (λ n. n))
+generating_fails list (wrong Watch e) = unless (no_search_options list) _ (search_wrong Watch list e (λ n. n))
 
 trying_fails : (list : List Argument) → Fails list → trying list ≡ None
 unfolding sampling
@@ -239,6 +244,7 @@ trying_fails list (wrong Size e) = if_none (no_search_options list) _ None (bind
 trying_fails list (wrong Workers e) = unless (no_search_options list) _ (search_wrong Workers list e (λ n. n))
 trying_fails list (wrong Moves e) = unless (no_search_options list) _ (search_wrong Moves list e (λ n. n))
 trying_fails list (wrong Live e) = unless (no_search_options list) _ (search_wrong Live list e (λ n. n))
+trying_fails list (wrong Watch e) = unless (no_search_options list) _ (search_wrong Watch list e (λ n. n))
 
 fails_all : (word : List ℕ) (list : List Argument) → Fails list → command_by word list ≡ None
 fails_all word list h =
@@ -310,6 +316,7 @@ own_values Seed done text list = values-append Seed done (Setting Seed text ∷ 
 own_values Size done text list = values-append Size done (Setting Size text ∷ list)
 own_values Workers done text list = values-append Workers done (Setting Workers text ∷ list)
 own_values Live done text list = values-append Live done (Setting Live text ∷ list)
+own_values Watch done text list = values-append Watch done (Setting Watch text ∷ list)
 own_values Moves done text list = values-append Moves done (Setting Moves text ∷ list)
 
 other_values : (choice other : NumberOption) (done : List Argument) (text : List ℕ) → values choice (Setting other text ∷ []) ≡ [] → values choice (done ++ Setting other text ∷ []) ≡ values choice done
@@ -343,6 +350,7 @@ set_more Size Size done kept text n h is = is
 set_more Workers Workers done kept text n h is = is
 set_more Moves Moves done kept text n h is = is
 set_more Live Live done kept text n h is = is
+set_more Watch Watch done kept text n h is = is
 set_more Seed Size done kept text n h is = ap (value_read Seed) (other_values Seed Size done text refl) ∙ h.set Seed
 set_more Seed Workers done kept text n h is = ap (value_read Seed) (other_values Seed Workers done text refl) ∙ h.set Seed
 set_more Seed Moves done kept text n h is = ap (value_read Seed) (other_values Seed Moves done text refl) ∙ h.set Seed
@@ -363,6 +371,16 @@ set_more Live Seed done kept text n h is = ap (value_read Live) (other_values Li
 set_more Live Size done kept text n h is = ap (value_read Live) (other_values Live Size done text refl) ∙ h.set Live
 set_more Live Workers done kept text n h is = ap (value_read Live) (other_values Live Workers done text refl) ∙ h.set Live
 set_more Live Moves done kept text n h is = ap (value_read Live) (other_values Live Moves done text refl) ∙ h.set Live
+set_more Seed Watch done kept text n h is = ap (value_read Seed) (other_values Seed Watch done text refl) ∙ h.set Seed
+set_more Size Watch done kept text n h is = ap (value_read Size) (other_values Size Watch done text refl) ∙ h.set Size
+set_more Workers Watch done kept text n h is = ap (value_read Workers) (other_values Workers Watch done text refl) ∙ h.set Workers
+set_more Moves Watch done kept text n h is = ap (value_read Moves) (other_values Moves Watch done text refl) ∙ h.set Moves
+set_more Live Watch done kept text n h is = ap (value_read Live) (other_values Live Watch done text refl) ∙ h.set Live
+set_more Watch Seed done kept text n h is = ap (value_read Watch) (other_values Watch Seed done text refl) ∙ h.set Watch
+set_more Watch Size done kept text n h is = ap (value_read Watch) (other_values Watch Size done text refl) ∙ h.set Watch
+set_more Watch Workers done kept text n h is = ap (value_read Watch) (other_values Watch Workers done text refl) ∙ h.set Watch
+set_more Watch Moves done kept text n h is = ap (value_read Watch) (other_values Watch Moves done text refl) ∙ h.set Watch
+set_more Watch Live done kept text n h is = ap (value_read Watch) (other_values Watch Live done text refl) ∙ h.set Watch
 
 set_step : (choice : NumberOption) (done : List Argument) (kept : WordsRead) (text : List ℕ) (was number : Option ℕ) → value kept.values choice ≡ was → number_from (least_of choice) (most_of choice) text ≡ number → Says done kept → Step done kept (Setting choice text)
 unfolding with_setting
@@ -392,6 +410,7 @@ none_set Size = refl
 none_set Workers = refl
 none_set Moves = refl
 none_set Live = refl
+none_set Watch = refl
 
 says_nothing : Says [] nothing
 unfolding places values

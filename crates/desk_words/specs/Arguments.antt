@@ -2,7 +2,7 @@
 use Rattle.std.specs.Prelude.{ℕ, ◌+◌, Bool, false, not, ◌==◌, if◌then◌else◌, List, [], ◌∷◌, take, drop, position, Option, Some, None, option_map, codes, bytes_eq}
 use Rattle.desk_text.specs.Fields.{◌>>=◌}
 use Rattle.desk_words.specs.declared.choice.NumberOption.{NumberOption}
-use Rattle.desk_words.specs.declared.choice.NumberOption.TheVariants.{Seed, Size, Workers, Moves, Live}
+use Rattle.desk_words.specs.declared.choice.NumberOption.TheVariants.{Seed, Size, Workers, Moves, Live, Watch}
 
 -- a directory isn't empty and doesn't begin with -
 abbrev pub is_directory : List ℕ → Bool
@@ -22,9 +22,11 @@ choice_of word =
     if bytes_eq word (codes "--workers") then Some Workers else (
     if bytes_eq word (codes "--moves") then Some Moves else None)))
 
--- whether a word is an option that has no value
-abbrev pub is_live : List ℕ → Bool
-is_live word = bytes_eq word (codes "--live")
+-- the option of a word that takes no value
+abbrev pub flag_of : List ℕ → Option NumberOption
+flag_of word =
+    if bytes_eq word (codes "--live") then Some Live else (
+    if bytes_eq word (codes "--watch") then Some Watch else None)
 
 -- the option that a word names in front of its place `at`, with the text after that place
 abbrev pub setting_at : List ℕ → ℕ → Option (NumberOption × List ℕ)
@@ -62,8 +64,8 @@ arguments_after (Some choice) (word ∷ words) = before (Setting choice word) (a
 arguments_after None (word ∷ words) =
     if is_directory word then before (Place word) (arguments_after None words) else (
     if bytes_eq word (codes "--") then only_places words else (
-    if is_live word then before (Setting Live (codes "1")) (arguments_after None words) else
-    named_or (choice_of word) (λ choice. arguments_after (Some choice) words) (set_before (setting_of word) (arguments_after None words))))
+    named_or (flag_of word) (λ flag. before (Setting flag (codes "1")) (arguments_after None words))
+    (named_or (choice_of word) (λ choice. arguments_after (Some choice) words) (set_before (setting_of word) (arguments_after None words)))))
 
 abbrev pub arguments : List (List ℕ) → Option (List Argument)
 arguments words = arguments_after None words
@@ -81,6 +83,7 @@ choice_number Size = 1
 choice_number Workers = 2
 choice_number Moves = 3
 choice_number Live = 4
+choice_number Watch = 5
 
 -- the texts of the values of one option
 unfoldable pub values : NumberOption → List Argument → List (List ℕ)

@@ -5,7 +5,7 @@ use Rattle.desk_text.specs.Fields.{◌>>=◌, number_from}
 use Rattle.desk_words.specs.declared.asked.Command.{Command}
 use Rattle.desk_words.specs.declared.asked.Command.TheVariants.{Replay, Store, Recover, Check, Gen, Trial}
 use Rattle.desk_words.specs.declared.choice.NumberOption.{NumberOption}
-use Rattle.desk_words.specs.declared.choice.NumberOption.TheVariants.{Seed, Size, Workers, Moves, Live}
+use Rattle.desk_words.specs.declared.choice.NumberOption.TheVariants.{Seed, Size, Workers, Moves, Live, Watch}
 use Rattle.desk_words.specs.Arguments.{Argument, arguments, places, values}
 
 -- a command, and the directories that are to be named for it, where it has any
@@ -22,6 +22,7 @@ default_of Size = 1
 default_of Workers = 0
 default_of Moves = 1000
 default_of Live = 0
+default_of Watch = 0
 
 abbrev pub least_of : NumberOption → ℕ
 least_of Seed = 0
@@ -29,6 +30,7 @@ least_of Size = 1
 least_of Workers = 0
 least_of Moves = 1
 least_of Live = 0
+least_of Watch = 0
 
 abbrev pub most_of : NumberOption → ℕ
 most_of Seed = 999999999
@@ -36,6 +38,7 @@ most_of Size = 40
 most_of Workers = 64
 most_of Moves = 100000
 most_of Live = 1
+most_of Watch = 1
 
 -- an option stands at most once, and its value is 1 to 9 digits that spell a number in its range
 abbrev pub value_in : NumberOption → List (List ℕ) → Option ℕ
@@ -59,7 +62,7 @@ abbrev pub no_day_options : List Argument → Bool
 no_day_options arguments = is_unset Seed arguments && is_unset Size arguments
 
 abbrev pub no_search_options : List Argument → Bool
-no_search_options arguments = is_unset Workers arguments && is_unset Moves arguments && is_unset Live arguments
+no_search_options arguments = is_unset Workers arguments && is_unset Moves arguments && is_unset Live arguments && is_unset Watch arguments
 
 -- exactly two directories: the input and the output
 abbrev pub input_and_output : List (List ℕ) → Option Directories
@@ -83,9 +86,11 @@ plain command arguments =
     then (input_and_output (places arguments) >>= λ dirs. Some (command, Some dirs))
     else None
 
--- a search of so many workers, which takes live batches only where there is one
-abbrev pub search : ℕ → ℕ → ℕ → Option Command
-search workers moves live = if nat_lt workers live then None else Some (Recover workers moves (nat_lt 0 live))
+-- a search of so many workers, which takes live batches and has a viewer only where there is one
+abbrev pub search : ℕ → ℕ → ℕ → ℕ → Option Command
+search workers moves live watch =
+    if nat_lt workers live then None else (
+    if nat_lt workers watch then None else Some (Recover workers moves (nat_lt 0 live) (nat_lt 0 watch)))
 
 -- the command `recover`, which takes an input and an output directory and the options of a search
 unfoldable pub searching : List Argument → Option Asking
@@ -93,7 +98,8 @@ searching arguments = do
   workers ← value_of Workers arguments
   moves ← value_of Moves arguments
   live ← value_of Live arguments
-  command ← search workers moves live
+  watch ← value_of Watch arguments
+  command ← search workers moves live watch
   dirs ← input_and_output (places arguments)
   Some (command, Some dirs)
 

@@ -4,14 +4,14 @@ use Rattle.desk_text.specs.Fields.{◌>>=◌, number_from}
 use Rattle.desk_words.specs.declared.asked.Command.{Command}
 use Rattle.desk_words.specs.declared.asked.Command.TheVariants.{Replay, Store, Recover, Check, Gen, Trial}
 use Rattle.desk_words.specs.declared.choice.NumberOption.{NumberOption}
-use Rattle.desk_words.specs.declared.choice.NumberOption.TheVariants.{Seed, Size, Workers, Moves, Live}
+use Rattle.desk_words.specs.declared.choice.NumberOption.TheVariants.{Seed, Size, Workers, Moves, Live, Watch}
 use Rattle.desk_words.specs.declared.read.DirectoryWords.{DirectoryWords}
 use Rattle.desk_words.specs.declared.read.DirectoryWords.TheVariants.{Nothing, One, Two}
 use Rattle.desk_words.specs.declared.read.Read.{Read}
 use Rattle.desk_words.specs.declared.read.Values.{Values}
 use Rattle.desk_words.specs.declared.read.Expected.{Expected}
 use Rattle.desk_words.specs.declared.read.Expected.TheVariants as expected
-use Rattle.desk_words.specs.Arguments.{Argument, Place, Setting, is_directory, choice_of, setting_of, is_live, only_places, arguments_after}
+use Rattle.desk_words.specs.Arguments.{Argument, Place, Setting, is_directory, choice_of, setting_of, flag_of, only_places, arguments_after}
 use Rattle.desk_words.specs.Commands.{Asking, default_of, least_of, most_of, search, input_and_output, output_alone, no_directory}
 
 -- what is kept
@@ -28,7 +28,7 @@ abbrev pub kept_of : Read → WordsRead
 kept_of read = record { places = place_list read.places; values = read.values }
 
 abbrev pub nothing : WordsRead
-nothing = record { places = []; values = record { seed = None; size = None; workers = None; moves = None; live = None } }
+nothing = record { places = []; values = record { seed = None; size = None; workers = None; moves = None; live = None; watch = None } }
 
 -- the number of an option, where it is set
 abbrev pub value : Values → NumberOption → Option ℕ
@@ -37,6 +37,7 @@ value set Size = set.size
 value set Workers = set.workers
 value set Moves = set.moves
 value set Live = set.live
+value set Watch = set.watch
 
 -- the numbers with that of one option more
 abbrev pub with_value : Values → NumberOption → ℕ → Values
@@ -45,6 +46,7 @@ with_value set Size n = record set { size = Some n }
 with_value set Workers n = record set { workers = Some n }
 with_value set Moves n = record set { moves = Some n }
 with_value set Live n = record set { live = Some n }
+with_value set Watch n = record set { watch = Some n }
 
 -- one directory more, where there are not yet two
 abbrev pub one_more : List (List ℕ) → List ℕ → Option (List (List ℕ))
@@ -107,9 +109,9 @@ unfoldable pub of_any : WordsRead → List ℕ → Option (Expected × WordsRead
 of_any kept word =
     if is_directory word then (with_place kept word >>= next_is expected.Any) else (
     if bytes_eq word (codes "--") then next_is expected.Place kept else (
-    if is_live word then (with_setting kept Live (codes "1") >>= next_is expected.Any) else
-    by_choice (choice_of word) (λ choice. next_is (expected.Value choice) kept)
-    (setting_of word >>= λ set. with_setting kept set.0 set.1 >>= next_is expected.Any)))
+    by_choice (flag_of word) (λ flag. with_setting kept flag (codes "1") >>= next_is expected.Any)
+    (by_choice (choice_of word) (λ choice. next_is (expected.Value choice) kept)
+    (setting_of word >>= λ set. with_setting kept set.0 set.1 >>= next_is expected.Any))))
 
 unfoldable pub of_word : Expected → WordsRead → List ℕ → Option (Expected × WordsRead)
 of_word expected.Any kept word = of_any kept word
@@ -125,7 +127,7 @@ abbrev pub no_day_set : Values → Bool
 no_day_set set = unset set.seed && unset set.size
 
 abbrev pub no_search_set : Values → Bool
-no_search_set set = unset set.workers && unset set.moves && unset set.live
+no_search_set set = unset set.workers && unset set.moves && unset set.live && unset set.watch
 
 -- what a command's word makes of what was kept
 unfoldable pub plain_kept : Command → WordsRead → Option Asking
@@ -142,7 +144,7 @@ abbrev pub number_kept : NumberOption → WordsRead → ℕ
 number_kept choice kept = number_set choice kept.values
 
 abbrev pub searching_kept : Values → Option Command
-searching_kept set = search (number_set Workers set) (number_set Moves set) (number_set Live set)
+searching_kept set = search (number_set Workers set) (number_set Moves set) (number_set Live set) (number_set Watch set)
 
 unfoldable pub recovering_kept : WordsRead → Option Asking
 recovering_kept kept =

@@ -15,6 +15,8 @@ pub enum Command {
         moves: u32,
         /// whether batches are taken while workers search; then there is at least 1
         live: bool,
+        /// whether a viewer watches the desk's board meanwhile; then there is at least 1 worker
+        watch: bool,
     },
     /// to check the files of a plan
     Check,

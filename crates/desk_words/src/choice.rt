@@ -2,7 +2,7 @@
 
 ghost use Rattle.std.specs.Prelude.{◌≡◌, ◌==◌, ◌<◌, IfSome, length, position};
 ghost use Rattle.std.specs.Option.{option_map};
-ghost use Rattle.desk_words.specs.Arguments.{choice_of, setting_of};
+ghost use Rattle.desk_words.specs.Arguments.{choice_of, flag_of, setting_of};
 
 /// An option, by the number that it sets.
 #[derive(Clone, Copy, PartialEq, Eq)]
@@ -13,6 +13,8 @@ pub enum NumberOption {
     Moves,
     /// The number is 1 where it stands: its word has no value.
     Live,
+    /// The same.
+    Watch,
 }
 
 /// The option that a word names, whose value is the next word.
@@ -27,6 +29,19 @@ pub(crate) fn choice_of(word: &[u8]) -> Option<NumberOption>
         Some(NumberOption::Workers)
     } else if word == b"--moves".as_slice() {
         Some(NumberOption::Moves)
+    } else {
+        None
+    }
+}
+
+/// The option of a word that takes no value.
+pub(crate) fn flag_of(word: &[u8]) -> Option<NumberOption>
+    ensures { result ≡ flag_of word.now }
+{
+    if word == b"--live".as_slice() {
+        Some(NumberOption::Live)
+    } else if word == b"--watch".as_slice() {
+        Some(NumberOption::Watch)
     } else {
         None
     }

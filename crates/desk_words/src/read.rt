@@ -6,7 +6,7 @@ ghost use Rattle.std.specs.Option.{option_map};
 ghost use Rattle.desk_words.specs.Arguments.{is_directory};
 ghost use Rattle.desk_words.specs.Read.{kept_of, nothing, with_place, value, with_value, first_value, with_setting, kept_after, arguments_by, after, of_any, of_word};
 
-use crate::choice::{NumberOption, choice_of, setting_of};
+use crate::choice::{NumberOption, choice_of, flag_of, setting_of};
 use desk_text::number;
 
 /// The directories that were read.
@@ -32,6 +32,7 @@ pub struct Values {
     pub workers: Option<u32>,
     pub moves: Option<u32>,
     pub live: Option<u32>,
+    pub watch: Option<u32>,
 }
 
 // The number of an option, where it is set.
@@ -44,6 +45,7 @@ fn value(values: Values, choice: NumberOption) -> Option<u32>
         NumberOption::Workers => values.workers,
         NumberOption::Moves => values.moves,
         NumberOption::Live => values.live,
+        NumberOption::Watch => values.watch,
     }
 }
 
@@ -73,6 +75,10 @@ fn with_value(values: Values, choice: NumberOption, number: u32) -> Values
             live: number,
             ..values
         },
+        NumberOption::Watch => Values {
+            watch: number,
+            ..values
+        },
     }
 }
 
@@ -98,6 +104,7 @@ pub(crate) fn nothing<'a>() -> Read<'a>
             workers: None,
             moves: None,
             live: None,
+            watch: None,
         },
     }
 }
@@ -126,7 +133,7 @@ fn first_value(choice: NumberOption, value: Option<u32>, text: &[u8]) -> Option<
             NumberOption::Size => number(text, 1, 40).ok(),
             NumberOption::Workers => number(text, 0, 64).ok(),
             NumberOption::Moves => number(text, 1, 100_000).ok(),
-            NumberOption::Live => number(text, 0, 1).ok(),
+            NumberOption::Live | NumberOption::Watch => number(text, 0, 1).ok(),
         },
     }
 }
@@ -164,8 +171,8 @@ fn read_any<'a>(read: Read<'a>, word: &'a str) -> Option<(Expected, Read<'a>)>
     if word == "--" {
         return Some((Expected::Place, read));
     }
-    if word == "--live" {
-        let more = with_setting(read, NumberOption::Live, b"1")?;
+    if let Some(flag) = flag_of(word.as_bytes()) {
+        let more = with_setting(read, flag, b"1")?;
         return Some((Expected::Any, more));
     }
     if let Some(choice) = choice_of(word.as_bytes()) {

@@ -59,7 +59,10 @@ fn no_day_options(values: Values) -> bool
 fn no_search_options(values: Values) -> bool
     ensures { result ≡ no_search_set values }
 {
-    values.workers.is_none() && values.moves.is_none() && values.live.is_none()
+    values.workers.is_none()
+        && values.moves.is_none()
+        && values.live.is_none()
+        && values.watch.is_none()
 }
 
 // A command that takes an input and an output directory, and no options.
@@ -79,20 +82,25 @@ fn plain<'a>(command: Command, read: Read<'a>) -> Option<Asked<'a>>
     }
 }
 
-// The command `recover` with these numbers, which takes no live batches without a worker.
+// The command `recover` with these numbers, which takes no live batches and has no viewer without a worker.
 fn searching(values: Values) -> Option<Command>
     ensures { result ≡ searching_kept values }
 {
     let workers = values.workers.unwrap_or(0);
     let moves = values.moves.unwrap_or(USUAL_MOVES);
     let live = values.live.unwrap_or(0);
+    let watch = values.watch.unwrap_or(0);
     if live > workers {
+        return None;
+    }
+    if watch > workers {
         return None;
     }
     Some(Command::Recover {
         workers,
         moves,
         live: live > 0,
+        watch: watch > 0,
     })
 }
 

@@ -75,15 +75,16 @@ fn watch_on<J: Naming + Send + Sync, R: Threads + Wait + Abort + Sync>(
         panic!(rt; "no viewer")
     };
     let ended = AtomicU64::new(0);
-    let ((teller, told), (mut viewer, notes)) = join(
+    // Where no thread can be made the first closure is called last: the viewer goes on until the teller has ended.
+    let ((mut viewer, notes), (teller, told)) = join(
         rt,
+        || -> (Viewer<Most, Posted, J>, Vec<Note<Most, J>>)
+            requires { notes.items ≡ [] }
+        { watch(rt, viewer, notes, &ended) },
         || -> (Teller<Most, Posted, J, &R>, Result<(), NoMem>)
             requires room { length (history (told_by teller)) < 100 }
             requires shown { IsShown (λ (p : Posted). p.0.seen.log) teller }
         { tell_and_end(teller, &ended) },
-        || -> (Viewer<Most, Posted, J>, Vec<Note<Most, J>>)
-            requires { notes.items ≡ [] }
-        { watch(rt, viewer, notes, &ended) },
     );
     let note = teller.note();
     viewer.learn(teller.note());

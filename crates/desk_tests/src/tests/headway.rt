@@ -91,6 +91,7 @@ fn notes_of_a_run<R: Threads + Sync>(rt: &R, alloc: Global) -> Result<Notes, NoM
         workers: 0,
         moves: 1000,
         live: false,
+        watch: false,
     };
     let _ = run_plain(rt, alloc, &command, &mut folder, &mut out, &mut notes);
     Ok(notes)

@@ -27,6 +27,7 @@ loop-batch-preserved g c = record {
   of = c.take_batch.ensures.of;
   tags = c.take_batch.ensures.tags ∙ c.loop-batch.invariant.tags;
   began = prefix_trans (seen c.args.pass) (seen c.loop-batch.pass) (seen c.take_batch.new.pass) c.loop-batch.invariant.began c.take_batch.ensures.began;
+  can = c.take_batch.ensures.can;
   taken = takes_more (day_of c.args.turn.now) c.args.batches.now c.loop-batch.batch-index c.batch-item.result (known c.args.pass) (known c.loop-batch.pass) (known c.take_batch.new.pass)
       c.loop-batch-test.true c.batch-item.is c.loop-batch.invariant.taken (by_taken (day_of c.args.turn.now) c.batch-item.result (known c.loop-batch.pass) (known c.take_batch.new.pass) c.in-Ok.came c.in-Taken.is c.in-Ok.ensures.taken.reported);
 }

@@ -42,8 +42,8 @@ returns-in-None g c =
     let kept : RunsAsPromised ask before now code = runs-as-promised meanings ask before now code c.reported_run.ensures in
     record {
       headline = λ dirs is x tells done. replayed kept.work before now x code (done-by these (command_is.Replay, Some dirs) before now x code kept is tells done);
-      recovered = λ moves dirs is x tells done. recovered-day kept.work before now moves x code (done-by these (command_is.Recover 0 moves false, Some dirs) before now x code kept is tells done);
-      searched = λ workers moves live dirs is some x tells done. recovered-by-team kept.work before now workers moves live x code some (done-by these (command_is.Recover workers moves live, Some dirs) before now x code kept is tells done);
+      recovered = λ moves dirs is x tells done. recovered-day kept.work before now moves x code (done-by these (command_is.Recover 0 moves false false, Some dirs) before now x code kept is tells done);
+      searched = λ workers moves live watch dirs is some x tells done. recovered-by-team kept.work before now workers moves live watch x code some (done-by these (command_is.Recover workers moves live watch, Some dirs) before now x code kept is tells done);
       tried = λ seed size is done. tried-day kept.work before now seed size no_inputs code (done-by these (command_is.Trial seed size, None) before now no_inputs code kept is (λ f among. absurd cc) done);
       checked = λ dirs is x tells done. checked kept.work before now x code (done-by these (command_is.Check, Some dirs) before now x code kept is tells done);
       generated = λ seed size dirs is done. generated kept.work before now seed size no_inputs code (done-by these (command_is.Gen seed size, Some dirs) before now no_inputs code kept is (λ f among. absurd cc) done);
@@ -81,7 +81,7 @@ returns-in-Some g c =
     record {
       headline = λ dirs is x tells done. absurd (store-alone these own asked (ap (λ (o : Option Asking). asks_disk (option_map asks o)) is));
       recovered = λ moves dirs is x tells done. absurd (store-alone these own asked (ap (λ (o : Option Asking). asks_disk (option_map asks o)) is));
-      searched = λ workers moves live dirs is some x tells done. absurd (store-alone these own asked (ap (λ (o : Option Asking). asks_disk (option_map asks o)) is));
+      searched = λ workers moves live watch dirs is some x tells done. absurd (store-alone these own asked (ap (λ (o : Option Asking). asks_disk (option_map asks o)) is));
       tried = λ seed size is done. absurd (store-alone these own asked (ap (λ (o : Option Asking). asks_disk (option_map asks o)) is));
       checked = λ dirs is x tells done. absurd (store-alone these own asked (ap (λ (o : Option Asking). asks_disk (option_map asks o)) is));
       generated = λ seed size dirs is done. absurd (store-alone these own asked (ap (λ (o : Option Asking). asks_disk (option_map asks o)) is));
