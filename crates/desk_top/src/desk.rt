@@ -182,8 +182,8 @@ fn stored_run<F: Folder, O: Sink, D: Disk>(
 ///
 /// `store` keeps each answered event on the disk before the next one is answered; no other command touches the disk.
 /// A recovery with workers starts a thread for each beside the caller, which does the work of those that can't be
-/// started; it may wait, and enters the gate as `run_workers` says. A check starts threads too, and waits for these alone. Every
-/// other command waits for nobody.
+/// started; it may wait, and enters the gate as `run_workers` says. A check of a large day starts threads too,
+/// and waits for these alone. Every other command waits for nobody.
 pub fn desk_main<R: Threads + Wait + Sync, F: Folder, O: Sink, G: Gate, D: Disk>(
     rt: &R,
     alloc: Global,

@@ -135,8 +135,8 @@ fn obey_and_tell<R: Threads + Sync, F: Folder, O: Sink, L: Listener>(
 }
 
 /// Does what a command says that asks for no workers and for no disk, in the directories that the folder has, and answers the status.
-/// A check starts threads, and waits for these alone; all else waits for nobody. A recovery and a trial tell the listener how far they have come; what is answered, reported and
-/// written depends on no listener.
+/// A check of a large day starts threads, and waits for these alone; all else waits for nobody. A recovery and a trial tell the
+/// listener how far they have come; what is answered, reported and written depends on no listener.
 ///
 /// 0: done; of a replay, a recovery or a trial with a plan at the end, of a check with a plan that breaks no
 /// rule. 1: a replay, a recovery or a trial was done, with no plan at the end. 3: the input is refused. 4: the

@@ -1,6 +1,6 @@
 //! The first item that a plan breaks.
 
-ghost use Rattle.std.specs.Prelude.{◌≡◌, ◌||◌, nat_le, find, IfOk};
+ghost use Rattle.std.specs.Prelude.{◌≡◌, ◌||◌, true, None, nat_le, find, IfOk};
 ghost use Rattle.std.specs.Option.{option_or};
 ghost use Rattle.desk_data.specs.Situation.{legs_of, reservations_of};
 ghost use Rattle.desk_data.specs.Valid.{IsPlanFor};
@@ -8,12 +8,12 @@ ghost use Rattle.desk_data.specs.declared.broken.Broken.TheVariants as broken;
 ghost use Rattle.desk_rules.specs.Least.{breaks, each_cabin, least, least_pax, least_slots};
 ghost use Rattle.par_check.specs.Paths.{first_of_paths};
 
-use crate::paths::first_of_paths;
-use crate::rotations::first_of_rotations;
+use crate::paths::are_paths_kept;
 use desk_data::{Broken, Instance, NoMem, Plan};
 use full_check::full_check;
 use rayon::{current_num_threads, join};
-use rule_pax::first_c12;
+use rule_pax::{first_c12, least_pax};
+use rule_rot::least_rot;
 use rule_slots::least_slots;
 use std::alloc::Global;
 use std::thread::Threads;
@@ -31,8 +31,8 @@ pub fn is_large(inst: &Instance) -> bool
 /// The first item of C1 to C15 that the plan breaks, by rule and then by what the items name, or `None` where it breaks
 /// none: what `full_check` answers, whatever the number of threads. On one processor, and where the day is not large, it
 /// starts none. It waits for its own threads alone, and where a thread can't be started it does that one's work. The time of
-/// all threads together is that of `full_check`, but that each rule asks all its legs, aircraft or reservations. The only error
-/// is out of memory.
+/// all threads together is that of `full_check`, and where a path breaks C13 to C15 that of a second walk over the passengers.
+/// The only error is out of memory.
 pub fn par_check<R: Threads + Sync>(
     rt: &R,
     alloc: Global,
@@ -45,7 +45,7 @@ pub fn par_check<R: Threads + Sync>(
     if !is_large(inst) || current_num_threads(rt) == 1 {
         return full_check(alloc, inst, plan);
     }
-    match first_of_rotations(rt, alloc, inst, plan)? {
+    match least_rot(alloc, inst, plan)? {
         Some(item) => Ok(Some(item)),
         None => first_of_others(rt, alloc, inst, plan),
     }
@@ -78,7 +78,8 @@ fn first_of_others<R: Threads + Sync>(
     }
 }
 
-// The first item of C12 to C15 that the plan breaks: the seats are counted beside the paths.
+// The first item of C12 to C15 that the plan breaks: the seats are counted while the paths are asked. Where a path breaks a rule,
+// the passengers are looked through in one thread for which comes first.
 fn first_of_passengers<R: Threads + Sync>(
     rt: &R,
     alloc: Global,
@@ -88,19 +89,19 @@ fn first_of_passengers<R: Threads + Sync>(
     requires { IsPlanFor inst.now plan.now }
     ensures { IfOk result (λ item. item ≡ least_pax inst.now plan.now) }
 {
-    let (seats, paths) = join(
+    let (seats, are_kept) = join(
         rt,
         || -> Result<Option<Broken>, NoMem>
             requires { IsPlanFor inst.now plan.now }
             ensures { IfOk result (λ item. item ≡ find (breaks inst.entry.now plan.entry.now) (each_cabin inst.entry.now broken.C12)) }
         { first_c12(alloc, inst, plan) },
-        || -> Option<Broken>
+        || -> bool
             requires { IsPlanFor inst.now plan.now }
-            ensures { result ≡ first_of_paths inst.entry.now plan.entry.now }
-        { first_of_paths(rt, inst, plan) },
+            ensures { result ≡ true → first_of_paths inst.entry.now plan.entry.now ≡ None }
+        { are_paths_kept(rt, inst, plan) },
     );
-    match seats? {
-        Some(item) => Ok(Some(item)),
-        None => Ok(paths),
+    if !are_kept {
+        return least_pax(alloc, inst, plan);
     }
+    seats
 }

@@ -8,14 +8,13 @@
 //! rules. The time is near linear in the legs: they are sorted once, and each rule walks over them once.
 //!
 //! Proved: the answer is `least_rot` of desk_rules. It depends on `desk_rules` and on `plan_reads`, which
-//! knows the leg before each leg, too. What it is made of is there for whoever looks for the first item in another
-//! way, as `par_check`: whether leg or aircraft number `n` keeps a rule (`rule`), given what `upkeep` counts.
+//! knows the leg before each leg, too.
 #![tactic(auto)]
 
 mod c8_maintenance;
 mod c9_minutes;
 mod least;
-pub mod rule;
-pub mod upkeep;
+mod rule;
+mod upkeep;
 
 pub use least::least_rot;

@@ -21,7 +21,7 @@ use plan_reads::{
 
 /// A rule of rotations: C1 to C7 ask something of each leg, C8 and C9 of each aircraft.
 #[derive(Clone, Copy)]
-pub enum Rule {
+pub(crate) enum Rule {
     C1Due,
     C2InTime,
     C3Family,
@@ -55,9 +55,8 @@ pub(crate) fn first_broken(
     None
 }
 
-/// Whether leg number `n`, or aircraft number `n`, keeps a rule, given the leg before each leg on its aircraft and
-/// what all legs say of each aircraft's maintenance.
-pub fn keeps(
+/// Whether leg number `n`, or aircraft number `n`, keeps a rule.
+fn keeps(
     rule: Rule,
     inst: &Instance,
     plan: &Plan,
@@ -112,7 +111,7 @@ fn leg_before(inst: &Instance, plan: &Plan, before: &[Option<Leg>], leg: Leg) ->
 }
 
 /// Of how many legs, or of how many aircraft, a rule asks something.
-pub fn count(rule: Rule, inst: &Instance) -> u32
+fn count(rule: Rule, inst: &Instance) -> u32
     ensures { result ≡ count inst.now rule }
 {
     match rule {
@@ -128,7 +127,7 @@ pub fn count(rule: Rule, inst: &Instance) -> u32
 }
 
 /// The item of a rule that names leg number `n`, or aircraft number `n`.
-pub fn item(rule: Rule, n: u32) -> Broken
+fn item(rule: Rule, n: u32) -> Broken
     ensures { result ≡ item rule n }
 {
     match rule {

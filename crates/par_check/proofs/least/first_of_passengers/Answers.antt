@@ -1,24 +1,11 @@
-use Rattle.std.proofs.Common.{◌≡◌, ◌∙◌, sym, ap}
-use Rattle.std.specs.Prelude.{Option, find}
-use Rattle.std.specs.Option.{option_or}
+use Rattle.std.proofs.Common.{◌≡◌, sym, subst}
+use Rattle.std.specs.Prelude.{Option, IfOk}
 use Rattle.desk_data.specs.declared.broken.Broken.{Broken}
-use Rattle.desk_data.specs.declared.broken.Broken.TheVariants as broken
-use Rattle.desk_rules.specs.Least.{breaks, each_cabin}
-use Rattle.par_check.specs.Paths.{first_of_paths}
-use Rattle.par_check.proofs.PathLaws.{seats-before-paths}
+use Rattle.par_check.proofs.PathLaws.{seats-alone}
 use Rattle.par_check.proofs.least.first_of_passengers.Goals as goal
 
-pub returns-in-Some : goal.returns-in-Some
-returns-in-Some g c =
+pub returns : goal.returns
+returns g c =
     let I = c.args.inst.now in
     let P = c.args.plan.now in
-    let seats : c.in_ok-item.field-0 ≡ find (breaks I P) (each_cabin I broken.C12) = rw c.in_ok-item.was at c.join-seats.ensures.first in
-    sym (seats-before-paths I P ∙ ap (λ (first : Option Broken). option_or first (first_of_paths I P)) (sym seats ∙ c.in-Some.is))
-
-pub returns-in-None : goal.returns-in-None
-returns-in-None g c =
-    let I = c.args.inst.now in
-    let P = c.args.plan.now in
-    let seats : c.in_ok-item.field-0 ≡ find (breaks I P) (each_cabin I broken.C12) = rw c.in_ok-item.was at c.join-seats.ensures.first in
-    c.join-seats.ensures.second
-    ∙ sym (seats-before-paths I P ∙ ap (λ (first : Option Broken). option_or first (first_of_paths I P)) (sym seats ∙ c.in-None.is))
+    subst (λ (first : Option Broken). IfOk c.join-seats.result.0 (λ item. item ≡ first)) (sym (seats-alone I P (c.join-seats.ensures.second c.if-not-are_kept.false))) c.join-seats.ensures.first
