@@ -27,8 +27,10 @@ use Rattle.desk_search.proofs.Closing.{team_work, unwatched_nothing, watched_see
 all_seen : (S : State) (h : List Entry) (seen : List View) → AreSeen S h seen → All (IsSightOf S h) seen
 all_seen S h seen are i d lt = are.each i (get_or seen i d) (slice_get-get_or seen i d lt)
 
-pub can_be_reported : (I : Situation) (B : Recorded) (seen : List View) → B.opening ≡ I → AreSeen (opening I) B.journal seen → All (IsSightOf (opening B.opening) B.journal) seen
-can_be_reported I B seen same are = all_seen (opening B.opening) B.journal seen (subst (λ (J : Situation). AreSeen (opening J) B.journal seen) (sym same) are)
+pub can_be_reported : (I : Situation) (B : Recorded) (seen lines : List View) → lines ≡ seen → B.opening ≡ I → AreSeen (opening I) B.journal seen → All (IsSightOf (opening B.opening) B.journal) lines
+can_be_reported I B seen lines is same are =
+    subst (λ (l : List View). All (IsSightOf (opening B.opening) B.journal) l) (sym is)
+    (all_seen (opening B.opening) B.journal seen (subst (λ (J : Situation). AreSeen (opening J) B.journal seen) (sym same) are))
 
 done_with : (I : Situation) (batches : List Batch) (team : Team) (B : Recorded) (reported : Option SearchEnd) (seen : List View) (before now : World) (how : Ending) → IsTeamBook I batches team B reported → IsWatched team.watch I B.journal seen
     → Completes history_files before now (history_outcome I (watch_remarks I reported seen) B.journal) how → IsDoneSomehow before now (by_team (team_of I batches team)) how
@@ -38,11 +40,12 @@ done_with I batches team B reported seen before now how book watched done = inr 
   completes = done;
 })
 
-pub done_watched : (I : Situation) (batches : List Batch) (team : Team) (B : Recorded) (reported : Option SearchEnd) (seen : List View) (before now : World) (how : Ending) → team.watch ≡ true → IsTeamBook I batches team B reported → AreSeen (opening I) B.journal seen
-    → Completes history_files before now (history_outcome B.opening (watch_remarks B.opening reported seen) B.journal) how → IsDoneSomehow before now (by_team (team_of I batches team)) how
-done_watched I batches team B reported seen before now how watch book are done =
+pub done_watched : (I : Situation) (batches : List Batch) (team : Team) (B : Recorded) (reported : Option SearchEnd) (seen lines : List View) (before now : World) (how : Ending) → lines ≡ seen → team.watch ≡ true → IsTeamBook I batches team B reported → AreSeen (opening I) B.journal seen
+    → Completes history_files before now (history_outcome B.opening (watch_remarks B.opening reported lines) B.journal) how → IsDoneSomehow before now (by_team (team_of I batches team)) how
+done_watched I batches team B reported seen lines before now how is watch book are done =
+    let there : Completes history_files before now (history_outcome B.opening (watch_remarks B.opening reported seen) B.journal) how = subst (λ (l : List View). Completes history_files before now (history_outcome B.opening (watch_remarks B.opening reported l) B.journal) how) is done in
     done_with I batches team B reported seen before now how book (watched_seen team.watch I B.journal seen watch are)
-    (subst (λ (J : Situation). Completes history_files before now (history_outcome J (watch_remarks J reported seen) B.journal) how) book.same done)
+    (subst (λ (J : Situation). Completes history_files before now (history_outcome J (watch_remarks J reported seen) B.journal) how) book.same there)
 
 pub done_unwatched : (I : Situation) (batches : List Batch) (team : Team) (B : Recorded) (reported : Option SearchEnd) (before now : World) (how : Ending) → team.watch ≡ false → IsTeamBook I batches team B reported
     → Completes history_files before now (history_outcome B.opening (search_remarks reported) B.journal) how → IsDoneSomehow before now (by_team (team_of I batches team)) how

@@ -5,7 +5,6 @@ mod changes;
 mod days;
 mod headway;
 mod limits;
-mod live;
 mod memory;
 mod moments;
 mod orders;

@@ -9,6 +9,10 @@ use Rattle.desk_search.proofs.beside.told_rounds.Goals as goal
 pub own_rounds-requires-clause-ready : goal.own_rounds-requires-clause-ready
 own_rounds-requires-clause-ready g c κs within = all_longer (day_of c.args.turn.now) c.args.workers.items (seen c.args.pass) (seen c.tell_more.new.pass) c.requires.ready c.tell_more.ensures.looked.began
 
+-- memory ran out when it told
+pub returns-in_default-clause-ready : goal.returns-in_default-clause-ready
+returns-in_default-clause-ready g c = all_longer (day_of c.args.turn.now) c.args.workers.items (seen c.args.pass) (seen c.tell_more.new.pass) c.requires.ready c.tell_more.ensures.looked.began
+
 pub returns-clause-returned : goal.returns-clause-returned
 returns-clause-returned g c = returned_on (known c.args.pass) (known c.tell_more.new.pass) (known c.own_rounds.result.1) (returned_by (known c.args.pass) (known c.tell_more.new.pass) c.tell_more.ensures.looked.tags) c.own_rounds.ensures.returned
 

@@ -3,10 +3,10 @@ use Rattle.desk_search.proofs.Writing.{can_be_reported, done_watched}
 use Rattle.desk_search.proofs.write.recover_watched.Goals as goal
 
 pub write_watched-requires : goal.write_watched-requires
-write_watched-requires g c = can_be_reported c.args.inst c.in-Ok.day.done.book c.in-Ok.day.seen.items c.in-Ok.ensures.0.same c.in-Ok.ensures.1
+write_watched-requires g c = can_be_reported c.args.inst c.in-Ok.day.done.book c.in-Ok.day.seen.items c.as_slice.result.now c.as_slice.ensures.value c.in-Ok.ensures.0.same c.in-Ok.ensures.1
 
 pub returns-in-Ok : goal.returns-in-Ok
 returns-in-Ok g c =
     let before = world (g.F.Folder.outside c.args.folder.now) (g.O.Sink.report c.args.out.now) in
     let now = world (g.F.Folder.outside c.write_watched.new.folder) (g.O.Sink.report c.write_watched.new.out) in
-    done_watched c.args.inst c.args.batches.now c.args.team c.in-Ok.day.done.book c.in-Ok.day.done.ended c.in-Ok.day.seen.items before now c.write_watched.result c.requires.watched c.in-Ok.ensures.0 c.in-Ok.ensures.1 c.write_watched.ensures
+    done_watched c.args.inst c.args.batches.now c.args.team c.in-Ok.day.done.book c.in-Ok.day.done.ended c.in-Ok.day.seen.items c.as_slice.result.now before now c.write_watched.result c.as_slice.ensures.value c.requires.watched c.in-Ok.ensures.0 c.in-Ok.ensures.1 c.write_watched.ensures

@@ -1,6 +1,0 @@
-use Rattle.live_board.specs.Words.{board_of}
-use Rattle.desk_tests.proofs.tests.live.a_first_entry_is_seen_before_the_second_is_told.Given as goal
-
--- the board that was just opened
-abbrev pub ghosts-tell_and_see : goal.ghosts-tell_and_see
-ghosts-tell_and_see g a = record { book = board_of a.opened }

@@ -1,6 +1,0 @@
-use Rattle.live_board.specs.Words.{board_of}
-use Rattle.desk_tests.proofs.tests.live.an_entry_that_was_learnt_of_is_seen.Given as goal
-
--- the board that was just opened
-abbrev pub ghosts-tell_and_learn : goal.ghosts-tell_and_learn
-ghosts-tell_and_learn g a = record { book = board_of a.opened }
