@@ -9,7 +9,7 @@ use Rattle.journal_rows.proofs.steps.read_steps.Goals as goal
 pub returns-in_err-step_at-clause-exact : goal.returns-in_err-step_at-clause-exact
 returns-in_err-step_at-clause-exact g c =
     let T = g.F.TokenForm.readers c.args.form.now in
-    refused T c.loop-word.steps.items (steps_of T (fields c.args.detail.now)) c.loop-word.tokens c.in-Some.word.now c.next.new.self c.in-Some.ensures.exact c.loop-word.invariant.read (λ steps. steps.items) c.from_residual.result c.in_err-step_at.field-0.0 c.step_at.new.tokens c.from_residual.ensures c.in_err-step_at.ensures.exact
+    refused T c.loop-word.steps.items (steps_of T (fields c.args.detail.now)) c.loop-word.tokens c.in-Some.word.now c.next.new.self c.in-Some.ensures.exact c.loop-word.invariant.read (λ steps. steps.items) c.from_residual-in_err-step_at.result c.in_err-step_at.field-0.0 c.step_at.new.tokens c.from_residual-in_err-step_at.ensures c.in_err-step_at.ensures.exact
 
 pub loop-word-smaller : goal.loop-word-smaller
 loop-word-smaller g c =
