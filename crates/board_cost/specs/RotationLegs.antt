@@ -59,6 +59,14 @@ pub record RotationRow : Type 0 where
   pub edits : ℕ
   pub room : ℕ
 
+-- the same aircraft with the same rotation legs, of which no edit can be taken back
+pub record IsCopyOf (old new : RotationRow) : Type 0 where
+  pub surface : new.surface ≡ old.surface
+  pub origin : new.origin ≡ old.origin
+  pub kind : new.kind ≡ old.kind
+  pub rotation_legs : new.rotation_legs ≡ old.rotation_legs
+  pub edits : new.edits ≡ 0
+
 -- of nothing
 abbrev pub no_rotation_leg : ArrivingLeg
 no_rotation_leg = record { dep = record { 0 = 0 }; leg = record { 0 = 0 }; dest = record { 0 = 0 } }

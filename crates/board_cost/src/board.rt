@@ -73,6 +73,18 @@ impl CostBoard {
         })
     }
 
+    /// The board of the same plan, with an empty past. Nothing is priced. The only error is out of memory.
+    pub fn copy(&self, alloc: Global) -> Result<CostBoard, NoMem>
+        ensures { IfOk result (IsForgotten IsBoardOf self.now) }
+    {
+        let fleet = self.fleet.copy(alloc)?;
+        Ok(CostBoard {
+            total: self.total,
+            fleet,
+            past: Vec::new(alloc),
+        })
+    }
+
     /// What the plan costs. It takes no walk.
     pub fn cost(&self) -> Grains
         ensures { (I : Situation) (P : PlanRows) (Ps : Items PlanRows) → IsBoardOf I P Ps self.now → result ≡ grains (cost I P) }

@@ -1,6 +1,6 @@
 //! What a board of a plan is.
 
-ghost use Rattle.std.specs.Prelude.{◌+◌, ◌<◌, ◌≤◌, List as Items, OnOk, OnErr};
+ghost use Rattle.std.specs.Prelude.{◌+◌, ◌<◌, ◌≤◌, List as Items, IfOk, OnOk, OnErr};
 ghost use Rattle.desk_data.specs.PlanRows.{PlanRows, AreGroups, with_row, with_groups};
 ghost use Rattle.desk_data.specs.Situation.{Situation, legs_of, planes_of, reservations_of, res_at};
 ghost use Rattle.desk_data.specs.Valid.{AreGroupsOf, IsPlanFor, IsRowOf};
@@ -13,7 +13,7 @@ use std::sync::ledger::Ledger;
 
 /// What is kept of a plan while it changes place by place, with its past, so that changes are taken back.
 /// It holds neither the instance nor the plan: contracts say of which it is the board.
-pub trait Board {
+pub trait Board: Sized {
     ghost use Rattle.std.specs.Prelude.{ℕ, List as Items};
     ghost use Rattle.desk_data.specs.declared.row.Group.{Group};
     ghost use Rattle.desk_data.specs.PlanRows.{PlanRows};
@@ -73,6 +73,10 @@ pub trait Board {
         ensures ok { OnOk result (IsChanged is_board_of inst.now plan.now (with_groups plan.now res.0 groups.now) self.old self.new) }
         ensures err { OnErr result (IsUnchanged is_board_of inst.now plan.now self.old self.new) }
         ensures reads { steps.new ≤ steps.old + group_reads plan.now res.0 groups.now };
+
+    /// The board of the same plan, with an empty past. Nothing is judged. The only error is out of memory.
+    fn copy(&self, alloc: Global) -> Result<Self, NoMem>
+        ensures { IfOk result (IsForgotten is_board_of self.now) };
 
     /// Takes the last change back: the board is that of the plan and the past from before it. The past
     /// is not empty. It takes no memory.

@@ -80,6 +80,13 @@ impl<A: Board, B: Board> Board for Both<A, B> {
         Ok(())
     }
 
+    /// A copy of both.
+    fn copy(&self, alloc: Global) -> Result<Both<A, B>, NoMem> {
+        let first = self.first.copy(alloc)?;
+        let second = self.second.copy(alloc)?;
+        Ok(Both { first, second })
+    }
+
     /// Takes the last change back on both.
     fn back(&mut self) {
         self.first.back();

@@ -14,7 +14,7 @@ ghost use Rattle.desk_eval.specs.Boards.{AreBoardsOf, rotations_of, slots_of, se
 
 use crate::passengers::PassengerBoards;
 use board_cost::CostBoard;
-use board_kit::Both;
+use board_kit::{Board, Both};
 use board_rot::RotBoard;
 use board_seats::SeatBoard;
 use board_slots::SlotBoard;
@@ -58,6 +58,14 @@ impl Boards {
                 second: PassengerBoards { seats, cost },
             },
         })
+    }
+
+    /// The boards of the same plan, with no past. Nothing is judged.
+    pub(crate) fn copy(&self, alloc: Global) -> Result<Boards, NoMem>
+        ensures { (I : Situation) (P : PlanRows) (Ps : Items PlanRows) → AreBoardsOf I P Ps self.now.all → IfOk result (λ copy. AreBoardsOf I P [] copy.all) }
+    {
+        let all = self.all.copy(alloc)?;
+        Ok(Boards { all })
     }
 
     /// The board of rotations.

@@ -238,14 +238,22 @@ impl Evaluator {
         Ok(had)
     }
 
-    /// An evaluator of the same instance and plan, with an empty past. The only error is out of memory.
+    /// An evaluator of the same instance and plan, with an empty past. The pages of the plan are shared and its
+    /// boards copied: nothing is judged. The only error is out of memory.
     pub fn copy(&self, alloc: Global) -> Result<Evaluator, NoMem>
         ensures { IfOk result (λ copy. copy ≡ record self.now { past = [] }) }
     {
         let inst = self.inst.copy()?;
         let pages = self.pages.share(alloc)?;
+        let boards = self.boards.copy(alloc)?;
         let booked = self.booked.clone()?;
-        Evaluator::of_pages(alloc, inst, pages, booked)
+        Ok(Evaluator {
+            inst,
+            pages,
+            boards,
+            booked,
+            past: Vec::new(alloc),
+        })
     }
 
     /// Takes the last change back: the plan and the past are those from before it. The past is not

@@ -83,6 +83,13 @@ impl Board for PassengerBoards {
         Ok(())
     }
 
+    /// A copy of both.
+    fn copy(&self, alloc: Global) -> Result<PassengerBoards, NoMem> {
+        let seats = self.seats.copy(alloc)?;
+        let cost = self.cost.copy(alloc)?;
+        Ok(PassengerBoards { seats, cost })
+    }
+
     /// Takes the last change back on both.
     fn back(&mut self) {
         self.seats.back();

@@ -41,6 +41,15 @@ impl<K: Ord + Copy> KeptSet<K> {
         }
     }
 
+    /// The same items, with no more room than they take. The only error is out of memory.
+    pub fn copy(&self, alloc: Global) -> Result<KeptSet<K>, AllocError>
+        ensures items { IfOk result (λ copy. copy.items ≡ self.now.items) }
+        ensures room { IfOk result (λ copy. length copy.items ≤ copy.room) }
+    {
+        let items = Vec::from_slice(alloc, self.items.as_slice())?;
+        Ok(KeptSet { items })
+    }
+
     /// The items, in their order.
     pub fn items(&self) -> &[K]
         ensures items { result.now ≡ self.now.items }
