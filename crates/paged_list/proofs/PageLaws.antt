@@ -82,7 +82,7 @@ joined_set pages k d other are lt same =
     let head : take (k * 16) (joined pages) ≡ front = ap (take (k * 16)) whole ∙ take_at front (page ++ back) (k * 16) (before pages k are lt) in
     let long : length (front ++ page) ≡ k * 16 + length other = omega (arith, same, before pages k are lt, length-append front page) in
     let tail : drop (k * 16 + length other) (joined pages) ≡ back =
-        ap (drop (k * 16 + length other)) (whole ∙ sym (append_assoc front page back)) ∙ drop_at (front ++ page) back (k * 16 + length other) long in
+    ap (drop (k * 16 + length other)) (whole ∙ sym (append_assoc front page back)) ∙ drop_at (front ++ page) back (k * 16 + length other) long in
     rw (head, tail) (split_at pages k other lt ∙ sym (append_assoc front other back))
 
 -- the page and the place of an item
@@ -232,7 +232,7 @@ begun_more {X = X} items pages at page begun lt is =
     let first : length (joined pages) ≡ length pages * 16 = omega (arith, ap length begun.so_far, length-take at items, lt, full) in
     let few : length page ≤ 16 = omega (arith, long) in
     let whole : page ≡ take (length page) (drop at items) =
-        is ∙ sym (take_min 16 (drop at items)) ∙ ap (λ n. take n (drop at items)) (omega (arith, long, length-drop at items)) in
+    is ∙ sym (take_min 16 (drop at items)) ∙ ap (λ n. take n (drop at items)) (omega (arith, long, length-drop at items)) in
     record {
       within = omega (arith, long, lt);
       pages = page_pushed pages page begun.pages first few;

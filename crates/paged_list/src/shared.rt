@@ -57,10 +57,7 @@ impl<T: Drop> SharedItems<T> {
 
 impl<T: Drop> CopyItems for SharedItems<T> {
     /// The same items in memory, for each.
-    fn copies(
-        alloc: Global,
-        items: &[SharedItems<T>],
-    ) -> Result<Vec<SharedItems<T>>, AllocError> {
+    fn copies(alloc: Global, items: &[SharedItems<T>]) -> Result<Vec<SharedItems<T>>, AllocError> {
         let mut copies = Vec::with_capacity(alloc, items.len())?;
         for one in items {
             copies.push(one.share()?)?;

@@ -20,7 +20,7 @@ all_between : {X : Type 0} (P : X → Type 0) (front items back : List X) → Al
 all_between P front items back all k d lt =
     let within : length front + k < length (front ++ items) = omega (arith, lt, length-append front items) in
     let is : get_or ((front ++ items) ++ back) (length front + k) d ≡ get_or items k d =
-        get_or_append_left (front ++ items) back d (length front + k) within ∙ get_or-append-add front items k d in
+    get_or_append_left (front ++ items) back d (length front + k) within ∙ get_or-append-add front items k d in
     subst P is (all (length front + k) d (omega (arith, within, length-append (front ++ items) back)))
 
 pub all_on_page : {X : Type 0} (P : X → Type 0) (new old : List X) (page : PageItems X) → with_page new page ≡ old → All P old → All P page.items

@@ -204,10 +204,7 @@ fn taken_groups(alloc: Global, plan: &mut Plan, res: Res) -> Vec<Group>
 }
 
 /// Equal groups, of each reservation.
-fn copied_groups(
-    alloc: Global,
-    shared: &[SharedItems<Group>],
-) -> Result<Vec<Vec<Group>>, NoMem>
+fn copied_groups(alloc: Global, shared: &[SharedItems<Group>]) -> Result<Vec<Vec<Group>>, NoMem>
     ensures { IfOk result (λ copies. map (λ copy. copy.items) copies.items ≡ shared.now) }
 {
     let mut copies = Vec::with_capacity(alloc, shared.len())?;

@@ -25,21 +25,21 @@ pub invariant_of-self : goal.invariant_of-self
 invariant_of-self g c =
     let pages = c.self.inside.pages.items in
     let anew = made_anew pages c.args.self.now c.args.place c.args.item c.index.result.now c.in_ok-page.page.items c.in_ok-page-2.page c.replace-items.new.dest
-        c.self.invariant c.self.view_is c.requires c.index.ensures (c.in_ok-page.ensures ∙ c.as_slice.ensures) c.in_ok-page-2.ensures c.replace-items.ensures.after in
+    c.self.invariant c.self.view_is c.requires c.index.ensures (c.in_ok-page.ensures ∙ c.as_slice.ensures) c.in_ok-page-2.ensures c.replace-items.ensures.after in
     anew_pages pages c.args.place c.args.item c.replace-items.new.dest c.self.invariant anew
 
 pub returns-clause-ok : goal.returns-clause-ok
 returns-clause-ok g c =
     let pages = c.self.inside.pages.items in
     let anew = made_anew pages c.args.self.now c.args.place c.args.item c.index.result.now c.in_ok-page.page.items c.in_ok-page-2.page c.replace-items.new.dest
-        c.self.invariant c.self.view_is c.requires c.index.ensures (c.in_ok-page.ensures ∙ c.as_slice.ensures) c.in_ok-page-2.ensures c.replace-items.ensures.after in
+    c.self.invariant c.self.view_is c.requires c.index.ensures (c.in_ok-page.ensures ∙ c.as_slice.ensures) c.in_ok-page-2.ensures c.replace-items.ensures.after in
     anew_list pages c.args.self.now c.args.place c.args.item c.replace-items.new.dest c.self.invariant c.self.view_is c.requires anew
 
 pub returns-clause-back : goal.returns-clause-back
 returns-clause-back g c =
     let pages = c.self.inside.pages.items in
     let anew = made_anew pages c.args.self.now c.args.place c.args.item c.index.result.now c.in_ok-page.page.items c.in_ok-page-2.page c.replace-items.new.dest
-        c.self.invariant c.self.view_is c.requires c.index.ensures (c.in_ok-page.ensures ∙ c.as_slice.ensures) c.in_ok-page-2.ensures c.replace-items.ensures.after in
+    c.self.invariant c.self.view_is c.requires c.index.ensures (c.in_ok-page.ensures ∙ c.as_slice.ensures) c.in_ok-page-2.ensures c.replace-items.ensures.after in
     let had = stood pages c.args.self.now c.args.place c.replace-items.result c.index_mut-2.result.now c.self.invariant c.self.view_is c.requires c.replace-items.ensures.value c.index_mut-2.ensures.value in
     anew_back pages c.args.self.now c.args.place c.args.item c.replace-items.new.dest c.replace-items.result c.self.invariant c.self.view_is c.requires anew had
 
@@ -47,6 +47,6 @@ pub returns-clause-place : goal.returns-clause-place
 returns-clause-place g c =
     let pages = c.self.inside.pages.items in
     let anew = made_anew pages c.args.self.now c.args.place c.args.item c.index.result.now c.in_ok-page.page.items c.in_ok-page-2.page c.replace-items.new.dest
-        c.self.invariant c.self.view_is c.requires c.index.ensures (c.in_ok-page.ensures ∙ c.as_slice.ensures) c.in_ok-page-2.ensures c.replace-items.ensures.after in
+    c.self.invariant c.self.view_is c.requires c.index.ensures (c.in_ok-page.ensures ∙ c.as_slice.ensures) c.in_ok-page-2.ensures c.replace-items.ensures.after in
     let had = stood pages c.args.self.now c.args.place c.replace-items.result c.index_mut-2.result.now c.self.invariant c.self.view_is c.requires c.replace-items.ensures.value c.index_mut-2.ensures.value in
     anew_place pages c.args.self.now c.args.place c.args.item c.replace-items.new.dest c.replace-items.result c.self.invariant c.self.view_is c.requires anew had
