@@ -141,6 +141,12 @@ def rows(asked):
 # Names and numbers
 
 
+def due_of(files):
+    """What has to stand in the outputs, as `left_in` says it: those of this run, of which some may be empty, or the old ones."""
+    states = ["old" if not files else "whole" if files[name] else "empty" for name in WRITTEN]
+    return states[0] if len(set(states)) == 1 else ", ".join(states)
+
+
 def played(program, files, title, solution=None):
     """A row of files that are handed in: what the desk gives has to be what the judge says."""
     with tempfile.TemporaryDirectory() as path:
@@ -153,7 +159,7 @@ def played(program, files, title, solution=None):
         wanted = wanted_of(files, solution)
         given = run(program, words, path)
         left = left_in(room, wanted.files or dict.fromkeys(WRITTEN, b""))
-    good = (given.status, given.said) == (wanted.status, wanted.report) and (bool(solution) or left == ("whole" if wanted.files else "old"))
+    good = (given.status, given.said) == (wanted.status, wanted.report) and (bool(solution) or left == due_of(wanted.files))
     return row_of(title, words, given, "" if solution else left), good, given
 
 
