@@ -18,9 +18,9 @@ pub(crate) struct Outset<'a> {
     pub(crate) told: &'a [Path],
 }
 
-/// What passengers of a reservation have begun: the legs of their scheduled path that are scheduled before
-/// the window.
-pub(crate) fn begun_path(inst: &Instance, res: Res) -> &[(Leg, Cabin)]
+/// What passengers of a reservation have begun: the legs of their scheduled path that are scheduled before the
+/// window, at most 8. This is the first of its stems.
+pub fn begun_path(inst: &Instance, res: Res) -> &[(Leg, Cabin)]
     requires { res.0 < reservations_of inst.now }
     ensures path { result.now ≡ begun_path inst.now res.0 }
     ensures sound { IsStemPath inst.now result.now }
@@ -29,20 +29,16 @@ pub(crate) fn begun_path(inst: &Instance, res: Res) -> &[(Leg, Cabin)]
     &inst.res(res).path.as_slice()[..begun]
 }
 
-/// Whether some legs that passengers have flown are another stem than what they have begun.
-pub(crate) fn is_other_stem(begun: &[(Leg, Cabin)], legs: &[(Leg, Cabin)]) -> bool
+/// Whether some legs that passengers have left on are one more stem: they are some, and not what was begun.
+pub fn is_other_stem(begun: &[(Leg, Cabin)], legs: &[(Leg, Cabin)]) -> bool
     ensures { result ≡ is_other_stem begun.now legs.now }
 {
     is_carried(legs) && !same_path(begun, legs)
 }
 
-/// The airport where they stand after the legs of a path, and when they do.
-pub(crate) fn start_after(
-    inst: &Instance,
-    plan: &Pages,
-    res: Res,
-    path: &[(Leg, Cabin)],
-) -> (Airport, u32)
+/// The airport where passengers of a reservation stand after the legs of a path, and the minute from which they do, by
+/// the rows of a plan: without legs, where and when they set out as they booked.
+pub fn start_after(inst: &Instance, plan: &Pages, res: Res, path: &[(Leg, Cabin)]) -> (Airport, u32)
     requires plan { IsPlanFor inst.now plan.now }
     requires res { res.0 < reservations_of inst.now }
     requires path { IsPathOf (legs_of inst.now) path.now }
@@ -57,8 +53,9 @@ pub(crate) fn start_after(
     (inst.leg(last).dest, arrival(inst, plan, last))
 }
 
-/// The minute before which they have to arrive.
-pub(crate) fn due_before(inst: &Instance, res: Res) -> u32
+/// The minute before which passengers of a reservation have to arrive: their booked arrival and the longest delay of
+/// its haul, and one minute more.
+pub fn due_before(inst: &Instance, res: Res) -> u32
     requires { res.0 < reservations_of inst.now }
     ensures { result ≡ due_before inst.now res.0 }
 {

@@ -37,7 +37,7 @@ pub fn latest_departures_are_counted_from_the_order()
 
 /// An aircraft is out of service in just the minutes of the spans that the orders gave it that come once it has
 /// landed: no earlier than the arrival of any leg that it had flown by then. So none of these legs meets a span
-/// that is left, and breaks C7. Where it has flown none, its spans are those of the orders, without those that
+/// that is left, and none breaks C7. Where it has flown none, its spans are those of the orders, without those that
 /// have no minute.
 pub fn spans_go_on_from_where_the_aircraft_has_landed()
     ensures minutes { (I : Situation) (p at : ℕ) → IsValid I → IsInSpan (spans I p) at ↔ (IsInSpan (ordered_spans I p) at × HasLanded I p at) }

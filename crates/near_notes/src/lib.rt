@@ -19,7 +19,6 @@ mod later;
 mod links;
 mod onward;
 mod rows;
-mod stems;
 mod untouched;
 
 pub use later::{first_notes, later_notes};

@@ -9,8 +9,8 @@ ghost use Rattle.near_notes.specs.Onward.{IsOutsetOf, is_linked, is_soon, may_fo
 ghost use Rattle.near_notes.specs.Links.{AreLinks};
 
 use crate::links::Links;
-use crate::stems::{due_before, start_after};
 use desk_data::{Airport, Cabin, Instance, Leg, Res};
+use flight_net::{due_before, start_after};
 use plan_pages::Pages;
 use plan_reads::{arrival, departure, is_flown};
 

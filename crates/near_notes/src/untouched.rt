@@ -14,8 +14,8 @@ use crate::changes::Changes;
 use crate::groups::are_same_groups;
 use crate::links::Links;
 use crate::onward::Outset;
-use crate::stems::{begun_path, is_other_stem};
 use desk_data::{Cabin, Group, Instance, Leg, Res};
+use flight_net::{begun_path, is_other_stem};
 use plan_pages::Pages;
 
 /// Two plans of a day, the later one as it stands, and what changed between them.
