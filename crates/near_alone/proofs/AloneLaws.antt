@@ -84,7 +84,7 @@ module _ (I : Situation) (P T : PlanRows) (r : ℕ) (lt : r < reservations_of I)
       ap (list_all test) same ∙ all-list test (groups_at P r) each
 
   -- so a Tidy leaves the groups
-  tidy-same : IsPlanFor I T → groups_at (after_tidy I T) r ≡ groups_at P r
+  pub tidy-same : IsPlanFor I T → groups_at (after_tidy I T) r ≡ groups_at P r
   tidy-same plan = after_tidy-at I T r lt ∙ sym (tidy-keeps I T r plan all-fit) ∙ same
 
 -- and a Refill of a leg on which the reservation is not booked
@@ -145,11 +145,11 @@ left-alone I P Q others r valid plan feasible same lt alone =
 bare : List Row → PlanRows
 bare rows = record { rows = rows; groups = [] }
 
-flying-same : (I : Situation) (P Q : PlanRows) → Q.rows ≡ P.rows → operating_cost I Q ≡ operating_cost I P
+pub flying-same : (I : Situation) (P Q : PlanRows) → Q.rows ≡ P.rows → operating_cost I Q ≡ operating_cost I P
 unfolding operating_cost bare
 flying-same I P Q same = ap (λ (rows : List Row). operating_cost I (bare rows)) same
 
-positions-same : (I : Situation) (P Q : PlanRows) → Q.rows ≡ P.rows → position_cost I Q ≡ position_cost I P
+pub positions-same : (I : Situation) (P Q : PlanRows) → Q.rows ≡ P.rows → position_cost I Q ≡ position_cost I P
 unfolding position_cost missing_aircraft bare
 positions-same I P Q same = ap (λ (rows : List Row). position_cost I (bare rows)) same
 

@@ -5,3 +5,4 @@ pub mod MoveLaws
 pub mod FrameLaws
 pub mod SplitLaws
 pub mod OwnLaws
+pub mod OutLaws

@@ -2,3 +2,4 @@ pub mod Same
 pub mod Steps
 pub mod Room
 pub mod Own
+pub mod Out

@@ -1,6 +1,6 @@
 //! What holds of a unit of legs at two plans.
 
-ghost use Rattle.std.specs.Prelude.{◌≡◌, ℕ, Bool, List as Items, None, true, false};
+ghost use Rattle.std.specs.Prelude.{◌≡◌, ℕ, Bool, List as Items, All, None, true, false};
 ghost use Rattle.std.specs.List.{Contains, list_all};
 ghost use Rattle.desk_data.specs.declared.row.Row.TheVariants.{Cancelled};
 ghost use Rattle.desk_data.specs.Situation.{Situation};
@@ -18,6 +18,7 @@ ghost use Rattle.near_units.specs.Same.{AgreeOn, FliesSame, FlyUnitSame};
 ghost use Rattle.near_units.specs.Steps.{BeginsFlown, IsSplit, is_among, unit_legs, unit_planes, unit_refills};
 ghost use Rattle.near_units.specs.Room.{AreMadeAlike, HaveSameRoom};
 ghost use Rattle.near_units.specs.Own.{BreaksOwn};
+ghost use Rattle.near_units.specs.Out.{IsOut};
 
 /// A unit of legs has the same moves at two plans in which its aircraft fly the same legs with the same rows, and the
 /// same cancelled legs lead back from a leg that is flown again.
@@ -61,4 +62,10 @@ pub fn steps_of_aircraft_on_which_plans_agree_make_the_same_of_them()
 pub fn a_move_that_breaks_a_rule_of_its_own_legs_does_so_again()
     ensures again { (planes legs refilled : ℕ → Bool) (I : Situation) (P Q : PlanRows) (m : Move) → AgreeOn planes legs P Q → HaveSameRoom legs I P Q → IsSplit planes legs refilled m → BreaksOwn planes I P m → BreaksOwn planes I Q m }
     ensures worse { (planes : ℕ → Bool) (I : Situation) (P : PlanRows) (m : Move) → BreaksOwn planes I P m → is_better I P m ≡ false }
+{}
+
+/// Where it is known of each move of a unit of legs why it is not better, none is: it makes the plan no cheaper, it breaks
+/// C2 or one of C4 to C7 of a leg of the unit's aircraft, or it gives legs in vain.
+pub fn a_unit_that_is_out_has_no_better_move()
+    ensures { (I : Situation) (P : PlanRows) (u : MoveUnit) → All (IsOut I P u) (unit_moves I P u) → All (λ m. is_better I P m ≡ false) (unit_moves I P u) }
 {}

@@ -5,6 +5,8 @@
 //! what their first steps make of those legs is the same, if these aircraft fly the same legs with the same rows, and the
 //! hours of their airports have the same room. Then a leg that broke a rule of its aircraft breaks it again, and legs that
 //! were given to an aircraft in vain are given in vain.
+//! Of a move of a unit it is known why it is not better: it makes the plan no cheaper, it breaks such a rule, or it gives
+//! legs in vain.
 //!
 //! The code here is laws: each is a public function with an empty body, whose contract is the law.
 #![tactic(auto)]
@@ -14,7 +16,7 @@ mod laws;
 pub use laws::{
     a_leg_that_is_restored_in_vain_stays_so, a_move_begins_with_steps_of_its_own_legs,
     a_move_that_breaks_a_rule_of_its_own_legs_does_so_again,
-    a_run_that_is_handed_on_in_vain_stays_so,
+    a_run_that_is_handed_on_in_vain_stays_so, a_unit_that_is_out_has_no_better_move,
     a_unit_whose_aircraft_fly_the_same_has_the_same_moves,
     aircraft_that_exchange_legs_in_vain_stay_so,
     steps_of_aircraft_on_which_plans_agree_make_the_same_of_them,

@@ -1,0 +1,4 @@
+pub mod SameLaws
+pub mod DearerLaws
+pub mod OutLaws
+pub mod UntouchedLaws

@@ -1,0 +1,3 @@
+pub mod Dearer
+pub mod Untouched
+pub mod Planes
