@@ -8,7 +8,9 @@ threads. Its journal is replayed, and has to give the same status, the same file
 `ended`. The batches of the journal have to be those of the day, in their order and from caller 0, and each move has to come from
 a worker that there is. A run with one worker, in turn, has to give what the desk gives alone, but for the callers. With --watch a viewer
 watches each run, and what it saw has to be 1 to 64 views of beginnings of the journal, each of more entries than the one before it, the last that
-of the whole, each with the changes and the cost that the journal's answers say. Build the desk first: it is crates/desk/out/desk.
+of the whole, each with the changes and the cost that the journal's answers say. How many views each run had is told behind its seconds, and
+at the end how many runs had one before the last: a viewer that looks at the end alone has none, and no clause refuses it. Build the desk
+first: it is crates/desk/out/desk.
 
 Prints a line a day; the status is 1 where a run gave something else.
 """
@@ -101,7 +103,8 @@ def faults_of_journal(journal, workers):
 
 
 def faults_of_run(day, workers, live, moves, alone, first):
-    """What is wrong with one run, and its seconds. Where it is watched `first` is what the opening plan costs, or breaks."""
+    """What is wrong with one run, its seconds, and how many views it had. Where it is watched `first` is what the opening plan costs, or
+    breaks."""
     with tempfile.TemporaryDirectory() as out:
         words = ["recover", day, out, "--workers", str(workers)] + (["--live"] if live else []) + (["--watch"] if first else []) + moves
         status, report, files, took = run(words, out)
@@ -113,7 +116,7 @@ def faults_of_run(day, workers, live, moves, alone, first):
         as_desk = b"".join(b"0," + line.partition(b",")[2] for line in files[2].splitlines(True))
         if (status, without_views(report), files[:2], as_desk) != (alone[0], alone[1], alone[2][:2], alone[2][2]):
             faults.append("one worker gives something else than the desk alone")
-    return faults, took
+    return faults, took, sum(line.startswith(b"seen ") for line in report.splitlines())
 
 
 def main():
@@ -127,7 +130,7 @@ def main():
     asked = words.parse_args()
     assert set(FILES) == set(WRITTEN)
     moves = ["--moves", str(asked.moves)] if asked.moves else []
-    wrong = 0
+    wrong, runs, early = 0, 0, 0
     with tempfile.TemporaryDirectory() as room:
         for size in map(int, asked.sizes.split(",")):
             for seed in range(1, asked.seeds + 1):
@@ -139,12 +142,15 @@ def main():
                 for workers in map(int, asked.workers.split(",")):
                     for live in (False, True):
                         for _ in range(asked.rounds):
-                            faults, took = faults_of_run(day, workers, live, moves, alone, first)
-                            told.append("%d%s %.2f" % (workers, " live" if live else "", took))
+                            faults, took, views = faults_of_run(day, workers, live, moves, alone, first)
+                            runs, early = runs + 1, early + (views > 1)
+                            told.append("%d%s %.2f%s" % (workers, " live" if live else "", took, " (%d seen)" % views if first else ""))
                             for fault in faults:
                                 wrong += 1
                                 print("size %d seed %d, %d workers%s: %s" % (size, seed, workers, ", live" if live else "", fault))
                 print("size %d seed %d: alone %.2f s; %s" % (size, seed, alone[3], ", ".join(told)), flush=True)
+    if asked.watch:
+        print("%d of %d runs had a view before the last" % (early, runs))
     print("%d faults" % wrong)
     return 1 if wrong else 0
 
