@@ -1,39 +1,18 @@
 -- The faults of crews: they go by the legs that a crew works, and a leg of others changes none.
-use Rattle.std.proofs.Common.{◌≡◌, ◌≢◌, ℕ, ◌+◌, Bool, true, false, cond, not, ◌||◌, eqb, ltb, List, [], ◌∷◌, length, set, refl, sym, ap, subst, ◌∙◌, arith}
-use Rattle.std.specs.Prelude.{map, fold, Some, None, option_map}
-use Rattle.std.specs.Option.{option_or}
-use Rattle.std.specs.List.{list_all, list_any, cons_option, position, prefix_len}
+use Rattle.std.proofs.Common.{◌≡◌, ◌≢◌, ℕ, Bool, true, false, not, ◌||◌, eqb, List, [], ◌∷◌, set, refl, sym, ap, ◌∙◌, arith}
+use Rattle.std.specs.Prelude.{fold}
+use Rattle.std.specs.List.{list_all, list_any, cons_option}
 use Rattle.std.proofs.lemmas.Bool.Decides.{nat_tests}
-use Rattle.std.proofs.lemmas.List.{get_or-set_other, length-map}
+use Rattle.std.proofs.lemmas.List.{get_or-set_other}
 use Rattle.desk_units.specs.declared.numbers.Leg.{Leg}
 use Rattle.desk_data.specs.declared.parts.Parts.{Parts}
 use Rattle.desk_data.specs.declared.row.Row.{Row}
 use Rattle.desk_data.specs.declared.row.Row.TheVariants.{Cancelled}
 use Rattle.crew_rules.specs.declared.crew.CrewInfo.{CrewInfo}
 use Rattle.crew_rules.specs.declared.crew.WorkedLeg.{WorkedLeg}
-use Rattle.crew_rules.specs.declared.crew.CrewBroken.TheVariants.{K1, K2, K3, K4}
-use Rattle.crew_rules.specs.Crews.{row_of, worked_leg, flown_among, with_leg, worked, is_chain, is_in_turn, is_short, end_of, duties, keeps_k1, keeps_k2, keeps_k3, keeps_k4, crew_least}
+use Rattle.crew_rules.specs.Crews.{row_of, worked_leg, flown_among, with_leg, worked, is_chain, is_in_turn, is_short, end_of, duties, keeps_k1, keeps_k2, keeps_k3, keeps_k4}
 use Rattle.crew_duty.specs.declared.faults.CrewFaults.{CrewFaults}
-use Rattle.crew_duty.specs.Faults.{faults_of, first_item}
-
--- ---- the first item of the faults of crews
-
-prefix-map : {X Y : Type 0} (p : Y → Bool) (f : X → Y) (xs : List X) → prefix_len p (map f xs) ≡ prefix_len (λ x. p (f x)) xs
-prefix-map p f [] = refl
-prefix-map p f (x ∷ xs) = ap (λ (n : ℕ). cond (p (f x)) (1 + n) 0) (prefix-map p f xs)
-
-position-map : {X Y : Type 0} (p : Y → Bool) (f : X → Y) (xs : List X) → position p (map f xs) ≡ position (λ x. p (f x)) xs
-position-map p f xs =
-    ap (λ (n : ℕ). cond (ltb n (length (map f xs))) (Some n) None) (prefix-map (λ y. not (p y)) f xs)
-    ∙ ap (λ (l : ℕ). cond (ltb (prefix_len (λ x. not (p (f x))) xs) l) (Some (prefix_len (λ x. not (p (f x))) xs)) None) (length-map xs f)
-
-pub least_is : (D : Parts) (P : List Row) (cs : List CrewInfo) → first_item (map (faults_of D P) cs) ≡ crew_least D cs P
-unfolding crew_least
-least_is D P cs = λ i.
-    option_or (option_map K1 (position-map (λ of. of.k1) (faults_of D P) cs i))
-    (option_or (option_map K2 (position-map (λ of. of.k2) (faults_of D P) cs i))
-    (option_or (option_map K3 (position-map (λ of. of.k3) (faults_of D P) cs i))
-    (option_map K4 (position-map (λ of. of.k4) (faults_of D P) cs i))))
+use Rattle.crew_duty.specs.Faults.{faults_of}
 
 -- ---- faults by the legs that a crew works
 

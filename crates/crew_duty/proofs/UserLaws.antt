@@ -1,15 +1,15 @@
 -- The crews that are kept for a leg, as one comes.
-use Rattle.std.proofs.Common.{◌≡◌, ◌≢◌, ℕ, ◌+◌, ◌<◌, ◌≤◌, ◌⊎◌, inl, inr, Bool, true, false, ◌&&◌, ◌||◌, eqb, ltb, List, [], ◌∷◌, ◌++◌, length, get_or, set, take, refl, sym, ap, subst, ◌∙◌, arith}
+use Rattle.std.proofs.Common.{◌≡◌, ◌≢◌, ℕ, ◌+◌, ◌<◌, ◌≤◌, ◌⊎◌, inl, inr, Bool, true, false, ◌&&◌, ◌||◌, eqb, ltb, List, [], ◌∷◌, ◌++◌, length, get_or, set, take, refl, sym, ap, ◌∙◌, arith}
 use Rattle.std.specs.Prelude.{map, replicate}
 use Rattle.std.specs.List.{list_any}
-use Rattle.std.proofs.lemmas.Bool.{lt-ltb, le-ltb, eq-eqb, ne_eqb, cases_order}
+use Rattle.std.proofs.lemmas.Bool.{eq-eqb, ne_eqb}
 use Rattle.std.proofs.lemmas.Bool.Decides.{nat_tests}
 use Rattle.std.proofs.lemmas.List.{get_or-set_same, get_or-set_other, get_or-map, get_or_past, get_or-replicate, length-map, length-replicate, map-set}
 use Rattle.std.proofs.lemmas.List.Folds.{list_any_more, list_any-append}
 use Rattle.desk_units.specs.declared.numbers.Leg.{Leg}
 use Rattle.crew_rules.specs.declared.crew.CrewInfo.{CrewInfo}
 use Rattle.crew_rules.specs.Broken.{crew_at}
-use Rattle.crew_duty.specs.Users.{AreUsers, has_leg, has_user, users_at}
+use Rattle.crew_duty.specs.Users.{has_leg, has_user, users_at}
 
 one_or_other : (q p : ℕ) → (q ≡ p) ⊎ (q ≢ p)
 one_or_other q p = grind arith
@@ -93,6 +93,14 @@ crews_more new now cs k so more x j =
     ∙ next_crew (ltb j k) (eqb j k) (has_leg cs x j)
     ∙ ap (λ (b : Bool). b && has_leg cs x j) (sym (below_next j k))
 
+-- one number more
+pub numbers_more : (xs : List ℕ) (n : ℕ) → ((k : ℕ) → list_any (λ user. eqb user k) xs ≡ ltb k n) → (k : ℕ) → list_any (λ user. eqb user k) (xs ++ n ∷ []) ≡ ltb k (n + 1)
+numbers_more xs n all k =
+    any_pushed xs n k
+    ∙ ap (λ (b : Bool). b || eqb n k) (all k)
+    ∙ ap (λ (b : Bool). ltb k n || b) (turned n k)
+    ∙ sym (below_next k n)
+
 blank_at : (n x : ℕ) → users_at (replicate n []) x ≡ []
 blank_at n x =
     let cases : (x < n) ⊎ (n ≤ x) = grind arith in
@@ -103,3 +111,15 @@ blank_at n x =
 
 pub none_yet : (cs : List CrewInfo) (n x j : ℕ) → has_user (replicate n []) x j ≡ (ltb j 0 && has_leg cs x j)
 none_yet cs n x j = ap (λ (xs : List ℕ). list_any (λ (user : ℕ). eqb user j) xs) (blank_at n x)
+
+-- ---- the lists that are kept
+
+pub user_pushed : {V : Type 0} (items : V → List ℕ) (ls : List V) (now : List (List ℕ)) (x k : ℕ) (kept new : V) → map items ls ≡ now → x < length now → kept ≡ get_or ls x kept → items new ≡ items kept ++ k ∷ []
+    → (y j : ℕ) → has_user (map items (set ls x new)) y j ≡ (has_user now y j || (eqb j k && eqb x y))
+user_pushed items ls now x k kept new view within is pushed y j =
+    let len : length ls ≡ length now = sym (length-map ls items) ∙ ap (λ (legs : List (List ℕ)). length legs) view in
+    let at : users_at now x ≡ items kept =
+    ap (λ (legs : List (List ℕ)). users_at legs x) (sym view) ∙ get_or-map items ls x kept [] (omega (arith, within, len)) ∙ ap items (sym is) in
+    ap (λ (legs : List (List ℕ)). has_user legs y j)
+    (map-set items ls x new ∙ ap (λ (legs : List (List ℕ)). set legs x (items new)) view ∙ ap (λ (xs : List ℕ). set now x xs) (pushed ∙ ap (λ (xs : List ℕ). xs ++ k ∷ []) (sym at)))
+    ∙ one_pushed now x k within y j

@@ -1,6 +1,6 @@
-//! The board of the crews: the rows of a plan, which crews have each leg, and which rules each crew does not keep.
+//! The board of the crews: the rows of a plan, which crews have each leg, and the items that crews break.
 
-ghost use Rattle.std.specs.Prelude.{◌≡◌, ℕ, ◌<◌, IfOk, OnOk, OnErr, All, List as Items, length, map, slice_set};
+ghost use Rattle.std.specs.Prelude.{◌≡◌, ◌<◌, IfOk, OnOk, OnErr, List as Items, slice_set};
 ghost use Rattle.desk_data.specs.PlanRows.{IsRow};
 ghost use Rattle.desk_data.specs.Situation.{legs_of};
 ghost use Rattle.desk_data.specs.Valid.{IsPlanFor};
@@ -8,22 +8,22 @@ ghost use Rattle.desk_data.specs.declared.parts.Parts.{Parts as Day};
 ghost use Rattle.crew_rules.specs.declared.crew.CrewInfo.{CrewInfo as Crew};
 ghost use Rattle.crew_rules.specs.Crews.{crew_least};
 ghost use Rattle.crew_rules.specs.Valid.{AreCrews};
-ghost use Rattle.crew_duty.specs.declared.faults.CrewFaults.{CrewFaults as Faults};
-ghost use Rattle.crew_duty.specs.Board.{IsCrewBoard, ArePut};
+ghost use Rattle.crew_duty.specs.Board.{IsCrewBoard};
 
-use crate::faults::{CrewFaults, all_faults, faults_among, first_item};
+use crate::broken::{broken_items, first_broken, judge_crews};
 use crate::users::CrewUsers;
 use crew_rules::{CrewBroken, CrewInfo};
 use desk_data::{Instance, Leg, NoMem, Plan, Row};
+use kept_set::KeptSet;
 use std::alloc::Global;
 use std::marker::Model;
 
 /// What a plan comes to for its crews, kept up to date while rows change one by one. Contracts see the row of each leg,
-/// the crews that have it, and for each crew the rules that it does not keep.
+/// the crews that have it, and the items that crews break.
 pub struct CrewBoard {
     rows: Vec<Row>,
     users: CrewUsers,
-    faults: Vec<CrewFaults>,
+    broken: KeptSet<CrewBroken>,
 }
 
 /// Dropped in one call, so that a function that owns one proves it once, and not part by part.
@@ -32,20 +32,17 @@ impl Drop for CrewBoard {
         let CrewBoard {
             rows: _,
             users: _,
-            faults: _,
+            broken: _,
         } = self;
     }
 }
 
 impl Model for CrewBoard {
-    ghost use Rattle.std.specs.Prelude.{◌≤◌, length};
     ghost use Rattle.crew_duty.specs.Board.{Board};
 
     ghost Value = { Board };
 
-    ghost view = { λ b. record { rows = b.rows.items; users = b.users; faults = b.faults.items } };
-
-    ghost invariant = { λ b. length b.faults.items ≤ 5000 };
+    ghost view = { λ b. record { rows = b.rows.items; users = b.users; broken = b.broken.items } };
 }
 
 impl CrewBoard {
@@ -63,11 +60,11 @@ impl CrewBoard {
     {
         let rows = Vec::from_slice(alloc, plan.rows())?;
         let users = CrewUsers::open(alloc, inst, crews)?;
-        let faults = all_faults(alloc, inst, plan.rows(), crews)?;
+        let broken = broken_items(alloc, inst, plan.rows(), crews)?;
         Ok(CrewBoard {
             rows,
             users,
-            faults,
+            broken,
         })
     }
 
@@ -93,11 +90,9 @@ impl CrewBoard {
         let had = self.rows[place];
         self.rows[place] = row;
         let users = self.users.of(leg);
-        match faults_among(alloc, inst, self.rows.as_slice(), crews, users) {
-            Ok(judged) => {
-                put_faults(&mut self.faults, users, judged.as_slice());
-                Ok(())
-            }
+        let rows = self.rows.as_slice();
+        match judge_crews(alloc, inst, rows, crews, users, &mut self.broken) {
+            Ok(()) => Ok(()),
             Err(fault) => {
                 self.rows[place] = had;
                 Err(fault)
@@ -106,21 +101,10 @@ impl CrewBoard {
     }
 
     /// The first item of K1 to K4 that is broken, by rule, then by the number of the crew, or `None` where all are kept.
-    /// It takes no memory.
+    /// It takes no walk and no memory.
     pub fn least(&self) -> Option<CrewBroken>
         ensures { (D : Day) (cs : Items Crew) → IsCrewBoard D cs self.now → result ≡ crew_least D cs self.now.rows }
     {
-        first_item(self.faults.as_slice())
-    }
-}
-
-/// Keeps for crews of these numbers what was found of each.
-fn put_faults(faults: &mut Vec<CrewFaults>, crews: &[u32], judged: &[CrewFaults])
-    requires crews { All (λ k. k < length faults.old.items) crews.now }
-    requires same { length judged.now ≡ length crews.now }
-    ensures { (f : ℕ → Faults) → judged.now ≡ map f crews.now → ArePut f crews.now faults.old.items faults.new.items }
-{
-    for i in 0..crews.len() {
-        faults[crews[i] as usize] = judged[i];
+        first_broken(&self.broken)
     }
 }

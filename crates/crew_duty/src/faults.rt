@@ -1,11 +1,11 @@
 //! Which rules a crew does not keep.
 
-ghost use Rattle.std.specs.Prelude.{◌≡◌, ◌<◌, ◌≤◌, IfOk, All, map, length};
+ghost use Rattle.std.specs.Prelude.{◌≡◌, ◌<◌, IfOk, All, map, length};
 ghost use Rattle.desk_data.specs.PlanRows.{IsRow};
 ghost use Rattle.desk_data.specs.Situation.{legs_of};
 ghost use Rattle.crew_rules.specs.Broken.{crew_at};
 ghost use Rattle.crew_rules.specs.Valid.{AreCrews, IsCrew};
-ghost use Rattle.crew_duty.specs.Faults.{faults_of, first_item};
+ghost use Rattle.crew_duty.specs.Faults.{faults_of, has_fault, item_of};
 
 use crate::rules::{are_short, ends_at_home, is_chain, is_in_turn};
 use crate::worked::worked_legs;
@@ -20,6 +20,47 @@ pub(crate) struct CrewFaults {
     pub k2: bool,
     pub k3: bool,
     pub k4: bool,
+}
+
+/// A rule of crews.
+#[derive(Clone, Copy)]
+pub(crate) enum CrewRule {
+    /// K1.
+    Chain,
+    /// K2.
+    Turn,
+    /// K3.
+    Duty,
+    /// K4.
+    Home,
+}
+
+impl CrewRule {
+    /// The item of the rule and a crew.
+    pub(crate) fn item(self, crew: u32) -> CrewBroken
+        ensures { result ≡ item_of self crew }
+    {
+        match self {
+            CrewRule::Chain => CrewBroken::K1(crew),
+            CrewRule::Turn => CrewBroken::K2(crew),
+            CrewRule::Duty => CrewBroken::K3(crew),
+            CrewRule::Home => CrewBroken::K4(crew),
+        }
+    }
+}
+
+impl CrewFaults {
+    /// Whether a rule is among those that are not kept.
+    pub(crate) fn has(self, rule: CrewRule) -> bool
+        ensures { result ≡ has_fault rule self }
+    {
+        match rule {
+            CrewRule::Chain => self.k1,
+            CrewRule::Turn => self.k2,
+            CrewRule::Duty => self.k3,
+            CrewRule::Home => self.k4,
+        }
+    }
 }
 
 /// Which rules a crew does not keep by the rows of a plan. Its flown legs are sorted once. The only error is out of memory.
@@ -45,7 +86,7 @@ pub(crate) fn crew_faults(
 }
 
 /// The crew of a number.
-fn crew_in<'a>(inst: &Instance, crews: &'a [CrewInfo], k: u32) -> &'a CrewInfo
+pub(crate) fn crew_in<'a>(inst: &Instance, crews: &'a [CrewInfo], k: u32) -> &'a CrewInfo
     requires k { k < length crews.now }
     requires crews { AreCrews inst.now.parts crews.now }
     ensures row { result.now ≡ crew_at crews.now k }
@@ -76,41 +117,4 @@ pub(crate) fn faults_among(
         faults.push(crew_faults(alloc, inst, rows, crew)?)?;
     }
     Ok(faults)
-}
-
-/// Which rules each crew does not keep. The only error is out of memory.
-pub(crate) fn all_faults(
-    alloc: Global,
-    inst: &Instance,
-    rows: &[Row],
-    crews: &[CrewInfo],
-) -> Result<Vec<CrewFaults>, NoMem>
-    requires crews { AreCrews inst.now.parts crews.now }
-    requires count { length rows.now ≡ legs_of inst.now }
-    requires rows { All IsRow rows.now }
-    ensures { IfOk result (λ faults. faults.items ≡ map (faults_of inst.now.parts rows.now) crews.now) }
-{
-    let mut faults = Vec::with_capacity(alloc, crews.len())?;
-    for crew in crews {
-        faults.push(crew_faults(alloc, inst, rows, crew)?)?;
-    }
-    Ok(faults)
-}
-
-/// The first item of the faults of crews: by rule, then by crew.
-pub(crate) fn first_item(faults: &[CrewFaults]) -> Option<CrewBroken>
-    requires { length faults.now ≤ 5000 }
-    ensures { result ≡ first_item faults.now }
-{
-    if let Some(k) = faults.iter().position(|of| of.k1) {
-        return Some(CrewBroken::K1(k as u32));
-    }
-    if let Some(k) = faults.iter().position(|of| of.k2) {
-        return Some(CrewBroken::K2(k as u32));
-    }
-    if let Some(k) = faults.iter().position(|of| of.k3) {
-        return Some(CrewBroken::K3(k as u32));
-    }
-    let k = faults.iter().position(|of| of.k4)?;
-    Some(CrewBroken::K4(k as u32))
 }

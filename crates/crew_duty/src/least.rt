@@ -5,7 +5,7 @@ ghost use Rattle.desk_data.specs.Valid.{IsPlanFor};
 ghost use Rattle.crew_rules.specs.Crews.{crew_least};
 ghost use Rattle.crew_rules.specs.Valid.{AreCrews};
 
-use crate::faults::{all_faults, first_item};
+use crate::broken::{broken_items, first_broken};
 use crew_rules::{CrewBroken, CrewInfo};
 use desk_data::{Instance, NoMem, Plan};
 use std::alloc::Global;
@@ -22,6 +22,6 @@ pub fn crew_least(
     requires plan { IsPlanFor inst.now plan.now }
     ensures { IfOk result (λ item. item ≡ crew_least inst.now.parts crews.now plan.now.rows) }
 {
-    let faults = all_faults(alloc, inst, plan.rows(), crews)?;
-    Ok(first_item(faults.as_slice()))
+    let broken = broken_items(alloc, inst, plan.rows(), crews)?;
+    Ok(first_broken(&broken))
 }

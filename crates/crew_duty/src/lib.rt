@@ -14,6 +14,7 @@
 #![tactic(auto)]
 
 mod board;
+mod broken;
 mod faults;
 mod least;
 mod rules;

@@ -6,6 +6,7 @@ ghost use Rattle.desk_data.specs.Situation.{legs_of};
 ghost use Rattle.crew_rules.specs.Valid.{AreCrews};
 ghost use Rattle.crew_duty.specs.Users.{AreUsers, has_leg, has_user, users_at};
 
+use crate::faults::crew_in;
 use crew_rules::CrewInfo;
 use desk_data::{Instance, Leg, NoMem};
 use std::alloc::Global;
@@ -37,8 +38,10 @@ impl CrewUsers {
         ensures exact { IfOk result (AreUsers crews.now) }
     {
         let mut users = CrewUsers::none(alloc, inst.legs() as usize)?;
-        for k in 0..crews.len() {
-            users.add(k as u32, crews[k].legs.as_slice())?;
+        for k in 0..crews.len() as u32 {
+            let crew = crew_in(inst, crews, k);
+            let legs = crew.legs.as_slice();
+            users.add(k, legs)?;
         }
         Ok(users)
     }
@@ -80,7 +83,8 @@ impl CrewUsers {
         ensures legs { length self.new ≡ length self.old }
         ensures ok { OnOk result ((x k : ℕ) → has_user self.new x k ≡ has_user self.old x k || ((k == crew) && (leg.0 == x))) }
     {
-        self.legs[leg.0 as usize].push(crew)?;
+        let kept = &mut self.legs[leg.0 as usize];
+        kept.push(crew)?;
         Ok(())
     }
 }
