@@ -36,9 +36,16 @@ set_twice (x ∷ xs) zero a b = refl
 set_twice (x ∷ xs) (suc i) a b = ap (λ ys. x ∷ ys) (set_twice xs i a b)
 
 -- the old row is put back, and the items are as they were
-pub board_back : (b : Board) (rows : List Row) (users : List (List ℕ)) (old new : List CrewBroken) (x : ℕ) (row d : Row)
-    → (record { rows = rows; users = users; broken = old }) ≡ b → new ≡ old → (record { rows = set (set rows x row) x (get_or rows x d); users = users; broken = new }) ≡ b
-board_back b rows users old new x row d view same =
-    ap (λ (broken : List CrewBroken). board_of (set (set rows x row) x (get_or rows x d)) users broken) same
-    ∙ ap (λ (back : List Row). board_of back users old) (set_twice rows x row (get_or rows x d) ∙ set-get_or rows x d)
+pub board_back : (b : Board) (rows : List Row) (users : List (List ℕ)) (old new : List CrewBroken) (x : ℕ) (row had : Row)
+    → (record { rows = rows; users = users; broken = old }) ≡ b → had ≡ get_or rows x had → new ≡ old → (record { rows = set (set rows x row) x had; users = users; broken = new }) ≡ b
+board_back b rows users old new x row had view is same =
+    ap (λ (broken : List CrewBroken). board_of (set (set rows x row) x had) users broken) same
+    ∙ ap (λ (back : List Row). board_of back users old) (set_twice rows x row had ∙ ap (λ (r : Row). set rows x r) is ∙ set-get_or rows x had)
     ∙ view
+
+-- what was judged, where the rows and the crews of the leg are read
+pub judged_so : (D : Parts) (cs : List CrewInfo) (seen rows : List Row) (given users : List ℕ) (old new : List CrewBroken) → seen ≡ rows → given ≡ users
+    → AreJudged (by_faults (λ k. faults_of D seen (crew_at cs k))) (λ item. among given (crew_of item)) old new → AreJudged (by_faults (λ k. faults_of D rows (crew_at cs k))) (λ item. among users (crew_of item)) old new
+judged_so D cs seen rows given users old new same_rows same_users judged =
+    subst (λ (u : List ℕ). AreJudged (by_faults (λ k. faults_of D rows (crew_at cs k))) (λ item. among u (crew_of item)) old new) same_users
+    (subst (λ (r : List Row). AreJudged (by_faults (λ k. faults_of D r (crew_at cs k))) (λ item. among given (crew_of item)) old new) same_rows judged)

@@ -101,17 +101,6 @@ numbers_more xs n all k =
     ∙ ap (λ (b : Bool). ltb k n || b) (turned n k)
     ∙ sym (below_next k n)
 
-blank_at : (n x : ℕ) → users_at (replicate n []) x ≡ []
-blank_at n x =
-    let cases : (x < n) ⊎ (n ≤ x) = grind arith in
-    elim cases [
-      | inl less ↦ get_or-replicate n x [] [] less
-      | inr past ↦ get_or_past (replicate n []) x [] (omega (arith, length-replicate {A = List ℕ} n [], past))
-    ]
-
-pub none_yet : (cs : List CrewInfo) (n x j : ℕ) → has_user (replicate n []) x j ≡ (ltb j 0 && has_leg cs x j)
-none_yet cs n x j = ap (λ (xs : List ℕ). list_any (λ (user : ℕ). eqb user j) xs) (blank_at n x)
-
 -- ---- the lists that are kept
 
 pub user_pushed : {V : Type 0} (items : V → List ℕ) (ls : List V) (now : List (List ℕ)) (x k : ℕ) (kept new : V) → map items ls ≡ now → x < length now → kept ≡ get_or ls x kept → items new ≡ items kept ++ k ∷ []
