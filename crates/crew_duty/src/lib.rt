@@ -7,10 +7,10 @@
 //!     board.least()                                                  // takes no memory
 //!
 //! `crew_least` works it out anew: of each crew the legs that are flown are sorted once, so that the time is near linear in all
-//! legs of all crews. The board knows the crews of each leg, and a change judges these alone.
+//! legs of all crews. The board knows the crews of each leg, and an update judges these alone; the first item is known without a walk.
 //!
 //! Proved: both give the first item that is broken, as `crew_rules` defines it; and after an error, which is out of memory, the
-//! board is as before. It depends on `crew_rules` for the rules and on `kept_set` for a lemma on lists in order.
+//! board is as before. It depends on `crew_rules` for the rules and on `kept_set`, which keeps the broken items in their order.
 #![tactic(auto)]
 
 mod board;
