@@ -1,0 +1,7 @@
+pub mod SortLaws
+pub mod LoopLaws
+pub mod FaultLaws
+pub mod UserLaws
+pub mod BrokenLaws
+pub mod JudgedLaws
+pub mod BoardLaws
