@@ -1,10 +1,10 @@
 -- Items that are judged crew by crew and rule by rule, and that they are the broken ones.
 use Rattle.std.proofs.Common.{◌≡◌, ◌≢◌, ℕ, ◌+◌, ◌<◌, ◌≤◌, ◌⊎◌, inl, inr, Bool, true, false, ◌&&◌, ◌||◌, eqb, ltb, List, [], ◌∷◌, length, get_or, set, take, refl, sym, ap, subst, ◌∙◌, arith}
-use Rattle.std.specs.Prelude.{map, All, IsTrue, ◌↔◌}
-use Rattle.std.specs.List.{Contains, list_any}
-use Rattle.std.proofs.lemmas.Bool.{cases_Bool, eq-eqb, eqb-true, ltb-true}
+use Rattle.std.specs.Prelude.{map, All, ◌↔◌}
+use Rattle.std.specs.List.{Contains}
+use Rattle.std.proofs.lemmas.Bool.{cases_Bool, eq-eqb, ltb-true}
 use Rattle.std.proofs.lemmas.Bool.Decides.{nat_tests}
-use Rattle.std.proofs.lemmas.List.{get_or-map, get_or_default, take_all}
+use Rattle.std.proofs.lemmas.List.{get_or-map, take_all}
 use Rattle.std.proofs.lemmas.List.Folds.{list_any_at, list_any_more}
 use Rattle.desk_data.specs.declared.parts.Parts.{Parts}
 use Rattle.desk_data.specs.declared.row.Row.{Row}
@@ -13,7 +13,7 @@ use Rattle.kept_set.proofs.ListLaws.{none_in}
 use Rattle.crew_rules.specs.declared.crew.CrewInfo.{CrewInfo}
 use Rattle.crew_rules.specs.declared.crew.CrewBroken.{CrewBroken}
 use Rattle.crew_rules.specs.declared.crew.CrewBroken.TheVariants.{K1, K2, K3, K4}
-use Rattle.crew_rules.specs.Broken.{breaks_crew, crew_at, crew_of, rule_of}
+use Rattle.crew_rules.specs.Broken.{breaks_crew, crew_at, crew_of}
 use Rattle.crew_duty.specs.declared.faults.CrewFaults.{CrewFaults}
 use Rattle.crew_duty.specs.declared.faults.CrewRule.{CrewRule}
 use Rattle.crew_duty.specs.declared.faults.CrewRule.TheVariants.{Chain, Turn, Duty, Home}

@@ -1,6 +1,6 @@
 -- What the board of the crews is seen as, and when it is right.
-use Rattle.std.specs.Prelude.{◌≡◌, ℕ, ◌==◌, Bool, true, false, ◌&&◌, IsTrue, ◌↔◌, List, length, All}
-use Rattle.std.specs.List.{Contains, list_any}
+use Rattle.std.specs.Prelude.{◌≡◌, ℕ, true, ◌↔◌, List, length, All}
+use Rattle.std.specs.List.{Contains}
 use Rattle.desk_data.specs.declared.parts.Parts.{Parts}
 use Rattle.desk_data.specs.declared.row.Row.{Row}
 use Rattle.desk_data.specs.PlanRows.{IsRow}

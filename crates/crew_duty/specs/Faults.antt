@@ -1,5 +1,5 @@
 -- Which rules a crew does not keep, and items that are judged by these.
-use Rattle.std.specs.Prelude.{◌≡◌, ℕ, ◌+◌, ◌<◌, nat_lt, nat_le, ◌==◌, Bool, true, false, not, ◌&&◌, IsTrue, ◌↔◌, if◌then◌else◌, List, Option, Some, None}
+use Rattle.std.specs.Prelude.{◌≡◌, ℕ, ◌+◌, ◌<◌, nat_lt, nat_le, ◌==◌, Bool, true, false, not, ◌↔◌, if◌then◌else◌, List, Option, Some, None}
 use Rattle.std.specs.List.{Contains, list_any}
 use Rattle.desk_data.specs.declared.parts.Parts.{Parts}
 use Rattle.desk_data.specs.declared.row.Row.{Row}

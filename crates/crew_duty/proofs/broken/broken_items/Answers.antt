@@ -1,4 +1,4 @@
-use Rattle.std.proofs.Common.{ℕ, List, ltb, length, sym, ap, ◌∙◌}
+use Rattle.std.proofs.Common.{ℕ, List, length, sym, ap, ◌∙◌}
 use Rattle.crew_duty.specs.Faults.{among}
 use Rattle.crew_duty.proofs.JudgedLaws.{all_broken, all_below}
 use Rattle.crew_duty.proofs.broken.broken_items.Goals as goal

@@ -1,4 +1,4 @@
-use Rattle.std.proofs.Common.{◌≡◌, ◌<◌, ◌≤◌, drop, length}
+use Rattle.std.proofs.Common.{◌≡◌, ◌<◌, drop}
 use Rattle.std.specs.List.{list_all}
 use Rattle.crew_rules.specs.Crews.{is_short, duties}
 use Rattle.crew_duty.proofs.LoopLaws.{go_on_short}

@@ -1,4 +1,4 @@
-use Rattle.std.proofs.Common.{Bool, ◌&&◌, ◌||◌, eqb, List, ap, ◌∙◌}
+use Rattle.std.proofs.Common.{◌&&◌, ◌||◌, eqb, List, ap, ◌∙◌}
 use Rattle.std.specs.List.{list_any}
 use Rattle.desk_units.specs.declared.numbers.Leg.{Leg}
 use Rattle.crew_rules.specs.declared.crew.CrewInfo.{CrewInfo}
