@@ -29,10 +29,10 @@ const OF_BOTH: [(Orders, u64, u32); 8] = [
     (Orders::None, 1, 0),
     (Orders::None, 2, 4),
     (Orders::None, 3, 8),
-    (Orders::Told, 4, 0),
+    (Orders::Told, 12, 2),
     (Orders::Told, 5, 6),
-    (Orders::ToldLater, 6, 0),
-    (Orders::ToldLater, 7, 6),
+    (Orders::ToldLater, 33, 0),
+    (Orders::ToldLater, 11, 4),
     (Orders::ToldLater, 8, 12),
 ];
 
