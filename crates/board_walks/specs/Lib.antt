@@ -1,0 +1,2 @@
+pub use Rattle.desk_data.specs.Valid
+pub mod Walks

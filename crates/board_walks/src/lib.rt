@@ -1,0 +1,10 @@
+//! Walks of each board by itself: changes that are drawn, of rows and of passengers, some of which are taken back or can be no
+//! more. After each the board says what the rules or the prices say of the plan from scratch.
+//!
+//! There is no code here but tests: what a crate has beside them is proved twice. One walk serves all boards. A board is handed its
+//! changes before the plan has them, as an evaluator does. A test asserts plain values, which a helper gives: what owns a day or a
+//! board lives no longer than that call.
+#![tactic(auto)]
+
+#[cfg(test)]
+mod tests;
