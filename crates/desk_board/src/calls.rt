@@ -98,12 +98,15 @@ impl<J: Naming, R: Wait + Drop> BoardTelling<J, R> {
 }
 
 impl<J: Naming, R: Wait + Drop> Telling for BoardTelling<J, R> {
+    ghost use Rattle.std.specs.Prelude.{◌≡◌};
     ghost use Rattle.turn_book.proofs.Prefixes.{prefix_trans};
     ghost use Rattle.live_board.specs.Histories.{history};
     ghost use Rattle.desk_board.specs.Posts.{HasTold};
     ghost use Rattle.desk_board.specs.Told.{told_to};
 
     ghost can = { λ x B h. HasTold B h (told_to x) };
+
+    ghost told = { λ x B h. history (told_to x) ≡ h };
 
     fn tell_more<W: Wait>(
         &mut self,

@@ -7,10 +7,11 @@ ghost use Rattle.desk_model.specs.States.{State, opening};
 ghost use Rattle.desk_core.specs.Recorded.{Recorded};
 ghost use Rattle.live_board.specs.declared.told.Told.{Told};
 ghost use Rattle.live_board.specs.Histories.{history, origin, IsViewOf};
+ghost use Rattle.live_board.specs.Watched.{AreRising};
 ghost use Rattle.live_board.specs.Words.{stands_for};
 ghost use Rattle.desk_view.specs.Views.{IsSightOf, AreSeen};
 ghost use Rattle.desk_view.proofs.SightLaws.{AreSightsBelow};
-ghost use Rattle.desk_board.specs.Sights.{sights};
+ghost use Rattle.desk_board.specs.Sights.{sights, AddsSight, HaveLines};
 
 use crate::sight::Sight;
 use desk_data::NoMem;
@@ -27,6 +28,7 @@ fn add_sight(lines: &mut Vec<View>, least: u32, view: View, last: View) -> Resul
     requires { (least ≤ last.entries) × (length lines.old.items ≤ 63) }
     ensures least { IfOk result (λ next. next ≤ last.entries) }
     ensures few { OnOk result (length lines.new.items ≤ 63) }
+    ensures added { IfOk result (λ next. AddsSight least view last next lines.old.items lines.new.items) }
     ensures seen { IfOk result (λ next. (S : State) (h : Items Record) → AreSightsBelow S h least lines.old.items → IsSightOf S h view → AreSightsBelow S h next lines.new.items) }
 {
     if view.entries < least {
@@ -43,14 +45,17 @@ fn add_sight(lines: &mut Vec<View>, least: u32, view: View, last: View) -> Resul
 }
 
 /// The views of notes, each with more entries than the one before it and fewer than the last view has, 63 at most, and then
-/// the last view. The only error is out of memory.
+/// the last view. Of up to 63 notes, each later than the one before it, none is left out that has fewer entries than the last view.
+/// The only error is out of memory.
 pub fn seen_lines<J: Naming>(
     alloc: Global,
     notes: &[Note<Sight, J>],
     last: Sight,
 ) -> Result<Vec<View>, NoMem>
-    ensures { (B : Recorded) (log : Items (Told Recorded Record)) → origin log ≡ Some B → IsViewOf sights last log → All (λ n. IsPrefix (stands_for n) log) notes.now
+    ensures seen { (B : Recorded) (log : Items (Told Recorded Record)) → origin log ≡ Some B → IsViewOf sights last log → All (λ n. IsPrefix (stands_for n) log) notes.now
         → IfOk result (λ lines. AreSeen (opening B.opening) (history log) lines.items) }
+    ensures each { (B : Recorded) (log : Items (Told Recorded Record)) → origin log ≡ Some B → IsViewOf sights last log → All (λ n. IsPrefix (stands_for n) log) notes.now → AreRising stands_for notes.now → length notes.now ≤ 63
+        → IfOk result (λ lines. HaveLines (opening B.opening) (history log) (λ n. history (stands_for n)) notes.now lines.items) }
 {
     let mut lines = Vec::with_capacity(alloc, MOST_SIGHTS + 1)?;
     let mut least = 0;

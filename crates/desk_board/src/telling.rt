@@ -1,6 +1,6 @@
 //! Telling others of a history while it grows.
 
-ghost use Rattle.std.specs.Prelude.{◌≡◌, List as Items};
+ghost use Rattle.std.specs.Prelude.{◌≡◌, List as Items, OnOk};
 ghost use mathlib.Core.List.{IsPrefix};
 ghost use Rattle.desk_model.specs.declared.answer.Entry.{Entry as Record};
 ghost use Rattle.desk_core.specs.Recorded.{Recorded};
@@ -18,6 +18,9 @@ pub trait Telling {
     /// It can go on where a turn was opened with this book, and this history is seen.
     ghost can: { Self → Recorded → Items Record → Type 0 };
 
+    /// It has told all of this history, of a turn that was opened with this book.
+    ghost told: { Self → Recorded → Items Record → Type 0 };
+
     /// Looks at the history, and tells all that is new. The only error is out of memory, and then nothing more is told.
     fn tell_more<R: Wait>(
         &mut self,
@@ -30,7 +33,8 @@ pub trait Telling {
         requires can { can self.old (first_book turn.now) (seen pass.old) }
         ensures of { IsPassOf opening_of turn.now pass.new }
         ensures looked { Looked (known pass.old) (known pass.new) }
-        ensures can { can self.new (first_book turn.now) (seen pass.new) };
+        ensures can { can self.new (first_book turn.now) (seen pass.new) }
+        ensures all { OnOk result (told self.new (first_book turn.now) (seen pass.new)) };
 
     ghost longer: { (x : Self) (B : Recorded) (h g : Items Record) → IsPrefix h g → can x B h → can x B g };
 }
@@ -41,6 +45,8 @@ pub struct TellsNobody;
 
 impl Telling for TellsNobody {
     ghost can = { λ x B h. Unit {0} };
+
+    ghost told = { λ x B h. Unit {0} };
 
     fn tell_more<R: Wait>(
         &mut self,

@@ -114,9 +114,9 @@ fn reported_by_team<R: Threads + Wait + Sync, F: Folder, O: Sink, G: Gate>(
 /// Recovers a day with 1 to 64 workers that search side by side, in the directories that the folder has, and answers
 /// the status. A worker that sees so many moves accepted since the last batch, 1 to 100,000, proposes no more; what
 /// another has found by then may still be accepted. Where it is live, the batches but the first are taken while the
-/// workers search. Where one watches, a viewer looks at the desk's board all the while, and the report has a line for each of the
-/// first 63 different views that it saw and for that of the whole journal. The gate is entered by each worker in each of its rounds, once it has looked and before it
-/// searches, and by the desk as worker 0 before each batch that it takes live.
+/// workers search. Where one watches, a viewer looks at the desk's board all the while, and the report has at
+/// most 64 lines of what it saw: views, each of more entries than the one before it, the last that of the whole journal. The gate is
+/// entered by each worker in each of its rounds, once it has looked and before it searches, and by the desk as worker 0 before each batch that it takes live.
 ///
 /// 0: done, with a plan at the end. 1: done, with no plan at the end. 3: the input is refused. 4: the folder failed
 /// to read a file. 5: the folder failed to write a file, or the sink to write the report. 6: memory ran out. From 3

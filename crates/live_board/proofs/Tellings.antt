@@ -1,5 +1,6 @@
 -- What one tell more makes of a board's history.
 use Rattle.std.proofs.Common.{◌≡◌, ◌≢◌, ◌≤◌, ℕ, zero, suc, length, take, arith, List, [], ◌∷◌, ◌++◌, Option, Some, None, refl, sym, ap, ◌∙◌, append_assoc, fold, All, subst}
+use Rattle.std.specs.Prelude.{IfSome}
 use Rattle.std.proofs.lemmas.List.{append-nil}
 use Rattle.std.proofs.lemmas.List.Elements.{All-push}
 use mathlib.Core.List.{IsPrefix}
@@ -30,6 +31,9 @@ module _ {B I : Type 0} where
   pub origin_same : (log more : List (Told B I)) → origin log ≢ None → IsPrefix log more → origin more ≡ origin log
   origin_same [] more not_none p = absurd (not_none refl)
   origin_same (t ∷ log) more not_none p = ap origin (sym p.1)
+
+pub some_at : {A : Type 0} (o : Option A) (a : A) (P : A → Type 0) → IfSome o P → o ≡ Some a → P a
+some_at {A} o a P h is = subst (λ (p : Option A). IfSome p P) is h
 
 pub some_of : {A : Type 0} (o : Option A) → o ≢ None → (a : A) × (o ≡ Some a)
 some_of None not_none = absurd (not_none refl)

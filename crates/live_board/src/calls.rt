@@ -1,10 +1,10 @@
 //! What tellers and viewers do.
 
-ghost use Rattle.std.specs.Prelude.{◌≡◌, ◌≢◌, ◌≤◌, ◌++◌, ◌∷◌, [], All, length, ◌⊎◌, IfOk, IfSome, MatchBool, OnOk, OnErr, Some, None, drop, vec_capacity};
+ghost use Rattle.std.specs.Prelude.{◌≡◌, ◌≢◌, ◌≤◌, ◌++◌, ◌∷◌, [], All, length, ◌⊎◌, true, false, is_err, IfOk, IfSome, MatchBool, OnOk, OnErr, Some, None, drop, vec_capacity};
 ghost use mathlib.Core.List.{IsPrefix};
 ghost use Rattle.left_right.specs.Sides.{view};
 ghost use Rattle.live_board.specs.Histories.{IsViewOf, AreNext, opens, tells, origin};
-ghost use Rattle.live_board.specs.Words.{board_of, opening_log, told_by, seen_by, stands_for, IsShown, WaitsAsBefore};
+ghost use Rattle.live_board.specs.Words.{board_of, opening_log, told_by, has_failed, seen_by, stands_for, IsAlone, HasRead, IsShown, WaitsAsBefore};
 
 use crate::board::{Head, Note, Opened, Teller, Viewer};
 use crate::boarded::Boarded;
@@ -48,6 +48,7 @@ impl<S: Summary> Opened<S> {
         requires board { board_of self ≡ J.book }
         ensures teller { IfOk result (λ t. told_by t.0 ≡ opening_log self) }
         ensures shown { IfOk result (λ t. IsShown T.log t.0) }
+        ensures failed { IfOk result (λ t. has_failed t.0 ≡ false) }
         ensures count { IfOk result (λ t. length t.1.items ≡ viewers) }
         ensures viewers { IfOk result (λ t. All (λ v. seen_by v ≡ opening_log self) t.1.items) }
     {
@@ -76,6 +77,7 @@ impl<S: Summary> Opened<S> {
                     shown,
                     of: PhantomData,
                 },
+                failed: false,
                 rt,
             },
             all,
@@ -114,6 +116,25 @@ impl<S: Summary, T: Boarded<S>, J: Naming, R: Wait + Drop> Teller<S, T, J, R> {
     /// Publishes these entries behind what is published, all at once. After `NoMem` nothing is published, nothing more
     /// waits to be published, and each later call answers `NoMem` too.
     pub fn tell(&mut self, entries: &[S::Item]) -> Result<(), NoMem>
+        requires next { AreNext S.follows (told_by self.old) entries.now }
+        requires shown { IsShown T.log self.old }
+        ensures shown { IsShown T.log self.new }
+        ensures ok { OnOk result (told_by self.new ≡ told_by self.old ++ tells entries.now ∷ []) }
+        ensures err { OnErr result (told_by self.new ≡ told_by self.old) }
+        ensures waits { OnErr result (WaitsAsBefore self.old self.new) }
+        ensures failed { has_failed self.new ≡ is_err result }
+        ensures again { has_failed self.old ≡ true → is_err result ≡ true }
+    {
+        if self.failed {
+            return Err(NoMem);
+        }
+        let told = self.tell_once(entries);
+        self.failed = told.is_err();
+        told
+    }
+
+    /// Publishes these entries. After `NoMem` the record may have gone on, so that no later call succeeds.
+    fn tell_once(&mut self, entries: &[S::Item]) -> Result<(), NoMem>
         requires next { AreNext S.follows (told_by self.old) entries.now }
         requires shown { IsShown T.log self.old }
         ensures shown { IsShown T.log self.new }
@@ -231,10 +252,14 @@ impl<S: Summary, T: Boarded<S>, J: Naming> Viewer<S, T, J> {
     }
 
     /// The view of a published history, which begins with all that this viewer saw before and was
-    /// told of. It waits for nobody.
+    /// told of: of what its reader finds, or of what the viewer keeps. A viewer without a reader sees what it keeps. It waits
+    /// for nobody.
     pub fn see(&mut self) -> S
         ensures later { IsPrefix (seen_by self.old) (seen_by self.new) }
         ensures view { IsViewOf S.of result (seen_by self.new) }
+        ensures alone { IsAlone self.old → seen_by self.new ≡ seen_by self.old }
+        ensures reader { IsAlone self.new → IsAlone self.old }
+        ensures one { (seen_by self.new ≡ seen_by self.old) ⊎ HasRead self.new }
     {
         let Some(reader) = self.reader.take() else {
             return self.kept.shown.view;
@@ -258,6 +283,7 @@ fn enter<S: Summary, T: Boarded<S>, J: Naming>(
     Option<Note<S, J>>,
 )
     ensures later { IfSome result.1 (λ s. IsPrefix (stands_for kept.now) (stands_for s)) }
+    ensures one { IfSome result.1 (λ s. (stands_for s ≡ stands_for kept.now) ⊎ (stands_for s ≡ view result.0.place)) }
     ensures read { IfSome result.1 (λ s. IsPrefix (view reader.place) (view result.0.place)) }
     ensures entered { IfSome result.1 (λ s. IsPrefix (view result.0.place) (stands_for s)) }
 {

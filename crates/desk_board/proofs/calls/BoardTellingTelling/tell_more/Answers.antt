@@ -4,6 +4,7 @@ use Rattle.turn_book.proofs.Prefixes.{prefix_trans}
 use Rattle.desk_core.proofs.TurnedLaws.{desk_legal}
 use Rattle.live_board.specs.Histories.{history}
 use Rattle.desk_board.specs.Told.{told_to}
+use Rattle.desk_board.proofs.TellingLaws.{all_of}
 use Rattle.desk_board.proofs.calls.BoardTellingTelling.tell_more.Goals as goal
 
 pub publish-requires : goal.publish-requires
@@ -15,3 +16,10 @@ pub returns-clause-can : goal.returns-clause-can
 returns-clause-can g c =
     let h = seen c.look.new.pass in
     c.publish.ensures.told (first_book c.args.turn.now) h (c.requires.can.0, prefix_trans (history (told_to c.args.self.now)) (seen c.args.pass.now) h c.requires.can.1 c.look.ensures.looked.began) (c.as_slice.ensures.value ∙ c.in_ok-items.ensures.items)
+
+pub returns-clause-all : goal.returns-clause-all
+returns-clause-all g c =
+    let h = seen c.look.new.pass in
+    all_of c.publish.result _ _
+    (λ all. all (first_book c.args.turn.now) h (c.requires.can.0, prefix_trans (history (told_to c.args.self.now)) (seen c.args.pass.now) h c.requires.can.1 c.look.ensures.looked.began) (c.as_slice.ensures.value ∙ c.in_ok-items.ensures.items))
+    c.publish.ensures.all

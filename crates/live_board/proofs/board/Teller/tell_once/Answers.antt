@@ -2,7 +2,7 @@ use Rattle.std.proofs.Common.{rules, ◌≡◌, ap, sym, ◌∙◌, [], ◌∷�
 use Rattle.std.proofs.lemmas.Option.{same_Some}
 use Rattle.live_board.specs.Histories.{origin, tells}
 use Rattle.live_board.proofs.Tellings.{some_of}
-use Rattle.live_board.proofs.board.Teller.tell.Goals as goal
+use Rattle.live_board.proofs.board.Teller.tell_once.Goals as goal
 
 pub view_after-view-requires : goal.view_after-view-requires
 view_after-view-requires g c =
