@@ -7,6 +7,7 @@ ghost use Rattle.turn_book.specs.Passes.{first_book, known, seen, tags, IsPassOf
 ghost use Rattle.desk_core.specs.Turned.{opening_of};
 ghost use Rattle.desk_core.specs.Turned.{is_full};
 ghost use Rattle.desk_pool.specs.Workers.{day_of};
+ghost use Rattle.desk_search.specs.declared.batches.Intake.TheVariants as intake;
 ghost use Rattle.desk_search.specs.Taking.{HasTaken, HasTakenAll};
 
 use desk_board::Telling;
@@ -83,8 +84,8 @@ pub(crate) fn take_batch<R: Wait, T: Telling>(
     take_one(rt, alloc, turn, pass, batch)
 }
 
-/// Has batches taken one after another, tells what is new before each, and enters the gate as worker 0 with the number of each,
-/// from 1 on, before that. It stops at the first one that is not taken.
+/// Has batches taken one after another, tells what is new before each and once all are taken, and enters the gate as worker 0 with
+/// the number of each, from 1 on, before that. It stops at the first one that is not taken.
 pub(crate) fn take_batches<R: Wait, G: Gate, T: Telling>(
     rt: &R,
     alloc: Global,
@@ -102,6 +103,7 @@ pub(crate) fn take_batches<R: Wait, G: Gate, T: Telling>(
     ensures began { IsPrefix (seen pass) (seen result.0) }
     ensures taken { IfOk result.1 (HasTakenAll batches.now (known pass) (known result.0)) }
     ensures can { T.can result.2 (first_book turn.now) (seen result.0) }
+    ensures told { IfOk result.1 (λ came. came ≡ intake.Taken → T.told result.2 (first_book turn.now) (seen result.0)) }
 {
     let mut number: u32 = 1;
     for batch in batches {
@@ -115,5 +117,8 @@ pub(crate) fn take_batches<R: Wait, G: Gate, T: Telling>(
             Intake::Full => return (pass, Ok(Intake::Full), telling),
         }
     }
-    (pass, Ok(Intake::Taken), telling)
+    match telling.tell_more(rt, alloc, turn, &mut pass) {
+        Ok(()) => (pass, Ok(Intake::Taken), telling),
+        Err(_) => (pass, Err(NoMem), telling),
+    }
 }

@@ -4,7 +4,7 @@
 //!
 //! `in_turn` has a batch taken and then the workers make rounds until they agree, batch after batch; `live` has the first batch
 //! taken and the others while the workers make rounds. `search_day` opens the book and the turn for that, `close_day` closes
-//! them, and `recover_by_team` writes what came of it. Each of them tells what is new before a batch and before rounds: nobody, or a
+//! them, and `recover_by_team` writes what came of it. What is new is told after each batch and after each search: to nobody, or to a
 //! board, on which a viewer looks meanwhile (`watch_day`), and then what it saw is written too.
 //!
 //! Proved: the history is one that such a team may make of these batches (`IsTeamWork` of desk_tasks), whichever worker came

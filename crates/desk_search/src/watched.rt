@@ -216,9 +216,9 @@ fn watch_book<J: Naming + Send + Sync, R: Threads + Wait + Sync, G: Gate>(
     )
 }
 
-/// Opens the book of a day, and a board on it, before the first batch is taken; has the batches, 1 to 1,001, taken and searched after by a team while one viewer
-/// looks at the board all the time; and closes the turn. The board is told what is new before each batch that the desk takes and
-/// before each search, and at the end. The only error is out of memory.
+/// Opens the book of a day, and a board on it, before the first batch is taken; has the batches, 1 to 1,001, taken and searched after
+/// by a team while one viewer looks at the board all the time; and closes the turn. The board is told what is new after each batch
+/// that is taken and after each search. The only error is out of memory.
 pub(crate) fn watch_day<R: Threads + Wait + Sync, G: Gate>(
     rt: &R,
     alloc: Global,

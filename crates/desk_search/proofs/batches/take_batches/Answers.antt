@@ -3,7 +3,7 @@ use Rattle.desk_data.specs.Valid.{IsBatch}
 use Rattle.turn_book.specs.Passes.{known, seen}
 use Rattle.turn_book.proofs.Prefixes.{prefix_trans}
 use Rattle.desk_pool.specs.Workers.{day_of}
-use Rattle.desk_search.proofs.Taking.{takes_more, takes_on, by_full, by_taken}
+use Rattle.desk_search.proofs.Taking.{takes_more, takes_on, by_full, by_taken, looked_none}
 use Rattle.desk_search.proofs.batches.take_batches.Goals as goal
 
 -- each batch of the list can be taken
@@ -31,3 +31,19 @@ loop-batch-preserved g c = record {
   taken = takes_more (day_of c.args.turn.now) c.args.batches.now c.loop-batch.batch-index c.batch-item.result (known c.args.pass) (known c.loop-batch.pass) (known c.take_batch.new.pass)
       c.loop-batch-test.true c.batch-item.is c.loop-batch.invariant.taken (by_taken (day_of c.args.turn.now) c.batch-item.result (known c.loop-batch.pass) (known c.take_batch.new.pass) c.in-Ok.came c.in-Taken.is c.in-Ok.ensures.taken.reported);
 }
+
+-- once all are taken it is told, which takes none
+pub returns-in-Ok-tell_more-clause-taken : goal.returns-in-Ok-tell_more-clause-taken
+returns-in-Ok-tell_more-clause-taken g c = record {
+  count = c.loop-batch.batch-index;
+  few = c.loop-batch.auto.batch-index-end;
+  all = λ e. omega (arith, c.loop-batch-test.false, c.loop-batch.auto.batch-index-end);
+  full = λ e. absurd cc;
+  first = takes_on c.loop-batch.batch-index c.args.batches.now (known c.args.pass) (known c.loop-batch.pass) (known c.tell_more.new.pass) c.loop-batch.invariant.taken (looked_none (known c.loop-batch.pass) (known c.tell_more.new.pass) c.tell_more.ensures.looked);
+}
+
+pub returns-in-Full-clause-told : goal.returns-in-Full-clause-told
+returns-in-Full-clause-told g c = λ e. absurd cc
+
+pub returns-in-Ok-tell_more-clause-told : goal.returns-in-Ok-tell_more-clause-told
+returns-in-Ok-tell_more-clause-told g c = λ same. c.in-Ok-tell_more.ensures.all
