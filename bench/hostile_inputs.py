@@ -232,6 +232,8 @@ RANGES = (
     ("itineraries.csv", b"R1 A 100.%04d 10 F1 01/03/08 E\n", 0, 9_999),
     ("position.csv", b"AAA M1 0/0/9 %d\n", 0, 1_000),
     ("position.csv", b"AAA M1 %d/0/9 1\n", 0, 999),
+    ("position.csv", b"AAA M1 0/%d/9 1\n", 0, 999),
+    ("position.csv", b"AAA M1 0/0/%d 1\n", 0, 999),
     ("alt_flights.csv", b"F3 01/03/08 %d\n", -1, 2_880),
     ("alt_aircraft.csv", b"P2 01/03/08 %d:30 01/03/08 23:45\n", 0, 23),
     ("alt_airports.csv", b"AAA 01/03/08 10:00 01/03/08 11:00 %d 0\n", 0, 100_000),
@@ -246,10 +248,17 @@ RANGES = (
     ("tariff.csv", b"position,%d\n", 0, 999_999_999),
     ("tariff.csv", b"weight,delay,%d\n", 0, 999_999),
     ("tariff.csv", b"weight,operating,%d\n", 0, 999_999),
+    ("tariff.csv", b"weight,cancellation,%d\n", 0, 999_999),
+    ("tariff.csv", b"weight,downgrade,%d\n", 0, 999_999),
+    ("tariff.csv", b"weight,legal,%d\n", 0, 999_999),
+    ("tariff.csv", b"weight,position,%d\n", 0, 999_999),
+    ("tariff.csv", b"weight,delay,0.%03d\n", 0, 999),
     ("feed.csv", b"%d,none\n", 1, 1),
     ("feed.csv", b"1,at,01/03/08,%d:00\n", 6, 23),
     ("feed.csv", b"1,flight,F3,01/03/08,%d\n", -1, 2_880),
     ("feed.csv", b"1,airport,AAA,01/03/08,10:00,01/03/08,11:00,%d,10\n", 0, 100_000),
+    ("feed.csv", b"1,airport,AAA,01/03/08,10:00,01/03/08,11:00,10,%d\n", 0, 100_000),
+    ("feed.csv", b"1,aircraft,P2,01/03/08,%d:30,01/03/08,23:45\n", 0, 23),
     ("journal.csv", b"%d,move,tidy\n", 0, 64),
     ("journal.csv", b"0,batch,%d\n", 0, 0),
     ("journal.csv", b"0,move,rebook R1 A %d 0 0\n", 1, 1_000),
@@ -281,7 +290,7 @@ def numbers(asked):
             good = good and fits
             cause = given.said.decode("ascii", "replace").split()[-1] if given.status == 3 else ""
             told.append("%d: %s %s" % (number, given.status, cause))
-        shown = re.sub(r"%0?[24]?d", "N", line.decode().split("\n")[0])
+        shown = re.sub(r"%0?[234]?d", "N", line.decode().split("\n")[0])
         words = "check" if name in SOLUTION_FILES else "replay"
         yield "| `%s` in %s | %s | %s | | |" % (shown, name, words, "; ".join(one.strip() for one in told)), good
 
