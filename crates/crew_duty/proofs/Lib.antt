@@ -1,0 +1,5 @@
+pub mod SortLaws
+pub mod LoopLaws
+pub mod FaultLaws
+pub mod UserLaws
+pub mod BoardLaws

@@ -1,0 +1,2 @@
+pub mod LegLemmas
+pub mod CrewLemmas
