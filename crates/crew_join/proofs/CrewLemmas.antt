@@ -1,10 +1,16 @@
 -- The crews of rows, joined one by one, each after those before it.
-use Rattle.std.proofs.Common.{◌≡◌, ℕ, suc, ◌+◌, ◌<◌, ◌≤◌, Bool, true, false, ◌||◌, List, [], ◌∷◌, ◌++◌, length, take, drop, get_or, Result, Ok, Err, bytes_eq, refl, sym, ap, subst, ◌∙◌, arith, drop-cons, append_assoc}
+use Rattle.std.proofs.Common.{◌≡◌, ℕ, suc, ◌+◌, ◌<◌, ◌≤◌, Bool, true, false, not, cond, ◌||◌, List, [], ◌∷◌, ◌++◌, length, take, drop, get_or, Result, Ok, Err, bytes_eq, refl, sym, ap, subst, ◌∙◌, arith, drop-cons, append_assoc}
 use Rattle.std.specs.List.{list_any}
+use Rattle.std.specs.declared.alloc.Global.{Global}
+use Rattle.std.specs.declared.vec.Vec.{Vec}
+use Rattle.std.proofs.lemmas.List.Folds.{list_any-append}
 use Rattle.std.proofs.Math.ListN.{drop_of_length-le}
 use Rattle.std.proofs.lemmas.List.{append-nil, take_more}
 use Rattle.file_rows.specs.declared.cause.Cause.{Cause}
-use Rattle.desk_text.specs.Rows.{◌>>=◌, at_line}
+use Rattle.desk_text.specs.declared.fault.ReadFault.{ReadFault}
+use Rattle.desk_text.specs.declared.fault.RowFault.{RowFault}
+use Rattle.desk_text.specs.declared.fault.RowFault.TheVariants as row_fault
+use Rattle.desk_text.specs.Rows.{◌>>=◌, at_line, Gives, GivesRow, fault_at}
 use Rattle.desk_data.specs.Situation.{Situation}
 use Rattle.crew_rows.specs.declared.rows.CrewRow.{CrewRow}
 use Rattle.crew_rules.specs.declared.crew.CrewInfo.{CrewInfo}
@@ -63,3 +69,27 @@ module _ (I : Situation) (rows : List CrewRow) where
   unfolding crews_after
   ends before k total over so_far =
       sym so_far ∙ ap (λ (rest : List CrewRow). prepended before (crews_after I (take k rows) rest)) (drop_of_length-le rows {i = k} over) ∙ ap Ok (append-nil before)
+
+  -- an answer that is the fault of one that is refused, at its line
+  pub stops : (before : List CrewInfo) (k : ℕ) (row : CrewRow) (fault : RowFault) (answer : ReadFault) (total : Result (List CrewInfo) (ℕ × Cause)) → k < length rows → row ≡ get_or rows k row → answer ≡ fault_at row.line fault
+      → GivesRow {Row = CrewInfo} (Err fault) (crew_stated I (take k rows) row) → prepended before (crews_after I (take k rows) (drop k rows)) ≡ total → Gives (λ (crews : Vec CrewInfo Global). crews.items) (Err answer) total
+  stops before k row (row_fault.Refused cause) answer total below is at gives so_far =
+      subst (λ (f : ReadFault). Gives (λ (crews : Vec CrewInfo Global). crews.items) (Err f) total) (sym at) (refused before k row cause total below is gives so_far)
+  stops before k row row_fault.Memory answer total below is at gives so_far =
+      subst (λ (f : ReadFault). Gives (λ (crews : Vec CrewInfo Global). crews.items) (Err f) total) (sym at) tt
+
+-- ---- the names so far
+
+cond-or : (a b : Bool) → cond b true a ≡ (a || (b || false))
+cond-or true true = refl
+cond-or true false = refl
+cond-or false true = refl
+cond-or false false = refl
+
+pub seen_more : (name : List ℕ) (rows : List CrewRow) (k : ℕ) (row : CrewRow) → k < length rows → row ≡ get_or rows k row → cond (bytes_eq row.name name) true (has_name name (take k rows)) ≡ has_name name (take (k + 1) rows)
+seen_more name rows k row below is = rw (take_more rows k row below, ← is, list_any-append) (cond-or _ _)
+
+-- a name was seen before exactly where it is not new
+pub again_is : (added has seen : Bool) → added ≡ not has → has ≡ seen → seen ≡ not added
+again_is added true seen e f = sym f ∙ (rw e refl)
+again_is added false seen e f = sym f ∙ (rw e refl)

@@ -15,6 +15,7 @@ use Rattle.desk_model.specs.Histories.{has_room, is_change, changes, entry_of}
 use Rattle.desk_core.specs.Recorded.{Recorded, state_of, with_entry}
 use Rattle.crew_rules.specs.declared.crew.CrewInfo.{CrewInfo}
 use Rattle.desk_tasks.specs.Crew.{plan_line, change_line, crew_lines}
+use Rattle.desk_replay.specs.Crews.{AreLines, AreMoreLines}
 
 -- ---- one row more is that of the plan
 
@@ -90,21 +91,16 @@ entered cs B caller event =
       | inr full ↦ rw full (entered_none cs B)
     ]
 
--- the lines so far are those of the book
-abbrev pub AreLines : Situation → List CrewInfo → Recorded → List ℕ → Type 0
-AreLines I cs B lines = lines ≡ crew_lines (opening I) cs [] B.journal
-
-pub lines_start : (I : Situation) (cs : List CrewInfo) (B : Recorded) (lines : List ℕ) → B.journal ≡ [] → lines ≡ [] → AreLines I cs B lines
+pub lines_start : (I : Situation) (cs : List CrewInfo) (B : Recorded) (lines : List ℕ) → B ≡ record { opening = I; journal = [] } → lines ≡ [] → AreLines cs B lines
 unfolding crew_lines
-lines_start I cs B lines none empty = empty ∙ sym (ap (crew_lines (opening I) cs []) none)
+lines_start I cs B lines is empty = subst (λ (C : Recorded). AreLines cs C lines) (sym is) empty
 
-pub lines_step : (I : Situation) (cs : List CrewInfo) (B C : Recorded) (caller : ℕ) (event : Event) (lines more : List ℕ) (rose : Bool) → C ≡ with_entry B caller event → B.opening ≡ I → nat_lt (changes B.journal) (changes C.journal) ≡ rose
-    → more ≡ lines ++ added cs C rose → AreLines I cs B lines → AreLines I cs C more
-lines_step I cs B C caller event lines more rose is same test text so_far =
+-- one event more
+pub lines_step : (cs : List CrewInfo) (B C : Recorded) (caller : ℕ) (event : Event) (lines more : List ℕ) (rose : Bool) → C ≡ with_entry B caller event → nat_lt (changes B.journal) (changes C.journal) ≡ rose
+    → more ≡ lines ++ added cs C rose → AreMoreLines cs B C lines more
+lines_step cs B C caller event lines more rose is test text so_far =
     let entry : Entered cs B C = subst (λ (D : Recorded). Entered cs B D) (sym is) (entered cs B caller event) in
     text
     ∙ ap (λ (t : List ℕ). t ++ added cs C rose) so_far
-    ∙ ap (λ (J : Situation). crew_lines (opening J) cs [] B.journal ++ added cs C rose) (sym same)
     ∙ ap (λ (b : Bool). crew_lines (opening B.opening) cs [] B.journal ++ added cs C b) (sym test)
     ∙ sym entry.lines
-    ∙ ap (λ (J : Situation). crew_lines (opening J) cs [] C.journal) (entry.same ∙ same)

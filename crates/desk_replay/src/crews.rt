@@ -4,8 +4,9 @@ ghost use Rattle.std.specs.Prelude.{◌≡◌, ◌++◌, [], IfOk, OnOk};
 ghost use Rattle.desk_data.specs.Situation.{fresh_day};
 ghost use Rattle.desk_data.specs.Valid.{IsPlanFor};
 ghost use Rattle.desk_model.specs.States.{opening};
-ghost use Rattle.desk_model.specs.Histories.{AreAskable, changes, run};
-ghost use Rattle.desk_core.specs.Recorded.{state_of};
+ghost use Rattle.desk_model.specs.Histories.{IsAskable, AreAskable, changes, run};
+ghost use Rattle.desk_core.specs.Recorded.{state_of, with_entry};
+ghost use Rattle.desk_replay.specs.Crews.{AreMoreLines};
 ghost use Rattle.crew_rules.specs.Valid.{AreCrews};
 ghost use Rattle.crew_duty.specs.Board.{IsCrewBoard};
 ghost use Rattle.desk_runs.specs.Runs.{Between};
@@ -78,6 +79,31 @@ fn push_change(
     Ok(())
 }
 
+// Takes one event, asked by this caller, and adds the line of the crews where it changed the plan. The only error is out of
+// memory.
+fn take_beside(
+    alloc: Global,
+    crews: &[CrewInfo],
+    book: &mut Book,
+    board: &mut CrewBoard,
+    lines: &mut Vec<u8>,
+    asked: &(u32, Event),
+) -> Result<(), NoMem>
+    requires asked { IsAskable book.old.opening asked.now.1 }
+    requires crews { AreCrews book.old.opening.parts crews.now }
+    requires board { IsCrewBoard book.old.opening.parts crews.now board.old }
+    ensures book { OnOk result (book.new ≡ with_entry book.old asked.now.0 asked.now.1) }
+    ensures board { OnOk result (IsCrewBoard book.old.opening.parts crews.now board.new) }
+    ensures lines { OnOk result (AreMoreLines crews.now book.old book.new lines.old.items lines.new.items) }
+{
+    let before = book.changes();
+    take_event(alloc, book, asked.0, &asked.1)?;
+    if book.changes() > before {
+        return push_change(alloc, book, crews, board, lines);
+    }
+    Ok(())
+}
+
 // The book of an instance after these events, each with its caller, and a line of the crews for each change that left a plan.
 // The only error is out of memory.
 fn run_beside(
@@ -97,11 +123,7 @@ fn run_beside(
     let mut book = Book::open(alloc, inst)?;
     let mut lines = Vec::new(alloc);
     for asked in events {
-        let before = book.changes();
-        take_event(alloc, &mut book, asked.0, &asked.1)?;
-        if book.changes() > before {
-            push_change(alloc, &book, crews, &mut board, &mut lines)?;
-        }
+        take_beside(alloc, crews, &mut book, &mut board, &mut lines, asked)?;
     }
     Ok((book, lines))
 }
