@@ -1,4 +1,4 @@
-use Rattle.std.proofs.Common.{◌≡◌, ℕ, not, [], take, length, sym, ◌∙◌, arith}
+use Rattle.std.proofs.Common.{◌≡◌, ℕ, ◌+◌, [], List, take, length, sym, ap, ◌∙◌, arith}
 use Rattle.std.proofs.lemmas.List.{length-take-le, length-append}
 use Rattle.std.proofs.lemmas.List.Elements.{All-push}
 use Rattle.crew_rules.specs.Valid.{IsCrew}
@@ -14,8 +14,8 @@ returns-in-Err-clause-exact c =
     let k = here.row-index in
     let row = c.row-item.result in
     let len : length (take k rows) ≡ k = length-take-le k rows (let lt = c.loop-row-test.true in omega (arith, lt)) in
-    let again = again_is c.in_ok-is_new.is_new _ (has_name row.name (take k rows)) c.in_ok-is_new.ensures.added (here.invariant.names c.as_slice.result) in
-    let gives = c.in-Err.ensures.exact (take k rows) (len ∙ sym here.invariant.count ∙ sym c.len.ensures) again in
+    let again = again_is c.in_ok-is_new.is_new _ (has_name row.name (take k rows)) c.in_ok-is_new.ensures.added (here.invariant.names c.as_slice.result ∙ ap (λ (name : List ℕ). has_name name (take k rows)) c.as_slice.ensures.bytes) in
+    let gives = c.in-Err.ensures.exact (take k rows) (let count = here.invariant.count in let size = c.len.ensures in grind (arith, len, count, size)) again in
     stops I rows here.crews.items k row c.in-Err.fault c.at.result (crews_after I [] rows) c.loop-row-test.true c.row-item.is c.at.ensures gives here.invariant.joined
 
 pub loop-row-preserved : goal.loop-row-preserved
@@ -28,8 +28,8 @@ loop-row-preserved c =
     let before = here.crews.items in
     let crew = c.in-Ok.crew in
     let len : length (take k rows) ≡ k = length-take-le k rows (let lt = c.loop-row-test.true in omega (arith, lt)) in
-    let again = again_is c.in_ok-is_new.is_new _ (has_name row.name (take k rows)) c.in_ok-is_new.ensures.added (here.invariant.names c.as_slice.result) in
-    let gives = c.in-Ok.ensures.exact (take k rows) (len ∙ sym here.invariant.count ∙ sym c.len.ensures) again in
+    let again = again_is c.in_ok-is_new.is_new _ (has_name row.name (take k rows)) c.in_ok-is_new.ensures.added (here.invariant.names c.as_slice.result ∙ ap (λ (name : List ℕ). has_name name (take k rows)) c.as_slice.ensures.bytes) in
+    let gives = c.in-Ok.ensures.exact (take k rows) (let count = here.invariant.count in let size = c.len.ensures in grind (arith, len, count, size)) again in
     let more : length c.push.new.self.items ≡ length before + 1 = c.in_ok-push-in-Ok.ensures.len in
     let fits = c.in-Ok.ensures.few in
     record {
@@ -37,7 +37,7 @@ loop-row-preserved c =
       count = let same = here.invariant.count in omega (arith, more, same);
       few = let same : c.len.result ≡ length before = c.len.ensures in omega (arith, more, fits, same);
       each = rw c.in_ok-push-in-Ok.ensures.items (All-push (IsCrew I.parts) before crew here.invariant.each c.in-Ok.ensures.facts);
-      names = λ q. rw (c.in_ok-is_new.ensures.updates.0 q, here.invariant.names q) (seen_more q.now rows k row c.loop-row-test.true c.row-item.is);
+      names = λ q. rw (c.in_ok-is_new.ensures.updates.0 q, c.as_slice.ensures.bytes, here.invariant.names q) (seen_more q.now rows k row c.loop-row-test.true c.row-item.is);
     }
 
 pub returns-clause-exact : goal.returns-clause-exact
