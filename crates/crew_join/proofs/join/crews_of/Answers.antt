@@ -1,4 +1,4 @@
-use Rattle.std.proofs.Common.{◌≡◌, ℕ, ◌+◌, [], List, take, length, sym, ap, ◌∙◌, arith}
+use Rattle.std.proofs.Common.{◌≡◌, ℕ, ◌+◌, [], ◌∷◌, List, take, length, sym, ap, ◌∙◌, arith}
 use Rattle.std.proofs.lemmas.List.{length-take-le, length-append}
 use Rattle.std.proofs.lemmas.List.Elements.{All-push}
 use Rattle.crew_rules.specs.Valid.{IsCrew}
@@ -30,12 +30,12 @@ loop-row-preserved c =
     let len : length (take k rows) ≡ k = length-take-le k rows (let lt = c.loop-row-test.true in omega (arith, lt)) in
     let again = again_is c.in_ok-is_new.is_new _ (has_name row.name (take k rows)) c.in_ok-is_new.ensures.added (here.invariant.names c.as_slice.result ∙ ap (λ (name : List ℕ). has_name name (take k rows)) c.as_slice.ensures.bytes) in
     let gives = c.in-Ok.ensures.exact (take k rows) (let count = here.invariant.count in let size = c.len.ensures in grind (arith, len, count, size)) again in
-    let more : length c.push.new.self.items ≡ length before + 1 = c.in_ok-push-in-Ok.ensures.len in
+    let more : length c.push.new.self.items ≡ length before + 1 = ap length c.in_ok-push-in-Ok.ensures.items ∙ length-append before (crew ∷ []) in
     let fits = c.in-Ok.ensures.few in
     record {
       joined = rw c.in_ok-push-in-Ok.ensures.items (goes_on I rows before k row crew (crews_after I [] rows) c.loop-row-test.true c.row-item.is gives here.invariant.joined);
       count = let same = here.invariant.count in omega (arith, more, same);
-      few = let same : c.len.result ≡ length before = c.len.ensures in omega (arith, more, fits, same);
+      few = let size = c.len.ensures in grind (arith, more, fits, size);
       each = rw c.in_ok-push-in-Ok.ensures.items (All-push (IsCrew I.parts) before crew here.invariant.each c.in-Ok.ensures.facts);
       names = λ q. rw (c.in_ok-is_new.ensures.updates.0 q, c.as_slice.ensures.bytes, here.invariant.names q) (seen_more q.now rows k row c.loop-row-test.true c.row-item.is);
     }
