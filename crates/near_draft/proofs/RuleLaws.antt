@@ -4,13 +4,11 @@ use Rattle.std.specs.Prelude.{Option, Some, None, not}
 use Rattle.std.proofs.lemmas.Bool.{cases_Bool, lt-ltb}
 use Rattle.std.proofs.lemmas.List.{get_or_default}
 use Rattle.desk_units.specs.declared.numbers.Leg.{Leg}
-use Rattle.desk_data.specs.declared.broken.Broken.TheVariants.{C2, C4, C5, C6, C7}
 use Rattle.desk_data.specs.declared.row.Row.{Row}
 use Rattle.desk_data.specs.Situation.{Situation, legs_of, fixed}
 use Rattle.desk_data.specs.PlanRows.{PlanRows, row_at}
 use Rattle.desk_rules.specs.Rotations.{dep, precedes}
 use Rattle.desk_rules.specs.Maintenance.{flies}
-use Rattle.desk_rules.specs.Least.{breaks}
 use Rattle.desk_rules.specs.Rules.{keeps_c2, keeps_c4, keeps_c5, keeps_c6, keeps_c7, departs_in_time, c4_range, c7_service}
 use Rattle.desk_rules.specs.Words.{Flies, Precedes}
 use Rattle.desk_rules.proofs.RotationLaws.{precedes-holds, precedes-from}
@@ -21,8 +19,8 @@ use Rattle.plan_reads.proofs.AfterLegLaws.{keeps_c5-after, keeps_c6-after}
 use Rattle.plan_reads.specs.Before.{IsNearest, IsLegBefore}
 use Rattle.desk_model.specs.Push.{rotation}
 use Rattle.desk_model.proofs.RotationOrder.{flown_once, precedes-trans, precedes-itself, rotation-ordered, rotation-flown, rotation-each}
-use Rattle.near_trial.specs.RowRules.{BreaksRows}
-use Rattle.near_draft.specs.LegRules.{IsLeft, keeps_leg_rules, leg_rules_after}
+use Rattle.near_units.specs.Own.{keeps_own_rules}
+use Rattle.near_draft.specs.LegRules.{IsLeft, leg_rules_after}
 
 -- leg z stands before place k
 record IsPlacedBefore (legs : List ℕ) (k z : ℕ) : Type 0 where
@@ -113,7 +111,7 @@ before-is I P y (Some leg) at is nearest =
     })
 
 -- so what is told by a row and the leg before is what the plan says
-pub rules-are : (I : Situation) (P : PlanRows) (x : ℕ) (before : Option RotationLeg) (row : Row) → row_at P x ≡ row → IsRotationLegBefore I P x before → leg_rules_after I x before row ≡ keeps_leg_rules I P x
+pub rules-are : (I : Situation) (P : PlanRows) (x : ℕ) (before : Option RotationLeg) (row : Row) → row_at P x ≡ row → IsRotationLegBefore I P x before → leg_rules_after I x before row ≡ keeps_own_rules I P x
 unfolding keeps_c2 keeps_c4 keeps_c7
 rules-are I P x before row is h =
     let c5 : c5_location_after I x before row ≡ keeps_c5 I P x = keeps_c5-after I P x before row is h in
@@ -121,30 +119,3 @@ rules-are I P x before row is h =
     ap (λ (b : Bool). b && c6_ground_time_after I x before row && (fixed I x || departs_in_time I x row) && c4_range I x row && c7_service I x row) c5
     ∙ ap (λ (b : Bool). keeps_c5 I P x && b && (fixed I x || departs_in_time I x row) && c4_range I x row && c7_service I x row) c6
     ∙ ap (λ (r : Row). keeps_c5 I P x && keeps_c6 I P x && (fixed I x || departs_in_time I x r) && c4_range I x r && c7_service I x r) (sym is)
-
--- ---- what is broken
-
-not_kept : (b : Bool) → b ≡ false → not b ≡ true
-not_kept b is = rw is refl
-
-pub leg-breaks : (I : Situation) (P : PlanRows) (leg : Leg) → leg.0 < legs_of I → keeps_leg_rules I P leg.0 ≡ false → BreaksRows I P
-unfolding breaks
-leg-breaks I P leg within fails =
-    let x = leg.0 in
-    let of = lt-ltb x (legs_of I) within in
-    elim (cases_Bool (keeps_c5 I P x)) [
-      | inr c5 ↦ record { item = C5 leg; of = of; broken = not_kept (keeps_c5 I P x) c5 }
-      | inl c5 ↦ elim (cases_Bool (keeps_c6 I P x)) [
-        | inr c6 ↦ record { item = C6 leg; of = of; broken = not_kept (keeps_c6 I P x) c6 }
-        | inl c6 ↦ elim (cases_Bool (keeps_c2 I P x)) [
-          | inr c2 ↦ record { item = C2 leg; of = of; broken = not_kept (keeps_c2 I P x) c2 }
-          | inl c2 ↦ elim (cases_Bool (keeps_c4 I P x)) [
-            | inr c4 ↦ record { item = C4 leg; of = of; broken = not_kept (keeps_c4 I P x) c4 }
-            | inl c4 ↦ elim (cases_Bool (keeps_c7 I P x)) [
-              | inr c7 ↦ record { item = C7 leg; of = of; broken = not_kept (keeps_c7 I P x) c7 }
-              | inl c7 ↦ absurd (let all : keeps_leg_rules I P x ≡ true = rw (c5, c6, c2, c4, c7) refl in let both : true ≡ false = sym all ∙ fails in cc)
-            ]
-          ]
-        ]
-      ]
-    ]

@@ -1,5 +1,6 @@
 pub use Rattle.desk_model.specs.Push
 pub use Rattle.near_trial.specs.RowRules
+pub use Rattle.near_units.specs.Own
 pub mod Drafts
 pub mod Hours
 pub mod Legs

@@ -5,9 +5,10 @@ ghost use Rattle.plan_moves.specs.Fits.{Fits, StepFits};
 ghost use Rattle.near_moves.specs.Descent.{is_better};
 ghost use Rattle.std.specs.List.{list_all};
 ghost use Rattle.desk_data.specs.Situation.{planes_of};
-ghost use Rattle.near_trial.specs.RowRules.{BreaksRows, keeps_rows};
-ghost use Rattle.desk_model.specs.Steps.{after_steps};
+ghost use Rattle.near_trial.specs.RowRules.{keeps_rows};
+ghost use Rattle.desk_model.specs.Steps.{after_move, after_steps};
 ghost use Rattle.near_draft.specs.Drafts.{plan_of};
+ghost use Rattle.near_draft.specs.LegRules.{BreaksLeg, BreaksPushed};
 
 use crate::draft::Draft;
 use crate::legs::{are_in_order, legs_of};
@@ -20,11 +21,12 @@ use plan_moves::{Move, Step};
 use std::alloc::Global;
 
 /// Whether it is known that a move is not better: its first steps, which change rows alone, break a rule of a leg of
-/// an aircraft that they push. They are drafted, and the evaluator does not see them. Where it says no, nothing is
-/// known. The only error is out of memory.
+/// an aircraft that they push, which is the reason that is told. They are drafted, and the evaluator does not see them.
+/// Where it says no, nothing is known. The only error is out of memory.
 pub fn is_known_worse(alloc: Global, eval: &Evaluator, m: &Move) -> Result<bool, NoMem>
     requires { Fits eval.now.inst m.now }
-    ensures { IfOk result (λ known. known ≡ true → is_better eval.now.inst eval.now.rows m.now ≡ false) }
+    ensures worse { IfOk result (λ known. known ≡ true → is_better eval.now.inst eval.now.rows m.now ≡ false) }
+    ensures reason { IfOk result (λ known. known ≡ true → BreaksPushed eval.now.inst (after_move eval.now.inst eval.now.rows m.now) m.now.steps) }
 {
     let steps = m.steps.as_slice();
     let (first, others) = steps.split_at(first_steps(steps));
@@ -73,7 +75,7 @@ fn take_steps(alloc: Global, draft: &mut Draft, steps: &[Step]) -> Result<bool, 
 /// Whether an aircraft that is pushed has a leg that breaks a rule.
 fn breaks_rows(alloc: Global, draft: &Draft, steps: &[Step]) -> Result<bool, NoMem>
     requires { All (StepFits draft.now.inst) steps.now }
-    ensures { IfOk result (λ breaks. breaks ≡ true → BreaksRows draft.now.inst (plan_of draft.now)) }
+    ensures { IfOk result (λ breaks. breaks ≡ true → BreaksPushed draft.now.inst (plan_of draft.now) steps.now) }
 {
     for step in steps {
         if let Step::Push { plane, .. } = step {
@@ -88,7 +90,7 @@ fn breaks_rows(alloc: Global, draft: &Draft, steps: &[Step]) -> Result<bool, NoM
 /// Whether an aircraft has a leg that breaks a rule.
 fn plane_breaks_rows(alloc: Global, draft: &Draft, plane: Plane) -> Result<bool, NoMem>
     requires { plane.0 < planes_of draft.now.inst }
-    ensures { IfOk result (λ breaks. breaks ≡ true → BreaksRows draft.now.inst (plan_of draft.now)) }
+    ensures { IfOk result (λ breaks. breaks ≡ true → BreaksLeg draft.now.inst (plan_of draft.now) plane.0) }
 {
     let legs = legs_of(alloc, draft, plane)?;
     let order = legs.as_slice();

@@ -1,11 +1,13 @@
-use Rattle.std.proofs.Common.{◌≡◌, Bool, true, false, take, drop, rules, sym, ap, ◌∙◌}
+use Rattle.std.proofs.Common.{◌≡◌, Bool, true, false, List, take, drop, rules, sym, ap, subst, ◌∙◌}
 use Rattle.std.specs.List.{list_all}
 use Rattle.std.proofs.lemmas.Result.{IfOk-weaker}
-use Rattle.desk_model.specs.Steps.{after_steps}
+use Rattle.plan_moves.specs.declared.moves.Step.{Step}
+use Rattle.desk_model.specs.Steps.{after_steps, after_move}
 use Rattle.near_moves.specs.Descent.{is_better}
-use Rattle.near_trial.specs.RowRules.{BreaksRows, keeps_rows}
+use Rattle.near_trial.specs.RowRules.{keeps_rows}
 use Rattle.near_draft.specs.Drafts.{Drafted, plan_of}
-use Rattle.near_draft.proofs.KnownLaws.{known-worse}
+use Rattle.near_draft.specs.LegRules.{BreaksPushed}
+use Rattle.near_draft.proofs.KnownLaws.{pushed-breaks, pushed-worse}
 use Rattle.near_draft.proofs.known.is_known_worse.Goals as goal
 
 pub returns : goal.returns
@@ -23,4 +25,9 @@ returns c =
     c.in_ok-take_steps.ensures.taken all ∙ ap (λ (E : Drafted). after_steps E.inst (plan_of E) c.split_at.result.0.now) c.of-draft.ensures ∙ ap (after_steps I P) front in
     let kept : c.leave_rows.result ≡ true = search rules in
     let keeps : list_all keeps_rows (drop n m.steps) ≡ true = ap (list_all keeps_rows) (sym back) ∙ sym c.leave_rows.ensures ∙ kept in
-    IfOk-weaker c.breaks_rows.result (λ (b : Bool). b ≡ true → BreaksRows D.inst (plan_of D)) (λ (b : Bool). b ≡ true → is_better I P m ≡ false) (λ b breaks known. known-worse I D.inst P (plan_of D) m n day is keeps (breaks known)) c.breaks_rows.ensures
+    let why : (b : Bool) → (b ≡ true → BreaksPushed D.inst (plan_of D) c.split_at.result.0.now) → b ≡ true → BreaksPushed I (after_move I P m) m.steps =
+    λ b breaks known. pushed-breaks I D.inst P (plan_of D) m n day is keeps (subst (BreaksPushed D.inst (plan_of D)) front (breaks known)) in
+    record {
+      worse = IfOk-weaker c.breaks_rows.result (λ (b : Bool). b ≡ true → BreaksPushed D.inst (plan_of D) c.split_at.result.0.now) (λ (b : Bool). b ≡ true → is_better I P m ≡ false) (λ b breaks known. pushed-worse I P m (why b breaks known)) c.breaks_rows.ensures;
+      reason = IfOk-weaker c.breaks_rows.result (λ (b : Bool). b ≡ true → BreaksPushed D.inst (plan_of D) c.split_at.result.0.now) (λ (b : Bool). b ≡ true → BreaksPushed I (after_move I P m) m.steps) why c.breaks_rows.ensures;
+    }
