@@ -45,13 +45,8 @@ impl Faults {
     ghost use Rattle.desk_disk.specs.FileStates.{HasNothingPending};
 
     // A folder with these texts, an empty sink, and a disk whose file has these bytes, whose calls fail so. Nothing is pending on it.
-    fn outside(
-        self,
-        alloc: Global,
-        inputs: Texts,
-        bytes: Vec<u8>,
-    ) -> (MemFolder, ReportSink, MemDisk)
-        ensures { HasNothingPending result.2.side.file }
+    fn outside(self, alloc: Global, inputs: Texts, bytes: Vec<u8>) -> Outside
+        ensures { HasNothingPending result.disk.side.file }
     {
         let Faults {
             place,
@@ -79,7 +74,7 @@ impl Faults {
         };
         let mut disk = MemDisk::new(bytes, disk);
         disk.tear(torn);
-        (folder, sink, disk)
+        Outside { folder, sink, disk }
     }
 }
 
@@ -93,6 +88,49 @@ fn no_faults(alloc: Global) -> Faults {
         room: usize::MAX,
         disk: Vec::new(alloc),
         torn: 0,
+    }
+}
+
+// What a run is given.
+struct Outside {
+    folder: MemFolder,
+    sink: ReportSink,
+    disk: MemDisk,
+}
+
+// Dropped in one call, so that a function that owns one proves it once, and not part by part.
+impl Drop for Outside {
+    fn drop(self) {
+        let Outside {
+            folder: _,
+            sink: _,
+            disk: _,
+        } = self;
+    }
+}
+
+impl Outside {
+    ghost use Rattle.desk_disk.specs.FileStates.{HasNothingPending};
+
+    // Runs the desk, and answers its status.
+    fn run<R: Threads + Wait + Sync>(
+        &mut self,
+        threads: &R,
+        alloc: Global,
+        words: &[String],
+        gate: &HoldingGate<'_>,
+    ) -> u8
+        requires { HasNothingPending self.old.disk.side.file }
+    {
+        desk_main(
+            threads,
+            alloc,
+            words,
+            &mut self.folder,
+            &mut self.sink,
+            gate,
+            &mut self.disk,
+        )
     }
 }
 
@@ -177,6 +215,9 @@ fn words_of(alloc: Global, text: &str) -> Result<Vec<String>, AllocError> {
 }
 
 impl Player {
+    ghost use Rattle.std.specs.Prelude.{IfOk};
+    ghost use Rattle.desk_disk.specs.FileStates.{HasNothingPending};
+
     // What came of all that was played.
     fn end(self) -> Vec<u8> {
         let Player {
@@ -300,6 +341,18 @@ impl Player {
         Ok(())
     }
 
+    // What the next run is given; nothing is asked of the one after it.
+    fn outside(&mut self) -> Result<Outside, AllocError>
+        ensures { IfOk result (λ outside. HasNothingPending outside.disk.side.file) }
+    {
+        let alloc = self.alloc;
+        add_all(&mut self.changed, self.day.as_slice())?;
+        let inputs = std::mem::replace(&mut self.changed, Vec::new(alloc));
+        let faults = std::mem::replace(&mut self.faults, no_faults(alloc));
+        let stored = std::mem::replace(&mut self.stored, Vec::new(alloc));
+        Ok(faults.outside(alloc, inputs, stored))
+    }
+
     fn run<R: Threads + Wait + Sync>(
         &mut self,
         threads: &R,
@@ -307,28 +360,21 @@ impl Player {
     ) -> Result<(), AllocError> {
         let alloc = self.alloc;
         let words = words_of(alloc, words)?;
-        let mut inputs = std::mem::replace(&mut self.changed, Vec::new(alloc));
-        add_all(&mut inputs, self.day.as_slice())?;
-        let faults = std::mem::replace(&mut self.faults, no_faults(alloc));
-        let stored = std::mem::replace(&mut self.stored, Vec::new(alloc));
-        let (mut folder, mut sink, mut disk) = faults.outside(alloc, inputs, stored);
+        let mut outside = self.outside()?;
         let holds = std::mem::replace(&mut self.holds, Vec::new(alloc));
         let gate = HoldingGate::new(holds.as_slice());
-        let status = desk_main(
-            threads,
-            alloc,
-            words.as_slice(),
-            &mut folder,
-            &mut sink,
-            &gate,
-            &mut disk,
-        );
-        if !gate.all_came() {
+        let status = outside.run(threads, alloc, words.as_slice(), &gate);
+        self.take_in(status, gate.all_came(), &outside)
+    }
+
+    // Adds what a run gave, and keeps what it left.
+    fn take_in(&mut self, status: u8, all_came: bool, outside: &Outside) -> Result<(), AllocError> {
+        if !all_came {
             self.push("not all came to the gate\n")?;
         }
         self.runs = self.runs.saturating_add(1);
-        self.tell(status, sink.bytes.as_slice(), &folder)?;
-        self.keep_disk(disk.bytes())
+        self.tell(status, outside.sink.bytes.as_slice(), &outside.folder)?;
+        self.keep_disk(outside.disk.bytes())
     }
 
     // Runs the desk with a text of one file in the place of the one that these files or the day have, and answers what it gave.

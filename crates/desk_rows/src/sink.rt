@@ -5,13 +5,25 @@ use desk_folder::{FolderFault, Sink};
 use std::alloc::Global;
 
 /// Takes what is put, but for the calls that are to fail, up to `room` bytes; then it fails.
-#[derive(Drop)]
 pub(crate) struct ReportSink {
     pub(crate) bytes: Vec<u8>,
     pub(crate) room: usize,
     pub(crate) fail: Vec<u64>,
     pub(crate) calls: u64,
     pub(crate) faults: u64,
+}
+
+/// Dropped in one call, so that a function that owns one proves it once, and not part by part.
+impl Drop for ReportSink {
+    fn drop(self) {
+        let ReportSink {
+            bytes: _,
+            room: _,
+            fail: _,
+            calls: _,
+            faults: _,
+        } = self;
+    }
 }
 
 impl Sink for ReportSink {
