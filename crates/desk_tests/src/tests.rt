@@ -1,5 +1,6 @@
 //! The tests, by what they ask.
 
+mod asked;
 mod book;
 mod changes;
 mod days;
@@ -9,6 +10,7 @@ mod memory;
 mod moments;
 mod orders;
 mod parts;
+mod runs;
 mod stops;
 mod under_way;
 mod walks;

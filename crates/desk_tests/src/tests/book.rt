@@ -1,15 +1,13 @@
 //! The usual moves, made of the plan of a book and answered by it, and what the book keeps of them.
 
-ghost use Rattle.std.specs.Prelude.{IfOk};
-ghost use Rattle.std.specs.Option.{ForSome};
-ghost use Rattle.plan_moves.specs.Fits.{Fits};
-
-use super::days::{Texts, day_of};
+use super::asked::Way;
+use super::days::{Day, day_of};
+use super::under_way::rebooking;
 use desk_core::Book;
-use desk_data::{Cabin, Leg, List, Minute, Path, Plane, Res, Row};
+use desk_data::{Cabin, Leg, Minute, NoMem, Plane, Res, Row};
 use desk_folder::File;
 use desk_model::{Answer, Event};
-use desk_moves::{cancel, delay, rebook, reroute, swap};
+use desk_moves::{cancel, delay, reroute, swap};
 use plan_moves::{Move, Step, fits};
 use plan_reads::departure;
 use std::alloc::Global;
@@ -18,7 +16,7 @@ use std::test::Fail;
 /// The first aircraft flies out from 480 to 540 and back from 570 to 630, and its hours cost 100; the second flies out
 /// from 700 to 760, and its hours cost 50. Two passengers booked the first leg, and three the last. An hour of lateness
 /// costs a passenger 60, and not to be carried costs 1.
-const PRICED: Texts<'static> = &[
+const PRICED: Day = &[&[
     (File::Config, "01/01/00 00:00 02/01/00 00:00\n"),
     (
         File::Flights,
@@ -39,22 +37,13 @@ const PRICED: Texts<'static> = &[
         "R1 A 0 2 F1 01/01/00 E\nR2 A 0 3 F3 01/01/00 E\n",
     ),
     (File::Tariff, "delay,D,E,60\ncancel,D,E,1\n"),
-];
-
-/// A path of passengers.
-type Way = &'static [(Leg, Cabin)];
+]];
 
 /// The path of those who are not carried.
 const NOWHERE: Way = &[];
 
 /// What the second reservation booked.
 const LATER: Way = &[(Leg(2), Cabin::E)];
-
-fn path_of(alloc: Global, way: &[(Leg, Cabin)]) -> Result<Path, Fail> {
-    Ok(Path {
-        legs: List(Vec::from_slice(alloc, way)?),
-    })
-}
 
 /// A row by the numbers of its aircraft and of its departure.
 fn flown(plane: u32, dep: u32) -> Row {
@@ -76,49 +65,47 @@ enum Asked {
     Rebook(Res, Way, Way, u32),
 }
 
-/// The move at the plan of a book, unless it does not fit.
-fn move_of(alloc: Global, book: &Book, asked: Asked) -> Result<Option<Move>, Fail>
-    ensures { IfOk result (λ made. ForSome made (Fits book.now.opening)) }
-{
+/// The move at the plan of a book, unless its numbers are out of range.
+fn move_of(alloc: Global, book: &Book, asked: Asked) -> Result<Option<Move>, NoMem> {
     let inst = book.instance();
     let plan = book.eval().plan();
-    let made = match asked {
+    match asked {
         Asked::Delay(leg, minutes) => {
             if leg.0 >= inst.legs() || minutes > 60 || departure(plan, leg) > 52_000_000 {
                 return Ok(None);
             }
-            delay(alloc, inst, plan, leg, minutes)?
+            Ok(Some(delay(alloc, inst, plan, leg, minutes)?))
         }
         Asked::Cancel(leg) => {
             if leg.0 >= inst.legs() {
                 return Ok(None);
             }
-            cancel(alloc, inst, plan, leg)?
+            Ok(Some(cancel(alloc, inst, plan, leg)?))
         }
-        Asked::Swap(first, second, at) => swap(alloc, first, second, at)?,
+        Asked::Swap(first, second, at) => Ok(Some(swap(alloc, first, second, at)?)),
         Asked::Reroute(leg, plane) => {
             if leg.0 >= inst.legs() || plane.0 >= inst.planes() {
                 return Ok(None);
             }
-            reroute(alloc, inst, plan, leg, plane)?
+            Ok(Some(reroute(alloc, inst, plan, leg, plane)?))
         }
-        Asked::Rebook(res, from, to, count) => {
-            let from = path_of(alloc, from)?;
-            let to = path_of(alloc, to)?;
-            rebook(alloc, res, &from, &to, count)?
-        }
-    };
-    if !fits(inst, &made) {
-        return Ok(None);
+        Asked::Rebook(res, from, to, count) => Ok(Some(rebooking(alloc, res, from, to, count)?)),
     }
-    Ok(Some(made))
 }
 
-/// What a book answers to a usual move, unless it does not fit.
-fn answered(alloc: Global, book: &mut Book, asked: Asked) -> Result<Option<Answer>, Fail> {
+/// What a book answers to a move.
+fn proposed(alloc: Global, book: &mut Book, made: &Move) -> Result<PlainAnswer, NoMem> {
+    if !fits(book.instance(), made) {
+        return Ok(NO_FIT);
+    }
+    Ok(plain_answer(book.propose(alloc, 1, made)?))
+}
+
+/// What a book answers to a usual move.
+fn answered(alloc: Global, book: &mut Book, asked: Asked) -> Result<PlainAnswer, NoMem> {
     match move_of(alloc, book, asked)? {
-        Some(m) => Ok(Some(book.propose(alloc, 1, &m)?)),
-        None => Ok(None),
+        Some(made) => proposed(alloc, book, &made),
+        None => Ok(NO_FIT),
     }
 }
 
@@ -126,107 +113,101 @@ fn answered(alloc: Global, book: &mut Book, asked: Asked) -> Result<Option<Answe
 /// are what it costs then.
 type PlainAnswer = (&'static str, u128, u128);
 
-fn plain_answer(answer: Option<Answer>) -> PlainAnswer {
+/// The answer to a move that does not fit.
+const NO_FIT: PlainAnswer = ("does not fit", 0, 0);
+
+fn plain_answer(answer: Answer) -> PlainAnswer {
     match answer {
-        Some(Answer::Accepted { cost }) => ("accepted", cost.0, cost.0),
-        Some(Answer::Dearer { now, would }) => ("dearer", now.0, would.0),
-        Some(_) => ("other", 0, 0),
-        None => ("does not fit", 0, 0),
+        Answer::Accepted { cost } => ("accepted", cost.0, cost.0),
+        Answer::Dearer { now, would } => ("dearer", now.0, would.0),
+        _ => ("other", 0, 0),
     }
 }
 
-/// The rows of the three legs, unless there are others.
-fn rows_of(book: &Book) -> Option<[Row; 3]> {
-    if book.instance().legs() != 3 {
-        return None;
+/// The usual moves, one after the other, and what the book answers to each.
+const ASKED: [(Asked, PlainAnswer); 5] = [
+    // two passengers are 10 minutes late; the second leg departs at 580
+    (
+        Asked::Delay(Leg(0), 10),
+        ("dearer", 150_000_000_000, 162_000_000_000),
+    ),
+    // the dearer aircraft has one leg, and no longer two
+    (
+        Asked::Swap(Plane(0), Plane(1), Minute(0)),
+        ("accepted", 120_000_000_000, 120_000_000_000),
+    ),
+    // it has none
+    (
+        Asked::Reroute(Leg(2), Plane(1)),
+        ("accepted", 90_000_000_000, 90_000_000_000),
+    ),
+    // two passengers are not carried
+    (
+        Asked::Rebook(Res(1), LATER, NOWHERE, 2),
+        ("dearer", 90_000_000_000, 91_200_000_000),
+    ),
+    // all three are not, and two legs are flown
+    (Asked::Cancel(Leg(2)), LAST),
+];
+
+/// The answer to the last of them.
+const LAST: PlainAnswer = ("accepted", 61_800_000_000, 61_800_000_000);
+
+/// Which of the usual moves a book answers otherwise, the first of them.
+fn other_answer(alloc: Global, book: &mut Book) -> Result<Option<usize>, NoMem> {
+    for (at, (asked, wanted)) in ASKED.iter().enumerate() {
+        if answered(alloc, book, *asked)? != *wanted {
+            return Ok(Some(at));
+        }
     }
+    Ok(None)
+}
+
+/// Whether the rows of the three legs are as the accepted moves left them.
+fn has_moved(book: &Book) -> bool {
     let plan = book.eval().plan();
-    Some([
-        plan.read_row(Leg(0)),
-        plan.read_row(Leg(1)),
-        plan.read_row(Leg(2)),
-    ])
+    book.instance().legs() == 3
+        && plan.read_row(Leg(0)) == flown(1, 480)
+        && plan.read_row(Leg(1)) == flown(1, 570)
+        && plan.read_row(Leg(2)) == Row::Cancelled
 }
 
-/// Who proposed the last of five entries, what was answered, and the leg whose row was to change, with its
-/// rows before and after; `None` where the entries from the fifth one on are others than that.
-type Last = Option<(u32, PlainAnswer, (Leg, Row, Row))>;
-
-fn last_of(alloc: Global, book: &Book) -> Result<Last, Fail> {
+/// Whether the fifth entry is the last, and is the cancellation of the last leg, with its answer.
+fn has_recorded(alloc: Global, book: &Book) -> Result<bool, NoMem> {
     if book.entries() != 5 {
-        return Ok(None);
+        return Ok(false);
     }
     let later = book.since(alloc, 4)?;
     let [entry] = later.as_slice() else {
-        return Ok(None);
+        return Ok(false);
     };
     let Event::Move(asked) = &entry.event else {
-        return Ok(None);
+        return Ok(false);
     };
     let [Step::Set { leg, was, new }, Step::Tidy] = asked.steps.as_slice() else {
-        return Ok(None);
+        return Ok(false);
     };
-    let answer = plain_answer(Some(entry.answer));
-    Ok(Some((entry.caller, answer, (*leg, *was, *new))))
+    let is_last = *leg == Leg(2) && *was == flown(1, 700) && *new == Row::Cancelled;
+    Ok(is_last && entry.caller == 1 && plain_answer(entry.answer) == LAST)
 }
 
-/// The usual moves, one after the other.
-const ASKED: [Asked; 5] = [
-    Asked::Delay(Leg(0), 10),
-    Asked::Swap(Plane(0), Plane(1), Minute(0)),
-    Asked::Reroute(Leg(2), Plane(1)),
-    Asked::Rebook(Res(1), LATER, NOWHERE, 2),
-    Asked::Cancel(Leg(2)),
-];
+/// Which of the usual moves a book answers otherwise, how many changes it has then, and whether it keeps what was answered.
+type Played = (Option<usize>, u32, bool, bool);
 
-/// What a book answers to them.
-fn answers_of(alloc: Global, book: &mut Book) -> Result<Vec<PlainAnswer>, Fail> {
-    let mut answers = Vec::new(alloc);
-    for asked in ASKED.iter() {
-        answers.push(plain_answer(answered(alloc, book, *asked)?))?;
-    }
-    Ok(answers)
-}
-
-/// What a book answers to the usual moves, how many entries and changes it has then, and what it keeps.
-type Played = (Vec<PlainAnswer>, (u32, u32), Option<[Row; 3]>, Last);
-
-fn played_of(alloc: Global, book: &mut Book) -> Result<Played, Fail> {
-    let answers = answers_of(alloc, book)?;
-    let last = last_of(alloc, book)?;
-    Ok((
-        answers,
-        (book.entries(), book.changes()),
-        rows_of(book),
-        last,
-    ))
+fn played_of(alloc: Global, book: &mut Book) -> Result<Played, NoMem> {
+    let other = other_answer(alloc, book)?;
+    let has_recorded = has_recorded(alloc, book)?;
+    Ok((other, book.changes(), has_moved(book), has_recorded))
 }
 
 /// The same of the book of the priced day, which lives no longer than this call.
 fn played(alloc: Global) -> Result<Played, Fail> {
     let mut book = Book::open(alloc, day_of(alloc, &[], PRICED)?)?;
-    played_of(alloc, &mut book)
+    Ok(played_of(alloc, &mut book)?)
 }
 
 #[test]
 fn usual_moves_are_answered(rt: HostRuntime) -> Result<(), Fail> {
-    let (answers, counts, rows, last) = played(rt.alloc())?;
-    let expected = [
-        // two passengers are 10 minutes late; the second leg departs at 580
-        ("dearer", 150_000_000_000, 162_000_000_000),
-        // the dearer aircraft has one leg, and no longer two
-        ("accepted", 120_000_000_000, 120_000_000_000),
-        // it has none
-        ("accepted", 90_000_000_000, 90_000_000_000),
-        // two passengers are not carried
-        ("dearer", 90_000_000_000, 91_200_000_000),
-        // all three are not, and two legs are flown
-        ("accepted", 61_800_000_000, 61_800_000_000),
-    ];
-    assert!(rt; answers.as_slice() == expected.as_slice());
-    assert!(rt; counts == (5, 3));
-    assert!(rt; rows == Some([flown(1, 480), flown(1, 570), Row::Cancelled]));
-    let off = (1, expected[4], (Leg(2), flown(1, 700), Row::Cancelled));
-    assert!(rt; last == Some(off));
+    assert_eq!(rt; played(rt.alloc())?, (None, 3, true, true));
     Ok(())
 }

@@ -127,31 +127,36 @@ fn change_and_back<L: Ledger>(
     Ok(())
 }
 
-/// The day of seed 1 and size 40.
-fn largest_day(alloc: Global) -> Result<Instance, Fail> {
-    let inputs = generate(alloc, 1, 40)?;
+/// The day that is made up of this seed, of size 1 or of size 40.
+pub(super) fn made_up(alloc: Global, seed: u32, is_large: bool) -> Result<Instance, Fail> {
+    let inputs = if is_large {
+        generate(alloc, seed, 40)?
+    } else {
+        generate(alloc, seed, 1)?
+    };
     let mut folder = MemFolder::new(inputs, Vec::new(alloc), Vec::new(alloc));
     day_in(alloc, &mut folder)
 }
 
-/// An evaluator on that day's schedule.
-fn on_largest_day(alloc: Global) -> Result<Evaluator, Fail> {
-    let inst = largest_day(alloc)?;
+/// An evaluator on the schedule of a day.
+pub(super) fn scheduled(alloc: Global, inst: Instance) -> Result<Evaluator, NoMem> {
     let plan = inst.schedule(alloc)?;
-    Ok(Evaluator::open(alloc, inst, &plan)?)
+    Evaluator::open(alloc, inst, &plan)
+}
+
+/// The same on the schedule of the day of seed 1 and size 40.
+fn change_largest_day(alloc: Global, changes: u32) -> Result<(), Fail> {
+    let mut eval = scheduled(alloc, made_up(alloc, 1, true)?)?;
+    change_and_back::<Brand>(Blank::new(1), alloc, &mut eval, changes)
 }
 
 #[test]
 fn a_million_changes_are_answered_and_taken_back(rt: HostRuntime) -> Result<(), Fail> {
-    let alloc = rt.alloc();
-    let mut eval = on_largest_day(alloc)?;
-    change_and_back::<Brand>(Blank::new(1), alloc, &mut eval, CHANGES)
+    change_largest_day(rt.alloc(), CHANGES)
 }
 
 /// What the test of a million changes does besides: `bench/changes.py` takes its time off.
 #[test]
 fn the_first_changes_are_judged_from_scratch(rt: HostRuntime) -> Result<(), Fail> {
-    let alloc = rt.alloc();
-    let mut eval = on_largest_day(alloc)?;
-    change_and_back::<Brand>(Blank::new(1), alloc, &mut eval, LEGS)
+    change_largest_day(rt.alloc(), LEGS)
 }

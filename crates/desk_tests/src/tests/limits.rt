@@ -1,6 +1,6 @@
 //! The journal of a book at its limits, which no run can reach: a run has 1,001 batches at most.
 
-use super::days::{Texts, day_of};
+use super::days::{Day, day_of};
 use desk_core::Book;
 use desk_data::{Batch, Grains, List};
 use desk_folder::File;
@@ -10,7 +10,7 @@ use std::alloc::Global;
 use std::test::Fail;
 
 /// Nothing but the window.
-const EMPTY: Texts<'static> = &[(File::Config, "01/03/08 06:00 02/03/08 06:00\n")];
+const EMPTY: Day = &[&[(File::Config, "01/03/08 06:00 02/03/08 06:00\n")]];
 
 /// With so many entries a journal takes no proposals.
 const PROPOSALS: u32 = 900_000;
@@ -80,7 +80,6 @@ fn full(entries: u32) -> Answer {
 
 #[test]
 fn a_journal_takes_900000_entries_and_with_batches_a_million(rt: HostRuntime) -> Result<(), Fail> {
-    let [below, at_proposals, at_batches] = answers_at_the_limits(rt.alloc())?;
     let kept = Answer::Taken {
         which: Which::Keep,
         cost: Grains(0),
@@ -89,8 +88,11 @@ fn a_journal_takes_900000_entries_and_with_batches_a_million(rt: HostRuntime) ->
         now: Grains(0),
         would: Grains(0),
     };
-    assert!(rt; below == (dearer, kept, PROPOSALS));
-    assert!(rt; at_proposals == (full(PROPOSALS), kept, PROPOSALS + 1));
-    assert!(rt; at_batches == (full(BATCHES), full(BATCHES), BATCHES));
+    let expected = [
+        (dearer, kept, PROPOSALS),
+        (full(PROPOSALS), kept, PROPOSALS + 1),
+        (full(BATCHES), full(BATCHES), BATCHES),
+    ];
+    assert!(rt; answers_at_the_limits(rt.alloc())? == expected);
     Ok(())
 }

@@ -57,9 +57,11 @@ const DAYS: [(&[&[u8]], &[u64], bool); 7] = [
 
 #[test]
 fn rows_make_a_day_or_not(rt: HostRuntime) -> Result<(), Fail> {
-    for (names, prices, expected) in &DAYS {
-        let is_day = make_a_day(rt.alloc(), names, prices)?;
-        assert_eq!(rt; is_day, *expected, "{names:?} {prices:?}");
+    for (at, (names, prices, expected)) in DAYS.iter().enumerate() {
+        assert!(rt;
+            make_a_day(rt.alloc(), names, prices)? == *expected,
+            "row {at}"
+        );
     }
     Ok(())
 }

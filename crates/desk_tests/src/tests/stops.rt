@@ -2,53 +2,46 @@
 
 ghost use Rattle.std.specs.Prelude.{◌≤◌};
 
-use super::days::{Texts, folder_of};
+use super::days::{Texts, USUAL};
+use super::runs::{Run, run_desk};
 use desk_data::NoMem;
-use desk_disk::MemDisk;
-use desk_folder::{File, FreeGate, MemSink};
-use desk_top::desk_main;
+use desk_folder::File;
 use std::alloc::Global;
 use std::sync::Wait;
 use std::test::Fail;
 use std::thread::Threads;
 
-/// A day of four legs, one of which is cancelled, and two proposals of other paths for its passengers.
-const DAY: Texts<'static> = &[
-    (File::Config, "01/03/08 06:00 02/03/08 06:00\n"),
-    (
-        File::Flights,
-        "F1 AAA BBB 08:00 09:00 0\nF2 BBB AAA 09:30 10:30 0\nF3 AAA BBB 12:00 13:00 0\nF4 AAA BBB 10:00 11:00 0\n",
-    ),
-    (
-        File::Rotations,
-        "F1 01/03/08 P1\nF2 01/03/08 P1\nF3 01/03/08 P2\nF4 01/03/08 P3\n",
-    ),
-    (
-        File::Aircraft,
-        "P1 M1 NB 0/0/10 600 100 30 20 AAA NULL\nP2 M1 NB 0/0/9 600 120 30 20 AAA NULL\nP3 M1 NB 0/0/10 600 100 30 20 AAA NULL\n",
-    ),
-    (
-        File::Airports,
-        "AAA 10 10 00:00 24:00\nBBB 10 10 00:00 24:00\n",
-    ),
-    (File::Dist, "AAA BBB 60 D\n"),
-    (
-        File::Itineraries,
-        "R1 A 100 10 F1 01/03/08 E\nR2 A 50.5 4 F2 01/03/08 E\nR3 A 80 6 F3 01/03/08 E\nR4 A 60 2 F4 01/03/08 E\nR5 A 60 2 F4 01/03/08 E\n",
-    ),
-    (File::Position, "AAA M1 0/0/10 1\nBBB M1 0/0/9 1\n"),
-    (File::AltFlights, "F4 01/03/08 -1\n"),
-    (File::AltAircraft, ""),
-    (File::AltAirports, ""),
-    (
-        File::Tariff,
-        "delay,D,E,10\ncancel,D,E,200\ncare,D,120,20\ncompensation,D,none,250\nposition,500\n",
-    ),
-    (File::Feed, ""),
-    (
-        File::Journal,
-        "0,batch,0\n1,move,rebook R4 A 2 0 1 F3 01/03/08 E\n2,move,rebook R5 A 2 0 1 F3 01/03/08 E\n",
-    ),
+/// The usual day with a fourth leg, which is cancelled, and two proposals of other paths for its passengers.
+const DAY: &[Texts<'static>] = &[
+    &[
+        (
+            File::Flights,
+            "F1 AAA BBB 08:00 09:00 0\nF2 BBB AAA 09:30 10:30 0\nF3 AAA BBB 12:00 13:00 0\nF4 AAA BBB 10:00 11:00 0\n",
+        ),
+        (
+            File::Rotations,
+            "F1 01/01/00 P1\nF2 01/01/00 P1\nF3 01/01/00 P2\nF4 01/01/00 P3\n",
+        ),
+        (
+            File::Aircraft,
+            "P1 M1 NB 0/0/10 600 100 30 20 AAA NULL\nP2 M1 NB 0/0/9 600 120 30 20 AAA NULL\nP3 M1 NB 0/0/10 600 100 30 20 AAA NULL\n",
+        ),
+        (
+            File::Itineraries,
+            "R1 A 100 10 F1 01/01/00 E\nR2 A 50.5 4 F2 01/01/00 E\nR3 A 80 6 F3 01/01/00 E\nR4 A 60 2 F4 01/01/00 E\nR5 A 60 2 F4 01/01/00 E\n",
+        ),
+        (File::Position, "AAA M1 0/0/10 1\nBBB M1 0/0/9 1\n"),
+        (File::AltFlights, "F4 01/01/00 -1\n"),
+        (
+            File::Tariff,
+            "delay,D,E,10\ncancel,D,E,200\ncare,D,120,20\ncompensation,D,none,250\nposition,500\n",
+        ),
+        (
+            File::Journal,
+            "0,batch,0\n1,move,rebook R4 A 2 0 1 F3 01/01/00 E\n2,move,rebook R5 A 2 0 1 F3 01/01/00 E\n",
+        ),
+    ],
+    USUAL,
 ];
 
 /// Its journal on a disk: a batch of 14 bytes, two moves of 27 each, and the end mark.
@@ -75,61 +68,34 @@ const OTHERS: [&str; 3] = [
     "refused journal.csv 3 Other\n",
 ];
 
-/// What a run gave.
-#[derive(Drop)]
-struct Ended {
-    status: u8,
-    report: Vec<u8>,
-    stored: Vec<u8>,
-}
-
 /// A run over a file of these bytes; the call of the disk of this number fails, and so many bytes of what it was to write stand.
-fn run<R: Threads + Wait + Sync>(
-    rt: &R,
-    alloc: Global,
-    bytes: &[u8],
-    call: u64,
-    torn: usize,
-) -> Result<Ended, NoMem> {
-    let mut words = Vec::new(alloc);
-    for word in ["store", "in", "out"] {
-        words.push(String::from_str(alloc, word)?)?;
+fn store(stored: &[u8], failing: (u64, usize)) -> Run<'_> {
+    Run {
+        words: "store in out",
+        changed: &[],
+        day: DAY,
+        stored,
+        failing,
     }
-    let mut fail = Vec::new(alloc);
-    fail.push(call)?;
-    let mut folder = folder_of(alloc, &[], DAY)?;
-    let mut out = MemSink::new(Vec::new(alloc));
-    let mut disk = MemDisk::new(Vec::from_slice(alloc, bytes)?, fail);
-    disk.tear(torn);
-    let status = desk_main(
-        rt,
-        alloc,
-        words.as_slice(),
-        &mut folder,
-        &mut out,
-        &FreeGate,
-        &mut disk,
-    );
-    Ok(Ended {
-        status,
-        report: Vec::from_slice(alloc, out.written())?,
-        stored: Vec::from_slice(alloc, disk.bytes())?,
-    })
 }
 
-/// How a run ends over a file of these bytes, none of whose calls fails: its status, and the file that it leaves where it is done.
+/// Whether a run over a file of these bytes, none of whose calls fails, ends with one of these reports: where it is done the file is
+/// whole then, and else it is as it was.
 fn ends_so<R: Threads + Wait + Sync>(
     rt: &R,
     alloc: Global,
     bytes: &[u8],
-    report: &str,
+    reports: &[&str],
 ) -> Result<bool, NoMem> {
-    let ended = run(rt, alloc, bytes, 0, 0)?;
-    let is_so = ended.report.as_slice() == report.as_bytes();
-    if ended.status == 0 {
-        return Ok(is_so && ended.stored.as_slice() == FILE.as_slice());
-    }
-    Ok(is_so && ended.status == 3 && ended.stored.as_slice() == bytes)
+    let ended = run_desk(rt, alloc, &store(bytes, (0, 0)))?;
+    let report = ended.report.as_slice();
+    let status = ended.status;
+    let is_left = match status {
+        0 => ended.stored.as_slice() == FILE.as_slice(),
+        3 => ended.stored.as_slice() == bytes,
+        _ => false,
+    };
+    Ok(is_left && reports.iter().any(|of_one| of_one.as_bytes() == report))
 }
 
 /// How many entries are kept for certain once a call has failed: the directory, the length, the bytes and two calls of the first end
@@ -151,12 +117,11 @@ fn goes_on<R: Threads + Wait + Sync>(
     call: u64,
     torn: usize,
 ) -> Result<bool, NoMem> {
-    let stopped = run(rt, alloc, &[], call, torn)?;
-    let bytes = stopped.stored.as_slice();
+    let stopped = run_desk(rt, alloc, &store(&[], (call, torn)))?;
+    let is_stopped = stopped.status == 8 && stopped.report.as_slice() == b"disk fault\n".as_slice();
     let least = kept_before(call);
-    let finds = ends_so(rt, alloc, bytes, DONE[least])?
-        || ends_so(rt, alloc, bytes, DONE[least + 1])?;
-    Ok(stopped.status == 8 && stopped.report.as_slice() == b"disk fault\n".as_slice() && finds)
+    let reports = [DONE[least], DONE[least + 1]];
+    Ok(ends_so(rt, alloc, stopped.stored.as_slice(), &reports)? && is_stopped)
 }
 
 #[test]
@@ -201,7 +166,7 @@ fn a_file_that_is_cut_or_turned_is_told_from_the_runs_own(rt: HostRuntime) -> Re
     for size in 0..70 {
         let (front, _) = FILE.split_at(size);
         assert!(rt;
-            ends_so(&rt, rt.alloc(), front, report_of_front(size))?,
+            ends_so(&rt, rt.alloc(), front, &[report_of_front(size)])?,
             "{size} bytes"
         );
     }
@@ -209,7 +174,7 @@ fn a_file_that_is_cut_or_turned_is_told_from_the_runs_own(rt: HostRuntime) -> Re
         let mut turned = FILE;
         turned[at] ^= 64;
         assert!(rt;
-            ends_so(&rt, rt.alloc(), &turned, report_of_turned(at))?,
+            ends_so(&rt, rt.alloc(), &turned, &[report_of_turned(at)])?,
             "byte {at}"
         );
     }

@@ -9,14 +9,12 @@ ghost use Rattle.desk_data.specs.Valid.{IsRowOf};
 ghost use Rattle.plan_groups.specs.Made.{AreWhole};
 ghost use Rattle.plan_moves.specs.Fits.{IsPathIn};
 
-use super::changes::{said, said_anew};
-use super::days::day_in;
-use super::moments::go_on;
-use super::orders::{add_orders, closure, late, out_of_service};
-use desk_data::{Cabin, Group, Instance, Leg, List, Minute, NoMem, Path, Plane, Res, Row, Steps};
+use super::asked::{add_batch, closure, late, out_of_service};
+use super::changes::{made_up, said, said_anew, scheduled};
+use desk_data::{
+    Airport, Cabin, Group, Instance, Leg, List, Minute, NoMem, Path, Plane, Res, Row, Steps,
+};
 use desk_eval::Evaluator;
-use desk_folder::MemFolder;
-use desk_gen::generate;
 use plan_groups::groups_after_rebook;
 use std::alloc::Global;
 use std::marker::Brand;
@@ -69,25 +67,22 @@ fn disrupt(alloc: Global, inst: &mut Instance) -> Result<(), Fail> {
     let noon = start.saturating_add(360);
     let evening = start.saturating_add(720);
     let orders = [
-        late(5, Some(45)),
-        late(9, None),
-        out_of_service(1, noon, evening),
-        closure(1, start, noon, 1),
+        late(Leg(5), Some(45)),
+        late(Leg(9), None),
+        out_of_service(Plane(1), noon, evening),
+        closure(Airport(1), start, noon, 1),
     ];
-    add_orders(alloc, inst, &orders)?;
-    go_on(alloc, inst, Some(Minute(start.saturating_add(240))))
+    add_batch(alloc, inst, None, &orders)?;
+    add_batch(alloc, inst, Some(Minute(start.saturating_add(240))), &[])
 }
 
 /// The evaluator of the schedule of a generated day.
 fn start_of(alloc: Global, seed: u32, is_disrupted: bool) -> Result<Evaluator, Fail> {
-    let inputs = generate(alloc, seed, 1)?;
-    let mut folder = MemFolder::new(inputs, Vec::new(alloc), Vec::new(alloc));
-    let mut inst = day_in(alloc, &mut folder)?;
+    let mut inst = made_up(alloc, seed, false)?;
     if is_disrupted {
         disrupt(alloc, &mut inst)?;
     }
-    let plan = inst.schedule(alloc)?;
-    Ok(Evaluator::open(alloc, inst, &plan)?)
+    Ok(scheduled(alloc, inst)?)
 }
 
 /// A row that is drawn: of one in eight the leg is cancelled, and else it departs up to three hours later than scheduled, by its
