@@ -11,7 +11,7 @@ use Rattle.build_day.specs.Legs.{leg_of, HasKnownFlights}
 use Rattle.build_day.specs.Day.{airport_info, plane_info, res_info, parts_of}
 use Rattle.build_tables.specs.Facts.{AreFileRows}
 use Rattle.build_day.proofs.ValidPlanes.{pairs_made, are_airports, are_planes}
-use Rattle.build_day.proofs.ValidLegs.{are_legs, legs_apart}
+use Rattle.build_day.proofs.ValidLegs.{are_legs, legs_apart, are_distances}
 use Rattle.build_day.proofs.ValidPax.{are_reservations, reservations_apart, are_positions, few_positions, are_tariff_rows}
 
 module _ (x : Files) (rows : AreFileRows x) (fit : FitTogether x) where
@@ -45,6 +45,7 @@ module _ (x : Files) (rows : AreFileRows x) (fit : FitTogether x) where
     from = rows.window.from;
     to = rows.window.to;
     positions = are_positions x rows fit;
+    dist = are_distances x rows;
     tariff = are_tariff_rows x rows fit;
     distinct = are_distinct;
   }

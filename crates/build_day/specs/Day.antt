@@ -1,5 +1,5 @@
 -- The day of the rows: names become numbers.
-use Rattle.std.specs.Prelude.{ℕ, List, map, Bool, false, option_map, bytes_eq}
+use Rattle.std.specs.Prelude.{ℕ, List, map, Bool, false, Option, option_map, bytes_eq}
 use Rattle.std.specs.List.{list_any, flat_map}
 use Rattle.desk_units.specs.declared.numbers.Leg.{Leg}
 use Rattle.desk_units.specs.declared.numbers.Airport.{Airport}
@@ -24,6 +24,7 @@ use Rattle.file_rows.specs.declared.legs.RotationRow.{RotationRow}
 use Rattle.file_rows.specs.declared.passengers.LegRow.{LegRow}
 use Rattle.file_rows.specs.declared.passengers.ItineraryRow.{ItineraryRow}
 use Rattle.build_tables.specs.declared.files.Files.{Files}
+use Rattle.build_tables.specs.Names.{distance_between}
 use Rattle.build_day.specs.Legs.{airport_of, leg_at, leg_of}
 
 -- an airport, and its caps in the order of its line
@@ -74,6 +75,14 @@ position_info airport group = record { airport = airport; model = group.model; s
 abbrev pub positions_of : List AirportRow → PositionRow → List PositionInfo
 positions_of airports row = map (position_info (airport_of airports row.airport)) row.groups
 
+-- the minutes from an airport to each airport: of the first row from the one to the other, else of the first row in the
+-- opposite direction, and none where there is neither
+abbrev pub distances_from : Files → List ℕ → List (Option ℕ)
+distances_from x origin = map (λ dest. option_map (λ row. row.minutes) (distance_between x.dist origin dest.airport)) x.airports
+
+abbrev pub distances_of : Files → List (List (Option ℕ))
+distances_of x = map (λ origin. distances_from x origin.airport) x.airports
+
 -- the rows of the day, each list in the order of its file, and the window
 unfoldable pub parts_of : Files → Parts
 parts_of x = record {
@@ -84,6 +93,7 @@ parts_of x = record {
   from = x.config.from;
   to = x.config.to;
   positions = flat_map (positions_of x.airports) x.position;
+  dist = distances_of x;
   tariff = x.tariff;
 }
 

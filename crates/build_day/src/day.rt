@@ -7,6 +7,7 @@ ghost use Rattle.build_day.specs.Legs.{leg_of, HasKnownFlights};
 ghost use Rattle.build_day.specs.Day.{parts_of, day_of};
 
 use crate::airports::airports;
+use crate::distances::distances;
 use crate::legs::leg_of;
 use crate::planes::planes;
 use crate::positions::positions;
@@ -44,6 +45,7 @@ fn parts(alloc: Global, tables: &NameTables<'_>) -> Result<Parts, NoMem>
     let legs = legs(alloc, tables)?;
     let res = reservations(alloc, tables)?;
     let positions = positions(alloc, tables)?;
+    let dist = distances(alloc, tables)?;
     let tariff = Vec::from_slice(alloc, tables.files.tariff.rows.as_slice())?;
     Ok(Parts {
         airports: List(airports),
@@ -53,6 +55,7 @@ fn parts(alloc: Global, tables: &NameTables<'_>) -> Result<Parts, NoMem>
         from: tables.files.config.from,
         to: tables.files.config.to,
         positions: List(positions),
+        dist: List(dist),
         tariff: Tariff { rows: List(tariff) },
     })
 }

@@ -2,11 +2,11 @@
 
 ghost use Rattle.std.specs.Prelude.{◌≡◌, ◌≢◌, ◌↔◌, ◌≤◌, ◌<◌, ℕ, List, if◌then◌else◌, IsTrue, IfOk, All, AllPairs, length};
 ghost use Rattle.tariff_prices.specs.Rows.{IsPrice};
-ghost use Rattle.desk_data.specs.Valid.{IsSeen, IsPathOf, IsMoment, AreSeats, IsCap, IsAirport, IsMaint, IsPlane, IsLeg, IsReservation, IsPosition, AreDistinct, AreWithinLimits, AreParts};
+ghost use Rattle.desk_data.specs.Valid.{IsSeen, IsPathOf, IsMoment, AreSeats, IsCap, IsAirport, IsMaint, IsPlane, IsLeg, IsReservation, IsPosition, IsDistance, AreDistinct, AreWithinLimits, AreParts};
 
 use desk_data::{
-    AirportInfo, Cap, DAY, LAST_SCHEDULED, LegInfo, MOMENTS_END, Maint, Minute, Name, NoMem, Parts,
-    PlaneInfo, PositionInfo, Price, ResInfo, Seats,
+    AirportInfo, Cap, DAY, LAST_SCHEDULED, LegInfo, List, MOMENTS_END, Maint, Minute, Name, NoMem,
+    Parts, PlaneInfo, PositionInfo, Price, ResInfo, Seats,
 };
 use std::alloc::Global;
 use std::collections::HashSet;
@@ -264,6 +264,27 @@ fn are_positions(parts: &Parts) -> bool
         .all(|position| is_position(airports, position))
 }
 
+fn is_distance(distance: &Option<u32>) -> bool
+    ensures { IsTrue result ↔ IsDistance distance.now }
+{
+    match distance {
+        Some(minutes) => *minutes <= 100_000,
+        None => true,
+    }
+}
+
+fn are_distances_from(row: &List<Option<u32>>) -> bool
+    ensures { IsTrue result ↔ All IsDistance row.now }
+{
+    row.as_slice().iter().all(is_distance)
+}
+
+fn are_distances(parts: &Parts) -> bool
+    ensures { IsTrue result ↔ All (λ row. All IsDistance row) parts.now.dist }
+{
+    parts.dist.as_slice().iter().all(are_distances_from)
+}
+
 fn is_window(from: Minute, to: Minute) -> bool
     ensures { IsTrue result ↔ (IsMoment from.0 × IsMoment to.0) }
 {
@@ -287,6 +308,7 @@ pub fn are_parts(alloc: Global, parts: &Parts) -> Result<bool, NoMem>
         || !are_legs(parts)
         || !are_reservations(parts)
         || !are_positions(parts)
+        || !are_distances(parts)
         || !is_window(parts.from, parts.to)
         || !are_tariff_rows(parts.tariff.rows.as_slice())
     {

@@ -87,6 +87,10 @@ res_at I r = slice_index_or I.parts.res r no_res
 abbrev pub airport_at : Situation → ℕ → AirportInfo
 airport_at I a = slice_index_or I.parts.airports a no_airport
 
+-- the minutes from airport a to airport b, where the day has a distance between them
+abbrev pub distance : Situation → ℕ → ℕ → Option ℕ
+distance I a b = slice_index_or (slice_index_or I.parts.dist a []) b None
+
 -- the minutes by which the orders delay leg x
 unfoldable pub delay_of : Option (Option ℕ) → ℕ
 delay_of None = 0

@@ -96,6 +96,10 @@ pub record IsPosition (airports : ℕ) (position : PositionInfo) : Type 0 where
   pub seats : AreSeats position.seats
   pub count : position.count ≤ 1000
 
+-- a distance is at most 100,000 minutes, where there is one
+abbrev pub IsDistance : Option ℕ → Type 0
+IsDistance distance = ForSome distance (λ minutes. minutes ≤ 100000)
+
 -- no two are named alike
 pub record AreDistinct (parts : Parts) : Type 0 where
   pub airports : AllPairs (λ a b. a.name ≢ b.name) parts.airports
@@ -122,6 +126,7 @@ pub record AreParts (parts : Parts) : Type 0 where
   pub from : IsMoment parts.from.0
   pub to : IsMoment parts.to.0
   pub positions : All (IsPosition (length parts.airports)) parts.positions
+  pub dist : All (λ row. All IsDistance row) parts.dist
   pub tariff : AreTariffRows parts.tariff.rows
   pub distinct : AreDistinct parts
 

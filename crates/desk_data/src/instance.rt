@@ -6,8 +6,8 @@ ghost use Rattle.desk_data.specs.Booked.{IsBooked};
 ghost use Rattle.desk_data.specs.Hours.{hour_cap, dep_cap, arr_cap};
 ghost use Rattle.desk_data.specs.Keeps.{Keeps};
 ghost use Rattle.desk_data.specs.Progress.{with_batch};
-ghost use Rattle.desk_data.specs.Situation.{fresh_day, legs_of, planes_of, airports_of, reservations_of, leg_at, plane_at, res_at, airport_at, now_of, frozen_at, tally_at, ordered, earliest, latest, called_off, fixed, due, spans, begun, bound, delay_of, scheduled_row, groups_of, schedule};
-ghost use Rattle.desk_data.specs.Valid.{AreParts, IsValid, IsLeg, IsPlane, IsReservation, IsAirport, AreTallied, IsBatch, IsRowOf, IsPlanFor};
+ghost use Rattle.desk_data.specs.Situation.{fresh_day, legs_of, planes_of, airports_of, reservations_of, leg_at, plane_at, res_at, airport_at, distance, now_of, frozen_at, tally_at, ordered, earliest, latest, called_off, fixed, due, spans, begun, bound, delay_of, scheduled_row, groups_of, schedule};
+ghost use Rattle.desk_data.specs.Valid.{AreParts, IsValid, IsLeg, IsPlane, IsReservation, IsAirport, IsDistance, AreTallied, IsBatch, IsRowOf, IsPlanFor};
 
 use crate::booked::{Booked, bookings_of};
 use crate::hours::cap_of_line;
@@ -360,6 +360,19 @@ impl Instance {
         ensures { result ≡ (self.now.parts.from, self.now.parts.to) }
     {
         (self.parts.from, self.parts.to)
+    }
+
+    /// The minutes from the one airport to the other, at most 100,000; none where the day has no distance
+    /// between them.
+    pub fn distance(&self, from: Airport, to: Airport) -> Option<u32>
+        ensures value { result ≡ distance self.now from.0 to.0 }
+        ensures limit { IsDistance result }
+    {
+        let row = self.parts.dist.as_slice().get(from.0 as usize)?;
+        match row.as_slice().get(to.0 as usize) {
+            Some(distance) => *distance,
+            None => None,
+        }
     }
 
     /// The aircraft that should stand at airports at the day's end.

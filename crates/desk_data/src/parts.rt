@@ -20,6 +20,9 @@ pub struct Parts {
     pub to: Minute,
     /// At most 10,000.
     pub positions: List<PositionInfo>,
+    /// By the airport of departure, and then by that of arrival: the minutes from the one to the other, at
+    /// most 100,000, or none where the day has no distance between them. What is not in the list is none.
+    pub dist: List<List<Option<u32>>>,
     /// At most 1,000 rows, of which no two say the same.
     pub tariff: Tariff,
 }
@@ -35,6 +38,7 @@ impl Drop for Parts {
             from: _,
             to: _,
             positions: _,
+            dist: _,
             tariff: _,
         } = self;
     }

@@ -123,7 +123,8 @@ fn entries_of(
     requires plan { IsPlanFor inst.now plan.now }
     ensures { IfOk result (λ entries. entries.items ≡ filter_map (λ legs. entry_of (count_then inst.now plan.now frozen.now res.0 legs) legs) (map (λ one. one.now) lists.now)) }
 {
-    let mut entries = Vec::with_capacity(alloc, lists.len())?;
+    // mostly all passengers of a reservation have flown the same legs
+    let mut entries = Vec::with_capacity(alloc, 1)?;
     for legs in lists {
         let count = count_then(inst, plan, frozen, res, legs);
         if count >= 1 {

@@ -27,10 +27,11 @@ fn prices_of(alloc: Global, prices: &[u64]) -> Result<Vec<TariffRow>, Fail> {
     Ok(rows)
 }
 
-/// Whether these airports and prices alone make a day.
-fn make_a_day(alloc: Global, names: &[&[u8]], prices: &[u64]) -> Result<bool, Fail> {
+/// Whether these airports, with one distance, and these prices alone make a day.
+fn make_a_day(alloc: Global, names: &[&[u8]], minutes: u32, prices: &[u64]) -> Result<bool, Fail> {
     let airports = airports_of(alloc, names)?;
     let rows = prices_of(alloc, prices)?;
+    let distances = List(vec![in alloc; Some(minutes)]?);
     let parts = Parts {
         airports: List(airports),
         planes: List(Vec::new(alloc)),
@@ -39,27 +40,29 @@ fn make_a_day(alloc: Global, names: &[&[u8]], prices: &[u64]) -> Result<bool, Fa
         from: Minute(0),
         to: Minute(52_500_000),
         positions: List(Vec::new(alloc)),
+        dist: List(vec![in alloc; distances]?),
         tariff: Tariff { rows: List(rows) },
     };
     Ok(are_parts(alloc, &parts)?)
 }
 
-/// The names of airports, the prices, and whether they make a day.
-const DAYS: [(&[&[u8]], &[u64], bool); 7] = [
-    (&[], &[], true),
-    (&[b"AAA", b"BBB"], &[500], true),
-    (&[b"AAA", b"AAA"], &[500], false),
-    (&[b"AA A"], &[], false),
-    (&[b"AAA"], &[500, 500], false),
-    (&[], &[9_999_999_999_999], true),
-    (&[], &[10_000_000_000_000], false),
+/// The names of airports, a distance, the prices, and whether they make a day.
+const DAYS: [(&[&[u8]], u32, &[u64], bool); 8] = [
+    (&[], 60, &[], true),
+    (&[b"AAA", b"BBB"], 100_000, &[500], true),
+    (&[b"AAA", b"BBB"], 100_001, &[500], false),
+    (&[b"AAA", b"AAA"], 60, &[500], false),
+    (&[b"AA A"], 60, &[], false),
+    (&[b"AAA"], 60, &[500, 500], false),
+    (&[], 60, &[9_999_999_999_999], true),
+    (&[], 60, &[10_000_000_000_000], false),
 ];
 
 #[test]
 fn rows_make_a_day_or_not(rt: HostRuntime) -> Result<(), Fail> {
-    for (names, prices, expected) in &DAYS {
-        let is_day = make_a_day(rt.alloc(), names, prices)?;
-        assert_eq!(rt; is_day, *expected, "{names:?} {prices:?}");
+    for (names, minutes, prices, expected) in &DAYS {
+        let is_day = make_a_day(rt.alloc(), names, *minutes, prices)?;
+        assert_eq!(rt; is_day, *expected, "{names:?} {minutes} {prices:?}");
     }
     Ok(())
 }
