@@ -8,6 +8,7 @@ use Rattle.desk_units.specs.declared.numbers.Leg.{Leg}
 use Rattle.desk_data.specs.declared.info.LegInfo.{LegInfo}
 use Rattle.desk_data.specs.Situation.{no_leg}
 use Rattle.desk_data.specs.Valid.{IsLeg, IsDistance as IsMinutes}
+use Rattle.file_rows.specs.declared.network.AirportRow.{AirportRow}
 use Rattle.file_rows.specs.declared.network.DistRow.{DistRow}
 use Rattle.file_rows.specs.Facts.{IsDistance}
 use Rattle.file_rows.specs.declared.legs.FlightRow.{FlightRow}
@@ -18,7 +19,7 @@ use Rattle.build_tables.specs.Names.{flight_named, is_between, distance_between}
 use Rattle.build_tables.specs.Departures.{departure_on}
 use Rattle.build_tables.specs.Fitting.{IsRotationOf, FitTogether}
 use Rattle.build_day.specs.Legs.{◌>>=◌, is_in_time, is_last_in_time, last_in_time, previous_place, minutes_of, leg_number, leg_by, leg_of}
-use Rattle.build_day.specs.Day.{airport_info, plane_info, distances_from, distances_of}
+use Rattle.build_day.specs.Day.{airport_info, plane_info, minutes_between, distances_from, distances_of}
 use Rattle.build_tables.specs.Facts.{AreFileRows}
 use Rattle.build_day.proofs.FoundLemmas.{place_within, known_within, found, found_either}
 use Rattle.build_day.proofs.ValidPlanes.{airport_within, pairs_made}
@@ -56,14 +57,17 @@ minutes_in_range (Some row) h minutes e = let same : row.minutes ≡ minutes = c
 
 module _ (x : Files) (rows : AreFileRows x) where
   -- the distance between two airports is that of a row
-  distance_in_range : (origin dest : List ℕ) → IsMinutes (option_map (λ row. row.minutes) (distance_between x.dist origin dest))
-  distance_in_range origin dest = minutes_in_range (distance_between x.dist origin dest) (λ row named. found_either IsDistance (is_between origin dest) (is_between dest origin) x.dist row rows.dist named)
+  distance_in_range : (origin dest : AirportRow) → IsMinutes (minutes_between x origin dest)
+  distance_in_range origin dest =
+      let there = is_between origin.airport dest.airport in
+      let back = is_between dest.airport origin.airport in
+      minutes_in_range (distance_between x.dist origin.airport dest.airport) (λ row named. found_either IsDistance there back x.dist row rows.dist named)
 
-  distances_in_range : (origin : List ℕ) → All IsMinutes (distances_from x origin)
-  distances_in_range origin = All-map IsMinutes (λ dest. option_map (λ row. row.minutes) (distance_between x.dist origin dest.airport)) x.airports (λ k d below. distance_in_range origin (get_or x.airports k d).airport)
+  distances_in_range : (origin : AirportRow) → All IsMinutes (distances_from x origin)
+  distances_in_range origin = All-map IsMinutes (minutes_between x origin) x.airports (λ k d below. distance_in_range origin (get_or x.airports k d))
 
   pub are_distances : All (λ row. All IsMinutes row) (distances_of x)
-  are_distances = All-map (λ row. All IsMinutes row) (λ origin. distances_from x origin.airport) x.airports (λ k d below. distances_in_range (get_or x.airports k d).airport)
+  are_distances = All-map (λ row. All IsMinutes row) (distances_from x) x.airports (λ k d below. distances_in_range (get_or x.airports k d))
 
   flight_within : (row : RotationRow) (f : FlightRow) → flight_named x.flights row.flight ≡ Some f → IsFlight f
   flight_within row f named = found IsFlight (λ f. bytes_eq row.flight f.flight) x.flights f rows.flights named

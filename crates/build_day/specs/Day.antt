@@ -75,13 +75,17 @@ position_info airport group = record { airport = airport; model = group.model; s
 abbrev pub positions_of : List AirportRow → PositionRow → List PositionInfo
 positions_of airports row = map (position_info (airport_of airports row.airport)) row.groups
 
--- the minutes from an airport to each airport: of the first row from the one to the other, else of the first row in the
--- opposite direction, and none where there is neither
-abbrev pub distances_from : Files → List ℕ → List (Option ℕ)
-distances_from x origin = map (λ dest. option_map (λ row. row.minutes) (distance_between x.dist origin dest.airport)) x.airports
+-- the minutes from one airport to another: of the first row from the one to the other, else of the first row in the opposite
+-- direction, and none where there is neither
+abbrev pub minutes_between : Files → AirportRow → AirportRow → Option ℕ
+minutes_between x origin dest = option_map (λ row. row.minutes) (distance_between x.dist origin.airport dest.airport)
+
+-- the minutes between all airports, by the airport of departure and then by that of arrival
+abbrev pub distances_from : Files → AirportRow → List (Option ℕ)
+distances_from x origin = map (minutes_between x origin) x.airports
 
 abbrev pub distances_of : Files → List (List (Option ℕ))
-distances_of x = map (λ origin. distances_from x origin.airport) x.airports
+distances_of x = map (distances_from x) x.airports
 
 -- the rows of the day, each list in the order of its file, and the window
 unfoldable pub parts_of : Files → Parts
