@@ -15,6 +15,7 @@ returns c =
         from = window.0;
         to = window.1;
         positions = c.if-not-are_positions.ensures.0 refl;
+        dist = c.if-not-are_distances.ensures.0 refl;
         tariff = rw c.as_slice.ensures at (c.if-not-are_tariff_rows.ensures.0 refl);
         distinct = decides.0 yes_;
       },
