@@ -10,7 +10,8 @@
 //! evaluator: applied, judged by what the plan then breaks and costs, and taken back. Before that `ruled_out` asks
 //! whether it is known not to be better, which is worth while where that takes less than to try the move: it may
 //! always say no. A run of legs that is handed on in vain (`near_chains`) is passed over before its move is made,
-//! and a path that costs a passenger nothing before the moves off it are made. What is known is a law each. A path off which
+//! and a path that costs a passenger nothing before the moves off it are made. A move of legs on whose aircraft nobody pays
+//! (`near_unpaid`) is told by its steps. What is known is a law each. A path off which
 //! no rebooking was better is noted in the evaluator, and passed over by the next search as long as nothing is touched
 //! that those hang on (`near_notes`).
 //!

@@ -19,7 +19,7 @@ use full_cost::passenger_cost;
 use plan_moves::{Move, Step};
 
 /// Whether it is known without trying it that a move is not better: it has one step, and that makes no plan
-/// cheaper, or its first step is in vain. Where it says no, nothing is known.
+/// cheaper; or its first step is in vain; or nobody pays on its aircraft. Where it says no, nothing is known.
 pub(crate) fn ruled_out(eval: &Evaluator, rotations: &Rotations, m: &Move) -> bool
     requires rotations { AreRotations eval.now.inst eval.now.rows rotations.now }
     requires fits { Fits eval.now.inst m.now }
@@ -27,9 +27,23 @@ pub(crate) fn ruled_out(eval: &Evaluator, rotations: &Rotations, m: &Move) -> bo
 {
     match m.steps.as_slice() {
         [step] => is_no_cheaper(eval, step),
-        [first, others @ ..] => are_in_vain(eval, rotations, first, others),
+        [first, others @ ..] => {
+            are_in_vain(eval, rotations, first, others) || is_unpaid(eval, rotations, m)
+        }
         [] => false,
     }
+}
+
+/// Whether it is known that a move is not better since nobody pays on its aircraft.
+fn is_unpaid(eval: &Evaluator, rotations: &Rotations, m: &Move) -> bool
+    requires rotations { AreRotations eval.now.inst eval.now.rows rotations.now }
+    requires fits { Fits eval.now.inst m.now }
+    ensures { result ≡ true → is_better eval.now.inst eval.now.rows m.now ≡ false }
+{
+    if !rotations.feasible {
+        return false;
+    }
+    rotations.payers.rule_out(eval.instance(), eval.plan(), m)
 }
 
 /// Whether it is known that a step makes the plan no cheaper: it is a rebooking to a path on which a passenger

@@ -20,4 +20,5 @@ returns c =
       planes = lists-long (λ legs. numbers_of legs.items) (rotation I P) c.loop-p.legs.items (planes_of I) each;
       each = each;
       within = c.loop-p.invariant.within;
+      payers = rw (c.instance-2.ensures, c.plan.ensures.rows) at c.in_ok-payers.ensures;
     }

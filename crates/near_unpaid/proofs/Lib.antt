@@ -1,0 +1,2 @@
+pub mod UnpaidLaws
+pub mod PayerLaws

@@ -1,0 +1,2 @@
+pub mod Unpaid
+pub mod Payers

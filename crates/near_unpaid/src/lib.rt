@@ -1,0 +1,24 @@
+//! Moves of legs on whose aircraft nobody pays.
+//!
+//!     let payers = Payers::of(alloc, &inst, &plan)?;
+//!     payers.rule_out(&inst, &plan, &m)          // of a feasible plan: whether it is known that the move is not better
+//!
+//! A move of legs can save at most what flying, the positions and the passengers whom it touches cost. Where nobody who costs
+//! anything is on a leg of its aircraft, or is booked on a leg that it refills, and both aircraft cost as much by the hour, it
+//! saves nothing but by aircraft that end where they are missing. Where no position wants one of them elsewhere, or a leg that
+//! is flown again costs as much as that would save, the move is not better, whatever becomes of its passengers.
+//!
+//! Who pays is looked up once for a plan, in one walk over the paths of its passengers and over its legs; a move is then told by
+//! its steps, and no row is drafted. Proved: what is ruled out is not better, and the law that says so, a public function with an
+//! empty body.
+#![tactic(auto)]
+
+mod laws;
+mod marks;
+mod moves;
+mod payers;
+mod pays;
+mod services;
+
+pub use laws::a_move_on_whose_aircraft_nobody_pays_is_not_better;
+pub use payers::Payers;
