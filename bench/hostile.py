@@ -505,12 +505,13 @@ for each in (4, 5, 6, 8):
     little_memory(each, 40, (0, 6))
 
 
-@case("resources", "32 MB of memory, so that threads find no stacks", 0, b"batch 0 ", ("recover", "in", "out", "--workers", "4"))
+@case("resources", "32 MB of memory, so that threads find no stacks", 0, b"batch 0 ", ("recover", "in", "out", "--workers", "4", "--watch"))
 def _(_):
     return {"limits": [(resource.RLIMIT_AS, 32 << 20)], "any": True}
 
 
-@case("resources", "no thread may be started", 0, b"batch 0 ", ("recover", "in", "out", "--workers", "4"))
+# here the viewer has to look after the search: one that came first would wait for it forever
+@case("resources", "no thread may be started", 0, b"batch 0 ", ("recover", "in", "out", "--workers", "4", "--watch"))
 def _(room):
     room.out_of_nobody()
     return {"limits": [(resource.RLIMIT_NPROC, 0)], "user": NOBODY, "any": True}

@@ -8,9 +8,12 @@ threads. Its journal is replayed, and has to give the same status, the same file
 `ended`. The batches of the journal have to be those of the day, in their order and from caller 0, and each move has to come from
 a worker that there is. A run with one worker, in turn, has to give what the desk gives alone, but for the callers. With --watch a viewer
 watches each run, and what it saw has to be 1 to 64 views of beginnings of the journal, each of more entries than the one before it, the last that
-of the whole, each with the changes and the cost that the journal's answers say. How many views each run had is told behind its seconds, and
-at the end how many runs had one before the last: a viewer that looks at the end alone has none, and no clause refuses it. Build the desk
-first: it is crates/desk/out/desk.
+of the whole, each with the changes and the cost that the journal's answers say. In turn, where the desk tells before each batch and before
+each search, a view before the last has to be of the entries before a batch, or of these with that batch; live it may be of any. How many
+views each run had is told behind its seconds, and at the end how many runs had one before the last, and how many had one of some entries and
+not of all. Of 10 runs and more it is a fault if none had: a viewer that looks at the end alone has neither, and a desk that tells at the end
+alone shows none of the second kind, and no clause refuses them. A viewer that looks all the time misses both in all runs only where no thread
+is started. Build the desk first: it is crates/desk/out/desk.
 
 Prints a line a day; the status is 1 where a run gave something else.
 """
@@ -61,15 +64,29 @@ def views_of(journal, first):
     return views
 
 
-def faults_of_views(report, journal, first):
+def seen_in(report):
+    """How many entries each view of a report is of, and what it says of them."""
+    lines = [line.split(" ", 2) for line in report.decode().splitlines() if line.startswith("seen ")]
+    return [(int(entries), view) for _, entries, view in lines]
+
+
+def told_in_turn(journal):
+    """Of how many entries a view may be in turn, but the last one: those before a batch, and these with it."""
+    batches = [at for at, row in enumerate(csv.reader(journal.decode().splitlines())) if row[1] == "batch"]
+    return {at + more for at in batches for more in (0, 1)}
+
+
+def faults_of_views(report, journal, first, live):
     """What is wrong with what a viewer saw."""
-    views, seen = views_of(journal, first), [line.split(" ", 2)[1:] for line in report.decode().splitlines() if line.startswith("seen ")]
-    places = [int(entries) for entries, _ in seen]
-    if not 1 <= len(seen) <= 64 or places != sorted(set(places)) or places[-1] != len(views) - 1:
-        yield "views of %s entries, of %d" % (places, len(views) - 1)
+    views, seen = views_of(journal, first), seen_in(report)
+    places, whole = [entries for entries, _ in seen], len(views) - 1
+    if not 1 <= len(seen) <= 64 or places != sorted(set(places)) or places[-1] != whole:
+        yield "views of %s entries, of %d" % (places, whole)
+    if not live and not set(places) <= told_in_turn(journal) | {whole}:
+        yield "views of %s entries, where batches were told at %s" % (places, sorted(told_in_turn(journal)))
     for entries, view in seen:
-        if views[min(int(entries), len(views) - 1)] != view:
-            yield "seen %s %s" % (entries, view)
+        if views[min(entries, whole)] != view:
+            yield "seen %d %s" % (entries, view)
 
 
 def replayed(day, journal):
@@ -103,12 +120,12 @@ def faults_of_journal(journal, workers):
 
 
 def faults_of_run(day, workers, live, moves, alone, first):
-    """What is wrong with one run, its seconds, and how many views it had. Where it is watched `first` is what the opening plan costs, or
-    breaks."""
+    """What is wrong with one run, its seconds, and of how many entries each of its views was. Where it is watched `first` is what the
+    opening plan costs, or breaks."""
     with tempfile.TemporaryDirectory() as out:
         words = ["recover", day, out, "--workers", str(workers)] + (["--live"] if live else []) + (["--watch"] if first else []) + moves
         status, report, files, took = run(words, out)
-    faults = list(faults_of_journal(files[2], workers)) + (list(faults_of_views(report, files[2], first)) if first else [])
+    faults = list(faults_of_journal(files[2], workers)) + (list(faults_of_views(report, files[2], first, live)) if first else [])
     other = replayed(day, files[2])
     if (status, without_end(report), files) != (other[0], other[1], other[2]):
         faults.append("its journal replays to something else")
@@ -116,7 +133,7 @@ def faults_of_run(day, workers, live, moves, alone, first):
         as_desk = b"".join(b"0," + line.partition(b",")[2] for line in files[2].splitlines(True))
         if (status, without_views(report), files[:2], as_desk) != (alone[0], alone[1], alone[2][:2], alone[2][2]):
             faults.append("one worker gives something else than the desk alone")
-    return faults, took, sum(line.startswith(b"seen ") for line in report.splitlines())
+    return faults, took, [entries for entries, _ in seen_in(report)]
 
 
 def main():
@@ -130,7 +147,7 @@ def main():
     asked = words.parse_args()
     assert set(FILES) == set(WRITTEN)
     moves = ["--moves", str(asked.moves)] if asked.moves else []
-    wrong, runs, early = 0, 0, 0
+    wrong, runs, early, within = 0, 0, 0, 0
     with tempfile.TemporaryDirectory() as room:
         for size in map(int, asked.sizes.split(",")):
             for seed in range(1, asked.seeds + 1):
@@ -143,14 +160,15 @@ def main():
                     for live in (False, True):
                         for _ in range(asked.rounds):
                             faults, took, views = faults_of_run(day, workers, live, moves, alone, first)
-                            runs, early = runs + 1, early + (views > 1)
-                            told.append("%d%s %.2f%s" % (workers, " live" if live else "", took, " (%d seen)" % views if first else ""))
+                            runs, early, within = runs + 1, early + (len(views) > 1), within + any(0 < entries < views[-1] for entries in views)
+                            told.append("%d%s %.2f%s" % (workers, " live" if live else "", took, " (%d seen)" % len(views) if first else ""))
                             for fault in faults:
                                 wrong += 1
                                 print("size %d seed %d, %d workers%s: %s" % (size, seed, workers, ", live" if live else "", fault))
                 print("size %d seed %d: alone %.2f s; %s" % (size, seed, alone[3], ", ".join(told)), flush=True)
     if asked.watch:
-        print("%d of %d runs had a view before the last" % (early, runs))
+        print("%d of %d runs had a view before the last, %d one of some entries and not of all" % (early, runs, within))
+        wrong += runs >= 10 and (not early) + (not within)
     print("%d faults" % wrong)
     return 1 if wrong else 0
 

@@ -8,13 +8,14 @@ use Rattle.desk_core.specs.Recorded.{Recorded}
 use Rattle.live_board.specs.declared.told.Told.{Told}
 use Rattle.live_board.specs.Histories.{history, origin, IsViewOf}
 use Rattle.live_board.proofs.Tellings.{histories_begin, origin_same}
-use Rattle.live_board.proofs.Beginnings.{prefix_self, prefix_trans, prefix_length}
+use Rattle.live_board.proofs.Beginnings.{prefix_self, prefix_trans, prefix_shorter, prefix_length}
 use Rattle.live_board.specs.Watched.{AreRising}
 use Rattle.desk_view.specs.declared.view.View.{View}
 use Rattle.desk_view.specs.Views.{view_of, IsSightOf}
 use Rattle.desk_view.proofs.SightLaws.{sight, entries_of}
 use Rattle.desk_board.specs.declared.sight.Sight.{Sight}
 use Rattle.desk_board.specs.Sights.{sights, AddsSight, HasLine, HaveLines}
+use Rattle.desk_board.proofs.TellingLaws.{some_is}
 
 -- a note of what was told so far has the view of a beginning of the history
 pub told_sight : (B : Recorded) (noted log : List (Told Recorded Entry)) (s : Sight) → origin log ≡ Some B → origin noted ≢ None → IsPrefix noted log → IsViewOf sights s noted → IsSightOf (opening B.opening) (history log) s.view
@@ -23,6 +24,35 @@ told_sight B noted log s from opened p is =
 
 pub told_last : (B : Recorded) (log : List (Told Recorded Entry)) (s : Sight) → origin log ≡ Some B → IsViewOf sights s log → s.view ≡ view_of (opening B.opening) (history log)
 told_last B log s from is = ap (λ (t : Sight). t.view) (is B from)
+
+-- ---- of two notes of a board one begins with the other
+
+shorter_or : (m n : ℕ) → (m ≤ n) ⊎ (n ≤ m)
+shorter_or zero n = inl (omega arith)
+shorter_or (suc m) zero = inr (omega arith)
+shorter_or (suc m) (suc n) = ⊎_elim (λ (a : m ≤ n). inl (omega (arith, a))) (λ (b : n ≤ m). inr (omega (arith, b))) (shorter_or m n)
+
+-- so one with fewer entries is a beginning of the other
+nested_below : (noted log both : List (Told Recorded Entry)) → IsPrefix noted both → IsPrefix log both → length (history noted) < length (history log) → IsPrefix noted log
+nested_below noted log both p q less = ⊎_elim
+    (λ (le : length noted ≤ length log). prefix_shorter noted log both p q le)
+    (λ (le : length log ≤ length noted). absurd (let more = prefix_length (history log) (history noted) (histories_begin log noted (prefix_shorter log noted both q p le)) in omega (arith, more, less)))
+    (shorter_or (length noted) (length log))
+
+-- and both are of one book
+pub from_both : (B : Recorded) (noted log both : List (Told Recorded Entry)) → origin log ≡ Some B → origin noted ≢ None → IsPrefix noted both → IsPrefix log both → origin noted ≡ Some B
+from_both B noted log both from opened p q = sym (origin_same noted both opened p) ∙ origin_same log both (some_is B (origin log) from) q ∙ from
+
+pub told_count : (B : Recorded) (log : List (Told Recorded Entry)) (s : Sight) → origin log ≡ Some B → IsViewOf sights s log → s.view.entries ≡ length (history log)
+told_count B log s from is = ap (λ (w : View). w.entries) (told_last B log s from is) ∙ entries_of (opening B.opening) (history log)
+
+-- the view of the one with fewer entries is that of a beginning of the history of the other
+pub fewer_sight : (B : Recorded) (noted log both : List (Told Recorded Entry)) (s last : Sight) → origin log ≡ Some B → origin noted ≢ None → IsPrefix noted both → IsPrefix log both → IsViewOf sights s noted → IsViewOf sights last log
+    → s.view.entries < last.view.entries → IsSightOf (opening B.opening) (history log) s.view
+fewer_sight B noted log both s last from opened p q is whole less =
+    let few = told_count B noted s (from_both B noted log both from opened p q) is in
+    let all = told_count B log last from whole in
+    told_sight B noted log s from opened (nested_below noted log both p q (omega (arith, less, few, all))) is
 
 -- ---- none of a few notes is left out
 
@@ -83,7 +113,7 @@ lined_none S h stands notes = record {
 }
 
 module _ {N : Type 0} (S : State) (h : List Entry) (stands : N → List Entry) (notes : List N) (m least next : ℕ) (lines later : List View) (v last : View) (note : N)
-    (here : slice_get notes m ≡ Some note) (is : v ≡ view_of S (stands note)) (sees : IsSightOf S h v)
+    (here : slice_get notes m ≡ Some note) (is : v ≡ view_of S (stands note)) (sees : v.entries < length h → IsSightOf S h v)
     (rises : (k : ℕ) (n : N) → m ≤ k → slice_get notes k ≡ Some n → length (stands note) ≤ length (stands n))
     (whole : last.entries ≡ length h) (few : length lines ≤ m) (short : length notes ≤ 63)
     (each : (i : ℕ) (w : View) → slice_get lines i ≡ Some w → IsSightOf S h w) (on : AreLined S h stands notes m least lines) where
@@ -100,7 +130,8 @@ module _ {N : Type 0} (S : State) (h : List Entry) (stands : N → List Entry) (
       (λ (top : (i : ℕ) × (w : View) × (slice_get lines i ≡ Some w) × (w.entries + 1 ≡ least)).
       let next = on.next m note (omega arith) here in
       let equal : top.1.entries ≡ v.entries = omega (arith, top.3, low, next, count) in
-      subst (λ (x : N). HasLine S (stands x) lines) same (top.0, top.2 ∙ ap Some (same_sights S h top.1 v (each top.0 top.1 top.2) sees equal ∙ is)))
+      let less : v.entries < length h = (let e : length (stands note) ≡ length (stands n) = ap (λ (x : N). length (stands x)) same in omega (arith, count, e, below)) in
+      subst (λ (x : N). HasLine S (stands x) lines) same (top.0, top.2 ∙ ap Some (same_sights S h top.1 v (each top.0 top.1 top.2) (sees less) equal ∙ is)))
       on.top
   stands_already n same below (inr (inl long)) = absurd (let e : length (stands note) ≡ length (stands n) = ap (λ (x : N). length (stands x)) same in omega (arith, long, below, whole, count, e))
   stands_already n same below (inr (inr full)) = absurd (let low = get_within notes m note here in omega (arith, full, few, short, low))

@@ -53,7 +53,7 @@ rest_next B h log n entries told legal count is b from k x at =
     subst (λ (c : Recorded). Follows (opening c.opening) (g ++ take k entries) x) (sym same)
     (subst (λ (l : List Entry). Follows (opening B.opening) (g ++ take k l) x) (sym rest) follows)
 
-some_is : (B : Recorded) (o : Option Recorded) → o ≡ Some B → o ≢ None
+pub some_is : (B : Recorded) (o : Option Recorded) → o ≡ Some B → o ≢ None
 some_is B o is none = absurd (let e : None ≡ Some B = sym none ∙ is in cc e)
 
 -- once it is told, all is

@@ -1,14 +1,15 @@
 //! What the desk's telling does.
 
-ghost use Rattle.std.specs.Prelude.{◌≡◌, All, List as Items, length, drop, IfOk, OnOk};
-ghost use mathlib.Core.List.{IsPrefix};
+ghost use Rattle.std.specs.Prelude.{◌≡◌, ◌≤◌, List as Items, length, drop, IfOk, OnOk, OnErr};
 ghost use Rattle.desk_model.specs.declared.answer.Entry.{Entry as Record};
 ghost use Rattle.desk_model.specs.States.{opening};
 ghost use Rattle.desk_model.specs.Histories.{IsLegal};
 ghost use Rattle.desk_core.specs.Recorded.{Recorded};
 ghost use Rattle.live_board.specs.Histories.{history};
-ghost use Rattle.live_board.specs.Words.{told_by, seen_by, stands_for, IsShown};
+ghost use Rattle.live_board.specs.Watched.{AreRising};
+ghost use Rattle.live_board.specs.Words.{told_by, stands_for, IsShown};
 ghost use Rattle.desk_board.specs.Posts.{posted, HasTold};
+ghost use Rattle.desk_board.specs.Sights.{HaveLines};
 ghost use Rattle.desk_board.specs.Told.{told_to};
 ghost use Rattle.desk_view.specs.Views.{AreSeen};
 
@@ -41,6 +42,7 @@ impl<J: Naming, R: Wait + Drop> BoardTelling<J, R> {
         requires { (B : Recorded) × (h : Items Record) × HasTold B h (told_to self.old) × IsLegal (opening B.opening) h × (entries.now ≡ drop self.old.told h) × (count ≡ length h) }
         ensures told { (B : Recorded) (h : Items Record) → HasTold B h (told_to self.old) → entries.now ≡ drop self.old.told h → HasTold B h (told_to self.new) }
         ensures all { OnOk result ((B : Recorded) (h : Items Record) → HasTold B h (told_to self.old) → entries.now ≡ drop self.old.told h → history (told_to self.new) ≡ h) }
+        ensures none { OnErr result (told_to self.new ≡ told_to self.old) }
     {
         if entries.is_empty() {
             return Ok(());
@@ -57,6 +59,7 @@ impl<J: Naming, R: Wait + Drop> BoardTelling<J, R> {
         requires told { (B : Recorded) × (B.opening ≡ book.now.opening) × HasTold B book.now.journal (told_to self.old) }
         ensures told { (B : Recorded) → HasTold B book.now.journal (told_to self.old) → HasTold B book.now.journal (told_to self.new) }
         ensures all { OnOk result (history (told_to self.new) ≡ book.now.journal) }
+        ensures none { OnErr result (told_to self.new ≡ told_to self.old) }
     {
         let count = book.entries();
         let (_, rest) = book.journal().split_at(self.told as usize);
@@ -71,7 +74,8 @@ impl<J: Naming, R: Wait + Drop> BoardTelling<J, R> {
     }
 
     /// Publishes the rest of the book's journal, has the viewer learn of that and see once more, and gives what is reported of
-    /// what was seen: the views of its notes, and that of the whole journal. The only error is out of memory.
+    /// what was seen: the view of each of its notes, 63 at most, that has fewer entries than the whole journal, and that of the whole.
+    /// The only error is out of memory.
     pub fn end(
         self,
         alloc: Global,
@@ -80,20 +84,19 @@ impl<J: Naming, R: Wait + Drop> BoardTelling<J, R> {
         notes: &[Note<Sight, J>],
     ) -> Result<Vec<View>, NoMem>
         requires told { (B : Recorded) × (B.opening ≡ book.now.opening) × HasTold B book.now.journal (told_to self) }
-        requires behind { All (λ n. IsPrefix (stands_for n) (seen_by viewer)) notes.now }
-        ensures { IfOk result (λ lines. AreSeen (opening book.now.opening) book.now.journal lines.items) }
+        requires rising { AreRising stands_for notes.now }
+        requires few { length notes.now ≤ 63 }
+        ensures seen { IfOk result (λ lines. AreSeen (opening book.now.opening) book.now.journal lines.items) }
+        ensures each { IfOk result (λ lines. HaveLines (opening book.now.opening) book.now.journal (λ n. history (stands_for n)) notes.now lines.items) }
     {
         let mut telling = self;
         let mut viewer = viewer;
         telling.tell_rest(book)?;
         let note = telling.note();
         viewer.learn(telling.note());
-        let last = viewer.see();
-        if viewer.kept().is_same(&note) {
-            seen_lines(alloc, notes, last)
-        } else {
-            seen_lines(alloc, &notes[..0], note.view())
-        }
+        // What it then sees is the view of that note, since nothing later is published.
+        let _last = viewer.see();
+        seen_lines(alloc, notes, &note)
     }
 }
 
@@ -107,6 +110,8 @@ impl<J: Naming, R: Wait + Drop> Telling for BoardTelling<J, R> {
     ghost can = { λ x B h. HasTold B h (told_to x) };
 
     ghost told = { λ x B h. history (told_to x) ≡ h };
+
+    ghost stays = { λ x y. told_to y ≡ told_to x };
 
     fn tell_more<W: Wait>(
         &mut self,

@@ -1,6 +1,6 @@
 //! Telling others of a history while it grows.
 
-ghost use Rattle.std.specs.Prelude.{◌≡◌, List as Items, OnOk};
+ghost use Rattle.std.specs.Prelude.{◌≡◌, List as Items, OnOk, OnErr};
 ghost use mathlib.Core.List.{IsPrefix};
 ghost use Rattle.desk_model.specs.declared.answer.Entry.{Entry as Record};
 ghost use Rattle.desk_core.specs.Recorded.{Recorded};
@@ -21,6 +21,9 @@ pub trait Telling {
     /// It has told all of this history, of a turn that was opened with this book.
     ghost told: { Self → Recorded → Items Record → Type 0 };
 
+    /// It has told no more than before.
+    ghost stays: { Self → Self → Type 0 };
+
     /// Looks at the history, and tells all that is new. The only error is out of memory, and then nothing more is told.
     fn tell_more<R: Wait>(
         &mut self,
@@ -34,7 +37,8 @@ pub trait Telling {
         ensures of { IsPassOf opening_of turn.now pass.new }
         ensures looked { Looked (known pass.old) (known pass.new) }
         ensures can { can self.new (first_book turn.now) (seen pass.new) }
-        ensures all { OnOk result (told self.new (first_book turn.now) (seen pass.new)) };
+        ensures all { OnOk result (told self.new (first_book turn.now) (seen pass.new)) }
+        ensures none { OnErr result (stays self.old self.new) };
 
     ghost longer: { (x : Self) (B : Recorded) (h g : Items Record) → IsPrefix h g → can x B h → can x B g };
 }
@@ -47,6 +51,8 @@ impl Telling for TellsNobody {
     ghost can = { λ x B h. Unit {0} };
 
     ghost told = { λ x B h. Unit {0} };
+
+    ghost stays = { λ x y. Unit {0} };
 
     fn tell_more<R: Wait>(
         &mut self,

@@ -1,8 +1,9 @@
 //! Batches that the desk has taken.
 
-ghost use Rattle.std.specs.Prelude.{◌≡◌, All, IfOk};
+ghost use Rattle.std.specs.Prelude.{◌≡◌, List as Items, All, IfOk, OnOk};
 ghost use mathlib.Core.List.{IsPrefix};
 ghost use Rattle.desk_data.specs.Valid.{IsBatch};
+ghost use Rattle.desk_model.specs.declared.answer.Entry.{Entry as Record};
 ghost use Rattle.turn_book.specs.Passes.{first_book, known, seen, tags, IsPassOf};
 ghost use Rattle.desk_core.specs.Turned.{opening_of};
 ghost use Rattle.desk_core.specs.Turned.{is_full};
@@ -62,12 +63,15 @@ fn take_one<R: Wait>(
     }
 }
 
-/// Tells what is new, and has a batch taken, as caller 0. The only error is out of memory, and then the batch has no entry.
-pub(crate) fn take_batch<R: Wait, T: Telling>(
+/// Tells what is new, enters the gate as worker 0 with this number, and has a batch taken, as caller 0. The only error is out of
+/// memory, and then the batch has no entry.
+pub(crate) fn take_batch<R: Wait, G: Gate, T: Telling>(
     rt: &R,
     alloc: Global,
     turn: &Turn<Book>,
     pass: &mut Pass<Book>,
+    gate: &G,
+    number: u32,
     batch: &Batch,
     telling: &mut T,
 ) -> Result<Intake, NoMem>
@@ -79,13 +83,15 @@ pub(crate) fn take_batch<R: Wait, T: Telling>(
     ensures began { IsPrefix (seen pass.old) (seen pass.new) }
     ensures taken { HasTaken (day_of turn.now) batch.now (known pass.old) (known pass.new) result }
     ensures can { T.can telling.new (first_book turn.now) (seen pass.new) }
+    ensures told { OnOk result ((h : Items Record) × IsPrefix (seen pass.old) h × IsPrefix h (seen pass.new) × T.told telling.new (first_book turn.now) h) }
 {
     telling.tell_more(rt, alloc, turn, pass)?;
+    gate.enter(0, number);
     take_one(rt, alloc, turn, pass, batch)
 }
 
-/// Has batches taken one after another, tells what is new before each and once all are taken, and enters the gate as worker 0 with
-/// the number of each, from 1 on, before that. It stops at the first one that is not taken.
+/// Has batches taken one after another, and tells what is new before each and once all are taken. Behind that, and before each is
+/// taken, it enters the gate as worker 0 with the number of the batch, from 1 on. It stops at the first one that is not taken.
 pub(crate) fn take_batches<R: Wait, G: Gate, T: Telling>(
     rt: &R,
     alloc: Global,
@@ -105,11 +111,19 @@ pub(crate) fn take_batches<R: Wait, G: Gate, T: Telling>(
     ensures can { T.can result.2 (first_book turn.now) (seen result.0) }
     ensures told { IfOk result.1 (λ came. came ≡ intake.Taken → T.told result.2 (first_book turn.now) (seen result.0)) }
 {
-    let mut number: u32 = 1;
+    let mut number: u32 = 0;
     for batch in batches {
-        gate.enter(0, number);
         number = number.saturating_add(1);
-        let Ok(came) = take_batch(rt, alloc, turn, &mut pass, batch, &mut telling) else {
+        let Ok(came) = take_batch(
+            rt,
+            alloc,
+            turn,
+            &mut pass,
+            gate,
+            number,
+            batch,
+            &mut telling,
+        ) else {
             return (pass, Err(NoMem), telling);
         };
         match came {

@@ -1,9 +1,10 @@
 //! Batches that are taken while the workers make rounds.
 
-ghost use Rattle.std.specs.Prelude.{◌≡◌, ◌<◌, true, [], ◌∷◌, List as Items, length, All, vec_len, IfOk, MatchOption};
+ghost use Rattle.std.specs.Prelude.{◌≡◌, ◌<◌, true, [], ◌∷◌, List as Items, length, All, vec_len, IfOk, OnOk, MatchOption};
 ghost use mathlib.Core.List.{IsPrefix};
 ghost use Rattle.day_orders.specs.declared.orders.Batch.{Batch as Orders};
 ghost use Rattle.desk_data.specs.Valid.{IsBatch};
+ghost use Rattle.desk_model.specs.declared.answer.Entry.{Entry as Record};
 ghost use Rattle.turn_book.specs.Passes.{first_book, known, seen, made, tags, IsPassOf};
 ghost use Rattle.desk_core.specs.Turned.{opening_of};
 ghost use Rattle.desk_pool.specs.Workers.{day_of, AreAllShards, CanAllSearch};
@@ -17,7 +18,7 @@ use crate::searched::Searched;
 use desk_board::Telling;
 use desk_core::Book;
 use desk_data::{Batch, NoMem};
-use desk_folder::Gate;
+use desk_folder::{FreeGate, Gate};
 use desk_pool::{Vote, Worker, rounds};
 use std::alloc::Global;
 use std::sync::Wait;
@@ -84,11 +85,72 @@ pub(crate) fn told_rounds<R: Threads + Wait + Sync, G: Gate, T: Telling>(
     ensures gained { HasGained budget (length (seen pass)) (known pass) (known result.1) workers.items result.0.items }
     ensures voted { IfOk result.2 (IsVoteOf budget (day_of turn.now) (vec_len workers) (seen result.1)) }
     ensures can { T.can telling.new (first_book turn.now) (seen result.1) }
+    ensures told { OnOk result.2 ((h : Items Record) × IsPrefix (seen pass) h × IsPrefix h (seen result.1) × T.told telling.new (first_book turn.now) h) }
 {
     let Ok(()) = telling.tell_more(rt, alloc, turn, &mut pass) else {
         return (workers, pass, Err(NoMem));
     };
     own_rounds(rt, alloc, workers, turn, pass, gate, budget)
+}
+
+/// Has batches taken, with a pass of its own, while the workers make rounds until they agree.
+fn take_and_search<R: Threads + Wait + Sync, G: Gate, T: Telling + Send + Drop>(
+    rt: &R,
+    alloc: Global,
+    workers: Vec<Worker>,
+    turn: &Turn<Book>,
+    mine: Pass<Book>,
+    pass: Pass<Book>,
+    gate: &G,
+    batches: &[Batch],
+    budget: u32,
+    telling: T,
+) -> (
+    (Pass<Book>, Result<Intake, NoMem>, T),
+    (Vec<Worker>, Pass<Book>, Result<Vote, NoMem>),
+)
+    requires some { 0 < vec_len workers }
+    requires shards { AreAllShards workers.items }
+    requires mine { IsPassOf opening_of turn.now mine }
+    requires of { IsPassOf opening_of turn.now pass }
+    requires ready { CanAllSearch (day_of turn.now) workers.items (seen pass) }
+    requires asked { All (IsBatch (day_of turn.now).parts) batches.now }
+    requires can { T.can telling (first_book turn.now) (seen mine) }
+    ensures mine { IsPassOf opening_of turn.now result.0.0 }
+    ensures tags { tags result.0.0 ≡ tags mine }
+    ensures taken { IfOk result.0.1 (HasTakenAll batches.now (known mine) (known result.0.0)) }
+    ensures can { T.can result.0.2 (first_book turn.now) (seen result.0.0) }
+    ensures len { vec_len result.1.0 ≡ vec_len workers }
+    ensures shards { AreAllShards result.1.0.items }
+    ensures of { IsPassOf opening_of turn.now result.1.1 }
+    ensures ready { CanAllSearch (day_of turn.now) result.1.0.items (seen result.1.1) }
+    ensures returned { IsReturned (known pass) (known result.1.1) }
+    ensures gained { HasGained budget (length (seen pass)) (known pass) (known result.1.1) workers.items result.1.0.items }
+{
+    join(
+        rt,
+        || -> (Pass<Book>, Result<Intake, NoMem>, T)
+            requires of { IsPassOf opening_of turn.now mine }
+            requires asked { All (IsBatch (day_of turn.now).parts) batches.now }
+            requires can { T.can telling (first_book turn.now) (seen mine) }
+            ensures of { IsPassOf opening_of turn.entry.now result.0 }
+            ensures tags { tags result.0 ≡ tags mine }
+            ensures taken { IfOk result.1 (HasTakenAll batches.entry.now (known mine) (known result.0)) }
+            ensures can { T.can result.2 (first_book turn.entry.now) (seen result.0) }
+        { take_batches(rt, alloc, turn, mine, gate, batches, telling) },
+        || -> (Vec<Worker>, Pass<Book>, Result<Vote, NoMem>)
+            requires some { 0 < vec_len workers }
+            requires shards { AreAllShards workers.items }
+            requires of { IsPassOf opening_of turn.now pass }
+            requires ready { CanAllSearch (day_of turn.now) workers.items (seen pass) }
+            ensures len { vec_len result.0 ≡ vec_len workers }
+            ensures shards { AreAllShards result.0.items }
+            ensures of { IsPassOf opening_of turn.entry.now result.1 }
+            ensures ready { CanAllSearch (day_of turn.entry.now) result.0.items (seen result.1) }
+            ensures returned { IsReturned (known pass) (known result.1) }
+            ensures gained { HasGained budget (length (seen pass)) (known pass) (known result.1) workers.items result.0.items }
+        { own_rounds(rt, alloc, workers, turn, pass, gate, budget) },
+    )
 }
 
 /// Has batches taken while the workers make rounds, and goes on with rounds until the workers agree.
@@ -116,29 +178,8 @@ fn beside<R: Threads + Wait + Sync, G: Gate, T: Telling + Send + Drop>(
         IfOk result.1 (IsLiveRun (vec_len workers) budget (day_of turn.now) done batches.now (known result.0)) }
 {
     let mine = turn.split(&mut pass);
-    let ((mine, taken, mut telling), (workers, mut pass, searched)) = join(
-        rt,
-        || -> (Pass<Book>, Result<Intake, NoMem>, T)
-            requires of { IsPassOf opening_of turn.now mine }
-            requires asked { All (IsBatch (day_of turn.now).parts) batches.now }
-            requires can { T.can telling (first_book turn.now) (seen mine) }
-            ensures of { IsPassOf opening_of turn.entry.now result.0 }
-            ensures tags { tags result.0 ≡ tags mine }
-            ensures taken { IfOk result.1 (HasTakenAll batches.entry.now (known mine) (known result.0)) }
-            ensures can { T.can result.2 (first_book turn.entry.now) (seen result.0) }
-        { take_batches(rt, alloc, turn, mine, gate, batches, telling) },
-        || -> (Vec<Worker>, Pass<Book>, Result<Vote, NoMem>)
-            requires some { 0 < vec_len workers }
-            requires shards { AreAllShards workers.items }
-            requires of { IsPassOf opening_of turn.now pass }
-            requires ready { CanAllSearch (day_of turn.now) workers.items (seen pass) }
-            ensures len { vec_len result.0 ≡ vec_len workers }
-            ensures shards { AreAllShards result.0.items }
-            ensures of { IsPassOf opening_of turn.entry.now result.1 }
-            ensures ready { CanAllSearch (day_of turn.entry.now) result.0.items (seen result.1) }
-            ensures returned { IsReturned (known pass) (known result.1) }
-            ensures gained { HasGained budget (length (seen pass)) (known pass) (known result.1) workers.items result.0.items }
-        { own_rounds(rt, alloc, workers, turn, pass, gate, budget) },
+    let ((mine, taken, mut telling), (workers, mut pass, searched)) = take_and_search(
+        rt, alloc, workers, turn, mine, pass, gate, batches, budget, telling,
     );
     turn.join(&mut pass, mine);
     if searched.is_err() {
@@ -208,7 +249,17 @@ pub(crate) fn live<R: Threads + Wait + Sync, G: Gate, T: Telling + Send + Drop>(
         None => unreachable!(),
         Some((first, others)) => {
             let mut telling = telling;
-            let Ok(came) = take_batch(rt, alloc, turn, &mut pass, first, &mut telling) else {
+            // The first batch is not live: no gate stands before it.
+            let Ok(came) = take_batch(
+                rt,
+                alloc,
+                turn,
+                &mut pass,
+                &FreeGate,
+                0,
+                first,
+                &mut telling,
+            ) else {
                 return (pass, Err(NoMem), telling);
             };
             match came {

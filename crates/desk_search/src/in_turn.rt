@@ -14,7 +14,7 @@ use crate::searched::Searched;
 use desk_board::Telling;
 use desk_core::Book;
 use desk_data::{Batch, NoMem};
-use desk_folder::Gate;
+use desk_folder::{FreeGate, Gate};
 use desk_pool::Worker;
 use std::alloc::Global;
 use std::sync::Wait;
@@ -48,7 +48,16 @@ pub(crate) fn in_turn<R: Threads + Wait + Sync, G: Gate, T: Telling + Drop>(
 {
     let mut voted = None;
     for batch in batches {
-        let Ok(came) = take_batch(rt, alloc, turn, &mut pass, batch, &mut telling) else {
+        let Ok(came) = take_batch(
+            rt,
+            alloc,
+            turn,
+            &mut pass,
+            &FreeGate,
+            0,
+            batch,
+            &mut telling,
+        ) else {
             return (pass, Err(NoMem), telling);
         };
         match came {

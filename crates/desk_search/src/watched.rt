@@ -1,6 +1,6 @@
 //! A day that a team searches while a viewer watches a board.
 
-ghost use Rattle.std.specs.Prelude.{◌≡◌, ◌<◌, ◌≤◌, [], ◌∷◌, length, All, vec_len, IfOk};
+ghost use Rattle.std.specs.Prelude.{◌≡◌, ◌<◌, ◌≤◌, [], ◌∷◌, length, All, vec_len, vec_capacity, IfOk};
 ghost use mathlib.Core.List.{IsPrefix};
 ghost use Rattle.desk_data.specs.Situation.{fresh_day};
 ghost use Rattle.desk_data.specs.Valid.{IsBatch};
@@ -8,6 +8,7 @@ ghost use Rattle.desk_model.specs.States.{opening};
 ghost use Rattle.turn_book.specs.Passes.{first_book, known, seen, made, name, out, IsPassOf};
 ghost use Rattle.desk_core.specs.Turned.{opening_of};
 ghost use Rattle.live_board.specs.Histories.{opens};
+ghost use Rattle.live_board.specs.Watched.{AreRising, EndsAt};
 ghost use Rattle.live_board.specs.Words.{board_of, opening_log, seen_by, stands_for};
 ghost use Rattle.desk_view.specs.Views.{AreSeen};
 ghost use Rattle.desk_board.specs.Posts.{HasTold};
@@ -102,7 +103,11 @@ fn search_watched<
     requires start { (seen pass ≡ []) × (made pass ≡ []) }
     requires can { T.can telling (first_book turn.now) (seen pass) }
     requires notes { notes.items ≡ [] }
+    requires room { vec_capacity notes ≡ 63 }
     ensures behind { All (λ n. IsPrefix (stands_for n) (seen_by result.0.0)) result.0.1.items }
+    ensures rising { AreRising stands_for result.0.1.items }
+    ensures few { length result.0.1.items ≤ 63 }
+    ensures noted { length result.0.1.items < 63 → EndsAt stands_for (seen_by result.0.0) result.0.1.items }
     ensures of { IsPassOf opening_of turn.now result.1.0 }
     ensures returned { IsReturned (known pass) (known result.1.0) }
     ensures can { T.can result.1.2 (first_book turn.now) (seen result.1.0) }
@@ -114,8 +119,12 @@ fn search_watched<
     join(
         rt,
         || -> (Viewer<Sight, Posted, J>, Vec<Note<Sight, J>>)
-            requires { notes.items ≡ [] }
-            ensures { All (λ n. IsPrefix (stands_for n) (seen_by result.0)) result.1.items }
+            requires notes { notes.items ≡ [] }
+            requires room { vec_capacity notes ≡ 63 }
+            ensures behind { All (λ n. IsPrefix (stands_for n) (seen_by result.0)) result.1.items }
+            ensures rising { AreRising stands_for result.1.items }
+            ensures few { length result.1.items ≤ 63 }
+            ensures noted { length result.1.items < 63 → EndsAt stands_for (seen_by result.0) result.1.items }
         { watch(rt, viewer, notes, &ended) },
         || -> (Pass<Book>, Result<Searched, NoMem>, T)
             requires some { 0 < vec_len workers }
@@ -165,6 +174,7 @@ fn watch_turn<J: Naming + Send + Sync, R: Threads + Wait + Sync, G: Gate>(
     requires first { (name pass ≡ []) × (out pass ≡ []) }
     requires can { HasTold (first_book turn) (seen pass) (told_to telling) }
     requires notes { notes.items ≡ [] }
+    requires room { vec_capacity notes ≡ 63 }
     ensures { IfOk result (λ day. IsTeamBook (day_of turn) batches.now team day.done.book day.done.ended × AreSeen (opening (day_of turn)) day.done.book.journal day.seen.items) }
 {
     let ((viewer, notes), (pass, searched, telling)) = search_watched(

@@ -1,6 +1,6 @@
 //! Recovering a day by a team, and writing what came of it.
 
-ghost use Rattle.std.specs.Prelude.{◌≡◌, ◌≤◌, true, false, length, All};
+ghost use Rattle.std.specs.Prelude.{◌≡◌, ◌≤◌, length, All};
 ghost use Rattle.desk_data.specs.Situation.{fresh_day};
 ghost use Rattle.desk_data.specs.Valid.{IsBatch};
 ghost use Rattle.desk_runs.specs.Runs.{Between};
@@ -17,68 +17,6 @@ use desk_runs::Ending;
 use std::alloc::Global;
 use std::sync::Wait;
 use std::thread::Threads;
-
-// Has a team search a day, and writes what came of it.
-fn recover_unwatched<R: Threads + Wait + Sync, F: Folder, O: Sink, G: Gate>(
-    rt: &R,
-    alloc: Global,
-    inst: Instance,
-    batches: &[Batch],
-    team: Team,
-    folder: &mut F,
-    out: &mut O,
-    gate: &G,
-) -> Ending
-    requires fresh { inst ≡ fresh_day inst.parts }
-    requires asked { All (IsBatch inst.parts) batches.now }
-    requires some { 1 ≤ length batches.now }
-    requires few { length batches.now ≤ 1001 }
-    requires team { (1 ≤ team.workers) × (team.workers ≤ 64) }
-    requires alone { team.watch ≡ false }
-    ensures { Between F.outside O.report folder.old out.old folder.new out.new
-        (λ before now. IsDoneSomehow before now (by_team (team_of inst batches.now team)) result) }
-{
-    match search_day(rt, alloc, inst, batches, team, gate) {
-        Ok(done) => write_history(alloc, &done.book, done.ended, folder, out),
-        Err(_) => Ending::Memory,
-    }
-}
-
-// Has a team search a day while a viewer watches, and writes what came of it and what was seen.
-fn recover_watched<R: Threads + Wait + Sync, F: Folder, O: Sink, G: Gate>(
-    rt: &R,
-    alloc: Global,
-    inst: Instance,
-    batches: &[Batch],
-    team: Team,
-    folder: &mut F,
-    out: &mut O,
-    gate: &G,
-) -> Ending
-    requires fresh { inst ≡ fresh_day inst.parts }
-    requires asked { All (IsBatch inst.parts) batches.now }
-    requires some { 1 ≤ length batches.now }
-    requires few { length batches.now ≤ 1001 }
-    requires team { (1 ≤ team.workers) × (team.workers ≤ 64) }
-    requires watched { team.watch ≡ true }
-    ensures { Between F.outside O.report folder.old out.old folder.new out.new
-        (λ before now. IsDoneSomehow before now (by_team (team_of inst batches.now team)) result) }
-{
-    match watch_day(rt, alloc, inst, batches, team, gate) {
-        Ok(day) => {
-            let done = day.done;
-            write_watched(
-                alloc,
-                &done.book,
-                done.ended,
-                day.seen.as_slice(),
-                folder,
-                out,
-            )
-        }
-        Err(_) => Ending::Memory,
-    }
-}
 
 /// Takes these batches on a day, 1 to 1,001 of them, has a team search for a cheaper plan after each, or while it takes
 /// them, and writes the rotations and the itineraries of the last plan where there is one, the journal, and
@@ -105,8 +43,24 @@ pub fn recover_by_team<R: Threads + Wait + Sync, F: Folder, O: Sink, G: Gate>(
         (λ before now. IsDoneSomehow before now (by_team (team_of inst batches.now team)) result) }
 {
     if team.watch {
-        recover_watched(rt, alloc, inst, batches, team, folder, out, gate)
+        match watch_day(rt, alloc, inst, batches, team, gate) {
+            Ok(day) => {
+                let done = day.done;
+                write_watched(
+                    alloc,
+                    &done.book,
+                    done.ended,
+                    day.seen.as_slice(),
+                    folder,
+                    out,
+                )
+            }
+            Err(_) => Ending::Memory,
+        }
     } else {
-        recover_unwatched(rt, alloc, inst, batches, team, folder, out, gate)
+        match search_day(rt, alloc, inst, batches, team, gate) {
+            Ok(done) => write_history(alloc, &done.book, done.ended, folder, out),
+            Err(_) => Ending::Memory,
+        }
     }
 }

@@ -17,7 +17,7 @@ module _ {S T J R O I A : Type 0} {s a j : _} where
   abbrev pub IsShown : (T → List (Told O I)) → Teller S T J R O I A s a j → Type 0
   IsShown log t = (w : _) → t.writer ≡ Some w → log w.desk.shown.value ≡ told_by t
 
-  -- a tell of its failed
+  -- whether one of its tells failed
   abbrev pub has_failed : Teller S T J R O I A s a j → Bool
   has_failed t = t.failed
 

@@ -24,6 +24,7 @@ use std::marker::PhantomData;
 use std::sync::Wait;
 
 impl<S: Summary> Opened<S> {
+    /// A board on this book. Its journal is published, as the opening, and nothing was told yet.
     pub fn new(book: &S::Origin) -> Opened<S>
         ensures { opening_log result ≡ opens book.now (S.journal book.now) ∷ [] }
     {
@@ -37,7 +38,9 @@ impl<S: Summary> Opened<S> {
         }
     }
 
-    /// The teller, and so many viewers. One whose place is refused lives by its notes alone.
+    /// The teller, and so many viewers, 1 to 64, each of which has seen the opening. A viewer whose place is refused lives by its
+    /// notes alone. The only error is out of memory, and then there is no board. One operation waits to be published from then on,
+    /// which shows the opening once more: the room that it has taken serves the operations of later tells.
     pub fn open<T: Boarded<S>, J: Naming, R: Wait + Drop>(
         self,
         rt: R,
@@ -63,7 +66,7 @@ impl<S: Summary> Opened<S> {
         let second = first.again();
         let mut writer: Writer<T, T, LinkedList<Told<S::Origin, S::Item>>, Rising<S, J>> =
             Writer::new(alloc, first, second, viewers as usize)?;
-        // Room for the operations of later tells.
+        // What it shows is what is shown already: it is there for its room.
         let _ = writer.append(T::new(&shown));
         let all = seat_viewers(&writer, &shown, viewers, all);
         Ok((
@@ -219,6 +222,18 @@ impl<S: Summary, J: Naming> Note<S, J> {
         self.shown.is_same(&other.shown)
     }
 
+    /// The later of both, which begins with all that the other one stands for.
+    pub fn later(&self, other: &Note<S, J>) -> Note<S, J>
+        ensures one { (stands_for result ≡ stands_for self.now) ⊎ (stands_for result ≡ stands_for other.now) }
+        ensures this { IsPrefix (stands_for self.now) (stands_for result) }
+        ensures that { IsPrefix (stands_for other.now) (stands_for result) }
+    {
+        Note {
+            shown: self.shown.later(&other.shown),
+            of: PhantomData,
+        }
+    }
+
     /// A copy.
     pub fn again(&self) -> Note<S, J>
         ensures { stands_for result ≡ stands_for self.now }
@@ -238,17 +253,15 @@ impl<S: Summary, T: Boarded<S>, J: Naming> Viewer<S, T, J> {
         self.kept.again()
     }
 
-    /// The viewer is told of what the note stands for.
+    /// The viewer is told of what the note stands for, and keeps the later of that and of what it kept. A reader that it has stays
+    /// with it.
     pub fn learn(&mut self, note: Note<S, J>)
         ensures one { (seen_by self.new ≡ seen_by self.old) ⊎ (seen_by self.new ≡ stands_for note) }
         ensures seen { IsPrefix (seen_by self.old) (seen_by self.new) }
         ensures told { IsPrefix (stands_for note) (seen_by self.new) }
+        ensures reader { IsAlone self.new → IsAlone self.old }
     {
-        let later = self.kept.shown.later(&note.shown);
-        self.kept = Note {
-            shown: later,
-            of: PhantomData,
-        };
+        self.kept = self.kept.later(&note);
     }
 
     /// The view of a published history, which begins with all that this viewer saw before and was

@@ -26,4 +26,4 @@ pub use laws::a_beginning_of_what_was_told_has_a_beginning_of_the_history;
 pub use shown::Shown;
 pub use summary::Summary;
 pub use told::{Saw, Told};
-pub use watching::{sight, watch};
+pub use watching::{see_and_note, watch};

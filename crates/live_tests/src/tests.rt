@@ -3,7 +3,7 @@ ghost use Rattle.live_board.specs.Histories.{history};
 ghost use Rattle.live_board.specs.Words.{board_of, opening_log, told_by, IsShown};
 
 use crate::most::{Blank, Most, Posted};
-use crate::threads::{see_both, tell_and_end, tell_two};
+use crate::threads::{all_learn, all_see, see_both, tell_and_end, tell_two};
 use desk_units::NoMem;
 use live_board::{Naming, Note, Opened, Teller, Viewer, watch};
 use std::alloc::Global;
@@ -39,8 +39,8 @@ fn tell_and_see<J: Naming + Send + Sync, R: Threads + Wait + Abort + Sync>(
         || -> (Teller<Most, Posted, J, &R>, Result<(), NoMem>)
             requires room { length (history (told_by teller)) < 100 }
             requires shown { IsShown (λ (p : Posted). p.0.seen.log) teller }
-        { tell_two(rt, teller, &saw) },
-        || see_both(rt, viewer, &saw),
+        { tell_two(teller, &saw) },
+        || see_both(viewer, &saw),
     );
     viewer.learn(teller.note());
     let last = viewer.see();
@@ -94,5 +94,36 @@ fn watch_on<J: Naming + Send + Sync, R: Threads + Wait + Abort + Sync>(
     assert!(rt; viewer.kept().is_same(&note));
     assert_eq!(rt; (last.entries, last.largest), (3, 9));
     assert!(rt; 1 <= notes.len() && notes.len() <= 3);
+    Ok(())
+}
+
+#[test]
+fn each_of_64_viewers_has_a_place_and_keeps_it(rt: HostRuntime) -> Result<(), Fail> {
+    see_from_all_places::<Brand, _>(&rt, rt.alloc(), Opened::new(&Blank))
+}
+
+fn see_from_all_places<J: Naming, R: Wait + Abort>(
+    rt: &R,
+    alloc: Global,
+    opened: Opened<Most>,
+) -> Result<(), Fail>
+    requires board { board_of opened ≡ J.book }
+    requires fresh { length (history (opening_log opened)) < 100 }
+{
+    let Ok((mut teller, mut viewers)) = opened.open::<Posted, J, &R>(rt, alloc, 64) else {
+        panic!(rt; "no memory")
+    };
+    let Ok(()) = teller.tell(&[5]) else {
+        panic!(rt; "no memory")
+    };
+    // A viewer without a place sees none: it was told of nothing.
+    let one = all_see(viewers.as_mut_slice(), 1);
+    all_learn(viewers.as_mut_slice(), &teller);
+    let told = teller.tell(&[3, 9]);
+    // Nor does one that gave its place up once it had learnt.
+    let three = all_see(viewers.as_mut_slice(), 3);
+    drop(teller);
+    assert!(rt; told.is_ok());
+    assert_eq!(rt; (one, three), (true, true));
     Ok(())
 }

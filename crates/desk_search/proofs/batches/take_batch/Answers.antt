@@ -3,6 +3,7 @@ use Rattle.turn_book.specs.Passes.{first_book, known, seen}
 use Rattle.turn_book.proofs.Prefixes.{prefix_trans}
 use Rattle.desk_pool.specs.Workers.{day_of}
 use Rattle.desk_search.proofs.Taking.{has_none, looked_none, taken_later}
+use Rattle.desk_search.proofs.Watching.{so_anyway}
 use Rattle.desk_search.proofs.batches.take_batch.Goals as goal
 
 pub returns-clause-tags : goal.returns-clause-tags
@@ -16,3 +17,8 @@ returns-clause-taken g c = taken_later (day_of c.args.turn.now) c.args.batch.now
 
 pub returns-clause-can : goal.returns-clause-can
 returns-clause-can g c = g.met.T.Telling.longer c.tell_more.new.self (first_book c.args.turn.now) (seen c.tell_more.new.pass) (seen c.take_one.new.pass) c.take_one.ensures.began c.tell_more.ensures.can
+
+-- the history that was told
+pub returns-clause-told : goal.returns-clause-told
+returns-clause-told g c =
+    so_anyway c.take_one.result _ (seen c.tell_more.new.pass, c.tell_more.ensures.looked.began, c.take_one.ensures.began, c.in_ok-tell_more.ensures.all)

@@ -8,7 +8,7 @@ use Rattle.desk_search.proofs.batches.take_batches.Goals as goal
 
 -- each batch of the list can be taken
 pub take_batch-requires-clause-asked : goal.take_batch-requires-clause-asked
-take_batch-requires-clause-asked g c =
+take_batch-requires-clause-asked g c κs within =
     subst (IsBatch (day_of c.args.turn.now).parts) (sym c.batch-item.is) (c.requires.asked c.loop-batch.batch-index c.batch-item.result c.loop-batch-test.true)
 
 pub returns-in-Full-clause-taken : goal.returns-in-Full-clause-taken

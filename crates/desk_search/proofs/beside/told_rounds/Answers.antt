@@ -4,6 +4,7 @@ use Rattle.desk_pool.specs.Workers.{day_of}
 use Rattle.desk_pool.proofs.Gaining.{returned_on}
 use Rattle.desk_search.proofs.Longer.{all_longer, gained_later, gained_looked}
 use Rattle.desk_search.proofs.Running.{returned_by}
+use Rattle.desk_search.proofs.Watching.{so_anyway}
 use Rattle.desk_search.proofs.beside.told_rounds.Goals as goal
 
 pub own_rounds-requires-clause-ready : goal.own_rounds-requires-clause-ready
@@ -24,3 +25,8 @@ returns-clause-gained g c = gained_later c.args.budget (known c.args.pass) (know
 
 pub returns-clause-can : goal.returns-clause-can
 returns-clause-can g c = g.met.T.Telling.longer c.tell_more.new.self (first_book c.args.turn.now) (seen c.tell_more.new.pass) (seen c.own_rounds.result.1) c.own_rounds.ensures.began c.tell_more.ensures.can
+
+-- the history that was told
+pub returns-clause-told : goal.returns-clause-told
+returns-clause-told g c =
+    so_anyway c.own_rounds.result.2 _ (seen c.tell_more.new.pass, c.tell_more.ensures.looked.began, c.own_rounds.ensures.began, c.in-Ok.ensures.all)

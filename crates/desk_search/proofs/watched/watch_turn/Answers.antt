@@ -16,5 +16,8 @@ end-requires-clause-told g c =
     let B = first_book c.args.turn in
     (B, sym c.close_day-done.ensures.day.same, told_journal B (seen c.search_watched-viewer.result.1.0) c.close_day-done.result.book.journal (told_to c.search_watched-viewer.result.1.2) c.close_day-done.ensures.journal c.search_watched-viewer.ensures.can)
 
-pub end-requires-clause-behind : goal.end-requires-clause-behind
-end-requires-clause-behind g c = rw c.as_slice.ensures.value c.search_watched-viewer.ensures.behind
+pub end-requires-clause-rising : goal.end-requires-clause-rising
+end-requires-clause-rising g c = rw c.as_slice.ensures.value c.search_watched-viewer.ensures.rising
+
+pub end-requires-clause-few : goal.end-requires-clause-few
+end-requires-clause-few g c = rw c.as_slice.ensures.value c.search_watched-viewer.ensures.few
