@@ -1,105 +1,68 @@
-//! A viewer that is held, and one that learns.
+//! The walks, by board; the views of the desk's own board are in `views`.
 
-ghost use Rattle.std.specs.Prelude.{◌≡◌, ◌∷◌, [], OnOk};
-ghost use Rattle.desk_data.specs.Valid.{IsBatch};
-ghost use Rattle.desk_core.specs.Recorded.{Recorded};
-ghost use Rattle.live_board.specs.Histories.{opens};
-ghost use Rattle.live_board.specs.Words.{board_of, opening_log};
-ghost use Rattle.desk_board.specs.Posts.{HasTold};
-ghost use Rattle.desk_board.specs.Told.{told_to};
+mod boards;
+mod days;
+mod draws;
+mod lent;
+mod lines;
+mod views;
+mod walk;
 
-use crate::day::{called_off, day_of, nothing};
-use desk_board::{BoardTelling, Posted, Sight};
-use desk_core::Book;
-use desk_data::{Batch, Grains};
-use desk_view::View;
-use live_board::{Naming, Opened, Viewer};
+use board_rot::RotBoard;
+use board_seats::SeatBoard;
+use board_slots::SlotBoard;
+use days::Orders;
+use lent::LentCostBoard;
 use std::alloc::Global;
-use std::marker::Brand;
-use std::sync::Wait;
 use std::test::Fail;
+use walk::{STEPS, Walkable, walked};
 
-/// The view of so many entries, each a change, of a plan that costs so much.
-fn planned(entries: u32, cost: u128) -> View {
-    View {
-        entries,
-        changes: entries,
-        cost: Grains(cost),
-        broken: None,
+/// Walks of rotations and of hours: the day, the seed of the draws, and how many of 12 changes are of rows and not of passengers.
+const OF_ROWS: [(Orders, u64, u32); 6] = [
+    (Orders::None, 1, 11),
+    (Orders::None, 2, 12),
+    (Orders::Told, 3, 11),
+    (Orders::Told, 4, 12),
+    (Orders::ToldLater, 5, 11),
+    (Orders::ToldLater, 6, 12),
+];
+
+/// The same of passengers and of the cost.
+const OF_BOTH: [(Orders, u64, u32); 8] = [
+    (Orders::None, 1, 0),
+    (Orders::None, 2, 4),
+    (Orders::None, 3, 8),
+    (Orders::Told, 12, 2),
+    (Orders::Told, 5, 6),
+    (Orders::ToldLater, 33, 0),
+    (Orders::ToldLater, 11, 4),
+    (Orders::ToldLater, 8, 12),
+];
+
+/// The seed of the first of these walks after a step of which a board says something else than is said from scratch, if there is one.
+fn first_to_fail<B: Walkable>(
+    alloc: Global,
+    walks: &[(Orders, u64, u32)],
+) -> Result<Option<u64>, Fail> {
+    for (orders, seed, rows) in walks {
+        if walked::<B>(alloc, *orders, *seed, *rows)? != STEPS {
+            return Ok(Some(*seed));
+        }
     }
-}
-
-/// Has the book take a batch, and tells the board what is new.
-fn take_and_tell<J: Naming, R: Wait + Drop>(
-    alloc: Global,
-    telling: &mut BoardTelling<J, R>,
-    book: &mut Book,
-    batch: &Batch,
-) -> Result<(), Fail>
-    requires asked { IsBatch book.old.opening.parts batch.now }
-    requires told { (B : Recorded) × (B.opening ≡ book.old.opening) × HasTold B book.old.journal (told_to telling.old) }
-    ensures told { OnOk result ((B : Recorded) × (B.opening ≡ book.new.opening) × HasTold B book.new.journal (told_to telling.new)) }
-{
-    book.intake(alloc, 0, batch)?;
-    telling.tell_rest(book)?;
-    Ok(())
-}
-
-/// What the second of two viewers sees before anything is told, and once the leg that is called off was told; what the first sees that
-/// learns of that; and what the second sees once the next batch was told too.
-fn views_of<J: Naming, R: Wait + Drop>(
-    alloc: Global,
-    telling: &mut BoardTelling<J, R>,
-    book: &mut Book,
-    told: &mut Viewer<Sight, Posted, J>,
-    held: &mut Viewer<Sight, Posted, J>,
-) -> Result<[View; 4], Fail>
-    requires told { (B : Recorded) × (B.opening ≡ book.old.opening) × HasTold B book.old.journal (told_to telling.old) }
-{
-    let opening = held.see().view;
-    let batch = called_off(alloc, book.instance())?;
-    take_and_tell(alloc, telling, book, &batch)?;
-    let first = held.see().view;
-    told.learn(telling.note());
-    let learnt = told.see().view;
-    take_and_tell(alloc, telling, book, &nothing(alloc))?;
-    let second = held.see().view;
-    Ok([opening, first, learnt, second])
-}
-
-/// The same of the board that was opened on a book, with two viewers.
-fn views_on<J: Naming, R: Wait + Drop>(
-    rt: R,
-    alloc: Global,
-    opened: Opened<Sight>,
-    book: Book,
-) -> Result<[View; 4], Fail>
-    requires board { board_of opened ≡ J.book }
-    requires log { opening_log opened ≡ opens book [] ∷ [] }
-    requires empty { book.journal ≡ [] }
-{
-    let (teller, mut viewers) = opened.open::<Posted, J, R>(rt, alloc, 2)?;
-    let mut telling = BoardTelling::new(teller);
-    let mut book = book;
-    let (Some(mut told), Some(mut held)) = (viewers.pop(), viewers.pop()) else {
-        return Err(Fail::new("there are not two viewers"));
-    };
-    views_of(alloc, &mut telling, &mut book, &mut told, &mut held)
+    Ok(None)
 }
 
 #[test]
-fn a_first_entry_is_seen_before_the_second_is_told(rt: HostRuntime) -> Result<(), Fail> {
-    let book = Book::open(rt.alloc(), day_of(rt.alloc())?)?;
-    let opened = Opened::new(&book);
-    let views = views_on::<Brand, _>(&rt, rt.alloc(), opened, book)?;
-    let expected = [
-        // four hours of flights
-        planned(0, 252_000_000_000),
-        // the four passengers of the leg that is called off are not carried
-        planned(1, 1_416_000_000_000),
-        planned(1, 1_416_000_000_000),
-        planned(2, 1_416_000_000_000),
-    ];
-    assert_eq!(rt; views, expected);
+fn after_any_changes_each_board_says_what_is_said_from_scratch(
+    rt: HostRuntime,
+) -> Result<(), Fail> {
+    let rotations = first_to_fail::<RotBoard>(rt.alloc(), &OF_ROWS)?;
+    assert_eq!(rt; rotations, None, "C1 to C9");
+    let slots = first_to_fail::<SlotBoard>(rt.alloc(), &OF_ROWS)?;
+    assert_eq!(rt; slots, None, "C10 and C11");
+    let seats = first_to_fail::<SeatBoard>(rt.alloc(), &OF_BOTH)?;
+    assert_eq!(rt; seats, None, "C12 to C15");
+    let cost = first_to_fail::<LentCostBoard>(rt.alloc(), &OF_BOTH)?;
+    assert_eq!(rt; cost, None, "the cost");
     Ok(())
 }

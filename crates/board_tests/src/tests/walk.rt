@@ -5,9 +5,9 @@ ghost use Rattle.std.specs.Option.{ForSome};
 ghost use Rattle.desk_data.specs.Situation.{legs_of, reservations_of};
 ghost use Rattle.desk_data.specs.Valid.{IsPlanFor};
 ghost use Rattle.plan_groups.specs.Made.{AreWhole};
-ghost use Rattle.board_walks.specs.Walks.{IsWalk};
+ghost use Rattle.board_tests.specs.Walks.{IsWalk};
 
-use super::days::{Orders, day_of};
+use super::days::{Orders, told};
 use super::draws::{Draws, drawn_path, drawn_row};
 use board_kit::Board;
 use desk_data::{Group, Instance, Leg, NoMem, Plan, Res, Steps};
@@ -71,10 +71,10 @@ fn change_row<B: Walkable, L: Ledger>(
     let leg = Leg(draws.below(inst.legs()));
     let row = drawn_row(inst, leg, draws);
     let before = walk.pages.share(alloc)?;
+    walk.past.push(before)?;
     walk.board
         .set_row(alloc, inst, &walk.pages, leg, row, steps)?;
     let _page = walk.pages.replace_row(alloc, leg, row)?;
-    walk.past.push(before)?;
     Ok(())
 }
 
@@ -266,7 +266,7 @@ pub(super) fn walked<B: Walkable>(
     seed: u64,
     rows: u32,
 ) -> Result<u32, Fail> {
-    let inst = day_of(alloc, orders)?;
+    let inst = told(alloc, orders)?;
     let mut walk = start_of::<B>(alloc, &inst)?;
     agreed::<B, Brand>(Blank::new(1), alloc, &inst, &mut walk, seed, rows)
 }

@@ -1,7 +1,7 @@
 use Rattle.desk_data.specs.PlanRows.{with_row}
 use Rattle.desk_model.proofs.ValidLaws.{with_row-valid}
-use Rattle.board_walks.proofs.WalkLaws.{changed_to}
-use Rattle.board_walks.proofs.tests.walk.change_row.Goals as goal
+use Rattle.board_tests.proofs.WalkLaws.{changed_to}
+use Rattle.board_tests.proofs.tests.walk.change_row.Goals as goal
 
 pub returns : goal.returns
 returns g c =

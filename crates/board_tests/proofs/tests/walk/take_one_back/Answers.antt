@@ -1,7 +1,7 @@
 use Rattle.std.proofs.Common.{subst}
-use Rattle.board_walks.specs.Walks.{IsWalk}
-use Rattle.board_walks.proofs.WalkLaws.{can_go_back, taken_back}
-use Rattle.board_walks.proofs.tests.walk.take_one_back.Goals as goal
+use Rattle.board_tests.specs.Walks.{IsWalk}
+use Rattle.board_tests.proofs.WalkLaws.{can_go_back, taken_back}
+use Rattle.board_tests.proofs.tests.walk.take_one_back.Goals as goal
 
 pub back-requires : goal.back-requires
 back-requires g c =

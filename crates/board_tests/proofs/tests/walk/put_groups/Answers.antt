@@ -3,8 +3,8 @@ use Rattle.desk_data.specs.declared.row.Group.{Group}
 use Rattle.desk_data.specs.PlanRows.{with_groups}
 use Rattle.desk_model.proofs.GroupPlans.{with_groups-valid}
 use Rattle.board_kit.specs.Boards.{IsChanged}
-use Rattle.board_walks.proofs.WalkLaws.{changed_to}
-use Rattle.board_walks.proofs.tests.walk.put_groups.Goals as goal
+use Rattle.board_tests.proofs.WalkLaws.{changed_to}
+use Rattle.board_tests.proofs.tests.walk.put_groups.Goals as goal
 
 pub set_groups-requires-clause-groups : goal.set_groups-requires-clause-groups
 set_groups-requires-clause-groups g c = rw c.as_slice.ensures.value ((c.requires.whole c.in-Some.groups c.in-Some.is).sound)

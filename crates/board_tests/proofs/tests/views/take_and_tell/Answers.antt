@@ -2,7 +2,7 @@ use Rattle.std.proofs.Common.{sym, ◌∙◌}
 use Rattle.desk_model.specs.declared.answer.Event.TheVariants as event
 use Rattle.desk_board.specs.Told.{told_to}
 use Rattle.board_tests.proofs.Going.{told_on}
-use Rattle.board_tests.proofs.tests.take_and_tell.Goals as goal
+use Rattle.board_tests.proofs.tests.views.take_and_tell.Goals as goal
 
 pub tell_rest-requires : goal.tell_rest-requires
 tell_rest-requires g c =

@@ -1,4 +1,4 @@
-use Rattle.board_walks.proofs.tests.walk.walked.Given as goal
+use Rattle.board_tests.proofs.tests.walk.walked.Given as goal
 
 abbrev pub ghosts-agreed : goal.ghosts-agreed
 ghosts-agreed g a = record { name = a.blank.name; parts = a.blank.parts }

@@ -30,7 +30,7 @@ impl Board for LentCostBoard {
     ghost use Rattle.desk_data.specs.PlanRows.{groups_at};
     ghost use Rattle.leg_users.specs.Users.{users};
     ghost use Rattle.board_cost.specs.Board.{IsBoardOf};
-    ghost use Rattle.board_walks.specs.Walks.{IsCounted};
+    ghost use Rattle.board_tests.specs.Walks.{IsCounted};
 
     ghost is_board_of = { λ I P Ps lent. IsCounted (IsBoardOf I P Ps lent.cost) Ps lent.changes };
 

@@ -7,7 +7,7 @@ use Rattle.desk_data.specs.Situation.{Situation}
 use Rattle.desk_data.specs.PlanRows.{PlanRows}
 use Rattle.desk_data.specs.Valid.{IsPlanFor}
 use Rattle.board_kit.specs.Boards.{IsReady, CanGoBack, IsChanged, IsTakenBack, IsForgotten}
-use Rattle.board_walks.specs.Walks.{IsWalk}
+use Rattle.board_tests.specs.Walks.{IsWalk}
 
 -- of which board a board is
 abbrev pub IsBoard : Type 0 → Type 1
