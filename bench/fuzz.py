@@ -3,8 +3,8 @@
 
 Usage: bench/fuzz.py [--days FROM TO] [--mutate] [--keep DIR] [--program PATH] [--recover EVERY] [--commands NAME,..] [--seconds N] [--judge-alone]
 
-A day is made up from its number by bench/small_days.py, with a journal and a plan for it; with --mutate it is then spoilt by
-bench/spoilt_days.py. The desk is run on it with `replay` and `check`, each EVERYth day with `recover` and a few moves, and now and then
+A day is made up from its number by bench/small_days.py, with its crews, a journal and a plan for it; with --mutate it is then spoilt by
+bench/spoilt_days.py. The desk is run on it with `replay` and `check`, half of them with `--crew`, each EVERYth day with `recover` and a few moves, and now and then
 with `gen` and with words that are near a command. With `--commands workers` each day that is small enough is recovered with workers instead, live
 or not, watched or not; then what it gives has to be what a replay of the journal that it wrote gives, the batches those of the day and from
 caller 0, and each line of what a viewer saw that of a beginning of that journal, the last of them that of the whole. Its status, what it prints and the files that it leaves have to be what the package
@@ -41,7 +41,7 @@ MOST_LINES = 9
 NEAR_WORDS = (
     "replay", "recover", "check", "gen", "trial", "help", "--help", "", "-", "--", "-x", "IN", "OUT", "OUT", "--seed", "--seed=3", "--seed=",
     "--size", "--size=0", "--size=41", "--moves", "--moves=0", "--moves=0000000001", "--moves=100001", "--workers", "--workers=1",
-    "--workers=65", "--live", "--live=", "--watch", "--watch=1", "0", "1", "007", "40", "65", "100000", "999999999", "1000000000", "+1", "1.0",
+    "--workers=65", "--live", "--live=", "--watch", "--watch=1", "--crew", "--crew=1", "0", "1", "007", "40", "65", "100000", "999999999", "1000000000", "+1", "1.0",
 )
 
 
@@ -122,17 +122,24 @@ def keep(folder, number, case, room, given, difference):
 
 
 def replay_case(draws, files):
-    """A replay, mostly over what an earlier run left, and now and then in the folder that it reads."""
-    wanted = expected.replay(files)
+    """A replay, half of them beside crews, mostly over what an earlier run left, and now and then in the folder that it reads."""
+    crew = crew_words(draws)
+    wanted = expected.replay(files, bool(crew))
     if draws.random() < 0.05:
-        return Case("replay", ["replay", "in", "in"], files, files, wanted, True)
+        return Case("replay", ["replay", "in", "in"] + crew, files, files, wanted, True)
     stood = {name: b"old\n" for name in expected.WRITTEN + ("notes",) if draws.random() < 0.3}
-    return Case("replay", ["replay", "in", "out"], files, stood, wanted)
+    return Case("replay", ["replay"] + crew + ["in", "out"], files, stood, wanted)
 
 
 def check_case(draws, files, solution):
-    words = draws.choice((["check", "in", "out"], ["check", "in", "--", "out"]))
-    return Case("check", words, files, solution, expected.check(files, solution))
+    crew = crew_words(draws)
+    words = draws.choice((["check", "in", "out"] + crew, ["check", "in"] + crew + ["--", "out"]))
+    return Case("check", words, files, solution, expected.check(files, solution, bool(crew)))
+
+
+def crew_words(draws):
+    """The option of the crews, for half of the runs."""
+    return ["--crew"] if draws.random() < 0.5 else []
 
 
 def recover_case(draws, files):
@@ -212,7 +219,7 @@ def cases_of(number, options):
             yield workers_case(draws, {name: files[name] for name in DAY_FILES})
         return
     yield replay_case(draws, files)
-    yield check_case(draws, {name: files[name] for name in DAY_FILES}, solution)
+    yield check_case(draws, {name: files[name] for name in DAY_FILES + ("crew.csv",)}, solution)
     if options.recover and number % options.recover == 0 and is_small(files):
         yield recover_case(draws, files)
     if number % 20 == 0:
@@ -236,6 +243,8 @@ class Tally:
             self.answers["refused " + report.split()[-1]] += 1
         elif report.startswith("broken"):
             self.answers["broken " + report.split()[1]] += 1
+        for said in re.findall(r"(?m)^crew (?:\d+ )?(ok|K\d)", report):
+            self.answers["crew " + said] += 1
         for line in (case.wanted.files or {}).get("journal.csv", b"").splitlines():
             answer = re.split(rb",(?:\")?(?=[a-z])", line)[-1].decode()
             self.answers[re.match(r"(no plan|breaks|[a-z]+)( C\d+)?", answer).group()] += 1

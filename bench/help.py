@@ -31,6 +31,7 @@ ITEMS = {
     "airport, hour": ("Hour", "airport {} on {} in hour {}"),
     "leg, cabin": ("Cabin", "leg {} of {} in cabin {}"),
     "reservation": ("Reservation", "reservation {} of type {}"),
+    "crew": ("Crew", "crew {}"),
 }
 
 
@@ -98,7 +99,7 @@ def page_rows():
 def page_rules():
     """The rules of docs/RULES-AND-COST.md: word, item and sentence by number."""
     text = text_of("docs", "RULES-AND-COST.md")
-    found = re.findall(r"^\| (C\d+) \| ([a-z ]+) \| ([a-z, ]+) \| (.+) \|$", text, re.M)
+    found = re.findall(r"^\| ([CK]\d+) \| ([a-z ]+) \| ([a-z, ]+) \| (.+) \|$", text, re.M)
     return {number: (word, item, sentence) for number, word, item, sentence in found}
 
 
@@ -167,7 +168,9 @@ def answer(case, rows, rules):
     if status == "1":
         return broken("There is no plan: ", report[-1].removeprefix("no plan "), rules)
     if status == "7":
-        return broken("The plan breaks a rule: ", report[0].removeprefix("broken "), rules)
+        plan = broken("The plan breaks a rule: ", report[0].removeprefix("broken "), rules)
+        crews = broken("Its crews break a rule: ", report[-1].removeprefix("crew "), rules)
+        return (plan or []) + (crews or []) or None
     return [] if status in ("0", "6", "9") else None
 
 
@@ -183,7 +186,7 @@ def run_faults(rows, rules):
             faults.append(f"help_rows: {case}: other than the pages say")
     asked = {(file, line == "0", cause) for file, line, cause in REFUSED.findall("\n".join(cases))}
     faults += [f"help_rows: no case of {' '.join(map(str, row))}" for row in rows.keys() - asked]
-    items = {number for number in rules if re.search(rf"(no plan|broken) {number} ", "\n".join(cases))}
+    items = {number for number in rules if re.search(rf"(no plan|broken|crew) {number} ", "\n".join(cases))}
     return faults + [f"help_rows: no case of {number}" for number in rules.keys() - items]
 
 

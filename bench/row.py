@@ -92,7 +92,7 @@ def directories_of(words):
             dirs += rest
         elif not word.startswith("-"):
             dirs.append(word)
-        elif "=" not in word and word not in ("--live", "--watch"):
+        elif "=" not in word and word not in ("--live", "--watch", "--crew"):
             next(rest, None)  # the number of the option
     if words[:1] == ["gen"]:
         return "", dirs[0] if len(dirs) == 1 else ""

@@ -1,4 +1,4 @@
-"""Small days that are made up from a seed, for bench/fuzz.py: the files of a day, a journal, and a plan to check.
+"""Small days that are made up from a seed, for bench/fuzz.py: the files of a day, its crews, a journal, and a plan to check.
 
 Most of a day is sound, so that there is a plan and moves are accepted; each part goes wrong now and then. The journal is made step by
 step with the judge's own state, so that its moves speak of the plan that stands.
@@ -302,12 +302,35 @@ def make_solution(draws, day, state):
     return files
 
 
+def make_crew(draws, number, rotations):
+    """The line of a crew: mostly it works the legs of one aircraft, or some of them, from where the first of them leaves."""
+    flight, _, plane, _ = draws.choice(rotations)
+    legs = [row for row in rotations if row[2] == plane and (row[0] == flight or draws.random() < 0.9)]
+    if draws.random() < 0.2:
+        legs = draws.sample(rotations, draws.randint(1, len(rotations)))
+    if draws.random() < 0.3:
+        draws.shuffle(legs)
+    home = legs[0][3] if draws.random() < 0.9 else draws.choice(PLACES)
+    duty, rest = draws.choice((b"60", b"150", b"0300", b"480", b"10000")), draws.choice((b"1", b"30", b"60", b"600", b"10000"))
+    return b" ".join([b"C%d" % number, home, duty, rest] + [field for row in legs for field in row[:2]])
+
+
+def make_crews(draws, files):
+    """The crews of a day: most are sound."""
+    origins = {fields[0]: fields[1] for fields in map(bytes.split, files["flights.csv"].splitlines()) if fields}
+    rotations = [fields + [origins[fields[0]]] for fields in map(bytes.split, files["rotations.csv"].splitlines()) if fields]
+    lines = [make_crew(draws, number + 1, rotations) for number in range(draws.choice((0, 1, 2, 4)) if rotations else 0)]
+    return b"".join(line + b"\n" for line in lines)
+
+
 def make_day(draws):
-    """The files of a day with its journal, and those of a plan for it."""
+    """The files of a day with its journal and its crews, and those of a plan for it."""
     files = Maker(draws).make()
     try:
         day, _ = read_day(files)
     except Refused:
-        return {**files, "journal.csv": b""}, dict.fromkeys(SOLUTION_FILES, b"")
+        return {**files, "crew.csv": b"", "journal.csv": b""}, dict.fromkeys(SOLUTION_FILES, b"")
     files["journal.csv"], state = make_journal(draws, day)
-    return files, make_solution(draws, day, state)
+    solution = make_solution(draws, day, state)
+    files["crew.csv"] = make_crews(draws, files)
+    return files, solution

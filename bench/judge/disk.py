@@ -34,10 +34,13 @@ def outcome(asked, places):
         return expected.gen(asked.value("--seed"), asked.value("--size"))
     if asked.word == "trial":
         return expected.trial(asked.value("--seed"), asked.value("--size"))
-    given = read(places[0], DAY_FILES + ("journal.csv",))
+    given = read(places[0], DAY_FILES + ("crew.csv", "journal.csv"))
+    has_crews = "--crew" in asked.flags
     if asked.word == "recover":
         return expected.recover(given, asked.value("--moves"))
-    return expected.check(given, read(places[1], SOLUTION_FILES)) if asked.word == "check" else expected.replay(given)
+    if asked.word == "check":
+        return expected.check(given, read(places[1], SOLUTION_FILES), has_crews)
+    return expected.replay(given, has_crews)
 
 
 def run(words, folder=""):

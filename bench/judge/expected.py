@@ -2,6 +2,7 @@
 from typing import NamedTuple
 
 from judge import files as readers
+from judge.crews import FILE as CREWS, join_crews, judged as judged_crews
 from judge.day import join
 from judge.fallback import State
 from judge.files import DAY_FILES, MAY_BE_MISSING, SOLUTION_FILES
@@ -52,9 +53,16 @@ class Run:
     def __init__(self, day):
         self.state, self.texts = State(day), Texts(day)
         self.lines, self.entries, self.end = [], [], None
+        self.crews, self.crew_lines = None, []
 
     def take(self, who, what):
-        """Takes a batch or a move."""
+        """Takes a batch or a move, and looks at the crews where that left another plan."""
+        before = self.state.changes
+        self.answer(who, what)
+        if self.crews is not None and self.state.changes > before and not self.state.item:
+            self.crew_lines.append(b"crew %d %s\n" % (self.state.changes, judged_crews(self.state.plan, self.crews)))
+
+    def answer(self, who, what):
         if isinstance(what, int):
             answer = self.state.take_batch(what)
             self.lines.append(b"batch %d %s\n" % (what, self.texts.answer(answer)))
@@ -74,6 +82,7 @@ class Run:
         lines = list(self.lines)
         if self.end and not state.item:
             lines.append(b"ended %s\n" % self.end.encode())
+        lines += self.crew_lines
         lines.append(b"changes %d\n" % state.changes)
         last = b"no plan %s\n" % self.texts.item(state.item) if state.item else b"cost %d\n" % state.cost
         files = dict.fromkeys(WRITTEN, b"")
@@ -98,12 +107,20 @@ def guarded(run):
     return ended
 
 
+def read_with_crews(given, has_crews, more):
+    """The day of the files, its crews or none, and the rows of more files."""
+    day, read = read_day(given, ((CREWS,) if has_crews else ()) + more)
+    crews = join_crews(day, read[0]) if has_crews else None
+    return day, crews, read[-len(more):]
+
+
 @guarded
-def replay(given):
-    """What `replay` gives for files by name."""
-    day, (records,) = read_day(given, ("journal.csv",))
+def replay(given, has_crews=False):
+    """What `replay` gives for files by name, with or without crews."""
+    day, crews, (records,) = read_with_crews(given, has_crews, ("journal.csv",))
     events = join_journal(day, records)
     run = Run(day)
+    run.crews = crews
     for who, what in events:
         run.take(who, what)
     return run.outcome()
@@ -132,17 +149,21 @@ def recover(given, most):
 
 
 @guarded
-def check(given, out):
-    """What `check` gives for the files of a day and those of OUT."""
+def check(given, out, has_crews=False):
+    """What `check` gives for the files of a day and those of OUT, with or without crews."""
     solution = {name: out.get(name) for name in SOLUTION_FILES}
-    day, (rotations, itineraries) = read_day({**given, **solution}, SOLUTION_FILES)
+    day, crews, (rotations, itineraries) = read_with_crews({**given, **solution}, has_crews, SOLUTION_FILES)
     plan = Plan(day, *join_solution(day, rotations, itineraries))
     situation = Situation(day)
     for number in range(len(day.batches)):
         situation = situation.with_batch(number, plan)
     item = first_broken(situation, plan)
     judged = b"broken %s\n" % Texts(day).item(item) if item else b"feasible\n"
-    return Outcome(7 if item else 0, judged + b"cost %d\n" % cost(plan), {})
+    report = judged + b"cost %d\n" % cost(plan)
+    if has_crews:
+        kept = judged_crews(plan, crews)
+        return Outcome(7 if item or kept != b"ok" else 0, report + b"crew %s\n" % kept, {})
+    return Outcome(7 if item else 0, report, {})
 
 
 def gen(seed, size):

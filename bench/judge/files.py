@@ -181,6 +181,12 @@ def tariff(fields):
     return (kind,) + tuple(values[:-1]), values[-1]
 
 
+def crew(fields):
+    minutes = rows.number(1, 10_000)
+    head, legs = rows.in_groups(fields, (rows.name, rows.name, minutes, minutes), (rows.name, rows.date))
+    return head + [[tuple(leg) for leg in legs]]
+
+
 def sol_rotation(fields):
     """The row of a leg: its flight and date, and its aircraft and departure or none."""
     if len(fields) == 3:
@@ -202,7 +208,7 @@ READERS = {
     "config.csv": config, "flights.csv": flight, "rotations.csv": rotation, "aircraft.csv": aircraft, "airports.csv": airport,
     "dist.csv": distance, "itineraries.csv": itinerary, "position.csv": position, "alt_flights.csv": alt_flight,
     "alt_aircraft.csv": alt_aircraft, "alt_airports.csv": alt_airport, "tariff.csv": tariff, "feed.csv": fed,
-    "sol_rotations.csv": sol_rotation, "sol_itineraries.csv": sol_itinerary,
+    "crew.csv": crew, "sol_rotations.csv": sol_rotation, "sol_itineraries.csv": sol_itinerary,
 }
 COMMA_FILES = ("tariff.csv", "feed.csv", "journal.csv")
 

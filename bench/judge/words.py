@@ -9,8 +9,8 @@ OPTIONS = {
     "--moves": (("recover",), 1, 100_000, 1_000),
     "--workers": (("recover",), 0, 64, 0),
 }
-# the options without a value, which need a worker
-FLAGS = ("--live", "--watch")
+# the options without a value, with their commands; those of recover need a worker
+FLAGS = {"--live": ("recover",), "--watch": ("recover",), "--crew": ("replay", "check")}
 NUMBER = re.compile("[0-9]{1,9}")
 
 
@@ -35,7 +35,7 @@ class Command:
         """Takes a word, and where it is an option what follows it; whether it may."""
         option, equals, text = word.partition("=")
         if word in FLAGS:
-            if self.word != "recover" or word in self.flags:
+            if self.word not in FLAGS[word] or word in self.flags:
                 return False
             self.flags.add(word)
         elif option in OPTIONS:
@@ -60,6 +60,6 @@ def command(words):
             asked.directories += directories
         elif not asked.take(word, rest):
             return None
-    if len(asked.directories) != DIRECTORIES[asked.word] or asked.flags and asked.value("--workers") == 0:
+    if len(asked.directories) != DIRECTORIES[asked.word] or asked.word == "recover" and asked.flags and asked.value("--workers") == 0:
         return None
     return asked

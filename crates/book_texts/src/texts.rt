@@ -4,7 +4,7 @@ ghost use Rattle.std.specs.Prelude.{◌≡◌, ◌++◌, All, IfOk, IfSome, OnOk
 ghost use Rattle.desk_core.specs.Recorded.{state_of};
 ghost use Rattle.journal_text.specs.Lines.{journal_text};
 ghost use Rattle.journal_text.specs.Writable.{AnswerNames, CanBeWritten, Names};
-ghost use Rattle.desk_tasks.specs.Play.{planned_rotations, planned_itineraries, batch_line, batch_lines, search_line, end_lines, seen_line, seen_lines, search_remarks, watch_remarks, report_text, history_outcome};
+ghost use Rattle.desk_tasks.specs.Play.{planned_rotations, planned_itineraries, batch_line, batch_lines, search_line, end_lines, seen_line, seen_lines, search_remarks, remarks_with, report_text, history_outcome};
 ghost use Rattle.desk_tasks.specs.Recover.{reported_alone};
 ghost use Rattle.desk_tasks.specs.Keep.{opened_line, opened_first};
 ghost use Rattle.desk_runs.specs.Writing.{as_texts};
@@ -146,23 +146,32 @@ fn push_views(text: &mut Vec<u8>, inst: &Instance, seen: &[View]) -> Result<(), 
     Ok(())
 }
 
-// What was answered to each batch, how the last search ended, what was seen meanwhile, how many changes there were, and the
-// cost of the plan or what is broken.
+/// The lines of these views, each of a beginning of the book's journal.
+pub(crate) fn views_text(alloc: Global, book: &Book, seen: &[View]) -> Result<Vec<u8>, NoMem>
+    requires { All (IsSightOf (opening book.now.opening) book.now.journal) seen.now }
+    ensures { IfOk result (λ text. text.items ≡ seen_lines book.now.opening seen.now) }
+{
+    let mut text = Vec::new(alloc);
+    push_views(&mut text, book.instance(), seen)?;
+    Ok(text)
+}
+
+// What was answered to each batch, how the last search ended, these lines, how many changes there were, and the cost of the
+// plan or what is broken.
 #[tactic(auto, unfolding(desk_tasks::specs::Play::report_text))]
 fn report_text(
     alloc: Global,
     book: &Book,
     search: Option<SearchEnd>,
-    seen: &[View],
+    lines: &[u8],
 ) -> Result<Vec<u8>, NoMem>
-    requires { All (IsSightOf (opening book.now.opening) book.now.journal) seen.now }
-    ensures { IfOk result (λ text. text.items ≡ report_text book.now.opening (watch_remarks book.now.opening search seen.now) book.now.journal) }
+    ensures { IfOk result (λ text. text.items ≡ report_text book.now.opening (remarks_with search lines.now) book.now.journal) }
 {
     let inst = book.instance();
     let mut text = Vec::new(alloc);
     push_batches(&mut text, inst, book.journal())?;
     push_search(&mut text, search)?;
-    push_views(&mut text, inst, seen)?;
+    text.extend_from_slice(lines)?;
     push_end(&mut text, book)?;
     Ok(text)
 }
@@ -175,22 +184,21 @@ fn book_journal(alloc: Global, book: &Book) -> Result<Vec<u8>, NoMem>
     journal_text(alloc, book.instance(), book.journal())
 }
 
-/// The texts of a book's journal and state, the report with a line for each view that was seen.
+/// The texts of a book's journal and state, the report with these lines before the number of changes.
 #[tactic(auto, unfolding(desk_tasks::specs::Play::history_outcome))]
 pub(crate) fn output_texts(
     alloc: Global,
     book: &Book,
     search: Option<SearchEnd>,
-    seen: &[View],
+    lines: &[u8],
 ) -> Result<OutputTexts, NoMem>
-    requires { All (IsSightOf (opening book.now.opening) book.now.journal) seen.now }
-    ensures { IfOk result (λ t. as_texts t ≡ (history_outcome book.now.opening (watch_remarks book.now.opening search seen.now) book.now.journal).texts) }
+    ensures { IfOk result (λ t. as_texts t ≡ (history_outcome book.now.opening (remarks_with search lines.now) book.now.journal).texts) }
 {
     let mut files = Vec::new(alloc);
     files.push((File::SolRotations, planned_rotations(alloc, book)?))?;
     files.push((File::SolItineraries, planned_itineraries(alloc, book)?))?;
     files.push((File::Journal, book_journal(alloc, book)?))?;
-    let report = report_text(alloc, book, search, seen)?;
+    let report = report_text(alloc, book, search, lines)?;
     Ok(OutputTexts { files, report })
 }
 
@@ -205,18 +213,18 @@ fn opened_report(alloc: Global, held: u32, report: &[u8]) -> Result<Vec<u8>, NoM
 }
 
 /// The texts of a book's journal and state, the report with how many entries a disk held as its first line.
-#[tactic(auto, unfolding(desk_tasks::specs::Keep::opened_first, desk_tasks::specs::Play::seen_lines))]
+#[tactic(auto, unfolding(desk_tasks::specs::Keep::opened_first))]
 pub(crate) fn opened_texts(alloc: Global, book: &Book, held: u32) -> Result<OutputTexts, NoMem>
     ensures { IfOk result (λ t. as_texts t ≡ (opened_first held (history_outcome book.now.opening (search_remarks None) book.now.journal)).texts) }
 {
-    let texts = output_texts(alloc, book, None, &[])?;
+    let texts = output_texts(alloc, book, None, b"")?;
     let OutputTexts { files, report } = texts;
     let report = opened_report(alloc, held, report.as_slice())?;
     Ok(OutputTexts { files, report })
 }
 
 /// The report alone.
-#[tactic(auto, unfolding(desk_tasks::specs::Play::history_outcome, desk_tasks::specs::Recover::reported_alone, desk_tasks::specs::Play::seen_lines))]
+#[tactic(auto, unfolding(desk_tasks::specs::Play::history_outcome, desk_tasks::specs::Recover::reported_alone))]
 pub(crate) fn report_alone(
     alloc: Global,
     book: &Book,
@@ -225,6 +233,6 @@ pub(crate) fn report_alone(
     ensures { IfOk result (λ t. as_texts t ≡ (reported_alone (history_outcome book.now.opening (search_remarks search) book.now.journal)).texts) }
 {
     let files = Vec::new(alloc);
-    let report = report_text(alloc, book, search, &[])?;
+    let report = report_text(alloc, book, search, b"")?;
     Ok(OutputTexts { files, report })
 }

@@ -6,11 +6,11 @@ ghost use Rattle.desk_runs.specs.Runs.{Between};
 ghost use Rattle.desk_runs.specs.Finishing.{Completes};
 ghost use Rattle.desk_model.specs.States.{opening};
 ghost use Rattle.desk_view.specs.Views.{IsSightOf};
-ghost use Rattle.desk_tasks.specs.Play.{search_remarks, watch_remarks, history_outcome, played_end};
+ghost use Rattle.desk_tasks.specs.Play.{search_remarks, watch_remarks, remarks_with, history_outcome, played_end};
 ghost use Rattle.desk_tasks.specs.Recover.{reported_alone};
 ghost use Rattle.desk_tasks.specs.Keep.{opened_first};
 
-use crate::texts::{opened_texts, output_texts, report_alone};
+use crate::texts::{opened_texts, output_texts, report_alone, views_text};
 use desk_core::Book;
 use desk_data::Broken;
 use desk_folder::{Folder, Sink};
@@ -34,7 +34,6 @@ fn end_with(broken: Option<Broken>) -> Ending
 ///
 /// It ends with `Done` or `NoPlan` when all is written. A write that fails ends it with that fault, and
 /// `Memory` may come at any time: what is written by then is a beginning of the texts, in their order.
-#[tactic(auto, unfolding(desk_tasks::specs::Play::seen_lines))]
 pub fn write_history<F: Folder, O: Sink>(
     alloc: Global,
     book: &Book,
@@ -45,7 +44,29 @@ pub fn write_history<F: Folder, O: Sink>(
     ensures { Between F.outside O.report folder.old out.old folder.new out.new (λ before now.
         Completes history_files before now (history_outcome book.now.opening (search_remarks search) book.now.journal) result) }
 {
-    write_watched(alloc, book, search, &[], folder, out)
+    write_with(alloc, book, search, b"", folder, out)
+}
+
+/// Writes the same as `write_history`, with these lines in the report before the number of changes. It ends as that does.
+pub fn write_with<F: Folder, O: Sink>(
+    alloc: Global,
+    book: &Book,
+    search: Option<SearchEnd>,
+    lines: &[u8],
+    folder: &mut F,
+    out: &mut O,
+) -> Ending
+    ensures { Between F.outside O.report folder.old out.old folder.new out.new (λ before now.
+        Completes history_files before now (history_outcome book.now.opening (remarks_with search lines.now) book.now.journal) result) }
+{
+    let texts = match output_texts(alloc, book, search, lines) {
+        Ok(texts) => texts,
+        Err(_) => return Ending::Memory,
+    };
+    match put_outputs(alloc, folder, out, &texts) {
+        Ok(()) => end_with(book.broken()),
+        Err(end) => end,
+    }
 }
 
 /// Writes the same as `write_history`, with a line `seen ENTRIES CHANGES COST`, or `seen ENTRIES CHANGES no plan BROKEN`, in the
@@ -62,13 +83,9 @@ pub fn write_watched<F: Folder, O: Sink>(
     ensures { Between F.outside O.report folder.old out.old folder.new out.new (λ before now.
         Completes history_files before now (history_outcome book.now.opening (watch_remarks book.now.opening search seen.now) book.now.journal) result) }
 {
-    let texts = match output_texts(alloc, book, search, seen) {
-        Ok(texts) => texts,
-        Err(_) => return Ending::Memory,
-    };
-    match put_outputs(alloc, folder, out, &texts) {
-        Ok(()) => end_with(book.broken()),
-        Err(end) => end,
+    match views_text(alloc, book, seen) {
+        Ok(lines) => write_with(alloc, book, search, lines.as_slice(), folder, out),
+        Err(_) => Ending::Memory,
     }
 }
 

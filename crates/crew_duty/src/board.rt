@@ -1,7 +1,8 @@
 //! The board of the crews: the rows of a plan, which crews have each leg, and the items that crews break.
 
-ghost use Rattle.std.specs.Prelude.{◌≡◌, ◌<◌, IfOk, OnOk, OnErr, List as Items, slice_set};
+ghost use Rattle.std.specs.Prelude.{◌≡◌, ◌<◌, IfOk, OnOk, OnErr, List as Items, length, slice_index_or, slice_set};
 ghost use Rattle.desk_data.specs.PlanRows.{IsRow};
+ghost use Rattle.desk_data.specs.declared.row.Row.TheVariants.{Cancelled};
 ghost use Rattle.desk_data.specs.Situation.{legs_of};
 ghost use Rattle.desk_data.specs.Valid.{IsPlanFor};
 ghost use Rattle.desk_data.specs.declared.parts.Parts.{Parts as Day};
@@ -98,6 +99,14 @@ impl CrewBoard {
                 Err(fault)
             }
         }
+    }
+
+    /// The row of a leg.
+    pub fn row(&self, leg: Leg) -> Row
+        requires { leg.0 < length self.now.rows }
+        ensures { result ≡ slice_index_or self.now.rows leg.0 Cancelled }
+    {
+        self.rows[leg.0 as usize]
     }
 
     /// The first item of K1 to K4 that is broken, by rule, then by the number of the crew, or `None` where all are kept.

@@ -4,6 +4,7 @@
 ghost use Rattle.std.specs.Prelude.{◌≡◌, bytes_eq, find, option_map};
 ghost use Rattle.file_rows.specs.Causes.{cause_name};
 
+use crate::crew_causes::CREW;
 use crate::day_causes::{
     AIRCRAFT, AIRPORTS, CONFIG, DIST, FLIGHTS, ITINERARIES, POSITION, ROTATIONS,
 };
@@ -95,7 +96,7 @@ pub fn causes_of_lines(file: File) -> &'static [CauseRow] {
         File::AltAirports => ALT_AIRPORTS,
         File::Tariff => TARIFF,
         File::Feed => FEED,
-        File::Crew => NOT_READ,
+        File::Crew => CREW,
         File::Journal => JOURNAL,
         File::SolRotations => SOL_ROTATIONS,
         File::SolItineraries => SOL_ITINERARIES,
@@ -107,7 +108,6 @@ pub fn causes_of_lines(file: File) -> &'static [CauseRow] {
 pub fn causes_of_the_whole(file: File) -> &'static [CauseRow] {
     match file {
         File::Config => WHOLE_CONFIG,
-        File::Crew => NOT_READ,
         File::Journal => WHOLE_JOURNAL,
         File::SolRotations => WHOLE_SOL_ROTATIONS,
         File::SolItineraries => WHOLE_SOL_ITINERARIES,

@@ -154,6 +154,27 @@ fn after_no_plan(report: &[u8]) -> Option<Fields<'_>> {
     }
 }
 
+// The words after `crew` in the last line.
+fn after_crew(report: &[u8]) -> Option<Fields<'_>> {
+    let mut words = last_words(report)?;
+    if words.next()? == b"crew".as_slice() {
+        Some(words)
+    } else {
+        None
+    }
+}
+
+// Says which rule a plan breaks, and which one its crews.
+fn say_verdict(text: &mut ShownText, report: &[u8]) -> Result<(), NoMem> {
+    if let Some(words) = after_broken(report) {
+        say_broken(text, "The plan breaks a rule: ", words)?;
+    }
+    if let Some(words) = after_crew(report) {
+        say_broken(text, "Its crews break a rule: ", words)?;
+    }
+    Ok(())
+}
+
 // The words of all commands.
 fn usage_text(alloc: Global) -> Result<ShownText, NoMem>
     ensures { IfOk result (λ text. text ≡ flat_map (λ line. shown_line line.now) USAGE.now) }
@@ -186,11 +207,7 @@ fn end_text(alloc: Global, words: &[String], status: u8, report: &[u8]) -> Resul
             say_fault(&mut text, path.as_ref().map(|path| path.as_str()), report)?;
         }
         8 => text.say_line(DISK_FAULT.as_bytes())?,
-        7 => {
-            if let Some(words) = after_broken(report) {
-                say_broken(&mut text, "The plan breaks a rule: ", words)?;
-            }
-        }
+        7 => say_verdict(&mut text, report)?,
         _ => {}
     }
     Ok(text)
@@ -199,8 +216,8 @@ fn end_text(alloc: Global, words: &[String], status: u8, report: &[u8]) -> Resul
 /// What the end of a run means, by the words after the program's name, its status and its report: text for standard
 /// error, which says the same as the report and more. Of status 2 the words of all commands; of 3 what is wrong with
 /// the line that is refused, which columns it can be and what they may have; of 4 and 5 which path could not be read or
-/// written; of 8 that the disk failed; of 7 and 1 the rule that is broken first, in a sentence with its names. Of all other
-/// statuses nothing.
+/// written; of 8 that the disk failed; of 7 and 1 the rule that is broken first, in a sentence with its names, and of 7 also
+/// that of the crews. Of all other statuses nothing.
 ///
 /// What the words and the report have in them is shown as `ShownText` says. A report that this program does not write
 /// gets the parts of an explanation that it has, or none. The only error is out of memory.

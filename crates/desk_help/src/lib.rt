@@ -17,6 +17,7 @@
 #![tactic(auto)]
 
 mod causes;
+mod crew_causes;
 mod day_causes;
 mod explanation;
 mod kept;

@@ -15,6 +15,8 @@ pub enum ItemKind {
     Cabin,
     /// a reservation and its type
     Reservation,
+    /// a crew
+    Crew,
 }
 
 impl ItemKind {
@@ -26,6 +28,7 @@ impl ItemKind {
             ItemKind::Hour => &["airport ", " on ", " in hour "],
             ItemKind::Cabin => &["leg ", " of ", " in cabin "],
             ItemKind::Reservation => &["reservation ", " of type "],
+            ItemKind::Crew => &["crew "],
         }
     }
 }
@@ -42,7 +45,7 @@ pub struct Rule {
     pub text: &'static str,
 }
 
-/// All rules, in their order.
+/// All rules of a plan, in their order, and then those of crews.
 pub const RULES: &[Rule] = &[
     Rule {
         number: "C1",
@@ -133,6 +136,30 @@ pub const RULES: &[Rule] = &[
         word: "begun",
         item: ItemKind::Reservation,
         text: "A carried path begins with the legs of the scheduled path that have begun, in their cabins; some passengers have flown just those of its legs that have left, and no more are carried so than have.",
+    },
+    Rule {
+        number: "K1",
+        word: "chain",
+        item: ItemKind::Crew,
+        text: "The first leg leaves home, and each later one leaves where the one before arrived.",
+    },
+    Rule {
+        number: "K2",
+        word: "turn",
+        item: ItemKind::Crew,
+        text: "Each leg departs no earlier than the one before arrived.",
+    },
+    Rule {
+        number: "K3",
+        word: "duty",
+        item: ItemKind::Crew,
+        text: "In each duty the last arrival is at most the greatest duty after the first departure.",
+    },
+    Rule {
+        number: "K4",
+        word: "home",
+        item: ItemKind::Crew,
+        text: "The last leg arrives at home.",
     },
 ];
 

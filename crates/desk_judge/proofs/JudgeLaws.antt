@@ -17,7 +17,10 @@ use Rattle.desk_runs.specs.Writing.{PutsOutputs}
 use Rattle.desk_runs.specs.Finishing.{IsEndOf, Completes}
 use Rattle.desk_runs.proofs.PutLaws.{all_done, ended_by}
 use Rattle.desk_runs.proofs.CompleteLaws.{completes-all, completes-short}
+use Rattle.crew_rules.specs.declared.crew.CrewInfo.{CrewInfo}
+use Rattle.crew_rules.specs.declared.crew.CrewBroken.{CrewBroken}
 use Rattle.desk_tasks.specs.Judge.{verdict_report, verdict_end, rule_status, verdict}
+use Rattle.desk_tasks.specs.Crew.{crew_least, crewed_report, crewed_end, crewed_status, crewed_verdict}
 
 -- what the least broken item names is in range
 pub item-names : (I : Situation) (P : PlanRows) (o : Option Broken) → o ≡ least I P → IfSome o (Names I)
@@ -55,3 +58,37 @@ judged-all before now I P o files report ok e none is put =
 pub judged-short : (before now : World) (I : Situation) (P : PlanRows) (o : Option Broken) (files : List FileText) (report : List ℕ) (how : Ending) → o ≡ least I P → files ≡ [] → report ≡ verdict_report I o (cost I P) → PutsOutputs before now (texts_with files report) (ended_by how) → Completes [] before now (verdict I P) how
 judged-short before now I P o files report how e none is put =
     completes-short [] before now (verdict I P) (texts_with files report) how (no_files I P) (texts_are I P o files report e none is) put
+
+-- ---- with crews
+
+pub crewed_report-is : (I : Situation) (P : PlanRows) (cs : List CrewInfo) (o : Option Broken) (item : Option CrewBroken) (report : List ℕ) (found : Grains) → report ≡ crewed_report I o found.0 cs item → found ≡ grains (cost I P) → report ≡ crewed_report I o (cost I P) cs item
+crewed_report-is I P cs o item report found is same = is ∙ ap (λ (g : Grains). crewed_report I o g.0 cs item) same
+
+crewed_texts : (I : Situation) (P : PlanRows) (cs : List CrewInfo) (o : Option Broken) (item : Option CrewBroken) (files : List FileText) (report : List ℕ) → o ≡ least I P → item ≡ crew_least I cs P → files ≡ [] → report ≡ crewed_report I o (cost I P) cs item → texts_with files report ≡ (crewed_verdict I P cs).texts
+unfolding crewed_verdict
+crewed_texts I P cs o item files report e crew none is =
+    ap (λ (fs : List FileText). texts_with fs report) none
+    ∙ ap (λ (r : List ℕ). texts_with [] r) (is ∙ ap (λ (o : Option Broken). crewed_report I o (cost I P) cs item) e ∙ ap (λ (i : Option CrewBroken). crewed_report I (least I P) (cost I P) cs i) crew)
+
+crewed_no_files : (I : Situation) (P : PlanRows) (cs : List CrewInfo) → files_of (crewed_verdict I P cs).texts.files ≡ []
+unfolding crewed_verdict
+crewed_no_files I P cs = refl
+
+crewed_status_is : (I : Situation) (P : PlanRows) (cs : List CrewInfo) (o : Option Broken) (item : Option CrewBroken) → o ≡ least I P → item ≡ crew_least I cs P → (crewed_verdict I P cs).status ≡ crewed_status o item
+unfolding crewed_verdict
+crewed_status_is I P cs o item e crew = ap (λ (o : Option Broken). crewed_status o (crew_least I cs P)) (sym e) ∙ ap (λ (i : Option CrewBroken). crewed_status o i) (sym crew)
+
+crewed_end_is : (I : Situation) (P : PlanRows) (cs : List CrewInfo) (o : Option Broken) (item : Option CrewBroken) → (crewed_verdict I P cs).status ≡ crewed_status o item → IsEndOf (crewed_verdict I P cs) (crewed_end o item)
+crewed_end_is I P cs None None e = e
+crewed_end_is I P cs None (Some item) e = e
+crewed_end_is I P cs (Some rule) item e = e
+
+pub crewed-all : (before now : World) (I : Situation) (P : PlanRows) (cs : List CrewInfo) (o : Option Broken) (item : Option CrewBroken) (files : List FileText) (report : List ℕ) (ok : Unit {0}) → o ≡ least I P → item ≡ crew_least I cs P → files ≡ [] → report ≡ crewed_report I o (cost I P) cs item
+    → PutsOutputs before now (texts_with files report) (all_done ok) → Completes [] before now (crewed_verdict I P cs) (crewed_end o item)
+crewed-all before now I P cs o item files report ok e crew none is put =
+    completes-all [] before now (crewed_verdict I P cs) (texts_with files report) (crewed_end o item) ok (crewed_no_files I P cs) (crewed_texts I P cs o item files report e crew none is) (crewed_end_is I P cs o item (crewed_status_is I P cs o item e crew)) put
+
+pub crewed-short : (before now : World) (I : Situation) (P : PlanRows) (cs : List CrewInfo) (o : Option Broken) (item : Option CrewBroken) (files : List FileText) (report : List ℕ) (how : Ending) → o ≡ least I P → item ≡ crew_least I cs P → files ≡ [] → report ≡ crewed_report I o (cost I P) cs item
+    → PutsOutputs before now (texts_with files report) (ended_by how) → Completes [] before now (crewed_verdict I P cs) how
+crewed-short before now I P cs o item files report how e crew none is put =
+    completes-short [] before now (crewed_verdict I P cs) (texts_with files report) how (crewed_no_files I P cs) (crewed_texts I P cs o item files report e crew none is) put

@@ -5,10 +5,15 @@ ghost use Rattle.desk_data.specs.Valid.{IsPlanFor};
 ghost use Rattle.desk_rules.specs.Least.{least};
 ghost use Rattle.desk_rules.specs.Cost.{cost, grains};
 ghost use Rattle.journal_text.specs.Writable.{Names};
+ghost use Rattle.crew_rules.specs.Valid.{AreCrews};
 ghost use Rattle.desk_tasks.specs.Judge.{verdict_text, verdict_report, verdict_end, verdict};
+ghost use Rattle.desk_tasks.specs.Crew.{crewed_report, crewed_end, crewed_verdict};
 ghost use Rattle.desk_runs.specs.Runs.{Between};
 ghost use Rattle.desk_runs.specs.Finishing.{Completes};
 
+use crew_duty::crew_least;
+use crew_rules::{CrewBroken, CrewInfo};
+use crew_text::push_crews;
 use desk_data::{Broken, Grains, Instance, NoMem, Plan};
 use desk_folder::{Folder, Sink};
 use desk_runs::{Ending, OutputTexts, put_outputs};
@@ -134,6 +139,73 @@ pub fn judge_plan<R: Threads + Sync, F: Folder, O: Sink>(
     };
     match put_outputs(alloc, folder, out, &texts) {
         Ok(()) => end_with(found.broken),
+        Err(end) => end,
+    }
+}
+
+// How a run ends that reported its verdict and that of the crews.
+fn end_with_crews(broken: Option<Broken>, item: Option<CrewBroken>) -> Ending
+    ensures { result ≡ crewed_end broken item }
+{
+    match (broken, item) {
+        (None, None) => Ending::Done,
+        _ => Ending::BrokenRule,
+    }
+}
+
+// The text of what a plan breaks first, what it costs, and what its crews break first.
+#[tactic(auto, unfolding(desk_tasks::specs::Crew::crewed_report))]
+fn crewed_report(
+    alloc: Global,
+    inst: &Instance,
+    found: Findings,
+    crews: &[CrewInfo],
+    item: Option<CrewBroken>,
+) -> Result<Vec<u8>, NoMem>
+    requires { IfSome found.broken (Names inst.now) }
+    ensures { IfOk result (λ text. text.items ≡ crewed_report inst.now found.broken found.cost.0 crews.now item) }
+{
+    let mut text = verdict_report(alloc, inst, found.broken, found.cost)?;
+    text.extend_from_slice(b"crew ")?;
+    push_crews(&mut text, crews, item)?;
+    text.push(b'\n')?;
+    Ok(text)
+}
+
+/// Reports the same as `judge_plan`, and then `crew ok`, or `crew K3 NAME` with the first rule that the crews do not keep and
+/// the name of the first crew that does not. It ends as that does; but with `BrokenRule` also where the crews do not keep a rule.
+pub fn judge_crews<R: Threads + Sync, F: Folder, O: Sink>(
+    rt: &R,
+    alloc: Global,
+    inst: &Instance,
+    plan: &Plan,
+    crews: &[CrewInfo],
+    folder: &mut F,
+    out: &mut O,
+) -> Ending
+    requires plan { IsPlanFor inst.now plan.now }
+    requires crews { AreCrews inst.now.parts crews.now }
+    ensures { Between F.outside O.report folder.old out.old folder.new out.new
+        (λ before now. Completes [] before now (crewed_verdict inst.now plan.now crews.now) result) }
+{
+    let found = match judged(rt, alloc, inst, plan) {
+        Ok(found) => found,
+        Err(_) => return Ending::Memory,
+    };
+    let item = match crew_least(alloc, inst, crews, plan) {
+        Ok(item) => item,
+        Err(_) => return Ending::Memory,
+    };
+    let report = match crewed_report(alloc, inst, found, crews, item) {
+        Ok(report) => report,
+        Err(_) => return Ending::Memory,
+    };
+    let texts = OutputTexts {
+        files: Vec::new(alloc),
+        report,
+    };
+    match put_outputs(alloc, folder, out, &texts) {
+        Ok(()) => end_with_crews(found.broken, item),
         Err(end) => end,
     }
 }

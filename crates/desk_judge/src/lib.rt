@@ -1,13 +1,13 @@
 //! Judging a plan: what it breaks first, and what it costs.
 //!
 //! `judge_plan` checks a plan against the rules on all processors, sums up its cost, and writes the report of both: `feasible`
-//! or `broken ITEM`, and `cost COST`. It writes no file.
+//! or `broken ITEM`, and `cost COST`. `judge_crews` reports what the crews break first besides. They write no file.
 //!
-//! Proved: what is written is the `verdict` of desk_tasks of that day and plan, or a beginning of it, with
+//! Proved: what is written is the `verdict` of desk_tasks of that day and plan, or the `crewed_verdict` with its crews, or a beginning of it, with
 //! the call that failed. It depends on `par_check`, `full_cost` and the texts of items.
 #![tactic(auto)]
 
 mod judge;
 
 pub use desk_runs::Ending;
-pub use judge::judge_plan;
+pub use judge::{judge_crews, judge_plan};

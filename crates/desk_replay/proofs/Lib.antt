@@ -1,2 +1,3 @@
 pub mod RunLaws
 pub mod PlayLaws
+pub mod CrewLaws

@@ -9,12 +9,17 @@ use Rattle.desk_words.specs.declared.asked.Command.{Command}
 use Rattle.desk_words.specs.declared.asked.Command.TheVariants as command_is
 use Rattle.desk_words.specs.Commands.{Asking, command}
 
+-- the file of the crews, where they are to be checked
+abbrev pub if_crew : Bool → List File
+if_crew true = file.Crew ∷ []
+if_crew false = []
+
 -- the files that a command reads, in file order
 abbrev pub files_read : Command → List File
-files_read command_is.Replay = day_files ++ file.Journal ∷ []
+files_read (command_is.Replay crew) = day_files ++ if_crew crew ++ file.Journal ∷ []
 files_read command_is.Store = day_files ++ file.Journal ∷ []
 files_read (command_is.Recover workers moves live watch) = day_files
-files_read command_is.Check = day_files ++ plan_files
+files_read (command_is.Check crew) = day_files ++ if_crew crew ++ plan_files
 files_read (command_is.Gen seed size) = []
 files_read (command_is.Trial seed size) = []
 
@@ -24,10 +29,10 @@ history_files = file.SolRotations ∷ file.SolItineraries ∷ file.Journal ∷ [
 
 -- the files that a command may write, in the order in which it writes them
 abbrev pub files_written : Command → List File
-files_written command_is.Replay = history_files
+files_written (command_is.Replay crew) = history_files
 files_written command_is.Store = history_files
 files_written (command_is.Recover workers moves live watch) = history_files
-files_written command_is.Check = []
+files_written (command_is.Check crew) = []
 files_written (command_is.Gen seed size) = day_files
 files_written (command_is.Trial seed size) = []
 
@@ -59,10 +64,10 @@ writes (Some a) = files_written a.command
 -- what a command may ask for: a seed of at most nine digits and a size from 1 to 40; or a search with at most 64 workers and 1 to 100,000
 -- accepted moves, where batches are taken live and a viewer watches only beside a worker
 abbrev pub IsCommand : Command → Type 0
-IsCommand command_is.Replay = Unit {0}
+IsCommand (command_is.Replay crew) = Unit {0}
 IsCommand command_is.Store = Unit {0}
 IsCommand (command_is.Recover workers moves live watch) = (workers ≤ 64) × (1 ≤ moves) × (moves ≤ 100000) × (live ≡ true → 1 ≤ workers) × (watch ≡ true → 1 ≤ workers)
-IsCommand command_is.Check = Unit {0}
+IsCommand (command_is.Check crew) = Unit {0}
 IsCommand (command_is.Gen seed size) = (seed ≤ 999999999) × (1 ≤ size) × (size ≤ 40)
 IsCommand (command_is.Trial seed size) = (seed ≤ 999999999) × (1 ≤ size) × (size ≤ 40)
 

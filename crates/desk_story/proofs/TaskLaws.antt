@@ -1,5 +1,5 @@
 -- From the rows of a command's files to the task that they set.
-use Rattle.std.proofs.Common.{◌≡◌, ℕ, List, refl, ap, ◌∙◌}
+use Rattle.std.proofs.Common.{◌≡◌, ℕ, false, List, refl, ap, ◌∙◌}
 use Rattle.std.specs.Prelude.{Result, Ok, Err, IfErr}
 use Rattle.desk_runs.specs.declared.refusal.Refusal.{Refusal}
 use Rattle.desk_words.specs.declared.asked.Command.{Command}
@@ -63,7 +63,7 @@ same_events : (built : Built) (events : Result (List (ℕ × Event)) Refusal) �
 same_events built (Ok events) = refl
 same_events built (Err r) = refl
 
-same_rows : (read : Result Rows Refusal) → SameStory (read >>= kept_of_rows) (read >>= task_of_rows command_is.Replay)
+same_rows : (read : Result Rows Refusal) → SameStory (read >>= kept_of_rows) (read >>= task_of_rows (command_is.Replay false))
 unfolding kept_of_rows task_of_rows story_of_rows
 same_rows (Err r) = refl
 same_rows (Ok rows) = same_built (or_refused not_joined (built_of rows.files)) (λ (built : Built). or_refused (in_file file.Journal) (events_of built rows.journal))
@@ -74,6 +74,6 @@ same_rows (Ok rows) = same_built (or_refused not_joined (built_of rows.files)) (
     same_built (Err r) events = refl
     same_built (Ok built) events = same_events built (events built)
 
-pub same-story : (x : Inputs) → SameStory (kept_of x) (task_of command_is.Replay x)
+pub same-story : (x : Inputs) → SameStory (kept_of x) (task_of (command_is.Replay false) x)
 unfolding kept_of task_of
-same-story x = same_rows (rows_of command_is.Replay x)
+same-story x = same_rows (rows_of (command_is.Replay false) x)

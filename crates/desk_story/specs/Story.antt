@@ -1,5 +1,5 @@
 -- What the input files of a command say: the task that they set, or the first refusal.
-use Rattle.std.specs.Prelude.{ℕ, false, List, [], ◌∷◌, length, Option, Some, None, Result, Ok, Err, nat_lt, if◌then◌else◌}
+use Rattle.std.specs.Prelude.{ℕ, true, false, List, [], ◌∷◌, length, Option, Some, None, Result, Ok, Err, nat_lt, if◌then◌else◌}
 use Rattle.desk_folder.specs.declared.files.File.{File}
 use Rattle.desk_folder.specs.declared.files.File.TheVariants as file
 use Rattle.folder_io.specs.Outputs.{FileText}
@@ -18,6 +18,9 @@ use Rattle.read_legs.specs.Flights.{flight_row}
 use Rattle.read_legs.specs.Rotations.{rotation_row}
 use Rattle.read_fleet.specs.Aircraft.{aircraft_row}
 use Rattle.read_fleet.specs.Position.{position_row}
+use Rattle.crew_rows.specs.declared.rows.CrewRow.{CrewRow}
+use Rattle.crew_rows.specs.Crews.{crew_row}
+use Rattle.crew_join.specs.Join.{crews_after}
 use Rattle.build_tables.specs.declared.files.Files.{Files}
 use Rattle.desk_build.specs.Join.{built_of}
 use Rattle.journal_rows.specs.declared.rows.JournalRow.{JournalRow}
@@ -37,7 +40,8 @@ use Rattle.desk_tasks.specs.Play.{Story}
 use Rattle.desk_tasks.specs.Keep.{KeptStory}
 use Rattle.desk_tasks.specs.Recover.{Recovery}
 use Rattle.desk_tasks.specs.Judge.{Judged, with_batches}
-use Rattle.desk_tasks.specs.Tasks.{Task, play, trial, judge, generate, recover_by}
+use Rattle.desk_tasks.specs.Crew.{CrewedStory, JudgedCrews}
+use Rattle.desk_tasks.specs.Tasks.{Task, play, play_crews, trial, judge, judge_crews, generate, recover_by}
 
 -- ---- refusals
 
@@ -63,6 +67,7 @@ not_joined at = refusal at.0 at.2 at.1
 -- the rows that were read so far
 pub record Rows : Type 0 where
   pub files : Files
+  pub crews : List CrewRow
   pub journal : List JournalRow
   -- the bytes of the two files that give a plan, once their lines are in their form
   pub plan_rotations : List ℕ
@@ -86,6 +91,7 @@ no_rows = record {
     tariff = record { rows = [] };
     feed = [];
   };
+  crews = [];
   journal = [];
   plan_rotations = [];
   plan_itineraries = [];
@@ -142,7 +148,9 @@ with_rows file.Tariff bytes rows = do
 with_rows file.Feed bytes rows = do
   feed ← feed_rows bytes
   Ok (record rows { files = record rows.files { feed = feed } })
-with_rows file.Crew bytes rows = Ok rows
+with_rows file.Crew bytes rows = do
+  crews ← text_rows most_bytes crew_row bytes
+  Ok (record rows { crews = crews })
 with_rows file.Journal bytes rows = do
   journal ← journal_rows_of bytes
   Ok (record rows { journal = journal })
@@ -191,6 +199,14 @@ kept_of_rows rows = do
   events ← or_refused (in_file file.Journal) (events_of built rows.journal)
   Ok (record { story = record { day = built.inst; events = events }; batches = built.batches })
 
+-- to play beside crews: the files are joined, then the crews, and then the journal
+unfoldable pub crewed_of_rows : Rows → Result CrewedStory Refusal
+crewed_of_rows rows = do
+  built ← or_refused not_joined (built_of rows.files)
+  crews ← or_refused (in_file file.Crew) (crews_after built.inst [] rows.crews)
+  events ← or_refused (in_file file.Journal) (events_of built rows.journal)
+  Ok (record { story = record { day = built.inst; events = events }; crews = crews })
+
 -- to recover: the files are joined, and all batches are taken, with so many accepted moves at most after each
 unfoldable pub recovery_of_rows : ℕ → Rows → Result Recovery Refusal
 recovery_of_rows moves rows = do
@@ -204,6 +220,14 @@ judged_of_rows rows = do
   plan ← or_refused not_joined (solution_of built.inst rows.plan_rotations rows.plan_itineraries)
   Ok (record { day = with_batches built.inst plan built.batches; plan = plan })
 
+-- to judge with crews: the files are joined, then the crews, and then those of the plan
+unfoldable pub judged_crews_of_rows : Rows → Result JudgedCrews Refusal
+judged_crews_of_rows rows = do
+  built ← or_refused not_joined (built_of rows.files)
+  crews ← or_refused (in_file file.Crew) (crews_after built.inst [] rows.crews)
+  plan ← or_refused not_joined (solution_of built.inst rows.plan_rotations rows.plan_itineraries)
+  Ok (record { judged = record { day = with_batches built.inst plan built.batches; plan = plan }; crews = crews })
+
 -- how many moves are accepted at most where the words don't say it
 abbrev pub usual_moves : ℕ
 usual_moves = default_of Moves
@@ -214,18 +238,24 @@ trial_of seed size = rows_of (command_is.Recover 0 usual_moves false false) (tex
 
 -- by the command; what is generated is asked by the words alone
 unfoldable pub task_of_rows : Command → Rows → Result Task Refusal
-task_of_rows command_is.Replay rows = do
+task_of_rows (command_is.Replay false) rows = do
   story ← story_of_rows rows
   Ok (play story)
+task_of_rows (command_is.Replay true) rows = do
+  story ← crewed_of_rows rows
+  Ok (play_crews story)
 task_of_rows command_is.Store rows = do
   story ← story_of_rows rows
   Ok (play story)
 task_of_rows (command_is.Recover workers moves live watch) rows = do
   recovery ← recovery_of_rows moves rows
   Ok (recover_by workers live watch recovery)
-task_of_rows command_is.Check rows = do
+task_of_rows (command_is.Check false) rows = do
   judged ← judged_of_rows rows
   Ok (judge judged)
+task_of_rows (command_is.Check true) rows = do
+  judged ← judged_crews_of_rows rows
+  Ok (judge_crews judged)
 task_of_rows (command_is.Gen seed size) rows = Ok (generate seed size)
 task_of_rows (command_is.Trial seed size) rows = do
   recovery ← trial_of seed size

@@ -25,7 +25,7 @@ pub struct InputPlan {
 
 /// The day with these batches, one after another, each by the plan that is to be judged. The only error is out
 /// of memory.
-fn with_batches(
+pub(crate) fn with_batches(
     alloc: Global,
     mut inst: Instance,
     plan: &Plan,

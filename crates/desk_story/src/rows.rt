@@ -5,6 +5,7 @@ ghost use Rattle.desk_story.specs.Story.{no_rows, with_rows};
 ghost use Rattle.desk_story.specs.Facts.{as_rows, AreInputRows};
 ghost use Rattle.desk_story.specs.Faults.{GivesRows, IsPut};
 
+use crew_rows::{CrewRow, read_crew};
 use desk_build::Files;
 use desk_folder::File;
 use desk_text::ReadFault;
@@ -23,6 +24,8 @@ use std::alloc::Global;
 /// The rows of the input files that were read so far.
 pub(crate) struct InputRows {
     pub files: Files,
+    /// The rows of crew.csv.
+    pub crews: Vec<CrewRow>,
     /// The rows of journal.csv.
     pub journal: Vec<JournalRow>,
     /// The bytes of sol_rotations.csv and sol_itineraries.csv, whose lines are in their form.
@@ -35,6 +38,7 @@ impl Drop for InputRows {
     fn drop(self) {
         let InputRows {
             files: _,
+            crews: _,
             journal: _,
             plan_rotations: _,
             plan_itineraries: _,
@@ -71,6 +75,7 @@ impl InputRows {
                 },
                 feed: List(Vec::new(alloc)),
             },
+            crews: Vec::new(alloc),
             journal: Vec::new(alloc),
             plan_rotations: Vec::new(alloc),
             plan_itineraries: Vec::new(alloc),
@@ -108,8 +113,7 @@ impl InputRows {
             File::AltAirports => put_rows(&mut files.alt_airports, read_alt_airports(alloc, bytes)),
             File::Tariff => put(&mut files.tariff, read_tariff(alloc, bytes)),
             File::Feed => put_rows(&mut files.feed, read_feed(alloc, bytes)),
-            // no command reads it yet
-            File::Crew => Ok(()),
+            File::Crew => put(&mut self.crews, read_crew(alloc, bytes)),
             File::Journal => put(&mut self.journal, read_journal(alloc, bytes)),
             File::SolRotations => keep(
                 &mut self.plan_rotations,

@@ -11,6 +11,7 @@ ghost use Rattle.desk_story.specs.Story.{rows_of, task_of_rows, task_of};
 ghost use Rattle.desk_story.specs.Reading.{StopsAtFault, GivesRead, GivesTask, HasReadCause, NeedsNoFault};
 ghost use Rattle.desk_story.specs.Facts.{as_rows, AreInputRows, as_recovery, CanRecover, as_task, CanBeDone};
 
+use crate::crews::{InputCrewedPlan, InputCrewedStory, joined_crewed, joined_plan_crews};
 use crate::fault::StoryFault;
 use crate::files::read_files;
 use crate::plan::{InputPlan, joined_plan};
@@ -27,6 +28,8 @@ use std::alloc::Global;
 pub enum InputTask {
     /// Events are to be taken on a day.
     Play(InputStory),
+    /// Events are to be taken on a day, beside its crews.
+    PlayCrews(InputCrewedStory),
     /// A day is to be recovered.
     Recover(InputRecovery),
     /// A day is to be recovered by a team of 1 to 64 workers; the batches but the first are taken while they search
@@ -41,6 +44,8 @@ pub enum InputTask {
     Try(InputRecovery),
     /// A plan is to be judged.
     Judge(InputPlan),
+    /// A plan is to be judged, and its crews.
+    JudgeCrews(InputCrewedPlan),
     /// The input files of a day are to be made, of this seed and this size from 1 to 40.
     Generate {
         seed: u32,
@@ -81,9 +86,13 @@ fn joined_task(alloc: Global, command: &Command, rows: &InputRows) -> Result<Inp
     ensures cause { IfErr result NeedsNoFault }
 {
     match command {
-        Command::Replay | Command::Store => {
+        Command::Replay { crew: false } | Command::Store => {
             let story = joined_story(alloc, rows)?;
             Ok(InputTask::Play(story))
+        }
+        Command::Replay { crew: true } => {
+            let story = joined_crewed(alloc, rows)?;
+            Ok(InputTask::PlayCrews(story))
         }
         Command::Recover {
             workers,
@@ -94,9 +103,13 @@ fn joined_task(alloc: Global, command: &Command, rows: &InputRows) -> Result<Inp
             let recovery = joined_recovery(alloc, rows, *moves)?;
             Ok(by_team(recovery, *workers, *live, *watch))
         }
-        Command::Check => {
+        Command::Check { crew: false } => {
             let plan = joined_plan(alloc, rows)?;
             Ok(InputTask::Judge(plan))
+        }
+        Command::Check { crew: true } => {
+            let plan = joined_plan_crews(alloc, rows)?;
+            Ok(InputTask::JudgeCrews(plan))
         }
         Command::Gen { seed, size } => Ok(InputTask::Generate {
             seed: *seed,

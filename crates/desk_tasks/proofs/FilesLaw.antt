@@ -10,8 +10,9 @@ use Rattle.desk_tasks.specs.Keep.{opened_first, kept}
 use Rattle.desk_tasks.specs.Recover.{Recovery, reported_alone, recovered, tried}
 use Rattle.desk_tasks.specs.Team.{TeamRecovery, Work, recovered_by_team}
 use Rattle.desk_tasks.specs.Judge.{Judged, verdict, judged}
+use Rattle.desk_tasks.specs.Crew.{JudgedCrews, crewed_verdict, judged_crews, CrewedStory, played_crews}
 use Rattle.desk_tasks.specs.Generate.{generation}
-use Rattle.desk_tasks.specs.Tasks.{Task, play, recover, team, trial, judge, generate, outcome_at, files_for}
+use Rattle.desk_tasks.specs.Tasks.{Task, play, play_crews, recover, team, trial, judge, judge_crews, generate, outcome_at, files_for}
 
 pub history-files : (I : Situation) (remarks : Remarks) (h : List Entry) → files_of (history_outcome I remarks h).texts.files ≡ history_files
 unfolding history_outcome
@@ -41,14 +42,24 @@ pub judged-files : (j : Judged) → files_of (judged j).texts.files ≡ files_fo
 unfolding verdict
 judged-files j = refl
 
+pub crewed-files : (s : CrewedStory) → files_of (played_crews s).texts.files ≡ files_for (play_crews s)
+unfolding history_outcome
+crewed-files s = refl
+
+pub judged_crews-files : (j : JudgedCrews) → files_of (judged_crews j).texts.files ≡ files_for (judge_crews j)
+unfolding crewed_verdict
+judged_crews-files j = refl
+
 pub generated-files : (seed size : ℕ) → files_of (generation seed size).texts.files ≡ files_for (generate seed size)
 unfolding generation generated
 generated-files seed size = refl
 
 pub files-for : (work : Work) (t : Task) → files_of (outcome_at work t).texts.files ≡ files_for t
 files-for work (play s) = played-files s
+files-for work (play_crews s) = crewed-files s
 files-for work (recover r) = recovered-files r
 files-for work (team t) = team-files t work
 files-for work (trial r) = tried-files r
 files-for work (judge j) = judged-files j
+files-for work (judge_crews j) = judged_crews-files j
 files-for work (generate seed size) = generated-files seed size

@@ -23,10 +23,11 @@ use Rattle.near_moves.proofs.LegalLaws.{recovery-legal}
 use Rattle.near_moves.proofs.RecoveryLaws.{recovery-all_wait, recovery-along, recovery-batches}
 use Rattle.desk_tasks.specs.Play.{Story, history, Remarks, search_remarks, watch_remarks, batch_lines, end_lines, planned_rotations, planned_itineraries, report_text, history_outcome, played}
 use Rattle.desk_tasks.specs.Keep.{opened_line, opened_remarks, opened_first, kept}
+use Rattle.desk_tasks.specs.Crew.{CrewedStory, crew_remarks, played_crews}
 use Rattle.desk_tasks.specs.Recover.{Recovery, recovered_history, search_end, reported_alone, recovered, tried}
 use Rattle.desk_tasks.specs.Team.{TeamRecovery, Work, IsTeamWork, recovered_by_team}
-use Rattle.desk_tasks.specs.Tasks.{Task, play, recover, team, trial, judge, generate, team_size, IsWorkOf, outcome_at, outcome, IsRunnable, IsRecoverable, IsSound}
-use Rattle.desk_tasks.specs.Headline.{TellsHistory, Headline, HasHeadline, HasKept, Recovers, HasRecovered, HasTried, TeamRecovers, HasTeamRecovered}
+use Rattle.desk_tasks.specs.Tasks.{Task, play, play_crews, recover, team, trial, judge, judge_crews, generate, team_size, IsWorkOf, outcome_at, outcome, IsRunnable, IsRecoverable, IsSound}
+use Rattle.desk_tasks.specs.Headline.{TellsHistory, Headline, HasHeadline, HasKept, HasCrewed, Recovers, HasRecovered, HasTried, TeamRecovers, HasTeamRecovered}
 use Rattle.desk_tasks.proofs.RecoveryLaw.{recovery-rests, search-ended}
 
 keeps_of : (before now : Option (List ℕ)) → Appends before now [] → Keeps before now
@@ -137,6 +138,17 @@ has-kept before now s held runs w = record {
   written = tells before now s.day (opened_remarks held) (history s) (subst (λ (t : Texts). IsWritten before now t) (kept_is s held) w);
 }
 
+-- ---- a story that is played beside its crews
+
+pub has-crewed : (before now : World) (s : CrewedStory) → IsRunnable s.story → IsWritten before now (played_crews s).texts → HasCrewed before now s
+has-crewed before now s runs w = record {
+  history = history s.story;
+  events = history_is s.story;
+  legal = story_legal s.story runs;
+  promises = promises s.story.day (history s.story) (story_legal s.story runs);
+  written = tells before now s.story.day (crew_remarks s.story.day s.crews (history s.story)) (history s.story) w;
+}
+
 -- ---- a recovery
 
 recovery_is : (r : Recovery) → recovered_history r ≡ recovery r.moves (opening r.day) r.batches
@@ -199,8 +211,10 @@ has-team-recovered before now t w is written = record {
 
 pub one-work : (task : Task) (work other : Work) → IsSound task → team_size task ≡ 0 → IsWorkOf task work → IsWorkOf task other → (work ≡ other) × (outcome_at work task ≡ outcome task)
 one-work (play s) work other sound e a b = (a ∙ sym b, refl)
+one-work (play_crews s) work other sound e a b = (a ∙ sym b, refl)
 one-work (recover r) work other sound e a b = (a ∙ sym b, refl)
 one-work (trial r) work other sound e a b = (a ∙ sym b, refl)
 one-work (judge j) work other sound e a b = (a ∙ sym b, refl)
+one-work (judge_crews j) work other sound e a b = (a ∙ sym b, refl)
 one-work (generate seed size) work other sound e a b = (a ∙ sym b, refl)
 one-work (team t) work other sound e a b = absurd (let some = sound.some in omega (arith, some, e))

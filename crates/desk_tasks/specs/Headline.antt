@@ -17,6 +17,7 @@ use Rattle.sol_text.specs.Itineraries.{itineraries_text}
 use Rattle.desk_runs.specs.Runs.{World}
 use Rattle.desk_tasks.specs.Play.{Story, Remarks, search_remarks, watch_remarks, report_text}
 use Rattle.desk_tasks.specs.Keep.{opened_remarks}
+use Rattle.desk_tasks.specs.Crew.{CrewedStory, crew_remarks}
 use Rattle.desk_tasks.specs.Recover.{Recovery, search_end, IsSearchEnd}
 use Rattle.desk_tasks.specs.Team.{TeamRecovery, Work, IsTeamEnd, IsWatched}
 
@@ -61,6 +62,14 @@ pub record HasKept (before now : World) (s : Story) (held : ℕ) : Type 0 where
   pub legal : IsLegal (opening s.day) history
   pub promises : KeepsPromises s.day history
   pub written : TellsHistory before now s.day (opened_remarks held) history
+
+-- the same of a story that was played beside its crews: the report has their lines, of each plan that a change left
+pub record HasCrewed (before now : World) (s : CrewedStory) : Type 0 where
+  pub history : List Entry
+  pub events : history ≡ run (opening s.story.day) s.story.events
+  pub legal : IsLegal (opening s.story.day) history
+  pub promises : KeepsPromises s.story.day history
+  pub written : TellsHistory before now s.story.day (crew_remarks s.story.day s.crews history) history
 
 -- ---- a recovery
 

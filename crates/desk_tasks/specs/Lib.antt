@@ -3,6 +3,7 @@ pub mod Keep
 pub mod Recover
 pub mod Team
 pub mod Judge
+pub mod Crew
 pub mod Generate
 pub mod Tasks
 pub mod Done

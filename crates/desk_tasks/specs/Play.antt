@@ -82,13 +82,17 @@ unfoldable pub seen_lines : Situation → List View → List ℕ
 seen_lines I [] = []
 seen_lines I (v ∷ views) = seen_line I v ++ seen_lines I views
 
+-- why the search ended, and these lines
+abbrev pub remarks_with : Option SearchEnd → List ℕ → Remarks
+remarks_with search extra = record { head = []; search = search; extra = extra }
+
 -- why the search ended, and what was seen meanwhile
 abbrev pub watch_remarks : Situation → Option SearchEnd → List View → Remarks
-watch_remarks I search seen = record { head = []; search = search; extra = seen_lines I seen }
+watch_remarks I search seen = remarks_with search (seen_lines I seen)
 
 -- why the search ended, and no line more
 abbrev pub search_remarks : Option SearchEnd → Remarks
-search_remarks search = record { head = []; search = search; extra = [] }
+search_remarks search = remarks_with search []
 
 -- the line that says why the search ended
 abbrev pub search_line : Option SearchEnd → List ℕ

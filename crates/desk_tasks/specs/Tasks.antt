@@ -10,16 +10,20 @@ use Rattle.desk_tasks.specs.Play.{Story, played}
 use Rattle.desk_tasks.specs.Recover.{Recovery, recovered, tried}
 use Rattle.desk_tasks.specs.Team.{TeamRecovery, team_on, Work, nothing, IsTeamWork, recovered_by_team}
 use Rattle.desk_tasks.specs.Judge.{Judged, judged}
+use Rattle.desk_tasks.specs.Crew.{JudgedCrews, judged_crews, CrewedStory, played_crews}
 use Rattle.desk_tasks.specs.Generate.{generation}
+use Rattle.crew_rules.specs.Valid.{AreCrews}
 
--- to play a story; to recover a day, by the desk alone or by a team, or to try that without a file; to judge a plan; or to generate a day from
--- a seed and a size
+-- to play a story, or to play it beside its crews; to recover a day, by the desk alone or by a team, or to try that without a file; to judge a
+-- plan, or to judge it with its crews; or to generate a day from a seed and a size
 pub data Task : Type 0 where
   play : Story → Task
+  play_crews : CrewedStory → Task
   recover : Recovery → Task
   team : TeamRecovery → Task
   trial : Recovery → Task
   judge : Judged → Task
+  judge_crews : JudgedCrews → Task
   generate : ℕ → ℕ → Task
 
 -- a recovery by so many workers: where there is none, by the desk alone
@@ -30,19 +34,23 @@ recover_by workers live watch r = if workers == 0 then recover r else team (team
 -- recovers a day
 abbrev pub outcome_at : Work → Task → Outcome
 outcome_at work (play s) = played s
+outcome_at work (play_crews s) = played_crews s
 outcome_at work (recover r) = recovered r
 outcome_at work (team t) = recovered_by_team t work
 outcome_at work (trial r) = tried r
 outcome_at work (judge j) = judged j
+outcome_at work (judge_crews j) = judged_crews j
 outcome_at work (generate seed size) = generation seed size
 
 -- the works that a run of a task may have: one, where its task comes to the same at each
 abbrev pub IsWorkOf : Task → Work → Type 0
 IsWorkOf (play s) work = work ≡ nothing
+IsWorkOf (play_crews s) work = work ≡ nothing
 IsWorkOf (recover r) work = work ≡ nothing
 IsWorkOf (team t) work = IsTeamWork t work
 IsWorkOf (trial r) work = work ≡ nothing
 IsWorkOf (judge j) work = work ≡ nothing
+IsWorkOf (judge_crews j) work = work ≡ nothing
 IsWorkOf (generate seed size) work = work ≡ nothing
 
 -- what a task comes to that one thread does
@@ -57,10 +65,12 @@ team_size other = 0
 -- the files that its texts are put into
 abbrev pub files_for : Task → List File
 files_for (play s) = history_files
+files_for (play_crews s) = history_files
 files_for (recover r) = history_files
 files_for (team t) = history_files
 files_for (trial r) = []
 files_for (judge j) = []
+files_for (judge_crews j) = []
 files_for (generate seed size) = day_files
 
 -- the events of a story can be asked on its day
@@ -83,10 +93,12 @@ pub record IsTeamRecoverable (t : TeamRecovery) : Type 0 where
 -- what reading a task makes sure of
 abbrev pub IsSound : Task → Type 0
 IsSound (play s) = IsRunnable s
+IsSound (play_crews s) = IsRunnable s.story × AreCrews s.story.day.parts s.crews
 IsSound (recover r) = IsRecoverable r
 IsSound (team t) = IsTeamRecoverable t
 IsSound (trial r) = IsRecoverable r
 IsSound (judge j) = IsPlanFor j.day j.plan
+IsSound (judge_crews j) = IsPlanFor j.judged.day j.judged.plan × AreCrews j.judged.day.parts j.crews
 IsSound (generate seed size) = Unit {0}
 
 -- and what doing it does besides, with this work

@@ -3,11 +3,12 @@
 ghost use Rattle.desk_runs.specs.Runs.{World, IsWritten};
 ghost use Rattle.desk_tasks.specs.Play.{Story, played};
 ghost use Rattle.desk_tasks.specs.Keep.{kept};
+ghost use Rattle.desk_tasks.specs.Crew.{CrewedStory, played_crews};
 ghost use Rattle.desk_tasks.specs.Recover.{Recovery, recovered, tried};
 ghost use Rattle.std.specs.Prelude.{◌≡◌, ℕ};
 ghost use Rattle.desk_tasks.specs.Team.{TeamRecovery, Work, IsTeamWork, recovered_by_team};
 ghost use Rattle.desk_tasks.specs.Tasks.{Task, team_size, IsWorkOf, outcome, outcome_at, IsRunnable, IsRecoverable, IsSound};
-ghost use Rattle.desk_tasks.specs.Headline.{HasHeadline, HasKept, HasRecovered, HasTried, HasTeamRecovered};
+ghost use Rattle.desk_tasks.specs.Headline.{HasHeadline, HasKept, HasCrewed, HasRecovered, HasTried, HasTeamRecovered};
 
 /// Whoever has written all that a story comes to, whose events can be asked on its day, keeps the
 /// promise of the desk.
@@ -21,6 +22,13 @@ pub fn played_stories_carry_the_headline()
 pub fn kept_stories_carry_the_headline()
     ensures { (before : World) → (now : World) → (story : Story) → (held : ℕ) → IsRunnable story →
         IsWritten before now (kept held story).texts → HasKept before now story held }
+{}
+
+/// So does whoever has written all that a story comes to that is played beside its crews: the journal is that of the same
+/// history, and the report has a line for the crews of each plan that a change left.
+pub fn crewed_stories_carry_the_headline()
+    ensures { (before : World) → (now : World) → (story : CrewedStory) → IsRunnable story.story →
+        IsWritten before now (played_crews story).texts → HasCrewed before now story }
 {}
 
 /// So does whoever has written all that a recovery comes to, whose batches can be taken on its day: after

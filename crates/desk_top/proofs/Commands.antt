@@ -1,13 +1,13 @@
 -- What each command did, once it was done.
 use Rattle.std.proofs.lemmas.Bool.Decides.{nat_tests}
-use Rattle.std.proofs.Common.{◌≡◌, ◌≢◌, ℕ, zero, suc, ◌≤◌, ◌==◌, Bool, false, List, refl, sym, ap, subst, ◌∙◌, arith}
+use Rattle.std.proofs.Common.{◌≡◌, ◌≢◌, ℕ, zero, suc, ◌≤◌, ◌==◌, Bool, true, false, List, refl, sym, ap, subst, ◌∙◌, arith}
 use Rattle.std.specs.Prelude.{Option, Some, None, Result, Ok, Err}
 use Rattle.std.specs.Io.KnownBytes.{Appends}
 use Rattle.std.specs.Option.{option_map}
 use Rattle.desk_data.specs.Situation.{Situation}
 use Rattle.desk_model.specs.declared.answer.Entry.{Entry}
 use Rattle.desk_model.specs.States.{opening}
-use Rattle.desk_model.specs.Histories.{state}
+use Rattle.desk_model.specs.Histories.{state, run}
 use Rattle.desk_rules.specs.Least.{least}
 use Rattle.desk_rules.specs.Cost.{cost}
 use Rattle.desk_words.specs.declared.asked.Command.{Command}
@@ -22,15 +22,16 @@ use Rattle.desk_runs.proofs.CausesLaw.{usage-only}
 use Rattle.desk_text.specs.Rows.{◌>>=◌}
 use Rattle.near_moves.specs.Descent.{recovery}
 use Rattle.desk_gen.specs.Generated.{text_of}
-use Rattle.desk_tasks.specs.Play.{Story, Remarks, search_remarks, watch_remarks, history_outcome, plan_status}
+use Rattle.desk_tasks.specs.Play.{Story, history, Remarks, search_remarks, watch_remarks, history_outcome, plan_status}
 use Rattle.desk_tasks.specs.Recover.{Recovery, recovered_history, search_end, recovered, reported_alone, tried}
 use Rattle.desk_tasks.specs.Judge.{Judged, verdict, verdict_report, rule_status, judged}
+use Rattle.desk_tasks.specs.Crew.{JudgedCrews, CrewedStory, crew_least, crewed_report, crewed_status, crewed_verdict, judged_crews, crew_remarks, played_crews}
 use Rattle.desk_tasks.specs.Generate.{generation}
 use Rattle.desk_tasks.specs.Team.{team_on, Work, nothing, IsTeamWork}
-use Rattle.desk_tasks.specs.Tasks.{Task, play, recover, team, recover_by, trial, judge, generate, outcome_at, IsSound, IsWorkOf, IsSoundAt}
-use Rattle.desk_tasks.proofs.HeadlineLaw.{has-headline, has-recovered, has-tried, has-team-recovered}
-use Rattle.desk_story.specs.Story.{Rows, rows_of, usual_moves, story_of_rows, recovery_of_rows, trial_of, judged_of_rows, task_of_rows, task_of}
-use Rattle.desk_top.specs.Desk.{meaning_at, RunsWith, IsDone, RunsAsPromised, IsReplayed, IsRecovered, IsRecoveredByTeam, IsTried, IsChecked, IsGenerated}
+use Rattle.desk_tasks.specs.Tasks.{Task, play, play_crews, recover, team, recover_by, trial, judge, judge_crews, generate, outcome_at, IsSound, IsWorkOf, IsSoundAt}
+use Rattle.desk_tasks.proofs.HeadlineLaw.{has-headline, has-crewed, has-recovered, has-tried, has-team-recovered}
+use Rattle.desk_story.specs.Story.{Rows, rows_of, usual_moves, story_of_rows, crewed_of_rows, recovery_of_rows, trial_of, judged_of_rows, judged_crews_of_rows, task_of_rows, task_of}
+use Rattle.desk_top.specs.Desk.{meaning_at, RunsWith, IsDone, RunsAsPromised, IsReplayed, IsReplayedWithCrews, IsRecovered, IsRecoveredByTeam, IsTried, IsChecked, IsCheckedWithCrews, IsGenerated}
 
 -- ---- what is asked
 
@@ -50,6 +51,14 @@ played_task : (read : Result Story Refusal) (t : Task) → (read >>= (λ story. 
 played_task (Ok s) t e = (s, let is : play s ≡ t = cc in sym is)
 played_task (Err r) t e = absurd cc
 
+crewed_task_of : (read : Result CrewedStory Refusal) (t : Task) → (read >>= (λ story. let r : Result Task Refusal = Ok (play_crews story) in r)) ≡ Ok t → (s : CrewedStory) × (t ≡ play_crews s)
+crewed_task_of (Ok s) t e = (s, let is : play_crews s ≡ t = cc in sym is)
+crewed_task_of (Err r) t e = absurd cc
+
+judged_crews_task : (read : Result JudgedCrews Refusal) (t : Task) → (read >>= (λ judged. let r : Result Task Refusal = Ok (judge_crews judged) in r)) ≡ Ok t → (j : JudgedCrews) × (t ≡ judge_crews j)
+judged_crews_task (Ok j) t e = (j, let is : judge_crews j ≡ t = cc in sym is)
+judged_crews_task (Err r) t e = absurd cc
+
 recover_task : (workers : ℕ) (live watch : Bool) (read : Result Recovery Refusal) (t : Task) → (read >>= (λ recovery. let r : Result Task Refusal = Ok (recover_by workers live watch recovery) in r)) ≡ Ok t → (r : Recovery) × (t ≡ recover_by workers live watch r) × (read ≡ Ok r)
 recover_task workers live watch (Ok r) t e = (r, (let is : recover_by workers live watch r ≡ t = cc in sym is), refl)
 recover_task workers live watch (Err r) t e = absurd cc
@@ -62,10 +71,20 @@ judged_task : (read : Result Judged Refusal) (t : Task) → (read >>= (λ judged
 judged_task (Ok j) t e = (j, let is : judge j ≡ t = cc in sym is)
 judged_task (Err r) t e = absurd cc
 
-replay_rows : (read : Read) (t : Task) → (read >>= task_of_rows command_is.Replay) ≡ Ok t → (s : Story) × (t ≡ play s)
+replay_rows : (read : Read) (t : Task) → (read >>= task_of_rows (command_is.Replay false)) ≡ Ok t → (s : Story) × (t ≡ play s)
 unfolding task_of_rows
 replay_rows (Ok rows) t e = played_task (story_of_rows rows) t e
 replay_rows (Err r) t e = absurd cc
+
+crewed_rows : (read : Read) (t : Task) → (read >>= task_of_rows (command_is.Replay true)) ≡ Ok t → (s : CrewedStory) × (t ≡ play_crews s)
+unfolding task_of_rows
+crewed_rows (Ok rows) t e = crewed_task_of (crewed_of_rows rows) t e
+crewed_rows (Err r) t e = absurd cc
+
+check_crews_rows : (read : Read) (t : Task) → (read >>= task_of_rows (command_is.Check true)) ≡ Ok t → (j : JudgedCrews) × (t ≡ judge_crews j)
+unfolding task_of_rows
+check_crews_rows (Ok rows) t e = judged_crews_task (judged_crews_of_rows rows) t e
+check_crews_rows (Err r) t e = absurd cc
 
 store_rows : (read : Read) (t : Task) → (read >>= task_of_rows command_is.Store) ≡ Ok t → (s : Story) × (t ≡ play s)
 unfolding task_of_rows
@@ -82,7 +101,7 @@ unfolding task_of_rows
 trial_rows seed size (Ok rows) t e = trial_task (trial_of seed size) t e
 trial_rows seed size (Err r) t e = absurd cc
 
-check_rows : (read : Read) (t : Task) → (read >>= task_of_rows command_is.Check) ≡ Ok t → (j : Judged) × (t ≡ judge j)
+check_rows : (read : Read) (t : Task) → (read >>= task_of_rows (command_is.Check false)) ≡ Ok t → (j : Judged) × (t ≡ judge j)
 unfolding task_of_rows
 check_rows (Ok rows) t e = judged_task (judged_of_rows rows) t e
 check_rows (Err r) t e = absurd cc
@@ -92,9 +111,17 @@ unfolding task_of_rows
 gen_rows seed size (Ok rows) t e = let is : generate seed size ≡ t = cc in sym is
 gen_rows seed size (Err r) t e = absurd cc
 
-replay_task : (x : Inputs) (t : Task) → task_of command_is.Replay x ≡ Ok t → (s : Story) × (t ≡ play s)
+replay_task : (x : Inputs) (t : Task) → task_of (command_is.Replay false) x ≡ Ok t → (s : Story) × (t ≡ play s)
 unfolding task_of
-replay_task x t e = replay_rows (rows_of command_is.Replay x) t e
+replay_task x t e = replay_rows (rows_of (command_is.Replay false) x) t e
+
+crewed_task : (x : Inputs) (t : Task) → task_of (command_is.Replay true) x ≡ Ok t → (s : CrewedStory) × (t ≡ play_crews s)
+unfolding task_of
+crewed_task x t e = crewed_rows (rows_of (command_is.Replay true) x) t e
+
+check_crews_task : (x : Inputs) (t : Task) → task_of (command_is.Check true) x ≡ Ok t → (j : JudgedCrews) × (t ≡ judge_crews j)
+unfolding task_of
+check_crews_task x t e = check_crews_rows (rows_of (command_is.Check true) x) t e
 
 store_task : (x : Inputs) (t : Task) → task_of command_is.Store x ≡ Ok t → (s : Story) × (t ≡ play s)
 unfolding task_of
@@ -123,9 +150,9 @@ asked_as_recover : (seed size : ℕ) (r : Recovery) → trial_of seed size ≡ O
 unfolding task_of trial_of
 asked_as_recover seed size r e = asked_rows usual_moves (rows_of (command_is.Recover 0 usual_moves false false) (text_of seed size)) r e
 
-check_task : (x : Inputs) (t : Task) → task_of command_is.Check x ≡ Ok t → (j : Judged) × (t ≡ judge j)
+check_task : (x : Inputs) (t : Task) → task_of (command_is.Check false) x ≡ Ok t → (j : Judged) × (t ≡ judge j)
 unfolding task_of
-check_task x t e = check_rows (rows_of command_is.Check x) t e
+check_task x t e = check_rows (rows_of (command_is.Check false) x) t e
 
 gen_task : (seed size : ℕ) (x : Inputs) (t : Task) → task_of (command_is.Gen seed size) x ≡ Ok t → t ≡ generate seed size
 unfolding task_of
@@ -133,13 +160,15 @@ gen_task seed size x t e = gen_rows seed size (rows_of (command_is.Gen seed size
 
 -- a run of a command that asks for no worker has one work
 pub plain-work : (c : Command) (x : Inputs) (t : Task) → workers_of c ≡ 0 → task_of c x ≡ Ok t → IsWorkOf t nothing
-plain-work command_is.Replay x t none e = let s = replay_task x t e in subst (λ (t : Task). IsWorkOf t nothing) (sym s.1) refl
+plain-work (command_is.Replay false) x t none e = let s = replay_task x t e in subst (λ (t : Task). IsWorkOf t nothing) (sym s.1) refl
+plain-work (command_is.Replay true) x t none e = let s = crewed_task x t e in subst (λ (t : Task). IsWorkOf t nothing) (sym s.1) refl
 plain-work command_is.Store x t none e = let s = store_task x t e in subst (λ (t : Task). IsWorkOf t nothing) (sym s.1) refl
 plain-work (command_is.Recover workers moves live watch) x t none e =
     let alone : task_of (command_is.Recover 0 moves live watch) x ≡ Ok t = subst (λ (n : ℕ). task_of (command_is.Recover n moves live watch) x ≡ Ok t) none e in
     let r = recovery_task 0 moves live watch x t alone in
     subst (λ (t : Task). IsWorkOf t nothing) (sym r.1) refl
-plain-work command_is.Check x t none e = let j = check_task x t e in subst (λ (t : Task). IsWorkOf t nothing) (sym j.1) refl
+plain-work (command_is.Check false) x t none e = let j = check_task x t e in subst (λ (t : Task). IsWorkOf t nothing) (sym j.1) refl
+plain-work (command_is.Check true) x t none e = let j = check_crews_task x t e in subst (λ (t : Task). IsWorkOf t nothing) (sym j.1) refl
 plain-work (command_is.Gen seed size) x t none e = subst (λ (t : Task). IsWorkOf t nothing) (sym (gen_task seed size x t e)) refl
 plain-work (command_is.Trial seed size) x t none e = let r = tried_task seed size x t e in subst (λ (t : Task). IsWorkOf t nothing) (sym r.1) refl
 
@@ -153,10 +182,10 @@ done_as work c before now x code t done is = (
 
 -- ---- replay
 
-pub replayed : (work : Work) (before now : World) (x : Inputs) (code : ℕ) → IsDone work command_is.Replay before now x code → IsReplayed before now x
+pub replayed : (work : Work) (before now : World) (x : Inputs) (code : ℕ) → IsDone work (command_is.Replay false) before now x code → IsReplayed before now x
 replayed work before now x code done =
     let story = replay_task x done.task done.sets in
-    let parts = done_as work command_is.Replay before now x code (play story.0) done story.1 in
+    let parts = done_as work (command_is.Replay false) before now x code (play story.0) done story.1 in
     let held = has-headline before now story.0 (subst IsSound story.1 done.sound.0) parts.2 in
     record { story = story.0; sets = parts.0; history = held.history; headline = held.headline }
 
@@ -215,11 +244,42 @@ verdict_reported : (before now : World) (j : Judged) → IsWritten before now (j
 unfolding verdict
 verdict_reported before now j h = h
 
-pub checked : (work : Work) (before now : World) (x : Inputs) (code : ℕ) → IsDone work command_is.Check before now x code → IsChecked before now x code
+pub checked : (work : Work) (before now : World) (x : Inputs) (code : ℕ) → IsDone work (command_is.Check false) before now x code → IsChecked before now x code
 checked work before now x code done =
     let j = check_task x done.task done.sets in
-    let parts = done_as work command_is.Check before now x code (judge j.0) done j.1 in
+    let parts = done_as work (command_is.Check false) before now x code (judge j.0) done j.1 in
     record { judged = j.0; sets = parts.0; status = parts.1 ∙ verdict_status j.0; reported = verdict_reported before now j.0 parts.2 }
+
+crewed_verdict_status : (j : JudgedCrews) → (judged_crews j).status ≡ crewed_status (least j.judged.day j.judged.plan) (crew_least j.judged.day j.crews j.judged.plan)
+unfolding crewed_verdict
+crewed_verdict_status j = refl
+
+crewed_verdict_reported : (before now : World) (j : JudgedCrews) → IsWritten before now (judged_crews j).texts
+    → Appends before.sink.written now.sink.written (crewed_report j.judged.day (least j.judged.day j.judged.plan) (cost j.judged.day j.judged.plan) j.crews (crew_least j.judged.day j.crews j.judged.plan))
+unfolding crewed_verdict
+crewed_verdict_reported before now j h = h
+
+pub checked-crews : (work : Work) (before now : World) (x : Inputs) (code : ℕ) → IsDone work (command_is.Check true) before now x code → IsCheckedWithCrews before now x code
+checked-crews work before now x code done =
+    let j = check_crews_task x done.task done.sets in
+    let parts = done_as work (command_is.Check true) before now x code (judge_crews j.0) done j.1 in
+    record { crewed = j.0; sets = parts.0; status = parts.1 ∙ crewed_verdict_status j.0; reported = crewed_verdict_reported before now j.0 parts.2 }
+
+-- ---- replay with crews
+
+played_status : (s : CrewedStory) (h : List Entry) → h ≡ run (opening s.story.day) s.story.events → (played_crews s).status ≡ plan_status (state (opening s.story.day) h).broken
+unfolding history
+played_status s h is =
+    history_status s.story.day (crew_remarks s.story.day s.crews (run (opening s.story.day) s.story.events)) (run (opening s.story.day) s.story.events)
+    ∙ ap (λ (g : List Entry). plan_status (state (opening s.story.day) g).broken) (sym is)
+
+pub replayed-crews : (work : Work) (before now : World) (x : Inputs) (code : ℕ) → IsDone work (command_is.Replay true) before now x code → IsReplayedWithCrews before now x code
+replayed-crews work before now x code done =
+    let s = crewed_task x done.task done.sets in
+    let parts = done_as work (command_is.Replay true) before now x code (play_crews s.0) done s.1 in
+    let sound = subst IsSound s.1 done.sound.0 in
+    let held = has-crewed before now s.0 sound.0 parts.2 in
+    record { crewed = s.0; sets = parts.0; headline = held; status = parts.1 ∙ played_status s.0 held.history held.events }
 
 -- ---- gen
 

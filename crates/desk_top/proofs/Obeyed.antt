@@ -50,19 +50,23 @@ obeyed-fault c before now sink e only order stops cause gives = by_fault c befor
 
 sound_of : (t : InputTask) → CanBeDone t → IsSound (as_task t)
 sound_of (input.Play s) h = h.asked
+sound_of (input.PlayCrews s) h = (h.story.asked, h.crews)
 sound_of (input.Recover r) h = h.sound
 sound_of (input.Team r workers live watch) h = record { recovery = h.0.sound; some = h.1; few = h.2 }
 sound_of (input.Try r) h = h.sound
 sound_of (input.Judge p) h = h
+sound_of (input.JudgeCrews p) h = (h.plan, h.crews)
 sound_of (input.Generate seed size) h = tt
 
 -- a task that asks for no worker comes to the same whatever a run makes
 alone_of : (t : InputTask) → CanBeDone t → team_size (as_task t) ≡ 0 → IsWorkOf (as_task t) nothing
 alone_of (input.Play s) h none = refl
+alone_of (input.PlayCrews s) h none = refl
 alone_of (input.Recover r) h none = refl
 alone_of (input.Team r workers live watch) h none = absurd (let some = h.1 in omega (arith, some, none))
 alone_of (input.Try r) h none = refl
 alone_of (input.Judge p) h none = refl
+alone_of (input.JudgeCrews p) h none = refl
 alone_of (input.Generate seed size) h none = refl
 
 pub obeyed-task : (c : Command) (before mid now : Outside) (sink sink' : SinkSide) (t : InputTask) (how : Ending) → ReadsAmong (files_read c) before mid → InOrder plain c before mid → AreRead (files_read c) before mid

@@ -10,7 +10,7 @@ use Rattle.desk_words.specs.declared.asked.Command.TheVariants as command_is
 use Rattle.desk_words.specs.declared.choice.NumberOption.{NumberOption}
 use Rattle.desk_words.specs.declared.choice.NumberOption.TheVariants as choice_is
 use Rattle.desk_words.specs.Arguments.{Argument, arguments, places}
-use Rattle.desk_words.specs.Commands.{Asking, least_of, most_of, value_in, value_of, no_day_options, no_search_options, input_and_output, output_alone, no_directory, plain, search, searching, recovering, making, generating, sampling, trying, command_by, command}
+use Rattle.desk_words.specs.Commands.{Asking, least_of, most_of, value_in, value_of, no_day_options, no_search_options, input_and_output, output_alone, no_directory, is_unset, plain, crewed, search, searching, recovering, making, generating, sampling, trying, uncrewed_by, command_by, command}
 use Rattle.desk_runs.specs.Commands.{IsCommand, is_of_disk}
 
 -- from a least to a greatest number
@@ -41,6 +41,7 @@ value_within choice_is.Workers [] = (omega arith, omega arith)
 value_within choice_is.Moves [] = (omega arith, omega arith)
 value_within choice_is.Live [] = (omega arith, omega arith)
 value_within choice_is.Watch [] = (omega arith, omega arith)
+value_within choice_is.Crew [] = (omega arith, omega arith)
 value_within choice (text ∷ []) = number_within (least_of choice) (most_of choice) text
 value_within choice (text ∷ other ∷ texts) = tt
 
@@ -108,14 +109,23 @@ plain_range : (c : Command) (list : List Argument) → IsCommand c → InRange (
 unfolding plain
 plain_range c list h = if_range (no_day_options list && no_search_options list) _ (with_dirs c (input_and_output (places list)) h)
 
+crewed_in : (c : Bool → Command) (crew : Option ℕ) (list : List Argument) → ((crew : Bool) → IsCommand (c crew)) → InRange (crew >>= (λ crew. plain (c (nat_lt 0 crew)) list))
+crewed_in c None list h = tt
+crewed_in c (Some crew) list h = plain_range (c (nat_lt 0 crew)) list (h (nat_lt 0 crew))
+
+crewed_range : (c : Bool → Command) (list : List Argument) → ((crew : Bool) → IsCommand (c crew)) → InRange (crewed c list)
+unfolding crewed
+crewed_range c list h = crewed_in c (value_of choice_is.Crew list) list h
+
 asked_range : (word : List ℕ) (list : List Argument) → InRange (command_by word list)
 asked_range word list =
-    choice_range (bytes_eq word (codes "replay")) (plain command_is.Replay list) _ (plain_range command_is.Replay list tt)
+    choice_range (bytes_eq word (codes "replay")) (crewed command_is.Replay list) _ (crewed_range command_is.Replay list (λ crew. tt))
+    (choice_range (bytes_eq word (codes "check")) (crewed command_is.Check list) _ (crewed_range command_is.Check list (λ crew. tt))
+    (if_range (is_unset choice_is.Crew list) (uncrewed_by word list)
     (choice_range (bytes_eq word (codes "store")) (plain command_is.Store list) _ (plain_range command_is.Store list tt)
     (choice_range (bytes_eq word (codes "recover")) (recovering list) _ (recovering_range list)
-    (choice_range (bytes_eq word (codes "check")) (plain command_is.Check list) _ (plain_range command_is.Check list tt)
     (choice_range (bytes_eq word (codes "gen")) (generating list) _ (generating_range list)
-    (if_range (bytes_eq word (codes "trial")) (trying list) (trying_range list))))))
+    (if_range (bytes_eq word (codes "trial")) (trying list) (trying_range list)))))))
   where
     choice_range : (test : Bool) (a b : Option Asking) → InRange a → InRange b → InRange (if test then a else b)
     choice_range true a b h k = h

@@ -362,9 +362,9 @@ eight-only how answer code is late eight = elim (status_cases how answer code is
 pub kept-asked : (o : Option Asking) (dirs : Directories) → Some dirs ≡ kept_directories o → o ≡ Some (command_is.Store, Some dirs)
 kept-asked None dirs is = absurd cc
 kept-asked (Some (command_is.Store, d)) dirs is = ap (λ (d : Option Directories). Some (command_is.Store, d)) (sym is)
-kept-asked (Some (command_is.Replay, d)) dirs is = absurd cc
+kept-asked (Some (command_is.Replay crew, d)) dirs is = absurd cc
 kept-asked (Some (command_is.Recover workers moves live watch, d)) dirs is = absurd cc
-kept-asked (Some (command_is.Check, d)) dirs is = absurd cc
+kept-asked (Some (command_is.Check crew, d)) dirs is = absurd cc
 kept-asked (Some (command_is.Gen seed size, d)) dirs is = absurd cc
 kept-asked (Some (command_is.Trial seed size, d)) dirs is = absurd cc
 
@@ -374,9 +374,9 @@ asks-store o dirs is = ap (λ (o : Option Asking). asks_disk (option_map asks o)
 pub others-free : (o : Option Asking) → kept_directories o ≡ None → ((c : Command) → Some (c, None) ≡ o → is_of_disk c ≡ false) → asks_disk (option_map asks o) ≡ false
 others-free None none free = refl
 others-free (Some (command_is.Store, d)) none free = free command_is.Store (ap (λ (d : Option Directories). Some (command_is.Store, d)) (sym none))
-others-free (Some (command_is.Replay, d)) none free = refl
+others-free (Some (command_is.Replay crew, d)) none free = refl
 others-free (Some (command_is.Recover workers moves live watch, d)) none free = refl
-others-free (Some (command_is.Check, d)) none free = refl
+others-free (Some (command_is.Check crew, d)) none free = refl
 others-free (Some (command_is.Gen seed size, d)) none free = refl
 others-free (Some (command_is.Trial seed size, d)) none free = refl
 

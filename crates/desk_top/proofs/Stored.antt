@@ -1,5 +1,5 @@
 -- What a run that kept its journal on a disk did, once it was done.
-use Rattle.std.proofs.Common.{◌≡◌, inl, inr, ℕ, ◌≤◌, List, refl, sym, ap, subst, ◌∙◌, arith}
+use Rattle.std.proofs.Common.{◌≡◌, inl, inr, ℕ, ◌≤◌, false, List, refl, sym, ap, subst, ◌∙◌, arith}
 use Rattle.std.specs.Prelude.{Option, Some, None, Result, Ok}
 use Rattle.desk_folder.specs.declared.faults.FolderFault.{FolderFault}
 use Rattle.desk_folder.specs.Outside.{Directories}
@@ -34,8 +34,8 @@ status_is : (s : Story) (held : ℕ) (h : List Entry) → h ≡ run (opening s.d
 unfolding opened_first history_outcome history
 status_is s held h is = ap (λ (g : List Entry). plan_status (state (opening s.day) g).broken) (sym is)
 
-replays : (x : Inputs) (k : KeptStory) (own : Result KeptStory Refusal) → own ≡ Ok k → SameStory own (task_of command_is.Replay x) → task_of command_is.Replay x ≡ Ok (play k.story)
-replays x k own is same = (let h : SameStory (Ok k) (task_of command_is.Replay x) = subst (λ (r : Result KeptStory Refusal). SameStory r (task_of command_is.Replay x)) is same in h)
+replays : (x : Inputs) (k : KeptStory) (own : Result KeptStory Refusal) → own ≡ Ok k → SameStory own (task_of (command_is.Replay false) x) → task_of (command_is.Replay false) x ≡ Ok (play k.story)
+replays x k own is same = (let h : SameStory (Ok k) (task_of (command_is.Replay false) x) = subst (λ (r : Result KeptStory Refusal). SameStory r (task_of (command_is.Replay false) x)) is same in h)
 
 at_most_one : (broken : Option Broken) (code : ℕ) → code ≡ plan_status broken → code ≤ 1
 at_most_one None code is = omega (arith, is)

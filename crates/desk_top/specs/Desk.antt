@@ -1,5 +1,5 @@
 -- What is said of a run of the desk, where its inputs mean what the files' grammars and their join say.
-use Rattle.std.specs.Prelude.{◌≡◌, ◌⊎◌, ℕ, Bool, false, List, Option, Ok}
+use Rattle.std.specs.Prelude.{◌≡◌, ◌⊎◌, ℕ, Bool, true, false, List, Option, Ok}
 use Rattle.std.specs.Io.KnownBytes.{Appends}
 use Rattle.desk_model.specs.declared.answer.Entry.{Entry}
 use Rattle.desk_model.specs.States.{opening}
@@ -20,9 +20,10 @@ use Rattle.desk_tasks.specs.Play.{Story, search_remarks, report_text, plan_statu
 use Rattle.desk_tasks.specs.Recover.{Recovery, search_end}
 use Rattle.desk_tasks.specs.Team.{team_on, Work}
 use Rattle.desk_tasks.specs.Judge.{Judged, verdict_report, rule_status}
+use Rattle.desk_tasks.specs.Crew.{JudgedCrews, CrewedStory, crew_least, crewed_report, crewed_status}
 use Rattle.desk_tasks.specs.Generate.{generation}
-use Rattle.desk_tasks.specs.Tasks.{Task, play, recover, team, judge, IsWorkOf, outcome_at, IsSoundAt}
-use Rattle.desk_tasks.specs.Headline.{TellsHistory, Headline, Recovers, HasTeamRecovered}
+use Rattle.desk_tasks.specs.Tasks.{Task, play, play_crews, recover, team, judge, judge_crews, IsWorkOf, outcome_at, IsSoundAt}
+use Rattle.desk_tasks.specs.Headline.{TellsHistory, Headline, HasCrewed, Recovers, HasTeamRecovered}
 use Rattle.desk_gen.specs.Generated.{text_of}
 use Rattle.desk_story.specs.Story.{Rows, rows_of, usual_moves, task_of}
 
@@ -67,9 +68,17 @@ RunsAsPromised ask before now code = promised.RunsAsPromised meanings ask before
 -- `replay`: the inputs give a story, and there is a history with the headline
 pub record IsReplayed (before now : World) (x : Inputs) : Type 0 where
   pub story : Story
-  pub sets : task_of command_is.Replay x ≡ Ok (play story)
+  pub sets : task_of (command_is.Replay false) x ≡ Ok (play story)
   pub history : List Entry
   pub headline : Headline before now story history
+
+-- `replay` with crews: the inputs give a story and the crews of its day, and there is a history with all that the headline says, whose report
+-- has a line of the crews for each plan that a change left; the status is that of a replay
+pub record IsReplayedWithCrews (before now : World) (x : Inputs) (code : ℕ) : Type 0 where
+  pub crewed : CrewedStory
+  pub sets : task_of (command_is.Replay true) x ≡ Ok (play_crews crewed)
+  pub headline : HasCrewed before now crewed
+  pub status : code ≡ plan_status (state (opening crewed.story.day) headline.history).broken
 
 -- `recover`: the inputs give a day and its batches, and there is a history with the headline; the status is 1 where it ends with no plan
 -- and else 0
@@ -103,9 +112,17 @@ pub record IsTried (before now : World) (seed size : ℕ) (code : ℕ) : Type 0 
 -- first item that is broken, or that none is, and the cost of the plan on the day with all batches
 pub record IsChecked (before now : World) (x : Inputs) (code : ℕ) : Type 0 where
   pub judged : Judged
-  pub sets : task_of command_is.Check x ≡ Ok (judge judged)
+  pub sets : task_of (command_is.Check false) x ≡ Ok (judge judged)
   pub status : code ≡ rule_status (least judged.day judged.plan)
   pub reported : Appends before.sink.written now.sink.written (verdict_report judged.day (least judged.day judged.plan) (cost judged.day judged.plan))
+
+-- `check` with crews: the inputs give a day, a plan and crews; the status is 7 where the plan breaks a rule or its crews break one and else 0,
+-- and the report gives the same as a check without them, and after it the first item that the crews break, or that they break none
+pub record IsCheckedWithCrews (before now : World) (x : Inputs) (code : ℕ) : Type 0 where
+  pub crewed : JudgedCrews
+  pub sets : task_of (command_is.Check true) x ≡ Ok (judge_crews crewed)
+  pub status : code ≡ crewed_status (least crewed.judged.day crewed.judged.plan) (crew_least crewed.judged.day crewed.crews crewed.judged.plan)
+  pub reported : Appends before.sink.written now.sink.written (crewed_report crewed.judged.day (least crewed.judged.day crewed.judged.plan) (cost crewed.judged.day crewed.judged.plan) crewed.crews (crew_least crewed.judged.day crewed.crews crewed.judged.plan))
 
 -- `gen`: the files of the seed and the size are written
 pub record IsGenerated (before now : World) (seed size : ℕ) (code : ℕ) : Type 0 where

@@ -162,7 +162,7 @@ IsAtMostNamed shown shown' = (shown' ≡ shown) ⊎ (shown' ≡ option_map stays
 -- plan and else 0
 pub record IsStored (before now : World) (shown shown' : Option DiskSide) (x : Inputs) (code : ℕ) : Type 0 where
   pub story : Story
-  pub sets : task_of command_is.Replay x ≡ Ok (play story)
+  pub sets : task_of (command_is.Replay false) x ≡ Ok (play story)
   pub held : ℕ
   pub headline : HasKept before now story held
   pub counts : WhereShown shown shown' (HoldsSince held x)

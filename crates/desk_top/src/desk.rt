@@ -20,7 +20,7 @@ ghost use Rattle.desk_runs.proofs.Composed.{at};
 ghost use Rattle.desk_story.specs.Story.{kept_of};
 ghost use Rattle.desk_store.specs.Journal.{OnlyOpens, WhereShown};
 ghost use Rattle.desk_top.specs.Store.{kept_directories, HasBegun, HoldsAll, IsAtMostNamed, IsPlacedAt, IsStored, IsWrittenAt, RunsOnDisk, StandsAlways, UnlessNamed};
-ghost use Rattle.desk_top.specs.Desk.{Runs, RunsAsPromised, IsReplayed, IsRecovered, IsRecoveredByTeam, IsTried, IsChecked, IsGenerated};
+ghost use Rattle.desk_top.specs.Desk.{Runs, RunsAsPromised, IsReplayed, IsReplayedWithCrews, IsRecovered, IsRecoveredByTeam, IsTried, IsChecked, IsCheckedWithCrews, IsGenerated};
 
 use crate::plain::{run_plain, tell};
 use crate::store::run_store;
@@ -64,9 +64,10 @@ fn run<R: Threads + Wait + Sync, F: Folder, O: Sink, G: Gate, L: Listener>(
                 )
             }
         }
-        Command::Replay | Command::Check | Command::Gen { .. } | Command::Trial { .. } => {
-            run_plain(rt, alloc, command, folder, out, listener)
-        }
+        Command::Replay { .. }
+        | Command::Check { .. }
+        | Command::Gen { .. }
+        | Command::Trial { .. } => { run_plain(rt, alloc, command, folder, out, listener) }
         Command::Store => unreachable!(),
     }
 }
@@ -196,9 +197,15 @@ pub fn desk_main<R: Threads + Wait + Sync, F: Folder, O: Sink, G: Gate, D: Disk>
     requires nothing_pending { asks_disk (asked_by (map string_bytes words.now)) ≡ true → IfSome (D.shown disk.old) (λ was. HasNothingPending was.file) }
     // The headline: where the folder shows the bytes of its input, each replay that was done has written
     // the journal of a legal history of the events that it read, and the last plan of that history.
-    ensures headline { (dirs : NamedDirectories) → command (map string_bytes words.now) ≡ Some (Replay, Some dirs) →
-        (x : Inputs) → Tells (files_read Replay) (F.outside folder.old) x → IsDoneAt result →
+    ensures headline { (dirs : NamedDirectories) → command (map string_bytes words.now) ≡ Some (Replay false, Some dirs) →
+        (x : Inputs) → Tells (files_read (Replay false)) (F.outside folder.old) x → IsDoneAt result →
         Between F.outside O.report folder.old out.old folder.new out.new (λ before now. IsReplayed before now x) }
+
+    // Each replay beside the crews that was done has written the same, and in its report a line for each change that left a plan:
+    // the first item that the crews break, or that they break none.
+    ensures crewed { (dirs : NamedDirectories) → command (map string_bytes words.now) ≡ Some (Replay true, Some dirs) →
+        (x : Inputs) → Tells (files_read (Replay true)) (F.outside folder.old) x → IsDoneAt result →
+        Between F.outside O.report folder.old out.old folder.new out.new (λ before now. IsReplayedWithCrews before now x result) }
 
     // The headline of a recovery: each that was done has written the journal of a legal history in which the
     // batches that it read stand in their order, each with exactly its descent after it, and the last plan of
@@ -225,9 +232,15 @@ pub fn desk_main<R: Threads + Wait + Sync, F: Folder, O: Sink, G: Gate, D: Disk>
 
     // Each check that was done has reported the first item that the plan breaks, or that it breaks none, and the
     // whole cost of the plan, on the day with all batches.
-    ensures checked { (dirs : NamedDirectories) → command (map string_bytes words.now) ≡ Some (Check, Some dirs) →
-        (x : Inputs) → Tells (files_read Check) (F.outside folder.old) x → IsDoneAt result →
+    ensures checked { (dirs : NamedDirectories) → command (map string_bytes words.now) ≡ Some (Check false, Some dirs) →
+        (x : Inputs) → Tells (files_read (Check false)) (F.outside folder.old) x → IsDoneAt result →
         Between F.outside O.report folder.old out.old folder.new out.new (λ before now. IsChecked before now x result) }
+
+    // Each check of a plan and its crews that was done has reported the same, and the first item that the crews break, or that
+    // they break none; its status is 7 where either finds an item.
+    ensures checked_crews { (dirs : NamedDirectories) → command (map string_bytes words.now) ≡ Some (Check true, Some dirs) →
+        (x : Inputs) → Tells (files_read (Check true)) (F.outside folder.old) x → IsDoneAt result →
+        Between F.outside O.report folder.old out.old folder.new out.new (λ before now. IsCheckedWithCrews before now x result) }
 
     // Each day that was generated is written whole.
     ensures generated { (seed : ℕ) → (size : ℕ) → (dirs : NamedDirectories) →
@@ -320,9 +333,15 @@ pub fn desk_main_heard<R: Threads + Wait + Sync, F: Folder, O: Sink, G: Gate, D:
     requires nothing_pending { asks_disk (asked_by (map string_bytes words.now)) ≡ true → IfSome (D.shown disk.old) (λ was. HasNothingPending was.file) }
     // The headline: where the folder shows the bytes of its input, each replay that was done has written
     // the journal of a legal history of the events that it read, and the last plan of that history.
-    ensures headline { (dirs : NamedDirectories) → command (map string_bytes words.now) ≡ Some (Replay, Some dirs) →
-        (x : Inputs) → Tells (files_read Replay) (F.outside folder.old) x → IsDoneAt result →
+    ensures headline { (dirs : NamedDirectories) → command (map string_bytes words.now) ≡ Some (Replay false, Some dirs) →
+        (x : Inputs) → Tells (files_read (Replay false)) (F.outside folder.old) x → IsDoneAt result →
         Between F.outside O.report folder.old out.old folder.new out.new (λ before now. IsReplayed before now x) }
+
+    // Each replay beside the crews that was done has written the same, and in its report a line for each change that left a plan:
+    // the first item that the crews break, or that they break none.
+    ensures crewed { (dirs : NamedDirectories) → command (map string_bytes words.now) ≡ Some (Replay true, Some dirs) →
+        (x : Inputs) → Tells (files_read (Replay true)) (F.outside folder.old) x → IsDoneAt result →
+        Between F.outside O.report folder.old out.old folder.new out.new (λ before now. IsReplayedWithCrews before now x result) }
 
     // The headline of a recovery: each that was done has written the journal of a legal history in which the
     // batches that it read stand in their order, each with exactly its descent after it, and the last plan of
@@ -349,9 +368,15 @@ pub fn desk_main_heard<R: Threads + Wait + Sync, F: Folder, O: Sink, G: Gate, D:
 
     // Each check that was done has reported the first item that the plan breaks, or that it breaks none, and the
     // whole cost of the plan, on the day with all batches.
-    ensures checked { (dirs : NamedDirectories) → command (map string_bytes words.now) ≡ Some (Check, Some dirs) →
-        (x : Inputs) → Tells (files_read Check) (F.outside folder.old) x → IsDoneAt result →
+    ensures checked { (dirs : NamedDirectories) → command (map string_bytes words.now) ≡ Some (Check false, Some dirs) →
+        (x : Inputs) → Tells (files_read (Check false)) (F.outside folder.old) x → IsDoneAt result →
         Between F.outside O.report folder.old out.old folder.new out.new (λ before now. IsChecked before now x result) }
+
+    // Each check of a plan and its crews that was done has reported the same, and the first item that the crews break, or that
+    // they break none; its status is 7 where either finds an item.
+    ensures checked_crews { (dirs : NamedDirectories) → command (map string_bytes words.now) ≡ Some (Check true, Some dirs) →
+        (x : Inputs) → Tells (files_read (Check true)) (F.outside folder.old) x → IsDoneAt result →
+        Between F.outside O.report folder.old out.old folder.new out.new (λ before now. IsCheckedWithCrews before now x result) }
 
     // Each day that was generated is written whole.
     ensures generated { (seed : ℕ) → (size : ℕ) → (dirs : NamedDirectories) →

@@ -13,11 +13,13 @@ ghost use Rattle.desk_top.specs.Desk.{Obeys, RunsWith, RunsAsPromised};
 use crate::day::write_day;
 use desk_folder::{Folder, FolderFault, Sink};
 use desk_headway::Listener;
-use desk_judge::judge_plan;
+use desk_judge::{judge_crews, judge_plan};
 use desk_recover::{recover_day, try_day};
-use desk_replay::play_events;
+use desk_replay::{play_beside_crews, play_events};
 use desk_runs::{Ending, fault_text};
-use desk_story::{InputPlan, InputRecovery, InputStory, InputTask, read_task};
+use desk_story::{
+    InputCrewedPlan, InputCrewedStory, InputPlan, InputRecovery, InputStory, InputTask, read_task,
+};
 use desk_words::Command;
 use folder_io::put_report;
 use std::alloc::Global;
@@ -41,6 +43,18 @@ fn do_task<R: Threads + Sync, F: Folder, O: Sink, L: Listener>(
         InputTask::Play(story) => {
             let InputStory { inst, events } = story;
             play_events(alloc, inst, events.as_slice(), folder, out)
+        }
+        InputTask::PlayCrews(crewed) => {
+            let InputCrewedStory { story, crews } = crewed;
+            let InputStory { inst, events } = story;
+            play_beside_crews(
+                alloc,
+                inst,
+                crews.as_slice(),
+                events.as_slice(),
+                folder,
+                out,
+            )
         }
         InputTask::Recover(recovery) => {
             let InputRecovery {
@@ -77,6 +91,11 @@ fn do_task<R: Threads + Sync, F: Folder, O: Sink, L: Listener>(
         InputTask::Judge(judged) => {
             let InputPlan { inst, plan } = judged;
             judge_plan(rt, alloc, &inst, &plan, folder, out)
+        }
+        InputTask::JudgeCrews(crewed) => {
+            let InputCrewedPlan { plan, crews } = crewed;
+            let InputPlan { inst, plan } = plan;
+            judge_crews(rt, alloc, &inst, &plan, crews.as_slice(), folder, out)
         }
         InputTask::Generate { seed, size } => write_day(alloc, seed, size, folder, out),
         InputTask::Team { .. } => unreachable!(),

@@ -66,9 +66,11 @@ fn do_team_task<R: Threads + Wait + Sync, F: Folder, O: Sink, G: Gate>(
             )
         }
         InputTask::Play(_)
+        | InputTask::PlayCrews(_)
         | InputTask::Recover(_)
         | InputTask::Try(_)
         | InputTask::Judge(_)
+        | InputTask::JudgeCrews(_)
         | InputTask::Generate { .. } => unreachable!(),
     }
 }

@@ -1,16 +1,16 @@
 -- What is kept of words is what their arguments say.
-use Rattle.std.proofs.Common.{◌≡◌, ℕ, Bool, true, false, ◌&&◌, if◌then◌else◌, eqb, List, [], ◌∷◌, ◌++◌, Option, Some, None, unwrap_or, ap, sym, ◌∙◌, refl, codes, bytes_eq}
+use Rattle.std.proofs.Common.{◌≡◌, ℕ, Bool, true, false, ◌&&◌, if◌then◌else◌, eqb, nat_lt, List, [], ◌∷◌, ◌++◌, Option, Some, None, unwrap_or, ap, sym, ◌∙◌, refl, codes, bytes_eq}
 use Rattle.std.proofs.lemmas.List.{append_assoc, append-nil}
 use Rattle.desk_text.specs.Fields.{◌>>=◌, number_from}
 use Rattle.desk_words.specs.declared.asked.Command.{Command}
 use Rattle.desk_words.specs.declared.asked.Command.TheVariants.{Replay, Store, Check}
 use Rattle.desk_words.specs.declared.choice.NumberOption.{NumberOption}
-use Rattle.desk_words.specs.declared.choice.NumberOption.TheVariants.{Seed, Size, Workers, Moves, Live, Watch}
+use Rattle.desk_words.specs.declared.choice.NumberOption.TheVariants.{Seed, Size, Workers, Moves, Live, Watch, Crew}
 use Rattle.desk_words.specs.declared.read.Expected.{Expected}
 use Rattle.desk_words.specs.declared.read.Expected.TheVariants as expected
 use Rattle.desk_words.specs.Arguments.{Argument, Place, Setting, is_directory, choice_of, setting_of, flag_of, before, named_or, set_before, only_places, arguments_after, arguments, places, values, choice_number}
-use Rattle.desk_words.specs.Commands.{Asking, default_of, least_of, most_of, value_in, value_of, is_nothing, is_unset, no_day_options, no_search_options, search, input_and_output, plain, searching, recovering, making, generating, sampling, trying, command_by, command}
-use Rattle.desk_words.specs.Read.{WordsRead, nothing, one_more, with_place, with_setting, with_argument, with_all, kept_after, by_choice, next_is, arguments_by, of_any, of_word, value, with_value, unset, no_day_set, no_search_set, number_kept, plain_kept, recovering_kept, generating_kept, trying_kept, asked_kept}
+use Rattle.desk_words.specs.Commands.{Asking, default_of, least_of, most_of, value_in, value_of, is_nothing, is_unset, no_day_options, no_search_options, search, input_and_output, plain, crewed, searching, recovering, making, generating, sampling, trying, uncrewed_by, command_by, command}
+use Rattle.desk_words.specs.Read.{WordsRead, nothing, one_more, with_place, with_setting, with_argument, with_all, kept_after, by_choice, next_is, arguments_by, of_any, of_word, value, with_value, unset, no_day_set, no_search_set, number_kept, plain_kept, recovering_kept, generating_kept, trying_kept, has_crew, uncrewed_kept, asked_kept}
 
 nowhere : {X : Type 0} (more : Option X) (f : X → Option WordsRead) → ((x : X) → f x ≡ None) → (more >>= f) ≡ None
 nowhere None f none = refl
@@ -144,19 +144,46 @@ if_same : {X : Type 0} (test : Bool) (a b c d : X) → a ≡ b → c ≡ d → (
 if_same true a b c d e f = e
 if_same false a b c d e f = f
 
+crew_says : (done : List Argument) (kept : WordsRead) → Says done kept → is_unset Crew done ≡ unset kept.values.crew
+crew_says done kept h = unset_read Crew (values Crew done) kept.values.crew (h.set Crew)
+
+crewed_says : (command : Bool → Command) (done : List Argument) (kept : WordsRead) → Says done kept → crewed command done ≡ plain_kept (command (has_crew kept.values)) kept
+unfolding crewed
+crewed_says command done kept h = rw (number_says Crew done kept h) (plain_says (command (has_crew kept.values)) done kept h)
+
+uncrewed_says : (word : List ℕ) (done : List Argument) (kept : WordsRead) → Says done kept → (if is_unset Crew done then uncrewed_by word done else None) ≡ uncrewed_kept word kept
+unfolding uncrewed_kept
+uncrewed_says word done kept h = rw (crew_says done kept h, plain_says Store done kept h, recovering_says done kept h, generating_says done kept h, trying_says done kept h) refl
+
 says_all : (word : List ℕ) (done : List Argument) (kept : WordsRead) → Says done kept → command_by word done ≡ asked_kept word kept
 says_all word done kept h =
-    if_same (bytes_eq word (codes "replay")) (plain Replay done) (plain_kept Replay kept) _ _ (plain_says Replay done kept h)
-    (if_same (bytes_eq word (codes "store")) (plain Store done) (plain_kept Store kept) _ _ (plain_says Store done kept h)
-    (if_same (bytes_eq word (codes "recover")) (recovering done) (recovering_kept kept) _ _ (recovering_says done kept h)
-    (if_same (bytes_eq word (codes "check")) (plain Check done) (plain_kept Check kept) _ _ (plain_says Check done kept h)
-    (if_same (bytes_eq word (codes "gen")) (generating done) (generating_kept kept) _ _ (generating_says done kept h)
-    (if_same (bytes_eq word (codes "trial")) (trying done) (trying_kept kept) None None (trying_says done kept h) refl)))))
+    if_same (bytes_eq word (codes "replay")) (crewed Replay done) (plain_kept (Replay (has_crew kept.values)) kept) _ _ (crewed_says Replay done kept h)
+    (if_same (bytes_eq word (codes "check")) (crewed Check done) (plain_kept (Check (has_crew kept.values)) kept) _ _ (crewed_says Check done kept h)
+    (uncrewed_says word done kept h))
 
--- arguments that no command takes: too many directories, or an option that is set wrongly
+-- whether an option is another one than that of the crews
+abbrev IsNotCrew : NumberOption → Type 0
+IsNotCrew Crew = ⊥
+IsNotCrew other = Unit {0}
+
+-- arguments that no command takes: too many directories, or an option that is set wrongly, besides that of the crews
+data FailsUncrewed (list : List Argument) : Type 0 where
+  many : (a b c : List ℕ) (others : List (List ℕ)) → places list ≡ a ∷ b ∷ c ∷ others → FailsUncrewed list
+  wrong : (choice : NumberOption) → value_in choice (values choice list) ≡ None → IsNotCrew choice → FailsUncrewed list
+
+-- or that one is
 data Fails (list : List Argument) : Type 0 where
-  many : (a b c : List ℕ) (others : List (List ℕ)) → places list ≡ a ∷ b ∷ c ∷ others → Fails list
-  wrong : (choice : NumberOption) → value_in choice (values choice list) ≡ None → Fails list
+  uncrewed : FailsUncrewed list → Fails list
+  wrong_crew : value_in Crew (values Crew list) ≡ None → Fails list
+
+fails_by : (choice : NumberOption) (list : List Argument) → value_in choice (values choice list) ≡ None → Fails list
+fails_by Seed list e = uncrewed (wrong Seed e tt)
+fails_by Size list e = uncrewed (wrong Size e tt)
+fails_by Workers list e = uncrewed (wrong Workers e tt)
+fails_by Moves list e = uncrewed (wrong Moves e tt)
+fails_by Live list e = uncrewed (wrong Live e tt)
+fails_by Watch list e = uncrewed (wrong Watch e tt)
+fails_by Crew list e = wrong_crew e
 
 unset_wrong : (choice : NumberOption) (texts : List (List ℕ)) → value_in choice texts ≡ None → is_nothing texts ≡ false
 unset_wrong choice [] e = none_some (default_of choice) (sym e)
@@ -191,14 +218,16 @@ day_wrong Workers list e of = absurd of
 day_wrong Moves list e of = absurd of
 day_wrong Live list e of = absurd of
 day_wrong Watch list e of = absurd of
+day_wrong Crew list e of = absurd of
 
-search_wrong : (choice : NumberOption) (list : List Argument) → value_in choice (values choice list) ≡ None → (IsOfDay choice → ⊥) → no_search_options list ≡ false
-search_wrong Seed list e of = absurd (of tt)
-search_wrong Size list e of = absurd (of tt)
-search_wrong Workers list e of = rw (unset_wrong Workers (values Workers list) e) refl
-search_wrong Moves list e of = and_first (is_unset Workers list && is_unset Moves list && is_unset Live list) (is_unset Watch list) (and_first (is_unset Workers list && is_unset Moves list) (is_unset Live list) (and_false (is_unset Workers list) (is_unset Moves list) (unset_wrong Moves (values Moves list) e)))
-search_wrong Live list e of = and_first (is_unset Workers list && is_unset Moves list && is_unset Live list) (is_unset Watch list) (and_false (is_unset Workers list && is_unset Moves list) (is_unset Live list) (unset_wrong Live (values Live list) e))
-search_wrong Watch list e of = and_false (is_unset Workers list && is_unset Moves list && is_unset Live list) (is_unset Watch list) (unset_wrong Watch (values Watch list) e)
+search_wrong : (choice : NumberOption) (list : List Argument) → value_in choice (values choice list) ≡ None → IsNotCrew choice → (IsOfDay choice → ⊥) → no_search_options list ≡ false
+search_wrong Seed list e own of = absurd (of tt)
+search_wrong Size list e own of = absurd (of tt)
+search_wrong Workers list e own of = rw (unset_wrong Workers (values Workers list) e) refl
+search_wrong Moves list e own of = and_first (is_unset Workers list && is_unset Moves list && is_unset Live list) (is_unset Watch list) (and_first (is_unset Workers list && is_unset Moves list) (is_unset Live list) (and_false (is_unset Workers list) (is_unset Moves list) (unset_wrong Moves (values Moves list) e)))
+search_wrong Live list e own of = and_first (is_unset Workers list && is_unset Moves list && is_unset Live list) (is_unset Watch list) (and_false (is_unset Workers list && is_unset Moves list) (is_unset Live list) (unset_wrong Live (values Live list) e))
+search_wrong Watch list e own of = and_false (is_unset Workers list && is_unset Moves list && is_unset Live list) (is_unset Watch list) (unset_wrong Watch (values Watch list) e)
+search_wrong Crew list e own of = absurd own
 
 unless : {X : Type 0} (test : Bool) (a : Option X) → test ≡ false → (if test then a else None) ≡ None
 unless test a e = rw e refl
@@ -206,54 +235,71 @@ unless test a e = rw e refl
 two_wrong : (list : List Argument) (a b c : List ℕ) (others : List (List ℕ)) → places list ≡ a ∷ b ∷ c ∷ others → input_and_output (places list) ≡ None
 two_wrong list a b c others e = ap input_and_output e
 
-plain_fails : (command : Command) (list : List Argument) → Fails list → plain command list ≡ None
+plain_fails : (command : Command) (list : List Argument) → FailsUncrewed list → plain command list ≡ None
 unfolding plain
 plain_fails command list (many a b c others e) = if_none (no_day_options list && no_search_options list) _ None (rw (two_wrong list a b c others e) refl) refl
-plain_fails command list (wrong Seed e) = unless (no_day_options list && no_search_options list) _ (rw (day_wrong Seed list e tt) refl)
-plain_fails command list (wrong Size e) = unless (no_day_options list && no_search_options list) _ (rw (day_wrong Size list e tt) refl)
-plain_fails command list (wrong Workers e) = unless (no_day_options list && no_search_options list) _ (and_false (no_day_options list) (no_search_options list) (search_wrong Workers list e (λ n. n)))
-plain_fails command list (wrong Moves e) = unless (no_day_options list && no_search_options list) _ (and_false (no_day_options list) (no_search_options list) (search_wrong Moves list e (λ n. n)))
-plain_fails command list (wrong Live e) = unless (no_day_options list && no_search_options list) _ (and_false (no_day_options list) (no_search_options list) (search_wrong Live list e (λ n. n)))
-plain_fails command list (wrong Watch e) = unless (no_day_options list && no_search_options list) _ (and_false (no_day_options list) (no_search_options list) (search_wrong Watch list e (λ n. n)))
+plain_fails command list (wrong Seed e own) = unless (no_day_options list && no_search_options list) _ (rw (day_wrong Seed list e tt) refl)
+plain_fails command list (wrong Size e own) = unless (no_day_options list && no_search_options list) _ (rw (day_wrong Size list e tt) refl)
+plain_fails command list (wrong Workers e own) = unless (no_day_options list && no_search_options list) _ (and_false (no_day_options list) (no_search_options list) (search_wrong Workers list e own (λ n. n)))
+plain_fails command list (wrong Moves e own) = unless (no_day_options list && no_search_options list) _ (and_false (no_day_options list) (no_search_options list) (search_wrong Moves list e own (λ n. n)))
+plain_fails command list (wrong Live e own) = unless (no_day_options list && no_search_options list) _ (and_false (no_day_options list) (no_search_options list) (search_wrong Live list e own (λ n. n)))
+plain_fails command list (wrong Watch e own) = unless (no_day_options list && no_search_options list) _ (and_false (no_day_options list) (no_search_options list) (search_wrong Watch list e own (λ n. n)))
+plain_fails command list (wrong Crew e own) = absurd own
 
-recovering_fails : (list : List Argument) → Fails list → recovering list ≡ None
+recovering_fails : (list : List Argument) → FailsUncrewed list → recovering list ≡ None
 unfolding searching
 recovering_fails list (many a b c others e) = if_none (no_day_options list) _ None (bind_none (value_of Workers list) _ (λ x. bind_none (value_of Moves list) _ (λ y. bind_none (value_of Live list) _ (λ z. bind_none (value_of Watch list) _ (λ w. bind_none (search x y z w) _ (λ command. rw e refl)))))) refl
-recovering_fails list (wrong Seed e) = unless (no_day_options list) _ (day_wrong Seed list e tt)
-recovering_fails list (wrong Size e) = unless (no_day_options list) _ (day_wrong Size list e tt)
-recovering_fails list (wrong Workers e) = if_none (no_day_options list) _ None (rw e refl) refl
-recovering_fails list (wrong Moves e) = if_none (no_day_options list) _ None (bind_none (value_of Workers list) _ (λ x. rw e refl)) refl
-recovering_fails list (wrong Live e) = if_none (no_day_options list) _ None (bind_none (value_of Workers list) _ (λ x. bind_none (value_of Moves list) _ (λ y. rw e refl))) refl
-recovering_fails list (wrong Watch e) = if_none (no_day_options list) _ None (bind_none (value_of Workers list) _ (λ x. bind_none (value_of Moves list) _ (λ y. bind_none (value_of Live list) _ (λ z. rw e refl)))) refl
+recovering_fails list (wrong Seed e own) = unless (no_day_options list) _ (day_wrong Seed list e tt)
+recovering_fails list (wrong Size e own) = unless (no_day_options list) _ (day_wrong Size list e tt)
+recovering_fails list (wrong Workers e own) = if_none (no_day_options list) _ None (rw e refl) refl
+recovering_fails list (wrong Moves e own) = if_none (no_day_options list) _ None (bind_none (value_of Workers list) _ (λ x. rw e refl)) refl
+recovering_fails list (wrong Live e own) = if_none (no_day_options list) _ None (bind_none (value_of Workers list) _ (λ x. bind_none (value_of Moves list) _ (λ y. rw e refl))) refl
+recovering_fails list (wrong Watch e own) = if_none (no_day_options list) _ None (bind_none (value_of Workers list) _ (λ x. bind_none (value_of Moves list) _ (λ y. bind_none (value_of Live list) _ (λ z. rw e refl)))) refl
+recovering_fails list (wrong Crew e own) = absurd own
 
-generating_fails : (list : List Argument) → Fails list → generating list ≡ None
+generating_fails : (list : List Argument) → FailsUncrewed list → generating list ≡ None
 unfolding making
 generating_fails list (many a b c others e) = if_none (no_search_options list) _ None (bind_none (value_of Seed list) _ (λ x. bind_none (value_of Size list) _ (λ y. rw e refl))) refl
-generating_fails list (wrong Seed e) = if_none (no_search_options list) _ None (rw e refl) refl
-generating_fails list (wrong Size e) = if_none (no_search_options list) _ None (bind_none (value_of Seed list) _ (λ x. rw e refl)) refl
-generating_fails list (wrong Workers e) = unless (no_search_options list) _ (search_wrong Workers list e (λ n. n))
-generating_fails list (wrong Moves e) = unless (no_search_options list) _ (search_wrong Moves list e (λ n. n))
-generating_fails list (wrong Live e) = unless (no_search_options list) _ (search_wrong Live list e (λ n. n))
-generating_fails list (wrong Watch e) = unless (no_search_options list) _ (search_wrong Watch list e (λ n. n))
+generating_fails list (wrong Seed e own) = if_none (no_search_options list) _ None (rw e refl) refl
+generating_fails list (wrong Size e own) = if_none (no_search_options list) _ None (bind_none (value_of Seed list) _ (λ x. rw e refl)) refl
+generating_fails list (wrong Workers e own) = unless (no_search_options list) _ (search_wrong Workers list e own (λ n. n))
+generating_fails list (wrong Moves e own) = unless (no_search_options list) _ (search_wrong Moves list e own (λ n. n))
+generating_fails list (wrong Live e own) = unless (no_search_options list) _ (search_wrong Live list e own (λ n. n))
+generating_fails list (wrong Watch e own) = unless (no_search_options list) _ (search_wrong Watch list e own (λ n. n))
+generating_fails list (wrong Crew e own) = absurd own
 
-trying_fails : (list : List Argument) → Fails list → trying list ≡ None
+trying_fails : (list : List Argument) → FailsUncrewed list → trying list ≡ None
 unfolding sampling
 trying_fails list (many a b c others e) = if_none (no_search_options list) _ None (bind_none (value_of Seed list) _ (λ x. bind_none (value_of Size list) _ (λ y. rw e refl))) refl
-trying_fails list (wrong Seed e) = if_none (no_search_options list) _ None (rw e refl) refl
-trying_fails list (wrong Size e) = if_none (no_search_options list) _ None (bind_none (value_of Seed list) _ (λ x. rw e refl)) refl
-trying_fails list (wrong Workers e) = unless (no_search_options list) _ (search_wrong Workers list e (λ n. n))
-trying_fails list (wrong Moves e) = unless (no_search_options list) _ (search_wrong Moves list e (λ n. n))
-trying_fails list (wrong Live e) = unless (no_search_options list) _ (search_wrong Live list e (λ n. n))
-trying_fails list (wrong Watch e) = unless (no_search_options list) _ (search_wrong Watch list e (λ n. n))
+trying_fails list (wrong Seed e own) = if_none (no_search_options list) _ None (rw e refl) refl
+trying_fails list (wrong Size e own) = if_none (no_search_options list) _ None (bind_none (value_of Seed list) _ (λ x. rw e refl)) refl
+trying_fails list (wrong Workers e own) = unless (no_search_options list) _ (search_wrong Workers list e own (λ n. n))
+trying_fails list (wrong Moves e own) = unless (no_search_options list) _ (search_wrong Moves list e own (λ n. n))
+trying_fails list (wrong Live e own) = unless (no_search_options list) _ (search_wrong Live list e own (λ n. n))
+trying_fails list (wrong Watch e own) = unless (no_search_options list) _ (search_wrong Watch list e own (λ n. n))
+trying_fails list (wrong Crew e own) = absurd own
+
+uncrewed_fails : (word : List ℕ) (list : List Argument) → FailsUncrewed list → uncrewed_by word list ≡ None
+uncrewed_fails word list h =
+    if_none (bytes_eq word (codes "store")) (plain Store list) _ (plain_fails Store list h)
+    (if_none (bytes_eq word (codes "recover")) (recovering list) _ (recovering_fails list h)
+    (if_none (bytes_eq word (codes "gen")) (generating list) _ (generating_fails list h)
+    (if_none (bytes_eq word (codes "trial")) (trying list) None (trying_fails list h) refl)))
+
+crewed_fails : (command : Bool → Command) (list : List Argument) → Fails list → crewed command list ≡ None
+unfolding crewed
+crewed_fails command list (uncrewed h) = bind_none (value_of Crew list) _ (λ crew. plain_fails (command (nat_lt 0 crew)) list h)
+crewed_fails command list (wrong_crew e) = rw e refl
+
+others_fail : (word : List ℕ) (list : List Argument) → Fails list → (if is_unset Crew list then uncrewed_by word list else None) ≡ None
+others_fail word list (uncrewed h) = if_none (is_unset Crew list) (uncrewed_by word list) None (uncrewed_fails word list h) refl
+others_fail word list (wrong_crew e) = unless (is_unset Crew list) (uncrewed_by word list) (unset_wrong Crew (values Crew list) e)
 
 fails_all : (word : List ℕ) (list : List Argument) → Fails list → command_by word list ≡ None
 fails_all word list h =
-    if_none (bytes_eq word (codes "replay")) (plain Replay list) _ (plain_fails Replay list h)
-    (if_none (bytes_eq word (codes "store")) (plain Store list) _ (plain_fails Store list h)
-    (if_none (bytes_eq word (codes "recover")) (recovering list) _ (recovering_fails list h)
-    (if_none (bytes_eq word (codes "check")) (plain Check list) _ (plain_fails Check list h)
-    (if_none (bytes_eq word (codes "gen")) (generating list) _ (generating_fails list h)
-    (if_none (bytes_eq word (codes "trial")) (trying list) None (trying_fails list h) refl)))))
+    if_none (bytes_eq word (codes "replay")) (crewed Replay list) _ (crewed_fails Replay list h)
+    (if_none (bytes_eq word (codes "check")) (crewed Check list) _ (crewed_fails Check list h)
+    (others_fail word list h))
 
 -- an argument more is kept, or it fails whatever follows it
 data Step (done : List Argument) (kept : WordsRead) (argument : Argument) : Type 0 where
@@ -284,9 +330,9 @@ unfolding with_place
 place_step done kept word [] e h = place_goes done kept word (word ∷ []) h (ap (λ p. one_more p word) e) (ap (λ p. p ++ word ∷ []) e)
 place_step done kept word (first ∷ []) e h = place_goes done kept word (first ∷ word ∷ []) h (ap (λ p. one_more p word) e) (ap (λ p. p ++ word ∷ []) e)
 place_step done kept word (first ∷ second ∷ []) e h = stops (rw e refl)
-    (λ list. many first second word (places list) (places_after done kept word (first ∷ second ∷ []) list h e))
+    (λ list. uncrewed (many first second word (places list) (places_after done kept word (first ∷ second ∷ []) list h e)))
 place_step done kept word (first ∷ second ∷ third ∷ others) e h = stops (rw e refl)
-    (λ list. many first second third (others ++ word ∷ places list) (places_after done kept word (first ∷ second ∷ third ∷ others) list h e))
+    (λ list. uncrewed (many first second third (others ++ word ∷ places list) (places_after done kept word (first ∷ second ∷ third ∷ others) list h e)))
 
 twice : (choice : NumberOption) (texts : List (List ℕ)) (value : ℕ) (text : List ℕ) (others : List (List ℕ)) → value_read choice texts ≡ Some (Some value) → value_in choice (texts ++ text ∷ others) ≡ None
 twice choice [] value text others e = absurd (none_value value (some_of None (Some value) e))
@@ -317,6 +363,7 @@ own_values Size done text list = values-append Size done (Setting Size text ∷ 
 own_values Workers done text list = values-append Workers done (Setting Workers text ∷ list)
 own_values Live done text list = values-append Live done (Setting Live text ∷ list)
 own_values Watch done text list = values-append Watch done (Setting Watch text ∷ list)
+own_values Crew done text list = values-append Crew done (Setting Crew text ∷ list)
 own_values Moves done text list = values-append Moves done (Setting Moves text ∷ list)
 
 other_values : (choice other : NumberOption) (done : List Argument) (text : List ℕ) → values choice (Setting other text ∷ []) ≡ [] → values choice (done ++ Setting other text ∷ []) ≡ values choice done
@@ -329,12 +376,12 @@ reported_set choice done text = places-append done (Setting choice text ∷ []) 
 -- an option that was set fails where it is set again
 again : (choice : NumberOption) (done : List Argument) (text : List ℕ) (value : ℕ) → value_read choice (values choice done) ≡ Some (Some value) → (list : List Argument) → Fails (done ++ Setting choice text ∷ list)
 again choice done text value e list =
-    wrong choice (ap (value_in choice) (own_values choice done text list) ∙ twice choice (values choice done) value text (values choice list) e)
+    fails_by choice (done ++ Setting choice text ∷ list) (ap (value_in choice) (own_values choice done text list) ∙ twice choice (values choice done) value text (values choice list) e)
 
 -- and one that was not, where its text is no number in its range
 unread : (choice : NumberOption) (done : List Argument) (text : List ℕ) → value_read choice (values choice done) ≡ Some None → number_from (least_of choice) (most_of choice) text ≡ None → (list : List Argument) → Fails (done ++ Setting choice text ∷ list)
 unread choice done text e none list =
-    wrong choice (ap (value_in choice) (own_values choice done text list ∙ ap (λ t. t ++ text ∷ values choice list) (not_yet choice (values choice done) e)) ∙ no_number choice text (values choice list) none)
+    fails_by choice (done ++ Setting choice text ∷ list) (ap (value_in choice) (own_values choice done text list ∙ ap (λ t. t ++ text ∷ values choice list) (not_yet choice (values choice done) e)) ∙ no_number choice text (values choice list) none)
 
 -- else it has that number
 read_first : (choice : NumberOption) (done : List Argument) (text : List ℕ) (n : ℕ) → value_read choice (values choice done) ≡ Some None → number_from (least_of choice) (most_of choice) text ≡ Some n → value_read choice (values choice (done ++ Setting choice text ∷ [])) ≡ Some (Some n)
@@ -351,6 +398,7 @@ set_more Workers Workers done kept text n h is = is
 set_more Moves Moves done kept text n h is = is
 set_more Live Live done kept text n h is = is
 set_more Watch Watch done kept text n h is = is
+set_more Crew Crew done kept text n h is = is
 set_more Seed Size done kept text n h is = ap (value_read Seed) (other_values Seed Size done text refl) ∙ h.set Seed
 set_more Seed Workers done kept text n h is = ap (value_read Seed) (other_values Seed Workers done text refl) ∙ h.set Seed
 set_more Seed Moves done kept text n h is = ap (value_read Seed) (other_values Seed Moves done text refl) ∙ h.set Seed
@@ -381,6 +429,18 @@ set_more Watch Size done kept text n h is = ap (value_read Watch) (other_values 
 set_more Watch Workers done kept text n h is = ap (value_read Watch) (other_values Watch Workers done text refl) ∙ h.set Watch
 set_more Watch Moves done kept text n h is = ap (value_read Watch) (other_values Watch Moves done text refl) ∙ h.set Watch
 set_more Watch Live done kept text n h is = ap (value_read Watch) (other_values Watch Live done text refl) ∙ h.set Watch
+set_more Seed Crew done kept text n h is = ap (value_read Seed) (other_values Seed Crew done text refl) ∙ h.set Seed
+set_more Crew Seed done kept text n h is = ap (value_read Crew) (other_values Crew Seed done text refl) ∙ h.set Crew
+set_more Size Crew done kept text n h is = ap (value_read Size) (other_values Size Crew done text refl) ∙ h.set Size
+set_more Crew Size done kept text n h is = ap (value_read Crew) (other_values Crew Size done text refl) ∙ h.set Crew
+set_more Workers Crew done kept text n h is = ap (value_read Workers) (other_values Workers Crew done text refl) ∙ h.set Workers
+set_more Crew Workers done kept text n h is = ap (value_read Crew) (other_values Crew Workers done text refl) ∙ h.set Crew
+set_more Moves Crew done kept text n h is = ap (value_read Moves) (other_values Moves Crew done text refl) ∙ h.set Moves
+set_more Crew Moves done kept text n h is = ap (value_read Crew) (other_values Crew Moves done text refl) ∙ h.set Crew
+set_more Live Crew done kept text n h is = ap (value_read Live) (other_values Live Crew done text refl) ∙ h.set Live
+set_more Crew Live done kept text n h is = ap (value_read Crew) (other_values Crew Live done text refl) ∙ h.set Crew
+set_more Watch Crew done kept text n h is = ap (value_read Watch) (other_values Watch Crew done text refl) ∙ h.set Watch
+set_more Crew Watch done kept text n h is = ap (value_read Crew) (other_values Crew Watch done text refl) ∙ h.set Crew
 
 set_step : (choice : NumberOption) (done : List Argument) (kept : WordsRead) (text : List ℕ) (was number : Option ℕ) → value kept.values choice ≡ was → number_from (least_of choice) (most_of choice) text ≡ number → Says done kept → Step done kept (Setting choice text)
 unfolding with_setting
@@ -411,6 +471,7 @@ none_set Workers = refl
 none_set Moves = refl
 none_set Live = refl
 none_set Watch = refl
+none_set Crew = refl
 
 says_nothing : Says [] nothing
 unfolding places values

@@ -2,7 +2,7 @@
 use Rattle.std.specs.Prelude.{ℕ, ◌+◌, Bool, false, not, ◌==◌, if◌then◌else◌, List, [], ◌∷◌, take, drop, position, Option, Some, None, option_map, codes, bytes_eq}
 use Rattle.desk_text.specs.Fields.{◌>>=◌}
 use Rattle.desk_words.specs.declared.choice.NumberOption.{NumberOption}
-use Rattle.desk_words.specs.declared.choice.NumberOption.TheVariants.{Seed, Size, Workers, Moves, Live, Watch}
+use Rattle.desk_words.specs.declared.choice.NumberOption.TheVariants.{Seed, Size, Workers, Moves, Live, Watch, Crew}
 
 -- a directory isn't empty and doesn't begin with -
 abbrev pub is_directory : List ℕ → Bool
@@ -26,7 +26,8 @@ choice_of word =
 abbrev pub flag_of : List ℕ → Option NumberOption
 flag_of word =
     if bytes_eq word (codes "--live") then Some Live else (
-    if bytes_eq word (codes "--watch") then Some Watch else None)
+    if bytes_eq word (codes "--watch") then Some Watch else (
+    if bytes_eq word (codes "--crew") then Some Crew else None))
 
 -- the option that a word names in front of its place `at`, with the text after that place
 abbrev pub setting_at : List ℕ → ℕ → Option (NumberOption × List ℕ)
@@ -84,6 +85,7 @@ choice_number Workers = 2
 choice_number Moves = 3
 choice_number Live = 4
 choice_number Watch = 5
+choice_number Crew = 6
 
 -- the texts of the values of one option
 unfoldable pub values : NumberOption → List Argument → List (List ℕ)

@@ -5,7 +5,7 @@ use Rattle.desk_text.specs.Fields.{◌>>=◌, number_from}
 use Rattle.desk_words.specs.declared.asked.Command.{Command}
 use Rattle.desk_words.specs.declared.asked.Command.TheVariants.{Replay, Store, Recover, Check, Gen, Trial}
 use Rattle.desk_words.specs.declared.choice.NumberOption.{NumberOption}
-use Rattle.desk_words.specs.declared.choice.NumberOption.TheVariants.{Seed, Size, Workers, Moves, Live, Watch}
+use Rattle.desk_words.specs.declared.choice.NumberOption.TheVariants.{Seed, Size, Workers, Moves, Live, Watch, Crew}
 use Rattle.desk_words.specs.Arguments.{Argument, arguments, places, values}
 
 -- a command, and the directories that are to be named for it, where it has any
@@ -23,6 +23,7 @@ default_of Workers = 0
 default_of Moves = 1000
 default_of Live = 0
 default_of Watch = 0
+default_of Crew = 0
 
 abbrev pub least_of : NumberOption → ℕ
 least_of Seed = 0
@@ -31,6 +32,7 @@ least_of Workers = 0
 least_of Moves = 1
 least_of Live = 0
 least_of Watch = 0
+least_of Crew = 0
 
 abbrev pub most_of : NumberOption → ℕ
 most_of Seed = 999999999
@@ -39,6 +41,7 @@ most_of Workers = 64
 most_of Moves = 100000
 most_of Live = 1
 most_of Watch = 1
+most_of Crew = 1
 
 -- an option stands at most once, and its value is 1 to 9 digits that spell a number in its range
 abbrev pub value_in : NumberOption → List (List ℕ) → Option ℕ
@@ -79,12 +82,18 @@ abbrev pub no_directory : List (List ℕ) → Option (Unit {0})
 no_directory [] = Some tt
 no_directory words = None
 
--- a command that takes an input and an output directory, and no options
+-- a command that takes an input and an output directory, and no options of a day or of a search
 unfoldable pub plain : Command → List Argument → Option Asking
 plain command arguments =
     if no_day_options arguments && no_search_options arguments
     then (input_and_output (places arguments) >>= λ dirs. Some (command, Some dirs))
     else None
+
+-- a command that takes these, and the option of the crews
+unfoldable pub crewed : (Bool → Command) → List Argument → Option Asking
+crewed command arguments = do
+  crew ← value_of Crew arguments
+  plain (command (nat_lt 0 crew)) arguments
 
 -- a search of so many workers, which takes live batches and has a viewer only where there is one
 abbrev pub search : ℕ → ℕ → ℕ → ℕ → Option Command
@@ -128,15 +137,20 @@ sampling arguments = do
 abbrev pub trying : List Argument → Option Asking
 trying arguments = if no_search_options arguments then sampling arguments else None
 
+-- what the word of a command that checks no crews makes of its arguments
+abbrev pub uncrewed_by : List ℕ → List Argument → Option Asking
+uncrewed_by word arguments =
+    if bytes_eq word (codes "store") then plain Store arguments else (
+    if bytes_eq word (codes "recover") then recovering arguments else (
+    if bytes_eq word (codes "gen") then generating arguments else (
+    if bytes_eq word (codes "trial") then trying arguments else None)))
+
 -- what a command's word makes of its arguments
 abbrev pub command_by : List ℕ → List Argument → Option Asking
 command_by word arguments =
-    if bytes_eq word (codes "replay") then plain Replay arguments else (
-    if bytes_eq word (codes "store") then plain Store arguments else (
-    if bytes_eq word (codes "recover") then recovering arguments else (
-    if bytes_eq word (codes "check") then plain Check arguments else (
-    if bytes_eq word (codes "gen") then generating arguments else (
-    if bytes_eq word (codes "trial") then trying arguments else None)))))
+    if bytes_eq word (codes "replay") then crewed Replay arguments else (
+    if bytes_eq word (codes "check") then crewed Check arguments else (
+    if is_unset Crew arguments then uncrewed_by word arguments else None))
 
 -- the command of the words, the program's name left out, with its directories; all other words are a usage refusal
 unfoldable pub command : List (List ℕ) → Option Asking

@@ -1,10 +1,10 @@
 -- What is kept of the words that were read: the directories, at most two, and the numbers of the options.
-use Rattle.std.specs.Prelude.{ℕ, Bool, true, false, ◌&&◌, if◌then◌else◌, List, [], ◌∷◌, Option, Some, None, unwrap_or, codes, bytes_eq}
+use Rattle.std.specs.Prelude.{ℕ, Bool, true, false, ◌&&◌, nat_lt, if◌then◌else◌, List, [], ◌∷◌, Option, Some, None, unwrap_or, codes, bytes_eq}
 use Rattle.desk_text.specs.Fields.{◌>>=◌, number_from}
 use Rattle.desk_words.specs.declared.asked.Command.{Command}
 use Rattle.desk_words.specs.declared.asked.Command.TheVariants.{Replay, Store, Recover, Check, Gen, Trial}
 use Rattle.desk_words.specs.declared.choice.NumberOption.{NumberOption}
-use Rattle.desk_words.specs.declared.choice.NumberOption.TheVariants.{Seed, Size, Workers, Moves, Live, Watch}
+use Rattle.desk_words.specs.declared.choice.NumberOption.TheVariants.{Seed, Size, Workers, Moves, Live, Watch, Crew}
 use Rattle.desk_words.specs.declared.read.DirectoryWords.{DirectoryWords}
 use Rattle.desk_words.specs.declared.read.DirectoryWords.TheVariants.{Nothing, One, Two}
 use Rattle.desk_words.specs.declared.read.Read.{Read}
@@ -28,7 +28,7 @@ abbrev pub kept_of : Read → WordsRead
 kept_of read = record { places = place_list read.places; values = read.values }
 
 abbrev pub nothing : WordsRead
-nothing = record { places = []; values = record { seed = None; size = None; workers = None; moves = None; live = None; watch = None } }
+nothing = record { places = []; values = record { seed = None; size = None; workers = None; moves = None; live = None; watch = None; crew = None } }
 
 -- the number of an option, where it is set
 abbrev pub value : Values → NumberOption → Option ℕ
@@ -38,6 +38,7 @@ value set Workers = set.workers
 value set Moves = set.moves
 value set Live = set.live
 value set Watch = set.watch
+value set Crew = set.crew
 
 -- the numbers with that of one option more
 abbrev pub with_value : Values → NumberOption → ℕ → Values
@@ -47,6 +48,7 @@ with_value set Workers n = record set { workers = Some n }
 with_value set Moves n = record set { moves = Some n }
 with_value set Live n = record set { live = Some n }
 with_value set Watch n = record set { watch = Some n }
+with_value set Crew n = record set { crew = Some n }
 
 -- one directory more, where there are not yet two
 abbrev pub one_more : List (List ℕ) → List ℕ → Option (List (List ℕ))
@@ -164,11 +166,20 @@ trying_kept kept =
     then (no_directory kept.places >>= λ none. Some (Trial (number_kept Seed kept) (number_kept Size kept), None))
     else None
 
-abbrev pub asked_kept : List ℕ → WordsRead → Option Asking
-asked_kept word kept =
-    if bytes_eq word (codes "replay") then plain_kept Replay kept else (
+-- whether the crews are to be checked
+abbrev pub has_crew : Values → Bool
+has_crew set = nat_lt 0 (number_set Crew set)
+
+unfoldable pub uncrewed_kept : List ℕ → WordsRead → Option Asking
+uncrewed_kept word kept =
+    if unset kept.values.crew then (
     if bytes_eq word (codes "store") then plain_kept Store kept else (
     if bytes_eq word (codes "recover") then recovering_kept kept else (
-    if bytes_eq word (codes "check") then plain_kept Check kept else (
     if bytes_eq word (codes "gen") then generating_kept kept else (
-    if bytes_eq word (codes "trial") then trying_kept kept else None)))))
+    if bytes_eq word (codes "trial") then trying_kept kept else None)))) else None
+
+abbrev pub asked_kept : List ℕ → WordsRead → Option Asking
+asked_kept word kept =
+    if bytes_eq word (codes "replay") then plain_kept (Replay (has_crew kept.values)) kept else (
+    if bytes_eq word (codes "check") then plain_kept (Check (has_crew kept.values)) kept else
+    uncrewed_kept word kept)

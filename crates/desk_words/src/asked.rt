@@ -4,7 +4,10 @@
 #[derive(Clone, Copy, PartialEq, Eq)]
 pub enum Command {
     /// to take the events of a journal in order
-    Replay,
+    Replay {
+        /// whether the crews are checked after each change
+        crew: bool,
+    },
     /// to take them, and to keep each answered one in a journal on the disk, so that a stopped run goes on
     Store,
     /// to take the batches of a day, and to search for a cheaper plan after each
@@ -19,7 +22,10 @@ pub enum Command {
         watch: bool,
     },
     /// to check the files of a plan
-    Check,
+    Check {
+        /// whether the crews are checked too
+        crew: bool,
+    },
     /// to make up a day by a seed, 0 to 999,999,999, and a size, 1 to 40
     Gen {
         seed: u32,

@@ -15,6 +15,8 @@ pub enum NumberOption {
     Live,
     /// The same.
     Watch,
+    /// The same.
+    Crew,
 }
 
 /// The option that a word names, whose value is the next word.
@@ -42,6 +44,8 @@ pub(crate) fn flag_of(word: &[u8]) -> Option<NumberOption>
         Some(NumberOption::Live)
     } else if word == b"--watch".as_slice() {
         Some(NumberOption::Watch)
+    } else if word == b"--crew".as_slice() {
+        Some(NumberOption::Crew)
     } else {
         None
     }

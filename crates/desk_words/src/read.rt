@@ -33,6 +33,7 @@ pub struct Values {
     pub moves: Option<u32>,
     pub live: Option<u32>,
     pub watch: Option<u32>,
+    pub crew: Option<u32>,
 }
 
 // The number of an option, where it is set.
@@ -46,6 +47,7 @@ fn value(values: Values, choice: NumberOption) -> Option<u32>
         NumberOption::Moves => values.moves,
         NumberOption::Live => values.live,
         NumberOption::Watch => values.watch,
+        NumberOption::Crew => values.crew,
     }
 }
 
@@ -79,6 +81,10 @@ fn with_value(values: Values, choice: NumberOption, number: u32) -> Values
             watch: number,
             ..values
         },
+        NumberOption::Crew => Values {
+            crew: number,
+            ..values
+        },
     }
 }
 
@@ -105,6 +111,7 @@ pub(crate) fn nothing<'a>() -> Read<'a>
             moves: None,
             live: None,
             watch: None,
+            crew: None,
         },
     }
 }
@@ -133,7 +140,9 @@ fn first_value(choice: NumberOption, value: Option<u32>, text: &[u8]) -> Option<
             NumberOption::Size => number(text, 1, 40).ok(),
             NumberOption::Workers => number(text, 0, 64).ok(),
             NumberOption::Moves => number(text, 1, 100_000).ok(),
-            NumberOption::Live | NumberOption::Watch => number(text, 0, 1).ok(),
+            NumberOption::Live | NumberOption::Watch | NumberOption::Crew => {
+                number(text, 0, 1).ok()
+            }
         },
     }
 }

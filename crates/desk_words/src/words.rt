@@ -6,7 +6,7 @@ ghost use Rattle.std.specs.Option.{option_map};
 ghost use Rattle.desk_words.specs.declared.choice.NumberOption.TheVariants as choice;
 ghost use Rattle.desk_words.specs.Commands.{Asking, command, default_of};
 ghost use Rattle.desk_words.specs.Asked.{asking};
-ghost use Rattle.desk_words.specs.Read.{kept_of, no_day_set, no_search_set, plain_kept, searching_kept, recovering_kept, generating_kept, trying_kept, asked_kept};
+ghost use Rattle.desk_words.specs.Read.{kept_of, no_day_set, no_search_set, plain_kept, searching_kept, recovering_kept, generating_kept, trying_kept, has_crew, uncrewed_kept, asked_kept};
 
 use crate::asked::{Asked, Command, Directories};
 use crate::read::{DirectoryWords, Expected, Read, Values, first_word, nothing, read_words};
@@ -37,11 +37,32 @@ pub fn command(words: &[String]) -> Option<Asked<'_>>
 fn asked<'a>(word: &str, read: Read<'a>) -> Option<Asked<'a>>
     ensures { option_map asking result ≡ asked_kept word.now (kept_of read.entry) }
 {
+    let crew = has_crew(read.values);
     match word {
-        "replay" => plain(Command::Replay, read),
+        "replay" => plain(Command::Replay { crew }, read),
+        "check" => plain(Command::Check { crew }, read),
+        _ => uncrewed(word, read),
+    }
+}
+
+// Whether the crews are to be checked.
+fn has_crew(values: Values) -> bool
+    ensures { result ≡ has_crew values }
+{
+    values.crew.unwrap_or(0) > 0
+}
+
+// What the word of a command that checks no crews makes of the words after it.
+#[tactic(auto, unfolding(crate::specs::Read::uncrewed_kept))]
+fn uncrewed<'a>(word: &str, read: Read<'a>) -> Option<Asked<'a>>
+    ensures { option_map asking result ≡ uncrewed_kept word.now (kept_of read.entry) }
+{
+    if read.values.crew.is_some() {
+        return None;
+    }
+    match word {
         "store" => plain(Command::Store, read),
         "recover" => recovering(read),
-        "check" => plain(Command::Check, read),
         "gen" => generating(read),
         "trial" => trying(read),
         _ => None,
@@ -65,7 +86,7 @@ fn no_search_options(values: Values) -> bool
         && values.watch.is_none()
 }
 
-// A command that takes an input and an output directory, and no options.
+// A command that takes an input and an output directory, and no options of a day or of a search.
 #[tactic(auto, unfolding(crate::specs::Read::plain_kept))]
 fn plain<'a>(command: Command, read: Read<'a>) -> Option<Asked<'a>>
     ensures { option_map asking result ≡ plain_kept command (kept_of read.entry) }

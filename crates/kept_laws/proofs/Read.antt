@@ -19,6 +19,7 @@ use Rattle.read_legs.specs.Flights.{flight_row}
 use Rattle.read_legs.specs.Rotations.{rotation_row}
 use Rattle.read_fleet.specs.Aircraft.{aircraft_row}
 use Rattle.read_fleet.specs.Position.{position_row}
+use Rattle.crew_rows.specs.Crews.{crew_row}
 use Rattle.journal_file.specs.Journal.{journal_rows_of}
 use Rattle.sol_rows.specs.Grammar.{refusal_in}
 use Rattle.desk_words.specs.declared.asked.Command.TheVariants as command_is
@@ -55,7 +56,7 @@ with_numbered file.AltAircraft bytes rows now h are = other_rows (text_rows most
 with_numbered file.AltAirports bytes rows now h are = other_rows (text_rows most_bytes orders.airport_row bytes) (λ x. record rows { files = record rows.files { alt_airports = x } }) rows now (λ x. refl) h are
 with_numbered file.Tariff bytes rows now h are = other_rows (tariff_rows bytes) (λ x. record rows { files = record rows.files { tariff = record { rows = x } } }) rows now (λ x. refl) h are
 with_numbered file.Feed bytes rows now h are = other_rows (feed_rows bytes) (λ x. record rows { files = record rows.files { feed = x } }) rows now (λ x. refl) h are
-with_numbered file.Crew bytes rows now h are = subst AreNumbered (same_Ok rows now h) are
+with_numbered file.Crew bytes rows now h are = other_rows (text_rows most_bytes crew_row bytes) (λ x. record rows { crews = x }) rows now (λ x. refl) h are
 with_numbered file.Journal bytes rows now h are =
     let own = bound (journal_rows_of bytes) (λ x. Ok (record rows { journal = x })) now h in
     subst AreNumbered (same_Ok (record rows { journal = own.0 }) now own.2) (journal_numbered bytes own.0 own.1)

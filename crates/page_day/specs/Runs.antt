@@ -1,5 +1,5 @@
 -- What making a page does, by how it ends.
-use Rattle.std.specs.Prelude.{◌≡◌, ◌≢◌, ℕ, List, None, Ok, Err}
+use Rattle.std.specs.Prelude.{◌≡◌, ◌≢◌, ℕ, false, List, None, Ok, Err}
 use Rattle.std.specs.Io.KnownBytes.{Appends}
 use Rattle.desk_folder.specs.Outside.{SinkSide}
 use Rattle.desk_folder.specs.Calls.{Rose}
@@ -27,10 +27,10 @@ IsVerdict I P other = ⊥
 -- the day and the plan that the inputs of a check give, and how the page of it ended; or the first refusal; where a file could not be read, no
 -- grammar refuses one before it
 abbrev pub Shows : Inputs → Ending → Type 0
-Shows x (ending.Refused r) = task_of command_is.Check x ≡ Err r
-Shows x (ending.ReadFault f) = StandsFirst f (rows_of command_is.Check x)
+Shows x (ending.Refused r) = task_of (command_is.Check false) x ≡ Err r
+Shows x (ending.ReadFault f) = StandsFirst f (rows_of (command_is.Check false) x)
 Shows x ending.Memory = Unit {0}
-Shows x other = (j : Judged) × (task_of command_is.Check x ≡ Ok (judge j)) × IsVerdict j.day j.plan other
+Shows x other = (j : Judged) × (task_of (command_is.Check false) x ≡ Ok (judge j)) × IsVerdict j.day j.plan other
 
 -- what the page's sink has got: a page, a beginning of one where it could not be written, and nothing where the input sets no task
 abbrev pub PutsPage : SinkSide → SinkSide → Ending → Type 0

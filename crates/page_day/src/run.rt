@@ -1,6 +1,6 @@
 //! A run: the input is read, and the page is made and put.
 
-ghost use Rattle.std.specs.Prelude.{◌≡◌, ◌≢◌, ◌≤◌, IfSome, IfNone};
+ghost use Rattle.std.specs.Prelude.{◌≡◌, ◌≢◌, ◌≤◌, false, IfSome, IfNone};
 ghost use Rattle.desk_data.specs.Valid.{IsPlanFor};
 ghost use Rattle.desk_words.specs.declared.asked.Command.TheVariants as command_is;
 ghost use Rattle.desk_runs.specs.Commands.{files_read};
@@ -30,9 +30,11 @@ fn judged_of(task: InputTask) -> Option<InputPlan>
     match task {
         InputTask::Judge(judged) => Some(judged),
         InputTask::Play(_)
+        | InputTask::PlayCrews(_)
         | InputTask::Recover(_)
         | InputTask::Team { .. }
         | InputTask::Try(_)
+        | InputTask::JudgeCrews(_)
         | InputTask::Generate { .. } => None,
     }
 }
@@ -71,12 +73,12 @@ fn put_page<O: Sink>(alloc: Global, inst: &Instance, plan: &Plan, out: &mut O) -
 /// with `Refused` and `ReadFault` just as a check does, and then nothing is put; with `ReportFault` where the page could not
 /// be written; and with `Memory` at any time.
 pub fn page_day<F: Folder, O: Sink>(alloc: Global, folder: &mut F, out: &mut O) -> Ending
-    ensures reads { ReadsAmong (files_read command_is.Check) (F.outside folder.old) (F.outside folder.new) }
-    ensures shows { (x : Inputs) → Tells (files_read command_is.Check) (F.outside folder.old) x → Shows x result }
+    ensures reads { ReadsAmong (files_read (command_is.Check false)) (F.outside folder.old) (F.outside folder.new) }
+    ensures shows { (x : Inputs) → Tells (files_read (command_is.Check false)) (F.outside folder.old) x → Shows x result }
     ensures page { PutsPage (O.report out.old) (O.report out.new) result }
     ensures kept { (O.report out.old).faults ≤ (O.report out.new).faults }
 {
-    let task = match read_task(alloc, &Command::Check, folder) {
+    let task = match read_task(alloc, &Command::Check { crew: false }, folder) {
         Ok(task) => task,
         Err(fault) => return Ending::from(fault),
     };

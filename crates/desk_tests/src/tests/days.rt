@@ -33,7 +33,7 @@ pub(super) fn folder_of(
 pub(super) fn day_in(alloc: Global, folder: &mut MemFolder) -> Result<Instance, Fail>
     ensures { IfOk result (λ inst. inst ≡ fresh_day inst.parts) }
 {
-    match read_task(alloc, &Command::Replay, folder) {
+    match read_task(alloc, &Command::Replay { crew: false }, folder) {
         Ok(InputTask::Play(story)) => {
             let InputStory { inst, events: _ } = story;
             Ok(inst)

@@ -92,7 +92,7 @@ fn a_day_goes_on_to_the_latest_moment_that_was_told(rt: HostRuntime) -> Result<(
 /// The morning with these texts in the place of its own, and all batches of feed.csv, by the plan of its two files.
 fn gone_on(alloc: Global, changed: Texts<'_>) -> Result<Instance, Fail> {
     let mut folder = folder_of(alloc, changed, MORNING)?;
-    match read_task(alloc, &Command::Check, &mut folder) {
+    match read_task(alloc, &Command::Check { crew: false }, &mut folder) {
         Ok(InputTask::Judge(input)) => {
             let InputPlan { inst, plan: _ } = input;
             Ok(inst)

@@ -155,7 +155,7 @@ fn are_routes(
     ways: &[Way],
 ) -> Result<bool, Fail> {
     let mut folder = folder_of(alloc, changed, day)?;
-    match read_task(alloc, &Command::Check, &mut folder) {
+    match read_task(alloc, &Command::Check { crew: false }, &mut folder) {
         Ok(InputTask::Judge(input)) => {
             let InputPlan { inst, plan } = input;
             if res.0 >= inst.reservations() {

@@ -1,4 +1,4 @@
-use Rattle.std.proofs.Common.{◌≡◌, refl, sym, ◌∙◌, ap, subst, [], map, false, arith}
+use Rattle.std.proofs.Common.{◌≡◌, refl, sym, ◌∙◌, ap, subst, [], map, false, arith, true}
 use Rattle.std.specs.Option.{option_map}
 use Rattle.std.specs.Prelude.{None, Some, Option}
 use Rattle.std.specs.String.{string_bytes}
@@ -14,7 +14,7 @@ use Rattle.desk_runs.specs.Runs.{world}
 use Rattle.desk_runs.proofs.PromisedLaw.{runs-as-promised}
 use Rattle.desk_top.specs.Desk.{meanings, RunsAsPromised}
 use Rattle.desk_top.specs.Store.{kept_directories, RunsOnDisk, UnlessNamed}
-use Rattle.desk_top.proofs.Commands.{done-by, replayed, recovered-day, recovered-by-team, tried-day, checked, generated}
+use Rattle.desk_top.proofs.Commands.{done-by, replayed, replayed-crews, recovered-day, recovered-by-team, tried-day, checked, checked-crews, generated}
 use Rattle.desk_top.proofs.Ranges.{unplaced-free}
 use Rattle.desk_top.proofs.Stored.{stored}
 use Rattle.desk_top.proofs.StorePlaced.{asks-store, kept-asked, other-asked, others-free, own-dirs, same-dirs, store-alone}
@@ -41,11 +41,13 @@ returns-in-None g c =
     let none : kept_directories these ≡ None = sym c.in-None.ensures in
     let kept : RunsAsPromised ask before now code = runs-as-promised meanings ask before now code c.reported_run.ensures in
     record {
-      headline = λ dirs is x tells done. replayed kept.work before now x code (done-by these (command_is.Replay, Some dirs) before now x code kept is tells done);
+      headline = λ dirs is x tells done. replayed kept.work before now x code (done-by these (command_is.Replay false, Some dirs) before now x code kept is tells done);
+      crewed = λ dirs is x tells done. replayed-crews kept.work before now x code (done-by these (command_is.Replay true, Some dirs) before now x code kept is tells done);
       recovered = λ moves dirs is x tells done. recovered-day kept.work before now moves x code (done-by these (command_is.Recover 0 moves false false, Some dirs) before now x code kept is tells done);
       searched = λ workers moves live watch dirs is some x tells done. recovered-by-team kept.work before now workers moves live watch x code some (done-by these (command_is.Recover workers moves live watch, Some dirs) before now x code kept is tells done);
       tried = λ seed size is done. tried-day kept.work before now seed size no_inputs code (done-by these (command_is.Trial seed size, None) before now no_inputs code kept is (λ f among. absurd cc) done);
-      checked = λ dirs is x tells done. checked kept.work before now x code (done-by these (command_is.Check, Some dirs) before now x code kept is tells done);
+      checked = λ dirs is x tells done. checked kept.work before now x code (done-by these (command_is.Check false, Some dirs) before now x code kept is tells done);
+      checked_crews = λ dirs is x tells done. checked-crews kept.work before now x code (done-by these (command_is.Check true, Some dirs) before now x code kept is tells done);
       generated = λ seed size dirs is done. generated kept.work before now seed size no_inputs code (done-by these (command_is.Gen seed size, Some dirs) before now no_inputs code kept is (λ f among. absurd cc) done);
       stored_headline = λ dirs is x tells done. absurd (other-asked these dirs none is);
       stored_promise = λ dirs is. absurd (other-asked these dirs none is);
@@ -80,10 +82,12 @@ returns-in-Some g c =
     let kept = subst (λ (o : Option Asking). RunsOnDisk (option_map asks o) before now faults later shown told code) (sym asked) run.promise in
     record {
       headline = λ dirs is x tells done. absurd (store-alone these own asked (ap (λ (o : Option Asking). asks_disk (option_map asks o)) is));
+      crewed = λ dirs is x tells done. absurd (store-alone these own asked (ap (λ (o : Option Asking). asks_disk (option_map asks o)) is));
       recovered = λ moves dirs is x tells done. absurd (store-alone these own asked (ap (λ (o : Option Asking). asks_disk (option_map asks o)) is));
       searched = λ workers moves live watch dirs is some x tells done. absurd (store-alone these own asked (ap (λ (o : Option Asking). asks_disk (option_map asks o)) is));
       tried = λ seed size is done. absurd (store-alone these own asked (ap (λ (o : Option Asking). asks_disk (option_map asks o)) is));
       checked = λ dirs is x tells done. absurd (store-alone these own asked (ap (λ (o : Option Asking). asks_disk (option_map asks o)) is));
+      checked_crews = λ dirs is x tells done. absurd (store-alone these own asked (ap (λ (o : Option Asking). asks_disk (option_map asks o)) is));
       generated = λ seed size dirs is done. absurd (store-alone these own asked (ap (λ (o : Option Asking). asks_disk (option_map asks o)) is));
       stored_headline = λ dirs is x tells done. stored own before now faults later shown told x code run.promise tells done;
       stored_promise = λ dirs is. kept;

@@ -21,6 +21,9 @@ use Rattle.read_legs.specs.Flights.{flight_row}
 use Rattle.read_legs.specs.Rotations.{rotation_row}
 use Rattle.read_fleet.specs.Aircraft.{aircraft_row}
 use Rattle.read_fleet.specs.Position.{position_row}
+use Rattle.crew_rows.specs.declared.rows.CrewRow.{CrewRow}
+use Rattle.crew_rows.specs.Crews.{crew_row}
+use Rattle.crew_rows.specs.Facts.{IsCrewRow}
 use Rattle.journal_rows.specs.declared.rows.JournalRow.{JournalRow}
 use Rattle.journal_file.specs.Journal.{journal_rows_of}
 use Rattle.sol_rows.specs.Grammar.{Tries, refusal_in}
@@ -108,6 +111,7 @@ returns-in-Position-clause-facts c =
         tariff = old.tariff;
         feed = old.feed;
       };
+      crews = c.requires.facts.crews;
       journal = c.requires.facts.journal;
     })
 
@@ -139,7 +143,18 @@ returns-in-SolItineraries-clause-exact c =
 
 pub returns-in-Crew-clause-exact : goal.returns-in-Crew-clause-exact
 unfolding with_rows
-returns-in-Crew-clause-exact c = rw c.in-Crew.is refl
+returns-in-Crew-clause-exact c =
+    let seen = put_seen (λ (rows : Vec CrewRow Global). rows.items) c.put-in-Crew.result c.read_crew.result c.put-in-Crew.new.place c.put-in-Crew.ensures in
+    rw c.in-Crew.is (rows_give (λ rows. record (as_rows c.args.self.now) { crews = rows }) c.put-in-Crew.result c.read_crew.result c.put-in-Crew.new.place.items (text_rows most_bytes crew_row) c.as_slice-bytes.result.now c.args.kept.now.items c.as_slice-bytes.ensures.value seen c.read_crew.ensures.exact)
+
+pub returns-in-Crew-clause-facts : goal.returns-in-Crew-clause-facts
+returns-in-Crew-clause-facts c =
+    let seen = put_seen (λ (rows : Vec CrewRow Global). rows.items) c.put-in-Crew.result c.read_crew.result c.put-in-Crew.new.place c.put-in-Crew.ensures in
+    rows_hold (All IsCrewRow) _ c.put-in-Crew.result c.read_crew.result c.put-in-Crew.new.place.items seen c.read_crew.ensures.facts (λ all. record {
+      files = c.requires.facts.files;
+      crews = all;
+      journal = c.requires.facts.journal;
+    })
 
 pub returns-in-SolAdded-clause-exact : goal.returns-in-SolAdded-clause-exact
 unfolding with_rows
