@@ -1,0 +1,11 @@
+pub mod FlightLaws
+pub mod LastLaws
+pub mod EndLaws
+pub mod SumLaws
+pub mod CostLaws
+pub mod BeforeLaws
+pub mod AskedLaws
+pub mod UpkeepLaws
+pub mod MaintLaws
+pub mod ItemLaws
+pub mod HourLaws

@@ -1,0 +1,5 @@
+pub mod Flights
+pub mod Stands
+pub mod Asked
+pub mod Items
+pub mod Hours

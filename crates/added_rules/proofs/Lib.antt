@@ -1,0 +1,5 @@
+pub mod MergedLaws
+pub mod EndLaws
+pub mod FerriedLaws
+pub mod NoneLaws
+pub mod EmptyLaws

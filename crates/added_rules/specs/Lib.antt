@@ -1,0 +1,4 @@
+pub mod Merged
+pub mod Added
+pub mod Ferried
+pub mod Words
