@@ -7,7 +7,8 @@
 //! cheaper plan after each, until `--moves` moves are accepted, and writes the same files; with `--workers`
 //! so many threads search side by side, and with `--live` the batches but the first are taken while they do. `check IN OUT`
 //! judges the plan that two files of OUT give, under all the orders of the day in IN: the first rule that it
-//! breaks, and its cost. With `--crew` both check the crews of crew.csv besides. `gen OUT` makes up a day, by `--seed` and `--size`, and writes its files to OUT;
+//! breaks, and its cost. With `--crew` both check the crews of crew.csv besides. `ferry IN OUT` judges the same plan, and where it breaks
+//! no rule adds empty legs to it that lower its cost, and writes them to a file of OUT. `gen OUT` makes up a day, by `--seed` and `--size`, and writes its files to OUT;
 //! `trial` makes up such a day in memory, recovers it and reports that alone.
 //!
 //! `main` gives `desk_main_heard` of desk_top the host's threads, the words, the host's folder, disk and standard output, ends with

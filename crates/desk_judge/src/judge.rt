@@ -23,11 +23,13 @@ use par_check::{is_large, par_check};
 use std::alloc::Global;
 use std::thread::{Threads, join};
 
-// What a plan breaks first, and what it costs.
+/// What is found of a plan.
 #[derive(Clone, Copy)]
-struct Findings {
-    broken: Option<Broken>,
-    cost: Grains,
+pub struct Findings {
+    /// What it breaks first, or `None`.
+    pub broken: Option<Broken>,
+    /// What it costs, in grains.
+    pub cost: Grains,
 }
 
 // How a run ends that reported its verdict.
@@ -57,9 +59,10 @@ fn push_verdict(text: &mut Vec<u8>, inst: &Instance, broken: Option<Broken>) -> 
     }
 }
 
-// The text of what a plan breaks first, and what it costs.
+/// The report of what a plan breaks first, and what it costs: `feasible` or `broken ITEM`, and `cost COST`. The only error is
+/// out of memory.
 #[tactic(auto, unfolding(desk_tasks::specs::Judge::verdict_report))]
-fn verdict_report(
+pub fn verdict_report(
     alloc: Global,
     inst: &Instance,
     broken: Option<Broken>,
@@ -76,8 +79,9 @@ fn verdict_report(
     Ok(text)
 }
 
-// What a plan breaks first, and what it costs: of a large day the cost is summed up while the rules are checked.
-fn judged<R: Threads + Sync>(
+/// What a plan breaks first, and what it costs: of a large day the cost is summed up while the rules are checked. It waits for
+/// the threads that it starts alone, and starts none where the day is not large. The only error is out of memory.
+pub fn judged<R: Threads + Sync>(
     rt: &R,
     alloc: Global,
     inst: &Instance,

@@ -1,7 +1,8 @@
 //! Judging a plan: what it breaks first, and what it costs.
 //!
 //! `judge_plan` checks a plan against the rules on all processors, sums up its cost, and writes the report of both: `feasible`
-//! or `broken ITEM`, and `cost COST`. `judge_crews` reports what the crews break first besides. They write no file.
+//! or `broken ITEM`, and `cost COST`. `judge_crews` reports what the crews break first besides. They write no file. `judged` and
+//! `verdict_report` are their steps, for whoever goes on with a plan that breaks no rule.
 //!
 //! Proved: what is written is the `verdict` of desk_tasks of that day and plan, or the `crewed_verdict` with its crews, or a beginning of it, with
 //! the call that failed. It depends on `par_check`, `full_cost` and the texts of items.
@@ -10,4 +11,4 @@
 mod judge;
 
 pub use desk_runs::Ending;
-pub use judge::{judge_crews, judge_plan};
+pub use judge::{Findings, judge_crews, judge_plan, judged, verdict_report};

@@ -20,6 +20,7 @@ files_read (command_is.Replay crew) = day_files ++ if_crew crew ++ file.Journal 
 files_read command_is.Store = day_files ++ file.Journal ∷ []
 files_read (command_is.Recover workers moves live watch) = day_files
 files_read (command_is.Check crew) = day_files ++ if_crew crew ++ plan_files
+files_read command_is.Ferry = day_files ++ plan_files
 files_read (command_is.Gen seed size) = []
 files_read (command_is.Trial seed size) = []
 
@@ -33,6 +34,7 @@ files_written (command_is.Replay crew) = history_files
 files_written command_is.Store = history_files
 files_written (command_is.Recover workers moves live watch) = history_files
 files_written (command_is.Check crew) = []
+files_written command_is.Ferry = file.SolAdded ∷ []
 files_written (command_is.Gen seed size) = day_files
 files_written (command_is.Trial seed size) = []
 
@@ -68,6 +70,7 @@ IsCommand (command_is.Replay crew) = Unit {0}
 IsCommand command_is.Store = Unit {0}
 IsCommand (command_is.Recover workers moves live watch) = (workers ≤ 64) × (1 ≤ moves) × (moves ≤ 100000) × (live ≡ true → 1 ≤ workers) × (watch ≡ true → 1 ≤ workers)
 IsCommand (command_is.Check crew) = Unit {0}
+IsCommand command_is.Ferry = Unit {0}
 IsCommand (command_is.Gen seed size) = (seed ≤ 999999999) × (1 ≤ size) × (size ≤ 40)
 IsCommand (command_is.Trial seed size) = (seed ≤ 999999999) × (1 ≤ size) × (size ≤ 40)
 

@@ -38,12 +38,12 @@ impl DiskEnd {
 /// How a run ends.
 #[derive(Clone, Copy, PartialEq, Eq)]
 pub enum Ending {
-    /// All was done: of a replay or a recovery with a plan at its end, of a check with a plan that breaks no
-    /// rule.
+    /// All was done: of a replay or a recovery with a plan at its end, of a check or a run that adds legs with a plan that
+    /// breaks no rule.
     Done,
     /// A replay or a recovery was done, and there is no plan at its end.
     NoPlan,
-    /// A check was done, and the plan breaks a rule.
+    /// A check was done, or legs were to be added, and the plan breaks a rule.
     BrokenRule,
     /// The words are no command.
     Usage,

@@ -57,7 +57,7 @@ pub fn files_read(command: &Command) -> &'static [File]
         Command::Replay { crew: false } | Command::Store => &DAY_AND_JOURNAL,
         Command::Recover { .. } => &DAY_FILES,
         Command::Check { crew: true } => &DAY_CREWS_AND_PLAN,
-        Command::Check { crew: false } => &DAY_AND_PLAN,
+        Command::Check { crew: false } | Command::Ferry => &DAY_AND_PLAN,
         Command::Gen { .. } | Command::Trial { .. } => &[],
     }
 }
@@ -69,6 +69,7 @@ pub fn files_written(command: &Command) -> &'static [File]
     match command {
         Command::Replay { .. } | Command::Store | Command::Recover { .. } => &HISTORY_FILES,
         Command::Check { .. } | Command::Trial { .. } => &[],
+        Command::Ferry => &[File::SolAdded],
         Command::Gen { .. } => &DAY_FILES,
     }
 }

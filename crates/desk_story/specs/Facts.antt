@@ -23,7 +23,7 @@ use Rattle.desk_tasks.specs.Recover.{Recovery}
 use Rattle.desk_tasks.specs.Team.{team_on}
 use Rattle.desk_tasks.specs.Judge.{Judged}
 use Rattle.desk_tasks.specs.Crew.{CrewedStory, JudgedCrews}
-use Rattle.desk_tasks.specs.Tasks.{Task, play, play_crews, recover, team, trial, judge, judge_crews, generate, IsRecoverable}
+use Rattle.desk_tasks.specs.Tasks.{Task, play, play_crews, recover, team, trial, judge, judge_crews, ferry, generate, IsRecoverable}
 use Rattle.desk_story.specs.Story.{Rows}
 
 -- the rows, wherever they lie in memory
@@ -87,6 +87,7 @@ as_task (input.Team r workers live watch) = team (team_on (as_recovery r) worker
 as_task (input.Try r) = trial (as_recovery r)
 as_task (input.Judge p) = judge (as_judged p)
 as_task (input.JudgeCrews p) = judge_crews (as_judged_crews p)
+as_task (input.Ferry p) = ferry (as_judged p)
 as_task (input.Generate seed size) = generate seed size
 
 -- what reading it makes sure of
@@ -98,4 +99,5 @@ CanBeDone (input.Team r workers live watch) = CanRecover r × (1 ≤ workers) ×
 CanBeDone (input.Try r) = CanRecover r
 CanBeDone (input.Judge p) = IsPlanFor p.inst p.plan
 CanBeDone (input.JudgeCrews p) = CanBeJudgedWithCrews p
+CanBeDone (input.Ferry p) = IsPlanFor p.inst p.plan
 CanBeDone (input.Generate seed size) = IsSize size

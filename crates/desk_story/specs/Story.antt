@@ -41,7 +41,7 @@ use Rattle.desk_tasks.specs.Keep.{KeptStory}
 use Rattle.desk_tasks.specs.Recover.{Recovery}
 use Rattle.desk_tasks.specs.Judge.{Judged, with_batches}
 use Rattle.desk_tasks.specs.Crew.{CrewedStory, JudgedCrews}
-use Rattle.desk_tasks.specs.Tasks.{Task, play, play_crews, trial, judge, judge_crews, generate, recover_by}
+use Rattle.desk_tasks.specs.Tasks.{Task, play, play_crews, trial, judge, judge_crews, ferry, generate, recover_by}
 
 -- ---- refusals
 
@@ -256,6 +256,9 @@ task_of_rows (command_is.Check false) rows = do
 task_of_rows (command_is.Check true) rows = do
   judged ← judged_crews_of_rows rows
   Ok (judge_crews judged)
+task_of_rows command_is.Ferry rows = do
+  judged ← judged_of_rows rows
+  Ok (ferry judged)
 task_of_rows (command_is.Gen seed size) rows = Ok (generate seed size)
 task_of_rows (command_is.Trial seed size) rows = do
   recovery ← trial_of seed size

@@ -14,7 +14,7 @@ use desk_data::{Batch, Instance, NoMem, Plan};
 use sol_join::read_solution;
 use std::alloc::Global;
 
-/// A day, and a plan on it that is to be judged.
+/// A day, and a plan on it that is to be judged, and to which legs may be added.
 #[derive(Drop)]
 pub struct InputPlan {
     /// The joined day, with all batches.

@@ -46,6 +46,8 @@ pub enum InputTask {
     Judge(InputPlan),
     /// A plan is to be judged, and its crews.
     JudgeCrews(InputCrewedPlan),
+    /// Legs are to be added to a plan.
+    Ferry(InputPlan),
     /// The input files of a day are to be made, of this seed and this size from 1 to 40.
     Generate {
         seed: u32,
@@ -110,6 +112,10 @@ fn joined_task(alloc: Global, command: &Command, rows: &InputRows) -> Result<Inp
         Command::Check { crew: true } => {
             let plan = joined_plan_crews(alloc, rows)?;
             Ok(InputTask::JudgeCrews(plan))
+        }
+        Command::Ferry => {
+            let plan = joined_plan(alloc, rows)?;
+            Ok(InputTask::Ferry(plan))
         }
         Command::Gen { seed, size } => Ok(InputTask::Generate {
             seed: *seed,

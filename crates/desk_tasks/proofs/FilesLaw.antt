@@ -11,8 +11,9 @@ use Rattle.desk_tasks.specs.Recover.{Recovery, reported_alone, recovered, tried}
 use Rattle.desk_tasks.specs.Team.{TeamRecovery, Work, recovered_by_team}
 use Rattle.desk_tasks.specs.Judge.{Judged, verdict, judged}
 use Rattle.desk_tasks.specs.Crew.{JudgedCrews, crewed_verdict, judged_crews, CrewedStory, played_crews}
+use Rattle.desk_tasks.specs.Ferry.{ferry_outcome, ferried_plan}
 use Rattle.desk_tasks.specs.Generate.{generation}
-use Rattle.desk_tasks.specs.Tasks.{Task, play, play_crews, recover, team, trial, judge, judge_crews, generate, outcome_at, files_for}
+use Rattle.desk_tasks.specs.Tasks.{Task, play, play_crews, recover, team, trial, judge, judge_crews, ferry, generate, outcome_at, files_for}
 
 pub history-files : (I : Situation) (remarks : Remarks) (h : List Entry) → files_of (history_outcome I remarks h).texts.files ≡ history_files
 unfolding history_outcome
@@ -50,6 +51,10 @@ pub judged_crews-files : (j : JudgedCrews) → files_of (judged_crews j).texts.f
 unfolding crewed_verdict
 judged_crews-files j = refl
 
+pub ferried-files : (j : Judged) → files_of (ferried_plan j).texts.files ≡ files_for (ferry j)
+unfolding ferry_outcome
+ferried-files j = refl
+
 pub generated-files : (seed size : ℕ) → files_of (generation seed size).texts.files ≡ files_for (generate seed size)
 unfolding generation generated
 generated-files seed size = refl
@@ -62,4 +67,5 @@ files-for work (team t) = team-files t work
 files-for work (trial r) = tried-files r
 files-for work (judge j) = judged-files j
 files-for work (judge_crews j) = judged_crews-files j
+files-for work (ferry j) = ferried-files j
 files-for work (generate seed size) = generated-files seed size

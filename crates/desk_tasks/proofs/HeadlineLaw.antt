@@ -26,11 +26,11 @@ use Rattle.desk_tasks.specs.Keep.{opened_line, opened_remarks, opened_first, kep
 use Rattle.desk_tasks.specs.Crew.{CrewedStory, crew_remarks, played_crews}
 use Rattle.desk_tasks.specs.Recover.{Recovery, recovered_history, search_end, reported_alone, recovered, tried}
 use Rattle.desk_tasks.specs.Team.{TeamRecovery, Work, IsTeamWork, recovered_by_team}
-use Rattle.desk_tasks.specs.Tasks.{Task, play, play_crews, recover, team, trial, judge, judge_crews, generate, team_size, IsWorkOf, outcome_at, outcome, IsRunnable, IsRecoverable, IsSound}
+use Rattle.desk_tasks.specs.Tasks.{Task, play, play_crews, recover, team, trial, judge, judge_crews, ferry, generate, team_size, IsWorkOf, outcome_at, outcome, IsRunnable, IsRecoverable, IsSound}
 use Rattle.desk_tasks.specs.Headline.{TellsHistory, Headline, HasHeadline, HasKept, HasCrewed, Recovers, HasRecovered, HasTried, TeamRecovers, HasTeamRecovered}
 use Rattle.desk_tasks.proofs.RecoveryLaw.{recovery-rests, search-ended}
 
-keeps_of : (before now : Option (List ℕ)) → Appends before now [] → Keeps before now
+pub keeps_of : (before now : Option (List ℕ)) → Appends before now [] → Keeps before now
 keeps_of None now h = tt
 keeps_of (Some xs) None h = h
 keeps_of (Some xs) (Some ys) h = h ∙ append-nil xs
@@ -216,5 +216,6 @@ one-work (recover r) work other sound e a b = (a ∙ sym b, refl)
 one-work (trial r) work other sound e a b = (a ∙ sym b, refl)
 one-work (judge j) work other sound e a b = (a ∙ sym b, refl)
 one-work (judge_crews j) work other sound e a b = (a ∙ sym b, refl)
+one-work (ferry j) work other sound e a b = (a ∙ sym b, refl)
 one-work (generate seed size) work other sound e a b = (a ∙ sym b, refl)
 one-work (team t) work other sound e a b = absurd (let some = sound.some in omega (arith, some, e))

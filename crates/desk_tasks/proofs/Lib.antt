@@ -1,3 +1,4 @@
 pub mod RecoveryLaw
 pub mod HeadlineLaw
 pub mod FilesLaw
+pub mod FerryLaw

@@ -3,6 +3,14 @@ use Rattle.std.specs.Prelude.{◌≡◌, ℕ, false, List, Option, None, Some, I
 use Rattle.std.specs.Io.KnownBytes.{Appends, Keeps}
 use Rattle.desk_folder.specs.declared.files.File.TheVariants as file
 use Rattle.desk_data.specs.Situation.{Situation}
+use Rattle.desk_data.specs.PlanRows.{PlanRows}
+use Rattle.desk_data.specs.declared.broken.Broken.{Broken}
+use Rattle.desk_rules.specs.Least.{least}
+use Rattle.desk_rules.specs.Cost.{cost}
+use Rattle.added_rules.specs.declared.added.Added.{Added}
+use Rattle.added_rules.specs.Ferried.{IsFerried}
+use Rattle.added_rules.specs.Words.{EachPays, IsUntouched}
+use Rattle.ferry_text.specs.Text.{added_text}
 use Rattle.desk_model.specs.declared.answer.Entry.{Entry}
 use Rattle.desk_model.specs.States.{opening}
 use Rattle.desk_model.specs.Histories.{IsLegal, run, state, is_accepted}
@@ -20,6 +28,8 @@ use Rattle.desk_tasks.specs.Keep.{opened_remarks}
 use Rattle.desk_tasks.specs.Crew.{CrewedStory, crew_remarks}
 use Rattle.desk_tasks.specs.Recover.{Recovery, search_end, IsSearchEnd}
 use Rattle.desk_tasks.specs.Team.{TeamRecovery, Work, IsTeamEnd, IsWatched}
+use Rattle.desk_tasks.specs.Judge.{Judged, verdict_report}
+use Rattle.desk_tasks.specs.Ferry.{ferried_report}
 
 -- what is written of a history, with the remarks of its report
 pub record TellsHistory (before now : World) (I : Situation) (remarks : Remarks) (h : List Entry) : Type 0 where
@@ -124,3 +134,27 @@ pub record HasTeamRecovered (before now : World) (t : TeamRecovery) (work : Work
   pub recovers : TeamRecovers t work.history work.ended
   pub seen : IsWatched t.watch t.recovery.day work.history work.seen
   pub written : TellsHistory before now t.recovery.day (watch_remarks t.recovery.day work.ended work.seen) work.history
+
+-- ---- legs that are added to a plan
+
+-- what is written of these legs, which are added to a plan
+pub record TellsAdded (before now : World) (I : Situation) (P : PlanRows) (A : List Added) : Type 0 where
+  -- each is the first candidate that lowers the cost, after those before it, and after the last one no candidate does
+  pub ferried : IsFerried I P A
+  -- so with each of them the cost became lower, and no rule was broken; and all that is scheduled stands as it was
+  pub pays : EachPays I P A
+  pub untouched : IsUntouched I P A
+  -- sol_added.csv has a line for each, in their order, and so has the report, with the cost
+  pub file : Appends (before.folder.written file.SolAdded) (now.folder.written file.SolAdded) (added_text I P A)
+  pub reported : Appends before.sink.written now.sink.written (ferried_report I P A)
+
+-- what is written of a plan that breaks a rule: the report of a check, and nothing of sol_added.csv
+pub record TellsBroken (before now : World) (I : Situation) (P : PlanRows) (item : Broken) : Type 0 where
+  pub no_file : Keeps (before.folder.written file.SolAdded) (now.folder.written file.SolAdded)
+  pub reported : Appends before.sink.written now.sink.written (verdict_report I (Some item) (cost I P))
+
+-- what is written of a plan to which legs are to be added, by what it breaks
+pub record HasFerried (before now : World) (j : Judged) : Type 0 where
+  pub legs : List Added
+  pub added : least j.day j.plan ≡ None → TellsAdded before now j.day j.plan legs
+  pub broken : (item : Broken) → least j.day j.plan ≡ Some item → TellsBroken before now j.day j.plan item

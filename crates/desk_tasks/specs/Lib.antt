@@ -4,6 +4,7 @@ pub mod Recover
 pub mod Team
 pub mod Judge
 pub mod Crew
+pub mod Ferry
 pub mod Generate
 pub mod Tasks
 pub mod Done

@@ -1,6 +1,7 @@
 -- What a command is to do, once its input is accepted, and what that comes to.
-use Rattle.std.specs.Prelude.{◌≡◌, ◌≤◌, ℕ, Bool, ◌==◌, if◌then◌else◌, List, [], length, All}
+use Rattle.std.specs.Prelude.{◌≡◌, ◌≤◌, ℕ, Bool, ◌==◌, if◌then◌else◌, List, [], ◌∷◌, length, All}
 use Rattle.desk_folder.specs.declared.files.File.{File}
+use Rattle.desk_folder.specs.declared.files.File.TheVariants.{SolAdded}
 use Rattle.desk_folder.specs.Files.{day_files}
 use Rattle.desk_data.specs.Valid.{IsBatch, IsValid, IsPlanFor}
 use Rattle.desk_model.specs.Histories.{AreAskable}
@@ -11,11 +12,12 @@ use Rattle.desk_tasks.specs.Recover.{Recovery, recovered, tried}
 use Rattle.desk_tasks.specs.Team.{TeamRecovery, team_on, Work, nothing, IsTeamWork, recovered_by_team}
 use Rattle.desk_tasks.specs.Judge.{Judged, judged}
 use Rattle.desk_tasks.specs.Crew.{JudgedCrews, judged_crews, CrewedStory, played_crews}
+use Rattle.desk_tasks.specs.Ferry.{ferried_plan}
 use Rattle.desk_tasks.specs.Generate.{generation}
 use Rattle.crew_rules.specs.Valid.{AreCrews}
 
 -- to play a story, or to play it beside its crews; to recover a day, by the desk alone or by a team, or to try that without a file; to judge a
--- plan, or to judge it with its crews; or to generate a day from a seed and a size
+-- plan, or to judge it with its crews; to add legs to a plan; or to generate a day from a seed and a size
 pub data Task : Type 0 where
   play : Story → Task
   play_crews : CrewedStory → Task
@@ -24,6 +26,7 @@ pub data Task : Type 0 where
   trial : Recovery → Task
   judge : Judged → Task
   judge_crews : JudgedCrews → Task
+  ferry : Judged → Task
   generate : ℕ → ℕ → Task
 
 -- a recovery by so many workers: where there is none, by the desk alone
@@ -40,6 +43,7 @@ outcome_at work (team t) = recovered_by_team t work
 outcome_at work (trial r) = tried r
 outcome_at work (judge j) = judged j
 outcome_at work (judge_crews j) = judged_crews j
+outcome_at work (ferry j) = ferried_plan j
 outcome_at work (generate seed size) = generation seed size
 
 -- the works that a run of a task may have: one, where its task comes to the same at each
@@ -51,6 +55,7 @@ IsWorkOf (team t) work = IsTeamWork t work
 IsWorkOf (trial r) work = work ≡ nothing
 IsWorkOf (judge j) work = work ≡ nothing
 IsWorkOf (judge_crews j) work = work ≡ nothing
+IsWorkOf (ferry j) work = work ≡ nothing
 IsWorkOf (generate seed size) work = work ≡ nothing
 
 -- what a task comes to that one thread does
@@ -71,6 +76,7 @@ files_for (team t) = history_files
 files_for (trial r) = []
 files_for (judge j) = []
 files_for (judge_crews j) = []
+files_for (ferry j) = SolAdded ∷ []
 files_for (generate seed size) = day_files
 
 -- the events of a story can be asked on its day
@@ -99,6 +105,7 @@ IsSound (team t) = IsTeamRecoverable t
 IsSound (trial r) = IsRecoverable r
 IsSound (judge j) = IsPlanFor j.day j.plan
 IsSound (judge_crews j) = IsPlanFor j.judged.day j.judged.plan × AreCrews j.judged.day.parts j.crews
+IsSound (ferry j) = IsPlanFor j.day j.plan
 IsSound (generate seed size) = Unit {0}
 
 -- and what doing it does besides, with this work

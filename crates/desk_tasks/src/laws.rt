@@ -8,7 +8,13 @@ ghost use Rattle.desk_tasks.specs.Recover.{Recovery, recovered, tried};
 ghost use Rattle.std.specs.Prelude.{◌≡◌, ℕ};
 ghost use Rattle.desk_tasks.specs.Team.{TeamRecovery, Work, IsTeamWork, recovered_by_team};
 ghost use Rattle.desk_tasks.specs.Tasks.{Task, team_size, IsWorkOf, outcome, outcome_at, IsRunnable, IsRecoverable, IsSound};
-ghost use Rattle.desk_tasks.specs.Headline.{HasHeadline, HasKept, HasCrewed, HasRecovered, HasTried, HasTeamRecovered};
+ghost use Rattle.desk_tasks.specs.Headline.{HasHeadline, HasKept, HasCrewed, HasRecovered, HasTried, HasTeamRecovered, HasFerried};
+ghost use Rattle.desk_data.specs.Situation.{Situation};
+ghost use Rattle.desk_data.specs.PlanRows.{PlanRows};
+ghost use Rattle.desk_data.specs.Valid.{IsPlanFor};
+ghost use Rattle.added_rules.specs.Ferried.{IsFerried};
+ghost use Rattle.desk_tasks.specs.Judge.{Judged};
+ghost use Rattle.desk_tasks.specs.Ferry.{ferried, ferried_plan};
 
 /// Whoever has written all that a story comes to, whose events can be asked on its day, keeps the
 /// promise of the desk.
@@ -47,6 +53,20 @@ pub fn recoveries_carry_the_headline()
 pub fn recoveries_by_teams_carry_the_headline()
     ensures { (before : World) → (now : World) → (t : TeamRecovery) → (work : Work) → IsTeamWork t work →
         IsWritten before now (recovered_by_team t work).texts → HasTeamRecovered before now t work }
+{}
+
+/// There always is a list of legs that `ferry` adds, and it is `ferried`: each leg is the first candidate that lowers the cost,
+/// after those before it, and after the last one no candidate lowers it further.
+pub fn the_legs_that_are_added_are_ferried()
+    ensures { (I : Situation) → (P : PlanRows) → IsFerried I P (ferried I P) }
+{}
+
+/// Whoever has written all that adding legs to a plan comes to has written these legs, in their order, where the plan breaks no
+/// rule: each of them lowered the cost, and with it no rule is broken; and nothing that is scheduled was touched. Where the plan
+/// breaks a rule, the report of a check was written, and nothing of sol_added.csv.
+pub fn plans_with_added_legs_carry_the_headline()
+    ensures { (before : World) → (now : World) → (judged : Judged) → IsPlanFor judged.day judged.plan →
+        IsWritten before now (ferried_plan judged).texts → HasFerried before now judged }
 {}
 
 /// A run of a task that asks for no worker has one work, and at it the task comes to its outcome and to nothing else.

@@ -1,7 +1,7 @@
 //! What the commands of the desk are to do, and what that comes to.
 //!
 //! A task is what the input of a command asks for, once it is accepted: to play a story, to recover a day, by the
-//! desk alone or by a team, or to try that, to judge a plan, or to generate a day. The definitions give the outcome
+//! desk alone or by a team, or to try that, to judge a plan, to add legs to one, or to generate a day. The definitions give the outcome
 //! of each: its status, the texts of files, in the order in which they are written, and the report. Another command
 //! is a task more, or a use of one of these. What a team comes to depends on the history that it makes, its `Work`;
 //! each other task has one outcome.
@@ -9,14 +9,15 @@
 //! The code is the headline of the desk as laws, public functions with
 //! empty bodies: a story that was played, and all of whose texts are written, has written the journal of a
 //! legal history of its events, in which each published plan meets the rules, and the last plan of it; and a
-//! day that was recovered has written the same of the history in which a descent follows each batch.
+//! day that was recovered has written the same of the history in which a descent follows each batch. Of legs that are added to
+//! a plan they say which these are: each lowers the cost and breaks no rule, and nothing scheduled is touched.
 #![tactic(auto)]
 
 mod laws;
 
 pub use laws::{
-    kept_stories_carry_the_headline, played_stories_carry_the_headline,
-    recoveries_by_teams_carry_the_headline, recoveries_carry_the_headline,
-    tasks_come_to_one_outcome,
+    kept_stories_carry_the_headline, plans_with_added_legs_carry_the_headline,
+    played_stories_carry_the_headline, recoveries_by_teams_carry_the_headline,
+    recoveries_carry_the_headline, tasks_come_to_one_outcome, the_legs_that_are_added_are_ferried,
 };
 pub use near_moves::SearchEnd;

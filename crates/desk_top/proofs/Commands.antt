@@ -26,12 +26,14 @@ use Rattle.desk_tasks.specs.Play.{Story, history, Remarks, search_remarks, watch
 use Rattle.desk_tasks.specs.Recover.{Recovery, recovered_history, search_end, recovered, reported_alone, tried}
 use Rattle.desk_tasks.specs.Judge.{Judged, verdict, verdict_report, rule_status, judged}
 use Rattle.desk_tasks.specs.Crew.{JudgedCrews, CrewedStory, crew_least, crewed_report, crewed_status, crewed_verdict, judged_crews, crew_remarks, played_crews}
+use Rattle.desk_tasks.specs.Ferry.{ferry_outcome, ferried_plan}
 use Rattle.desk_tasks.specs.Generate.{generation}
 use Rattle.desk_tasks.specs.Team.{team_on, Work, nothing, IsTeamWork}
-use Rattle.desk_tasks.specs.Tasks.{Task, play, play_crews, recover, team, recover_by, trial, judge, judge_crews, generate, outcome_at, IsSound, IsWorkOf, IsSoundAt}
+use Rattle.desk_tasks.specs.Tasks.{Task, play, play_crews, recover, team, recover_by, trial, judge, judge_crews, ferry, generate, outcome_at, IsSound, IsWorkOf, IsSoundAt}
 use Rattle.desk_tasks.proofs.HeadlineLaw.{has-headline, has-crewed, has-recovered, has-tried, has-team-recovered}
+use Rattle.desk_tasks.proofs.FerryLaw.{has-ferried}
 use Rattle.desk_story.specs.Story.{Rows, rows_of, usual_moves, story_of_rows, crewed_of_rows, recovery_of_rows, trial_of, judged_of_rows, judged_crews_of_rows, task_of_rows, task_of}
-use Rattle.desk_top.specs.Desk.{meaning_at, RunsWith, IsDone, RunsAsPromised, IsReplayed, IsReplayedWithCrews, IsRecovered, IsRecoveredByTeam, IsTried, IsChecked, IsCheckedWithCrews, IsGenerated}
+use Rattle.desk_top.specs.Desk.{meaning_at, RunsWith, IsDone, RunsAsPromised, IsReplayed, IsReplayedWithCrews, IsRecovered, IsRecoveredByTeam, IsTried, IsChecked, IsCheckedWithCrews, IsFerriedPlan, IsGenerated}
 
 -- ---- what is asked
 
@@ -71,6 +73,10 @@ judged_task : (read : Result Judged Refusal) (t : Task) → (read >>= (λ judged
 judged_task (Ok j) t e = (j, let is : judge j ≡ t = cc in sym is)
 judged_task (Err r) t e = absurd cc
 
+ferry_task_of : (read : Result Judged Refusal) (t : Task) → (read >>= (λ judged. let r : Result Task Refusal = Ok (ferry judged) in r)) ≡ Ok t → (j : Judged) × (t ≡ ferry j)
+ferry_task_of (Ok j) t e = (j, let is : ferry j ≡ t = cc in sym is)
+ferry_task_of (Err r) t e = absurd cc
+
 replay_rows : (read : Read) (t : Task) → (read >>= task_of_rows (command_is.Replay false)) ≡ Ok t → (s : Story) × (t ≡ play s)
 unfolding task_of_rows
 replay_rows (Ok rows) t e = played_task (story_of_rows rows) t e
@@ -105,6 +111,11 @@ check_rows : (read : Read) (t : Task) → (read >>= task_of_rows (command_is.Che
 unfolding task_of_rows
 check_rows (Ok rows) t e = judged_task (judged_of_rows rows) t e
 check_rows (Err r) t e = absurd cc
+
+ferry_rows : (read : Read) (t : Task) → (read >>= task_of_rows command_is.Ferry) ≡ Ok t → (j : Judged) × (t ≡ ferry j)
+unfolding task_of_rows
+ferry_rows (Ok rows) t e = ferry_task_of (judged_of_rows rows) t e
+ferry_rows (Err r) t e = absurd cc
 
 gen_rows : (seed size : ℕ) (read : Read) (t : Task) → (read >>= task_of_rows (command_is.Gen seed size)) ≡ Ok t → t ≡ generate seed size
 unfolding task_of_rows
@@ -154,6 +165,10 @@ check_task : (x : Inputs) (t : Task) → task_of (command_is.Check false) x ≡ 
 unfolding task_of
 check_task x t e = check_rows (rows_of (command_is.Check false) x) t e
 
+ferry_task : (x : Inputs) (t : Task) → task_of command_is.Ferry x ≡ Ok t → (j : Judged) × (t ≡ ferry j)
+unfolding task_of
+ferry_task x t e = ferry_rows (rows_of command_is.Ferry x) t e
+
 gen_task : (seed size : ℕ) (x : Inputs) (t : Task) → task_of (command_is.Gen seed size) x ≡ Ok t → t ≡ generate seed size
 unfolding task_of
 gen_task seed size x t e = gen_rows seed size (rows_of (command_is.Gen seed size) x) t e
@@ -169,6 +184,7 @@ plain-work (command_is.Recover workers moves live watch) x t none e =
     subst (λ (t : Task). IsWorkOf t nothing) (sym r.1) refl
 plain-work (command_is.Check false) x t none e = let j = check_task x t e in subst (λ (t : Task). IsWorkOf t nothing) (sym j.1) refl
 plain-work (command_is.Check true) x t none e = let j = check_crews_task x t e in subst (λ (t : Task). IsWorkOf t nothing) (sym j.1) refl
+plain-work command_is.Ferry x t none e = let j = ferry_task x t e in subst (λ (t : Task). IsWorkOf t nothing) (sym j.1) refl
 plain-work (command_is.Gen seed size) x t none e = subst (λ (t : Task). IsWorkOf t nothing) (sym (gen_task seed size x t e)) refl
 plain-work (command_is.Trial seed size) x t none e = let r = tried_task seed size x t e in subst (λ (t : Task). IsWorkOf t nothing) (sym r.1) refl
 
@@ -264,6 +280,18 @@ checked-crews work before now x code done =
     let j = check_crews_task x done.task done.sets in
     let parts = done_as work (command_is.Check true) before now x code (judge_crews j.0) done j.1 in
     record { crewed = j.0; sets = parts.0; status = parts.1 ∙ crewed_verdict_status j.0; reported = crewed_verdict_reported before now j.0 parts.2 }
+
+-- ---- ferry
+
+ferry_status : (j : Judged) → (ferried_plan j).status ≡ rule_status (least j.day j.plan)
+unfolding ferry_outcome
+ferry_status j = refl
+
+pub ferried : (work : Work) (before now : World) (x : Inputs) (code : ℕ) → IsDone work command_is.Ferry before now x code → IsFerriedPlan before now x code
+ferried work before now x code done =
+    let j = ferry_task x done.task done.sets in
+    let parts = done_as work command_is.Ferry before now x code (ferry j.0) done j.1 in
+    record { judged = j.0; sets = parts.0; status = parts.1 ∙ ferry_status j.0; headline = has-ferried before now j.0 (subst IsSound j.1 done.sound.0) parts.2 }
 
 -- ---- replay with crews
 

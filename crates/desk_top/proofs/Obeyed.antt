@@ -56,6 +56,7 @@ sound_of (input.Team r workers live watch) h = record { recovery = h.0.sound; so
 sound_of (input.Try r) h = h.sound
 sound_of (input.Judge p) h = h
 sound_of (input.JudgeCrews p) h = (h.plan, h.crews)
+sound_of (input.Ferry p) h = h
 sound_of (input.Generate seed size) h = tt
 
 -- a task that asks for no worker comes to the same whatever a run makes
@@ -67,6 +68,7 @@ alone_of (input.Team r workers live watch) h none = absurd (let some = h.1 in om
 alone_of (input.Try r) h none = refl
 alone_of (input.Judge p) h none = refl
 alone_of (input.JudgeCrews p) h none = refl
+alone_of (input.Ferry p) h none = refl
 alone_of (input.Generate seed size) h none = refl
 
 pub obeyed-task : (c : Command) (before mid now : Outside) (sink sink' : SinkSide) (t : InputTask) (how : Ending) → ReadsAmong (files_read c) before mid → InOrder plain c before mid → AreRead (files_read c) before mid

@@ -124,8 +124,9 @@ asked_range word list =
     (if_range (is_unset choice_is.Crew list) (uncrewed_by word list)
     (choice_range (bytes_eq word (codes "store")) (plain command_is.Store list) _ (plain_range command_is.Store list tt)
     (choice_range (bytes_eq word (codes "recover")) (recovering list) _ (recovering_range list)
+    (choice_range (bytes_eq word (codes "ferry")) (plain command_is.Ferry list) _ (plain_range command_is.Ferry list tt)
     (choice_range (bytes_eq word (codes "gen")) (generating list) _ (generating_range list)
-    (if_range (bytes_eq word (codes "trial")) (trying list) (trying_range list)))))))
+    (if_range (bytes_eq word (codes "trial")) (trying list) (trying_range list))))))))
   where
     choice_range : (test : Bool) (a b : Option Asking) → InRange a → InRange b → InRange (if test then a else b)
     choice_range true a b h k = h

@@ -365,6 +365,7 @@ kept-asked (Some (command_is.Store, d)) dirs is = ap (λ (d : Option Directories
 kept-asked (Some (command_is.Replay crew, d)) dirs is = absurd cc
 kept-asked (Some (command_is.Recover workers moves live watch, d)) dirs is = absurd cc
 kept-asked (Some (command_is.Check crew, d)) dirs is = absurd cc
+kept-asked (Some (command_is.Ferry, d)) dirs is = absurd cc
 kept-asked (Some (command_is.Gen seed size, d)) dirs is = absurd cc
 kept-asked (Some (command_is.Trial seed size, d)) dirs is = absurd cc
 
@@ -377,6 +378,7 @@ others-free (Some (command_is.Store, d)) none free = free command_is.Store (ap (
 others-free (Some (command_is.Replay crew, d)) none free = refl
 others-free (Some (command_is.Recover workers moves live watch, d)) none free = refl
 others-free (Some (command_is.Check crew, d)) none free = refl
+others-free (Some (command_is.Ferry, d)) none free = refl
 others-free (Some (command_is.Gen seed size, d)) none free = refl
 others-free (Some (command_is.Trial seed size, d)) none free = refl
 

@@ -22,8 +22,8 @@ use Rattle.desk_tasks.specs.Team.{team_on, Work}
 use Rattle.desk_tasks.specs.Judge.{Judged, verdict_report, rule_status}
 use Rattle.desk_tasks.specs.Crew.{JudgedCrews, CrewedStory, crew_least, crewed_report, crewed_status}
 use Rattle.desk_tasks.specs.Generate.{generation}
-use Rattle.desk_tasks.specs.Tasks.{Task, play, play_crews, recover, team, judge, judge_crews, IsWorkOf, outcome_at, IsSoundAt}
-use Rattle.desk_tasks.specs.Headline.{TellsHistory, Headline, HasCrewed, Recovers, HasTeamRecovered}
+use Rattle.desk_tasks.specs.Tasks.{Task, play, play_crews, recover, team, judge, judge_crews, ferry, IsWorkOf, outcome_at, IsSoundAt}
+use Rattle.desk_tasks.specs.Headline.{TellsHistory, Headline, HasCrewed, Recovers, HasTeamRecovered, HasFerried}
 use Rattle.desk_gen.specs.Generated.{text_of}
 use Rattle.desk_story.specs.Story.{Rows, rows_of, usual_moves, task_of}
 
@@ -123,6 +123,14 @@ pub record IsCheckedWithCrews (before now : World) (x : Inputs) (code : ℕ) : T
   pub sets : task_of (command_is.Check true) x ≡ Ok (judge_crews crewed)
   pub status : code ≡ crewed_status (least crewed.judged.day crewed.judged.plan) (crew_least crewed.judged.day crewed.crews crewed.judged.plan)
   pub reported : Appends before.sink.written now.sink.written (crewed_report crewed.judged.day (least crewed.judged.day crewed.judged.plan) (cost crewed.judged.day crewed.judged.plan) crewed.crews (crew_least crewed.judged.day crewed.crews crewed.judged.plan))
+
+-- `ferry`: the inputs give a day and a plan; the status is 7 where the plan breaks a rule and else 0. Where it breaks none, there is the list of
+-- legs that are added, each for what the plan costs with it; else the report is that of a check, and sol_added.csv got nothing
+pub record IsFerriedPlan (before now : World) (x : Inputs) (code : ℕ) : Type 0 where
+  pub judged : Judged
+  pub sets : task_of command_is.Ferry x ≡ Ok (ferry judged)
+  pub status : code ≡ rule_status (least judged.day judged.plan)
+  pub headline : HasFerried before now judged
 
 -- `gen`: the files of the seed and the size are written
 pub record IsGenerated (before now : World) (seed size : ℕ) (code : ℕ) : Type 0 where

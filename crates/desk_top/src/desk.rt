@@ -7,7 +7,7 @@ ghost use Rattle.desk_folder.specs.Outside.{Directories as NamedDirectories};
 ghost use Rattle.std.specs.Option.{option_map};
 ghost use Rattle.desk_folder.specs.Calls.{Rose};
 ghost use Rattle.desk_disk.specs.FileStates.{HasNothingPending};
-ghost use Rattle.desk_words.specs.declared.asked.Command.TheVariants.{Replay, Store, Recover, Check, Gen, Trial};
+ghost use Rattle.desk_words.specs.declared.asked.Command.TheVariants.{Replay, Store, Recover, Check, Ferry, Gen, Trial};
 ghost use Rattle.desk_words.specs.Asked.{named};
 ghost use Rattle.desk_words.specs.Commands.{command};
 ghost use Rattle.desk_runs.specs.Commands.{IsCommand, asked_by, asked_here, asks_disk, files_read, is_of_disk};
@@ -20,7 +20,7 @@ ghost use Rattle.desk_runs.proofs.Composed.{at};
 ghost use Rattle.desk_story.specs.Story.{kept_of};
 ghost use Rattle.desk_store.specs.Journal.{OnlyOpens, WhereShown};
 ghost use Rattle.desk_top.specs.Store.{kept_directories, HasBegun, HoldsAll, IsAtMostNamed, IsPlacedAt, IsStored, IsWrittenAt, RunsOnDisk, StandsAlways, UnlessNamed};
-ghost use Rattle.desk_top.specs.Desk.{Runs, RunsAsPromised, IsReplayed, IsReplayedWithCrews, IsRecovered, IsRecoveredByTeam, IsTried, IsChecked, IsCheckedWithCrews, IsGenerated};
+ghost use Rattle.desk_top.specs.Desk.{Runs, RunsAsPromised, IsReplayed, IsReplayedWithCrews, IsRecovered, IsRecoveredByTeam, IsTried, IsChecked, IsCheckedWithCrews, IsFerriedPlan, IsGenerated};
 
 use crate::plain::{run_plain, tell};
 use crate::store::run_store;
@@ -66,6 +66,7 @@ fn run<R: Threads + Wait + Sync, F: Folder, O: Sink, G: Gate, L: Listener>(
         }
         Command::Replay { .. }
         | Command::Check { .. }
+        | Command::Ferry
         | Command::Gen { .. }
         | Command::Trial { .. } => { run_plain(rt, alloc, command, folder, out, listener) }
         Command::Store => unreachable!(),
@@ -175,16 +176,16 @@ fn stored_run<F: Folder, O: Sink, D: Disk>(
 
 /// The desk: does what the words say, the program's name left out, and answers the status.
 ///
-/// 0: done; of a replay, a recovery or a trial with a plan at the end, of a check with a plan that breaks no
+/// 0: done; of a replay, a recovery or a trial with a plan at the end, of a check or `ferry` with a plan that breaks no
 /// rule. 1: a replay, a recovery or a trial was done, with no plan at the end. 2: the words are no command.
 /// 3: the input is refused, or the journal on the disk. 4: the folder failed to name the directories or to read a file. 5: the folder
-/// failed to write a file, or the sink to write the report. 6: memory ran out. 7: a check was done, and the
-/// plan breaks a rule. 8: the disk failed. From 2 to 6, and at 8, a line in the report says why.
+/// failed to write a file, or the sink to write the report. 6: memory ran out. 7: a check was done, or legs were to be
+/// added, and the plan breaks a rule. 8: the disk failed. From 2 to 6, and at 8, a line in the report says why.
 ///
 /// `store` keeps each answered event on the disk before the next one is answered; no other command touches the disk.
 /// A recovery with workers starts a thread for each beside the caller, which does the work of those that can't be
-/// started; it may wait, and enters the gate as `run_workers` says. A check of a large day starts threads too,
-/// and waits for these alone. Every other command waits for nobody.
+/// started; it may wait, and enters the gate as `run_workers` says. A check of a large day starts threads too, and so does
+/// `ferry` there, which wait for these alone. Every other command waits for nobody.
 pub fn desk_main<R: Threads + Wait + Sync, F: Folder, O: Sink, G: Gate, D: Disk>(
     rt: &R,
     alloc: Global,
@@ -241,6 +242,14 @@ pub fn desk_main<R: Threads + Wait + Sync, F: Folder, O: Sink, G: Gate, D: Disk>
     ensures checked_crews { (dirs : NamedDirectories) → command (map string_bytes words.now) ≡ Some (Check true, Some dirs) →
         (x : Inputs) → Tells (files_read (Check true)) (F.outside folder.old) x → IsDoneAt result →
         Between F.outside O.report folder.old out.old folder.new out.new (λ before now. IsCheckedWithCrews before now x result) }
+
+    // Each run that was done and adds legs to a plan: where the plan breaks a rule, it has reported what a check reports and
+    // written no file, with status 7. Else it has written and reported the legs that are added, in their order, each with the cost
+    // then: each is the first candidate that lowers the cost, with each no rule is broken, at the end no candidate lowers the cost
+    // further, and nothing that is scheduled is touched.
+    ensures ferried { (dirs : NamedDirectories) → command (map string_bytes words.now) ≡ Some (Ferry, Some dirs) →
+        (x : Inputs) → Tells (files_read Ferry) (F.outside folder.old) x → IsDoneAt result →
+        Between F.outside O.report folder.old out.old folder.new out.new (λ before now. IsFerriedPlan before now x result) }
 
     // Each day that was generated is written whole.
     ensures generated { (seed : ℕ) → (size : ℕ) → (dirs : NamedDirectories) →
@@ -377,6 +386,14 @@ pub fn desk_main_heard<R: Threads + Wait + Sync, F: Folder, O: Sink, G: Gate, D:
     ensures checked_crews { (dirs : NamedDirectories) → command (map string_bytes words.now) ≡ Some (Check true, Some dirs) →
         (x : Inputs) → Tells (files_read (Check true)) (F.outside folder.old) x → IsDoneAt result →
         Between F.outside O.report folder.old out.old folder.new out.new (λ before now. IsCheckedWithCrews before now x result) }
+
+    // Each run that was done and adds legs to a plan: where the plan breaks a rule, it has reported what a check reports and
+    // written no file, with status 7. Else it has written and reported the legs that are added, in their order, each with the cost
+    // then: each is the first candidate that lowers the cost, with each no rule is broken, at the end no candidate lowers the cost
+    // further, and nothing that is scheduled is touched.
+    ensures ferried { (dirs : NamedDirectories) → command (map string_bytes words.now) ≡ Some (Ferry, Some dirs) →
+        (x : Inputs) → Tells (files_read Ferry) (F.outside folder.old) x → IsDoneAt result →
+        Between F.outside O.report folder.old out.old folder.new out.new (λ before now. IsFerriedPlan before now x result) }
 
     // Each day that was generated is written whole.
     ensures generated { (seed : ℕ) → (size : ℕ) → (dirs : NamedDirectories) →

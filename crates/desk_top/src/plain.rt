@@ -1,4 +1,4 @@
-//! The commands, one after another, in directories that are named already: all but `check` on one thread.
+//! The commands, one after another, in directories that are named already: all but `check` and `ferry` on one thread.
 
 ghost use Rattle.std.specs.Prelude.{◌≡◌, ◌≢◌, false};
 ghost use Rattle.desk_runs.specs.Commands.{IsCommand, asked_here, is_of_disk, workers_of};
@@ -11,6 +11,7 @@ ghost use Rattle.desk_story.specs.Facts.{as_task, CanBeDone};
 ghost use Rattle.desk_top.specs.Desk.{Obeys, RunsWith, RunsAsPromised};
 
 use crate::day::write_day;
+use desk_ferry::run_ferry;
 use desk_folder::{Folder, FolderFault, Sink};
 use desk_headway::Listener;
 use desk_judge::{judge_crews, judge_plan};
@@ -97,6 +98,10 @@ fn do_task<R: Threads + Sync, F: Folder, O: Sink, L: Listener>(
             let InputPlan { inst, plan } = plan;
             judge_crews(rt, alloc, &inst, &plan, crews.as_slice(), folder, out)
         }
+        InputTask::Ferry(judged) => {
+            let InputPlan { inst, plan } = judged;
+            run_ferry(rt, alloc, &inst, &plan, folder, out)
+        }
         InputTask::Generate { seed, size } => write_day(alloc, seed, size, folder, out),
         InputTask::Team { .. } => unreachable!(),
     }
@@ -154,13 +159,13 @@ fn obey_and_tell<R: Threads + Sync, F: Folder, O: Sink, L: Listener>(
 }
 
 /// Does what a command says that asks for no workers and for no disk, in the directories that the folder has, and answers the status.
-/// A check of a large day starts threads, and waits for these alone; all else waits for nobody. A recovery and a trial tell the
+/// A check of a large day starts threads, and so does `ferry` there, which wait for these alone; all else waits for nobody. A recovery and a trial tell the
 /// listener how far they have come; what is answered, reported and written depends on no listener.
 ///
-/// 0: done; of a replay, a recovery or a trial with a plan at the end, of a check with a plan that breaks no
+/// 0: done; of a replay, a recovery or a trial with a plan at the end, of a check or `ferry` with a plan that breaks no
 /// rule. 1: a replay, a recovery or a trial was done, with no plan at the end. 3: the input is refused. 4: the
 /// folder failed to read a file. 5: the folder failed to write a file, or the sink to write the report. 6:
-/// memory ran out. 7: a check was done, and the plan breaks a rule. From 3 to 6 a line in the report says why.
+/// memory ran out. 7: a check was done, or legs were to be added, and the plan breaks a rule. From 3 to 6 a line in the report says why.
 pub fn run_plain<R: Threads + Sync, F: Folder, O: Sink, L: Listener>(
     rt: &R,
     alloc: Global,

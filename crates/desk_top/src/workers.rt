@@ -71,6 +71,7 @@ fn do_team_task<R: Threads + Wait + Sync, F: Folder, O: Sink, G: Gate>(
         | InputTask::Try(_)
         | InputTask::Judge(_)
         | InputTask::JudgeCrews(_)
+        | InputTask::Ferry(_)
         | InputTask::Generate { .. } => unreachable!(),
     }
 }

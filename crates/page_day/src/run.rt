@@ -35,6 +35,7 @@ fn judged_of(task: InputTask) -> Option<InputPlan>
         | InputTask::Team { .. }
         | InputTask::Try(_)
         | InputTask::JudgeCrews(_)
+        | InputTask::Ferry(_)
         | InputTask::Generate { .. } => None,
     }
 }

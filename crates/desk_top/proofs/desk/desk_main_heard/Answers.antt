@@ -14,7 +14,7 @@ use Rattle.desk_runs.specs.Runs.{world}
 use Rattle.desk_runs.proofs.PromisedLaw.{runs-as-promised}
 use Rattle.desk_top.specs.Desk.{meanings, RunsAsPromised}
 use Rattle.desk_top.specs.Store.{kept_directories, RunsOnDisk, UnlessNamed}
-use Rattle.desk_top.proofs.Commands.{done-by, replayed, replayed-crews, recovered-day, recovered-by-team, tried-day, checked, checked-crews, generated}
+use Rattle.desk_top.proofs.Commands.{done-by, replayed, replayed-crews, recovered-day, recovered-by-team, tried-day, checked, checked-crews, ferried, generated}
 use Rattle.desk_top.proofs.Ranges.{unplaced-free}
 use Rattle.desk_top.proofs.Stored.{stored}
 use Rattle.desk_top.proofs.StorePlaced.{asks-store, kept-asked, other-asked, others-free, own-dirs, same-dirs, store-alone}
@@ -48,6 +48,7 @@ returns-in-None g c =
       tried = λ seed size is done. tried-day kept.work before now seed size no_inputs code (done-by these (command_is.Trial seed size, None) before now no_inputs code kept is (λ f among. absurd cc) done);
       checked = λ dirs is x tells done. checked kept.work before now x code (done-by these (command_is.Check false, Some dirs) before now x code kept is tells done);
       checked_crews = λ dirs is x tells done. checked-crews kept.work before now x code (done-by these (command_is.Check true, Some dirs) before now x code kept is tells done);
+      ferried = λ dirs is x tells done. ferried kept.work before now x code (done-by these (command_is.Ferry, Some dirs) before now x code kept is tells done);
       generated = λ seed size dirs is done. generated kept.work before now seed size no_inputs code (done-by these (command_is.Gen seed size, Some dirs) before now no_inputs code kept is (λ f among. absurd cc) done);
       stored_headline = λ dirs is x tells done. absurd (other-asked these dirs none is);
       stored_promise = λ dirs is. absurd (other-asked these dirs none is);
@@ -88,6 +89,7 @@ returns-in-Some g c =
       tried = λ seed size is done. absurd (store-alone these own asked (ap (λ (o : Option Asking). asks_disk (option_map asks o)) is));
       checked = λ dirs is x tells done. absurd (store-alone these own asked (ap (λ (o : Option Asking). asks_disk (option_map asks o)) is));
       checked_crews = λ dirs is x tells done. absurd (store-alone these own asked (ap (λ (o : Option Asking). asks_disk (option_map asks o)) is));
+      ferried = λ dirs is x tells done. absurd (store-alone these own asked (ap (λ (o : Option Asking). asks_disk (option_map asks o)) is));
       generated = λ seed size dirs is done. absurd (store-alone these own asked (ap (λ (o : Option Asking). asks_disk (option_map asks o)) is));
       stored_headline = λ dirs is x tells done. stored own before now faults later shown told x code run.promise tells done;
       stored_promise = λ dirs is. kept;
