@@ -3,7 +3,7 @@ use Rattle.std.proofs.Common.{◌≡◌, ℕ, Bool, true, false, ◌&&◌, if◌
 use Rattle.std.proofs.lemmas.List.{append_assoc, append-nil}
 use Rattle.desk_text.specs.Fields.{◌>>=◌, number_from}
 use Rattle.desk_words.specs.declared.asked.Command.{Command}
-use Rattle.desk_words.specs.declared.asked.Command.TheVariants.{Replay, Store, Check}
+use Rattle.desk_words.specs.declared.asked.Command.TheVariants.{Replay, Store, Check, Ferry}
 use Rattle.desk_words.specs.declared.choice.NumberOption.{NumberOption}
 use Rattle.desk_words.specs.declared.choice.NumberOption.TheVariants.{Seed, Size, Workers, Moves, Live, Watch, Crew}
 use Rattle.desk_words.specs.declared.read.Expected.{Expected}
@@ -153,7 +153,7 @@ crewed_says command done kept h = rw (number_says Crew done kept h) (plain_says 
 
 uncrewed_says : (word : List ℕ) (done : List Argument) (kept : WordsRead) → Says done kept → (if is_unset Crew done then uncrewed_by word done else None) ≡ uncrewed_kept word kept
 unfolding uncrewed_kept
-uncrewed_says word done kept h = rw (crew_says done kept h, plain_says Store done kept h, recovering_says done kept h, generating_says done kept h, trying_says done kept h) refl
+uncrewed_says word done kept h = rw (crew_says done kept h, plain_says Store done kept h, recovering_says done kept h, plain_says Ferry done kept h, generating_says done kept h, trying_says done kept h) refl
 
 says_all : (word : List ℕ) (done : List Argument) (kept : WordsRead) → Says done kept → command_by word done ≡ asked_kept word kept
 says_all word done kept h =
@@ -283,8 +283,9 @@ uncrewed_fails : (word : List ℕ) (list : List Argument) → FailsUncrewed list
 uncrewed_fails word list h =
     if_none (bytes_eq word (codes "store")) (plain Store list) _ (plain_fails Store list h)
     (if_none (bytes_eq word (codes "recover")) (recovering list) _ (recovering_fails list h)
+    (if_none (bytes_eq word (codes "ferry")) (plain Ferry list) _ (plain_fails Ferry list h)
     (if_none (bytes_eq word (codes "gen")) (generating list) _ (generating_fails list h)
-    (if_none (bytes_eq word (codes "trial")) (trying list) None (trying_fails list h) refl)))
+    (if_none (bytes_eq word (codes "trial")) (trying list) None (trying_fails list h) refl))))
 
 crewed_fails : (command : Bool → Command) (list : List Argument) → Fails list → crewed command list ≡ None
 unfolding crewed

@@ -3,7 +3,7 @@ use Rattle.std.specs.Prelude.{ℕ, Bool, true, false, ◌&&◌, nat_lt, if◌the
 use Rattle.desk_folder.specs.Outside.{Directories}
 use Rattle.desk_text.specs.Fields.{◌>>=◌, number_from}
 use Rattle.desk_words.specs.declared.asked.Command.{Command}
-use Rattle.desk_words.specs.declared.asked.Command.TheVariants.{Replay, Store, Recover, Check, Gen, Trial}
+use Rattle.desk_words.specs.declared.asked.Command.TheVariants.{Replay, Store, Recover, Check, Ferry, Gen, Trial}
 use Rattle.desk_words.specs.declared.choice.NumberOption.{NumberOption}
 use Rattle.desk_words.specs.declared.choice.NumberOption.TheVariants.{Seed, Size, Workers, Moves, Live, Watch, Crew}
 use Rattle.desk_words.specs.Arguments.{Argument, arguments, places, values}
@@ -142,8 +142,9 @@ abbrev pub uncrewed_by : List ℕ → List Argument → Option Asking
 uncrewed_by word arguments =
     if bytes_eq word (codes "store") then plain Store arguments else (
     if bytes_eq word (codes "recover") then recovering arguments else (
+    if bytes_eq word (codes "ferry") then plain Ferry arguments else (
     if bytes_eq word (codes "gen") then generating arguments else (
-    if bytes_eq word (codes "trial") then trying arguments else None)))
+    if bytes_eq word (codes "trial") then trying arguments else None))))
 
 -- what a command's word makes of its arguments
 abbrev pub command_by : List ℕ → List Argument → Option Asking

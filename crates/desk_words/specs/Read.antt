@@ -2,7 +2,7 @@
 use Rattle.std.specs.Prelude.{ℕ, Bool, true, false, ◌&&◌, nat_lt, if◌then◌else◌, List, [], ◌∷◌, Option, Some, None, unwrap_or, codes, bytes_eq}
 use Rattle.desk_text.specs.Fields.{◌>>=◌, number_from}
 use Rattle.desk_words.specs.declared.asked.Command.{Command}
-use Rattle.desk_words.specs.declared.asked.Command.TheVariants.{Replay, Store, Recover, Check, Gen, Trial}
+use Rattle.desk_words.specs.declared.asked.Command.TheVariants.{Replay, Store, Recover, Check, Ferry, Gen, Trial}
 use Rattle.desk_words.specs.declared.choice.NumberOption.{NumberOption}
 use Rattle.desk_words.specs.declared.choice.NumberOption.TheVariants.{Seed, Size, Workers, Moves, Live, Watch, Crew}
 use Rattle.desk_words.specs.declared.read.DirectoryWords.{DirectoryWords}
@@ -175,8 +175,9 @@ uncrewed_kept word kept =
     if unset kept.values.crew then (
     if bytes_eq word (codes "store") then plain_kept Store kept else (
     if bytes_eq word (codes "recover") then recovering_kept kept else (
+    if bytes_eq word (codes "ferry") then plain_kept Ferry kept else (
     if bytes_eq word (codes "gen") then generating_kept kept else (
-    if bytes_eq word (codes "trial") then trying_kept kept else None)))) else None
+    if bytes_eq word (codes "trial") then trying_kept kept else None))))) else None
 
 abbrev pub asked_kept : List ℕ → WordsRead → Option Asking
 asked_kept word kept =

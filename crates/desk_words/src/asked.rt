@@ -26,6 +26,8 @@ pub enum Command {
         /// whether the crews are checked too
         crew: bool,
     },
+    /// to add empty legs to the plan of these files
+    Ferry,
     /// to make up a day by a seed, 0 to 999,999,999, and a size, 1 to 40
     Gen {
         seed: u32,
@@ -43,7 +45,7 @@ pub enum Command {
 pub struct Directories<'a> {
     /// that of the input; empty where the command reads none
     pub input: &'a str,
-    /// that of the output, which is also that of a plan to check
+    /// that of the output, which is also that of a plan to check or to add legs to
     pub output: &'a str,
 }
 

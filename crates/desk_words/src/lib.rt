@@ -9,6 +9,7 @@
 //!     store IN OUT
 //!     recover IN OUT [--workers 0 to 64] [--moves 1 to 100000] [--live] [--watch]    // 0 and 1000 if it isn't there
 //!     check IN OUT [--crew]
+//!     ferry IN OUT
 //!     gen OUT [--seed 0 to 999999999] [--size 1 to 40]      // each 1 if it isn't there
 //!     trial [--seed 0 to 999999999] [--size 1 to 40]
 //!

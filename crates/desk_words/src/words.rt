@@ -63,6 +63,7 @@ fn uncrewed<'a>(word: &str, read: Read<'a>) -> Option<Asked<'a>>
     match word {
         "store" => plain(Command::Store, read),
         "recover" => recovering(read),
+        "ferry" => plain(Command::Ferry, read),
         "gen" => generating(read),
         "trial" => trying(read),
         _ => None,
