@@ -56,15 +56,20 @@ none_free : (I : Situation) (P : PlanRows) (A : List Added) (o : Option Added) �
 none_free I P A None is free = is
 none_free I P A (Some a) is free = absurd (let less = lower I P A a is in omega (arith, less, free))
 
+-- a list that goes on as the next one says
+goes_on : (more : ℕ) (I : Situation) (P : PlanRows) (A : List Added) → IsBegun I P A → ((a : Added) → next_added I P A ≡ Some a → IsFerried I P (added_on more I P (with_added A a)))
+    → (o : Option Added) → next_added I P A ≡ o → IsFerried I P (unwrap_or (option_map (λ a. added_on more I P (with_added A a)) o) A)
+goes_on more I P A begun later None is = ends I P A begun is
+goes_on more I P A begun later (Some a) is = later a is
+
 -- each leg lowers the cost, so as many as the plan costs grains are enough
 on_is : (more : ℕ) (I : Situation) (P : PlanRows) (A : List Added) → IsBegun I P A → cost_added I P A ≤ more → IsFerried I P (added_on more I P A)
 unfolding added_on
 on_is zero I P A begun few = ends I P A begun (none_free I P A (next_added I P A) refl few)
-on_is (suc more) I P A begun few = step (next_added I P A) refl
-  where
-    step : (o : Option Added) → next_added I P A ≡ o → IsFerried I P (unwrap_or (option_map (λ a. added_on more I P (with_added A a)) o) A)
-    step None is = ends I P A begun is
-    step (Some a) is = let less = lower I P A a is in on_is more I P (with_added A a) (begun_more I P A a begun is) (omega (arith, less, few))
+on_is (suc more) I P A begun few =
+    goes_on more I P A begun
+    (λ a is. let less = lower I P A a is in on_is more I P (with_added A a) (begun_more I P A a begun is) (omega (arith, less, few)))
+    (next_added I P A) refl
 
 pub ferried_is : (I : Situation) (P : PlanRows) → IsFerried I P (ferried I P)
 unfolding ferried
