@@ -1,13 +1,13 @@
 -- The legs that are added to a plan are those of the relation, and whoever has written what that comes to has said it.
-use Rattle.std.proofs.Common.{◌≡◌, ℕ, zero, suc, ◌+◌, ◌<◌, ◌≤◌, inl, inr, List, [], ◌∷◌, ◌++◌, length, get_or, take, refl, sym, ap, subst, ◌∙◌, arith}
+use Rattle.std.proofs.Common.{◌≡◌, ℕ, zero, suc, ◌<◌, ◌≤◌, inl, inr, List, [], ◌∷◌, length, get_or, take, refl, sym, ap, subst, ◌∙◌, arith}
 use Rattle.std.specs.Prelude.{Option, Some, None, unwrap_or}
 use Rattle.std.specs.Option.{option_map}
-use Rattle.std.specs.Io.KnownBytes.{Appends, Keeps}
+use Rattle.std.specs.Io.KnownBytes.{Appends}
 use Rattle.std.proofs.lemmas.Bool.{ltb-true, cases_order}
-use Rattle.std.proofs.lemmas.List.{take_all, take_at, take-append-le, get_or_append_left, get_or_push, length_push}
+use Rattle.std.proofs.lemmas.List.{take_at, take-append-le, get_or_append_left, get_or_push, length_push}
 use Rattle.desk_folder.specs.declared.files.File.TheVariants as file
-use Rattle.folder_io.specs.Outputs.{FileText, HasAll, ArePut}
-use Rattle.folder_io.proofs.PutAll.{whole-first, whole-rest, whole-end}
+use Rattle.folder_io.specs.Outputs.{FileText}
+use Rattle.folder_io.proofs.PutAll.{whole-first, whole-end}
 use Rattle.desk_data.specs.declared.broken.Broken.{Broken}
 use Rattle.desk_data.specs.Situation.{Situation, legs_of}
 use Rattle.desk_data.specs.PlanRows.{PlanRows}

@@ -27,7 +27,7 @@ use Rattle.desk_tasks.specs.Crew.{CrewedStory, crew_remarks, played_crews}
 use Rattle.desk_tasks.specs.Recover.{Recovery, recovered_history, search_end, reported_alone, recovered, tried}
 use Rattle.desk_tasks.specs.Team.{TeamRecovery, Work, IsTeamWork, recovered_by_team}
 use Rattle.desk_tasks.specs.Tasks.{Task, play, play_crews, recover, team, trial, judge, judge_crews, ferry, generate, team_size, IsWorkOf, outcome_at, outcome, IsRunnable, IsRecoverable, IsSound}
-use Rattle.desk_tasks.specs.Headline.{TellsHistory, Headline, HasHeadline, HasKept, HasCrewed, Recovers, HasRecovered, HasTried, TeamRecovers, HasTeamRecovered}
+use Rattle.desk_tasks.specs.Headline.{TellsHistory, HasHeadline, HasKept, HasCrewed, Recovers, HasRecovered, HasTried, TeamRecovers, HasTeamRecovered}
 use Rattle.desk_tasks.proofs.RecoveryLaw.{recovery-rests, search-ended}
 
 pub keeps_of : (before now : Option (List ℕ)) → Appends before now [] → Keeps before now

@@ -1,5 +1,5 @@
 -- The report of a recovery says why its last search ended.
-use Rattle.std.proofs.Common.{◌≡◌, ◌↔◌, ℕ, ◌≤◌, Bool, true, false, List, [], ◌∷◌, ◌++◌, length, refl, sym, subst, ◌∙◌, arith}
+use Rattle.std.proofs.Common.{◌≡◌, ℕ, ◌≤◌, Bool, true, false, List, [], ◌∷◌, ◌++◌, length, refl, sym, subst, ◌∙◌, arith}
 use Rattle.std.specs.Prelude.{Option, None, Some, IsSome}
 use Rattle.std.proofs.lemmas.Bool.{true≢false, false≢true}
 use Rattle.day_orders.specs.declared.orders.Batch.{Batch}
@@ -11,8 +11,6 @@ use Rattle.desk_model.specs.States.{State, opening}
 use Rattle.desk_model.specs.Histories.{state, entry_of}
 use Rattle.near_moves.specs.Descent.{IsQuiet, end_by, is_spent, next_proposal, descent, recovery_after}
 use Rattle.near_moves.proofs.DescentLaws.{next-quiet, descent-ends}
-use Rattle.near_moves.specs.declared.ended.SearchEnd.{SearchEnd}
-use Rattle.near_moves.specs.declared.ended.SearchEnd.TheVariants as ended
 use Rattle.desk_tasks.specs.Recover.{search_end, IsSearchEnd}
 
 -- ---- the last search

@@ -10,12 +10,7 @@ use desk_text::{moment_text, push_all, push_number};
 
 /// Adds the fields of an added leg that leaves an airport: `AIRCRAFT ORIGIN DEST DATE TIME`, with its departure.
 #[tactic(auto, unfolding(crate::specs::Text::leg_text))]
-fn push_leg(
-    text: &mut Vec<u8>,
-    inst: &Instance,
-    origin: Airport,
-    leg: Added,
-) -> Result<(), NoMem>
+fn push_leg(text: &mut Vec<u8>, inst: &Instance, origin: Airport, leg: Added) -> Result<(), NoMem>
     requires plane { leg.plane.0 < planes_of inst.now }
     requires origin { origin.0 < airports_of inst.now }
     requires dest { leg.dest.0 < airports_of inst.now }
