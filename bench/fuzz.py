@@ -3,8 +3,8 @@
 
 Usage: bench/fuzz.py [--days FROM TO] [--mutate] [--keep DIR] [--program PATH] [--recover EVERY] [--commands NAME,..] [--seconds N] [--judge-alone]
 
-A day is made up from its number by bench/small_days.py, with its crews, a journal and a plan for it; with --mutate it is then spoilt by
-bench/spoilt_days.py. The desk is run on it with `replay` and `check`, half of them with `--crew`, each EVERYth day with `recover` and a few moves, and now and then
+A day is made up from its number by bench/small_days.py, with its crews, a journal, and two plans for it; with --mutate it is then spoilt by
+bench/spoilt_days.py. The desk is run on it with `replay` and `check`, half of them with `--crew`, and with `ferry`, each EVERYth day with `recover` and a few moves, and now and then
 with `gen` and with words that are near a command. With `--commands workers` each day that is small enough is recovered with workers instead, live
 or not, watched or not; then what it gives has to be what a replay of the journal that it wrote gives, the batches those of the day and from
 caller 0, and each line of what a viewer saw that of a beginning of that journal, the last of them that of the whole. Its status, what it prints and the files that it leaves have to be what the package
@@ -39,7 +39,7 @@ LONGEST = 120
 # larger days are not recovered, since the judge tries each move near each plan
 MOST_LINES = 9
 NEAR_WORDS = (
-    "replay", "recover", "check", "gen", "trial", "help", "--help", "", "-", "--", "-x", "IN", "OUT", "OUT", "--seed", "--seed=3", "--seed=",
+    "replay", "recover", "check", "ferry", "gen", "trial", "help", "--help", "", "-", "--", "-x", "IN", "OUT", "OUT", "--seed", "--seed=3", "--seed=",
     "--size", "--size=0", "--size=41", "--moves", "--moves=0", "--moves=0000000001", "--moves=100001", "--workers", "--workers=1",
     "--workers=65", "--live", "--live=", "--watch", "--watch=1", "--crew", "--crew=1", "0", "1", "007", "40", "65", "100000", "999999999", "1000000000", "+1", "1.0",
 )
@@ -137,6 +137,12 @@ def check_case(draws, files, solution):
     return Case("check", words, files, solution, expected.check(files, solution, bool(crew)))
 
 
+def ferry_case(draws, files, solution):
+    """Legs added to a plan, now and then over what an earlier run left."""
+    stood = {"sol_added.csv": b"old\n"} if draws.random() < 0.3 else {}
+    return Case("ferry", ["ferry", "in", "out"], files, {**solution, **stood}, expected.ferry(files, solution))
+
+
 def crew_words(draws):
     """The option of the crews, for half of the runs."""
     return ["--crew"] if draws.random() < 0.5 else []
@@ -199,7 +205,7 @@ def gen_case(draws):
 
 def words_case(draws):
     """Words that are near a command and are none."""
-    words = [draws.choice(NEAR_WORDS[:5])] + [draws.choice(NEAR_WORDS) for _ in range(draws.randint(0, 5))]
+    words = [draws.choice(NEAR_WORDS[:6])] + [draws.choice(NEAR_WORDS) for _ in range(draws.randint(0, 5))]
     if command(words):
         words.append("--help")
     return Case("words", words, {}, {}, Outcome(2, b"usage\n", None))
@@ -208,11 +214,11 @@ def words_case(draws):
 def cases_of(number, options):
     """The runs of a day."""
     draws = random.Random(number)
-    files, solution = make_day(draws)
+    files, solution, flown = make_day(draws)
     if options.mutate:
         both = {**files, **solution}
         spoil(draws, both)
-        solution = {name: both.pop(name) for name in SOLUTION_FILES}
+        solution = flown = {name: both.pop(name) for name in SOLUTION_FILES}
         files = both
     if "workers" in options.commands:
         if is_small(files):
@@ -220,6 +226,7 @@ def cases_of(number, options):
         return
     yield replay_case(draws, files)
     yield check_case(draws, {name: files[name] for name in DAY_FILES + ("crew.csv",)}, solution)
+    yield ferry_case(draws, {name: files[name] for name in DAY_FILES}, flown)
     if options.recover and number % options.recover == 0 and is_small(files):
         yield recover_case(draws, files)
     if number % 20 == 0:
@@ -243,6 +250,8 @@ class Tally:
             self.answers["refused " + report.split()[-1]] += 1
         elif report.startswith("broken"):
             self.answers["broken " + report.split()[1]] += 1
+        if case.name == "ferry" and case.wanted.status == 0:
+            self.answers["added %d" % report.count("added ")] += 1
         for said in re.findall(r"(?m)^crew (?:\d+ )?(ok|K\d)", report):
             self.answers["crew " + said] += 1
         for line in (case.wanted.files or {}).get("journal.csv", b"").splitlines():

@@ -27,7 +27,7 @@ SOLUTION = ("sol_rotations.csv", "sol_itineraries.csv")
 FILES = (
     "config.csv", "flights.csv", "rotations.csv", "aircraft.csv", "airports.csv", "dist.csv", "itineraries.csv",
     "position.csv", "alt_flights.csv", "alt_aircraft.csv", "alt_airports.csv", "tariff.csv", "feed.csv", "journal.csv",
-) + SOLUTION
+) + SOLUTION + ("sol_added.csv",)
 ESCAPES = {b"n": b"\n", b"r": b"\r", b"t": b"\t"}
 
 
@@ -122,10 +122,10 @@ def run_desk(words, day):
 
 
 def played(run, day, words, changes):
-    """What a run gives, and what it wrote. A check finds the files of the solution in its output directory."""
+    """What a run gives, and what it wrote. A check finds the files of the solution in its output directory, and so does what adds legs."""
     words = ["" if word == "''" else word for word in words.split()]
     given, out = directories_of(words)
-    if words[:1] == ["check"] and out:
+    if words[:1] in (["check"], ["ferry"]) and out:
         os.makedirs(os.path.join(day, out), exist_ok=True)
         for name in SOLUTION:
             if os.path.exists(os.path.join(day, "in", name)):

@@ -1,4 +1,4 @@
-"""Small days that are made up from a seed, for bench/fuzz.py: the files of a day, its crews, a journal, and a plan to check.
+"""Small days that are made up from a seed, for bench/fuzz.py: the files of a day, its crews, a journal, a plan to check, and one to add legs to.
 
 Most of a day is sound, so that there is a plan and moves are accepted; each part goes wrong now and then. The journal is made step by
 step with the judge's own state, so that its moves speak of the plan that stands.
@@ -39,7 +39,7 @@ class Maker:
         self.places = list(PLACES[:draws.randint(2, 4)])
         # the last moment that was told, first the window's start
         self.now = 0
-        self.planes, self.legs = [], []
+        self.planes, self.kinds, self.legs = [], [], []
 
     def chance(self, share=0.05):
         """Whether a draw falls into a share of all draws."""
@@ -77,9 +77,11 @@ class Maker:
             work = b"NULL"
             if self.chance(0.1):
                 work = b"%s-%s-%d" % (self.pick(*self.places), self.span(b"-"), self.pick(0, 60, 300, 900))
+            model, seats = self.pick(b"M1", b"M2"), self.pick(*SEATS[:3], *SEATS[:3], *SEATS)
             self.planes.append((name, family, origin, turn))
+            self.kinds.append((model, seats))
             lines.append(b"%s %s %s %s %d %s %d %d %s %s" % (
-                name, self.pick(b"M1", b"M2"), family, self.pick(*SEATS[:3], *SEATS[:3], *SEATS), 40 if self.chance(0.01) else 600,
+                name, model, family, seats, 40 if self.chance(0.01) else 600,
                 self.pick(*PRICES[:3], *PRICES), turn, transit, origin, work))
         self.put("aircraft.csv", lines)
 
@@ -114,7 +116,7 @@ class Maker:
     def make_places(self):
         lines = []
         for place in self.places:
-            groups = [b"10 10 00:00 24:00"]
+            groups = [b"%d %d 00:00 24:00" % self.pick(*[(10, 10)] * 12, (1, 1), (1, 2), (2, 1))]
             if self.chance(0.2):
                 groups.append(b"%d %d %02d:00 %02d:%02d" % (self.draws.randint(1, 3), self.draws.randint(1, 3),
                                                            self.draws.randint(0, 23), self.draws.randint(0, 23), self.pick(0, 1, 30)))
@@ -122,6 +124,8 @@ class Maker:
         self.put("airports.csv", lines)
         pairs = list(itertools.permutations(self.places, 2)) + [(place, place) for place in self.places]
         self.draws.shuffle(pairs)
+        flown = {frozenset(leg[1:3]) for leg in self.legs}
+        pairs = [pair for pair in pairs if frozenset(pair) in flown or not self.chance(0.15)]
         self.put("dist.csv", [b"%s %s %d %s" % (*pair, 601 if self.chance(0.01) else self.pick(30, 60, 90, 600),
                                                 self.pick(b"D", b"D", b"C", b"I")) for pair in pairs])
 
@@ -141,8 +145,14 @@ class Maker:
                               for leg in path)
             lines.append(b"R%d %s %s %d%s" % (number + 1, self.pick(b"A", b"R"), self.pick(*PRICES), self.draws.randint(1, 3), groups))
         self.put("itineraries.csv", lines)
+
+    def make_wishes(self):
+        """Where aircraft are wanted at the end of the window: some that there are not, and often some that there are."""
         wanted = [b"%s M%d %s %d" % (self.pick(*self.places), self.draws.randint(1, 2), self.pick(*SEATS[:3]), self.draws.randint(0, 2))
                   for _ in range(self.draws.randint(0, 3))]
+        if self.chance(0.75):
+            wanted += [b"%s %s %s %d" % (self.pick(*self.places), *self.pick(*self.kinds), self.pick(1, 1, 2, 3))
+                       for _ in range(self.draws.randint(1, 4))]
         self.put("position.csv", wanted)
 
     def order(self, kind):
@@ -180,6 +190,7 @@ class Maker:
 
     def make_prices(self):
         rows = self.draws.sample(TARIFF, self.draws.randint(0, len(TARIFF)))
+        rows = [b"position,500"] * self.chance(0.7) + rows
         rows = [row for at, row in enumerate(rows) if not row.startswith(b"position") or
                 not any(other.startswith(b"position") for other in rows[:at])]
         self.put("tariff.csv", rows + ([b"surface,BUS"] if self.chance(0.6) else []))
@@ -187,7 +198,8 @@ class Maker:
     def make(self):
         self.now = begin = self.draws.randint(30, 65) * 10
         self.put("config.csv", [self.moment(begin) + b" " + self.moment(begin + self.pick(600, 1200, 1440))])
-        for part in (self.make_planes, self.make_legs, self.make_places, self.make_reservations, self.make_orders, self.make_prices):
+        for part in (self.make_planes, self.make_legs, self.make_places, self.make_reservations, self.make_wishes, self.make_orders,
+                     self.make_prices):
             part()
         return self.files
 
@@ -286,10 +298,10 @@ def make_journal(draws, day):
     return b"".join(lines), state
 
 
-def make_solution(draws, day, state):
-    """The files of a plan to check: that of the state, perhaps with some steps more."""
+def make_solution(draws, day, state, stepped):
+    """The files of a plan: that of the state, in such a share of days with some steps more."""
     plan = state.plan
-    if draws.random() < 0.6 and day.legs:
+    if draws.random() < stepped and day.legs:
         proposer = Proposer(draws, state)
         plan = moved(state.situation, plan, [proposer.step() for _ in range(draws.randint(1, 3))])
     texts = Texts(day)
@@ -324,13 +336,14 @@ def make_crews(draws, files):
 
 
 def make_day(draws):
-    """The files of a day with its journal and its crews, and those of a plan for it."""
+    """The files of a day with its journal and its crews, those of a plan to check, and those of a plan to add legs to."""
     files = Maker(draws).make()
     try:
         day, _ = read_day(files)
     except Refused:
-        return {**files, "crew.csv": b"", "journal.csv": b""}, dict.fromkeys(SOLUTION_FILES, b"")
+        none = dict.fromkeys(SOLUTION_FILES, b"")
+        return {**files, "crew.csv": b"", "journal.csv": b""}, none, none
     files["journal.csv"], state = make_journal(draws, day)
-    solution = make_solution(draws, day, state)
+    solution, flown = make_solution(draws, day, state, 0.6), make_solution(draws, day, state, 0.1)
     files["crew.csv"] = make_crews(draws, files)
-    return files, solution
+    return files, solution, flown

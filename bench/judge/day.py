@@ -64,7 +64,10 @@ class Reservation(NamedTuple):
 
 
 class Day(NamedTuple):
-    """The rows of a day that is joined, and its batches, number 0 first: each the moment that it tells or none, and its orders."""
+    """The rows of a day that is joined, and its batches, number 0 first: each the moment that it tells or none, and its orders.
+
+    The distances are minutes by two airports; there are none of airports without one.
+    """
     start: int
     end: int
     airports: list
@@ -78,6 +81,7 @@ class Day(NamedTuple):
     leg_of: dict
     plane_of: dict
     reservation_of: dict
+    distances: dict
 
 
 def limit(index, file):
@@ -279,6 +283,16 @@ def numbered(keys):
     return {key: number for number, key in enumerate(keys)}
 
 
+def distances_of(joined, airport_of):
+    """The minutes from each airport to each other one, and to itself, where there is a distance."""
+    found = {}
+    for pair in joined.distances:
+        for origin, dest in (pair, pair[::-1]):
+            if origin in airport_of and dest in airport_of:
+                found[airport_of[origin], airport_of[dest]] = joined.distance(origin, dest)[0]
+    return found
+
+
 def join(files):
     """The day of the rows of all files, in the order of files; refuses what does not join."""
     joined = Join(files)
@@ -296,4 +310,4 @@ def join(files):
     caps = [hours_of_day(row[1]) for _, row in files["airports.csv"]]
     batches = batches_of(files, {"flight": leg_of, "aircraft": plane_of, "airport": airport_of})
     return Day(start, end, airports, caps, planes, legs, reservations, positions, prices, batches, leg_of, plane_of,
-               numbered((one.name, one.kind) for one in reservations))
+               numbered((one.name, one.kind) for one in reservations), distances_of(joined, airport_of))

@@ -40,6 +40,8 @@ def outcome(asked, places):
         return expected.recover(given, asked.value("--moves"))
     if asked.word == "check":
         return expected.check(given, read(places[1], SOLUTION_FILES), has_crews)
+    if asked.word == "ferry":
+        return expected.ferry(given, read(places[1], SOLUTION_FILES))
     return expected.replay(given, has_crews)
 
 

@@ -2,6 +2,7 @@
 from typing import NamedTuple
 
 from judge import files as readers
+from judge.added import FILE as ADDED, end_of, ferried
 from judge.crews import FILE as CREWS, join_crews, judged as judged_crews
 from judge.day import join
 from judge.fallback import State
@@ -148,22 +149,47 @@ def recover(given, most):
     return run.outcome()
 
 
-@guarded
-def check(given, out, has_crews=False):
-    """What `check` gives for the files of a day and those of OUT, with or without crews."""
+def read_plan(given, out, has_crews=False):
+    """The day after all batches with the plan of OUT, the plan, and the crews or none."""
     solution = {name: out.get(name) for name in SOLUTION_FILES}
     day, crews, (rotations, itineraries) = read_with_crews({**given, **solution}, has_crews, SOLUTION_FILES)
     plan = Plan(day, *join_solution(day, rotations, itineraries))
     situation = Situation(day)
     for number in range(len(day.batches)):
         situation = situation.with_batch(number, plan)
+    return situation, plan, crews
+
+
+def verdict(situation, plan):
+    """The first item that a plan breaks or none, and what is reported of it and of the cost."""
     item = first_broken(situation, plan)
-    judged = b"broken %s\n" % Texts(day).item(item) if item else b"feasible\n"
-    report = judged + b"cost %d\n" % cost(plan)
+    judged = b"broken %s\n" % Texts(plan.day).item(item) if item else b"feasible\n"
+    return item, judged + b"cost %d\n" % cost(plan)
+
+
+@guarded
+def check(given, out, has_crews=False):
+    """What `check` gives for the files of a day and those of OUT, with or without crews."""
+    situation, plan, crews = read_plan(given, out, has_crews)
+    item, report = verdict(situation, plan)
     if has_crews:
         kept = judged_crews(plan, crews)
         return Outcome(7 if item or kept != b"ok" else 0, report + b"crew %s\n" % kept, {})
     return Outcome(7 if item else 0, report, {})
+
+
+@guarded
+def ferry(given, out):
+    """What `ferry` gives for the files of a day and those of OUT."""
+    situation, plan, _ = read_plan(given, out)
+    item, report = verdict(situation, plan)
+    if item:
+        return Outcome(7, report, {ADDED: b""})
+    lines, told, now = [], [], cost(plan)
+    for leg, now in ferried(situation, plan):
+        lines.append(Texts(plan.day).added(end_of(plan, leg.plane), leg))
+        told.append(b"added %s %d\n" % (lines[-1], now))
+    return Outcome(0, b"".join(told) + b"ended quiet\ncost %d\n" % now, {ADDED: b"".join(line + b"\n" for line in lines)})
 
 
 def gen(seed, size):

@@ -79,6 +79,11 @@ class Texts:
         event = [b"batch", b"%d" % what] if isinstance(what, int) else [b"move", self.move(what)]
         return b",".join(map(quoted, [b"%d" % who] + event + [self.answer(answer)])) + b"\n"
 
+    def added(self, origin, leg):
+        """The line of an added leg, which leaves from an airport."""
+        airports = self.day.airports
+        return b"%s %s %s %s" % (self.day.planes[leg.plane].name, airports[origin], airports[leg.dest], moment_text(leg.dep))
+
     def rotations(self, plan):
         """The text of sol_rotations.csv."""
         lines = []

@@ -1,7 +1,7 @@
 """The words of a command (docs/FORMATS.md, "The words")."""
 import re
 
-DIRECTORIES = {"replay": 2, "recover": 2, "check": 2, "gen": 1, "trial": 0}
+DIRECTORIES = {"replay": 2, "recover": 2, "check": 2, "ferry": 2, "gen": 1, "trial": 0}
 # for each option its commands, its range, and what holds where it is left out
 OPTIONS = {
     "--seed": (("gen", "trial"), 0, 999_999_999, 1),

@@ -175,12 +175,12 @@ fn say_verdict(text: &mut ShownText, report: &[u8]) -> Result<(), NoMem> {
     Ok(())
 }
 
-// The words of all commands.
-fn usage_text(alloc: Global) -> Result<ShownText, NoMem>
-    ensures { IfOk result (λ text. text ≡ flat_map (λ line. shown_line line.now) USAGE.now) }
+// A text of these lines.
+fn text_of_lines(alloc: Global, lines: &[&str]) -> Result<ShownText, NoMem>
+    ensures { IfOk result (λ text. text ≡ flat_map (λ line. shown_line line.now) lines.now) }
 {
     let mut text = ShownText::new(alloc);
-    text.say_lines(USAGE)?;
+    text.say_lines(lines)?;
     Ok(text)
 }
 
@@ -231,7 +231,7 @@ pub fn explain(
     ensures usage { status ≡ 2 → IfOk result (λ text. text ≡ flat_map (λ line. shown_line line.now) USAGE.now) }
 {
     if status == 2 {
-        return usage_text(alloc);
+        return text_of_lines(alloc, USAGE);
     }
     end_text(alloc, words, status, report)
 }

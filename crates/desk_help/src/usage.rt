@@ -15,6 +15,7 @@ pub const USAGE: &[&str] = &[
     "    --watch                      tells what a viewer beside the workers saw of the plans; needs at least 1 worker",
     "  check IN OUT [OPTIONS]         judges the plan of OUT",
     "    --crew                       checks the crews of crew.csv too",
+    "  ferry IN OUT                   adds empty legs to that plan, to bring aircraft where position.csv wants them",
     "  gen OUT [OPTIONS]              makes up a day",
     "  trial [OPTIONS]                makes up a day and recovers it, and writes no file",
     "    --seed N                     which day is made up, 0 to 999999999; 1 if left out",

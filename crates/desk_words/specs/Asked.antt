@@ -1,5 +1,5 @@
 -- What the code's answer says.
-use Rattle.std.specs.Prelude.{Option, option_map}
+use Rattle.std.specs.Prelude.{option_map}
 use Rattle.desk_words.specs.declared.asked.Asked.{Asked}
 use Rattle.desk_words.specs.declared.asked.Directories as asked
 use Rattle.desk_folder.specs.Outside.{Directories}
