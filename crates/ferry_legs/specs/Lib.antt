@@ -1,1 +1,2 @@
 pub mod Ferried
+pub mod Steps

@@ -8,9 +8,13 @@
 //! `added_legs`.
 #![tactic(auto)]
 
+
+mod adding;
 mod ferried;
-mod ferry;
+mod known;
+mod next;
+mod trial;
 
 pub use added_rules::Added;
 pub use ferried::Ferried;
-pub use ferry::ferry;
+pub use adding::ferry;
