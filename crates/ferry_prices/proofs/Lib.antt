@@ -1,0 +1,6 @@
+pub mod SumLaws
+pub mod EndLaws
+pub mod HandLaws
+pub mod CostLaws
+pub mod PositionLaws
+pub mod MomentLaws

@@ -8,18 +8,21 @@ use Rattle.desk_rules.specs.Numbers.{numbers}
 use Rattle.desk_rules.specs.Cost.{is_wanted, ends_at}
 use Rattle.ferry_prices.specs.declared.wanted.Wanted.{Wanted}
 
--- the positions of an airport, in order
-abbrev pub positions_at : Situation → ℕ → List PositionInfo
-positions_at I airport = filter (λ position. position.airport.0 == airport) I.parts.positions
+-- those of some positions that are at an airport, in order
+abbrev pub positions_at : List PositionInfo → ℕ → List PositionInfo
+positions_at positions airport = filter (λ position. position.airport.0 == airport) positions
 
 -- a position with so many aircraft at hand
 abbrev pub with_hand : (PositionInfo → ℕ) → PositionInfo → Wanted
 with_hand hand position = record { position = position; at_hand = hand position }
 
--- by airport its positions, with so many aircraft at hand for each
-pub record ArePositions (I : Situation) (hand : PositionInfo → ℕ) (airports : List (List Wanted)) : Type 0 where
-  pub all : length airports ≡ airports_of I
-  pub each : (a : ℕ) → a < airports_of I → slice_index_or airports a [] ≡ map (with_hand hand) (positions_at I a)
+-- by airport those of some positions that are there, with so many aircraft at hand for each
+pub record ArePositionsOf (positions : List PositionInfo) (count : ℕ) (hand : PositionInfo → ℕ) (airports : List (List Wanted)) : Type 0 where
+  pub all : length airports ≡ count
+  pub each : (a : ℕ) → a < count → slice_index_or airports a [] ≡ map (with_hand hand) (positions_at positions a)
+
+abbrev pub ArePositions : Situation → (PositionInfo → ℕ) → List (List Wanted) → Type 0
+ArePositions I hand airports = ArePositionsOf I.parts.positions (airports_of I) hand airports
 
 -- how many of the first n aircraft are wanted at a position, and end there in a plan
 abbrev pub hand_of_first : ℕ → Situation → PlanRows → PositionInfo → ℕ
