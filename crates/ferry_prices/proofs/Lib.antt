@@ -3,4 +3,5 @@ pub mod EndLaws
 pub mod HandLaws
 pub mod CostLaws
 pub mod PositionLaws
+pub mod StepLaws
 pub mod MomentLaws

@@ -1,5 +1,5 @@
 -- The positions by airport: one more position, and one aircraft that comes or leaves.
-use Rattle.std.proofs.Common.{◌≡◌, ◌≢◌, ℕ, ◌+◌, ◌-◌, ◌<◌, ◌≤◌, inl, inr, Bool, true, false, ◌&&◌, cond, eqb, List, [], ◌∷◌, ◌++◌, length, get_or, set, map, replicate, refl, sym, ap, subst, ◌∙◌, arith}
+use Rattle.std.proofs.Common.{◌≡◌, ◌≢◌, ℕ, zero, suc, ◌+◌, ◌-◌, ◌<◌, ◌≤◌, inl, inr, Bool, true, false, ◌&&◌, cond, eqb, List, [], ◌∷◌, ◌++◌, length, get_or, set, map, take, drop, replicate, add-one, refl, sym, ap, subst, ◌∙◌, arith}
 use Rattle.std.proofs.Math.Path.{fun_ext}
 use Rattle.std.specs.Prelude.{filter, All}
 use Rattle.std.proofs.lemmas.Bool.{cases_eq, eq-eqb, ne_eqb, eqb-true}
@@ -86,15 +86,15 @@ stepped I hand now airports b f lt here there are =
 
 less_here : (position : PositionInfo) (h : ℕ) (wanted here : Bool) → here ≡ true → cond wanted (let w : Wanted = record { position = position; at_hand = h - 1 } in w) (let w : Wanted = record { position = position; at_hand = h } in w) ≡ (let w : Wanted = record { position = position; at_hand = h - one_if (wanted && here) } in w)
 less_here position h true true is = refl
-less_here position h false true is = refl
+less_here position h false true is = ap (λ (k : ℕ). (let w : Wanted = record { position = position; at_hand = k } in w)) (let same : h ≡ h - 0 = omega arith in same)
 less_here position h true false is = absurd cc
 less_here position h false false is = absurd cc
 
 less_there : (h : ℕ) (wanted here : Bool) → here ≡ false → h ≡ h - one_if (wanted && here)
 less_there h true true is = absurd cc
 less_there h false true is = absurd cc
-less_there h true false is = refl
-less_there h false false is = refl
+less_there h true false is = omega arith
+less_there h false false is = omega arith
 
 more_hand : (position : PositionInfo) (h : ℕ) (wanted here : Bool) → here ≡ true → cond wanted (let w : Wanted = record { position = position; at_hand = h + 1 } in w) (let w : Wanted = record { position = position; at_hand = h } in w) ≡ (let w : Wanted = record { position = position; at_hand = h + one_if (wanted && here) } in w)
 more_hand position h true true is = refl
@@ -135,3 +135,26 @@ all_few hand (p ∷ ps) few = All-cons (λ w. w.at_hand < 2000) (with_hand hand 
 pub few_at : (I : Situation) (hand : PositionInfo → ℕ) (airports : List (List Wanted)) (b : ℕ) → b < airports_of I → ((position : PositionInfo) → hand position < 2000) → ArePositions I hand airports → All (λ w. w.at_hand < 2000) (get_or airports b [])
 few_at I hand airports b lt few are =
     subst (All (λ w. w.at_hand < 2000)) (sym (are.each b lt)) (all_few hand (positions_at I.parts.positions b) few)
+
+-- ---- rows one by one
+
+-- the first of them are changed, and the others are as they were
+abbrev pub changed : {X : Type 0} → (X → X) → ℕ → List X → List X
+changed f k xs = map f (take k xs) ++ drop k xs
+
+changed_at : {X : Type 0} (f : X → X) (xs : List X) (k : ℕ) (d : X) → k < length xs → get_or (changed f k xs) k d ≡ get_or xs k d
+changed_at f [] k d lt = absurd (omega arith)
+changed_at f (x ∷ xs) zero d lt = refl
+changed_at f (x ∷ xs) (suc k) d lt = changed_at f xs k d (omega (arith, lt))
+
+changed_more : {X : Type 0} (f : X → X) (xs : List X) (k : ℕ) (d : X) → k < length xs → set (changed f k xs) k (f (get_or xs k d)) ≡ changed f (suc k) xs
+changed_more f [] k d lt = absurd (omega arith)
+changed_more f (x ∷ xs) zero d lt = refl
+changed_more {X} f (x ∷ xs) (suc k) d lt = ap (λ (ys : List X). f x ∷ ys) (changed_more f xs k d (omega (arith, lt)))
+
+pub one_changed : {X : Type 0} (f : X → X) (old now : List X) (k : ℕ) (d new : X) → k < length old → now ≡ changed f k old → new ≡ f (get_or now k d) → set now k new ≡ changed f (k + 1) old
+one_changed {X} f old now k d new lt is put =
+    ap (λ (ys : List X). set ys k new) is
+    ∙ ap (set (changed f k old) k) (put ∙ ap (λ (ys : List X). f (get_or ys k d)) is ∙ ap f (changed_at f old k d lt))
+    ∙ changed_more f old k d lt
+    ∙ ap (λ (n : ℕ). changed f n old) (sym (add-one k))

@@ -5,7 +5,7 @@ use Rattle.std.specs.Prelude.{filter, sum_by, count_by}
 use Rattle.std.proofs.lemmas.Bool.{cases_Bool}
 use Rattle.std.proofs.lemmas.List.Sums.{sum_by-cons, length-filter}
 use Rattle.desk_rules.specs.Numbers.{numbers}
-use Rattle.added_legs.proofs.SumLaws.{sum_more, sum_same}
+use Rattle.desk_rules.proofs.CostLaws.{sum-more}
 
 -- one where a test holds
 abbrev pub one_if : Bool → ℕ
@@ -13,6 +13,13 @@ one_if b = cond b 1 0
 
 below_cases : (k n : ℕ) → k < suc n → (k < n) ⊎ (k ≡ n)
 below_cases k n h = grind arith
+
+sum_more : (f : ℕ → ℕ) (n : ℕ) → sum_by f (numbers (suc n)) ≡ sum_by f (numbers n) + f n
+sum_more f n = subst (λ (k : ℕ). sum_by f (numbers k) ≡ sum_by f (numbers n) + f n) (add-one n) (sum-more f n)
+
+sum_same : (f g : ℕ → ℕ) (n : ℕ) → ((k : ℕ) → k < n → f k ≡ g k) → sum_by f (numbers n) ≡ sum_by g (numbers n)
+sum_same f g zero same = refl
+sum_same f g (suc n) same = omega (arith, sum_more f n, sum_more g n, sum_same f g n (λ k lt. same k (omega arith)), same n (omega arith))
 
 -- terms that agree but at x
 pub sum_change : (f g : ℕ → ℕ) (n x : ℕ) → x < n → ((y : ℕ) → y < n → y ≢ x → f y ≡ g y) → sum_by f (numbers n) + g x ≡ sum_by g (numbers n) + f x
@@ -56,13 +63,25 @@ sums_balance f g h k [] same = refl
 sums_balance f g h k (x ∷ xs) same =
     omega (arith, sum_by-cons f x xs, sum_by-cons g x xs, sum_by-cons h x xs, sum_by-cons k x xs, same x, sums_balance f g h k xs same)
 
+kept_by : {X Y : Type 0} (f : X → Y) (p : Y → Bool) (q : X → Bool) (x : X) (xs : List X) (b : Bool) → q x ≡ b → count_by p (map f (filter q xs)) ≡ sum_by (λ x. one_if (q x && p (f x))) xs → count_by p (map f (cond b (x ∷ filter q xs) (filter q xs))) ≡ sum_by (λ x. one_if (q x && p (f x))) (x ∷ xs)
+kept_by {X} {Y} f p q x xs true is more =
+    let g : X → ℕ = λ x. one_if (q x && p (f x)) in
+    let first : count_by p (f x ∷ map f (filter q xs)) ≡ one_if (p (f x)) + count_by p (map f (filter q xs)) = sum_by-cons (λ (y : Y). one_if (p y)) (f x) (map f (filter q xs)) in
+    first
+    ∙ ap (λ (n : ℕ). one_if (p (f x)) + n) more
+    ∙ ap (λ (b : Bool). one_if (b && p (f x)) + sum_by g xs) (sym is)
+    ∙ sym (sum_by-cons g x xs)
+kept_by {X} {Y} f p q x xs false is more =
+    let g : X → ℕ = λ x. one_if (q x && p (f x)) in
+    let none : sum_by g xs ≡ 0 + sum_by g xs = omega arith in
+    more ∙ none
+    ∙ ap (λ (b : Bool). one_if (b && p (f x)) + sum_by g xs) (sym is)
+    ∙ sym (sum_by-cons g x xs)
+
 -- those that pass one test are counted among those that pass another
 pub count_kept : {X Y : Type 0} (f : X → Y) (p : Y → Bool) (q : X → Bool) (xs : List X) → count_by p (map f (filter q xs)) ≡ sum_by (λ x. one_if (q x && p (f x))) xs
 count_kept f p q [] = refl
-count_kept f p q (x ∷ xs) = elim (cases_Bool (q x)) [
-  | inl here ↦ rw here (omega (arith, sum_by-cons (λ x. one_if (q x && p (f x))) x xs, ap (λ (b : Bool). one_if (b && p (f x))) here, sum_by-cons (λ y. one_if (p y)) (f x) (map f (filter q xs)), count_kept f p q xs))
-  | inr off ↦ rw off (omega (arith, sum_by-cons (λ x. one_if (q x && p (f x))) x xs, ap (λ (b : Bool). one_if (b && p (f x))) off, count_kept f p q xs))
-]
+count_kept f p q (x ∷ xs) = kept_by f p q x xs (q x) refl (count_kept f p q xs)
 
 -- what is said of those that pass a test
 pub map_kept : {X Y : Type 0} (f g : X → Y) (q : X → Bool) (xs : List X) → ((x : X) → q x ≡ true → f x ≡ g x) → map f (filter q xs) ≡ map g (filter q xs)

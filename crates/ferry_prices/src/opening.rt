@@ -44,8 +44,9 @@ fn count_plane(
     requires so_far { ArePositions inst.now (hand_of_first plane.0 inst.now plan.now) (map (λ rows. rows.items) airports.old.items) }
     ensures { ArePositions inst.now (hand_of_first (plane.0 + 1) inst.now plan.now) (map (λ rows. rows.items) airports.new.items) }
 {
-    // only the contract speaks of the plan
+    // only the contract speaks of the plan, and there are at most 1,000 aircraft
     let _ = plan;
+    let _few = inst.planes();
     let info = inst.plane(plane);
     if info.surface {
         return;

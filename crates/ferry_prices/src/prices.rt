@@ -101,6 +101,8 @@ impl FerryPrices {
         requires time { IsInTime inst.now plan.now leg.plane.0 leg.dep.0 }
         ensures { IsPricesOf inst.now plan.now (with_added added leg) self.new }
     {
+        // the day is a valid one: what a plan costs is bounded
+        let _rows = inst.parts();
         let change = self.change(inst, plan, leg.plane, leg.dest);
         let from = self.ends[leg.plane.0 as usize];
         let plane = inst.plane(leg.plane);
@@ -121,8 +123,9 @@ impl FerryPrices {
         ensures change { (at : Moment) → IsInTime inst.now plan.now plane.0 at.0 → cost_added inst.now plan.now (with_added added (added_leg plane.0 dest.0 at)) + result.less.0 ≡ cost_added inst.now plan.now added + result.more.0 }
         ensures limit { result.more.0 ≤ 10 ^ 34 }
     {
-        // only the contract speaks of the plan
+        // only the contract speaks of the plan; the day is a valid one: its positions are few
         let _ = plan;
+        let _rows = inst.parts();
         let from = self.ends[plane.0 as usize];
         let minutes = inst.distance(from, dest).unwrap_or(0);
         let flying = flying_cost(inst, plane, minutes);
