@@ -1,5 +1,5 @@
 -- What one more added leg changes of the cost: what it costs to fly, and what is missing.
-use Rattle.std.proofs.Common.{◌≡◌, ◌≢◌, ℕ, ◌+◌, ◌-◌, ◌*◌, ◌^◌, ◌<◌, ◌≤◌, inl, inr, Bool, false, ◌&&◌, eqb, ltb, leb, List, [], ◌∷◌, length, get_or, map, refl, sym, ap, ◌∙◌, arith}
+use Rattle.std.proofs.Common.{◌≡◌, ◌≢◌, ℕ, ◌+◌, ◌-◌, ◌*◌, ◌^◌, ◌<◌, ◌≤◌, inl, inr, Bool, false, ◌&&◌, eqb, ltb, leb, List, [], ◌∷◌, length, get_or, map, refl, sym, ap, subst, ◌∙◌, arith}
 use Rattle.std.specs.Prelude.{Option, Some, None, sum_by, unwrap_or}
 use Rattle.std.specs.List.{All}
 use Rattle.std.proofs.Math.Nat.{mul-add, mul-le-mul_right}
@@ -35,7 +35,7 @@ use Rattle.ferry_prices.specs.Positions.{positions_at, with_hand, is_gained, is_
 use Rattle.ferry_prices.specs.Prices.{at_hand_with, IsInTime, flying_cost, missing_cost}
 use Rattle.ferry_prices.proofs.SumLaws.{one_if, sum_change, sums_balance, count_kept}
 use Rattle.ferry_prices.proofs.EndLaws.{for_other, for_new}
-use Rattle.ferry_prices.proofs.HandLaws.{is_at, hand_changes, hand_held, missing_changes}
+use Rattle.ferry_prices.proofs.HandLaws.{is_at, hand_changes, missing_changes}
 
 -- ---- what a leg costs to fly
 
@@ -87,7 +87,9 @@ module _ (I : Situation) (P : PlanRows) (plan : IsPlanFor I P) (A : List Added) 
       let g : ℕ → ℕ = operating (merged_day I P A) (merged_plan I P A) in
       let n = legs_of I + planes_of I in
       let change : sum_by f (numbers n) + g (legs_of I + a.plane.0) ≡ sum_by g (numbers n) + f (legs_of I + a.plane.0) = sum_change f g n (legs_of I + a.plane.0) (omega (arith, lt)) other_leg in
-      let more : sum_by f (numbers n) ≡ sum_by g (numbers n) + flying_cost I a.plane.0 (minutes_to I P a.plane.0 a.dest) = omega (arith, change, no_leg_cost, new_leg_cost) in
+      let before : g (legs_of I + a.plane.0) ≡ 0 = no_leg_cost in
+      let after : sum_by f (numbers n) ≡ sum_by g (numbers n) + f (legs_of I + a.plane.0) = omega (arith, change, before) in
+      let more : sum_by f (numbers n) ≡ sum_by g (numbers n) + flying_cost I a.plane.0 (minutes_to I P a.plane.0 a.dest) = after ∙ ap (λ (k : ℕ). sum_by g (numbers n) + k) new_leg_cost in
       ap (λ (k : ℕ). sum_by f (numbers k)) (merged_legs I P B) ∙ more
       ∙ ap (λ (k : ℕ). sum_by g (numbers k) + flying_cost I a.plane.0 (minutes_to I P a.plane.0 a.dest)) (sym (merged_legs I P A))
 
@@ -134,14 +136,11 @@ module _ (I : Situation) (P : PlanRows) (plan : IsPlanFor I P) (A : List Added) 
       let rate = 60 * weight I term.Position * position_price (rows_of I) in
       let sums : missing_in I (at_hand_with I P B) + sum_by won I.parts.positions ≡ missing_in I hand + sum_by gone I.parts.positions =
       sums_balance (λ (position : PositionInfo). position.count - at_hand_with I P B position) won (λ (position : PositionInfo). position.count - hand position) gone I.parts.positions (λ position.
-      missing_changes position (is_wanted position plane) from a.dest.0 (hand position) (at_hand_with I P B position) apart (hand_changes I P plan A a lt air none time position) (hand_held I P plan A a lt air none time position)) in
+      missing_changes position (is_wanted position plane) from a.dest.0 (hand position) (at_hand_with I P B position) apart (hand_changes I P plan A a lt air none time position)) in
+      let all_won : gained plane (map (with_hand hand) (positions_at I.parts.positions a.dest.0)) ≡ sum_by won I.parts.positions = count_kept (with_hand hand) (is_gained plane) (λ (position : PositionInfo). eqb position.airport.0 a.dest.0) I.parts.positions in
+      let all_gone : lost plane (map (with_hand hand) (positions_at I.parts.positions from)) ≡ sum_by gone I.parts.positions = count_kept (with_hand hand) (is_lost plane) (λ (position : PositionInfo). eqb position.airport.0 from) I.parts.positions in
       let all : missing_in I (at_hand_with I P B) + gained plane (map (with_hand hand) (positions_at I.parts.positions a.dest.0)) ≡ missing_in I hand + lost plane (map (with_hand hand) (positions_at I.parts.positions from)) =
-      omega (
-        arith,
-        sums,
-        count_kept (with_hand hand) (is_gained plane) (λ position. eqb position.airport.0 a.dest.0) I.parts.positions,
-        count_kept (with_hand hand) (is_lost plane) (λ position. eqb position.airport.0 from) I.parts.positions,
-      ) in
+      omega (arith, sums, all_won, all_gone) in
       ap (λ (k : ℕ). k + missing_cost I (gained plane (map (with_hand hand) (positions_at I.parts.positions a.dest.0)))) (position_is I P B)
       ∙ sym (mul-add rate (missing_in I (at_hand_with I P B)) (gained plane (map (with_hand hand) (positions_at I.parts.positions a.dest.0))))
       ∙ ap (λ (k : ℕ). rate * k) all
@@ -199,7 +198,8 @@ module _ (I : Situation) (P : PlanRows) (A : List Added) (valid : IsValid I) whe
 
   flown_le : (x : ℕ) (row : Row) → operating_of (merged_day I P A) x row ≤ 10 ^ 27
   flown_le x (Flown plane dep) =
-      omega (arith, by_hour-le (weight I term.Operating) (plane_at I plane.0).hourly.0 (leg_at (merged_day I P A) x).block (weight-le I term.Operating valid) (hourly_le I plane.0 valid), merged_le x)
+      let le : operating_of (merged_day I P A) x (Flown plane dep) ≤ 10 ^ 22 * (leg_at (merged_day I P A) x).block = by_hour-le (weight I term.Operating) (plane_at I plane.0).hourly.0 (leg_at (merged_day I P A) x).block (weight-le I term.Operating valid) (hourly_le I plane.0 valid) in
+      omega (arith, le, merged_le x)
   flown_le x Cancelled = omega arith
 
   operating_le : operating_cost (merged_day I P A) (merged_plan I P A) ≤ 21000 * 10 ^ 27
@@ -207,7 +207,8 @@ module _ (I : Situation) (P : PlanRows) (A : List Added) (valid : IsValid I) whe
   operating_le =
       let n = legs_of (merged_day I P A) in
       let few : n ≤ 21000 = omega (arith, merged_legs I P A, valid.parts.few.legs, valid.parts.few.planes) in
-      omega (arith, sum-le (operating (merged_day I P A) (merged_plan I P A)) (10 ^ 27) n (λ x. flown_le x (row_at (merged_plan I P A) x)), mul-le-mul_right (10 ^ 27) few)
+      let sum : operating_cost (merged_day I P A) (merged_plan I P A) ≤ n * 10 ^ 27 = sum-le (operating (merged_day I P A) (merged_plan I P A)) (10 ^ 27) n (λ x. flown_le x (row_at (merged_plan I P A) x)) in
+      omega (arith, sum, mul-le-mul_right (10 ^ 27) few)
 
   gaps_le : missing_in I (at_hand_with I P A) ≤ 10 ^ 7
   gaps_le =
@@ -216,12 +217,10 @@ module _ (I : Situation) (P : PlanRows) (A : List Added) (valid : IsValid I) whe
 
   missing_le : position_cost (merged_day I P A) (merged_plan I P A) ≤ 10 ^ 32
   missing_le =
-      omega (
-        arith,
-        position_is I P A,
-        by_item-le (weight I term.Position) (position_price (rows_of I)) (missing_in I (at_hand_with I P A)) (weight-le I term.Position valid) (position_price-le (rows_of I) valid.parts.tariff.each),
-        gaps_le,
-      )
+      let le : missing_cost I (missing_in I (at_hand_with I P A)) ≤ 60 * 10 ^ 22 * missing_in I (at_hand_with I P A) = by_item-le (weight I term.Position) (position_price (rows_of I)) (missing_in I (at_hand_with I P A)) (weight-le I term.Position valid) (position_price-le (rows_of I) valid.parts.tariff.each) in
+      let same = position_is I P A in
+      let most : missing_cost I (missing_in I (at_hand_with I P A)) ≤ 10 ^ 32 = omega (arith, le, gaps_le) in
+      subst (λ (k : ℕ). k ≤ 10 ^ 32) (sym same) most
 
   pub added-room : IsPlanFor I P → cost_added I P A < 10 ^ 38
   unfolding cost_added cost

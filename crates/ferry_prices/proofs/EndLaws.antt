@@ -142,13 +142,13 @@ has_last P p at (suc n) =
 -- ---- the last leg of an aircraft
 
 lasts_at : Situation → PlanRows → ℕ → List (Option Leg)
-lasts_at I P at = map (λ p. (has_last P p at (legs_of I)).last) (numbers (planes_of I))
+lasts_at I P at = map (λ (p : ℕ). (has_last P p at (legs_of I)).last) (numbers (planes_of I))
 
 are_lasts : (I : Situation) (P : PlanRows) (at : ℕ) → AreLasts I P (λ p. at) (legs_of I) (lasts_at I P at)
 unfolding lasts_at
 are_lasts I P at = record {
-  planes = length-map (numbers (planes_of I)) (λ p. (has_last P p at (legs_of I)).last) ∙ length-numbers (planes_of I);
-  each = λ p lt. subst (IsLastOf P p at (legs_of I)) (sym (number_said (λ p. (has_last P p at (legs_of I)).last) (planes_of I) p None lt)) (has_last P p at (legs_of I)).is;
+  planes = length-map (numbers (planes_of I)) (λ (p : ℕ). (has_last P p at (legs_of I)).last) ∙ length-numbers (planes_of I);
+  each = λ p lt. subst (IsLastOf P p at (legs_of I)) (sym (number_said (λ (p : ℕ). (has_last P p at (legs_of I)).last) (planes_of I) p None lt)) (has_last P p at (legs_of I)).is;
 }
 
 pub last_leg_is : (I : Situation) (P : PlanRows) (p : ℕ) → IsPlanFor I P → p < planes_of I → IsLastOf P p 52500000 (legs_of I) (last_leg I P p)
@@ -170,18 +170,18 @@ always I P p at x plan departs =
 
 -- where the aircraft is ready before a moment, its last leg is the last before it, and an added leg comes after it
 record IsReady (I : Situation) (P : PlanRows) (p at end : ℕ) (last : Option Leg) : Type 0 where
-  last : IsLastOf P p end (legs_of I) last
+  found : IsLastOf P p end (legs_of I) last
   after : is_after P last at ≡ true
 
 soon : (I : Situation) (P : PlanRows) (p at end : ℕ) (last : Option Leg) → IsPlanFor I P → IsLastOf P p 52500000 (legs_of I) last → ready_after I P p last ≤ at → at < end → IsReady I P p at end last
 soon I P p at end None plan h le lt = record {
-  last = λ x within. and_left (flies P p x) (ltb (dep P x) end) (flies_not I P p x plan (h x within));
+  found = λ x within. and_left (flies P p x) (ltb (dep P x) end) (flies_not I P p x plan (h x within));
   after = refl;
 }
 soon I P p at end (Some l) plan h le lt =
     let early : dep P l.0 ≤ at = omega (arith, le) in
     record {
-      last = record {
+      found = record {
         within = h.within;
         before = and_from (flies P p l.0) (ltb (dep P l.0) end) (own P p 52500000 l.0 h.before) (lt-ltb (dep P l.0) end (omega (arith, early, lt)));
         last = λ z within departs. h.last z within (always I P p end z plan departs);
@@ -224,7 +224,7 @@ module _ (I : Situation) (P : PlanRows) (plan : IsPlanFor I P) where
   ends_before A p at airport lt air none time =
       let last = last_leg I P p in
       let is = soon I P p at I.parts.to.0 last plan (last_leg_is I P p plan lt) time.after time.before in
-      ends_are A p airport last lt is.last
+      ends_are A p airport last lt is.found
       ∙ ap (λ (o : Option Added). not (plane_at I p).surface && eqb (stand_with I P p I.parts.to.0 last (option_map (flight_of I P p) o)).0 airport) none
       ∙ ap (λ (b : Bool). not b && eqb (stand I p last).0 airport) air
 
@@ -234,7 +234,7 @@ module _ (I : Situation) (P : PlanRows) (plan : IsPlanFor I P) where
       let p = a.plane.0 in
       let last = last_leg I P p in
       let is = soon I P p a.dep.0 I.parts.to.0 last plan (last_leg_is I P p plan lt) time.after time.before in
-      ends_are (with_added A a) p airport last lt is.last
+      ends_are (with_added A a) p airport last lt is.found
       ∙ ap (λ (o : Option Added). not (plane_at I p).surface && eqb (stand_with I P p I.parts.to.0 last (option_map (flight_of I P p) o)).0 airport) (for_new A a none)
       ∙ ap (λ (b : Bool). not b && eqb (cond (ltb a.dep.0 I.parts.to.0 && is_after P last a.dep.0) a.dest (stand I p last)).0 airport) air
       ∙ ap (λ (b : Bool). eqb (cond b a.dest (stand I p last)).0 airport) (and_from (ltb a.dep.0 I.parts.to.0) (is_after P last a.dep.0) (lt-ltb a.dep.0 I.parts.to.0 time.before) is.after)

@@ -1,6 +1,7 @@
 -- How many aircraft are at hand, and how many are missing, as one more leg is added.
-use Rattle.std.proofs.Common.{◌≡◌, ◌≢◌, ℕ, ◌+◌, ◌-◌, ◌<◌, ◌≤◌, Bool, true, false, ◌&&◌, not, cond, eqb, ltb, leb, List, [], ◌∷◌, length, length-append, add-one, refl, sym, ap, ◌∙◌, arith}
-use Rattle.std.specs.Prelude.{Option, None, filter}
+use Rattle.std.proofs.Common.{◌≡◌, ◌≢◌, ℕ, ◌+◌, ◌-◌, ◌<◌, ◌≤◌, inl, inr, Bool, true, false, ◌&&◌, not, cond, eqb, ltb, leb, List, [], ◌∷◌, length, length-append, add-one, refl, sym, ap, ◌∙◌, arith}
+use Rattle.std.specs.Prelude.{Option, None, filter, count_by}
+use Rattle.std.proofs.lemmas.Bool.{cases_Bool, true≢false, leb-true, leb-false, ltb-true, ltb-false}
 use Rattle.std.proofs.lemmas.Bool.Decides.{nat_tests}
 use Rattle.std.proofs.lemmas.List.Sums.{length-filter, count_by-le-length}
 use Rattle.desk_units.specs.declared.numbers.Leg.{Leg}
@@ -41,17 +42,16 @@ module _ (I : Situation) (P : PlanRows) (plan : IsPlanFor I P) (A : List Added) 
   -- one aircraft ends elsewhere
   pub hand_changes : (position : PositionInfo) → at_hand_with I P (with_added A a) position + one_if (is_at I position a.plane.0 (plane_end I P a.plane.0).0) ≡ at_hand_with I P A position + one_if (is_at I position a.plane.0 a.dest.0)
   hand_changes position =
-      omega (
-        arith,
-        count_change (is_hand I P (with_added A a) position) (is_hand I P A position) (planes_of I) a.plane.0 lt (λ q below apart.
-        ap (λ (b : Bool). is_wanted position (plane_at I q) && b) (ends_other I P plan A a q position.airport.0 below apart)),
-        ap one_if (was_there position),
-        ap one_if (now_there position),
-      )
+      let change : at_hand_with I P (with_added A a) position + one_if (is_hand I P A position a.plane.0) ≡ at_hand_with I P A position + one_if (is_hand I P (with_added A a) position a.plane.0) =
+      count_change (is_hand I P (with_added A a) position) (is_hand I P A position) (planes_of I) a.plane.0 lt (λ q below apart.
+      ap (λ (b : Bool). is_wanted position (plane_at I q) && b) (ends_other I P plan A a q position.airport.0 below apart)) in
+      omega (arith, change, ap one_if (was_there position), ap one_if (now_there position))
 
   -- it was at hand where it was
   pub hand_held : (position : PositionInfo) → one_if (is_at I position a.plane.0 (plane_end I P a.plane.0).0) ≤ at_hand_with I P A position
-  hand_held position = omega (arith, counted (is_hand I P A position) (planes_of I) a.plane.0 lt, ap one_if (was_there position))
+  hand_held position =
+      let held : one_if (is_hand I P A position a.plane.0) ≤ at_hand_with I P A position = counted (is_hand I P A position) (planes_of I) a.plane.0 lt in
+      omega (arith, held, ap one_if (was_there position))
 
 -- ---- what is missing
 
@@ -62,21 +62,33 @@ not_both_places there here airport apart = grind (arith, nat_tests)
 flip : (a b : ℕ) → eqb a b ≡ eqb b a
 flip a b = grind (arith, nat_tests)
 
-gap_changes : (wanted from dest : Bool) (count hand now : ℕ) → (from && dest) ≡ false → now + one_if (wanted && from) ≡ hand + one_if (wanted && dest) → one_if (wanted && from) ≤ hand → (count - now) + one_if (dest && (wanted && ltb hand count)) ≡ (count - hand) + one_if (from && (wanted && leb hand count))
-gap_changes true true true count hand now apart is held = absurd cc
-gap_changes true true false count hand now apart is held = grind (arith, nat_tests)
-gap_changes true false true count hand now apart is held = grind (arith, nat_tests)
-gap_changes true false false count hand now apart is held = omega (arith, is)
-gap_changes false true true count hand now apart is held = absurd cc
-gap_changes false true false count hand now apart is held = omega (arith, is)
-gap_changes false false true count hand now apart is held = omega (arith, is)
-gap_changes false false false count hand now apart is held = omega (arith, is)
+gap_left : (count hand now : ℕ) → now + 1 ≡ hand → count - now ≡ (count - hand) + one_if (leb hand count)
+gap_left count hand now is = elim (cases_Bool (leb hand count)) [
+  | inl on ↦ omega (arith, is, leb-true hand count on, ap one_if on)
+  | inr off ↦ omega (arith, is, leb-false hand count off, ap one_if off)
+]
+
+gap_filled : (count hand now : ℕ) → now ≡ hand + 1 → (count - now) + one_if (ltb hand count) ≡ count - hand
+gap_filled count hand now is = elim (cases_Bool (ltb hand count)) [
+  | inl on ↦ omega (arith, is, ltb-true hand count on, ap one_if on)
+  | inr off ↦ omega (arith, is, ltb-false hand count off, ap one_if off)
+]
+
+gap_changes : (wanted from dest : Bool) (count hand now : ℕ) → (from && dest) ≡ false → now + one_if (wanted && from) ≡ hand + one_if (wanted && dest) → (count - now) + one_if (dest && (wanted && ltb hand count)) ≡ (count - hand) + one_if (from && (wanted && leb hand count))
+gap_changes true true true count hand now apart is = absurd (true≢false apart)
+gap_changes true true false count hand now apart is = omega (arith, gap_left count hand now (omega (arith, is)))
+gap_changes true false true count hand now apart is = omega (arith, gap_filled count hand now (omega (arith, is)))
+gap_changes true false false count hand now apart is = omega (arith, is)
+gap_changes false true true count hand now apart is = absurd (true≢false apart)
+gap_changes false true false count hand now apart is = omega (arith, is)
+gap_changes false false true count hand now apart is = omega (arith, is)
+gap_changes false false false count hand now apart is = omega (arith, is)
 
 -- the aircraft that are missing at a position, as an aircraft goes from one airport to another
-pub missing_changes : (position : PositionInfo) (wanted : Bool) (from dest hand now : ℕ) → from ≢ dest → now + one_if (wanted && eqb from position.airport.0) ≡ hand + one_if (wanted && eqb dest position.airport.0) → one_if (wanted && eqb from position.airport.0) ≤ hand → (position.count - now) + one_if (eqb position.airport.0 dest && (wanted && ltb hand position.count)) ≡ (position.count - hand) + one_if (eqb position.airport.0 from && (wanted && leb hand position.count))
-missing_changes position wanted from dest hand now apart is held =
+pub missing_changes : (position : PositionInfo) (wanted : Bool) (from dest hand now : ℕ) → from ≢ dest → now + one_if (wanted && eqb from position.airport.0) ≡ hand + one_if (wanted && eqb dest position.airport.0) → (position.count - now) + one_if (eqb position.airport.0 dest && (wanted && ltb hand position.count)) ≡ (position.count - hand) + one_if (eqb position.airport.0 from && (wanted && leb hand position.count))
+missing_changes position wanted from dest hand now apart is =
     ap (λ (b : Bool). (position.count - now) + one_if (b && (wanted && ltb hand position.count))) (flip position.airport.0 dest)
-    ∙ gap_changes wanted (eqb from position.airport.0) (eqb dest position.airport.0) position.count hand now (not_both_places from dest position.airport.0 apart) is held
+    ∙ gap_changes wanted (eqb from position.airport.0) (eqb dest position.airport.0) position.count hand now (not_both_places from dest position.airport.0 apart) is
     ∙ ap (λ (b : Bool). (position.count - hand) + one_if (b && (wanted && leb hand position.count))) (flip from position.airport.0)
 
 -- ---- at first
@@ -122,8 +134,10 @@ hand_air I P position p last air h =
 pub hand_few : (n : ℕ) (I : Situation) (P : PlanRows) (position : PositionInfo) → hand_of_first n I P position ≤ n
 hand_few n I P position =
     let test : ℕ → Bool = λ p. is_wanted position (plane_at I p) && ends_at I P p position.airport.0 in
-    omega (arith, length-filter test (numbers n), count_by-le-length test (numbers n), length-numbers n)
+    let all : hand_of_first n I P position ≡ count_by test (numbers n) = length-filter test (numbers n) in
+    omega (arith, all, count_by-le-length test (numbers n), length-numbers n)
 
 pub at_hand_few : (I : Situation) (P : PlanRows) (A : List Added) (position : PositionInfo) → at_hand_with I P A position ≤ planes_of I
 at_hand_few I P A position =
-    omega (arith, length-filter (is_hand I P A position) (numbers (planes_of I)), count_by-le-length (is_hand I P A position) (numbers (planes_of I)), length-numbers (planes_of I))
+    let all : at_hand_with I P A position ≡ count_by (is_hand I P A position) (numbers (planes_of I)) = length-filter (is_hand I P A position) (numbers (planes_of I)) in
+    omega (arith, all, count_by-le-length (is_hand I P A position) (numbers (planes_of I)), length-numbers (planes_of I))

@@ -1,7 +1,7 @@
 -- What is kept, as aircraft are counted at first, and as one more leg is added.
 use Rattle.std.proofs.Common.{◌≡◌, ◌≢◌, ℕ, ◌+◌, ◌-◌, ◌*◌, ◌^◌, ◌<◌, ◌≤◌, Bool, true, false, ◌&&◌, eqb, List, [], ◌∷◌, length, get_or, set, map, refl, sym, ap, subst, ◌∙◌, arith}
 use Rattle.std.specs.Prelude.{Option, None, All, count_by, filter, unwrap_or}
-use Rattle.std.proofs.lemmas.List.{length-map}
+use Rattle.std.proofs.lemmas.List.{length-map, get_or_default}
 use Rattle.std.proofs.lemmas.List.Sums.{length-filter, count_by-le-length}
 use Rattle.desk_units.specs.declared.numbers.Airport.{Airport}
 use Rattle.desk_units.specs.declared.numbers.Leg.{Leg}
@@ -16,7 +16,7 @@ use Rattle.added_rules.specs.Merged.{plane_end, minutes_to, added_for, last_leg,
 use Rattle.added_rules.specs.Added.{cost_added}
 use Rattle.added_rules.specs.Ferried.{with_added}
 use Rattle.added_legs.proofs.FlightLaws.{are_last}
-use Rattle.desk_rules.specs.Cost.{position_cost}
+use Rattle.desk_rules.specs.Cost.{operating_cost, position_cost}
 use Rattle.ferry_prices.specs.declared.wanted.Wanted.{Wanted}
 use Rattle.ferry_prices.specs.Positions.{positions_at, with_hand, ArePositions, hand_of_first, gained, lost, with_one_more, with_one_less}
 use Rattle.ferry_prices.specs.Prices.{nowhere, AreEnds, at_hand_with, IsInTime, PriceRows, IsPricesOf, flying_cost, missing_cost}
@@ -34,6 +34,16 @@ ends_are I P lasts ends plan are all each within = record {
   each = λ p lt. each p lt ∙ ap (stand I p) (sym ((are_last I P lasts plan are).each p lt));
   within = within;
 }
+
+-- what is read of a list, whatever is given where it ends
+end_here : (I : Situation) (P : PlanRows) (ends : List Airport) (p : ℕ) (end : Airport) → AreEnds I P ends → p < planes_of I → end ≡ get_or ends p end → end ≡ get_or ends p nowhere
+end_here I P ends p end are lt is = is ∙ sym (get_or_default ends p nowhere end (omega (arith, are.planes, lt)))
+
+pub end_is : (I : Situation) (P : PlanRows) (ends : List Airport) (p : ℕ) (end : Airport) → AreEnds I P ends → p < planes_of I → end ≡ get_or ends p end → end ≡ plane_end I P p
+end_is I P ends p end are lt is = end_here I P ends p end are lt is ∙ are.each p lt
+
+pub end_within : (I : Situation) (P : PlanRows) (ends : List Airport) (p : ℕ) (end : Airport) → AreEnds I P ends → p < planes_of I → end ≡ get_or ends p end → end.0 < airports_of I
+end_within I P ends p end are lt is = subst (λ (there : Airport). there.0 < airports_of I) (sym (end_here I P ends p end are lt is)) (are.within p lt)
 
 -- ---- the aircraft at first
 
@@ -64,31 +74,23 @@ all_planes I P p airports plan is are =
 pub rows_few : (I : Situation) (hand : PositionInfo → ℕ) (airports : List (List Wanted)) (b : ℕ) → IsValid I → b < airports_of I → ArePositions I hand airports → length (get_or airports b []) ≤ 10000
 rows_few I hand airports b valid lt are =
     let here : PositionInfo → Bool = λ position. eqb position.airport.0 b in
-    omega (
-      arith,
-      ap length (are.each b lt),
-      length-map (positions_at I.parts.positions b) (with_hand hand),
-      length-filter here I.parts.positions,
-      count_by-le-length here I.parts.positions,
-      valid.parts.few.positions,
-    )
+    let long : length (get_or airports b []) ≡ length (positions_at I.parts.positions b) = ap length (are.each b lt) ∙ length-map (positions_at I.parts.positions b) (with_hand hand) in
+    let kept : length (positions_at I.parts.positions b) ≡ count_by here I.parts.positions = length-filter here I.parts.positions in
+    omega (arith, long, kept, count_by-le-length here I.parts.positions, valid.parts.few.positions)
 
 module _ (I : Situation) (P : PlanRows) (plan : IsPlanFor I P) (A : List Added) (a : Added) (lt : a.plane.0 < planes_of I) (air : (plane_at I a.plane.0).surface ≡ false) (none : added_for A a.plane.0 ≡ None) (time : IsInTime I P a.plane.0 a.dep.0) where
   -- what it costs to fly, by the minutes to its destination
-  flown : (from : Airport) (minutes flying : ℕ) → from ≡ plane_end I P a.plane.0 → minutes ≡ unwrap_or (distance I from.0 a.dest.0) 0 → flying ≡ flying_cost I a.plane.0 minutes → flying ≡ flying_cost I a.plane.0 (minutes_to I P a.plane.0 a.dest)
+  flown : (from : Airport) (minutes flying : ℕ) → from ≡ plane_end I P a.plane.0 → minutes ≡ unwrap_or (distance I from.0 a.dest.0) 0 → flying ≡ flying_cost I a.plane.0 minutes → operating_cost (merged_day I P (with_added A a)) (merged_plan I P (with_added A a)) ≡ operating_cost (merged_day I P A) (merged_plan I P A) + flying
   flown from minutes flying is way cost =
-      cost ∙ ap (flying_cost I a.plane.0) (way ∙ ap (λ (there : Airport). unwrap_or (distance I there.0 a.dest.0) 0) is)
+      let same : flying ≡ flying_cost I a.plane.0 (minutes_to I P a.plane.0 a.dest) = cost ∙ ap (flying_cost I a.plane.0) (way ∙ ap (λ (there : Airport). unwrap_or (distance I there.0 a.dest.0) 0) is) in
+      operating_changes I P plan A a lt none ∙ ap (λ (k : ℕ). operating_cost (merged_day I P A) (merged_plan I P A) + k) (sym same)
 
   -- to where the aircraft ends
   pub change_here : (from : Airport) (minutes flying : ℕ) → from ≡ plane_end I P a.plane.0 → minutes ≡ unwrap_or (distance I from.0 a.dest.0) 0 → flying ≡ flying_cost I a.plane.0 minutes → from.0 ≡ a.dest.0 → cost_added I P (with_added A a) + 0 ≡ cost_added I P A + flying
   change_here from minutes flying is way cost same =
       let B = with_added A a in
       let stays : position_cost (merged_day I P B) (merged_plan I P B) + 0 ≡ position_cost (merged_day I P A) (merged_plan I P A) + 0 = omega (arith, position_same I P plan A a lt air none time (ap (λ (there : Airport). there.0) (sym is) ∙ same)) in
-      omega (
-        arith,
-        cost_changes I P A B (flying_cost I a.plane.0 (minutes_to I P a.plane.0 a.dest)) 0 0 (operating_changes I P plan A a lt none) stays,
-        flown from minutes flying is way cost,
-      )
+      omega (arith, cost_changes I P A B flying 0 0 (flown from minutes flying is way cost) stays)
 
   -- to another airport
   pub change_apart : (from : Airport) (minutes flying : ℕ) (plane : PlaneInfo) (here there : List Wanted) (gone won more less : ℕ) → from ≡ plane_end I P a.plane.0 → minutes ≡ unwrap_or (distance I from.0 a.dest.0) 0 → flying ≡ flying_cost I a.plane.0 minutes → from.0 ≢ a.dest.0 → plane ≡ plane_at I a.plane.0 → here ≡ map (with_hand (at_hand_with I P A)) (positions_at I.parts.positions from.0) → there ≡ map (with_hand (at_hand_with I P A)) (positions_at I.parts.positions a.dest.0) → gone ≡ missing_cost I (lost plane here) → won ≡ missing_cost I (gained plane there) → more ≡ flying + gone → less ≡ won → cost_added I P (with_added A a) + less ≡ cost_added I P A + more
@@ -104,13 +106,7 @@ module _ (I : Situation) (P : PlanRows) (plan : IsPlanFor I P) (A : List Added) 
       ap (λ (k : ℕ). position_cost (merged_day I P B) (merged_plan I P B) + k) comes_to
       ∙ position_changes I P plan A a lt air none time (λ same. apart (ap (λ (b : Airport). b.0) is ∙ same))
       ∙ ap (λ (k : ℕ). position_cost (merged_day I P A) (merged_plan I P A) + k) (sym leaves_it) in
-      omega (
-        arith,
-        cost_changes I P A B (flying_cost I a.plane.0 (minutes_to I P a.plane.0 a.dest)) won gone (operating_changes I P plan A a lt none) moves,
-        flown from minutes flying is way cost,
-        is_more,
-        is_less,
-      )
+      omega (arith, cost_changes I P A B flying won gone (flown from minutes flying is way cost) moves, is_more, is_less)
 
   -- the positions after it
   pub positions_after : (from : Airport) (plane : PlaneInfo) (airports mid now : List (List Wanted)) → from ≡ plane_end I P a.plane.0 → plane ≡ plane_at I a.plane.0 → from.0 < airports_of I → a.dest.0 < airports_of I → mid ≡ set airports from.0 (map (with_one_less plane) (get_or airports from.0 [])) → now ≡ set mid a.dest.0 (map (with_one_more plane) (get_or mid a.dest.0 [])) → ArePositions I (at_hand_with I P A) airports → ArePositions I (at_hand_with I P (with_added A a)) now

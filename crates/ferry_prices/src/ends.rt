@@ -15,7 +15,7 @@ use std::alloc::Global;
 /// of memory.
 pub(crate) fn ends_of(alloc: Global, inst: &Instance, plan: &Plan) -> Result<Vec<Airport>, NoMem>
     requires { IsPlanFor inst.now plan.now }
-    ensures ends { IfOk result (λ ends. AreEnds inst.now plan.now ends.items) }
+    ensures { IfOk result (λ ends. AreEnds inst.now plan.now ends.items) }
 {
     let lasts = lasts_before(alloc, inst, plan, Minute(DEPARTURES_END))?;
     let mut ends = Vec::new(alloc);

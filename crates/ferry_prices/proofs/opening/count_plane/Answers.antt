@@ -12,7 +12,7 @@ returns-then-info c =
 pub come-requires-clause-few : goal.come-requires-clause-few
 come-requires-clause-few c =
     few_first c.args.inst.now c.args.plan.now c.args.plane.0 (map (λ rows. rows.items) c.args.airports.now.items) c.end_of.result.0 c.end_of.ensures.limit
-    (omega (arith, c.requires.plane, c.planes-_few.ensures.count, c.planes-_few.ensures.limit)) c.requires.so_far
+    (omega (arith, c.requires.plane, c.planes-few.ensures.count, c.planes-few.ensures.limit)) c.requires.so_far
 
 pub returns : goal.returns
 returns c =
