@@ -1,13 +1,12 @@
 -- What one more added leg changes of the cost: what it costs to fly, and what is missing.
-use Rattle.std.proofs.Common.{◌≡◌, ◌≢◌, ℕ, ◌+◌, ◌-◌, ◌*◌, ◌^◌, ◌<◌, ◌≤◌, inl, inr, Bool, false, ◌&&◌, eqb, ltb, leb, List, [], ◌∷◌, length, get_or, map, refl, sym, ap, subst, ◌∙◌, arith}
+use Rattle.std.proofs.Common.{◌≡◌, ◌≢◌, ℕ, ◌+◌, ◌-◌, ◌*◌, ◌^◌, ◌<◌, ◌≤◌, inl, inr, false, ◌&&◌, eqb, List, [], ◌∷◌, length, get_or, map, refl, sym, ap, subst, ◌∙◌, arith}
 use Rattle.std.specs.Prelude.{Option, Some, None, sum_by, unwrap_or}
 use Rattle.std.specs.List.{All}
 use Rattle.std.proofs.Math.Nat.{mul-add, mul-le-mul_right}
-use Rattle.std.proofs.lemmas.Bool.{cases_lt, cases_eq}
+use Rattle.std.proofs.lemmas.Bool.{cases_lt}
 use Rattle.std.proofs.lemmas.List.{get_or_past}
 use Rattle.std.proofs.lemmas.List.Sums.{sum_by-cons, sum_by-le}
 use Rattle.std.proofs.lemmas.List.Elements.{All-get_or}
-use Rattle.desk_units.specs.declared.numbers.Airport.{Airport}
 use Rattle.desk_units.specs.declared.tariff.Term.TheVariants as term
 use Rattle.tariff_prices.specs.Rows.{IsPrice}
 use Rattle.tariff_prices.specs.Prices.{position_price}
@@ -18,9 +17,9 @@ use Rattle.desk_data.specs.declared.row.Row.{Row}
 use Rattle.desk_data.specs.declared.row.Row.TheVariants.{Flown, Cancelled}
 use Rattle.desk_data.specs.Situation.{Situation, legs_of, planes_of, airports_of, leg_at, plane_at, distance, no_leg, no_plane}
 use Rattle.desk_data.specs.PlanRows.{PlanRows, row_at}
-use Rattle.desk_data.specs.Valid.{IsValid, IsPlanFor, IsPlane, IsLeg, IsDistance}
+use Rattle.desk_data.specs.Valid.{IsValid, IsPlanFor, IsPlane, IsDistance}
 use Rattle.desk_rules.specs.Numbers.{numbers}
-use Rattle.desk_rules.specs.Cost.{rows_of, weight, by_hour, by_item, is_wanted, at_hand, operating_of, operating, operating_cost, missing_aircraft, position_cost, cost}
+use Rattle.desk_rules.specs.Cost.{rows_of, weight, by_hour, is_wanted, operating_of, operating, operating_cost, missing_aircraft, position_cost, cost}
 use Rattle.desk_rules.proofs.HourLaws.{block_le}
 use Rattle.desk_rules.proofs.CostLaws.{sum-le, weight-le, by_hour-le, by_item-le}
 use Rattle.added_rules.specs.declared.added.Added.{Added}
@@ -30,7 +29,6 @@ use Rattle.added_rules.specs.Ferried.{with_added}
 use Rattle.added_rules.proofs.MergedLaws.{old_leg, new_leg, old_row, new_row, merged_legs}
 use Rattle.added_legs.proofs.CostLaws.{cost-room}
 use Rattle.added_legs.proofs.LastLaws.{is_old_or_new}
-use Rattle.ferry_prices.specs.declared.wanted.Wanted.{Wanted}
 use Rattle.ferry_prices.specs.Positions.{positions_at, with_hand, is_gained, is_lost, gained, lost}
 use Rattle.ferry_prices.specs.Prices.{at_hand_with, IsInTime, flying_cost, missing_cost}
 use Rattle.ferry_prices.proofs.SumLaws.{one_if, sum_change, sums_balance, count_kept}

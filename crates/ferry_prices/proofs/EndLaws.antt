@@ -1,7 +1,7 @@
 -- Where aircraft end, before one more leg is added and after it.
-use Rattle.std.proofs.Common.{◌≡◌, ◌≢◌, ℕ, zero, suc, ◌+◌, ◌<◌, ◌≤◌, ◌⊎◌, inl, inr, Bool, true, false, not, ◌&&◌, cond, eqb, ltb, leb, List, [], ◌∷◌, length, get_or, map, refl, sym, ap, subst, ◌∙◌, arith, add-one}
-use Rattle.std.specs.Prelude.{Option, Some, None, find, max}
-use Rattle.std.specs.Option.{ForSome, option_map, option_or}
+use Rattle.std.proofs.Common.{◌≡◌, ◌≢◌, ℕ, zero, suc, ◌<◌, ◌≤◌, ◌⊎◌, inl, inr, Bool, true, false, not, ◌&&◌, cond, eqb, ltb, List, [], ◌∷◌, map, refl, sym, ap, subst, ◌∙◌, arith}
+use Rattle.std.specs.Prelude.{Option, Some, None}
+use Rattle.std.specs.Option.{option_map, option_or}
 use Rattle.std.proofs.lemmas.Bool.{cases_Bool, true≢false, and_parts, and_from, and_left, and_cases, eq-eqb, ne_eqb, lt-ltb, le-leb, ltb-false}
 use Rattle.std.proofs.lemmas.Bool.Decides.{nat_tests}
 use Rattle.std.proofs.lemmas.List.{length-map}
@@ -14,19 +14,19 @@ use Rattle.desk_data.specs.Situation.{Situation, legs_of, planes_of, plane_at}
 use Rattle.desk_data.specs.PlanRows.{PlanRows, row_at}
 use Rattle.desk_data.specs.Valid.{IsPlanFor}
 use Rattle.desk_rules.specs.Numbers.{numbers}
-use Rattle.desk_rules.specs.Rotations.{comes_before, precedes, dep, arr}
+use Rattle.desk_rules.specs.Rotations.{comes_before, precedes, dep}
 use Rattle.desk_rules.specs.Maintenance.{is_flown_by, flies, departs_before}
 use Rattle.desk_rules.specs.Least.{leg}
 use Rattle.desk_rules.specs.Cost.{ends_at}
 use Rattle.desk_rules.proofs.HourLaws.{length-numbers, dep-lt}
-use Rattle.plan_reads.specs.Last.{IsLast, IsLastOf, AreLasts, stand}
+use Rattle.plan_reads.specs.Last.{IsLastOf, AreLasts, stand}
 use Rattle.plan_reads.proofs.LastLaws.{last_in, left_asked}
 use Rattle.plan_reads.proofs.OrderLaws.{not_both}
 use Rattle.added_rules.specs.declared.added.Added.{Added}
 use Rattle.added_rules.specs.Merged.{last_leg, plane_end, added_for, merged_day, merged_plan}
-use Rattle.added_rules.specs.Ferried.{ready, ready_after, with_added}
+use Rattle.added_rules.specs.Ferried.{ready_after, with_added}
 use Rattle.added_rules.proofs.MergedLaws.{merged_legs, number_said}
-use Rattle.added_legs.specs.Flights.{AreLastLegs, flight_of}
+use Rattle.added_legs.specs.Flights.{flight_of}
 use Rattle.added_legs.specs.Stands.{is_after, stand_with}
 use Rattle.added_legs.proofs.FlightLaws.{are_last}
 use Rattle.added_legs.proofs.LastLaws.{later, last_before}

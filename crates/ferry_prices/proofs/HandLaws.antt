@@ -10,7 +10,7 @@ use Rattle.desk_data.specs.Situation.{Situation, legs_of, planes_of, plane_at}
 use Rattle.desk_data.specs.PlanRows.{PlanRows}
 use Rattle.desk_data.specs.Valid.{IsPlanFor}
 use Rattle.desk_rules.specs.Numbers.{numbers}
-use Rattle.desk_rules.specs.Cost.{is_wanted, ends_at, at_hand}
+use Rattle.desk_rules.specs.Cost.{is_wanted, ends_at}
 use Rattle.desk_rules.specs.Maintenance.{is_left_at}
 use Rattle.desk_rules.proofs.HourLaws.{length-numbers}
 use Rattle.plan_reads.specs.Last.{IsLastOf, stand}

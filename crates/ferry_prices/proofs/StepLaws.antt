@@ -1,6 +1,6 @@
 -- What is kept, as aircraft are counted at first, and as one more leg is added.
-use Rattle.std.proofs.Common.{◌≡◌, ◌≢◌, ℕ, ◌+◌, ◌-◌, ◌*◌, ◌^◌, ◌<◌, ◌≤◌, Bool, true, false, ◌&&◌, eqb, List, [], ◌∷◌, length, get_or, set, map, refl, sym, ap, subst, ◌∙◌, arith}
-use Rattle.std.specs.Prelude.{Option, None, All, count_by, filter, unwrap_or}
+use Rattle.std.proofs.Common.{◌≡◌, ◌≢◌, ℕ, ◌+◌, ◌-◌, ◌<◌, ◌≤◌, Bool, true, false, eqb, List, [], length, get_or, set, map, sym, ap, subst, ◌∙◌, arith}
+use Rattle.std.specs.Prelude.{Option, None, All, count_by, unwrap_or}
 use Rattle.std.proofs.lemmas.List.{length-map, get_or_default}
 use Rattle.std.proofs.lemmas.List.Sums.{length-filter, count_by-le-length}
 use Rattle.desk_units.specs.declared.numbers.Airport.{Airport}
@@ -12,14 +12,14 @@ use Rattle.desk_data.specs.PlanRows.{PlanRows}
 use Rattle.desk_data.specs.Valid.{IsValid, IsPlanFor}
 use Rattle.plan_reads.specs.Last.{IsLastOf, stand, AreLasts}
 use Rattle.added_rules.specs.declared.added.Added.{Added}
-use Rattle.added_rules.specs.Merged.{plane_end, minutes_to, added_for, last_leg, merged_day, merged_plan}
+use Rattle.added_rules.specs.Merged.{plane_end, minutes_to, added_for, merged_day, merged_plan}
 use Rattle.added_rules.specs.Added.{cost_added}
 use Rattle.added_rules.specs.Ferried.{with_added}
 use Rattle.added_legs.proofs.FlightLaws.{are_last}
 use Rattle.desk_rules.specs.Cost.{operating_cost, position_cost}
 use Rattle.ferry_prices.specs.declared.wanted.Wanted.{Wanted}
 use Rattle.ferry_prices.specs.Positions.{positions_at, with_hand, ArePositions, hand_of_first, gained, lost, with_one_more, with_one_less}
-use Rattle.ferry_prices.specs.Prices.{nowhere, AreEnds, at_hand_with, IsInTime, PriceRows, IsPricesOf, flying_cost, missing_cost}
+use Rattle.ferry_prices.specs.Prices.{nowhere, AreEnds, at_hand_with, IsInTime, flying_cost, missing_cost}
 use Rattle.ferry_prices.proofs.SumLaws.{one_if}
 use Rattle.ferry_prices.proofs.HandLaws.{is_at, hand_changes, hand_held, hand_at_first, hand_surface, hand_air, hand_few, at_hand_few}
 use Rattle.ferry_prices.proofs.CostLaws.{operating_changes, position_same, position_changes, cost_changes}

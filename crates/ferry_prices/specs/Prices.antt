@@ -1,7 +1,7 @@
 -- What is kept of a plan with added legs, so that what one more leg changes of the cost is known.
 --
 -- The letters are those of added_rules: I the day, P a plan, A a list of added legs, p the number of an aircraft, d that of an airport.
-use Rattle.std.specs.Prelude.{◌≡◌, ℕ, ◌+◌, ◌<◌, ◌≤◌, List, length, slice_index_or}
+use Rattle.std.specs.Prelude.{◌≡◌, ℕ, ◌<◌, ◌≤◌, List, length, slice_index_or}
 use Rattle.desk_units.specs.declared.numbers.Airport.{Airport}
 use Rattle.desk_units.specs.declared.tariff.Term.TheVariants as term
 use Rattle.tariff_prices.specs.Prices.{position_price}

@@ -1,4 +1,4 @@
-use Rattle.std.proofs.Common.{◌≡◌, ℕ, ◌<◌, subst, ◌∙◌, arith}
+use Rattle.std.proofs.Common.{◌≡◌, ◌∙◌, arith}
 use Rattle.desk_data.specs.Situation.{planes_of}
 use Rattle.ferry_prices.proofs.StepLaws.{ends_are}
 use Rattle.ferry_prices.proofs.ends.ends_of.Goals as goal

@@ -1,6 +1,5 @@
-use Rattle.std.proofs.Common.{◌≡◌, ◌<◌, true, false, map, sym, ap, ◌∙◌, arith}
+use Rattle.std.proofs.Common.{map, sym, ap, ◌∙◌, arith}
 use Rattle.desk_data.specs.declared.info.PlaneInfo.{PlaneInfo}
-use Rattle.desk_data.specs.Situation.{plane_at}
 use Rattle.ferry_prices.proofs.StepLaws.{surface_plane, one_plane, few_first}
 use Rattle.ferry_prices.proofs.opening.count_plane.Goals as goal
 
