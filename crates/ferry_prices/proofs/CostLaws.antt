@@ -115,10 +115,10 @@ module _ (I : Situation) (P : PlanRows) (plan : IsPlanFor I P) (A : List Added) 
   position_same same =
       position_is I P (with_added A a)
       ∙ ap (missing_cost I) (
-        let zero_sum : (position : PositionInfo) → (position.count - at_hand_with I P (with_added A a) position) + 0 ≡ (position.count - at_hand_with I P A position) + 0 = λ position.
-            omega (arith, hand_changes I P plan A a lt air none time position, ap (λ (there : ℕ). one_if (is_at I position a.plane.0 there)) same) in
-        let balance = sums_balance (λ (position : PositionInfo). position.count - at_hand_with I P (with_added A a) position) (λ (position : PositionInfo). 0) (λ (position : PositionInfo). position.count - at_hand_with I P A position) (λ (position : PositionInfo). 0) I.parts.positions zero_sum in
-        (let all : missing_in I (at_hand_with I P (with_added A a)) ≡ missing_in I (at_hand_with I P A) = omega (arith, balance) in all)
+      let zero_sum : (position : PositionInfo) → (position.count - at_hand_with I P (with_added A a) position) + 0 ≡ (position.count - at_hand_with I P A position) + 0 = λ position.
+      omega (arith, hand_changes I P plan A a lt air none time position, ap (λ (there : ℕ). one_if (is_at I position a.plane.0 there)) same) in
+      let balance = sums_balance (λ (position : PositionInfo). position.count - at_hand_with I P (with_added A a) position) (λ (position : PositionInfo). 0) (λ (position : PositionInfo). position.count - at_hand_with I P A position) (λ (position : PositionInfo). 0) I.parts.positions zero_sum in
+      (let all : missing_in I (at_hand_with I P (with_added A a)) ≡ missing_in I (at_hand_with I P A) = omega (arith, balance) in all)
       )
       ∙ sym (position_is I P A)
 

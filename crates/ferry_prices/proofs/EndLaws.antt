@@ -113,21 +113,21 @@ one_more P p at n None on h = record {
 }
 one_more P p at n (Some l) on h = elim (cases_Bool (precedes P l.0 n)) [
   | inl first ↦ record {
-      last = Some (leg n);
-      is = new_last P p at n on (λ z lt departs.
-      behind p l.0 n z (row_at P l.0) (row_at P n) (row_at P z) (own P p at l.0 h.before) (own P p at n on) (own P p at z departs) first (h.last z lt departs));
-    }
+    last = Some (leg n);
+    is = new_last P p at n on (λ z lt departs.
+        behind p l.0 n z (row_at P l.0) (row_at P n) (row_at P z) (own P p at l.0 h.before) (own P p at n on) (own P p at z departs) first (h.last z lt departs));
+  }
   | inr off ↦ record {
-      last = Some l;
-      is = record {
-        within = omega (arith, h.within);
-        before = h.before;
-        last = λ z lt departs. elim (below_cases z n lt) [
-          | inl less ↦ h.last z less departs
-          | inr same ↦ subst (λ (k : ℕ). precedes P l.0 k ≡ false) (sym same) off
-        ];
-      };
-    }
+    last = Some l;
+    is = record {
+      within = omega (arith, h.within);
+      before = h.before;
+      last = λ z lt departs. elim (below_cases z n lt) [
+        | inl less ↦ h.last z less departs
+        | inr same ↦ subst (λ (k : ℕ). precedes P l.0 k ≡ false) (sym same) off
+      ];
+    };
+  }
 ]
 
 has_last : (P : PlanRows) (p at n : ℕ) → HasLast P p at n

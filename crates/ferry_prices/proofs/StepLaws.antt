@@ -55,9 +55,9 @@ one_plane I P p last plane end airports now row there within air h is are =
     subst (ArePositions I (hand_of_first (p + 1) I P)) (sym is)
     (positions_same I (λ position. hand_of_first p I P position + one_if (is_there plane end.0 position)) (hand_of_first (p + 1) I P) (set airports end.0 (map (with_one_more plane) (get_or airports end.0 [])))
     (λ position.
-        ap (λ (info : PlaneInfo). hand_of_first p I P position + one_if (is_there info end.0 position)) row
-        ∙ ap (λ (a : Airport). hand_of_first p I P position + one_if (is_at I position p a.0)) there
-        ∙ sym (hand_air I P position p last air h))
+    ap (λ (info : PlaneInfo). hand_of_first p I P position + one_if (is_there info end.0 position)) row
+    ∙ ap (λ (a : Airport). hand_of_first p I P position + one_if (is_at I position p a.0)) there
+    ∙ sym (hand_air I P position p last air h))
     (comes I (hand_of_first p I P) airports plane end.0 within are))
 
 pub few_first : (I : Situation) (P : PlanRows) (p : ℕ) (airports : List (List Wanted)) (b : ℕ) → b < airports_of I → p < 1000 → ArePositions I (hand_of_first p I P) airports → All (λ w. w.at_hand < 2000) (get_or airports b [])
@@ -117,10 +117,10 @@ module _ (I : Situation) (P : PlanRows) (plan : IsPlanFor I P) (A : List Added) 
       subst (ArePositions I (at_hand_with I P (with_added A a))) (sym came)
       (positions_same I (λ position. less position + one_if (is_there plane a.dest.0 position)) (at_hand_with I P (with_added A a)) (set mid a.dest.0 (map (with_one_more plane) (get_or mid a.dest.0 [])))
       (λ position.
-          let was : one_if (is_there plane from.0 position) ≡ one_if (is_at I position a.plane.0 (plane_end I P a.plane.0).0) =
-          ap (λ (info : PlaneInfo). one_if (is_there info from.0 position)) row ∙ ap (λ (b : Airport). one_if (is_at I position a.plane.0 b.0)) is in
-          let will : one_if (is_there plane a.dest.0 position) ≡ one_if (is_at I position a.plane.0 a.dest.0) = ap (λ (info : PlaneInfo). one_if (is_there info a.dest.0 position)) row in
-          omega (arith, was, will, hand_changes I P plan A a lt air none time position, hand_held I P plan A a lt air none time position))
+      let was : one_if (is_there plane from.0 position) ≡ one_if (is_at I position a.plane.0 (plane_end I P a.plane.0).0) =
+      ap (λ (info : PlaneInfo). one_if (is_there info from.0 position)) row ∙ ap (λ (b : Airport). one_if (is_at I position a.plane.0 b.0)) is in
+      let will : one_if (is_there plane a.dest.0 position) ≡ one_if (is_at I position a.plane.0 a.dest.0) = ap (λ (info : PlaneInfo). one_if (is_there info a.dest.0 position)) row in
+      omega (arith, was, will, hand_changes I P plan A a lt air none time position, hand_held I P plan A a lt air none time position))
       (comes I less mid plane a.dest.0 within_dest are_mid))
 
 -- few aircraft are at hand where it arrives

@@ -22,7 +22,7 @@ pub record PriceRows : Type 0 where
   pub airports : List (List Wanted)
   pub cost : ℕ
 
--- the number of no airport
+-- what is read where a list of airports has ended
 abbrev pub nowhere : Airport
 nowhere = record { 0 = 0 }
 
