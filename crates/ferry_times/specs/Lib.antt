@@ -1,0 +1,4 @@
+pub mod Times
+pub mod Departs
+pub mod Taken
+pub mod RuledOut
