@@ -34,13 +34,17 @@ pub record IsWay (I : Situation) (way : Way) : Type 0 where
 abbrev pub is_in_service : Situation → Way → ℕ → Bool
 is_in_service I way at = not (list_any (λ span. meets_span at (at + way.minutes) span.0 span.1) (spans I way.plane.0))
 
--- before its maintenance the aircraft may fly so many minutes more; from its start on it is free for it, was left at its airport, and the leg does not meet it
+-- whether an aircraft is free for a maintenance, and was left at its airport
+abbrev pub serves : Situation → PlanRows → ℕ → Maint → Bool
+serves I P p maint = is_free_for I P p maint && is_left_at I P p maint.from.0 maint.airport.0
+
+-- before its maintenance the aircraft may fly so many minutes more; from its start on it makes it, and the leg does not meet it
 abbrev pub keeps_maint : Situation → PlanRows → Way → Option Maint → ℕ → Bool
 keeps_maint I P way None at = true
 keeps_maint I P way (Some maint) at =
     if nat_lt at maint.from.0
     then nat_le (minutes_before I P way.plane.0 maint.from.0 + way.minutes) maint.minutes
-    else is_free_for I P way.plane.0 maint && is_left_at I P way.plane.0 maint.from.0 maint.airport.0 && not (meets_span at (at + way.minutes) maint.from maint.to)
+    else serves I P way.plane.0 maint && not (meets_span at (at + way.minutes) maint.from maint.to)
 
 abbrev pub keeps_maintenance : Situation → PlanRows → Way → ℕ → Bool
 keeps_maintenance I P way at = keeps_maint I P way (plane_at I way.plane.0).maint at
@@ -76,10 +80,16 @@ has_room I P A movement a h = nat_le all_hours h || is_below (count_of movement 
 abbrev pub has_slot : Situation → PlanRows → List Added → Movement → Way → ℕ → Bool
 has_slot I P A movement way at = has_room I P A movement (airport_of movement way).0 (hour_of (moment_of movement way at))
 
+abbrev pub has_slots : Situation → PlanRows → List Added → Way → ℕ → Bool
+has_slots I P A way at = has_slot I P A Departure way at && has_slot I P A Arrival way at
+
 -- ---- all of it
 
+abbrev pub keeps_all : Situation → PlanRows → List Added → Way → ℕ → Bool
+keeps_all I P A way at = keeps_maintenance I P way at && has_slots I P A way at
+
 abbrev pub can_depart : Situation → PlanRows → List Added → Way → ℕ → Bool
-can_depart I P A way at = is_in_service I way at && (keeps_maintenance I P way at && (has_slot I P A Departure way at && has_slot I P A Arrival way at))
+can_depart I P A way at = is_in_service I way at && keeps_all I P A way at
 
 -- the first moment from `low` on and before `high` that passes a test
 pub record IsFirstAt (test : ℕ → Bool) (low high at : ℕ) : Type 0 where

@@ -2,3 +2,4 @@ pub mod Times
 pub mod Departs
 pub mod Taken
 pub mod RuledOut
+pub mod Asked

@@ -1,5 +1,5 @@
 -- What is kept to say when one more added leg may depart. The letters are those of added_rules.
-use Rattle.std.specs.Prelude.{◌≡◌, ℕ, ◌*◌, ◌<◌, ◌≤◌, Bool, true, false, ◌&&◌, if◌then◌else◌, sum_by, List, length, slice_index_or, Option, Some, None}
+use Rattle.std.specs.Prelude.{◌≡◌, ℕ, ◌*◌, ◌<◌, ◌≤◌, Bool, true, false, ◌&&◌, if◌then◌else◌, sum_by, List, length, slice_index_or, Option}
 use Rattle.std.specs.Option.{ForSome}
 use Rattle.desk_units.specs.declared.numbers.Leg.{Leg}
 use Rattle.desk_data.specs.declared.info.Maint.{Maint}
@@ -13,6 +13,7 @@ use Rattle.desk_rules.specs.Slots.{departures, arrivals}
 use Rattle.hour_counts.specs.Counts.{count_at}
 use Rattle.plan_reads.specs.Last.{AreLasts}
 use Rattle.added_rules.specs.declared.added.Added.{Added}
+use Rattle.added_legs.specs.Asked.{start_of}
 use Rattle.ferry_times.specs.declared.upkeep.Upkeep.{Upkeep}
 
 -- ---- the maintenance of aircraft
@@ -24,11 +25,6 @@ no_upkeep = record { free = false; minutes = 0 }
 -- what no legs say
 abbrev pub blank : Upkeep
 blank = record { free = true; minutes = 0 }
-
--- when a maintenance starts; 0 where there is none
-abbrev pub start_of : Option Maint → ℕ
-start_of None = 0
-start_of (Some maint) = maint.from.0
 
 -- what the first n legs of the plan say of a maintenance of aircraft p
 pub record IsUpkeep (I : Situation) (P : PlanRows) (p : ℕ) (maint : Maint) (n : ℕ) (upkeep : Upkeep) : Type 0 where

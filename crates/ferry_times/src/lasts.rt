@@ -1,13 +1,14 @@
 //! The last leg of each aircraft before a moment, and what hangs on it.
 
 ghost use Rattle.std.specs.Prelude.{◌≡◌, ◌<◌, ◌≤◌, IfOk};
+ghost use Rattle.std.specs.Option.{ForSome};
 ghost use Rattle.desk_data.specs.Situation.{airports_of, legs_of, planes_of, plane_at};
 ghost use Rattle.desk_data.specs.Valid.{IsPlanFor};
-ghost use Rattle.plan_reads.specs.Last.{AreLasts};
+ghost use Rattle.plan_reads.specs.Last.{AreLasts, stand};
 ghost use Rattle.added_rules.specs.Ferried.{ready};
 ghost use Rattle.added_rules.specs.Merged.{plane_end};
+ghost use Rattle.added_legs.specs.Asked.{start_of};
 ghost use Rattle.ferry_times.specs.Departs.{IsWay, way_of};
-ghost use Rattle.ferry_times.specs.Times.{start_of};
 
 use crate::way::Way;
 use desk_data::{Airport, Instance, Leg, Minute, NoMem, Plan, Plane};
@@ -75,7 +76,16 @@ fn end_of(inst: &Instance, plan: &Plan, lasts: &[Option<Leg>], plane: Plane) -> 
     ensures end { result ≡ plane_end inst.now plan.now plane.0 }
     ensures limit { result.0 < airports_of inst.now }
 {
-    let last = lasts[plane.0 as usize];
+    stand_within(inst, plane, lasts[plane.0 as usize])
+}
+
+/// Where an aircraft stands after a leg, or at first.
+fn stand_within(inst: &Instance, plane: Plane, last: Option<Leg>) -> Airport
+    requires plane { plane.0 < planes_of inst.now }
+    requires last { ForSome last (λ leg. leg.0 < legs_of inst.now) }
+    ensures stand { result ≡ stand inst.now plane.0 last }
+    ensures limit { result.0 < airports_of inst.now }
+{
     let _limit = match last {
         Some(leg) => inst.leg(leg).dest.0,
         None => inst.plane(plane).origin.0,
@@ -92,6 +102,8 @@ pub(crate) fn ready(inst: &Instance, plan: &Plan, lasts: &[Option<Leg>], plane: 
     ensures ready { result ≡ ready inst.now plan.now plane.0 }
     ensures limit { result < 52600000 }
 {
+    // the day is a valid one: no moment is late
+    let _rows = inst.parts();
     let now = inst.now().0;
     match lasts[plane.0 as usize] {
         Some(leg) => now.max(arrival(inst, plan, leg) + inst.plane(plane).turnaround),
