@@ -68,6 +68,13 @@ module _ (I : Situation) (P : PlanRows) (valid : IsValid I) (plan : IsPlanFor I 
       fits_at s from (omega (arith, before))
       ∙ ap (λ (b : Bool). b && can_depart I P A (way_of I P p (airport d)) s) short) first
 
+  -- as the search says it
+  pub searched : (found : Option Minute) (B : List Added) (w : Way) (low : ℕ) → B ≡ A → w ≡ way_of I P p (airport d) → low ≡ ready I P p → IsFirst (can_depart I P B w) low (min (low + 2881) I.parts.to.0) found → IsFirst (can_depart I P A (way_of I P p (airport d))) (ready I P p) (moments_end I P p) found
+  searched found B w low same ways from first =
+      subst (λ (n : ℕ). IsFirst (can_depart I P A (way_of I P p (airport d))) n (min (n + 2881) I.parts.to.0) found) from
+      (subst (λ (v : Way). IsFirst (can_depart I P A v) low (min (low + 2881) I.parts.to.0) found) ways
+      (subst (λ (C : List Added). IsFirst (can_depart I P C w) low (min (low + 2881) I.parts.to.0) found) same first))
+
   -- within the range of the aircraft
   pub found_is : (found : Option Minute) → leb (way_of I P p (airport d)).minutes (plane_at I p).range ≡ true → IsFirst (can_depart I P A (way_of I P p (airport d))) (ready I P p) (moments_end I P p) found → found ≡ option_map (λ (a : Added). a.dep) (candidate I P A p d)
   found_is found short first =

@@ -1,8 +1,9 @@
 -- How many legs of the merged plan depart from an airport in an hour, or arrive there: those of the plan, and the added ones.
-use Rattle.std.proofs.Common.{◌≡◌, ◌≢◌, ℕ, zero, suc, ◌+◌, ◌<◌, ◌≤◌, ◌⊎◌, inl, inr, Bool, true, false, not, ◌&&◌, cond, eqb, List, [], ◌∷◌, ◌++◌, length, refl, sym, ap, subst, ◌∙◌, arith, All}
+use Rattle.std.proofs.Common.{◌≡◌, ◌≢◌, ℕ, zero, suc, ◌+◌, ◌<◌, ◌≤◌, ◌⊎◌, inl, inr, Bool, true, false, not, ◌&&◌, cond, eqb, List, [], ◌∷◌, ◌++◌, length, get_or, take, refl, sym, ap, subst, ◌∙◌, arith, All}
 use Rattle.std.specs.Prelude.{Option, Some, None, find, filter, sum_by, count_by}
 use Rattle.std.specs.List.{AllPairs}
 use Rattle.std.proofs.lemmas.Bool.{cases_Bool, eqb-true, eq-eqb, ne_eqb}
+use Rattle.std.proofs.lemmas.List.{take_more}
 use Rattle.std.proofs.lemmas.List.Elements.{All-tail, All-head}
 use Rattle.std.proofs.lemmas.List.Sums.{length-filter, sum_by-append, sum_by-cons, count_by-le-length}
 use Rattle.desk_units.specs.declared.numbers.Airport.{Airport}
@@ -163,3 +164,8 @@ pub taken_more : (I : Situation) (P : PlanRows) (movement : Movement) (a h : ℕ
 taken_more I P movement a h A b =
     let more = sum_by-append (λ (c : Added). one_if (takes I P movement a h c)) A (b ∷ []) in
     omega (arith, more, one_that (takes I P movement a h) b [])
+
+-- one more leg of the list is looked at
+pub taken_next : (I : Situation) (P : PlanRows) (movement : Movement) (a h i : ℕ) (A : List Added) (b : Added) → i < length A → added_taken I P movement a h (take (i + 1) A) ≡ added_taken I P movement a h (take i A) + one_if (takes I P movement a h (get_or A i b))
+taken_next I P movement a h i A b lt =
+    ap (added_taken I P movement a h) (take_more A i b lt) ∙ taken_more I P movement a h (take i A) (get_or A i b)

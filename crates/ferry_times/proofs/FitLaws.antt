@@ -38,12 +38,12 @@ use Rattle.ferry_times.proofs.MaintLaws.{c8_other, c9_other, own_maint}
 
 -- ---- hours
 
-keeps_hour : Movement → Situation → PlanRows → ℕ → ℕ → Bool
+abbrev keeps_hour : Movement → Situation → PlanRows → ℕ → ℕ → Bool
 keeps_hour Departure J R a h = keeps_c10 J R a h
 keeps_hour Arrival J R a h = keeps_c11 J R a h
 
 hour_is : (movement : Movement) (J : Situation) (R : PlanRows) (a h : ℕ) → keeps_hour movement J R a h ≡ is_within (count_of movement J R a h) (cap_of movement J a h)
-unfolding keeps_hour keeps_c10 keeps_c11
+unfolding keeps_c10 keeps_c11
 hour_is Departure J R a h = refl
 hour_is Arrival J R a h = refl
 
@@ -126,7 +126,7 @@ module _ (I : Situation) (P : PlanRows) (valid : IsValid I) (plan : IsPlanFor I 
             (subst (λ (k : ℕ). has_room I P A movement (at_airport movement) k ≡ true) then room) in
             hour_by movement b h true on
             ∙ below_within (count_of movement M Q b h) (cap_of movement I b h)
-            (or_first (leb all_hours h) (is_below (count_of movement M Q b h) (cap_of movement I b h)) here (lt-leb h all_hours lt))
+            (or_first (leb all_hours h) (is_below (count_of movement M Q b h) (cap_of movement I b h)) here (lt-leb all_hours h lt))
       ]
 
   -- and where its hour is kept, there was room

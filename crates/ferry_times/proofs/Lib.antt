@@ -10,3 +10,4 @@ pub mod CandidateLaws
 pub mod UpkeepLaws
 pub mod RuledOutLaws
 pub mod TableLaws
+pub mod RoomLaws

@@ -5,7 +5,6 @@ use Rattle.desk_units.specs.declared.numbers.Airport.{Airport}
 use Rattle.desk_units.specs.declared.numbers.Minute.{Minute}
 use Rattle.desk_data.specs.declared.info.Maint.{Maint}
 use Rattle.desk_data.specs.Situation.{Situation, planes_of, airports_of, plane_at, spans}
-use Rattle.desk_data.specs.Hours.{dep_cap, arr_cap}
 use Rattle.desk_data.specs.PlanRows.{PlanRows}
 use Rattle.desk_rules.specs.Rules.{meets_span}
 use Rattle.desk_rules.specs.Maintenance.{is_free_for, is_left_at, minutes_before}
@@ -13,6 +12,7 @@ use Rattle.desk_rules.specs.Slots.{hour_of, departures, arrivals}
 use Rattle.desk_rules.specs.Least.{all_hours}
 use Rattle.hour_counts.specs.declared.slot.Movement.{Movement}
 use Rattle.hour_counts.specs.declared.slot.Movement.TheVariants.{Departure, Arrival}
+use Rattle.hour_counts.specs.Slots.{cap}
 use Rattle.added_rules.specs.declared.added.Added.{Added}
 use Rattle.added_rules.specs.Merged.{plane_end, minutes_to, merged_day, merged_plan}
 use Rattle.added_rules.specs.Ferried.{ready}
@@ -66,8 +66,7 @@ count_of Departure I P a h = departures I P a h
 count_of Arrival I P a h = arrivals I P a h
 
 abbrev pub cap_of : Movement → Situation → ℕ → ℕ → Option ℕ
-cap_of Departure I a h = dep_cap I a h
-cap_of Arrival I a h = arr_cap I a h
+cap_of movement I a h = cap I (record { movement = movement; airport = record { 0 = a }; hour = h })
 
 abbrev pub is_below : ℕ → Option ℕ → Bool
 is_below count None = true

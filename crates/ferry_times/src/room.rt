@@ -50,16 +50,22 @@ pub(crate) fn has_room(
         return true;
     };
     let planned = taken.table.at(airport.0, hour);
-    planned < cap && added_taken(inst, plan, taken, airport, hour) < cap - planned
+    planned < cap && added_taken(inst, plan, taken, airport, hour) < (cap - planned) as usize
 }
 
 /// How many added legs depart from an airport in an hour, or arrive there.
-fn added_taken(inst: &Instance, plan: &Plan, taken: Taken<'_>, airport: Airport, hour: u32) -> u32
+fn added_taken(
+    inst: &Instance,
+    plan: &Plan,
+    taken: Taken<'_>,
+    airport: Airport,
+    hour: u32,
+) -> usize
     requires plan { IsPlanFor inst.now plan.now }
     requires taken { IsTakenOf inst.now plan.now taken }
     ensures { result ≡ added_taken inst.now plan.now taken.entry.movement airport.0 hour taken.entry.added.now }
 {
-    let mut count = 0;
+    let mut count = 0usize;
     for i in 0..taken.added.len() {
         if takes(inst, plan, taken, taken.added[i], airport, hour) {
             count += 1;

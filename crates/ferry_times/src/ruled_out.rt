@@ -5,12 +5,14 @@ ghost use Rattle.std.specs.Option.{ForSome};
 ghost use Rattle.desk_data.specs.Situation.{legs_of, plane_at};
 ghost use Rattle.desk_data.specs.Valid.{IsPlanFor};
 ghost use Rattle.desk_rules.specs.Rules.{meets_span};
-ghost use Rattle.plan_reads.specs.Last.{IsLastOf};
+ghost use Rattle.plan_reads.specs.Last.{AreLasts, IsLastOf};
+ghost use Rattle.hour_counts.specs.declared.slot.Movement.TheVariants.{Departure, Arrival};
 ghost use Rattle.added_legs.specs.Asked.{start_of};
 ghost use Rattle.ferry_times.specs.Asked.{IsAsked};
 ghost use Rattle.ferry_times.specs.Departs.{IsWay, can_depart, has_slots, is_in_service, keeps_all, keeps_maint, keeps_maintenance, serves};
 ghost use Rattle.ferry_times.specs.RuledOut.{HoldsOrIsRuledOut};
-ghost use Rattle.ferry_times.specs.Times.{IsUpkeep};
+ghost use Rattle.ferry_times.specs.Taken.{IsTakenOf};
+ghost use Rattle.ferry_times.specs.Times.{AreUpkeeps, IsUpkeep};
 
 use crate::room::{Taken, has_room};
 use crate::upkeep::Upkeep;
@@ -33,6 +35,37 @@ pub(crate) struct Asked<'a> {
     pub(crate) arrivals: Taken<'a>,
 }
 
+/// What is asked of an added leg on a way, from what is kept of all aircraft.
+pub(crate) fn asked_of<'a>(
+    inst: &Instance,
+    plan: &Plan,
+    way: Way,
+    upkeeps: &[Upkeep],
+    starts: &[Option<Leg>],
+    departures: Taken<'a>,
+    arrivals: Taken<'a>,
+) -> Asked<'a>
+    requires way { IsWay inst.now way }
+    requires upkeeps { AreUpkeeps inst.now plan.now (legs_of inst.now) upkeeps.now }
+    requires starts { AreLasts inst.now plan.now (λ p. start_of (plane_at inst.now p).maint) (legs_of inst.now) starts.now }
+    requires departures { IsTakenOf inst.now plan.now departures }
+    requires arrivals { IsTakenOf inst.now plan.now arrivals }
+    requires leaves { departures.movement ≡ Departure }
+    requires lands { arrivals.movement ≡ Arrival }
+    requires same { arrivals.added.now ≡ departures.added.now }
+    ensures asked { IsAsked inst.now plan.now result }
+    ensures way { result.way ≡ way }
+    ensures added { result.departures.added.now ≡ departures.entry.added.now }
+{
+    Asked {
+        way,
+        upkeep: upkeeps[way.plane.0 as usize],
+        start: starts[way.plane.0 as usize],
+        departures,
+        arrivals,
+    }
+}
+
 /// `None` where an added leg can depart at a moment, which is before the window's end. Else a later moment: it can depart at none
 /// before that.
 pub(crate) fn ruled_out_until(
@@ -46,6 +79,8 @@ pub(crate) fn ruled_out_until(
     requires at { at < inst.now.parts.to.0 }
     ensures { HoldsOrIsRuledOut (can_depart inst.now plan.now asked.entry.departures.added.now asked.entry.way) at result }
 {
+    // the day is a valid one: its window ends in the hundred years
+    let _rows = inst.parts();
     match out_of_service_until(inst, asked.way, at) {
         Some(end) => Some(end),
         None => kept_until(inst, plan, asked, at),
@@ -59,6 +94,7 @@ fn kept_until(inst: &Instance, plan: &Plan, asked: Asked<'_>, at: u32) -> Option
     requires at { at < inst.now.parts.to.0 }
     ensures { HoldsOrIsRuledOut (keeps_all inst.now plan.now asked.entry.departures.added.now asked.entry.way) at result }
 {
+    let _rows = inst.parts();
     match unserved_until(inst, plan, asked.way, asked.upkeep, asked.start, at) {
         Some(end) => Some(end),
         None => full_until(inst, plan, asked, at),
@@ -127,6 +163,7 @@ fn unserved_by(
     requires at { at < inst.now.parts.to.0 }
     ensures { HoldsOrIsRuledOut (keeps_maint inst.now plan.now way (Some maint)) at result }
 {
+    let _rows = inst.parts();
     if at < maint.from.0 {
         return flown_out_until(inst, plan, way, maint, upkeep, at);
     }

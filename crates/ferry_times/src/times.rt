@@ -7,17 +7,16 @@ ghost use Rattle.desk_data.specs.Valid.{IsPlanFor};
 ghost use Rattle.added_rules.specs.Added.{least_added};
 ghost use Rattle.added_rules.specs.Ferried.{added_leg, candidate, with_added};
 ghost use Rattle.added_rules.specs.Merged.{AreAdded, added_for, way_to};
-ghost use Rattle.ferry_times.specs.Asked.{IsAsked};
-ghost use Rattle.ferry_times.specs.Departs.{IsWay};
+ghost use Rattle.hour_counts.specs.declared.slot.Movement.TheVariants.{Departure, Arrival};
+ghost use Rattle.ferry_times.specs.Taken.{IsTakenOf};
 ghost use Rattle.ferry_times.specs.Times.{IsTimesOf};
 
 use crate::departs::first_from;
 use crate::lasts::{Starts, lasts_of, ready, way_of};
 use crate::room::Taken;
-use crate::ruled_out::Asked;
+use crate::ruled_out::asked_of;
 use crate::table::Table;
 use crate::upkeep::{Upkeep, upkeeps_of};
-use crate::way::Way;
 use added_rules::Added;
 use desk_data::{Airport, DEPARTURES_END, Instance, Leg, Minute, NoMem, Plan, Plane};
 use hour_counts::Movement;
@@ -107,40 +106,50 @@ impl FerryTimes {
         let within = way.minutes <= inst.plane(plane).range;
         if within {
             let ready = ready(inst, plan, self.lasts.as_slice(), plane);
-            first_from(inst, plan, self.asked(inst, plan, way), ready)
+            let asked = asked_of(
+                inst,
+                plan,
+                way,
+                self.upkeeps.as_slice(),
+                self.starts.as_slice(),
+                self.departing(inst, plan),
+                self.arriving(inst, plan),
+            );
+            first_from(inst, plan, asked, ready)
         } else {
             None
         }
     }
 
-    /// What is asked of an added leg on a way.
-    fn asked(&self, inst: &Instance, plan: &Plan, way: Way) -> Asked<'_>
+    /// The departures, of the plan and added.
+    fn departing(&self, inst: &Instance, plan: &Plan) -> Taken<'_>
         requires times { IsTimesOf inst.now plan.now self.now.added self.now }
         requires added { AreAdded inst.now plan.now self.now.added }
-        requires way { IsWay inst.now way }
-        ensures asked { IsAsked inst.now plan.now result }
-        ensures way { result.way ≡ way }
-        ensures added { result.departures.added.now ≡ self.now.added }
+        ensures taken { IsTakenOf inst.now plan.now result }
+        ensures movement { result.movement ≡ Departure }
+        ensures added { result.added.now ≡ self.now.added }
     {
-        let p = way.plane.0 as usize;
-        let added = self.added.as_slice();
-        let lasts = self.lasts.as_slice();
-        Asked {
-            way,
-            upkeep: self.upkeeps[p],
-            start: self.starts[p],
-            departures: Taken {
-                movement: Movement::Departure,
-                table: &self.departures,
-                added,
-                lasts,
-            },
-            arrivals: Taken {
-                movement: Movement::Arrival,
-                table: &self.arrivals,
-                added,
-                lasts,
-            },
+        Taken {
+            movement: Movement::Departure,
+            table: &self.departures,
+            added: self.added.as_slice(),
+            lasts: self.lasts.as_slice(),
+        }
+    }
+
+    /// The arrivals.
+    fn arriving(&self, inst: &Instance, plan: &Plan) -> Taken<'_>
+        requires times { IsTimesOf inst.now plan.now self.now.added self.now }
+        requires added { AreAdded inst.now plan.now self.now.added }
+        ensures taken { IsTakenOf inst.now plan.now result }
+        ensures movement { result.movement ≡ Arrival }
+        ensures added { result.added.now ≡ self.now.added }
+    {
+        Taken {
+            movement: Movement::Arrival,
+            table: &self.arrivals,
+            added: self.added.as_slice(),
+            lasts: self.lasts.as_slice(),
         }
     }
 
