@@ -1,5 +1,6 @@
 use Rattle.std.proofs.Common.{rules, ◌≡◌, ◌+◌, ◌-◌, ◌<◌, ◌≤◌, ltb, ap, sym, ◌∙◌}
 use Rattle.std.specs.Prelude.{Some}
+use Rattle.std.proofs.lemmas.Bool.{le-ltb}
 use Rattle.ferry_times.specs.Departs.{cap_of, count_of, has_room}
 use Rattle.ferry_times.specs.Taken.{added_taken}
 use Rattle.ferry_times.proofs.RoomLaws.{late_room, room_is, full_plan, left_room}
@@ -37,6 +38,6 @@ returns-else-planned-cap c =
     let planned : c.at-planned.result ≡ count_of m I P a h = c.at-planned.ensures ∙ c.requires.taken.table a h in
     let room : has_room I P A m a h ≡ ltb (c.at-planned.result + added_taken I P m a h A) c.in-Some.cap =
     room_is I P A m a h c.in-Some.cap c.at-planned.result c.requires.plan.legs c.requires.taken.added (search rules) some planned in
-    c.if-planned-cap.false
+    le-ltb c.at-planned.result c.in-Some.cap c.if-planned-cap.false
     ∙ sym (full_plan c.at-planned.result (added_taken I P m a h A) c.in-Some.cap (search rules))
     ∙ sym room

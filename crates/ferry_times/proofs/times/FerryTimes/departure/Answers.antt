@@ -1,6 +1,5 @@
 use Rattle.std.proofs.Common.{◌≡◌, true, false, leb, ap, sym, ◌∙◌}
-use Rattle.std.specs.Prelude.{Option}
-use Rattle.desk_units.specs.declared.numbers.Minute.{Minute}
+use Rattle.std.proofs.lemmas.Bool.{le-leb, lt-leb}
 use Rattle.desk_data.specs.Situation.{plane_at}
 use Rattle.ferry_times.specs.Departs.{way_of}
 use Rattle.ferry_times.proofs.CandidateLaws.{searched, found_is, none_is_found, found_sound, found_early}
@@ -18,7 +17,7 @@ returns-then-within-clause-exact c =
     let short : leb (way_of I P p c.args.dest).minutes (plane_at I p).range ≡ true =
     sym (ap (λ w. leb w.minutes (plane_at I p).range) c.way_of-way.ensures.way)
     ∙ sym (ap (λ info. leb c.way_of-way.result.minutes info.range) c.plane.ensures.row)
-    ∙ c.if-within.true in
+    ∙ le-leb c.way_of-way.result.minutes c.plane.result.now.range c.if-within.true in
     let first = searched I P valid r.plan t.added r.added r.sound t.lasts t.starts t.upkeeps r.times.lasts r.times.starts r.times.upkeeps p d r.plane r.dest r.air r.alone r.way
         c.first_from.result c.asked_of-asked.result.departures.added.now c.asked_of-asked.result.way c.ready-ready.result
         (c.asked_of-asked.ensures.added ∙ c.departing.ensures.added) (c.asked_of-asked.ensures.way ∙ c.way_of-way.ensures.way) c.ready-ready.ensures.ready c.first_from.ensures in
@@ -36,7 +35,7 @@ returns-then-within-clause-sound c =
     let short : leb (way_of I P p c.args.dest).minutes (plane_at I p).range ≡ true =
     sym (ap (λ w. leb w.minutes (plane_at I p).range) c.way_of-way.ensures.way)
     ∙ sym (ap (λ info. leb c.way_of-way.result.minutes info.range) c.plane.ensures.row)
-    ∙ c.if-within.true in
+    ∙ le-leb c.way_of-way.result.minutes c.plane.result.now.range c.if-within.true in
     let first = searched I P valid r.plan t.added r.added r.sound t.lasts t.starts t.upkeeps r.times.lasts r.times.starts r.times.upkeeps p d r.plane r.dest r.air r.alone r.way
         c.first_from.result c.asked_of-asked.result.departures.added.now c.asked_of-asked.result.way c.ready-ready.result
         (c.asked_of-asked.ensures.added ∙ c.departing.ensures.added) (c.asked_of-asked.ensures.way ∙ c.way_of-way.ensures.way) c.ready-ready.ensures.ready c.first_from.ensures in
@@ -52,5 +51,5 @@ returns-else-within-clause-exact c =
     let far : leb (way_of I P p c.args.dest).minutes (plane_at I p).range ≡ false =
     sym (ap (λ w. leb w.minutes (plane_at I p).range) c.way_of-way.ensures.way)
     ∙ sym (ap (λ info. leb c.way_of-way.result.minutes info.range) c.plane.ensures.row)
-    ∙ c.if-within.false in
+    ∙ lt-leb c.way_of-way.result.minutes c.plane.result.now.range c.if-within.false in
     none_is_found I P c.parts-rows.ensures.valid r.plan t.added r.added r.sound t.lasts t.starts t.upkeeps r.times.lasts r.times.starts r.times.upkeeps p c.args.dest.0 r.plane r.dest r.air r.alone r.way far
