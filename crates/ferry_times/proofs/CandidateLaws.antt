@@ -1,5 +1,5 @@
 -- The first moment at which a leg can depart is the departure of the candidate.
-use Rattle.std.proofs.Common.{◌≡◌, ℕ, ◌+◌, ◌<◌, ◌≤◌, Bool, true, false, not, ◌&&◌, cond, leb, List, length, map, refl, sym, ap, subst, ◌∙◌, arith, min}
+use Rattle.std.proofs.Common.{◌≡◌, ℕ, ◌+◌, ◌<◌, ◌≤◌, Bool, true, false, not, ◌&&◌, cond, leb, List, map, refl, sym, ap, subst, ◌∙◌, arith, min}
 use Rattle.std.specs.Prelude.{Option, Some, None, find, is_none, is_some, IfSome}
 use Rattle.std.specs.Option.{option_map}
 use Rattle.std.proofs.lemmas.Bool.{and_left}
@@ -18,7 +18,7 @@ use Rattle.added_legs.specs.Asked.{start_of}
 use Rattle.ferry_times.specs.declared.upkeep.Upkeep.{Upkeep}
 use Rattle.ferry_times.specs.declared.way.Way.{Way}
 use Rattle.ferry_times.specs.Times.{AreUpkeeps}
-use Rattle.ferry_times.specs.Departs.{way_of, can_depart, IsFirst, IsFirstAt, moments_end}
+use Rattle.ferry_times.specs.Departs.{way_of, can_depart, IsFirst, moments_end}
 use Rattle.ferry_times.proofs.FirstLaws.{said_found}
 use Rattle.ferry_times.proofs.FitLaws.{fits_is}
 

@@ -1,12 +1,11 @@
 -- One more added leg, of an aircraft that has none and departs no leg of the plan later: all other legs keep the rules C4 to C7 as they did.
-use Rattle.std.proofs.Common.{◌≡◌, ◌≢◌, ℕ, zero, suc, ◌+◌, ◌<◌, ◌≤◌, ◌⊎◌, inl, inr, Bool, true, false, not, ◌&&◌, ◌||◌, cond, eqb, ltb, leb, List, [], ◌∷◌, ◌++◌, length, refl, sym, ap, subst, ◌∙◌, arith, add-one}
-use Rattle.std.specs.Prelude.{Option, Some, None, find}
+use Rattle.std.proofs.Common.{◌≡◌, ◌≢◌, ℕ, zero, suc, ◌+◌, ◌<◌, ◌≤◌, ◌⊎◌, inl, inr, Bool, true, false, not, ◌&&◌, ◌||◌, cond, eqb, ltb, leb, List, [], ◌∷◌, length, refl, sym, ap, subst, ◌∙◌, arith}
+use Rattle.std.specs.Prelude.{Option, Some, None}
 use Rattle.std.specs.List.{list_any}
 use Rattle.std.specs.Option.{option_or}
-use Rattle.std.proofs.lemmas.Bool.{cases_Bool, cases_eq, and_left, and_right, eq-eqb, ne_eqb, eqb-true}
+use Rattle.std.proofs.lemmas.Bool.{cases_eq, and_left, and_right, eq-eqb, ne_eqb, eqb-true}
 use Rattle.std.proofs.lemmas.Bool.Decides.{nat_tests}
 use Rattle.std.proofs.lemmas.List.Folds.{find-append}
-use Rattle.desk_units.specs.declared.numbers.Leg.{Leg}
 use Rattle.desk_units.specs.declared.numbers.Plane.{Plane}
 use Rattle.desk_units.specs.declared.numbers.Minute.{Minute}
 use Rattle.desk_data.specs.declared.info.LegInfo.{LegInfo}
@@ -16,10 +15,9 @@ use Rattle.desk_data.specs.Situation.{Situation, legs_of, planes_of, leg_at, pla
 use Rattle.desk_data.specs.PlanRows.{PlanRows, row_at}
 use Rattle.desk_data.specs.Valid.{IsValid}
 use Rattle.desk_rules.specs.Numbers.{each_below, none_below, implies}
-use Rattle.desk_rules.specs.Rotations.{departure, dep, arr, comes_before, precedes, follows, is_first, is_leg, ground_time}
+use Rattle.desk_rules.specs.Rotations.{departure, dep, comes_before, precedes, is_leg}
 use Rattle.desk_rules.specs.Rules.{meets_span, c4_range, c5_location, c6_ground_time, c7_service, keeps_c4, keeps_c5, keeps_c6, keeps_c7}
 use Rattle.desk_rules.specs.Maintenance.{is_flown_by, flies}
-use Rattle.desk_rules.specs.Least.{plane}
 use Rattle.added_rules.specs.declared.added.Added.{Added}
 use Rattle.added_rules.specs.Ferried.{with_added}
 use Rattle.added_rules.specs.Merged.{added_for, leg_for, row_for, merged_day, merged_plan}

@@ -1,20 +1,18 @@
 -- How many legs of the merged plan depart from an airport in an hour, or arrive there: those of the plan, and the added ones.
-use Rattle.std.proofs.Common.{◌≡◌, ◌≢◌, ℕ, zero, suc, ◌+◌, ◌<◌, ◌≤◌, ◌⊎◌, inl, inr, Bool, true, false, not, ◌&&◌, cond, eqb, List, [], ◌∷◌, ◌++◌, length, get_or, take, refl, sym, ap, subst, ◌∙◌, arith, All}
-use Rattle.std.specs.Prelude.{Option, Some, None, find, filter, sum_by, count_by}
+use Rattle.std.proofs.Common.{◌≡◌, ◌≢◌, ℕ, zero, suc, ◌+◌, ◌<◌, ◌≤◌, Bool, true, false, not, ◌&&◌, cond, eqb, List, [], ◌∷◌, ◌++◌, length, get_or, take, refl, sym, ap, subst, ◌∙◌, arith, All}
+use Rattle.std.specs.Prelude.{Option, Some, None, find, sum_by, count_by}
 use Rattle.std.specs.List.{AllPairs}
-use Rattle.std.proofs.lemmas.Bool.{cases_Bool, eqb-true, eq-eqb, ne_eqb}
+use Rattle.std.proofs.lemmas.Bool.{eqb-true, eq-eqb, ne_eqb}
 use Rattle.std.proofs.lemmas.List.{take_more}
 use Rattle.std.proofs.lemmas.List.Elements.{All-tail, All-head}
 use Rattle.std.proofs.lemmas.List.Sums.{length-filter, sum_by-append, sum_by-cons, count_by-le-length}
-use Rattle.desk_units.specs.declared.numbers.Airport.{Airport}
 use Rattle.desk_data.specs.declared.info.LegInfo.{LegInfo}
 use Rattle.desk_data.specs.declared.row.Row.{Row}
-use Rattle.desk_data.specs.declared.row.Row.TheVariants.{Flown, Cancelled}
 use Rattle.desk_data.specs.PlanRows.{PlanRows, row_at}
-use Rattle.desk_data.specs.Situation.{Situation, legs_of, planes_of, leg_at, plane_at}
+use Rattle.desk_data.specs.Situation.{Situation, legs_of, planes_of, leg_at}
 use Rattle.desk_rules.specs.Numbers.{numbers}
 use Rattle.desk_rules.specs.Rotations.{departure}
-use Rattle.desk_rules.specs.Slots.{is_in_the_air, hour_of, departs_in, arrives_in, departures, arrivals}
+use Rattle.desk_rules.specs.Slots.{is_in_the_air, hour_of, departs_in, arrives_in}
 use Rattle.desk_rules.proofs.HourLaws.{length-numbers}
 use Rattle.hour_counts.specs.declared.slot.Movement.{Movement}
 use Rattle.hour_counts.specs.declared.slot.Movement.TheVariants.{Departure, Arrival}

@@ -1,5 +1,5 @@
 -- The first of some moments that passes a test, found by any way of trying.
-use Rattle.std.proofs.Common.{◌≡◌, ℕ, ◌+◌, ◌-◌, ◌<◌, ◌≤◌, ◌⊎◌, inl, inr, Bool, true, false, ◌&&◌, cond, ltb, List, [], ◌∷◌, map, refl, sym, ap, subst, ◌∙◌, arith, min}
+use Rattle.std.proofs.Common.{◌≡◌, ℕ, ◌+◌, ◌-◌, ◌<◌, inl, inr, Bool, true, false, ◌&&◌, cond, ltb, List, [], ◌∷◌, map, refl, sym, ap, subst, ◌∙◌, arith, min}
 use Rattle.std.specs.Prelude.{Option, Some, None, find, filter}
 use Rattle.std.specs.Option.{option_map}
 use Rattle.std.proofs.lemmas.Bool.{cases_lt, and_left, and_right, and_from, lt-ltb, le-ltb}
@@ -7,7 +7,7 @@ use Rattle.desk_units.specs.declared.numbers.Minute.{Minute}
 use Rattle.desk_rules.specs.Numbers.{numbers}
 use Rattle.desk_rules.proofs.FindLaws.{first_of_numbers, numbers_none}
 use Rattle.added_rules.specs.Ferried.{minute}
-use Rattle.ferry_times.specs.Departs.{IsFirst, IsFirstAt}
+use Rattle.ferry_times.specs.Departs.{IsFirst}
 
 mapped_if : {X Y : Type 0} (f : X → Y) (b : Bool) (x : X) (o : Option X) → option_map f (cond b (Some x) o) ≡ cond b (Some (f x)) (option_map f o)
 mapped_if f true x o = refl

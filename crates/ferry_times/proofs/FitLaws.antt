@@ -1,10 +1,10 @@
 -- With one more added leg nothing is broken exactly where the leg keeps its range and can depart then.
-use Rattle.std.proofs.Common.{◌≡◌, ◌≢◌, ℕ, ◌+◌, ◌<◌, ◌≤◌, ◌⊎◌, inl, inr, Bool, true, false, ◌&&◌, ◌||◌, eqb, leb, List, [], ◌∷◌, length, get_or, refl, sym, ap, subst, ◌∙◌, arith}
+use Rattle.std.proofs.Common.{◌≡◌, ℕ, ◌+◌, ◌<◌, ◌≤◌, inl, inr, Bool, true, false, ◌&&◌, ◌||◌, eqb, leb, List, get_or, refl, sym, ap, subst, ◌∙◌, arith}
 use Rattle.std.specs.Prelude.{Option, Some, None, is_none}
 use Rattle.std.proofs.lemmas.Bool.{cases_Bool, cases_lt, cases_eq, and_parts, and_from, or_left, or_right, eqb-true, eq-eqb, lt-leb, le-leb}
 use Rattle.std.proofs.lemmas.Bool.Decides.{nat_tests}
 use Rattle.desk_units.specs.declared.numbers.Leg.{Leg}
-use Rattle.desk_data.specs.Situation.{Situation, legs_of, planes_of, airports_of, plane_at}
+use Rattle.desk_data.specs.Situation.{Situation, legs_of, planes_of, plane_at}
 use Rattle.desk_data.specs.PlanRows.{PlanRows}
 use Rattle.desk_data.specs.Valid.{IsValid, IsPlanFor}
 use Rattle.desk_rules.specs.Rules.{keeps_c4, keeps_c5, keeps_c6, keeps_c7}
@@ -27,8 +27,8 @@ use Rattle.added_legs.specs.Asked.{start_of}
 use Rattle.ferry_times.specs.declared.upkeep.Upkeep.{Upkeep}
 use Rattle.ferry_times.specs.declared.way.Way.{Way}
 use Rattle.ferry_times.specs.Times.{AreUpkeeps, no_upkeep}
-use Rattle.ferry_times.specs.Departs.{way_of, IsWay, is_in_service, keeps_maintenance, airport_of, moment_of, count_of, cap_of, is_below, has_room, has_slot, can_depart}
-use Rattle.ferry_times.specs.Taken.{takes, added_taken}
+use Rattle.ferry_times.specs.Departs.{way_of, is_in_service, keeps_maintenance, airport_of, moment_of, count_of, cap_of, is_below, has_room, has_slot, can_depart}
+use Rattle.ferry_times.specs.Taken.{takes}
 use Rattle.ferry_times.proofs.CountLaws.{merged_count, taken_more}
 use Rattle.ferry_times.proofs.ChangeLaws.{c4_same, c5_same, c6_same, c7_same}
 use Rattle.ferry_times.proofs.SoundLaws.{KeepAll, sound_keeps, keeps_sound}

@@ -1,9 +1,8 @@
 -- What the rules C4 to C9 ask of one more added leg and of its aircraft.
-use Rattle.std.proofs.Common.{◌≡◌, ◌≢◌, ℕ, ◌+◌, ◌*◌, ◌<◌, ◌≤◌, ◌⊎◌, inl, inr, Bool, true, false, not, ◌&&◌, ◌||◌, cond, eqb, ltb, leb, List, [], ◌∷◌, length, get_or, map, refl, sym, ap, subst, ◌∙◌, arith, All, max}
+use Rattle.std.proofs.Common.{◌≡◌, ℕ, ◌+◌, ◌<◌, ◌≤◌, inl, inr, Bool, true, false, ◌||◌, eqb, ltb, leb, List, [], length, get_or, map, refl, sym, ap, subst, ◌∙◌, arith, All}
 use Rattle.std.specs.Prelude.{Option, Some, None, unwrap_or}
-use Rattle.std.specs.List.{list_any}
 use Rattle.std.specs.Option.{ForSome, option_map}
-use Rattle.std.proofs.lemmas.Bool.{cases_Bool, cases_lt, cases_eq, and_parts, and_left, and_right, and_from, and_cases, eq-eqb, eqb-true, lt-ltb, ltb-true, ltb-false, le-leb, true≢false}
+use Rattle.std.proofs.lemmas.Bool.{cases_Bool, cases_lt, and_parts, and_left, and_from, eq-eqb, eqb-true, lt-ltb, le-leb, true≢false}
 use Rattle.std.proofs.lemmas.Bool.Decides.{nat_tests}
 use Rattle.std.proofs.lemmas.List.{length-map, get_or_past}
 use Rattle.std.proofs.lemmas.List.Elements.{All-get_or}
@@ -11,25 +10,24 @@ use Rattle.desk_units.specs.declared.numbers.Airport.{Airport}
 use Rattle.desk_units.specs.declared.numbers.Leg.{Leg}
 use Rattle.desk_data.specs.declared.row.Row.{Row}
 use Rattle.desk_data.specs.declared.row.Row.TheVariants.{Flown, Cancelled}
-use Rattle.desk_data.specs.Situation.{Situation, legs_of, planes_of, airports_of, leg_at, plane_at, distance, spans, now_of, no_leg, no_plane}
+use Rattle.desk_data.specs.Situation.{Situation, legs_of, planes_of, airports_of, plane_at, distance, now_of, no_leg, no_plane}
 use Rattle.desk_data.specs.PlanRows.{PlanRows, row_at}
 use Rattle.desk_data.specs.Valid.{IsValid, IsPlanFor, IsLeg, IsPlane, IsDistance}
-use Rattle.desk_rules.specs.Numbers.{numbers, none_below}
-use Rattle.desk_rules.specs.Rotations.{departure, dep, arr, comes_before, precedes}
-use Rattle.desk_rules.specs.Rules.{meets_span, keeps_c4, keeps_c5, keeps_c6, keeps_c7}
-use Rattle.desk_rules.specs.Maintenance.{is_flown_by, flies, departs_before, departs_from}
-use Rattle.desk_rules.proofs.Tests.{none_below-from}
+use Rattle.desk_rules.specs.Numbers.{numbers}
+use Rattle.desk_rules.specs.Rotations.{departure, dep, comes_before}
+use Rattle.desk_rules.specs.Rules.{keeps_c4, keeps_c5, keeps_c6, keeps_c7}
+use Rattle.desk_rules.specs.Maintenance.{is_flown_by, flies, departs_before}
 use Rattle.desk_rules.proofs.HourLaws.{length-numbers, dep-lt}
 use Rattle.plan_reads.specs.Last.{IsLastOf, AreLasts, stand}
-use Rattle.plan_reads.proofs.LastLaws.{last_in, left_asked}
+use Rattle.plan_reads.proofs.LastLaws.{last_in}
 use Rattle.plan_reads.proofs.OrderLaws.{not_both}
 use Rattle.added_rules.specs.declared.added.Added.{Added}
-use Rattle.added_rules.specs.Merged.{IsAdded, AreAdded, last_leg, plane_end, way_to, minutes_to, added_for, merged_day, merged_plan}
+use Rattle.added_rules.specs.Merged.{IsAdded, AreAdded, last_leg, plane_end, added_for, merged_day, merged_plan}
 use Rattle.added_rules.specs.Ferried.{with_added, ready, ready_after}
 use Rattle.added_rules.proofs.MergedLaws.{number_said}
 use Rattle.added_rules.proofs.FerriedLaws.{found_passes}
-use Rattle.added_legs.specs.Flights.{AreFlights, AreRanges, IsFlight, AreLastLegs, flight_of}
-use Rattle.added_legs.specs.Asked.{c4_added, c5_added, c6_added, c7_added, ready_alone}
+use Rattle.added_legs.specs.Flights.{AreFlights, IsFlight, flight_of}
+use Rattle.added_legs.specs.Asked.{ready_alone}
 use Rattle.added_legs.proofs.FlightLaws.{are_last}
 use Rattle.added_legs.proofs.AskedLaws.{c4_new, c5_new, c6_new, c7_new}
 use Rattle.ferry_times.specs.declared.way.Way.{Way}

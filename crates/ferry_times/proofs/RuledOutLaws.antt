@@ -1,18 +1,17 @@
 -- What rules a departure out does so until the span, the maintenance or the hour ends.
-use Rattle.std.proofs.Common.{◌≡◌, ℕ, ltb, leb, ◌+◌, ◌-◌, ◌*◌, ◌/◌, ◌<◌, ◌≤◌, Bool, true, false, ◌&&◌, ◌||◌, not, cond, List, [], ◌∷◌, refl, sym, ap, subst, ◌∙◌, arith}
+use Rattle.std.proofs.Common.{◌≡◌, ℕ, ltb, leb, ◌+◌, ◌-◌, ◌*◌, ◌/◌, ◌<◌, ◌≤◌, Bool, true, false, ◌&&◌, not, cond, List, [], ◌∷◌, refl, sym, ap, subst, ◌∙◌, arith}
 use Rattle.std.specs.Prelude.{Option, Some, None, find}
 use Rattle.std.specs.List.{list_any}
-use Rattle.std.proofs.lemmas.Bool.{and_left, and_right, and_from, or_left, or_right, ltb-true, ltb-false, le-ltb, lt-ltb}
+use Rattle.std.proofs.lemmas.Bool.{and_left, and_right, and_from, or_left, or_right, le-ltb, lt-ltb}
 use Rattle.std.proofs.lemmas.Bool.Decides.{nat_tests}
 use Rattle.std.proofs.lemmas.List.Folds.{list_any-append}
 use Rattle.desk_units.specs.declared.numbers.Minute.{Minute}
 use Rattle.desk_data.specs.declared.info.Maint.{Maint}
-use Rattle.desk_data.specs.Situation.{Situation, plane_at, spans}
+use Rattle.desk_data.specs.Situation.{Situation, spans}
 use Rattle.desk_data.specs.PlanRows.{PlanRows}
 use Rattle.desk_rules.specs.Rules.{meets_span}
 use Rattle.desk_rules.specs.Maintenance.{minutes_before}
 use Rattle.desk_rules.proofs.FindLaws.{Found, found, none-cons}
-use Rattle.hour_counts.specs.declared.slot.Movement.{Movement}
 use Rattle.hour_counts.specs.declared.slot.Movement.TheVariants.{Departure, Arrival}
 use Rattle.added_rules.specs.declared.added.Added.{Added}
 use Rattle.ferry_times.specs.declared.way.Way.{Way}

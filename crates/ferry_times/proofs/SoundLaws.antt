@@ -1,5 +1,5 @@
 -- A plan with added legs breaks nothing of C4 to C11 exactly where each item is kept.
-use Rattle.std.proofs.Common.{◌≡◌, ◌++◌, ℕ, ◌<◌, Bool, true, false, not, List, refl, sym, ap, ◌∙◌}
+use Rattle.std.proofs.Common.{◌≡◌, ◌++◌, ℕ, ◌<◌, Bool, true, false, not, List, refl, ap, ◌∙◌}
 use Rattle.std.specs.Prelude.{find, map, Option, None, Some}
 use Rattle.std.specs.Option.{option_map}
 use Rattle.desk_units.specs.declared.numbers.Airport.{Airport}
@@ -14,7 +14,6 @@ use Rattle.desk_rules.specs.Slots.{keeps_c10, keeps_c11}
 use Rattle.desk_rules.specs.Least.{breaks, all_hours, each_leg, each_plane, each_hour, slot_items, leg, plane, airport}
 use Rattle.desk_rules.proofs.FindLaws.{find_none-parts, find_none-both, none_of_numbers, numbers_none, none_of_lists, lists_none}
 use Rattle.added_rules.specs.declared.added.Added.{Added}
-use Rattle.added_rules.specs.declared.added.AddBroken.{AddBroken}
 use Rattle.added_rules.specs.Added.{items_from_c4, named, least_added}
 use Rattle.added_rules.specs.Merged.{merged_day, merged_plan}
 

@@ -1,11 +1,10 @@
 -- How many legs of a plan depart from an airport in an hour, or arrive there: one more leg.
-use Rattle.std.proofs.Common.{◌≡◌, ℕ, ◌+◌, ◌<◌, ◌≤◌, Bool, true, false, not, ◌&&◌, cond, eqb, List, [], refl, sym, ap, ◌∙◌, arith, add-one}
-use Rattle.std.specs.Prelude.{Option, Some, None, count_by}
-use Rattle.std.proofs.lemmas.Bool.{cases_Bool}
+use Rattle.std.proofs.Common.{◌≡◌, ℕ, ◌+◌, ◌≤◌, Bool, true, false, not, ◌&&◌, cond, eqb, List, [], refl, sym, ap, ◌∙◌, arith, add-one}
+use Rattle.std.specs.Prelude.{Some, None, count_by}
 use Rattle.std.proofs.lemmas.List.Sums.{sum_by_push, count_by-le-length}
 use Rattle.desk_data.specs.declared.row.Row.{Row}
 use Rattle.desk_data.specs.declared.row.Row.TheVariants.{Flown, Cancelled}
-use Rattle.desk_data.specs.Situation.{Situation, legs_of, leg_at, plane_at}
+use Rattle.desk_data.specs.Situation.{Situation, legs_of, plane_at}
 use Rattle.desk_data.specs.PlanRows.{PlanRows, row_at}
 use Rattle.desk_rules.specs.Numbers.{numbers}
 use Rattle.desk_rules.proofs.HourLaws.{length-numbers}

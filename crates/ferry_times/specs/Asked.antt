@@ -1,5 +1,5 @@
 -- What is asked when an added leg on a way is to depart.
-use Rattle.std.specs.Prelude.{◌≡◌, ℕ, List}
+use Rattle.std.specs.Prelude.{◌≡◌}
 use Rattle.std.specs.Option.{ForSome}
 use Rattle.desk_data.specs.Situation.{Situation, legs_of, plane_at}
 use Rattle.desk_data.specs.PlanRows.{PlanRows}

@@ -45,7 +45,11 @@ pub(crate) fn has_room(
     if hour >= HOURS {
         return true;
     }
-    let slot = Slot { movement: taken.movement, airport, hour };
+    let slot = Slot {
+        movement: taken.movement,
+        airport,
+        hour,
+    };
     let Some(cap) = slot.cap(inst) else {
         return true;
     };
@@ -54,13 +58,7 @@ pub(crate) fn has_room(
 }
 
 /// How many added legs depart from an airport in an hour, or arrive there.
-fn added_taken(
-    inst: &Instance,
-    plan: &Plan,
-    taken: Taken<'_>,
-    airport: Airport,
-    hour: u32,
-) -> usize
+fn added_taken(inst: &Instance, plan: &Plan, taken: Taken<'_>, airport: Airport, hour: u32) -> usize
     requires plan { IsPlanFor inst.now plan.now }
     requires taken { IsTakenOf inst.now plan.now taken }
     ensures { result ≡ added_taken inst.now plan.now taken.entry.movement airport.0 hour taken.entry.added.now }

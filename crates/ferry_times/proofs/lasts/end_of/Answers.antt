@@ -1,4 +1,4 @@
-use Rattle.std.proofs.Common.{rules, ◌≡◌, ◌∙◌, sym}
+use Rattle.std.proofs.Common.{◌∙◌, sym}
 use Rattle.ferry_times.proofs.OwnLaws.{end_stands}
 use Rattle.ferry_times.proofs.lasts.end_of.Goals as goal
 

@@ -1,4 +1,4 @@
-use Rattle.std.proofs.Common.{rules, ◌≡◌, ◌+◌, ◌<◌, ◌∙◌, sym, arith, max}
+use Rattle.std.proofs.Common.{rules, ◌≡◌, ◌+◌, ◌∙◌, sym, arith, max}
 use Rattle.std.specs.Prelude.{Some, None}
 use Rattle.desk_data.specs.Situation.{now_of, plane_at}
 use Rattle.desk_rules.specs.Rotations.{arr}

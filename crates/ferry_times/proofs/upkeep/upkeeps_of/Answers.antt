@@ -1,5 +1,5 @@
 use Rattle.std.proofs.Common.{◌≡◌, ℕ, subst, arith}
-use Rattle.desk_data.specs.Situation.{legs_of, planes_of}
+use Rattle.desk_data.specs.Situation.{legs_of}
 use Rattle.ferry_times.specs.Times.{AreUpkeeps}
 use Rattle.ferry_times.proofs.UpkeepLaws.{no_legs}
 use Rattle.ferry_times.proofs.upkeep.upkeeps_of.Goals as goal

@@ -2,7 +2,7 @@ use Rattle.std.proofs.Common.{◌≡◌, true, false, leb, ap, sym, ◌∙◌}
 use Rattle.std.proofs.lemmas.Bool.{le-leb, lt-leb}
 use Rattle.desk_data.specs.Situation.{plane_at}
 use Rattle.ferry_times.specs.Departs.{way_of}
-use Rattle.ferry_times.proofs.CandidateLaws.{searched, found_is, none_is_found, found_sound, found_early}
+use Rattle.ferry_times.proofs.CandidateLaws.{searched, found_is, none_is_found, found_sound}
 use Rattle.ferry_times.proofs.times.FerryTimes.departure.Goals as goal
 
 pub returns-then-within-clause-exact : goal.returns-then-within-clause-exact
@@ -19,8 +19,8 @@ returns-then-within-clause-exact c =
     ∙ sym (ap (λ info. leb c.way_of-way.result.minutes info.range) c.plane.ensures.row)
     ∙ le-leb c.way_of-way.result.minutes c.plane.result.now.range c.if-within.true in
     let first = searched I P valid r.plan t.added r.added r.sound t.lasts t.starts t.upkeeps r.times.lasts r.times.starts r.times.upkeeps p d r.plane r.dest r.air r.alone r.way
-        c.first_from.result c.asked_of-asked.result.departures.added.now c.asked_of-asked.result.way c.ready-ready.result
-        (c.asked_of-asked.ensures.added ∙ c.departing.ensures.added) (c.asked_of-asked.ensures.way ∙ c.way_of-way.ensures.way) c.ready-ready.ensures.ready c.first_from.ensures in
+    c.first_from.result c.asked_of-asked.result.departures.added.now c.asked_of-asked.result.way c.ready-ready.result
+    (c.asked_of-asked.ensures.added ∙ c.departing.ensures.added) (c.asked_of-asked.ensures.way ∙ c.way_of-way.ensures.way) c.ready-ready.ensures.ready c.first_from.ensures in
     found_is I P valid r.plan t.added r.added r.sound t.lasts t.starts t.upkeeps r.times.lasts r.times.starts r.times.upkeeps p d r.plane r.dest r.air r.alone r.way c.first_from.result short first
 
 pub returns-then-within-clause-sound : goal.returns-then-within-clause-sound
@@ -37,8 +37,8 @@ returns-then-within-clause-sound c =
     ∙ sym (ap (λ info. leb c.way_of-way.result.minutes info.range) c.plane.ensures.row)
     ∙ le-leb c.way_of-way.result.minutes c.plane.result.now.range c.if-within.true in
     let first = searched I P valid r.plan t.added r.added r.sound t.lasts t.starts t.upkeeps r.times.lasts r.times.starts r.times.upkeeps p d r.plane r.dest r.air r.alone r.way
-        c.first_from.result c.asked_of-asked.result.departures.added.now c.asked_of-asked.result.way c.ready-ready.result
-        (c.asked_of-asked.ensures.added ∙ c.departing.ensures.added) (c.asked_of-asked.ensures.way ∙ c.way_of-way.ensures.way) c.ready-ready.ensures.ready c.first_from.ensures in
+    c.first_from.result c.asked_of-asked.result.departures.added.now c.asked_of-asked.result.way c.ready-ready.result
+    (c.asked_of-asked.ensures.added ∙ c.departing.ensures.added) (c.asked_of-asked.ensures.way ∙ c.way_of-way.ensures.way) c.ready-ready.ensures.ready c.first_from.ensures in
     found_sound I P valid r.plan t.added r.added r.sound t.lasts t.starts t.upkeeps r.times.lasts r.times.starts r.times.upkeeps p d r.plane r.dest r.air r.alone r.way c.first_from.result short first
 
 pub returns-else-within-clause-exact : goal.returns-else-within-clause-exact
