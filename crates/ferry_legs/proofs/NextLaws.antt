@@ -1,5 +1,5 @@
 -- Which candidate is the next leg that is added.
-use Rattle.std.proofs.Common.{◌≡◌, ℕ, ◌+◌, ◌<◌, ◌≤◌, Bool, true, false, ◌&&◌, ◌||◌, not, cond, eqb, ltb, List, [], ◌∷◌, ◌++◌, length, get_or, map, filter, refl, sym, ap, subst, ◌∙◌, arith, All}
+use Rattle.std.proofs.Common.{◌≡◌, ℕ, ◌+◌, ◌<◌, ◌≤◌, Bool, true, false, ◌&&◌, ◌||◌, not, cond, ltb, List, [], ◌∷◌, ◌++◌, get_or, map, filter, refl, sym, ap, subst, ◌∙◌, arith, All}
 use Rattle.std.specs.Prelude.{Option, Some, None, find, is_some, is_none}
 use Rattle.std.specs.List.{filter_map, flat_map, cons_option}
 use Rattle.std.specs.Option.{option_map}
@@ -13,8 +13,8 @@ use Rattle.desk_rules.specs.Least.{airport}
 use Rattle.desk_rules.specs.Numbers.{numbers}
 use Rattle.desk_rules.proofs.FindLaws.{lists_none, first_of_lists, first_of_numbers, numbers_none}
 use Rattle.added_rules.specs.declared.added.Added.{Added}
-use Rattle.added_rules.specs.Merged.{added_for, way_to, IsAdded, AreAdded}
-use Rattle.added_rules.specs.Ferried.{ready, minute, moments, fits, may_go, added_leg, candidate, candidates, lowers, next_added}
+use Rattle.added_rules.specs.Merged.{added_for, way_to, IsAdded}
+use Rattle.added_rules.specs.Ferried.{ready, minute, moments, fits, may_go, added_leg, candidate, lowers, next_added}
 use Rattle.added_rules.proofs.FerriedLaws.{found_passes}
 use Rattle.ferry_legs.specs.Steps.{if_lowers, candidate_for, paying, paying_of, AreTaken, IsNew}
 

@@ -8,7 +8,6 @@
 //! `added_legs`.
 #![tactic(auto)]
 
-
 mod adding;
 mod ferried;
 mod known;
@@ -16,5 +15,5 @@ mod next;
 mod trial;
 
 pub use added_rules::Added;
-pub use ferried::Ferried;
 pub use adding::ferry;
+pub use ferried::Ferried;

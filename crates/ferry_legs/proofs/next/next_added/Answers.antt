@@ -1,4 +1,4 @@
-use Rattle.std.proofs.Common.{◌≡◌, ◌<◌, sym, ◌∙◌, arith}
+use Rattle.std.proofs.Common.{◌≡◌, sym, ◌∙◌, arith}
 use Rattle.std.specs.Prelude.{Some}
 use Rattle.ferry_legs.specs.Ferried.{added_of}
 use Rattle.ferry_legs.specs.Steps.{paying_of}

@@ -1,10 +1,10 @@
-use Rattle.std.proofs.Common.{◌≡◌, true, sym, ap, subst, ◌∙◌}
+use Rattle.std.proofs.Common.{◌≡◌, true, sym, ap, ◌∙◌}
 use Rattle.std.specs.Prelude.{Some, None}
 use Rattle.std.specs.Option.{option_map}
 use Rattle.added_rules.specs.declared.added.Added.{Added}
 use Rattle.added_rules.specs.Ferried.{added_leg, may_go}
 use Rattle.ferry_legs.specs.Ferried.{added_of}
-use Rattle.ferry_legs.specs.Steps.{candidate_for, IsNew}
+use Rattle.ferry_legs.specs.Steps.{candidate_for}
 use Rattle.ferry_legs.proofs.NextLaws.{has_none, goes, no_way, is_nothing, pays, pays_not, candidate_is_new}
 use Rattle.ferry_legs.proofs.ListLaws.{one_more_added}
 use Rattle.ferry_legs.proofs.next.paying.Goals as goal

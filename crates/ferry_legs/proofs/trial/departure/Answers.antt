@@ -1,4 +1,4 @@
-use Rattle.std.proofs.Common.{◌≡◌, ◌+◌, ◌<◌, true, ltb, ◌&&◌, sym, ◌∙◌, arith}
+use Rattle.std.proofs.Common.{◌≡◌, ◌+◌, true, ltb, ◌&&◌, sym, ◌∙◌, arith}
 use Rattle.added_rules.specs.Ferried.{added_leg, fits, minute}
 use Rattle.ferry_legs.specs.Ferried.{added_of}
 use Rattle.ferry_legs.proofs.NextLaws.{departs_first, departs_never}
