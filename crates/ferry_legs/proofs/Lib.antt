@@ -1,2 +1,4 @@
 pub mod NextLaws
 pub mod ListLaws
+pub mod SoundLaws
+pub mod KeptLaws

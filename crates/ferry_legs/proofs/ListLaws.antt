@@ -1,8 +1,8 @@
 -- Lists of added legs, with one more.
-use Rattle.std.proofs.Common.{◌≡◌, ◌≢◌, ℕ, zero, suc, ◌+◌, ◌<◌, ◌⊎◌, inl, inr, Bool, true, false, cond, eqb, List, [], ◌∷◌, ◌++◌, length, get_or, set, take, map, refl, sym, ap, subst, ◌∙◌, arith, length-append}
+use Rattle.std.proofs.Common.{◌≡◌, ◌≢◌, ℕ, zero, suc, ◌+◌, ◌<◌, inl, inr, Bool, true, false, cond, eqb, List, [], ◌∷◌, ◌++◌, length, get_or, set, take, refl, sym, ap, subst, ◌∙◌, arith, length-append}
 use Rattle.std.specs.Prelude.{Option, Some, None, find, is_some, replicate, sum_by}
 use Rattle.std.specs.Option.{option_or}
-use Rattle.std.proofs.lemmas.Bool.{cases_eq, eq-eqb, ne_eqb, eqb-false, true≢false}
+use Rattle.std.proofs.lemmas.Bool.{cases_eq, eq-eqb, ne_eqb, eqb-false}
 use Rattle.std.proofs.lemmas.List.{map-append, take-append-le, take_all, get_or_append_left, get_or_push, get_or-replicate, length-replicate, get_or-set_same, get_or-set_other, length-set}
 use Rattle.std.proofs.lemmas.List.Elements.{All-push}
 use Rattle.std.proofs.lemmas.List.Folds.{find-append}
@@ -18,7 +18,7 @@ use Rattle.added_rules.specs.Merged.{added_for, IsAdded, AreAdded}
 use Rattle.added_rules.specs.Ferried.{with_added, next_added}
 use Rattle.ferry_legs.specs.declared.ferried.Ferried.{Ferried}
 use Rattle.ferry_legs.specs.Ferried.{AreFerried, added_of}
-use Rattle.ferry_legs.specs.Steps.{AreTaken, AreSoFar, IsNew}
+use Rattle.ferry_legs.specs.Steps.{AreTaken, AreSoFar}
 
 -- ---- one more added leg
 
@@ -91,8 +91,10 @@ pub none_so_far : (I : Situation) (P : PlanRows) → AreSoFar I P []
 none_so_far I P = record {
   each = λ k a lt. absurd (omega arith);
   costs = λ k f lt. absurd (omega arith);
-  added = record { each = λ k a lt. absurd (omega arith); apart = λ i j d lt below. absurd (omega arith) };
 }
+
+pub none_added : (I : Situation) (P : PlanRows) → AreAdded I P []
+none_added I P = record { each = λ k a lt. absurd (omega arith); apart = λ i j d lt below. absurd (omega arith) }
 
 pub all_ferried : (I : Situation) (P : PlanRows) (list : List Ferried) → AreSoFar I P list → next_added I P (added_of list) ≡ None → AreFerried I P list
 all_ferried I P list h none = record { legs = record { each = h.each; done = none }; costs = h.costs }
@@ -111,8 +113,8 @@ same_length : (list : List Ferried) → length (added_of list) ≡ length list
 same_length [] = refl
 same_length (f ∷ list) = omega (arith, same_length list)
 
-pub one_more_ferried : (I : Situation) (P : PlanRows) (list : List Ferried) (f : Ferried) → AreSoFar I P list → next_added I P (added_of list) ≡ Some f.leg → IsNew I P (added_of list) f.leg → f.cost ≡ grains (cost_added I P (with_added (added_of list) f.leg)) → AreSoFar I P (list ++ f ∷ [])
-one_more_ferried I P list f h next new cost =
+pub one_more_ferried : (I : Situation) (P : PlanRows) (list : List Ferried) (f : Ferried) → AreSoFar I P list → next_added I P (added_of list) ≡ Some f.leg → f.cost ≡ grains (cost_added I P (with_added (added_of list) f.leg)) → AreSoFar I P (list ++ f ∷ [])
+one_more_ferried I P list f h next cost =
     let A = added_of list in
     let a = f.leg in
     let longer : added_of (list ++ f ∷ []) ≡ with_added A a = map-append (λ (g : Ferried). g.leg) list (f ∷ []) in
@@ -128,5 +130,4 @@ one_more_ferried I P list f h next new cost =
           (each_of (λ k g. g.cost ≡ grains (cost_added I P (take (k + 1) (with_added A a)))) list f
           (λ k g lt. h.costs k g lt ∙ ap (λ (B : List Added). grains (cost_added I P B)) (sym (take-append-le (k + 1) A (a ∷ []) (omega (arith, lt, long)))))
           (cost ∙ ap (λ (B : List Added). grains (cost_added I P B)) (sym (take_all (length list + 1) (with_added A a) (omega (arith, long, length-append A (a ∷ [])))))));
-      added = subst (AreAdded I P) (sym longer) (one_more_added I P A a h.added new.added new.free);
     }

@@ -1,5 +1,5 @@
 -- Which candidate is the next leg that is added.
-use Rattle.std.proofs.Common.{◌≡◌, ℕ, ◌+◌, ◌<◌, ◌≤◌, Bool, true, false, ◌&&◌, ◌||◌, not, cond, eqb, ltb, List, [], ◌∷◌, ◌++◌, length, get_or, map, filter, refl, sym, ap, subst, ◌∙◌, arith, All}
+use Rattle.std.proofs.Common.{◌≡◌, ℕ, ◌+◌, ◌<◌, ◌≤◌, Bool, true, false, ◌&&◌, ◌||◌, not, cond, ltb, List, [], ◌∷◌, ◌++◌, get_or, map, filter, refl, sym, ap, subst, ◌∙◌, arith, All}
 use Rattle.std.specs.Prelude.{Option, Some, None, find, is_some, is_none}
 use Rattle.std.specs.List.{filter_map, flat_map, cons_option}
 use Rattle.std.specs.Option.{option_map}
@@ -11,12 +11,14 @@ use Rattle.desk_data.specs.PlanRows.{PlanRows}
 use Rattle.desk_data.specs.Valid.{IsValid}
 use Rattle.desk_rules.specs.Least.{airport}
 use Rattle.desk_rules.specs.Numbers.{numbers}
-use Rattle.desk_rules.proofs.FindLaws.{lists_none, first_of_lists, first_of_numbers, numbers_none}
+use Rattle.desk_rules.proofs.FindLaws.{lists_none, first_of_lists}
 use Rattle.added_rules.specs.declared.added.Added.{Added}
-use Rattle.added_rules.specs.Merged.{added_for, way_to, IsAdded, AreAdded}
-use Rattle.added_rules.specs.Ferried.{ready, minute, moments, fits, may_go, added_leg, candidate, candidates, lowers, next_added}
+use Rattle.added_rules.specs.Added.{least_added}
+use Rattle.added_rules.specs.Merged.{added_for, way_to}
+use Rattle.added_rules.specs.Ferried.{ready, minute, moments, with_added, fits, may_go, added_leg, candidate, lowers, next_added}
 use Rattle.added_rules.proofs.FerriedLaws.{found_passes}
-use Rattle.ferry_legs.specs.Steps.{if_lowers, candidate_for, paying, paying_of, AreTaken, IsNew}
+use Rattle.ferry_prices.specs.Prices.{IsInTime}
+use Rattle.ferry_legs.specs.Steps.{if_lowers, paying, paying_of, AreTaken, IsNew}
 
 none_is : {X : Type 0} (o : Option X) → is_none o ≡ true → o ≡ None
 none_is None h = refl
@@ -55,23 +57,23 @@ unfolding listed
 find_listed I P A None = refl
 find_listed I P A (Some a) = refl
 
-find_one : (I : Situation) (P : PlanRows) (A : List Added) (p d : ℕ) → find (lowers I P A) (listed (candidate_for I P A p d)) ≡ paying I P A p d
+find_one : (I : Situation) (P : PlanRows) (A : List Added) (p d : ℕ) → find (lowers I P A) (listed (candidate I P A p d)) ≡ paying I P A p d
 unfolding paying
-find_one I P A p d = find_listed I P A (candidate_for I P A p d)
+find_one I P A p d = find_listed I P A (candidate I P A p d)
 
 -- ---- the first of an aircraft
 
 pub none_of_plane : (I : Situation) (P : PlanRows) (A : List Added) (p : ℕ) → ((d : ℕ) → d < airports_of I → paying I P A p d ≡ None) → paying_of I P A p ≡ None
 unfolding paying_of
 none_of_plane I P A p none =
-    ap (find (lowers I P A)) (joined (candidate_for I P A p) (numbers (airports_of I)))
-    ∙ lists_none (lowers I P A) (λ d. listed (candidate_for I P A p d)) (airports_of I) (λ d lt. find_one I P A p d ∙ none d lt)
+    ap (find (lowers I P A)) (joined (candidate I P A p) (numbers (airports_of I)))
+    ∙ lists_none (lowers I P A) (λ d. listed (candidate I P A p d)) (airports_of I) (λ d lt. find_one I P A p d ∙ none d lt)
 
 pub first_of_plane : (I : Situation) (P : PlanRows) (A : List Added) (p d : ℕ) (a : Added) → d < airports_of I → paying I P A p d ≡ Some a → ((e : ℕ) → e < d → paying I P A p e ≡ None) → paying_of I P A p ≡ Some a
 unfolding paying_of
 first_of_plane I P A p d a lt is before =
-    ap (find (lowers I P A)) (joined (candidate_for I P A p) (numbers (airports_of I)))
-    ∙ first_of_lists (lowers I P A) (λ e. listed (candidate_for I P A p e)) (airports_of I) d a lt (find_one I P A p d ∙ is) (λ e below. find_one I P A p e ∙ before e below)
+    ap (find (lowers I P A)) (joined (candidate I P A p) (numbers (airports_of I)))
+    ∙ first_of_lists (lowers I P A) (λ e. listed (candidate I P A p e)) (airports_of I) d a lt (find_one I P A p d ∙ is) (λ e below. find_one I P A p e ∙ before e below)
 
 -- there is none of an aircraft that may go nowhere
 none_if : {X : Type 0} (b : Bool) (o : Option X) → b ≡ false → cond b o None ≡ None
@@ -79,7 +81,7 @@ none_if false o is = refl
 none_if true o is = absurd cc
 
 pub goes_not : (I : Situation) (P : PlanRows) (A : List Added) (p d : ℕ) → may_go I P A p d ≡ false → paying I P A p d ≡ None
-unfolding paying candidate_for
+unfolding paying
 goes_not I P A p d is = ap (if_lowers I P A) (none_if (may_go I P A p d) (find (fits I P A) (map (added_leg p d) (moments I P p))) is)
 
 no_end : (b c : Bool) → (b && (c && false)) ≡ false
@@ -105,33 +107,31 @@ no_way I P A p d none =
 -- ---- the first of all
 
 pub none_next : (I : Situation) (P : PlanRows) (A : List Added) → ((p : ℕ) → p < planes_of I → paying_of I P A p ≡ None) → next_added I P A ≡ None
-unfolding next_added paying_of candidate_for
+unfolding next_added paying_of
 none_next I P A none = lists_none (lowers I P A) (λ p. filter_map (candidate I P A p) (numbers (airports_of I))) (planes_of I) none
 
 pub first_next : (I : Situation) (P : PlanRows) (A : List Added) (p : ℕ) (a : Added) → p < planes_of I → paying_of I P A p ≡ Some a → ((q : ℕ) → q < p → paying_of I P A q ≡ None) → next_added I P A ≡ Some a
-unfolding next_added paying_of candidate_for
+unfolding next_added paying_of
 first_next I P A p a lt is before = first_of_lists (lowers I P A) (λ q. filter_map (candidate I P A q) (numbers (airports_of I))) (planes_of I) p a lt is before
 
 -- ---- one candidate
 
-pub pays : (I : Situation) (P : PlanRows) (A : List Added) (p d : ℕ) (a : Added) → candidate_for I P A p d ≡ Some a → lowers I P A a ≡ true → paying I P A p d ≡ Some a
+pub pays : (I : Situation) (P : PlanRows) (A : List Added) (p d : ℕ) (a : Added) → candidate I P A p d ≡ Some a → lowers I P A a ≡ true → paying I P A p d ≡ Some a
 unfolding paying
 pays I P A p d a is lower = ap (if_lowers I P A) is ∙ ap (λ (b : Bool). cond b (Some a) None) lower
 
-pub pays_not : (I : Situation) (P : PlanRows) (A : List Added) (p d : ℕ) (a : Added) → candidate_for I P A p d ≡ Some a → lowers I P A a ≡ false → paying I P A p d ≡ None
+pub pays_not : (I : Situation) (P : PlanRows) (A : List Added) (p d : ℕ) (a : Added) → candidate I P A p d ≡ Some a → lowers I P A a ≡ false → paying I P A p d ≡ None
 unfolding paying
 pays_not I P A p d a is lower = ap (if_lowers I P A) is ∙ ap (λ (b : Bool). cond b (Some a) None) lower
 
-pub is_nothing : (I : Situation) (P : PlanRows) (A : List Added) (p d : ℕ) → candidate_for I P A p d ≡ None → paying I P A p d ≡ None
+pub is_nothing : (I : Situation) (P : PlanRows) (A : List Added) (p d : ℕ) → candidate I P A p d ≡ None → paying I P A p d ≡ None
 unfolding paying
 is_nothing I P A p d is = ap (if_lowers I P A) is
 
 -- an added leg of aircraft p to airport d that departs once the aircraft is ready and before the window's end
 record IsLegTo (I : Situation) (P : PlanRows) (p d : ℕ) (a : Added) : Type 0 where
-  plane : p ≡ a.plane.0
-  dest : d ≡ a.dest.0
-  after : ready I P p ≤ a.dep.0
-  before : a.dep.0 < I.parts.to.0
+  leg : a ≡ added_leg p d a.dep
+  time : IsInTime I P p a.dep.0
 
 early_one : (end : ℕ) (x : Minute) (xs : List Minute) (b : Bool) → ltb x.0 end ≡ b → All (λ at. at.0 < end) xs → All (λ at. at.0 < end) (cond b (x ∷ xs) xs)
 early_one end x xs true is rest = All-cons (λ (at : Minute). at.0 < end) x xs (ltb-true x.0 end is) rest
@@ -152,17 +152,16 @@ all_legs I P p d ks =
     let late = all_late (ready I P p) I.parts.to.0 ks in
     let early = all_early I.parts.to.0 (map (λ k. minute (ready I P p + k)) ks) in
     All-map (IsLegTo I P p d) (added_leg p d) ats
-    (λ i at lt. record { plane = refl; dest = refl; after = late i at lt; before = early i at lt })
+    (λ i at lt. record { leg = refl; time = record { after = late i at lt; before = early i at lt } })
 
 pub goes : (I : Situation) (P : PlanRows) (A : List Added) (p d : ℕ) → (plane_at I p).surface ≡ false → added_for A p ≡ None → is_some (way_to I P p (airport d)) ≡ true → may_go I P A p d ≡ true
 goes I P A p d air free way = rw (air, free, way) refl
 
-found_if : (I : Situation) (P : PlanRows) (p d : ℕ) (b : Bool) (test : Added → Bool) (legs : List Added) (a : Added) → All (IsLegTo I P p d) legs → cond b (find test legs) None ≡ Some a → IsLegTo I P p d a
-found_if I P p d true test legs a all is = (found_passes (IsLegTo I P p d) test legs a all is).1
+found_if : (I : Situation) (P : PlanRows) (p d : ℕ) (b : Bool) (test : Added → Bool) (legs : List Added) (a : Added) → All (IsLegTo I P p d) legs → cond b (find test legs) None ≡ Some a → (test a ≡ true) × IsLegTo I P p d a
+found_if I P p d true test legs a all is = found_passes (IsLegTo I P p d) test legs a all is
 found_if I P p d false test legs a all is = absurd cc
 
-leg_to : (I : Situation) (P : PlanRows) (A : List Added) (p d : ℕ) (a : Added) → candidate_for I P A p d ≡ Some a → IsLegTo I P p d a
-unfolding candidate_for
+leg_to : (I : Situation) (P : PlanRows) (A : List Added) (p d : ℕ) (a : Added) → candidate I P A p d ≡ Some a → (fits I P A a ≡ true) × IsLegTo I P p d a
 leg_to I P A p d a is = found_if I P p d (may_go I P A p d) (fits I P A) (map (added_leg p d) (moments I P p)) a (all_legs I P p d (numbers 2881)) is
 
 -- a leg that there can be
@@ -172,57 +171,54 @@ goes_parts I P A p d goes =
     let more = and_parts (is_none (added_for A p)) (is_some (way_to I P p (airport d))) parts.1 in
     (parts.0, more.0, more.1)
 
-pub leg_is_free : (I : Situation) (P : PlanRows) (A : List Added) (p d : ℕ) → may_go I P A p d ≡ true → added_for A p ≡ None
-leg_is_free I P A p d goes = none_is (added_for A p) (goes_parts I P A p d goes).1
-
-pub leg_is_added : (I : Situation) (P : PlanRows) (A : List Added) (a : Added) → IsValid I → a.plane.0 < planes_of I → a.dest.0 < airports_of I → may_go I P A a.plane.0 a.dest.0 ≡ true → a.dep.0 < I.parts.to.0 → IsAdded I P a
-leg_is_added I P A a valid plane dest goes before =
-    let parts = goes_parts I P A a.plane.0 a.dest.0 goes in
-    record {
-      aircraft = plane;
-      air = not_true (plane_at I a.plane.0).surface parts.0;
-      airport = dest;
-      way = parts.2;
-      departs = omega (arith, before, valid.parts.to);
-    }
-
-pub candidate_is_new : (I : Situation) (P : PlanRows) (A : List Added) (p d : ℕ) (a : Added) → IsValid I → p < planes_of I → d < airports_of I → may_go I P A p d ≡ true → candidate_for I P A p d ≡ Some a → IsNew I P A a
+pub candidate_is_new : (I : Situation) (P : PlanRows) (A : List Added) (p d : ℕ) (a : Added) → IsValid I → p < planes_of I → d < airports_of I → may_go I P A p d ≡ true → candidate I P A p d ≡ Some a → IsNew I P A a
 candidate_is_new I P A p d a valid plane dest goes is =
-    let to = leg_to I P A p d a is in
-    let goes_there : may_go I P A a.plane.0 a.dest.0 ≡ true = subst (λ (e : ℕ). may_go I P A a.plane.0 e ≡ true) to.dest (subst (λ (q : ℕ). may_go I P A q d ≡ true) to.plane goes) in
+    let found = leg_to I P A p d a is in
+    let to = found.1 in
+    let parts = goes_parts I P A p d goes in
+    let there : p ≡ a.plane.0 = ap (λ (b : Added). b.plane.0) (sym to.leg) in
+    let where_to : d ≡ a.dest.0 = ap (λ (b : Added). b.dest.0) (sym to.leg) in
     record {
-      added = leg_is_added I P A a valid (omega (arith, plane, to.plane)) (omega (arith, dest, to.dest)) goes_there to.before;
-      free = leg_is_free I P A a.plane.0 a.dest.0 goes_there;
-      after = subst (λ (q : ℕ). ready I P q ≤ a.dep.0) to.plane to.after;
-      before = to.before;
+      added = record {
+        aircraft = omega (arith, plane, there);
+        air = subst (λ (q : ℕ). (plane_at I q).surface ≡ false) there (not_true (plane_at I p).surface parts.0);
+        airport = omega (arith, dest, where_to);
+        way = subst (λ (q : ℕ). is_some (way_to I P q a.dest) ≡ true) there (subst (λ (e : ℕ). is_some (way_to I P p (airport e)) ≡ true) where_to parts.2);
+        departs = omega (arith, to.time.before, valid.parts.to);
+      };
+      free = subst (λ (q : ℕ). added_for A q ≡ None) there (none_is (added_for A p) parts.1);
+      time = subst (λ (q : ℕ). IsInTime I P q a.dep.0) there to.time;
+      sound = none_is (least_added I P (with_added A a)) found.0;
     }
 
--- ---- when it departs
+-- ---- a candidate by when it departs
 
--- what is found of those that pass a test
-kept_one : {X Y : Type 0} (test : Y → Bool) (g : X → Y) (b c : Bool) (x : X) (xs : List X) (o : Option X) → test (g x) ≡ c → find test (map g xs) ≡ option_map g o → find test (map g (cond b (x ∷ xs) xs)) ≡ option_map g (cond (b && c) (Some x) o)
-kept_one {X} {Y} test g true true x xs o is rest = ap (λ (c : Bool). cond c (Some (g x)) (find test (map g xs))) is
-kept_one {X} {Y} test g true false x xs o is rest = ap (λ (c : Bool). cond c (Some (g x)) (find test (map g xs))) is ∙ rest
-kept_one test g false c x xs o is rest = rest
+-- none lowers the cost
+none_lower : (I : Situation) (P : PlanRows) (A : List Added) (p d : ℕ) (o : Option Added) → candidate I P A p d ≡ o → ((at : Minute) → IsInTime I P p at.0 → lowers I P A (added_leg p d at) ≡ false) → if_lowers I P A o ≡ None
+none_lower I P A p d None is none = refl
+none_lower I P A p d (Some a) is none =
+    let to = (leg_to I P A p d a is).1 in
+    let off : lowers I P A a ≡ false = ap (lowers I P A) to.leg ∙ none a.dep to.time in
+    ap (λ (b : Bool). cond b (Some a) None) off
 
-found_kept : {X Y : Type 0} (test : Y → Bool) (g : X → Y) (kept : X → Bool) (xs : List X) → find test (map g (filter kept xs)) ≡ option_map g (find (λ x. kept x && test (g x)) xs)
-found_kept test g kept [] = refl
-found_kept test g kept (x ∷ xs) = kept_one test g (kept x) (test (g x)) x (filter kept xs) (find (λ y. kept y && test (g y)) xs) refl (found_kept test g kept xs)
+pub never_pays : (I : Situation) (P : PlanRows) (A : List Added) (p d : ℕ) → ((at : Minute) → IsInTime I P p at.0 → lowers I P A (added_leg p d at) ≡ false) → paying I P A p d ≡ None
+unfolding paying
+never_pays I P A p d none = none_lower I P A p d (candidate I P A p d) refl none
 
--- the candidate, by the minutes from when its aircraft is ready
-candidate_found : (I : Situation) (P : PlanRows) (A : List Added) (p d from : ℕ) → from ≡ ready I P p → may_go I P A p d ≡ true → candidate_for I P A p d ≡ option_map (added_leg p d) (find (λ at. ltb at.0 I.parts.to.0 && fits I P A (added_leg p d at)) (map (λ k. minute (from + k)) (numbers 2881)))
-unfolding candidate_for
-candidate_found I P A p d from is goes =
-    subst (λ (f : ℕ). candidate_for I P A p d ≡ option_map (added_leg p d) (find (λ at. ltb at.0 I.parts.to.0 && fits I P A (added_leg p d at)) (map (λ k. minute (f + k)) (numbers 2881)))) (sym is)
-    (ap (λ (b : Bool). cond b (find (fits I P A) (map (added_leg p d) (moments I P p))) None) goes
-    ∙ found_kept (fits I P A) (added_leg p d) (λ at. ltb at.0 I.parts.to.0) (map (λ k. minute (ready I P p + k)) (numbers 2881)))
+no_dep : (o : Option Added) → None ≡ option_map (λ a. a.dep) o → o ≡ None
+no_dep None is = refl
+no_dep (Some a) is = absurd cc
 
-pub departs_first : (I : Situation) (P : PlanRows) (A : List Added) (p d from k : ℕ) → from ≡ ready I P p → may_go I P A p d ≡ true → k < 2881 → (ltb (from + k) I.parts.to.0 && fits I P A (added_leg p d (minute (from + k)))) ≡ true → ((j : ℕ) → j < k → (ltb (from + j) I.parts.to.0 && fits I P A (added_leg p d (minute (from + j)))) ≡ false) → candidate_for I P A p d ≡ Some (added_leg p d (minute (from + k)))
-departs_first I P A p d from k is goes lt here before =
-    candidate_found I P A p d from is goes
-    ∙ ap (option_map (added_leg p d)) (first_of_numbers (λ at. ltb at.0 I.parts.to.0 && fits I P A (added_leg p d at)) (λ k. minute (from + k)) 2881 k lt here before)
+pub departs_never : (I : Situation) (P : PlanRows) (A : List Added) (p d : ℕ) → None ≡ option_map (λ a. a.dep) (candidate I P A p d) → paying I P A p d ≡ None
+departs_never I P A p d is = is_nothing I P A p d (no_dep (candidate I P A p d) is)
 
-pub departs_never : (I : Situation) (P : PlanRows) (A : List Added) (p d from : ℕ) → from ≡ ready I P p → may_go I P A p d ≡ true → ((j : ℕ) → j < 2881 → (ltb (from + j) I.parts.to.0 && fits I P A (added_leg p d (minute (from + j)))) ≡ false) → candidate_for I P A p d ≡ None
-departs_never I P A p d from is goes none =
-    candidate_found I P A p d from is goes
-    ∙ ap (option_map (added_leg p d)) (numbers_none (λ at. ltb at.0 I.parts.to.0 && fits I P A (added_leg p d at)) (λ k. minute (from + k)) 2881 none)
+its_dep : (o : Option Added) (at : Minute) → Some at ≡ option_map (λ a. a.dep) o → (a : Added) × (o ≡ Some a) × (a.dep ≡ at)
+its_dep None at is = absurd cc
+its_dep (Some a) at is = (a, refl, cc)
+
+pub departs_at : (I : Situation) (P : PlanRows) (A : List Added) (p d : ℕ) (at : Minute) → Some at ≡ option_map (λ a. a.dep) (candidate I P A p d) → candidate I P A p d ≡ Some (added_leg p d at)
+departs_at I P A p d at is =
+    let found = its_dep (candidate I P A p d) at is in
+    let to = (leg_to I P A p d found.0 found.1).1 in
+    let same : found.0 ≡ added_leg p d at = to.leg ∙ ap (added_leg p d) found.2 in
+    found.1 ∙ ap Some same

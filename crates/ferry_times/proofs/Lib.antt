@@ -1,0 +1,13 @@
+pub mod CountLaws
+pub mod ChangeLaws
+pub mod SoundLaws
+pub mod OwnLaws
+pub mod MaintLaws
+pub mod MoreLaws
+pub mod FitLaws
+pub mod FirstLaws
+pub mod CandidateLaws
+pub mod UpkeepLaws
+pub mod RuledOutLaws
+pub mod TableLaws
+pub mod RoomLaws

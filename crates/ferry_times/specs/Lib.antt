@@ -1,0 +1,5 @@
+pub mod Times
+pub mod Departs
+pub mod Taken
+pub mod RuledOut
+pub mod Asked
