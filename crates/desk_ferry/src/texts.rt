@@ -13,9 +13,9 @@ ghost use Rattle.desk_runs.specs.Outcome.{line};
 ghost use Rattle.desk_tasks.specs.Ferry.{ferried, ferried_report};
 ghost use Rattle.ferry_legs.specs.declared.ferried.Ferried.{Ferried as Extra};
 ghost use Rattle.plan_reads.specs.Last.{stand};
-ghost use Rattle.ferry_text.specs.Text.{added_line, added_text, reported_line};
+ghost use Rattle.desk_ferry.specs.Lines.{line_of, report_line_of};
+ghost use Rattle.ferry_text.specs.Text.{added_text};
 
-use added_rules::Added;
 use desk_data::{Airport, DEPARTURES_END, Grains, Instance, Leg, Minute, NoMem, Plan, Plane};
 use ferry_legs::{Ferried, ferry};
 use ferry_text::{push_added, push_reported};
@@ -63,14 +63,14 @@ fn push_line(
     inst: &Instance,
     plan: &Plan,
     lasts: &[Option<Leg>],
-    leg: Added,
+    added: Ferried,
 ) -> Result<(), NoMem>
     requires lasts { AreLastLegs inst.now plan.now lasts.now }
-    requires leg { IsAdded inst.now plan.now leg }
-    ensures { OnOk result (text.new.items ≡ text.old.items ++ added_line inst.now plan.now leg) }
+    requires leg { IsAdded inst.now plan.now added.leg }
+    ensures { OnOk result (text.new.items ≡ text.old.items ++ line_of inst.now plan.now added) }
 {
-    let origin = plane_end(inst, plan, lasts, leg.plane);
-    push_added(text, inst, origin, leg)
+    let origin = plane_end(inst, plan, lasts, added.leg.plane);
+    push_added(text, inst, origin, added.leg)
 }
 
 // Adds its line in the report.
@@ -83,48 +83,46 @@ fn push_report_line(
 ) -> Result<(), NoMem>
     requires lasts { AreLastLegs inst.now plan.now lasts.now }
     requires leg { IsAdded inst.now plan.now added.leg }
-    ensures { OnOk result (text.new.items ≡ text.old.items ++ reported_line inst.now plan.now added.leg added.cost.0) }
+    ensures { OnOk result (text.new.items ≡ text.old.items ++ report_line_of inst.now plan.now added) }
 {
     let origin = plane_end(inst, plan, lasts, added.leg.plane);
     push_reported(text, inst, origin, added.leg, added.cost)
 }
 
-// The lines of added legs in the file.
-fn file_text(
-    alloc: Global,
+// Adds the lines of added legs in the file.
+fn push_lines(
+    text: &mut Vec<u8>,
     inst: &Instance,
     plan: &Plan,
     lasts: &[Option<Leg>],
     list: &[Ferried],
-) -> Result<Vec<u8>, NoMem>
+) -> Result<(), NoMem>
     requires lasts { AreLastLegs inst.now plan.now lasts.now }
     requires list { All (λ added. IsAdded inst.now plan.now added.leg) list.now }
-    ensures { IfOk result (λ text. text.items ≡ flat_map (λ added. added_line inst.now plan.now added.leg) list.now) }
+    ensures { OnOk result (text.new.items ≡ text.old.items ++ flat_map (line_of inst.now plan.now) list.now) }
 {
-    let mut text = Vec::new(alloc);
     for added in list {
-        push_line(&mut text, inst, plan, lasts, added.leg)?;
+        push_line(text, inst, plan, lasts, *added)?;
     }
-    Ok(text)
+    Ok(())
 }
 
 // And in the report.
-fn report_lines(
-    alloc: Global,
+fn push_report_lines(
+    text: &mut Vec<u8>,
     inst: &Instance,
     plan: &Plan,
     lasts: &[Option<Leg>],
     list: &[Ferried],
-) -> Result<Vec<u8>, NoMem>
+) -> Result<(), NoMem>
     requires lasts { AreLastLegs inst.now plan.now lasts.now }
     requires list { All (λ added. IsAdded inst.now plan.now added.leg) list.now }
-    ensures { IfOk result (λ text. text.items ≡ flat_map (λ added. reported_line inst.now plan.now added.leg added.cost.0) list.now) }
+    ensures { OnOk result (text.new.items ≡ text.old.items ++ flat_map (report_line_of inst.now plan.now) list.now) }
 {
-    let mut text = Vec::new(alloc);
     for added in list {
-        push_report_line(&mut text, inst, plan, lasts, *added)?;
+        push_report_line(text, inst, plan, lasts, *added)?;
     }
-    Ok(text)
+    Ok(())
 }
 
 // Adds the lines that end the report.
@@ -154,19 +152,22 @@ pub(crate) fn ferried_texts(
     alloc: Global,
     inst: &Instance,
     plan: &Plan,
-    cost: Grains,
+    alone: Grains,
 ) -> Result<(Vec<u8>, Vec<u8>), NoMem>
     requires plan { IsPlanFor inst.now plan.now }
     requires feasible { least inst.now plan.now ≡ None }
-    requires cost { cost ≡ grains (cost inst.now plan.now) }
+    requires cost { alone ≡ grains (cost inst.now plan.now) }
     ensures file { IfOk result (λ made. made.0.items ≡ added_text inst.now plan.now (ferried inst.now plan.now)) }
     ensures report { IfOk result (λ made. made.1.items ≡ ferried_report inst.now plan.now (ferried inst.now plan.now)) }
 {
     let _rows = inst.parts();
     let list = ferry(alloc, inst, plan)?;
     let lasts = last_legs(alloc, inst, plan)?;
-    let file = file_text(alloc, inst, plan, lasts.as_slice(), list.as_slice())?;
-    let mut report = report_lines(alloc, inst, plan, lasts.as_slice(), list.as_slice())?;
-    push_end(&mut report, last_cost(list.as_slice(), cost))?;
+    let legs = list.as_slice();
+    let mut file = Vec::new(alloc);
+    push_lines(&mut file, inst, plan, lasts.as_slice(), legs)?;
+    let mut report = Vec::new(alloc);
+    push_report_lines(&mut report, inst, plan, lasts.as_slice(), legs)?;
+    push_end(&mut report, last_cost(legs, alone))?;
     Ok((file, report))
 }

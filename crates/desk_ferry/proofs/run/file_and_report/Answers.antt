@@ -1,4 +1,4 @@
-use Rattle.std.proofs.Common.{◌≡◌, ℕ, sym, ap, ◌∙◌}
+use Rattle.std.proofs.Common.{sym, ◌∙◌}
 use Rattle.std.specs.Prelude.{Some}
 use Rattle.desk_judge.proofs.JudgeLaws.{item-names}
 use Rattle.desk_ferry.proofs.run.file_and_report.Goals as goal
