@@ -1,13 +1,13 @@
-//! Moves that are known not to be better by the rows that they make.
+//! The drafts of moves, and whether the rows that they make break a rule.
 
-ghost use Rattle.std.specs.Prelude.{◌≡◌, ◌<◌, ◌≤◌, true, false, length, All, IfOk};
+ghost use Rattle.std.specs.Prelude.{◌≡◌, ◌<◌, ◌≤◌, true, length, All, IfOk};
 ghost use Rattle.plan_moves.specs.Fits.{Fits, StepFits};
-ghost use Rattle.near_moves.specs.Descent.{is_better};
 ghost use Rattle.std.specs.List.{list_all};
+ghost use Rattle.std.specs.Option.{ForSome};
 ghost use Rattle.desk_data.specs.Situation.{planes_of};
 ghost use Rattle.near_trial.specs.RowRules.{BreaksRows, keeps_rows};
 ghost use Rattle.desk_model.specs.Steps.{after_steps};
-ghost use Rattle.near_draft.specs.Drafts.{plan_of};
+ghost use Rattle.near_draft.specs.Drafts.{IsDraftOf, plan_of};
 
 use crate::draft::Draft;
 use crate::legs::{are_in_order, legs_of};
@@ -19,23 +19,36 @@ use near_trial::keeps_rows;
 use plan_moves::{Move, Step};
 use std::alloc::Global;
 
-/// Whether it is known that a move is not better: its first steps, which change rows alone, break a rule of a leg of
-/// an aircraft that they push. They are drafted, and the evaluator does not see them. Where it says no, nothing is
-/// known. The only error is out of memory.
-pub fn is_known_worse(alloc: Global, eval: &Evaluator, m: &Move) -> Result<bool, NoMem>
+/// The plan that a move's first steps make, those before the first that leaves rows as they are, where they change rows
+/// alone and the others leave them; `None` where it is not drafted. The evaluator does not see it. The only error is
+/// out of memory.
+pub fn draft_of<'a>(
+    alloc: Global,
+    eval: &'a Evaluator,
+    m: &Move,
+) -> Result<Option<Draft<'a>>, NoMem>
     requires { Fits eval.now.inst m.now }
-    ensures { IfOk result (λ known. known ≡ true → is_better eval.now.inst eval.now.rows m.now ≡ false) }
+    ensures { IfOk result (λ drafted. ForSome drafted (IsDraftOf eval.now.inst eval.now.rows m.now)) }
 {
     let steps = m.steps.as_slice();
     let (first, others) = steps.split_at(first_steps(steps));
     if first.is_empty() || !leave_rows(others) {
-        return Ok(false);
+        return Ok(None);
     }
     let mut draft = Draft::of(alloc, eval);
     if !take_steps(alloc, &mut draft, first)? {
-        return Ok(false);
+        return Ok(None);
     }
-    breaks_rows(alloc, &draft, first)
+    Ok(Some(draft))
+}
+
+/// Whether a leg of an aircraft that a move pushes breaks C2 or one of C4 to C7 in the draft of its first steps. The
+/// only error is out of memory.
+pub fn breaks_rule(alloc: Global, draft: &Draft, m: &Move) -> Result<bool, NoMem>
+    requires { Fits draft.now.inst m.now }
+    ensures { IfOk result (λ breaks. breaks ≡ true → BreaksRows draft.now.inst (plan_of draft.now)) }
+{
+    breaks_rows(alloc, draft, m.steps.as_slice())
 }
 
 /// How many steps there are before the first that leaves rows as they are.
@@ -61,6 +74,7 @@ fn take_steps(alloc: Global, draft: &mut Draft, steps: &[Step]) -> Result<bool, 
     requires { All (StepFits draft.old.inst) steps.now }
     ensures taken { IfOk result (λ taken. taken ≡ true → plan_of draft.new ≡ after_steps draft.old.inst (plan_of draft.old) steps.now) }
     ensures inst { draft.new.inst ≡ draft.old.inst }
+    ensures rows { draft.new.rows ≡ draft.old.rows }
 {
     for step in steps {
         if !take_step(alloc, draft, step)? {

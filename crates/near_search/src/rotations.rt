@@ -1,4 +1,4 @@
-//! The rotations of a plan, and who pays on them, looked up once for each search.
+//! The rotations of a plan, and who pays on them and how much, looked up once for each search.
 
 ghost use Rattle.std.specs.Prelude.{◌≡◌, ℕ, ◌<◌, All, IfOk, filter, length, map, nat_lt, take, true};
 ghost use Rattle.desk_data.specs.Situation.{Situation, legs_of, planes_of};
@@ -11,15 +11,18 @@ ghost use Rattle.near_search.specs.Rotations.{AreRotations, from_leg};
 
 use desk_data::{Airport, Instance, Leg, Minute, NoMem, Plane};
 use desk_eval::Evaluator;
+use near_priced::Prices;
 use near_unpaid::Payers;
 use plan_reads::departure;
 use std::alloc::Global;
 
-/// The rotations of a plan, the legs of each aircraft in their order; who pays on them; and whether the plan is feasible.
+/// The rotations of a plan, the legs of each aircraft in their order; who pays on them and how much; and whether the plan
+/// is feasible.
 #[derive(Drop)]
 pub(crate) struct Rotations {
     legs: Vec<Vec<Leg>>,
     pub(crate) payers: Payers,
+    pub(crate) prices: Prices,
     pub(crate) feasible: bool,
 }
 
@@ -35,9 +38,11 @@ impl Rotations {
             legs.push(rotation)?;
         }
         let payers = Payers::of(alloc, eval.instance(), eval.plan())?;
+        let prices = Prices::of(alloc, eval.instance(), eval.plan())?;
         Ok(Rotations {
             legs,
             payers,
+            prices,
             feasible,
         })
     }

@@ -22,3 +22,5 @@ mod services;
 
 pub use laws::a_move_on_whose_aircraft_nobody_pays_is_not_better;
 pub use payers::Payers;
+pub use pays::reservation_cost;
+pub use services::{end_of, is_at, is_wanted};

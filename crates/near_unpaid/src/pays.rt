@@ -18,13 +18,22 @@ pub(crate) fn costs_nothing(inst: &Instance, plan: &Pages, res: Res) -> bool
     requires res { res.0 < reservations_of inst.now }
     ensures { result ≡ true → reservation_cost inst.now plan.now res.0 ≡ 0 }
 {
+    reservation_cost(inst, plan, res).0 == 0
+}
+
+/// What the passengers of a reservation cost by the paths that they are on.
+pub fn reservation_cost(inst: &Instance, plan: &Pages, res: Res) -> Grains
+    requires plan { IsPlanFor inst.now plan.now }
+    requires res { res.0 < reservations_of inst.now }
+    ensures { result.0 ≡ reservation_cost inst.now plan.now res.0 }
+{
     let _rows = inst.parts();
+    let mut total = Grains(0);
     for group in plan.groups(res) {
-        if group_cost(inst, plan, res, group.path.as_slice(), group.count).0 != 0 {
-            return false;
-        }
+        let path = group.path.as_slice();
+        total = total.plus(group_cost(inst, plan, res, path, group.count));
     }
-    true
+    total
 }
 
 /// What some passengers of a reservation cost on a path.

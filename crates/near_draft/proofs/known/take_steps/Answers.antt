@@ -19,4 +19,5 @@ loop-step-preserved c =
           ∙ ap (λ (Q : PlanRows). after_step D.inst Q step) c.loop-step.invariant.plan
           ∙ after_steps-more D.inst (plan_of D) c.args.steps.now i step c.loop-step-test.true c.step-item.is;
       inst = c.take_step.ensures.inst ∙ c.loop-step.invariant.inst;
+      rows = c.take_step.ensures.rows ∙ c.loop-step.invariant.rows;
     }

@@ -7,4 +7,5 @@ abbrev pub invariant-loop-step : goal.invariant-loop-step
 invariant-loop-step l = record {
   plan : plan_of l.draft ≡ after_steps l.fn.draft.inst (plan_of l.fn.draft) (take l.step-index l.steps);
   inst : l.draft.inst ≡ l.fn.draft.inst;
+  rows : l.draft.rows ≡ l.fn.draft.rows;
 }

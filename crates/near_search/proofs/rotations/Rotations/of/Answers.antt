@@ -21,4 +21,5 @@ returns c =
       each = each;
       within = c.loop-p.invariant.within;
       payers = rw (c.instance-2.ensures, c.plan.ensures.rows) at c.in_ok-payers.ensures;
+      prices = rw (c.instance-3.ensures, c.plan-2.ensures.rows) at c.in_ok-prices.ensures;
     }

@@ -1,0 +1,210 @@
+-- Where aircraft end, and how many are at hand then.
+use Rattle.std.proofs.Common.{◌≡◌, ◌≢◌, ℕ, zero, suc, ◌+◌, ◌<◌, inl, inr, Bool, true, false, ◌&&◌, not, cond, eqb, ltb, List, [], ◌∷◌, ◌++◌, length, get_or, refl, sym, ap, subst, ◌∙◌, arith}
+use Rattle.std.specs.Prelude.{Option, None, Some, filter}
+use Rattle.std.specs.List.{All, Contains}
+use Rattle.std.proofs.lemmas.Bool.{true≢false, cases_Bool, cases_eq, eq-eqb, ne_eqb, and_parts, and_from, false_from_ne_true}
+use Rattle.std.proofs.lemmas.List.Elements.{All-append, All-nil, All-cons, All-weaker, All-contains}
+use Rattle.desk_units.specs.declared.numbers.Leg.{Leg}
+use Rattle.desk_data.specs.declared.info.PositionInfo.{PositionInfo}
+use Rattle.desk_data.specs.declared.row.Row.{Row}
+use Rattle.desk_data.specs.Situation.{Situation, legs_of, planes_of, plane_at}
+use Rattle.desk_data.specs.PlanRows.{PlanRows, row_at}
+use Rattle.desk_rules.specs.Numbers.{numbers}
+use Rattle.desk_rules.specs.Cost.{is_wanted, ends_at, at_hand}
+use Rattle.desk_rules.specs.Rotations.{dep, precedes}
+use Rattle.desk_rules.specs.Maintenance.{flies, departs_before, is_left_at, is_flown_by}
+use Rattle.desk_rules.specs.Words.{Precedes}
+use Rattle.desk_rules.proofs.RotationLaws.{precedes-holds, precedes-from}
+use Rattle.desk_model.proofs.RotationOrder.{Contains-head, Contains-tail, precedes-trans, precedes-itself}
+use Rattle.plan_reads.specs.Last.{IsLastOf}
+use Rattle.full_cost.specs.Stands.{end_of, is_there}
+use Rattle.board_items.proofs.SumLaws.{one_if, filter_change}
+use Rattle.near_units.specs.Same.{FliesSame}
+use Rattle.near_units.proofs.RuleLaws.{left_at-same}
+use Rattle.near_unpaid.specs.Unpaid.{is_either}
+use Rattle.near_unpaid.proofs.PayerLaws.{ends-is}
+use Rattle.near_draft.specs.Drafts.{AreAllChanged}
+use Rattle.near_draft.specs.Legs.{AreLegsOf}
+use Rattle.near_priced.specs.declared.endings.Ending.{Ending}
+use Rattle.near_priced.specs.declared.endings.Endings.{Endings}
+use Rattle.near_priced.specs.Tables.{is_hand}
+use Rattle.near_priced.specs.Endings.{IsLastIn, IsLastAmong, IsEnding, IsOther, IsEndingOf, AreEndings}
+use Rattle.near_priced.specs.Balances.{counted}
+
+-- ---- the last leg of some
+
+abbrev NotBefore : PlanRows → ℕ → ℕ → ℕ → Type 0
+NotBefore P p at x = departs_before P p at x ≡ false
+
+abbrev NotAfter : PlanRows → ℕ → ℕ → ℕ → ℕ → Type 0
+NotAfter P p at leg z = departs_before P p at z ≡ true → precedes P leg z ≡ false
+
+push-all : (S : ℕ → Type 0) (legs : List ℕ) (x : ℕ) → All S legs → S x → All S (legs ++ x ∷ [])
+push-all S legs x all one = All-append S legs (x ∷ []) all (All-cons S x [] one (All-nil S))
+
+contains-more : (legs : List ℕ) (x z : ℕ) → Contains legs z → Contains (legs ++ x ∷ []) z
+contains-more legs x z has = push-has legs x z has
+  where
+    push-has : (xs : List ℕ) (y w : ℕ) → Contains xs w → Contains (xs ++ y ∷ []) w
+    push-has [] y w has_w = absurd (let lt = has_w.1 in omega (arith, lt))
+    push-has (first ∷ xs) y w (zero, within, is) = subst (Contains (first ∷ xs ++ y ∷ [])) is (Contains-head first (xs ++ y ∷ []))
+    push-has (first ∷ xs) y w (suc k, within, is) = Contains-tail first w (xs ++ y ∷ []) (push-has xs y w (k, (let lt : k < length xs = omega (arith, within) in lt), is))
+
+contains-last : (legs : List ℕ) (x : ℕ) → Contains (legs ++ x ∷ []) x
+contains-last [] x = Contains-head x []
+contains-last (first ∷ legs) x = Contains-tail first x (legs ++ x ∷ []) (contains-last legs x)
+
+not-itself : (P : PlanRows) (x : ℕ) → precedes P x x ≡ false
+not-itself P x = false_from_ne_true (precedes P x x) (λ is. precedes-itself P x (precedes-holds P x x is))
+
+module _ (P : PlanRows) (p at : ℕ) (legs : List ℕ) (x : ℕ) where
+  -- a leg more that departs too late
+  pub last-stays-late : (last : Option Leg) → NotBefore P p at x → IsLastAmong P p at legs last → IsLastAmong P p at (legs ++ x ∷ []) last
+  last-stays-late None late none = push-all (NotBefore P p at) legs x none late
+  last-stays-late (Some leg) late is = record {
+    has = contains-more legs x leg.0 is.has;
+    before = is.before;
+    last = push-all (NotAfter P p at leg.0) legs x is.last (λ before. absurd (true≢false (sym before ∙ late)));
+  }
+
+  -- one that comes no later than the last
+  pub last-stays : (leg : Leg) → precedes P leg.0 x ≡ false → IsLastAmong P p at legs (Some leg) → IsLastAmong P p at (legs ++ x ∷ []) (Some leg)
+  last-stays leg no_later is = record {
+    has = contains-more legs x leg.0 is.has;
+    before = is.before;
+    last = push-all (NotAfter P p at leg.0) legs x is.last (λ before. no_later);
+  }
+
+  -- the first one
+  pub last-first : (leg : Leg) → leg.0 ≡ x → departs_before P p at x ≡ true → IsLastAmong P p at legs None → IsLastAmong P p at (legs ++ x ∷ []) (Some leg)
+  last-first leg is before none = subst (IsLastIn P p at (legs ++ x ∷ [])) (sym is) (record {
+    has = contains-last legs x;
+    before = before;
+    last = push-all (NotAfter P p at x) legs x
+        (All-weaker (NotBefore P p at) (NotAfter P p at x) (λ z off on. absurd (true≢false (sym on ∙ off))) legs none)
+        (λ on. not-itself P x);
+  })
+
+  -- a later one
+  pub last-comes : (other leg : Leg) → leg.0 ≡ x → departs_before P p at x ≡ true → precedes P other.0 x ≡ true → IsLastAmong P p at legs (Some other) → IsLastAmong P p at (legs ++ x ∷ []) (Some leg)
+  last-comes other leg is before later was = subst (IsLastIn P p at (legs ++ x ∷ [])) (sym is) (record {
+    has = contains-last legs x;
+    before = before;
+    last = push-all (NotAfter P p at x) legs x
+        (All-weaker (NotAfter P p at other.0) (NotAfter P p at x)
+        (λ z no_later on. false_from_ne_true (precedes P x z) (λ after.
+        true≢false (sym (precedes-from P other.0 z (precedes-trans P other.0 x z (precedes-holds P other.0 x later) (precedes-holds P x z after))) ∙ no_later on)))
+        legs was.last)
+        (λ on. not-itself P x);
+  })
+
+-- the last of all that an aircraft flies
+pub last-of-all : (I : Situation) (P : PlanRows) (p at : ℕ) (legs : List ℕ) (last : Option Leg) → AreLegsOf I P p legs → IsLastAmong P p at legs last → IsLastOf P p at (legs_of I) last
+last-of-all I P p at legs None are none = λ x lt.
+    false_from_ne_true (departs_before P p at x) (λ before.
+    let flown = (and_parts (flies P p x) (ltb (dep P x) at) before).0 in
+    true≢false (sym before ∙ All-contains (NotBefore P p at) legs x none (are.each x lt flown)))
+last-of-all I P p at legs (Some leg) are is = record {
+  within = (All-contains (λ x. (x < legs_of I) × (flies P p x ≡ true)) legs leg.0 are.flown is.has).0;
+  before = is.before;
+  last = λ z lt before.
+      let flown = (and_parts (flies P p z) (ltb (dep P z) at) before).0 in
+      All-contains (NotAfter P p at leg.0) legs z is.last (are.each z lt flown) before;
+}
+
+-- ---- the others end where they did
+
+pub others-same : (P Q : PlanRows) (legs : List ℕ) (p : ℕ) → AreAllChanged P Q legs → All (λ x. (is_flown_by p (row_at P x) ≡ false) × (is_flown_by p (row_at Q x) ≡ false)) legs → FliesSame Q P p
+others-same P Q legs p changed off x =
+    elim (changed x) [
+      | inl same ↦ inl (sym same)
+      | inr has ↦
+          let both = All-contains (λ y. (is_flown_by p (row_at P y) ≡ false) × (is_flown_by p (row_at Q y) ≡ false)) legs x off has in
+          inr (both.1, both.0)
+    ]
+
+pub ends-same : (I : Situation) (P Q : PlanRows) (p airport : ℕ) → FliesSame Q P p → ends_at I Q p airport ≡ ends_at I P p airport
+ends-same I P Q p airport same = ap (λ (c : Bool). not (plane_at I p).surface && c) (left_at-same I Q P p same I.parts.to.0 airport)
+
+apart-either : (a b p : ℕ) → p ≢ a → p ≢ b → is_either a b p ≡ false
+apart-either a b p one two = rw (ne_eqb p a one, ne_eqb p b two) refl
+
+-- two aircraft, or one
+pub one-ending : (I : Situation) (P Q : PlanRows) (one : Ending) (a b : ℕ) → b ≡ a → one.plane.0 ≡ a → IsEnding I P Q one → ((p : ℕ) → is_either a b p ≡ false → FliesSame Q P p) → AreEndings I P Q (record { one = one; other = None })
+one-ending I P Q one a b same is ending others = record {
+  one = ending;
+  other = tt;
+  stay = λ p airport apart none.
+      let first : p ≢ a = λ e. apart (e ∙ sym is) in
+      ends-same I P Q p airport (others p (apart-either a b p first (λ e. first (e ∙ same))));
+}
+
+pub two-endings : (I : Situation) (P Q : PlanRows) (one other : Ending) (a b : ℕ) → b ≢ a → one.plane.0 ≡ a → other.plane.0 ≡ b → IsEnding I P Q one → IsEnding I P Q other → ((p : ℕ) → is_either a b p ≡ false → FliesSame Q P p) → AreEndings I P Q (record { one = one; other = Some other })
+two-endings I P Q one other a b differ is other_is ending other_ending others = record {
+  one = ending;
+  other = (other_ending, λ e. differ (sym other_is ∙ e ∙ is));
+  stay = λ p airport apart second.
+      ends-same I P Q p airport (others p (apart-either a b p (λ e. apart (e ∙ sym is)) (λ e. second (e ∙ sym other_is))));
+}
+
+-- ---- how many are at hand
+
+abbrev last_in : Situation → ℕ → Option Leg → PositionInfo → ℕ
+last_in I p last position = counted I p last position
+
+counted-is : (I : Situation) (P : PlanRows) (p : ℕ) (last : Option Leg) (position : PositionInfo) → IsLastOf P p I.parts.to.0 (legs_of I) last → one_if (is_hand I P position p) ≡ counted I p last position
+counted-is I P p last position h = ap (λ (e : Bool). one_if (is_wanted position (plane_at I p) && e)) (sym (ends-is I P p position.airport.0 last h))
+
+module _ (I : Situation) (P Q : PlanRows) (position : PositionInfo) where
+  abbrev f : ℕ → Bool
+  f = is_hand I Q position
+
+  abbrev g : ℕ → Bool
+  g = is_hand I P position
+
+  stays : (p : ℕ) → ends_at I Q p position.airport.0 ≡ ends_at I P p position.airport.0 → f p ≡ g p
+  stays p same = ap (λ (e : Bool). is_wanted position (plane_at I p) && e) same
+
+  pub hands-one : (one : Ending) → AreEndings I P Q (record { one = one; other = None }) → at_hand I Q position + counted I one.plane.0 one.was position ≡ at_hand I P position + counted I one.plane.0 one.is position
+  hands-one one are =
+      let a = one.plane.0 in
+      omega (
+        arith,
+        filter_change f g (planes_of I) a are.one.plane (λ p apart. stays p (are.stay p position.airport.0 apart tt)),
+        counted-is I P a one.was position are.one.was,
+        counted-is I Q a one.is position are.one.is,
+      )
+
+  -- the test of the plan after, at one aircraft alone
+  abbrev mid : ℕ → ℕ → Bool
+  mid a y = cond (eqb y a) (f y) (g y)
+
+  mid-at : (a : ℕ) → mid a a ≡ f a
+  mid-at a = rw (eq-eqb a a refl) refl
+
+  mid-off : (a y : ℕ) → y ≢ a → mid a y ≡ g y
+  mid-off a y apart = rw (ne_eqb y a apart) refl
+
+  pub hands-two : (one other : Ending) → AreEndings I P Q (record { one = one; other = Some other }) → at_hand I Q position + (counted I one.plane.0 one.was position + counted I other.plane.0 other.was position) ≡ at_hand I P position + (counted I one.plane.0 one.is position + counted I other.plane.0 other.is position)
+  hands-two one other are =
+      let a = one.plane.0 in
+      let b = other.plane.0 in
+      let n = planes_of I in
+      let second : IsEnding I P Q other = are.other.0 in
+      let apart : b ≢ a = are.other.1 in
+      let here : (p : ℕ) → p ≢ b → f p ≡ mid a p = λ p off.
+      elim (cases_eq p a) [
+        | inl same ↦ subst (λ (q : ℕ). f q ≡ mid a q) (sym same) (sym (mid-at a))
+        | inr off_a ↦ stays p (are.stay p position.airport.0 off_a off) ∙ sym (mid-off a p off_a)
+      ] in
+      omega (
+        arith,
+        filter_change (mid a) g n a are.one.plane (mid-off a),
+        filter_change f (mid a) n b second.plane here,
+        ap one_if (mid-at a),
+        ap one_if (mid-off a b apart),
+        counted-is I P a one.was position are.one.was,
+        counted-is I Q a one.is position are.one.is,
+        counted-is I P b other.was position second.was,
+        counted-is I Q b other.is position second.is,
+      )

@@ -1,0 +1,5 @@
+pub mod PricedLaws
+pub mod TableLaws
+pub mod EndingLaws
+pub mod FlyingLaws
+pub mod RuleOutLaws
