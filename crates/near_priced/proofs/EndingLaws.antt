@@ -1,14 +1,16 @@
 -- Where aircraft end, and how many are at hand then.
-use Rattle.std.proofs.Common.{◌≡◌, ◌≢◌, ℕ, zero, suc, ◌+◌, ◌<◌, inl, inr, Bool, true, false, ◌&&◌, not, cond, eqb, ltb, List, [], ◌∷◌, ◌++◌, length, get_or, refl, sym, ap, subst, ◌∙◌, arith}
+use Rattle.std.proofs.Common.{◌≡◌, ◌≢◌, ℕ, zero, suc, ◌+◌, ◌<◌, ◌≤◌, inl, inr, Bool, true, false, ◌&&◌, not, cond, eqb, ltb, List, [], ◌∷◌, ◌++◌, length, get_or, take, refl, sym, ap, subst, ◌∙◌, arith}
 use Rattle.std.specs.Prelude.{Option, None, Some, filter}
 use Rattle.std.specs.List.{All, Contains}
-use Rattle.std.proofs.lemmas.Bool.{true≢false, cases_Bool, cases_eq, eq-eqb, ne_eqb, and_parts, and_from, false_from_ne_true}
+use Rattle.std.proofs.lemmas.Bool.{true≢false, cases_Bool, cases_eq, eq-eqb, ne_eqb, and_parts, and_from, and_right, le-ltb, lt-ltb, false_from_ne_true}
+use Rattle.std.proofs.lemmas.List.{take_more, map-append, length-map, get_or-map}
 use Rattle.std.proofs.lemmas.List.Elements.{All-append, All-nil, All-cons, All-weaker, All-contains}
 use Rattle.desk_units.specs.declared.numbers.Leg.{Leg}
 use Rattle.desk_data.specs.declared.info.PositionInfo.{PositionInfo}
 use Rattle.desk_data.specs.declared.row.Row.{Row}
 use Rattle.desk_data.specs.Situation.{Situation, legs_of, planes_of, plane_at}
 use Rattle.desk_data.specs.PlanRows.{PlanRows, row_at}
+use Rattle.desk_data.specs.Valid.{IsValid}
 use Rattle.desk_rules.specs.Numbers.{numbers}
 use Rattle.desk_rules.specs.Cost.{is_wanted, ends_at, at_hand}
 use Rattle.desk_rules.specs.Rotations.{dep, precedes}
@@ -19,12 +21,13 @@ use Rattle.desk_model.proofs.RotationOrder.{Contains-head, Contains-tail, preced
 use Rattle.plan_reads.specs.Last.{IsLastOf}
 use Rattle.full_cost.specs.Stands.{end_of, is_there}
 use Rattle.board_items.proofs.SumLaws.{one_if, filter_change}
+use Rattle.board_cost.proofs.HandLaws.{hand_few}
 use Rattle.near_units.specs.Same.{FliesSame}
 use Rattle.near_units.proofs.RuleLaws.{left_at-same}
 use Rattle.near_unpaid.specs.Unpaid.{is_either}
 use Rattle.near_unpaid.proofs.PayerLaws.{ends-is}
 use Rattle.near_draft.specs.Drafts.{AreAllChanged}
-use Rattle.near_draft.specs.Legs.{AreLegsOf}
+use Rattle.near_draft.specs.Legs.{AreLegsOf, numbers_of}
 use Rattle.near_priced.specs.declared.endings.Ending.{Ending}
 use Rattle.near_priced.specs.declared.endings.Endings.{Endings}
 use Rattle.near_priced.specs.Tables.{is_hand}
@@ -149,62 +152,103 @@ two-endings I P Q one other a b differ is other_is ending other_ending others = 
 
 -- ---- how many are at hand
 
-abbrev last_in : Situation → ℕ → Option Leg → PositionInfo → ℕ
-last_in I p last position = counted I p last position
-
 counted-is : (I : Situation) (P : PlanRows) (p : ℕ) (last : Option Leg) (position : PositionInfo) → IsLastOf P p I.parts.to.0 (legs_of I) last → one_if (is_hand I P position p) ≡ counted I p last position
 counted-is I P p last position h = ap (λ (e : Bool). one_if (is_wanted position (plane_at I p) && e)) (sym (ends-is I P p position.airport.0 last h))
 
-module _ (I : Situation) (P Q : PlanRows) (position : PositionInfo) where
+counted-few : (I : Situation) (p : ℕ) (last : Option Leg) (position : PositionInfo) → counted I p last position ≤ 1
+counted-few I p last position = one-few (is_wanted position (plane_at I p) && is_there (end_of I p last) position.airport.0)
+  where
+    one-few : (b : Bool) → one_if b ≤ 1
+    one-few true = omega arith
+    one-few false = omega arith
+
+-- there are no more at hand than aircraft
+pub hands-few : (I : Situation) (P : PlanRows) (position : PositionInfo) → IsValid I → at_hand I P position ≤ 1000
+hands-few I P position valid = omega (arith, hand_few (planes_of I) I P position, valid.parts.few.planes)
+
+module _ (I : Situation) (P Q : PlanRows) (position : PositionInfo) (endings : Endings) (are : AreEndings I P Q endings) where
   abbrev f : ℕ → Bool
   f = is_hand I Q position
 
   abbrev g : ℕ → Bool
   g = is_hand I P position
 
+  abbrev a : ℕ
+  a = endings.one.plane.0
+
   stays : (p : ℕ) → ends_at I Q p position.airport.0 ≡ ends_at I P p position.airport.0 → f p ≡ g p
   stays p same = ap (λ (e : Bool). is_wanted position (plane_at I p) && e) same
 
-  pub hands-one : (one : Ending) → AreEndings I P Q (record { one = one; other = None }) → at_hand I Q position + counted I one.plane.0 one.was position ≡ at_hand I P position + counted I one.plane.0 one.is position
-  hands-one one are =
-      let a = one.plane.0 in
+  pub few-one : counted I a endings.one.is position ≤ 1
+  few-one = counted-few I a endings.one.is position
+
+  pub few-other : (other : Ending) → counted I other.plane.0 other.is position ≤ 1
+  few-other other = counted-few I other.plane.0 other.is position
+
+  pub hands-one : endings.other ≡ None → at_hand I Q position + counted I a endings.one.was position ≡ at_hand I P position + counted I a endings.one.is position
+  hands-one none =
       omega (
         arith,
-        filter_change f g (planes_of I) a are.one.plane (λ p apart. stays p (are.stay p position.airport.0 apart tt)),
-        counted-is I P a one.was position are.one.was,
-        counted-is I Q a one.is position are.one.is,
+        filter_change f g (planes_of I) a are.one.plane (λ p apart. stays p (are.stay p position.airport.0 apart (subst (IsOther p) (sym none) tt))),
+        counted-is I P a endings.one.was position are.one.was,
+        counted-is I Q a endings.one.is position are.one.is,
       )
 
   -- the test of the plan after, at one aircraft alone
-  abbrev mid : ℕ → ℕ → Bool
-  mid a y = cond (eqb y a) (f y) (g y)
+  abbrev mid : ℕ → Bool
+  mid y = cond (eqb y a) (f y) (g y)
 
-  mid-at : (a : ℕ) → mid a a ≡ f a
-  mid-at a = rw (eq-eqb a a refl) refl
+  mid-at : mid a ≡ f a
+  mid-at = rw (eq-eqb a a refl) refl
 
-  mid-off : (a y : ℕ) → y ≢ a → mid a y ≡ g y
-  mid-off a y apart = rw (ne_eqb y a apart) refl
+  mid-off : (y : ℕ) → y ≢ a → mid y ≡ g y
+  mid-off y apart = rw (ne_eqb y a apart) refl
 
-  pub hands-two : (one other : Ending) → AreEndings I P Q (record { one = one; other = Some other }) → at_hand I Q position + (counted I one.plane.0 one.was position + counted I other.plane.0 other.was position) ≡ at_hand I P position + (counted I one.plane.0 one.is position + counted I other.plane.0 other.is position)
-  hands-two one other are =
-      let a = one.plane.0 in
+  pub hands-two : (other : Ending) → endings.other ≡ Some other → at_hand I Q position + (counted I a endings.one.was position + counted I other.plane.0 other.was position) ≡ at_hand I P position + (counted I a endings.one.is position + counted I other.plane.0 other.is position)
+  hands-two other some =
       let b = other.plane.0 in
       let n = planes_of I in
-      let second : IsEnding I P Q other = are.other.0 in
-      let apart : b ≢ a = are.other.1 in
-      let here : (p : ℕ) → p ≢ b → f p ≡ mid a p = λ p off.
+      let both : IsEndingOf I P Q a (Some other) = subst (IsEndingOf I P Q a) some are.other in
+      let second : IsEnding I P Q other = both.0 in
+      let apart : b ≢ a = both.1 in
+      let here : (p : ℕ) → p ≢ b → f p ≡ mid p = λ p off.
       elim (cases_eq p a) [
-        | inl same ↦ subst (λ (q : ℕ). f q ≡ mid a q) (sym same) (sym (mid-at a))
-        | inr off_a ↦ stays p (are.stay p position.airport.0 off_a off) ∙ sym (mid-off a p off_a)
+        | inl same ↦ subst (λ (q : ℕ). f q ≡ mid q) (sym same) (sym mid-at)
+        | inr off_a ↦ stays p (are.stay p position.airport.0 off_a (subst (IsOther p) (sym some) off)) ∙ sym (mid-off p off_a)
       ] in
       omega (
         arith,
-        filter_change (mid a) g n a are.one.plane (mid-off a),
-        filter_change f (mid a) n b second.plane here,
-        ap one_if (mid-at a),
-        ap one_if (mid-off a b apart),
-        counted-is I P a one.was position are.one.was,
-        counted-is I Q a one.is position are.one.is,
+        filter_change mid g n a are.one.plane mid-off,
+        filter_change f mid n b second.plane here,
+        ap one_if mid-at,
+        ap one_if (mid-off b apart),
+        counted-is I P a endings.one.was position are.one.was,
+        counted-is I Q a endings.one.is position are.one.is,
         counted-is I P b other.was position second.was,
         counted-is I Q b other.is position second.is,
       )
+
+-- ---- legs, one more
+
+-- what is read where there is no leg
+abbrev pub no_leg : Leg
+no_leg = record { 0 = 0 }
+
+pub numbers-more : (legs : List Leg) (i : ℕ) → i < length legs → numbers_of (take (i + 1) legs) ≡ numbers_of (take i legs) ++ (get_or legs i no_leg).0 ∷ []
+numbers-more legs i lt = ap numbers_of (take_more legs i no_leg lt) ∙ map-append (λ (leg : Leg). leg.0) (take i legs) (get_or legs i no_leg ∷ [])
+
+pub all-more : (S : ℕ → Type 0) (legs : List Leg) (i : ℕ) → i < length legs → All S (numbers_of (take i legs)) → S (get_or legs i no_leg).0 → All S (numbers_of (take (i + 1) legs))
+all-more S legs i lt all one = subst (All S) (sym (numbers-more legs i lt)) (push-all S (numbers_of (take i legs)) (get_or legs i no_leg).0 all one)
+
+-- the legs of an aircraft are flown by it
+pub leg-flown : (I : Situation) (P : PlanRows) (p : ℕ) (legs : List Leg) (i : ℕ) → i < length legs → AreLegsOf I P p (numbers_of legs) → ((get_or legs i no_leg).0 < legs_of I) × (flies P p (get_or legs i no_leg).0 ≡ true)
+leg-flown I P p legs i lt are =
+    let long : i < length (numbers_of legs) = rw (length-map legs (λ (leg : Leg). leg.0)) lt in
+    subst (λ (x : ℕ). (x < legs_of I) × (flies P p x ≡ true)) (get_or-map (λ (leg : Leg). leg.0) legs i no_leg 0 lt) (are.flown i 0 long)
+
+-- when a leg departs
+pub late : (P : PlanRows) (p at x : ℕ) → at ≤ dep P x → departs_before P p at x ≡ false
+late P p at x le = and_right _ _ (le-ltb (dep P x) at le)
+
+pub soon : (P : PlanRows) (p at x : ℕ) → flies P p x ≡ true → dep P x < at → departs_before P p at x ≡ true
+soon P p at x flown lt = and_from (flies P p x) (ltb (dep P x) at) flown (lt-ltb (dep P x) at lt)

@@ -16,7 +16,7 @@ use Rattle.desk_rules.specs.Cost.{weight, rows_of, by_item, at_hand, operating_o
 use Rattle.desk_model.proofs.ValidLaws.{with_row-valid}
 use Rattle.board_items.proofs.RowLaws.{sum_of_rows}
 use Rattle.near_draft.specs.declared.change.Change.{Change}
-use Rattle.near_draft.specs.Drafts.{AreChanges, IsChange, changed, drafted}
+use Rattle.near_draft.specs.Drafts.{AreChanges, Drafted, IsChange, changed, drafted}
 use Rattle.near_draft.proofs.ChangeLaws.{no_change, changes-at, front-valid}
 use Rattle.near_priced.specs.Tables.{lacking}
 
@@ -42,6 +42,11 @@ flown-changes I P (change ∷ changes) are plan =
     let one = operating_balance I P x change.row are.0.leg within in
     let was : had I change ≡ operating_of I x (row_at P x) = ap (operating_of I x) are.0.was in
     omega (arith, rest, one, was, sum_by-cons (had I) change changes, sum_by-cons (gets I) change changes)
+
+-- the changes of a draft over plan P
+pub changes-for : (I : Situation) (P : PlanRows) (D : Drafted) (changes : List Change) → D.inst ≡ I → D.rows ≡ P → changes ≡ D.changes → AreChanges D.inst D.rows changes → AreChanges I P D.changes
+changes-for I P D changes day over all are =
+    subst (λ (J : Situation). AreChanges J P D.changes) day (subst (λ (R : PlanRows). AreChanges D.inst R D.changes) over (subst (AreChanges D.inst D.rows) all are))
 
 -- the rows of a change are rows for the day
 pub had-fits : (I : Situation) (P : PlanRows) (changes : List Change) (i : ℕ) → AreChanges I P changes → IsPlanFor I P → i < length changes → IsRowOf (planes_of I) (get_or changes i no_change).was

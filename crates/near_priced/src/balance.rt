@@ -97,7 +97,7 @@ fn positions(
     let _rows = inst.parts();
     let weight = inst.prices().weight(Term::Position);
     let price = inst.prices().position();
-    let lacks = lacks(prices, inst, plan, draft, endings);
+    let lacks = all_lacks(prices, inst, plan, draft, endings);
     Balance {
         more: per_item(price, weight, lacks.is).0,
         less: per_item(price, weight, lacks.was).0,
@@ -105,7 +105,7 @@ fn positions(
 }
 
 /// How many aircraft all positions lack.
-fn lacks(prices: &Prices, inst: &Instance, plan: &Pages, draft: &Draft, endings: Endings) -> Lacks
+fn all_lacks(prices: &Prices, inst: &Instance, plan: &Pages, draft: &Draft, endings: Endings) -> Lacks
     requires prices { ArePrices inst.now plan.now prices.now }
     requires endings { AreEndings inst.now plan.now (plan_of draft.now) endings }
     requires hands { length prices.now.hands.items ≡ length inst.now.parts.positions }
@@ -140,12 +140,16 @@ fn hand_after(
     requires endings { AreEndings inst.now _plan.now (plan_of _draft.now) endings }
     ensures { result ≡ at_hand inst.now (plan_of _draft.now) position.now }
 {
+    let _rows = inst.parts();
     let one = endings.one;
     let mut come = counted(inst, one, one.is, position);
     let mut gone = counted(inst, one, one.was, position);
-    if let Some(other) = endings.other {
-        come += counted(inst, other, other.is, position);
-        gone += counted(inst, other, other.was, position);
+    match endings.other {
+        Some(other) => {
+            come += counted(inst, other, other.is, position);
+            gone += counted(inst, other, other.was, position);
+        }
+        None => {}
     }
     (hand + come).saturating_sub(gone)
 }

@@ -63,7 +63,8 @@ pub(crate) fn endings_of(
     if planes.1.0 == planes.0.0 {
         return Ok(Some(Endings { one, other: None }));
     }
-    let other = Some(ending_of(alloc, prices, inst, plan, draft, planes.1)?);
+    let second = ending_of(alloc, prices, inst, plan, draft, planes.1)?;
+    let other = Some(second);
     Ok(Some(Endings { one, other }))
 }
 

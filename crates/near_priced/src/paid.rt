@@ -33,12 +33,12 @@ fn put_one(inst: &Instance, plan: &Pages, res: Res, on: &mut Vec<u128>, booked: 
     ensures { AreAmounts inst.now plan.now on.new.items booked.new.items (res.0 + 1) }
 {
     let _rows = inst.parts();
-    let cost = reservation_cost(inst, plan, res).0;
-    if cost == 0 {
+    let cost = reservation_cost(inst, plan, res);
+    if cost.0 == 0 {
         return;
     }
-    add_groups(cost, plan.groups(res), on);
-    add_legs(cost, inst.res(res).path.as_slice(), booked);
+    add_groups(cost.0, plan.groups(res), on);
+    add_legs(cost.0, inst.res(res).path.as_slice(), booked);
 }
 
 /// Adds a cost to the amounts of the legs of the paths of some groups.
@@ -61,8 +61,8 @@ fn add_legs(cost: u128, path: &[(Leg, Cabin)], amounts: &mut Vec<u128>)
     ensures grown { AreGrown cost amounts.old.items amounts.new.items path.now }
 {
     for pair in path {
-        let x = pair.0.0 as usize;
-        amounts[x] = grown(amounts[x], cost);
+        let amount = amounts[pair.0.0 as usize];
+        amounts[pair.0.0 as usize] = grown(amount, cost);
     }
 }
 

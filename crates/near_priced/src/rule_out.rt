@@ -40,6 +40,9 @@ impl Prices {
         requires draft { IsDraftOf inst.now plan.now m.now draft.now }
         ensures { IfOk result (λ known. known ≡ true → least inst.now plan.now ≡ None → is_better inst.now plan.now m.now ≡ false) }
     {
+        let _rows = inst.parts();
+        // the draft's plan is one for the day
+        let _ = draft.eval();
         let steps = m.steps.as_slice();
         if !name_no_path(steps) {
             return Ok(false);

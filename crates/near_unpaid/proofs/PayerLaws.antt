@@ -98,7 +98,7 @@ stand_if : (surface : Bool) (there : Airport) (airport : ℕ) → is_there (cond
 stand_if true there airport = refl
 stand_if false there airport = refl
 
-ends-is : (I : Situation) (P : PlanRows) (p airport : ℕ) (last : Option Leg) → IsLastOf P p I.parts.to.0 (legs_of I) last → is_there (end_of I p last) airport ≡ ends_at I P p airport
+pub ends-is : (I : Situation) (P : PlanRows) (p airport : ℕ) (last : Option Leg) → IsLastOf P p I.parts.to.0 (legs_of I) last → is_there (end_of I p last) airport ≡ ends_at I P p airport
 ends-is I P p airport last h =
     stand_if (plane_at I p).surface (stand I p last) airport
     ∙ ap (λ (b : Bool). not (plane_at I p).surface && b) (sym (left_asked I P p I.parts.to.0 airport last h))

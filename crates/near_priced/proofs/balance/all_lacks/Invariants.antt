@@ -2,7 +2,7 @@ use Rattle.std.proofs.Common.{◌≡◌, ◌*◌, ◌≤◌, take}
 use Rattle.std.specs.Prelude.{sum_by}
 use Rattle.near_draft.specs.Drafts.{plan_of}
 use Rattle.near_priced.proofs.FlyingLaws.{gap}
-use Rattle.near_priced.proofs.balance.lacks.Given as goal
+use Rattle.near_priced.proofs.balance.all_lacks.Given as goal
 
 -- what the positions so far lack
 abbrev pub invariant-loop-g : goal.invariant-loop-g
