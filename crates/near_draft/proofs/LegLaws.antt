@@ -1,11 +1,11 @@
 -- The legs of an aircraft after some changes, and in their order.
-use Rattle.std.proofs.Common.{◌≡◌, ◌≢◌, ℕ, suc, ◌<◌, inl, inr, Bool, true, false, ◌||◌, eqb, List, [], ◌∷◌, length, get_or, refl, sym, ap, subst, ◌∙◌, arith}
+use Rattle.std.proofs.Common.{◌≡◌, ◌≢◌, ℕ, suc, ◌<◌, ◌⊎◌, inl, inr, Bool, true, false, ◌||◌, eqb, List, [], ◌∷◌, ◌++◌, length, get_or, refl, sym, ap, subst, ◌∙◌, arith}
 use Rattle.std.specs.Prelude.{filter}
 use Rattle.std.specs.List.{All, AllPairs, Contains, insert, list_any}
 use Rattle.std.specs.List.Sorted.{IsPermutation}
 use Rattle.desk_units.specs.declared.numbers.Leg.{Leg}
-use Rattle.std.proofs.lemmas.Bool.{true≢false, cases_Bool, eqb-true, eq-eqb}
-use Rattle.std.proofs.lemmas.List.{length-map, get_or-map, get_or-set_other}
+use Rattle.std.proofs.lemmas.Bool.{true≢false, cases_Bool, eqb-true, eq-eqb, ne_eqb}
+use Rattle.std.proofs.lemmas.List.{append-nil, length-map, get_or-map, get_or-set_other}
 use Rattle.std.proofs.lemmas.List.Elements.{All-nil, All-cons, All-weaker, All-filter, All-contains, filter_passes}
 use Rattle.std.proofs.lemmas.List.Sorted.{All-permutation, Contains-permutation, IsPermutation-insert, IsPermutation-map}
 use Rattle.desk_data.specs.declared.row.Row.TheVariants.{Cancelled}
@@ -19,8 +19,9 @@ use Rattle.desk_model.specs.Push.{rotation}
 use Rattle.std.proofs.lemmas.List.Kept.{AllPairs-cons}
 use Rattle.desk_data.proofs.PathOrder.{pairs_head, pairs_tail, pairs_nil}
 use Rattle.desk_model.proofs.RotationOrder.{Contains-cases, Contains-head, Contains-tail, Contains-filter, precedes-trans, precedes-itself, rotation-ordered, rotation-flown, rotation-each}
+use Rattle.desk_moves.specs.Swapped.{legs_of_both}
 use Rattle.near_draft.specs.declared.change.Change.{Change}
-use Rattle.near_draft.specs.Drafts.{changed, drafted}
+use Rattle.near_draft.specs.Drafts.{AreAllChanged, changed, drafted}
 use Rattle.near_draft.specs.Legs.{AreLegsOf, IsAdded, numbers_of}
 use Rattle.near_draft.proofs.ChangeLaws.{no_change}
 
@@ -56,6 +57,16 @@ changed-at (change ∷ changes) x some =
           let rest : is_changed changes x ≡ true = rw other at some in
           let at = changed-at changes x rest in
           record { place = suc at.place; within = (let lt = at.within in omega (arith, lt)); is = at.is }
+    ]
+
+-- legs that have other rows are among some legs, if that of each change is that has another one
+pub all-changed : (P : PlanRows) (changes : List Change) (legs : List ℕ) → ((j : ℕ) → j < length changes → (row_at P (get_or changes j no_change).leg.0 ≡ row_at (drafted P changes) (get_or changes j no_change).leg.0) ⊎ Contains legs (get_or changes j no_change).leg.0) → AreAllChanged P (drafted P changes) legs
+all-changed P changes legs noted x =
+    elim (cases_Bool (is_changed changes x)) [
+      | inr none ↦ inl (sym (unchanged-row P changes x none))
+      | inl some ↦
+          let at = changed-at changes x some in
+          subst (λ (y : ℕ). (row_at P y ≡ row_at (drafted P changes) y) ⊎ Contains legs y) at.is (noted at.place at.within)
     ]
 
 -- the legs of an aircraft are those that it flew and still flies, and those with a change that it flies
@@ -131,6 +142,19 @@ in-order I P p legs are next =
     (λ z has. let one = All-contains (λ x. (x < legs_of I) × (flies P p x ≡ true)) legs z are.flown has in rotation-each I P p z one.0 one.1)
     (λ z has. let one = All-contains (λ x. (x < legs_of I) × (flies P p x ≡ true)) (rotation I P p) z (rotation-flown I P p) has in are.each z one.0 one.1)
 
+-- ---- the legs of two aircraft
+
+pub both-one : (I : Situation) (P : PlanRows) (p q : ℕ) → q ≡ p → rotation I P p ≡ legs_of_both I P p q
+both-one I P p q same = rw (eq-eqb q p same) (sym (append-nil (rotation I P p)))
+
+pub both-two : (I : Situation) (P : PlanRows) (p q : ℕ) → q ≢ p → rotation I P p ++ rotation I P q ≡ legs_of_both I P p q
+both-two I P p q other = rw (ne_eqb q p other) refl
+
+-- the numbers of two lists, one behind the other
+pub numbers-both : (legs others : List Leg) → numbers_of (legs ++ others) ≡ numbers_of legs ++ numbers_of others
+numbers-both [] others = refl
+numbers-both (leg ∷ legs) others = ap (λ (xs : List ℕ). leg.0 ∷ xs) (numbers-both legs others)
+
 -- ---- legs that come
 
 -- a leg that an aircraft flies is put among others
@@ -144,6 +168,19 @@ added-new I P p old new place leg is within flown =
       kept = λ z has. Contains-permutation (leg.0 ∷ numbers_of old) (numbers_of new) z same (Contains-tail leg.0 z (numbers_of old) has);
       there = λ holds. Contains-permutation (leg.0 ∷ numbers_of old) (numbers_of new) leg.0 same (Contains-head leg.0 (numbers_of old));
     }
+
+-- a leg is put behind others
+pub pushed-kept : (old : List Leg) (leg : Leg) (z : ℕ) → Contains (numbers_of old) z → Contains (numbers_of (old ++ leg ∷ [])) z
+pushed-kept [] leg z has = absurd (let lt = has.1 in omega (arith, lt))
+pushed-kept (first ∷ old) leg z has =
+    elim (Contains-cases first.0 z (numbers_of old) has) [
+      | inl same ↦ subst (Contains (numbers_of (first ∷ old ++ leg ∷ []))) same (Contains-head first.0 (numbers_of (old ++ leg ∷ [])))
+      | inr later ↦ Contains-tail first.0 z (numbers_of (old ++ leg ∷ [])) (pushed-kept old leg z later)
+    ]
+
+pub pushed-there : (old : List Leg) (leg : Leg) → Contains (numbers_of (old ++ leg ∷ [])) leg.0
+pushed-there [] leg = Contains-head leg.0 []
+pushed-there (first ∷ old) leg = Contains-tail first.0 leg.0 (numbers_of (old ++ leg ∷ [])) (pushed-there old leg)
 
 -- legs that an aircraft flies are legs of the day
 pub numbers-within : (I : Situation) (P : PlanRows) (p : ℕ) (legs : List Leg) → All (λ z. (z < legs_of I) × (flies P p z ≡ true)) (numbers_of legs) → All (λ (leg : Leg). leg.0 < legs_of I) legs

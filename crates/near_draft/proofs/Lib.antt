@@ -1,5 +1,5 @@
-mod ChangeLaws
+pub mod ChangeLaws
 mod HourLaws
 mod LegLaws
 mod RuleLaws
-mod KnownLaws
+pub mod BreakLaws

@@ -1,8 +1,13 @@
 -- Rows that are drafted over a plan, which stays as it is.
-use Rattle.std.specs.Prelude.{◌≡◌, ◌<◌, List, [], ◌∷◌, fold}
+use Rattle.std.specs.Prelude.{◌≡◌, ℕ, ◌<◌, ◌⊎◌, true, List, [], ◌∷◌, ◌++◌, fold}
+use Rattle.std.specs.List.{Contains, list_all}
 use Rattle.desk_data.specs.Situation.{Situation, legs_of, planes_of}
 use Rattle.desk_data.specs.PlanRows.{PlanRows, row_at, with_row}
 use Rattle.desk_data.specs.Valid.{IsRowOf}
+use Rattle.plan_moves.specs.declared.moves.Move.{Move}
+use Rattle.plan_moves.specs.declared.moves.Step.{Step}
+use Rattle.desk_model.specs.Steps.{after_steps}
+use Rattle.near_trial.specs.RowRules.{keeps_rows}
 use Rattle.near_draft.specs.declared.change.Change.{Change}
 
 -- plan P with another row of one leg, and after some changes, one after another
@@ -32,3 +37,17 @@ pub record Drafted : Type 0 where
 -- the plan that is drafted
 abbrev pub plan_of : Drafted → PlanRows
 plan_of D = drafted D.rows D.changes
+
+-- the first steps of a move make the plan that is drafted over plan P, and the others leave each leg its row
+pub record IsDraftOf (I : Situation) (P : PlanRows) (m : Move) (D : Drafted) : Type 0 where
+  pub day : D.inst ≡ I
+  pub plan : D.rows ≡ P
+  pub first : List Step
+  pub others : List Step
+  pub steps : m.steps ≡ first ++ others
+  pub keeps : list_all keeps_rows others ≡ true
+  pub made : plan_of D ≡ after_steps I P first
+
+-- each leg has the same row in two plans, or is one of some legs
+abbrev pub AreAllChanged : PlanRows → PlanRows → List ℕ → Type 0
+AreAllChanged P Q legs = (x : ℕ) → (row_at P x ≡ row_at Q x) ⊎ Contains legs x

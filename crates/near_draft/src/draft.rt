@@ -1,10 +1,10 @@
 //! A draft: the plan of an evaluator with other rows, which the evaluator does not see.
 
-ghost use Rattle.std.specs.Prelude.{◌≡◌, ◌<◌, [], All, OnOk};
+ghost use Rattle.std.specs.Prelude.{◌≡◌, ◌<◌, [], All, OnOk, true};
 ghost use Rattle.desk_data.specs.Situation.{legs_of, planes_of};
 ghost use Rattle.desk_data.specs.PlanRows.{row_at, with_row};
 ghost use Rattle.desk_data.specs.Valid.{IsPlanFor, IsRowOf};
-ghost use Rattle.near_draft.specs.Drafts.{plan_of};
+ghost use Rattle.near_draft.specs.Drafts.{AreChanges, plan_of};
 
 use crate::change::Change;
 use crate::hours::beside_after;
@@ -19,7 +19,7 @@ use std::marker::Model;
 /// The plan of an evaluator with other rows of some legs, which the evaluator does not see. Contracts see it as the
 /// day, the evaluator's plan and the changes. It is read as a plan is, and knows the hours of its plan, each in a walk
 /// over the changes.
-pub(crate) struct Draft<'a> {
+pub struct Draft<'a> {
     eval: &'a Evaluator,
     changes: Vec<Change>,
 }
@@ -56,7 +56,7 @@ impl<'a> Draft<'a> {
     }
 
     /// The evaluator over whose plan it is drafted.
-    pub(crate) fn eval(&self) -> &Evaluator
+    pub fn eval(&self) -> &Evaluator
         ensures inst { result.now.inst ≡ self.now.inst }
         ensures rows { result.now.rows ≡ self.now.rows }
         ensures plan { IsPlanFor self.now.inst (plan_of self.now) }
@@ -67,9 +67,10 @@ impl<'a> Draft<'a> {
     }
 
     /// The changes, the last one last.
-    pub(crate) fn changes(&self) -> &[Change]
+    pub fn changes(&self) -> &[Change]
         ensures all { result.now ≡ self.now.changes }
         ensures within { All (λ change. change.leg.0 < legs_of self.now.inst) result.now }
+        ensures are { AreChanges self.now.inst self.now.rows result.now }
     {
         self.changes.as_slice()
     }
@@ -81,6 +82,17 @@ impl<'a> Draft<'a> {
         ensures fits { IsRowOf (planes_of self.now.inst) result }
     {
         row_after(self.eval, self.changes.as_slice(), leg)
+    }
+
+    /// Whether a leg has the row that it has in the evaluator's plan.
+    pub(crate) fn has_its_row(&self, leg: Leg) -> bool
+        requires { leg.0 < legs_of self.now.inst }
+        ensures { result ≡ true → row_at self.now.rows leg.0 ≡ row_at (plan_of self.now) leg.0 }
+    {
+        let row = self.row(leg);
+        // there are as many rows as legs
+        let _ = self.eval.plan();
+        self.eval.plan().read_row(leg) == row
     }
 
     /// Gives a leg a row, where it has another one. The only error is out of memory.

@@ -14,9 +14,12 @@ use desk_data::{Leg, Minute, NoMem, Plane, Row};
 use plan_reads::ReadPlan;
 use std::alloc::Global;
 
+/// A Push or a Swap of an aircraft with more legs is not drafted: each look-up in a draft is a walk over its changes.
+pub(crate) const MOST_LEGS: usize = 64;
+
 /// The legs that an aircraft flies in a draft. They stand in their order, unless legs that kept their aircraft changed
 /// places. The only error is out of memory.
-pub(crate) fn legs_of(alloc: Global, draft: &Draft, plane: Plane) -> Result<Vec<Leg>, NoMem>
+pub fn legs_of_plane(alloc: Global, draft: &Draft, plane: Plane) -> Result<Vec<Leg>, NoMem>
     requires { plane.0 < planes_of draft.now.inst }
     ensures legs { IfOk result (λ legs. AreLegsOf draft.now.inst (plan_of draft.now) plane.0 (numbers_of legs.items)) }
     ensures within { IfOk result (λ legs. All (λ leg. leg.0 < legs_of draft.now.inst) legs.items) }
@@ -74,7 +77,7 @@ fn flies(draft: &Draft, plane: Plane, leg: Leg) -> bool
 }
 
 /// Whether a leg is among some.
-fn has(legs: &[Leg], leg: Leg) -> bool
+pub(crate) fn has(legs: &[Leg], leg: Leg) -> bool
     ensures { result ≡ true → Contains (numbers_of legs.now) leg.0 }
 {
     legs.iter().any(|other| other.0 == leg.0)
@@ -109,7 +112,7 @@ pub(crate) fn are_in_order<P: ReadPlan>(plan: &P, legs: &[Leg]) -> bool
 }
 
 /// Whether one aircraft flies two legs in a plan, the first before the second.
-fn precedes<P: ReadPlan>(plan: &P, leg: Leg, next: Leg) -> bool
+pub fn precedes<P: ReadPlan>(plan: &P, leg: Leg, next: Leg) -> bool
     requires leg { leg.0 < length (P.plan_of plan.now).rows }
     requires next { next.0 < length (P.plan_of plan.now).rows }
     ensures { result ≡ precedes (P.plan_of plan.now) leg.0 next.0 }

@@ -1,23 +1,35 @@
 //! Moves whose rows are drafted, and not applied.
 //!
-//!     is_known_worse(alloc, &eval, &m)?      // whether a move is known not to be better, before it is applied
+//!     let draft = draft_of(alloc, &eval, &m)?    // the plan that a move's first steps make
+//!     breaks_rule(alloc, &draft, &m)?            // whether that breaks a rule of a leg
+//!     changed_legs(alloc, &draft)?               // legs among which are all whose rows are other ones
+//!     legs_of_plane(alloc, &draft, plane)?       // the legs that an aircraft flies in it
 //!
 //! A draft is the plan of an evaluator with other rows of some legs. It is read as a plan is and knows the hours of its
 //! airports, so that a Push asks it as it asks an evaluator; but no board follows, and no passenger is looked at. The
-//! steps of a move that change rows are taken in a draft, and the legs of the aircraft that they push are asked what
-//! C2 and C4 to C7 ask of a leg. What is broken then is broken once the passengers are tidied and refilled (near_trial).
+//! steps of a move that change rows, a Set, a Push or a Swap, are taken in a draft, and the legs of the aircraft that they
+//! push are asked what C2 and C4 to C7 ask of a leg. What is broken then is broken once the passengers are tidied and
+//! refilled (near_trial).
 //!
-//! Proved: what is said to be known is so. It says no of each move with a Swap, and where legs that kept their aircraft
-//! changed their order.
+//! Proved: a draft is what the steps make, and a move is not better whose draft breaks a rule. None is drafted where legs
+//! that kept their aircraft changed their order, nor with a Push or a Swap of an aircraft of more than 64 legs.
 #![tactic(auto)]
 
 mod change;
+mod changed;
 mod draft;
 mod hours;
-mod known;
+mod laws;
 mod legs;
+mod moves;
 mod rows;
 mod rules;
 mod steps;
+mod swap;
 
-pub use known::is_known_worse;
+pub use change::Change;
+pub use changed::changed_legs;
+pub use draft::Draft;
+pub use laws::a_move_is_not_better_whose_draft_breaks_a_rule;
+pub use legs::{legs_of_plane, precedes};
+pub use moves::{breaks_rule, draft_of};

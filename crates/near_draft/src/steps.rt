@@ -13,17 +13,15 @@ ghost use Rattle.plan_push.specs.Placings.{AreLegs, IsPlacing};
 ghost use Rattle.near_draft.specs.Drafts.{plan_of};
 
 use crate::draft::Draft;
-use crate::legs::{are_in_order, legs_of};
+use crate::legs::{MOST_LEGS, are_in_order, legs_of_plane};
+use crate::swap::{Exchange, swap_step};
 use desk_data::{Leg, NoMem, Plane, Row};
 use plan_moves::Step;
 use plan_push::{Placing, first_departure, placings};
 use std::alloc::Global;
 
-/// A Push of an aircraft with more legs is not drafted: each look-up in a draft is a walk over its changes.
-const MOST_LEGS: usize = 64;
-
-/// Takes a step in a draft, if it changes rows alone: a Set or a Push. It says no where it did not: then the draft is
-/// of nothing known. The only error is out of memory.
+/// Takes a step in a draft, if it changes rows alone: a Set, a Push or a Swap. It says no where it did not: then the
+/// draft is of nothing known. The only error is out of memory.
 #[tactic(auto, unfolding(desk_model::specs::Steps::after_step))]
 pub(crate) fn take_step(alloc: Global, draft: &mut Draft, step: &Step) -> Result<bool, NoMem>
     requires fits { StepFits draft.old.inst step.now }
@@ -37,6 +35,10 @@ pub(crate) fn take_step(alloc: Global, draft: &mut Draft, step: &Step) -> Result
             Ok(true)
         }
         Step::Push { plane, after } => push_step(alloc, draft, *plane, *after),
+        Step::Swap { first, second, at } => {
+            let (first, second, at) = (*first, *second, *at);
+            swap_step(alloc, draft, Exchange { first, second, at })
+        }
         _ => Ok(false),
     }
 }
@@ -69,7 +71,7 @@ fn push_step(
     ensures inst { draft.new.inst ≡ draft.old.inst }
     ensures rows { draft.new.rows ≡ draft.old.rows }
 {
-    let legs = legs_of(alloc, draft, plane)?;
+    let legs = legs_of_plane(alloc, draft, plane)?;
     let order = legs.as_slice();
     if order.len() > MOST_LEGS {
         return Ok(false);

@@ -7,19 +7,21 @@ use Rattle.desk_rules.specs.Numbers.{numbers}
 use Rattle.desk_rules.specs.Least.{least}
 use Rattle.desk_model.specs.Push.{rotation}
 use Rattle.near_unpaid.specs.Payers.{ArePayers}
+use Rattle.near_priced.specs.Tables.{ArePayments}
 use Rattle.near_search.specs.declared.rotations.Rotations.{Rotations}
 
 -- the numbers of some legs
 abbrev pub numbers_of : List Leg → List ℕ
 numbers_of legs = map (λ (leg : Leg). leg.0) legs
 
--- of each aircraft its legs in plan P, in their order; who pays; and whether the plan is feasible
+-- of each aircraft its legs in plan P, in their order; who pays and how much; and whether the plan is feasible
 pub record AreRotations (I : Situation) (P : PlanRows) (rotations : Rotations) : Type 0 where
   pub feasible : rotations.feasible ≡ is_none (least I P)
   pub planes : length rotations.legs.items ≡ planes_of I
   pub each : map (λ legs. numbers_of legs.items) rotations.legs.items ≡ map (rotation I P) (numbers (planes_of I))
   pub within : All (λ legs. All (λ leg. leg.0 < legs_of I) legs.items) rotations.legs.items
   pub payers : ArePayers I P rotations.payers
+  pub payments : ArePayments I P rotations.payments
 
 -- the legs from leg x on
 abbrev pub from_leg : ℕ → List Leg → List Leg

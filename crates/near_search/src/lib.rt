@@ -11,7 +11,8 @@
 //! whether it is known not to be better, which is worth while where that takes less than to try the move: it may
 //! always say no. A run of legs that is handed on in vain (`near_chains`) is passed over before its move is made,
 //! and a path that costs a passenger nothing before the moves off it are made. A move of legs on whose aircraft nobody pays
-//! (`near_unpaid`) is told by its steps. What is known is a law each. A path off which
+//! (`near_unpaid`) is told by its steps; one that costs at least as much more as those pay whom it touches (`near_priced`), or
+//! breaks a rule of a leg, by a draft of its rows (`near_draft`). What is known is a law each. A path off which
 //! no rebooking was better is noted in the evaluator, and passed over by the next search as long as nothing is touched
 //! that those hang on (`near_notes`).
 //!
@@ -19,6 +20,7 @@
 //! evaluator stands where it stood, also where memory ran out.
 #![tactic(auto)]
 
+mod drafted;
 mod finder;
 mod first;
 mod in_vain;

@@ -1,4 +1,4 @@
-//! The rotations of a plan, and who pays on them, looked up once for each search.
+//! The rotations of a plan, and who pays on them and how much, looked up once for each search.
 
 ghost use Rattle.std.specs.Prelude.{◌≡◌, ℕ, ◌<◌, All, IfOk, filter, length, map, nat_lt, take, true};
 ghost use Rattle.desk_data.specs.Situation.{Situation, legs_of, planes_of};
@@ -11,16 +11,30 @@ ghost use Rattle.near_search.specs.Rotations.{AreRotations, from_leg};
 
 use desk_data::{Airport, Instance, Leg, Minute, NoMem, Plane};
 use desk_eval::Evaluator;
-use near_unpaid::Payers;
+use near_priced::Payments;
+use near_unpaid::{Payers, reservation_costs};
 use plan_reads::departure;
 use std::alloc::Global;
 
-/// The rotations of a plan, the legs of each aircraft in their order; who pays on them; and whether the plan is feasible.
-#[derive(Drop)]
+/// The rotations of a plan, the legs of each aircraft in their order; who pays on them and how much; and whether the plan
+/// is feasible.
 pub(crate) struct Rotations {
     legs: Vec<Vec<Leg>>,
     pub(crate) payers: Payers,
+    pub(crate) payments: Payments,
     pub(crate) feasible: bool,
+}
+
+/// Dropped in one call, so that a function that owns one proves it once, and not part by part.
+impl Drop for Rotations {
+    fn drop(self) {
+        let Rotations {
+            legs: _,
+            payers: _,
+            payments: _,
+            feasible: _,
+        } = self;
+    }
 }
 
 impl Rotations {
@@ -34,10 +48,15 @@ impl Rotations {
             let rotation = eval.rotation(alloc, Plane(p))?;
             legs.push(rotation)?;
         }
-        let payers = Payers::of(alloc, eval.instance(), eval.plan())?;
+        let inst = eval.instance();
+        let plan = eval.plan();
+        let costs = reservation_costs(alloc, inst, plan)?;
+        let payers = Payers::of(alloc, inst, plan, costs.as_slice())?;
+        let payments = Payments::of(alloc, inst, plan, costs.as_slice())?;
         Ok(Rotations {
             legs,
             payers,
+            payments,
             feasible,
         })
     }

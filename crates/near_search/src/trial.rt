@@ -6,6 +6,7 @@ ghost use Rattle.plan_moves.specs.Fits.{Fits};
 ghost use Rattle.near_moves.specs.Descent.{is_better};
 ghost use Rattle.near_search.specs.Rotations.{AreRotations};
 
+use crate::drafted::is_known_worse;
 use crate::left::MovesLeft;
 use crate::rotations::Rotations;
 use crate::ruled_out::ruled_out;
@@ -13,7 +14,6 @@ use desk_data::NoMem;
 use desk_eval::Evaluator;
 use desk_headway::Listener;
 use desk_moves::{apply, undo};
-use near_draft::is_known_worse;
 use plan_moves::Move;
 use std::alloc::Global;
 
@@ -62,7 +62,7 @@ fn is_better(
     if ruled_out(eval, rotations, m) {
         return Ok(false);
     }
-    if is_known_worse(alloc, eval, m)? {
+    if is_known_worse(alloc, eval, rotations, m)? {
         return Ok(false);
     }
     let now = eval.cost();

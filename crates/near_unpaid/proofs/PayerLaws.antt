@@ -1,11 +1,12 @@
 -- Who pays, marked reservation by reservation, and what that says of a move.
-use Rattle.std.proofs.Common.{◌≡◌, ℕ, ◌+◌, ◌<◌, ◌≤◌, inl, inr, Bool, true, false, ◌&&◌, not, cond, eqb, ltb, List, ◌++◌, length, get_or, set, refl, sym, ap, subst, ◌∙◌, arith}
+use Rattle.std.proofs.Common.{◌≡◌, ℕ, ◌+◌, ◌<◌, ◌≤◌, inl, inr, Bool, true, false, ◌&&◌, not, cond, eqb, ltb, List, [], ◌∷◌, ◌++◌, length, get_or, set, refl, sym, ap, subst, ◌∙◌, arith, length-append}
 use Rattle.std.specs.Prelude.{Option, None, Some, count_by}
 use Rattle.std.specs.List.{All, list_all, list_any}
 use Rattle.std.proofs.lemmas.Bool.{true≢false, cases_eq, cases_lt, eqb-true, false_from_ne_true, not-true}
-use Rattle.std.proofs.lemmas.List.{get_or-set_same, get_or-set_other, set_past}
+use Rattle.std.proofs.lemmas.List.{get_or-set_same, get_or-set_other, set_past, get_or_append_left, get_or-append-add}
 use Rattle.std.proofs.lemmas.List.Folds.{list_any_none}
 use Rattle.std.proofs.lemmas.List.Sums.{sum_by-le-sum_by}
+use Rattle.desk_units.specs.declared.money.Grains.{Grains}
 use Rattle.desk_units.specs.declared.numbers.Airport.{Airport}
 use Rattle.desk_units.specs.declared.numbers.Leg.{Leg}
 use Rattle.desk_units.specs.declared.numbers.Cabin.{Cabin}
@@ -21,7 +22,7 @@ use Rattle.plan_moves.specs.declared.moves.Step.{Step}
 use Rattle.plan_moves.specs.declared.moves.Step.TheVariants.{Set, Push, Swap, Rebook, Tidy, Refill}
 use Rattle.desk_rules.specs.Least.{least}
 use Rattle.desk_rules.specs.Maintenance.{flies}
-use Rattle.desk_rules.specs.Cost.{is_wanted, ends_at, at_hand}
+use Rattle.desk_rules.specs.Cost.{grains, is_wanted, ends_at, at_hand}
 use Rattle.desk_model.specs.Refill.{has_leg}
 use Rattle.plan_reads.specs.Last.{IsLastOf, stand}
 use Rattle.plan_reads.proofs.LastLaws.{left_asked}
@@ -33,8 +34,35 @@ use Rattle.near_alone.specs.Alone.{leaves_alone}
 use Rattle.near_dearer.specs.Planes.{is_on}
 use Rattle.near_unpaid.specs.declared.payers.Payers.{Payers}
 use Rattle.near_unpaid.specs.Unpaid.{flies_on, HasNoneToSave, may_serve, services, saved_by_ending, flown_again}
-use Rattle.near_unpaid.specs.Payers.{is_marked, AreKept, AreFliersMarked, AreLegsMarked, IsMarked, AreMarked, ArePayers, spares}
+use Rattle.near_unpaid.specs.Payers.{AreCosts, is_marked, AreKept, AreFliersMarked, AreLegsMarked, IsMarked, AreMarked, ArePayers, spares}
 use Rattle.near_unpaid.proofs.UnpaidLaws.{list-weaker, unpaid-worse}
+
+-- ---- what reservations cost
+
+pub costs-first : (I : Situation) (P : PlanRows) (costs : List Grains) → length costs ≡ 0 → AreCosts I P costs 0
+costs-first I P costs none = record { res = none; each = λ r lt. absurd (omega (arith, lt)) }
+
+cost-more : (I : Situation) (P : PlanRows) (costs : List Grains) (cost : Grains) (n : ℕ) → AreCosts I P costs n → cost.0 ≡ reservation_cost I P n → (r : ℕ) → r < n + 1 → (get_or (costs ++ cost ∷ []) r (grains 0)).0 ≡ reservation_cost I P r
+cost-more I P costs cost n are is r lt =
+    let long = are.res in
+    elim (cases_lt r n) [
+      | inl less ↦ ap (λ (g : Grains). g.0) (get_or_append_left costs (cost ∷ []) (grains 0) r (omega (arith, less, long))) ∙ are.each r less
+      | inr past ↦
+          let last : r ≡ length costs + 0 = omega (arith, lt, past, long) in
+          let same : n ≡ r = omega (arith, lt, past) in
+          ap (λ (k : ℕ). (get_or (costs ++ cost ∷ []) k (grains 0)).0) last
+          ∙ ap (λ (g : Grains). g.0) (get_or-append-add costs (cost ∷ []) 0 (grains 0))
+          ∙ is
+          ∙ ap (reservation_cost I P) same
+    ]
+
+-- one reservation more
+pub costs-more : (I : Situation) (P : PlanRows) (old new : List Grains) (cost : Grains) (n : ℕ) → AreCosts I P old n → cost.0 ≡ reservation_cost I P n → new ≡ old ++ cost ∷ [] → AreCosts I P new (n + 1)
+costs-more I P old new cost n are is added =
+    subst (λ (costs : List Grains). AreCosts I P costs (n + 1)) (sym added) (record {
+      res = (let long = are.res in omega (arith, length-append old (cost ∷ []), long));
+      each = cost-more I P old cost n are is;
+    })
 
 -- ---- marks
 
@@ -98,7 +126,7 @@ stand_if : (surface : Bool) (there : Airport) (airport : ℕ) → is_there (cond
 stand_if true there airport = refl
 stand_if false there airport = refl
 
-ends-is : (I : Situation) (P : PlanRows) (p airport : ℕ) (last : Option Leg) → IsLastOf P p I.parts.to.0 (legs_of I) last → is_there (end_of I p last) airport ≡ ends_at I P p airport
+pub ends-is : (I : Situation) (P : PlanRows) (p airport : ℕ) (last : Option Leg) → IsLastOf P p I.parts.to.0 (legs_of I) last → is_there (end_of I p last) airport ≡ ends_at I P p airport
 ends-is I P p airport last h =
     stand_if (plane_at I p).surface (stand I p last) airport
     ∙ ap (λ (b : Bool). not (plane_at I p).surface && b) (sym (left_asked I P p I.parts.to.0 airport last h))

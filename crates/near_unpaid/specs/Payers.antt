@@ -1,5 +1,6 @@
 -- Who pays at a plan, looked up once: the aircraft and the legs that have to do with reservations that cost something.
 use Rattle.std.specs.Prelude.{◌≡◌, ℕ, ◌<◌, ◌≤◌, ◌⊎◌, Bool, true, false, not, List, length, All, slice_index_or}
+use Rattle.desk_units.specs.declared.money.Grains.{Grains}
 use Rattle.desk_units.specs.declared.numbers.Leg.{Leg}
 use Rattle.desk_units.specs.declared.numbers.Cabin.{Cabin}
 use Rattle.desk_data.specs.Booked.{booked_path}
@@ -7,10 +8,16 @@ use Rattle.desk_data.specs.Situation.{Situation, legs_of, planes_of, reservation
 use Rattle.desk_data.specs.PlanRows.{PlanRows, groups_at}
 use Rattle.plan_moves.specs.declared.moves.Step.{Step}
 use Rattle.plan_moves.specs.declared.moves.Step.TheVariants.{Set, Push, Swap, Rebook, Tidy, Refill}
+use Rattle.desk_rules.specs.Cost.{grains}
 use Rattle.desk_rules.specs.Maintenance.{flies}
 use Rattle.full_cost.specs.Amounts.{reservation_cost}
 use Rattle.near_unpaid.specs.Unpaid.{services}
 use Rattle.near_unpaid.specs.declared.payers.Payers.{Payers}
+
+-- what the passengers of each of the first n reservations cost, by its number
+pub record AreCosts (I : Situation) (P : PlanRows) (costs : List Grains) (n : ℕ) : Type 0 where
+  pub res : length costs ≡ n
+  pub each : (r : ℕ) → r < n → (slice_index_or costs r (grains 0)).0 ≡ reservation_cost I P r
 
 -- whether number k is marked
 abbrev pub is_marked : List Bool → ℕ → Bool

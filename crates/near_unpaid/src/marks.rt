@@ -3,32 +3,49 @@
 ghost use Rattle.std.specs.Prelude.{◌≡◌, ◌+◌, ◌<◌, length, All, true};
 ghost use Rattle.desk_data.specs.Situation.{legs_of, planes_of, reservations_of};
 ghost use Rattle.desk_data.specs.Valid.{IsPathOf, IsPlanFor};
-ghost use Rattle.near_unpaid.specs.Payers.{AreFliersMarked, AreKept, AreLegsMarked, AreMarked, IsFlierMarked};
+ghost use Rattle.near_unpaid.specs.Payers.{AreCosts, AreFliersMarked, AreKept, AreLegsMarked, AreMarked, IsFlierMarked};
 
-use crate::pays::costs_nothing;
-use desk_data::{Cabin, Group, Instance, Leg, Res, Row};
+use crate::pays::cost_of;
+use desk_data::{Cabin, Grains, Group, Instance, Leg, Res, Row};
 use plan_pages::Pages;
 
-/// Marks the aircraft on whose legs somebody is of a reservation that costs something, and the legs on which it is booked.
-pub(crate) fn mark_all(inst: &Instance, plan: &Pages, on: &mut Vec<bool>, booked: &mut Vec<bool>)
+/// Marks the aircraft on whose legs somebody is of a reservation that costs something, and the legs on which it is booked,
+/// given what each costs.
+pub(crate) fn mark_all(
+    inst: &Instance,
+    plan: &Pages,
+    costs: &[Grains],
+    on: &mut Vec<bool>,
+    booked: &mut Vec<bool>,
+)
     requires plan { IsPlanFor inst.now plan.now }
+    requires costs { AreCosts inst.now plan.now costs.now (reservations_of inst.now) }
     requires on { length on.old.items ≡ planes_of inst.now }
     requires booked { length booked.old.items ≡ legs_of inst.now }
     ensures { AreMarked inst.now plan.now on.new.items booked.new.items (reservations_of inst.now) }
 {
     for r in 0..inst.reservations() {
-        mark_one(inst, plan, Res(r), on, booked);
+        mark_one(inst, plan, costs, Res(r), on, booked);
     }
 }
 
 /// The same of one reservation more.
-fn mark_one(inst: &Instance, plan: &Pages, res: Res, on: &mut Vec<bool>, booked: &mut Vec<bool>)
+fn mark_one(
+    inst: &Instance,
+    plan: &Pages,
+    costs: &[Grains],
+    res: Res,
+    on: &mut Vec<bool>,
+    booked: &mut Vec<bool>,
+)
     requires plan { IsPlanFor inst.now plan.now }
+    requires costs { AreCosts inst.now plan.now costs.now (reservations_of inst.now) }
     requires res { res.0 < reservations_of inst.now }
     requires marked { AreMarked inst.now plan.now on.old.items booked.old.items res.0 }
     ensures { AreMarked inst.now plan.now on.new.items booked.new.items (res.0 + 1) }
 {
-    if costs_nothing(inst, plan, res) {
+    let cost = cost_of(inst, plan, costs, res);
+    if cost.0 == 0 {
         return;
     }
     mark_groups(inst, plan, plan.groups(res), on);

@@ -1,13 +1,13 @@
 //! Who pays at a plan.
 
 ghost use Rattle.std.specs.Prelude.{◌≡◌, IfOk, false, replicate};
-ghost use Rattle.desk_data.specs.Situation.{Situation};
+ghost use Rattle.desk_data.specs.Situation.{Situation, reservations_of};
 ghost use Rattle.desk_data.specs.Valid.{IsPlanFor};
-ghost use Rattle.near_unpaid.specs.Payers.{ArePayers};
+ghost use Rattle.near_unpaid.specs.Payers.{AreCosts, ArePayers};
 
 use crate::marks::mark_all;
 use crate::services::services_of;
-use desk_data::{Instance, NoMem};
+use desk_data::{Grains, Instance, NoMem};
 use plan_pages::Pages;
 use std::alloc::Global;
 
@@ -33,15 +33,22 @@ impl Drop for Payers {
 }
 
 impl Payers {
-    /// Those at a plan, which is one for the instance: one walk over the paths of its groups and over its legs, and
-    /// for each aircraft one over the positions. The only error is out of memory.
-    pub fn of(alloc: Global, inst: &Instance, plan: &Pages) -> Result<Payers, NoMem>
-        requires { IsPlanFor inst.now plan.now }
+    /// Those at a plan, which is one for the instance, given what each reservation costs (`reservation_costs`): one walk
+    /// over the reservations and the paths of those that cost something, one over the legs, and for each aircraft one over
+    /// the positions. The only error is out of memory.
+    pub fn of(
+        alloc: Global,
+        inst: &Instance,
+        plan: &Pages,
+        costs: &[Grains],
+    ) -> Result<Payers, NoMem>
+        requires plan { IsPlanFor inst.now plan.now }
+        requires costs { AreCosts inst.now plan.now costs.now (reservations_of inst.now) }
         ensures { IfOk result (ArePayers inst.now plan.now) }
     {
         let mut on = unmarked(alloc, inst.planes() as usize)?;
         let mut booked = unmarked(alloc, inst.legs() as usize)?;
-        mark_all(inst, plan, &mut on, &mut booked);
+        mark_all(inst, plan, costs, &mut on, &mut booked);
         let services = services_of(alloc, inst, plan)?;
         Ok(Payers {
             on,

@@ -1,30 +1,55 @@
-//! Reservations that cost nothing.
+//! What reservations cost.
 
-ghost use Rattle.std.specs.Prelude.{◌≡◌, ◌<◌, true};
+ghost use Rattle.std.specs.Prelude.{◌≡◌, ◌<◌, IfOk};
 ghost use Rattle.desk_data.specs.Situation.{legs_of, reservations_of};
 ghost use Rattle.desk_data.specs.Valid.{IsPathOf, IsPlanFor};
 ghost use Rattle.desk_rules.specs.Cost.{grains};
 ghost use Rattle.full_cost.specs.Amounts.{IsEnd, group_cost, path_end, reservation_cost};
 ghost use Rattle.full_cost.specs.Counted.{IsGroupOf, group_on};
+ghost use Rattle.near_unpaid.specs.Payers.{AreCosts};
 
-use desk_data::{Cabin, Grains, Instance, Leg, Minute, Res};
+use desk_data::{Cabin, Grains, Instance, Leg, Minute, NoMem, Res};
 use full_cost::path_cost;
 use plan_pages::Pages;
 use plan_reads::{all_flown, arrival, is_carried};
+use std::alloc::Global;
 
-/// Whether no passenger of a reservation costs anything.
-pub(crate) fn costs_nothing(inst: &Instance, plan: &Pages, res: Res) -> bool
+/// What the passengers of each reservation cost by the paths that they are on, by its number: one walk over the groups of
+/// a plan, which is one for the instance. The only error is out of memory.
+pub fn reservation_costs(alloc: Global, inst: &Instance, plan: &Pages) -> Result<Vec<Grains>, NoMem>
+    requires { IsPlanFor inst.now plan.now }
+    ensures { IfOk result (λ costs. AreCosts inst.now plan.now costs.items (reservations_of inst.now)) }
+{
+    let mut costs = Vec::with_capacity(alloc, inst.reservations() as usize)?;
+    for r in 0..inst.reservations() {
+        let cost = reservation_cost(inst, plan, Res(r));
+        costs.push(cost)?;
+    }
+    Ok(costs)
+}
+
+/// What the passengers of a reservation cost, looked up.
+pub fn cost_of(_inst: &Instance, _plan: &Pages, costs: &[Grains], res: Res) -> Grains
+    requires costs { AreCosts _inst.now _plan.now costs.now (reservations_of _inst.now) }
+    requires res { res.0 < reservations_of _inst.now }
+    ensures { result.0 ≡ reservation_cost _inst.now _plan.now res.0 }
+{
+    costs[res.0 as usize]
+}
+
+/// What the passengers of a reservation cost.
+fn reservation_cost(inst: &Instance, plan: &Pages, res: Res) -> Grains
     requires plan { IsPlanFor inst.now plan.now }
     requires res { res.0 < reservations_of inst.now }
-    ensures { result ≡ true → reservation_cost inst.now plan.now res.0 ≡ 0 }
+    ensures { result.0 ≡ reservation_cost inst.now plan.now res.0 }
 {
     let _rows = inst.parts();
+    let mut total = Grains(0);
     for group in plan.groups(res) {
-        if group_cost(inst, plan, res, group.path.as_slice(), group.count).0 != 0 {
-            return false;
-        }
+        let path = group.path.as_slice();
+        total = total.plus(group_cost(inst, plan, res, path, group.count));
     }
-    true
+    total
 }
 
 /// What some passengers of a reservation cost on a path.

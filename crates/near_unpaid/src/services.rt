@@ -61,7 +61,7 @@ fn service_count(inst: &Instance, _plan: &Pages, plane: Plane, last: Option<Leg>
 }
 
 /// Where an aircraft ends after its last leg; `None` for surface transport.
-fn end_of(inst: &Instance, plane: Plane, last: Option<Leg>) -> Option<Airport>
+pub fn end_of(inst: &Instance, plane: Plane, last: Option<Leg>) -> Option<Airport>
     requires plane { plane.0 < planes_of inst.now }
     requires last { ForSome last (λ leg. leg.0 < legs_of inst.now) }
     ensures { result ≡ end_of inst.now plane.0 last }
@@ -94,7 +94,7 @@ fn wanted_elsewhere(inst: &Instance, plane: Plane, end: Option<Airport>) -> u32
 }
 
 /// Whether an aircraft ends at an airport.
-fn is_at(end: Option<Airport>, airport: Airport) -> bool
+pub fn is_at(end: Option<Airport>, airport: Airport) -> bool
     ensures { result ≡ is_there end airport.0 }
 {
     match end {
@@ -104,7 +104,7 @@ fn is_at(end: Option<Airport>, airport: Airport) -> bool
 }
 
 /// Whether an aircraft has the model and the seats of a position.
-fn is_wanted(position: &PositionInfo, plane: &PlaneInfo) -> bool
+pub fn is_wanted(position: &PositionInfo, plane: &PlaneInfo) -> bool
     ensures { result ≡ is_wanted position.now plane.now }
 {
     position.model.as_slice() == plane.model.as_slice() && same_seats(position.seats, plane.seats)

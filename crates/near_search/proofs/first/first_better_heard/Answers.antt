@@ -1,6 +1,5 @@
 use Rattle.std.proofs.Common.{◌≡◌, List, sym, ap, subst, ◌∙◌}
-use Rattle.std.specs.Prelude.{Option, find, IfOk, All}
-use Rattle.plan_moves.specs.declared.moves.Move.{Move}
+use Rattle.std.specs.Prelude.{find, All}
 use Rattle.plan_moves.specs.Fits.{Fits}
 use Rattle.desk_data.specs.Valid.{IsValid, IsPlanFor}
 use Rattle.near_moves.specs.Units.{MoveUnit}

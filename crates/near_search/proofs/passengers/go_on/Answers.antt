@@ -1,4 +1,3 @@
-use Rattle.std.proofs.Common.{sym, ◌∙◌}
 use Rattle.near_search.proofs.PassedLaws.{past-more}
 use Rattle.near_search.proofs.passengers.go_on.Goals as goal
 

@@ -20,5 +20,6 @@ returns c =
       planes = lists-long (λ legs. numbers_of legs.items) (rotation I P) c.loop-p.legs.items (planes_of I) each;
       each = each;
       within = c.loop-p.invariant.within;
-      payers = rw (c.instance-2.ensures, c.plan.ensures.rows) at c.in_ok-payers.ensures;
+      payers = rw (c.instance-inst.ensures, c.plan-plan.ensures.rows) at c.in_ok-payers.ensures;
+      payments = rw (c.instance-inst.ensures, c.plan-plan.ensures.rows) at c.in_ok-payments.ensures;
     }

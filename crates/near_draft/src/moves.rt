@@ -1,0 +1,111 @@
+//! The drafts of moves, and whether the rows that they make break a rule.
+
+ghost use Rattle.std.specs.Prelude.{◌≡◌, ◌<◌, ◌≤◌, true, length, All, IfOk};
+ghost use Rattle.plan_moves.specs.Fits.{Fits, StepFits};
+ghost use Rattle.std.specs.List.{list_all};
+ghost use Rattle.std.specs.Option.{ForSome};
+ghost use Rattle.desk_data.specs.Situation.{planes_of};
+ghost use Rattle.near_trial.specs.RowRules.{BreaksRows, keeps_rows};
+ghost use Rattle.desk_model.specs.Steps.{after_steps};
+ghost use Rattle.near_draft.specs.Drafts.{IsDraftOf, plan_of};
+
+use crate::draft::Draft;
+use crate::legs::{are_in_order, legs_of_plane};
+use crate::rules::break_leg_rules;
+use crate::steps::take_step;
+use desk_data::{NoMem, Plane};
+use desk_eval::Evaluator;
+use near_trial::keeps_rows;
+use plan_moves::{Move, Step};
+use std::alloc::Global;
+
+/// The plan that a move's first steps make, those before the first that leaves rows as they are, where they change rows
+/// alone and the others leave them; `None` where it is not drafted. The evaluator does not see it. The only error is
+/// out of memory.
+pub fn draft_of<'a>(
+    alloc: Global,
+    eval: &'a Evaluator,
+    m: &Move,
+) -> Result<Option<Draft<'a>>, NoMem>
+    requires { Fits eval.now.inst m.now }
+    ensures { IfOk result (λ drafted. ForSome drafted (IsDraftOf eval.now.inst eval.now.rows m.now)) }
+{
+    let steps = m.steps.as_slice();
+    let (first, others) = steps.split_at(first_steps(steps));
+    if first.is_empty() || !leave_rows(others) {
+        return Ok(None);
+    }
+    let mut draft = Draft::of(alloc, eval);
+    if !take_steps(alloc, &mut draft, first)? {
+        return Ok(None);
+    }
+    Ok(Some(draft))
+}
+
+/// Whether it is known that the draft of a move breaks a rule: a leg of an aircraft that the move pushes breaks C2 or one
+/// of C4 to C7 there. Where it says no, nothing is known. The only error is out of memory.
+pub fn breaks_rule(alloc: Global, draft: &Draft, m: &Move) -> Result<bool, NoMem>
+    requires { Fits draft.now.inst m.now }
+    ensures { IfOk result (λ breaks. breaks ≡ true → BreaksRows draft.now.inst (plan_of draft.now)) }
+{
+    breaks_rows(alloc, draft, m.steps.as_slice())
+}
+
+/// How many steps there are before the first that leaves rows as they are.
+fn first_steps(steps: &[Step]) -> usize
+    ensures { result ≤ length steps.now }
+{
+    steps
+        .iter()
+        .position(|step| keeps_rows(step))
+        .unwrap_or(steps.len())
+}
+
+/// Whether steps leave each leg its row.
+fn leave_rows(steps: &[Step]) -> bool
+    ensures { result ≡ list_all keeps_rows steps.now }
+{
+    steps.iter().all(|step| keeps_rows(step))
+}
+
+/// Takes steps in a draft, one after another. It says no where it took not all of them: then the draft is of nothing
+/// known.
+fn take_steps(alloc: Global, draft: &mut Draft, steps: &[Step]) -> Result<bool, NoMem>
+    requires { All (StepFits draft.old.inst) steps.now }
+    ensures taken { IfOk result (λ taken. taken ≡ true → plan_of draft.new ≡ after_steps draft.old.inst (plan_of draft.old) steps.now) }
+    ensures inst { draft.new.inst ≡ draft.old.inst }
+    ensures rows { draft.new.rows ≡ draft.old.rows }
+{
+    for step in steps {
+        if !take_step(alloc, draft, step)? {
+            return Ok(false);
+        }
+    }
+    Ok(true)
+}
+
+/// Whether an aircraft that is pushed has a leg that breaks a rule.
+fn breaks_rows(alloc: Global, draft: &Draft, steps: &[Step]) -> Result<bool, NoMem>
+    requires { All (StepFits draft.now.inst) steps.now }
+    ensures { IfOk result (λ breaks. breaks ≡ true → BreaksRows draft.now.inst (plan_of draft.now)) }
+{
+    for step in steps {
+        if let Step::Push { plane, .. } = step {
+            if plane_breaks_rows(alloc, draft, *plane)? {
+                return Ok(true);
+            }
+        }
+    }
+    Ok(false)
+}
+
+/// Whether an aircraft has a leg that breaks a rule.
+fn plane_breaks_rows(alloc: Global, draft: &Draft, plane: Plane) -> Result<bool, NoMem>
+    requires { plane.0 < planes_of draft.now.inst }
+    ensures { IfOk result (λ breaks. breaks ≡ true → BreaksRows draft.now.inst (plan_of draft.now)) }
+{
+    let legs = legs_of_plane(alloc, draft, plane)?;
+    let order = legs.as_slice();
+    let inst = draft.eval().instance();
+    Ok(are_in_order(draft, order) && break_leg_rules(inst, draft, order))
+}

@@ -1,0 +1,251 @@
+-- Where aircraft end, and how many are at hand then.
+use Rattle.std.proofs.Common.{◌≡◌, ◌≢◌, ℕ, zero, suc, ◌+◌, ◌<◌, ◌≤◌, inl, inr, Bool, true, false, ◌&&◌, not, cond, eqb, ltb, List, [], ◌∷◌, ◌++◌, length, get_or, take, refl, sym, ap, subst, ◌∙◌, arith}
+use Rattle.std.specs.Prelude.{Option, None, Some}
+use Rattle.std.specs.List.{All, Contains}
+use Rattle.std.proofs.lemmas.Bool.{true≢false, cases_eq, eq-eqb, ne_eqb, and_parts, and_from, and_right, le-ltb, lt-ltb, false_from_ne_true}
+use Rattle.std.proofs.lemmas.List.{take_more, map-append, length-map, get_or-map}
+use Rattle.std.proofs.lemmas.List.Elements.{All-append, All-nil, All-cons, All-weaker, All-contains}
+use Rattle.desk_units.specs.declared.numbers.Leg.{Leg}
+use Rattle.desk_data.specs.declared.info.PositionInfo.{PositionInfo}
+use Rattle.desk_data.specs.Situation.{Situation, legs_of, planes_of, plane_at}
+use Rattle.desk_data.specs.PlanRows.{PlanRows, row_at}
+use Rattle.desk_data.specs.Valid.{IsValid}
+use Rattle.desk_rules.specs.Cost.{is_wanted, ends_at, at_hand}
+use Rattle.desk_rules.specs.Rotations.{dep, precedes}
+use Rattle.desk_rules.specs.Maintenance.{flies, departs_before, is_flown_by}
+use Rattle.desk_rules.proofs.RotationLaws.{precedes-holds, precedes-from}
+use Rattle.desk_model.proofs.RotationOrder.{Contains-head, Contains-tail, precedes-trans, precedes-itself}
+use Rattle.plan_reads.specs.Last.{IsLastOf}
+use Rattle.full_cost.specs.Stands.{end_of, is_there}
+use Rattle.board_items.proofs.SumLaws.{one_if, filter_change}
+use Rattle.board_cost.proofs.HandLaws.{hand_few}
+use Rattle.near_units.specs.Same.{FliesSame}
+use Rattle.near_units.proofs.RuleLaws.{left_at-same}
+use Rattle.near_unpaid.specs.Unpaid.{is_either}
+use Rattle.near_unpaid.proofs.PayerLaws.{ends-is}
+use Rattle.near_draft.specs.Drafts.{AreAllChanged}
+use Rattle.near_draft.specs.Legs.{AreLegsOf, numbers_of}
+use Rattle.near_priced.specs.declared.ends.PlaneEnd.{PlaneEnd}
+use Rattle.near_priced.specs.declared.ends.PlaneEnds.{PlaneEnds}
+use Rattle.near_priced.specs.Tables.{is_hand}
+use Rattle.near_priced.specs.Ends.{IsLastIn, IsLastAmong, IsPlaneEnd, IsOther, IsPlaneEndOf, ArePlaneEnds}
+use Rattle.near_priced.specs.Balances.{counted}
+
+-- ---- the last leg of some
+
+abbrev NotBefore : PlanRows → ℕ → ℕ → ℕ → Type 0
+NotBefore P p at x = departs_before P p at x ≡ false
+
+abbrev NotAfter : PlanRows → ℕ → ℕ → ℕ → ℕ → Type 0
+NotAfter P p at leg z = departs_before P p at z ≡ true → precedes P leg z ≡ false
+
+push-all : (S : ℕ → Type 0) (legs : List ℕ) (x : ℕ) → All S legs → S x → All S (legs ++ x ∷ [])
+push-all S legs x all one = All-append S legs (x ∷ []) all (All-cons S x [] one (All-nil S))
+
+contains-more : (legs : List ℕ) (x z : ℕ) → Contains legs z → Contains (legs ++ x ∷ []) z
+contains-more legs x z has = push-has legs x z has
+  where
+    push-has : (xs : List ℕ) (y w : ℕ) → Contains xs w → Contains (xs ++ y ∷ []) w
+    push-has [] y w has_w = absurd (let lt = has_w.1 in omega (arith, lt))
+    push-has (first ∷ xs) y w (zero, within, is) = subst (Contains (first ∷ xs ++ y ∷ [])) is (Contains-head first (xs ++ y ∷ []))
+    push-has (first ∷ xs) y w (suc k, within, is) = Contains-tail first w (xs ++ y ∷ []) (push-has xs y w (k, (let lt : k < length xs = omega (arith, within) in lt), is))
+
+contains-last : (legs : List ℕ) (x : ℕ) → Contains (legs ++ x ∷ []) x
+contains-last [] x = Contains-head x []
+contains-last (first ∷ legs) x = Contains-tail first x (legs ++ x ∷ []) (contains-last legs x)
+
+not-itself : (P : PlanRows) (x : ℕ) → precedes P x x ≡ false
+not-itself P x = false_from_ne_true (precedes P x x) (λ is. precedes-itself P x (precedes-holds P x x is))
+
+module _ (P : PlanRows) (p at : ℕ) (legs : List ℕ) (x : ℕ) where
+  -- a leg more that departs too late
+  pub last-stays-late : (last : Option Leg) → NotBefore P p at x → IsLastAmong P p at legs last → IsLastAmong P p at (legs ++ x ∷ []) last
+  last-stays-late None late none = push-all (NotBefore P p at) legs x none late
+  last-stays-late (Some leg) late is = record {
+    has = contains-more legs x leg.0 is.has;
+    before = is.before;
+    last = push-all (NotAfter P p at leg.0) legs x is.last (λ before. absurd (true≢false (sym before ∙ late)));
+  }
+
+  -- one that comes no later than the last
+  pub last-stays : (leg : Leg) → precedes P leg.0 x ≡ false → IsLastAmong P p at legs (Some leg) → IsLastAmong P p at (legs ++ x ∷ []) (Some leg)
+  last-stays leg no_later is = record {
+    has = contains-more legs x leg.0 is.has;
+    before = is.before;
+    last = push-all (NotAfter P p at leg.0) legs x is.last (λ before. no_later);
+  }
+
+  -- the first one
+  pub last-first : (leg : Leg) → leg.0 ≡ x → departs_before P p at x ≡ true → IsLastAmong P p at legs None → IsLastAmong P p at (legs ++ x ∷ []) (Some leg)
+  last-first leg is before none = subst (IsLastIn P p at (legs ++ x ∷ [])) (sym is) (record {
+    has = contains-last legs x;
+    before = before;
+    last = push-all (NotAfter P p at x) legs x
+        (All-weaker (NotBefore P p at) (NotAfter P p at x) (λ z off on. absurd (true≢false (sym on ∙ off))) legs none)
+        (λ on. not-itself P x);
+  })
+
+  -- a later one
+  pub last-comes : (other leg : Leg) → leg.0 ≡ x → departs_before P p at x ≡ true → precedes P other.0 x ≡ true → IsLastAmong P p at legs (Some other) → IsLastAmong P p at (legs ++ x ∷ []) (Some leg)
+  last-comes other leg is before later was = subst (IsLastIn P p at (legs ++ x ∷ [])) (sym is) (record {
+    has = contains-last legs x;
+    before = before;
+    last = push-all (NotAfter P p at x) legs x
+        (All-weaker (NotAfter P p at other.0) (NotAfter P p at x)
+        (λ z no_later on. false_from_ne_true (precedes P x z) (λ after.
+        true≢false (sym (precedes-from P other.0 z (precedes-trans P other.0 x z (precedes-holds P other.0 x later) (precedes-holds P x z after))) ∙ no_later on)))
+        legs was.last)
+        (λ on. not-itself P x);
+  })
+
+-- the last of all that an aircraft flies
+pub last-of-all : (I : Situation) (P : PlanRows) (p at : ℕ) (legs : List ℕ) (last : Option Leg) → AreLegsOf I P p legs → IsLastAmong P p at legs last → IsLastOf P p at (legs_of I) last
+last-of-all I P p at legs None are none = λ x lt.
+    false_from_ne_true (departs_before P p at x) (λ before.
+    let flown = (and_parts (flies P p x) (ltb (dep P x) at) before).0 in
+    true≢false (sym before ∙ All-contains (NotBefore P p at) legs x none (are.each x lt flown)))
+last-of-all I P p at legs (Some leg) are is = record {
+  within = (All-contains (λ x. (x < legs_of I) × (flies P p x ≡ true)) legs leg.0 are.flown is.has).0;
+  before = is.before;
+  last = λ z lt before.
+      let flown = (and_parts (flies P p z) (ltb (dep P z) at) before).0 in
+      All-contains (NotAfter P p at leg.0) legs z is.last (are.each z lt flown) before;
+}
+
+-- ---- the others end where they did
+
+pub others-same : (P Q : PlanRows) (legs : List ℕ) (p : ℕ) → AreAllChanged P Q legs → All (λ x. (is_flown_by p (row_at P x) ≡ false) × (is_flown_by p (row_at Q x) ≡ false)) legs → FliesSame Q P p
+others-same P Q legs p changed off x =
+    elim (changed x) [
+      | inl same ↦ inl (sym same)
+      | inr has ↦
+          let both = All-contains (λ y. (is_flown_by p (row_at P y) ≡ false) × (is_flown_by p (row_at Q y) ≡ false)) legs x off has in
+          inr (both.1, both.0)
+    ]
+
+pub ends-same : (I : Situation) (P Q : PlanRows) (p airport : ℕ) → FliesSame Q P p → ends_at I Q p airport ≡ ends_at I P p airport
+ends-same I P Q p airport same = ap (λ (c : Bool). not (plane_at I p).surface && c) (left_at-same I Q P p same I.parts.to.0 airport)
+
+apart-either : (a b p : ℕ) → p ≢ a → p ≢ b → is_either a b p ≡ false
+apart-either a b p one two = rw (ne_eqb p a one, ne_eqb p b two) refl
+
+-- two aircraft, or one
+pub one-end : (I : Situation) (P Q : PlanRows) (one : PlaneEnd) (a b : ℕ) → b ≡ a → one.plane.0 ≡ a → IsPlaneEnd I P Q one → ((p : ℕ) → is_either a b p ≡ false → FliesSame Q P p) → ArePlaneEnds I P Q (record { one = one; other = None })
+one-end I P Q one a b same is plane_end others = record {
+  one = plane_end;
+  other = tt;
+  stay = λ p airport apart none.
+      let first : p ≢ a = λ e. apart (e ∙ sym is) in
+      ends-same I P Q p airport (others p (apart-either a b p first (λ e. first (e ∙ same))));
+}
+
+pub two-ends : (I : Situation) (P Q : PlanRows) (one other : PlaneEnd) (a b : ℕ) → b ≢ a → one.plane.0 ≡ a → other.plane.0 ≡ b → IsPlaneEnd I P Q one → IsPlaneEnd I P Q other → ((p : ℕ) → is_either a b p ≡ false → FliesSame Q P p) → ArePlaneEnds I P Q (record { one = one; other = Some other })
+two-ends I P Q one other a b differ is other_is plane_end other_end others = record {
+  one = plane_end;
+  other = (other_end, λ e. differ (sym other_is ∙ e ∙ is));
+  stay = λ p airport apart second.
+      ends-same I P Q p airport (others p (apart-either a b p (λ e. apart (e ∙ sym is)) (λ e. second (e ∙ sym other_is))));
+}
+
+-- ---- how many are at hand
+
+counted-is : (I : Situation) (P : PlanRows) (p : ℕ) (last : Option Leg) (position : PositionInfo) → IsLastOf P p I.parts.to.0 (legs_of I) last → one_if (is_hand I P position p) ≡ counted I p last position
+counted-is I P p last position h = ap (λ (e : Bool). one_if (is_wanted position (plane_at I p) && e)) (sym (ends-is I P p position.airport.0 last h))
+
+counted-few : (I : Situation) (p : ℕ) (last : Option Leg) (position : PositionInfo) → counted I p last position ≤ 1
+counted-few I p last position = one-few (is_wanted position (plane_at I p) && is_there (end_of I p last) position.airport.0)
+  where
+    one-few : (b : Bool) → one_if b ≤ 1
+    one-few true = omega arith
+    one-few false = omega arith
+
+-- there are no more at hand than aircraft
+pub hands-few : (I : Situation) (P : PlanRows) (position : PositionInfo) → IsValid I → at_hand I P position ≤ 1000
+hands-few I P position valid = omega (arith, hand_few (planes_of I) I P position, valid.parts.few.planes)
+
+module _ (I : Situation) (P Q : PlanRows) (position : PositionInfo) (ends : PlaneEnds) (are : ArePlaneEnds I P Q ends) where
+  abbrev f : ℕ → Bool
+  f = is_hand I Q position
+
+  abbrev g : ℕ → Bool
+  g = is_hand I P position
+
+  abbrev a : ℕ
+  a = ends.one.plane.0
+
+  stays : (p : ℕ) → ends_at I Q p position.airport.0 ≡ ends_at I P p position.airport.0 → f p ≡ g p
+  stays p same = ap (λ (e : Bool). is_wanted position (plane_at I p) && e) same
+
+  pub few-one : counted I a ends.one.is position ≤ 1
+  few-one = counted-few I a ends.one.is position
+
+  pub few-other : (other : PlaneEnd) → counted I other.plane.0 other.is position ≤ 1
+  few-other other = counted-few I other.plane.0 other.is position
+
+  pub hands-one : ends.other ≡ None → at_hand I Q position + counted I a ends.one.was position ≡ at_hand I P position + counted I a ends.one.is position
+  hands-one none =
+      omega (
+        arith,
+        filter_change f g (planes_of I) a are.one.plane (λ p apart. stays p (are.stay p position.airport.0 apart (subst (IsOther p) (sym none) tt))),
+        counted-is I P a ends.one.was position are.one.was,
+        counted-is I Q a ends.one.is position are.one.is,
+      )
+
+  -- the test of the plan after, at one aircraft alone
+  abbrev mid : ℕ → Bool
+  mid y = cond (eqb y a) (f y) (g y)
+
+  mid-at : mid a ≡ f a
+  mid-at = rw (eq-eqb a a refl) refl
+
+  mid-off : (y : ℕ) → y ≢ a → mid y ≡ g y
+  mid-off y apart = rw (ne_eqb y a apart) refl
+
+  pub hands-two : (other : PlaneEnd) → ends.other ≡ Some other → at_hand I Q position + (counted I a ends.one.was position + counted I other.plane.0 other.was position) ≡ at_hand I P position + (counted I a ends.one.is position + counted I other.plane.0 other.is position)
+  hands-two other some =
+      let b = other.plane.0 in
+      let n = planes_of I in
+      let both : IsPlaneEndOf I P Q a (Some other) = subst (IsPlaneEndOf I P Q a) some are.other in
+      let second : IsPlaneEnd I P Q other = both.0 in
+      let apart : b ≢ a = both.1 in
+      let here : (p : ℕ) → p ≢ b → f p ≡ mid p = λ p off.
+      elim (cases_eq p a) [
+        | inl same ↦ subst (λ (q : ℕ). f q ≡ mid q) (sym same) (sym mid-at)
+        | inr off_a ↦ stays p (are.stay p position.airport.0 off_a (subst (IsOther p) (sym some) off)) ∙ sym (mid-off p off_a)
+      ] in
+      omega (
+        arith,
+        filter_change mid g n a are.one.plane mid-off,
+        filter_change f mid n b second.plane here,
+        ap one_if mid-at,
+        ap one_if (mid-off b apart),
+        counted-is I P a ends.one.was position are.one.was,
+        counted-is I Q a ends.one.is position are.one.is,
+        counted-is I P b other.was position second.was,
+        counted-is I Q b other.is position second.is,
+      )
+
+-- ---- legs, one more
+
+-- what is read where there is no leg
+abbrev pub no_leg : Leg
+no_leg = record { 0 = 0 }
+
+pub numbers-more : (legs : List Leg) (i : ℕ) → i < length legs → numbers_of (take (i + 1) legs) ≡ numbers_of (take i legs) ++ (get_or legs i no_leg).0 ∷ []
+numbers-more legs i lt = ap numbers_of (take_more legs i no_leg lt) ∙ map-append (λ (leg : Leg). leg.0) (take i legs) (get_or legs i no_leg ∷ [])
+
+pub all-more : (S : ℕ → Type 0) (legs : List Leg) (i : ℕ) → i < length legs → All S (numbers_of (take i legs)) → S (get_or legs i no_leg).0 → All S (numbers_of (take (i + 1) legs))
+all-more S legs i lt all one = subst (All S) (sym (numbers-more legs i lt)) (push-all S (numbers_of (take i legs)) (get_or legs i no_leg).0 all one)
+
+-- the legs of an aircraft are flown by it
+pub leg-flown : (I : Situation) (P : PlanRows) (p : ℕ) (legs : List Leg) (i : ℕ) → i < length legs → AreLegsOf I P p (numbers_of legs) → ((get_or legs i no_leg).0 < legs_of I) × (flies P p (get_or legs i no_leg).0 ≡ true)
+leg-flown I P p legs i lt are =
+    let long : i < length (numbers_of legs) = rw (length-map legs (λ (leg : Leg). leg.0)) lt in
+    subst (λ (x : ℕ). (x < legs_of I) × (flies P p x ≡ true)) (get_or-map (λ (leg : Leg). leg.0) legs i no_leg 0 lt) (are.flown i 0 long)
+
+-- when a leg departs
+pub late : (P : PlanRows) (p at x : ℕ) → at ≤ dep P x → departs_before P p at x ≡ false
+late P p at x le = and_right _ _ (le-ltb (dep P x) at le)
+
+pub soon : (P : PlanRows) (p at x : ℕ) → flies P p x ≡ true → dep P x < at → departs_before P p at x ≡ true
+soon P p at x flown lt = and_from (flies P p x) (ltb (dep P x) at) flown (lt-ltb (dep P x) at lt)

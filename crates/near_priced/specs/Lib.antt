@@ -1,0 +1,4 @@
+pub mod Priced
+pub mod Tables
+pub mod Ends
+pub mod Balances

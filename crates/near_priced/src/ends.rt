@@ -1,0 +1,163 @@
+//! Where the aircraft of a move end.
+
+ghost use Rattle.std.specs.Prelude.{◌≡◌, ◌<◌, ◌≤◌, ℕ, true, false, List as Items, [], ◌∷◌, ◌++◌, length, All, IfOk};
+ghost use Rattle.std.specs.Option.{ForSome};
+ghost use Rattle.desk_data.specs.Situation.{legs_of, planes_of};
+ghost use Rattle.desk_data.specs.Valid.{IsPlanFor};
+ghost use Rattle.desk_rules.specs.Maintenance.{flies, is_flown_by};
+ghost use Rattle.plan_reads.specs.Last.{IsLastOf};
+ghost use Rattle.near_units.specs.Same.{FliesSame};
+ghost use Rattle.near_unpaid.specs.Unpaid.{is_either};
+ghost use Rattle.near_draft.specs.Drafts.{AreAllChanged, plan_of};
+ghost use Rattle.near_draft.specs.Legs.{AreLegsOf, numbers_of};
+ghost use Rattle.near_priced.specs.Ends.{ArePlaneEnds, IsPlaneEnd, IsLastAmong};
+ghost use Rattle.near_priced.specs.Tables.{ArePayments};
+
+use crate::payments::Payments;
+use desk_data::{Instance, Leg, Minute, NoMem, Plane, Row};
+use near_draft::{Draft, legs_of_plane, precedes};
+use plan_pages::Pages;
+use plan_reads::{ReadPlan, departure};
+use std::alloc::Global;
+
+/// An aircraft, its last leg before the window's end, if there is one, and the same after a move's first steps.
+#[derive(Clone, Copy)]
+pub(crate) struct PlaneEnd {
+    pub plane: Plane,
+    pub was: Option<Leg>,
+    pub is: Option<Leg>,
+}
+
+/// The aircraft of a move, one or two.
+#[derive(Clone, Copy)]
+pub(crate) struct PlaneEnds {
+    pub one: PlaneEnd,
+    pub other: Option<PlaneEnd>,
+}
+
+/// Where two aircraft end, which may be one; `None` where a leg that has another row in the draft is flown by a third,
+/// before or then. The only error is out of memory.
+pub(crate) fn ends_of(
+    alloc: Global,
+    payments: &Payments,
+    inst: &Instance,
+    plan: &Pages,
+    draft: &Draft,
+    legs: &[Leg],
+    planes: (Plane, Plane),
+) -> Result<Option<PlaneEnds>, NoMem>
+    requires plan { IsPlanFor inst.now plan.now }
+    requires payments { ArePayments inst.now plan.now payments.now }
+    requires day { draft.now.inst ≡ inst.now }
+    requires over { draft.now.rows ≡ plan.now }
+    requires legs { AreAllChanged plan.now (plan_of draft.now) (numbers_of legs.now) }
+    requires within { All (λ leg. leg.0 < legs_of inst.now) legs.now }
+    requires one { planes.0.0 < planes_of inst.now }
+    requires other { planes.1.0 < planes_of inst.now }
+    ensures { IfOk result (λ found. ForSome found (ArePlaneEnds inst.now plan.now (plan_of draft.now))) }
+{
+    if !are_of(inst, plan, draft, legs, planes) {
+        return Ok(None);
+    }
+    let one = plane_end_of(alloc, payments, inst, plan, draft, planes.0)?;
+    if planes.1.0 == planes.0.0 {
+        return Ok(Some(PlaneEnds { one, other: None }));
+    }
+    let second = plane_end_of(alloc, payments, inst, plan, draft, planes.1)?;
+    let other = Some(second);
+    Ok(Some(PlaneEnds { one, other }))
+}
+
+/// Whether legs are flown by two aircraft alone, or cancelled, in a plan and in a draft.
+fn are_of(
+    _inst: &Instance,
+    plan: &Pages,
+    draft: &Draft,
+    legs: &[Leg],
+    planes: (Plane, Plane),
+) -> bool
+    requires plan { IsPlanFor _inst.now plan.now }
+    requires day { draft.now.inst ≡ _inst.now }
+    requires legs { AreAllChanged plan.now (plan_of draft.now) (numbers_of legs.now) }
+    requires within { All (λ leg. leg.0 < legs_of _inst.now) legs.now }
+    ensures { result ≡ true → (p : ℕ) → is_either planes.0.0 planes.1.0 p ≡ false → FliesSame (plan_of draft.now) plan.now p }
+{
+    // the draft's plan is one for the day
+    let _ = draft.eval();
+    for leg in legs {
+        if !is_of(plan.read_row(*leg), planes) || !is_of(draft.read_row(*leg), planes) {
+            return false;
+        }
+    }
+    true
+}
+
+/// Whether one of two aircraft flies a row, or nobody does.
+fn is_of(row: Row, planes: (Plane, Plane)) -> bool
+    ensures { result ≡ true → (p : ℕ) → is_either planes.0.0 planes.1.0 p ≡ false → is_flown_by p row ≡ false }
+{
+    match row {
+        Row::Flown { plane, .. } => plane.0 == planes.0.0 || plane.0 == planes.1.0,
+        Row::Cancelled => true,
+    }
+}
+
+/// Where an aircraft ends.
+fn plane_end_of(
+    alloc: Global,
+    payments: &Payments,
+    inst: &Instance,
+    _plan: &Pages,
+    draft: &Draft,
+    plane: Plane,
+) -> Result<PlaneEnd, NoMem>
+    requires payments { ArePayments inst.now _plan.now payments.now }
+    requires day { draft.now.inst ≡ inst.now }
+    requires plane { plane.0 < planes_of inst.now }
+    ensures plane_end { IfOk result (IsPlaneEnd inst.now _plan.now (plan_of draft.now)) }
+    ensures plane { IfOk result (λ plane_end. plane_end.plane.0 ≡ plane.0) }
+{
+    let legs = legs_of_plane(alloc, draft, plane)?;
+    let is = last_of(inst, draft, plane, legs.as_slice());
+    let was = payments.lasts[plane.0 as usize];
+    Ok(PlaneEnd { plane, was, is })
+}
+
+/// The last leg of an aircraft in a draft that departs before the window's end, given all that it flies.
+fn last_of(inst: &Instance, draft: &Draft, plane: Plane, legs: &[Leg]) -> Option<Leg>
+    requires day { draft.now.inst ≡ inst.now }
+    requires legs { AreLegsOf inst.now (plan_of draft.now) plane.0 (numbers_of legs.now) }
+    ensures { IsLastOf (plan_of draft.now) plane.0 inst.now.parts.to.0 (legs_of inst.now) result }
+{
+    // the draft's plan is one for the day
+    let _ = draft.eval();
+    let end = inst.window().1;
+    let mut last = None;
+    for leg in legs {
+        last = later_of(draft, plane, end, last, *leg);
+    }
+    last
+}
+
+/// The later of two legs of an aircraft that depart before a moment.
+fn later_of(draft: &Draft, _plane: Plane, at: Minute, last: Option<Leg>, leg: Leg) -> Option<Leg>
+    requires leg { leg.0 < length (plan_of draft.now).rows }
+    requires last { ForSome last (λ leg. leg.0 < length (plan_of draft.now).rows) }
+    requires flown { flies (plan_of draft.now) _plane.0 leg.0 ≡ true }
+    ensures last { (legs : Items ℕ) → IsLastAmong (plan_of draft.now) _plane.0 at.0 legs last → IsLastAmong (plan_of draft.now) _plane.0 at.0 (legs ++ leg.0 ∷ []) result }
+    ensures within { ForSome result (λ leg. leg.0 < length (plan_of draft.now).rows) }
+{
+    if departure(draft, leg) >= at.0 {
+        return last;
+    }
+    match last {
+        Some(other) => {
+            if precedes(draft, other, leg) {
+                Some(leg)
+            } else {
+                last
+            }
+        }
+        None => Some(leg),
+    }
+}

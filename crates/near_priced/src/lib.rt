@@ -1,0 +1,26 @@
+//! Moves that cost at least as much more as those pay whom they touch.
+//!
+//!     let costs = reservation_costs(alloc, &inst, &plan)?;                   // of near_unpaid: what each reservation costs
+//!     let payments = Payments::of(alloc, &inst, &plan, costs.as_slice())?;
+//!     payments.rule_out(alloc, &inst, &plan, &draft, &m)?      // of a feasible plan: whether a move is known not to be better
+//!
+//! A move of legs can save at most what flying, the positions and the passengers whom it touches cost. Once its rows are
+//! drafted (near_draft) it is known what flying costs then, and where its aircraft end, so what the positions cost. Where
+//! both together cost at least as much more than before as those pay who are on a leg that gets another row, or are booked
+//! on one that is refilled, the move is not better, whatever becomes of its passengers.
+//!
+//! How much is paid on each leg, where aircraft end and how many are at hand is looked up once for a plan. Proved: what is
+//! ruled out is not better, and the law that says so, a public function with an empty body.
+#![tactic(auto)]
+
+mod balance;
+mod ends;
+mod hands;
+mod laws;
+mod left;
+mod paid;
+mod payments;
+mod rule_out;
+
+pub use laws::a_move_is_not_better_that_costs_at_least_as_much_more_as_those_pay_whom_it_touches;
+pub use payments::Payments;
