@@ -82,7 +82,7 @@ impl Evaluator {
         requires { IsPlanFor inst plan.now }
         ensures { IfOk result (λ opened. opened ≡ record { inst = inst; rows = plan.now; past = [] }) }
     {
-        let pages = Pages::of(alloc, plan)?;
+        let pages = Pages::of(alloc, plan, inst.reservations())?;
         let booked = booked_of(alloc, &inst)?;
         Evaluator::of_pages(alloc, inst, pages, booked)
     }
@@ -93,7 +93,7 @@ impl Evaluator {
         requires { IsPlanFor inst plan }
         ensures { IfOk result (λ opened. opened ≡ record { inst = inst; rows = plan; past = [] }) }
     {
-        let pages = Pages::from_plan(alloc, plan)?;
+        let pages = Pages::from_plan(alloc, plan, inst.reservations())?;
         let booked = booked_of(alloc, &inst)?;
         Evaluator::of_pages(alloc, inst, pages, booked)
     }
@@ -106,7 +106,7 @@ impl Evaluator {
         requires plan { IsPlanFor inst plan }
         ensures { IfOk result (λ opened. opened ≡ record { inst = inst; rows = plan; past = [] }) }
     {
-        let pages = Pages::from_plan(alloc, plan)?;
+        let pages = Pages::from_plan(alloc, plan, inst.reservations())?;
         let booked = self.booked.clone()?;
         Evaluator::of_pages(alloc, inst, pages, booked)
     }

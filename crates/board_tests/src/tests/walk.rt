@@ -251,7 +251,7 @@ fn start_of<B: Walkable>(alloc: Global, inst: &Instance) -> Result<Walk<B>, Fail
     ensures { IfOk result (λ walk. IsWalk B.is_board_of inst.now walk.board walk.pages walk.past.items) }
 {
     let plan = inst.schedule(alloc)?;
-    let pages = Pages::from_plan(alloc, plan)?;
+    let pages = Pages::from_plan(alloc, plan, inst.reservations())?;
     Ok(Walk {
         board: B::of(alloc, inst, &pages)?,
         pages,
