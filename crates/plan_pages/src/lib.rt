@@ -24,4 +24,4 @@ mod versions;
 
 pub use page::Page;
 pub use pages::Pages;
-pub use versions::{change_groups_of, change_row_of, put_back_in, share_version};
+pub use versions::{change_groups_of, change_row_of, drop_version, put_back_in, share_version};

@@ -2,6 +2,7 @@
 //! was, whatever was done before, and in whatever order.
 
 ghost use Rattle.std.specs.Prelude.{◌≡◌, ◌++◌, ◌∷◌, [], ◌<◌, length, slice_set, IfOk, OnOk, OnErr};
+ghost use Rattle.std.specs.List.{remove};
 ghost use Rattle.desk_data.specs.PlanRows.{IsRow, AreGroups, with_row, with_groups};
 ghost use Rattle.plan_pages.specs.Pages.{with_page, IsPageOf};
 ghost use Rattle.plan_pages.specs.Versions.{version_at};
@@ -69,4 +70,12 @@ pub fn put_back_in(versions: &mut [Pages], which: usize, page: Page)
     ensures { versions.new ≡ slice_set versions.old which (with_page (version_at versions.old which) page) }
 {
     versions[which].put_back(page);
+}
+
+/// Drops one version. All others stay, those after it one place further to the front.
+pub fn drop_version(versions: &mut Vec<Pages>, which: usize)
+    requires { which < length versions.old.items }
+    ensures { versions.new.items ≡ remove versions.old.items which }
+{
+    let _dropped = versions.remove(which);
 }
