@@ -24,4 +24,7 @@ mod versions;
 
 pub use page::Page;
 pub use pages::Pages;
-pub use versions::{change_groups_of, change_row_of, drop_version, put_back_in, share_version};
+pub use versions::{
+    a_version_stays_whatever_is_done_with_others, change_groups_of, change_row_of, drop_version,
+    put_back_in, share_version,
+};

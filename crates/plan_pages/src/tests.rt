@@ -65,3 +65,13 @@ fn each_version_shows_its_own_changes(rt: HostRuntime) -> Result<(), Fail> {
     expect_row(&third, Leg(39), Row::Cancelled)?;
     expect_row(&second, Leg(15), Row::Cancelled)
 }
+
+/// What threads can be handed, and can share.
+fn crosses_threads<T: Send + Sync>(_value: &T) {}
+
+#[test]
+fn pages_cross_threads(rt: HostRuntime) -> Result<(), Fail> {
+    let pages = cancelled(rt.alloc())?;
+    crosses_threads(&pages);
+    Ok(())
+}

@@ -1,11 +1,11 @@
 //! Laws of several plans at once, which may share pages: what is done with one of them leaves each other as it
 //! was, whatever was done before, and in whatever order.
 
-ghost use Rattle.std.specs.Prelude.{◌≡◌, ◌++◌, ◌∷◌, [], ◌<◌, length, slice_set, IfOk, OnOk, OnErr};
+ghost use Rattle.std.specs.Prelude.{◌≡◌, ℕ, ◌++◌, ◌∷◌, [], ◌<◌, List as Items, length, slice_set, IfOk, OnOk, OnErr};
 ghost use Rattle.std.specs.List.{remove};
-ghost use Rattle.desk_data.specs.PlanRows.{IsRow, AreGroups, with_row, with_groups};
+ghost use Rattle.desk_data.specs.PlanRows.{PlanRows, IsRow, AreGroups, with_row, with_groups};
 ghost use Rattle.plan_pages.specs.Pages.{with_page, IsPageOf};
-ghost use Rattle.plan_pages.specs.Versions.{version_at};
+ghost use Rattle.plan_pages.specs.Versions.{AllLeaveAlone, Doing, all_done, version_at};
 
 use crate::page::Page;
 use crate::pages::Pages;
@@ -79,3 +79,9 @@ pub fn drop_version(versions: &mut Vec<Pages>, which: usize)
 {
     let _dropped = versions.remove(which);
 }
+
+/// A version stays as it was, whatever is done with the others, and in whatever order: shared copies that are made
+/// of it or of them, and rows, groups and pages that become others.
+pub fn a_version_stays_whatever_is_done_with_others()
+    ensures { (versions : Items PlanRows) (doings : Items Doing) (k : ℕ) → k < length versions → AllLeaveAlone k doings → version_at (all_done versions doings) k ≡ version_at versions k }
+{}
