@@ -1,7 +1,8 @@
 //! Tests of several versions at once: each shows its own changes and no other's, in whatever order they are
 //! made, taken back and dropped.
 
-ghost use Rattle.std.specs.Prelude.{◌≡◌, ◌<◌, length, IfOk};
+ghost use Rattle.std.specs.Prelude.{◌≡◌, ◌<◌, length, replicate, IfOk};
+ghost use Rattle.desk_data.specs.declared.row.Row.TheVariants.{Cancelled};
 ghost use Rattle.desk_data.specs.PlanRows.{IsRow};
 
 use crate::pages::Pages;
@@ -12,11 +13,19 @@ use std::test::Fail;
 /// How many legs the plan has: three pages, the last of them short.
 const LEGS: u32 = 40;
 
+/// The rows of cancelled legs.
+fn cancelled_rows(alloc: Global) -> Result<Vec<Row>, NoMem>
+    ensures { IfOk result (λ rows. rows.items ≡ replicate 40 Cancelled) }
+{
+    let rows = vec![in alloc; Row::Cancelled; LEGS as usize]?;
+    Ok(rows)
+}
+
 /// A plan of cancelled legs, with no reservation.
 fn cancelled(alloc: Global) -> Result<Pages, NoMem>
     ensures { IfOk result (λ pages. length pages.rows ≡ 40) }
 {
-    let rows = vec![in alloc; Row::Cancelled; LEGS as usize]?;
+    let rows = cancelled_rows(alloc)?;
     let plan = Plan::of(rows, Vec::new(alloc));
     Pages::from_plan(alloc, plan, 0)
 }
