@@ -38,9 +38,9 @@ rotation_copied I P p old new same is =
     }
 
 pub fleet_copied : (I : Situation) (P : PlanRows) (old new : FleetRows) → AreCopied old.rotations new.rotations → new.positions ≡ old.positions → IsFleetOf I P old → IsFleetOf I P new
-fleet_copied I P old new same positions is = record {
+fleet_copied I P old new same alike is = record {
   planes = copied_planes old.rotations new.rotations same ∙ is.planes;
   few = is.few;
   each = λ p lt. rotation_copied I P p (rotation_at old.rotations p) (rotation_at new.rotations p) (copied_at old.rotations new.rotations p same (omega (arith, lt, is.planes))) (is.each p lt);
-  positions = subst (λ (rows : PositionRows). AreRowsOf I (at_hand I P) rows.rows) (sym positions) is.positions;
+  positions = subst (λ (rows : PositionRows). AreRowsOf I (at_hand I P) rows.rows) (sym alike) is.positions;
 }

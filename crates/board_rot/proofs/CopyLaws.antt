@@ -24,11 +24,11 @@ copied_edits (legs ∷ rest) zero = refl
 copied_edits (legs ∷ rest) (suc p) = copied_edits rest p
 
 pub copied_logged : (rotations copies : List RotationLegs) (broken : OrderedItems Broken) (edits : List Edit) → copies ≡ map without_edits rotations → length broken.items ≤ broken.room → edits ≡ [] → IsLogged copies broken edits
-copied_logged rotations copies broken edits same room none =
+copied_logged rotations copies broken edits same fits none =
     subst (IsLogged copies broken) (sym none) (record {
       each = λ p lt. ap (λ (all : List RotationLegs). (get_or all p no_rotation_legs).edits) same ∙ copied_edits rotations p;
       places = All-nil (HasPlace (length copies));
-      room = omega (arith, room);
+      room = omega (arith, fits);
     })
 
 -- a summary by its two tests, for so many aircraft, with no edit to take back

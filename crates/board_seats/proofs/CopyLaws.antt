@@ -10,8 +10,8 @@ use Rattle.board_seats.specs.declared.edit.Edit.{Edit}
 use Rattle.board_seats.specs.Kept.{Lists, HasPlace, IsLogged}
 
 pub copied_logged : (legs reservations : ℕ) (broken : OrderedItems Broken) (edits : List Edit) → length broken.items ≤ broken.room → edits ≡ [] → IsLogged legs reservations broken edits
-copied_logged legs reservations broken edits room none =
-    subst (IsLogged legs reservations broken) (sym none) (record { places = All-nil (HasPlace legs reservations); room = omega (arith, room) })
+copied_logged legs reservations broken edits fits none =
+    subst (IsLogged legs reservations broken) (sym none) (record { places = All-nil (HasPlace legs reservations); room = omega (arith, fits) })
 
 abbrev lists_by : List Seats → List PathFaults → List Broken → List (List Res) → List Edit → Lists
 lists_by taken faults broken users edits = record { taken = taken; faults = faults; broken = broken; users = users; edits = edits }
