@@ -82,6 +82,14 @@ abbrev pub is_there : Option Airport → ℕ → Bool
 is_there None airport = false
 is_there (Some there) airport = there.0 == airport
 
+-- an aircraft, whatever room it has
+abbrev pub without_room : RotationRow → RotationRow
+without_room rotation = record rotation { room = 0 }
+
+-- the same, of which no edit can be taken back
+abbrev pub as_new : RotationRow → RotationRow
+as_new rotation = record rotation { edits = 0; room = 0 }
+
 -- this is kept of aircraft p
 pub record IsRotationOf (I : Situation) (P : PlanRows) (p : ℕ) (rotation : RotationRow) : Type 0 where
   pub surface : rotation.surface ≡ (plane_at I p).surface

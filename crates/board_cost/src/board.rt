@@ -73,6 +73,19 @@ impl CostBoard {
         })
     }
 
+    /// A board of the same plan, with an empty past. What is kept is copied as it stands: no cost is worked out
+    /// anew, and no row of the plan is read. The only error is out of memory.
+    pub fn copy(&self, alloc: Global) -> Result<CostBoard, NoMem>
+        ensures { IfOk result (λ copy. IsForgotten IsBoardOf self.now copy) }
+    {
+        let fleet = self.fleet.copy(alloc)?;
+        Ok(CostBoard {
+            total: self.total,
+            fleet,
+            past: Vec::new(alloc),
+        })
+    }
+
     /// What the plan costs. It takes no walk.
     pub fn cost(&self) -> Grains
         ensures { (I : Situation) (P : PlanRows) (Ps : Items PlanRows) → IsBoardOf I P Ps self.now → result ≡ grains (cost I P) }

@@ -1,6 +1,6 @@
 //! Broken items in their order.
 
-ghost use Rattle.std.specs.Prelude.{◌≡◌, ◌+◌, ◌<◌, ◌≤◌, Bool, List as Items, [], find, length, OnOk, IsTrue, ◌↔◌};
+ghost use Rattle.std.specs.Prelude.{◌≡◌, ◌+◌, ◌<◌, ◌≤◌, Bool, List as Items, [], find, length, IfOk, OnOk, IsTrue, ◌↔◌};
 ghost use Rattle.std.specs.List.{AllPairs, Contains, HoldsAt};
 ghost use Rattle.desk_data.specs.declared.broken.Broken.{Broken as Item};
 ghost use Rattle.desk_rules.specs.Order.{ComesBefore};
@@ -41,6 +41,15 @@ impl BrokenItems {
         BrokenItems {
             keys: KeptSet::new(alloc),
         }
+    }
+
+    /// The same items, with room for these. The only error is out of memory.
+    pub fn copy(&self, alloc: Global) -> Result<BrokenItems, NoMem>
+        ensures items { IfOk result (λ copy. copy.items ≡ self.now.items) }
+        ensures room { IfOk result (λ copy. length copy.items ≤ copy.room) }
+    {
+        let keys = self.keys.copy(alloc)?;
+        Ok(BrokenItems { keys })
     }
 
     /// Makes room for so many items more than there are. The only error is out of memory; the items

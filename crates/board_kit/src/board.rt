@@ -1,6 +1,6 @@
 //! What a board of a plan is.
 
-ghost use Rattle.std.specs.Prelude.{◌+◌, ◌<◌, ◌≤◌, List as Items, OnOk, OnErr};
+ghost use Rattle.std.specs.Prelude.{◌+◌, ◌<◌, ◌≤◌, List as Items, IfOk, OnOk, OnErr};
 ghost use Rattle.desk_data.specs.PlanRows.{PlanRows, AreGroups, with_row, with_groups};
 ghost use Rattle.desk_data.specs.Situation.{Situation, legs_of, planes_of, reservations_of, res_at};
 ghost use Rattle.desk_data.specs.Valid.{AreGroupsOf, IsPlanFor, IsRowOf};
@@ -13,7 +13,7 @@ use std::sync::ledger::Ledger;
 
 /// What is kept of a plan while it changes place by place, with its past, so that changes are taken back.
 /// It holds neither the instance nor the plan: contracts say of which it is the board.
-pub trait Board {
+pub trait Board: Drop {
     ghost use Rattle.std.specs.Prelude.{ℕ, List as Items};
     ghost use Rattle.desk_data.specs.declared.row.Group.{Group};
     ghost use Rattle.desk_data.specs.PlanRows.{PlanRows};
@@ -27,6 +27,12 @@ pub trait Board {
 
     /// How many a change of a reservation's groups reads at most.
     ghost group_reads: { PlanRows → ℕ → Items Group → ℕ };
+
+    /// A board of the same plan, with an empty past. What is kept is copied as it stands: nothing is judged or
+    /// worked out anew, and no row of the plan is read. The board itself stays as it is. The only error is out
+    /// of memory.
+    fn copy(&self, alloc: Global) -> Result<Self, NoMem>
+        ensures { IfOk result (λ copy. IsForgotten is_board_of self.now copy) };
 
     /// How many changes can be taken back: the length of the past, at most 2,000,000,000.
     fn depth(&self) -> u32

@@ -35,6 +35,13 @@ impl<A: Board, B: Board> Board for Both<A, B> {
     /// The rows that both read.
     ghost group_reads = { λ P r groups. A.group_reads P r groups + B.group_reads P r groups };
 
+    /// Copies both.
+    fn copy(&self, alloc: Global) -> Result<Both<A, B>, NoMem> {
+        let first = self.first.copy(alloc)?;
+        let second = self.second.copy(alloc)?;
+        Ok(Both { first, second })
+    }
+
     /// The length of the past, which is one for both.
     fn depth(&self) -> u32 {
         self.first.depth()

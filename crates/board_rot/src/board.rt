@@ -98,6 +98,15 @@ impl Board for RotBoard {
     /// Groups change no rotation.
     ghost group_reads = { λ P r groups. 0 };
 
+    /// Copies the rotations and what is broken, and no edit of the log.
+    fn copy(&self, alloc: Global) -> Result<RotBoard, NoMem> {
+        let log = self.log.copy(alloc)?;
+        Ok(RotBoard {
+            log,
+            savepoints: Vec::new(alloc),
+        })
+    }
+
     /// The length of the past.
     fn depth(&self) -> u32 {
         self.savepoints.len() as u32

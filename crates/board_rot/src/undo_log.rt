@@ -1,9 +1,9 @@
 //! A summary, and the log of its edits.
 
-ghost use Rattle.std.specs.Prelude.{◌≡◌, ◌+◌, ◌-◌, ◌<◌, ◌≤◌, [], length, if◌then◌else◌, replicate, slice_index_or, ℕ, OnOk, OnErr, IfOk, IfSome, IsNone};
+ghost use Rattle.std.specs.Prelude.{◌≡◌, ◌+◌, ◌-◌, ◌<◌, ◌≤◌, [], length, if◌then◌else◌, map, replicate, slice_index_or, ℕ, OnOk, OnErr, IfOk, IfSome, IsNone};
 ghost use Rattle.board_rot.specs.declared.edit.Edit.TheVariants.{OfLeg, OfItem};
 ghost use Rattle.board_rot.specs.Summaries.{LedTo, blank, with_edit, back_to, same_item, turned, marked};
-ghost use Rattle.board_rot.specs.Kept.{seen, has_rotation_leg, has_item, no_rotation_legs};
+ghost use Rattle.board_rot.specs.Kept.{seen, has_rotation_leg, has_item, no_rotation_legs, without_edits};
 ghost use Rattle.board_rot.specs.Meaning.{AreInOrder, IsLeftOf, IsRightOf, summary_of};
 ghost use Rattle.board_rot.specs.Changes.{IsMoved};
 ghost use Rattle.desk_data.specs.Situation.{Situation};
@@ -57,6 +57,19 @@ impl UndoLog {
         Ok(UndoLog {
             rotations,
             broken: BrokenItems::new(alloc),
+            edits: Vec::new(alloc),
+        })
+    }
+
+    /// The same summary, of which no edit can be taken back. The only error is out of memory.
+    pub(crate) fn copy(&self, alloc: Global) -> Result<UndoLog, NoMem>
+        ensures { IfOk result (λ copy. seen copy ≡ record (seen self.now) { edits = [] }) }
+    {
+        let rotations = copied_rotations(alloc, self.rotations.as_slice())?;
+        let broken = self.broken.copy(alloc)?;
+        Ok(UndoLog {
+            rotations,
+            broken,
             edits: Vec::new(alloc),
         })
     }
@@ -215,6 +228,17 @@ fn forget_all(rotations: &mut Vec<Rotation>)
     for p in 0..rotations.len() {
         rotations[p].forget();
     }
+}
+
+/// The same rotation legs of each aircraft, of which no edit can be taken back.
+fn copied_rotations(alloc: Global, rotations: &[Rotation]) -> Result<Vec<Rotation>, NoMem>
+    ensures { IfOk result (λ copies. copies.items ≡ map without_edits rotations.now) }
+{
+    let mut copies = Vec::with_capacity(alloc, rotations.len())?;
+    for rotation in rotations {
+        copies.push(rotation.copy(alloc)?)?;
+    }
+    Ok(copies)
 }
 
 /// So many aircraft that fly nothing.

@@ -126,6 +126,15 @@ impl Board for SeatBoard {
     /// A change of groups reads at most 8 rows for each group, before and after.
     ghost group_reads = { λ P r groups. 8 * (length (groups_at P r) + length groups) };
 
+    /// Copies the lists of the summary, and no edit of the log.
+    fn copy(&self, alloc: Global) -> Result<SeatBoard, NoMem> {
+        let log = self.log.copy(alloc)?;
+        Ok(SeatBoard {
+            log,
+            savepoints: Vec::new(alloc),
+        })
+    }
+
     /// The length of the past.
     fn depth(&self) -> u32 {
         self.savepoints.len() as u32

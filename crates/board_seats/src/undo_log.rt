@@ -80,6 +80,23 @@ impl UndoLog {
         })
     }
 
+    /// The same summary, of which no edit can be taken back. The only error is out of memory.
+    pub(crate) fn copy(&self, alloc: Global) -> Result<UndoLog, NoMem>
+        ensures { IfOk result (λ copy. copy ≡ record self.now { edits = [] }) }
+    {
+        let taken = Vec::from_slice(alloc, self.taken.as_slice())?;
+        let faults = Vec::from_slice(alloc, self.faults.as_slice())?;
+        let broken = self.broken.copy(alloc)?;
+        let users = self.users.copy(alloc)?;
+        Ok(UndoLog {
+            taken,
+            faults,
+            broken,
+            users,
+            edits: Vec::new(alloc),
+        })
+    }
+
     /// The first item in the order in which they are reported.
     pub(crate) fn first(&self) -> Option<Broken>
         ensures { (test : Item → Bool) (all : Items Item) → AllPairs ComesBefore all → AreThose test all self.now.broken → result ≡ find test all }

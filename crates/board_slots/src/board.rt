@@ -158,6 +158,15 @@ impl Board for SlotBoard {
     /// Groups change no hour.
     ghost group_reads = { λ P r groups. 0 };
 
+    /// Copies the counts, and no change of the past.
+    fn copy(&self, alloc: Global) -> Result<SlotBoard, NoMem> {
+        let loads = self.loads.copy(alloc)?;
+        Ok(SlotBoard {
+            loads,
+            past: Vec::new(alloc),
+        })
+    }
+
     /// The length of the past.
     fn depth(&self) -> u32 {
         self.past.len() as u32

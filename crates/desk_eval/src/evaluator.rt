@@ -74,6 +74,7 @@ impl Evaluator {
     ghost use Rattle.desk_eval.specs.Asked.{keeps_paths};
     ghost use Rattle.leg_users.specs.Users.{is_booked_on};
     ghost use Rattle.day_notes.specs.Notes.{AreNotes};
+    ghost use Rattle.desk_eval.specs.Boards.{AreBoardsOf};
     ghost use Rattle.desk_eval.specs.Evaluated.{after_change, row_reads, group_reads};
 
     /// The evaluator of a plan, with an empty past. The plan is one for the instance. The only error is
@@ -82,7 +83,7 @@ impl Evaluator {
         requires { IsPlanFor inst plan.now }
         ensures { IfOk result (λ opened. opened ≡ record { inst = inst; rows = plan.now; past = [] }) }
     {
-        let pages = Pages::of(alloc, plan)?;
+        let pages = Pages::of(alloc, plan, inst.reservations())?;
         let booked = booked_of(alloc, &inst)?;
         Evaluator::of_pages(alloc, inst, pages, booked)
     }
@@ -93,7 +94,7 @@ impl Evaluator {
         requires { IsPlanFor inst plan }
         ensures { IfOk result (λ opened. opened ≡ record { inst = inst; rows = plan; past = [] }) }
     {
-        let pages = Pages::from_plan(alloc, plan)?;
+        let pages = Pages::from_plan(alloc, plan, inst.reservations())?;
         let booked = booked_of(alloc, &inst)?;
         Evaluator::of_pages(alloc, inst, pages, booked)
     }
@@ -106,7 +107,7 @@ impl Evaluator {
         requires plan { IsPlanFor inst plan }
         ensures { IfOk result (λ opened. opened ≡ record { inst = inst; rows = plan; past = [] }) }
     {
-        let pages = Pages::from_plan(alloc, plan)?;
+        let pages = Pages::from_plan(alloc, plan, inst.reservations())?;
         let booked = self.booked.clone()?;
         Evaluator::of_pages(alloc, inst, pages, booked)
     }
@@ -123,14 +124,29 @@ impl Evaluator {
         ensures { IfOk result (λ opened. opened ≡ record { inst = inst; rows = pages; past = [] }) }
     {
         let boards = Boards::open(alloc, &inst, &pages)?;
-        let past = Vec::new(alloc);
-        Ok(Evaluator {
+        Ok(Evaluator::of_boards(alloc, inst, pages, boards, booked))
+    }
+
+    /// The evaluator of the plan of these pages, with an empty past, given its boards and who is booked on each leg.
+    fn of_boards(
+        alloc: Global,
+        inst: Instance,
+        pages: Pages,
+        boards: Boards,
+        booked: Arc<LegUsers>,
+    ) -> Evaluator
+        requires plan { IsPlanFor inst pages }
+        requires boards { AreBoardsOf inst pages [] boards.all }
+        requires booked { AreBooked inst (arc_value booked) }
+        ensures { result ≡ record { inst = inst; rows = pages; past = [] } }
+    {
+        Evaluator {
             inst: NotedDay::of(inst),
             pages,
             boards,
             booked,
-            past,
-        })
+            past: Vec::new(alloc),
+        }
     }
 
     /// The instance, which no change of the plan touches.
@@ -242,14 +258,17 @@ impl Evaluator {
         Ok(had)
     }
 
-    /// An evaluator of the same instance and plan, with an empty past. The only error is out of memory.
+    /// An evaluator of the same instance and plan, with an empty past. The pages of the plan are shared and the
+    /// boards are copied as they stand, so that nothing is judged and no row is read. The only error is out of
+    /// memory.
     pub fn copy(&self, alloc: Global) -> Result<Evaluator, NoMem>
         ensures { IfOk result (λ copy. copy ≡ record self.now { past = [] }) }
     {
         let inst = self.inst.instance().copy()?;
         let pages = self.pages.share(alloc)?;
+        let boards = self.boards.copy(alloc)?;
         let booked = self.booked.clone()?;
-        Evaluator::of_pages(alloc, inst, pages, booked)
+        Ok(Evaluator::of_boards(alloc, inst, pages, boards, booked))
     }
 
     /// Takes the last change back: the plan and the past are those from before it. The past is not

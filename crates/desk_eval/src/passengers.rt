@@ -41,6 +41,13 @@ impl Board for PassengerBoards {
     /// The rows that both read.
     ghost group_reads = { λ P r groups. 18 * (length (groups_at P r) + length groups) };
 
+    /// Copies both.
+    fn copy(&self, alloc: Global) -> Result<PassengerBoards, NoMem> {
+        let seats = self.seats.copy(alloc)?;
+        let cost = self.cost.copy(alloc)?;
+        Ok(PassengerBoards { seats, cost })
+    }
+
     /// The length of the past, which is one for both.
     fn depth(&self) -> u32 {
         self.seats.depth()

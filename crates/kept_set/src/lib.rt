@@ -8,6 +8,7 @@
 //!     set.replace(3, 5);                     // it stands between its neighbours still, so nothing moves
 //!     set.toggle(7);                         // it goes where it is in, and else comes
 //!     set.take(5);
+//!     let same = set.copy(alloc)?;           // the items as they stand
 //!
 //! The items stand in one vector in their order: to look one up takes a few comparisons, and to put one in
 //! or to take one out moves those after it. Whoever has to be able to put back what was taken out keeps

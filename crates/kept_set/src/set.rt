@@ -41,6 +41,16 @@ impl<K: Ord + Copy> KeptSet<K> {
         }
     }
 
+    /// The same items, with room for these. None is looked up or compared: they are copied as they stand. The
+    /// only error is out of memory.
+    pub fn copy(&self, alloc: Global) -> Result<KeptSet<K>, AllocError>
+        ensures items { IfOk result (λ copy. copy.items ≡ self.now.items) }
+        ensures room { IfOk result (λ copy. length copy.items ≤ copy.room) }
+    {
+        let items = Vec::from_slice(alloc, self.items.as_slice())?;
+        Ok(KeptSet { items })
+    }
+
     /// The items, in their order.
     pub fn items(&self) -> &[K]
         ensures items { result.now ≡ self.now.items }

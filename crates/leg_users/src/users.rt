@@ -61,6 +61,17 @@ impl LegUsers {
         Ok(users)
     }
 
+    /// The same reservations for each leg. None is looked for in a path. The only error is out of memory.
+    pub fn copy(&self, alloc: Global) -> Result<LegUsers, NoMem>
+        ensures { IfOk result (λ copy. copy ≡ self.now) }
+    {
+        let mut legs = Vec::with_capacity(alloc, self.legs.len())?;
+        for kept in &self.legs {
+            legs.push(kept.copy(alloc)?)?;
+        }
+        Ok(LegUsers { legs })
+    }
+
     /// The reservations that are kept for a leg, ascending by number, each once. Those that use it in
     /// the plan are among them.
     pub fn users(&self, leg: Leg) -> &[Res]

@@ -1,20 +1,73 @@
--- What was replaced can be put back.
-use Rattle.std.proofs.Common.{◌≡◌, ℕ, List, [], ap, ◌∙◌}
-use Rattle.std.proofs.lemmas.List.{set-get_or, set-set}
+-- What pages keep of a plan, where a page is made anew or put back.
+use Rattle.std.proofs.Common.{◌≡◌, ◌≢◌, ℕ, ◌+◌, ◌*◌, ◌<◌, ◌≤◌, List, [], ◌∷◌, ◌++◌, length, get_or, set, take, drop, sym, subst, ◌∙◌, ap, arith, length-append}
+use Rattle.std.specs.List.{All}
+use Rattle.std.proofs.lemmas.List.{get_or-append-add, get_or_append_left, get_or-set_other, length-set, take_more}
+use Rattle.std.proofs.lemmas.List.Elements.{All-append, All-take, All-drop, All-set}
 use Rattle.desk_data.specs.declared.row.Row.{Row}
-use Rattle.desk_data.specs.declared.row.Row.TheVariants.{Cancelled}
 use Rattle.desk_data.specs.declared.row.Group.{Group}
-use Rattle.desk_data.specs.PlanRows.{PlanRows, row_at, groups_at, with_row, with_groups}
+use Rattle.desk_data.specs.PlanRows.{PlanRows, IsRow, AreGroups, IsSound, with_row, with_groups}
+use Rattle.paged_list.specs.Pages.{PageItems, with_page}
 
--- a plan by other rows, and by other groups
-abbrev by_rows : PlanRows → List Row → PlanRows
-by_rows P rows = record P { rows = rows }
+-- a list with a page in its place: what is true of both is true of it
+all_with_page : {X : Type 0} (P : X → Type 0) (xs : List X) (page : PageItems X) → All P xs → All P page.items → All P (with_page xs page)
+all_with_page P xs page all on_page =
+    All-append P (take (page.number * 16) xs ++ page.items) (drop (page.number * 16 + length page.items) xs)
+    (All-append P (take (page.number * 16) xs) page.items (All-take P (page.number * 16) xs all) on_page)
+    (All-drop P (page.number * 16 + length page.items) xs all)
 
-abbrev by_groups : PlanRows → List (List Group) → PlanRows
-by_groups P groups = record P { groups = groups }
+-- and the other way round
+all_between : {X : Type 0} (P : X → Type 0) (front items back : List X) → All P ((front ++ items) ++ back) → All P items
+all_between P front items back all k d lt =
+    let within : length front + k < length (front ++ items) = omega (arith, lt, length-append front items) in
+    let is : get_or ((front ++ items) ++ back) (length front + k) d ≡ get_or items k d =
+    get_or_append_left (front ++ items) back d (length front + k) within ∙ get_or-append-add front items k d in
+    subst P is (all (length front + k) d (omega (arith, within, length-append (front ++ items) back)))
 
-pub with_row-back : (P : PlanRows) (x : ℕ) (row : Row) → with_row (with_row P x row) x (row_at P x) ≡ P
-with_row-back P x row = ap (by_rows P) (set-set P.rows x row (row_at P x) ∙ set-get_or P.rows x Cancelled)
+pub all_on_page : {X : Type 0} (P : X → Type 0) (new old : List X) (page : PageItems X) → with_page new page ≡ old → All P old → All P page.items
+all_on_page {X = X} P new old page back all =
+    all_between P (take (page.number * 16) new) page.items (drop (page.number * 16 + length page.items) new)
+    (subst (λ (xs : List X). All P xs) (sym back) all)
 
-pub with_groups-back : (P : PlanRows) (r : ℕ) (groups : List Group) → with_groups (with_groups P r groups) r (groups_at P r) ≡ P
-with_groups-back P r groups = ap (by_groups P) (set-set P.groups r groups (groups_at P r) ∙ set-get_or P.groups r [])
+-- a sound plan stays sound
+pub row_sound : (P : PlanRows) (rows : List Row) (x : ℕ) (row : Row) → IsSound P → rows ≡ set P.rows x row → IsRow row → IsSound (record P { rows = rows })
+row_sound P rows x row sound is fits = record {
+  rows = subst (λ (all : List Row). All IsRow all) (sym is) (All-set IsRow P.rows x row fits sound.rows);
+  groups = sound.groups;
+}
+
+pub groups_sound : (P : PlanRows) (groups : List (List Group)) (r : ℕ) (others : List Group) → IsSound P → groups ≡ set P.groups r others → AreGroups others → IsSound (record P { groups = groups })
+groups_sound P groups r others sound is fits = record {
+  rows = sound.rows;
+  groups = subst (λ (all : List (List Group)). All AreGroups all) (sym is) (All-set AreGroups P.groups r others fits sound.groups);
+}
+
+pub rows_back_sound : (P : PlanRows) (rows : List Row) (page : PageItems Row) → IsSound P → rows ≡ with_page P.rows page → All IsRow page.items → IsSound (record P { rows = rows })
+rows_back_sound P rows page sound is on_page = record {
+  rows = subst (λ (all : List Row). All IsRow all) (sym is) (all_with_page IsRow P.rows page sound.rows on_page);
+  groups = sound.groups;
+}
+
+pub groups_back_sound : (P : PlanRows) (groups : List (List Group)) (page : PageItems (List Group)) → IsSound P → groups ≡ with_page P.groups page → All AreGroups page.items → IsSound (record P { groups = groups })
+groups_back_sound P groups page sound is on_page = record {
+  rows = sound.rows;
+  groups = subst (λ (all : List (List Group)). All AreGroups all) (sym is) (all_with_page AreGroups P.groups page sound.groups on_page);
+}
+
+-- groups that are taken out of a plan one after the other: those that are left, and those that were taken
+pub record AreTaken (whole left : List (List Group)) (taken : List (List Group)) (r : ℕ) : Type 0 where
+  pub long : length left ≡ length whole
+  pub rest : (k : ℕ) → r ≤ k → get_or left k [] ≡ get_or whole k []
+  pub gone : taken ≡ take r whole
+
+pub one_taken : (whole left now taken more : List (List Group)) (groups shared : List Group) (r : ℕ) → AreTaken whole left taken r → r < length whole → groups ≡ get_or left r [] → now ≡ set left r [] → shared ≡ groups → more ≡ taken ++ shared ∷ [] → AreTaken whole now more (r + 1)
+one_taken whole left now taken more groups shared r so_far lt of_groups of_now of_shared of_more = record {
+  long = ap length of_now ∙ length-set left r [] ∙ so_far.long;
+  rest = λ k above.
+      ap (λ (all : List (List Group)). get_or all k []) of_now
+      ∙ get_or-set_other left r k [] [] (omega (arith, above))
+      ∙ so_far.rest k (omega (arith, above));
+  gone = of_more
+      ∙ ap (λ (all : List (List Group)). all ++ shared ∷ []) so_far.gone
+      ∙ ap (λ (one : List Group). take r whole ++ one ∷ []) (of_shared ∙ of_groups ∙ so_far.rest r (omega arith))
+      ∙ sym (take_more whole r [] lt);
+}

@@ -1,17 +1,18 @@
 //! One page of a plan.
 
-use desk_data::{Group, Leg, List, Res, Row};
+use desk_data::{Group, Row};
+use paged_list::SharedItems;
 
-/// A page of a plan as it stood before a change: `Pages::put_back` puts it back. Now it has the row of one
-/// leg, or the groups of one reservation.
+/// A page of a plan as it stood before a change: `Pages::put_back` puts it back. It has the rows of some legs,
+/// one after the other, or the groups of some reservations.
 #[derive(Drop)]
 pub struct Page {
     pub(crate) what: What,
 }
 
-/// What stood on a page, and where.
+/// What stood on a page, and which page it is.
 #[derive(Drop)]
 pub(crate) enum What {
-    Row { leg: Leg, row: Row },
-    Groups { res: Res, groups: List<Group> },
+    Rows(paged_list::Page<Row>),
+    Groups(paged_list::Page<SharedItems<Group>>),
 }

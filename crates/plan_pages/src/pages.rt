@@ -1,61 +1,76 @@
 //! Pages: a plan that can be shared.
 
-ghost use Rattle.std.specs.Prelude.{◌≡◌, ◌+◌, ◌<◌, length, IfOk, OnOk, OnErr};
+ghost use Rattle.std.specs.Prelude.{◌≡◌, ◌+◌, ◌<◌, [], map, length, IfOk, OnOk, OnErr};
 ghost use Rattle.desk_data.specs.PlanRows.{IsRow, AreGroups, IsSound, row_at, groups_at, with_row, with_groups};
 ghost use Rattle.plan_pages.specs.Pages.{with_page, IsPageOf};
 
 use crate::page::{Page, What};
-use desk_data::{Group, Leg, List, NoMem, Plan, Res, Row, Steps};
+use desk_data::{Group, Leg, NoMem, Plan, Res, Row, Steps};
+use paged_list::{PagedList, SharedItems};
 use plan_reads::ReadPlan;
 use std::alloc::Global;
 use std::marker::Model;
 use std::sync::ledger::Ledger;
 
-/// A plan whose pages can be shared. Contracts see it as its rows and its groups, as a `Plan`. A
-/// change of one of two that share pages leaves the other as it was. Now it holds one plan, and to
-/// share is to copy.
+/// A plan whose pages can be shared. Contracts see it as its rows and its groups, as a `Plan`. Pages that are
+/// shared are in memory once; a change of one of two plans that share a page leaves the other as it was, since
+/// it makes the page anew.
 #[derive(Drop)]
 pub struct Pages {
-    plan: Plan,
+    rows: PagedList<Row>,
+    /// The groups of each reservation, which a page points to: to make a page anew copies no group.
+    groups: PagedList<SharedItems<Group>>,
 }
 
 impl Model for Pages {
-    ghost use Rattle.desk_data.specs.PlanRows.{PlanRows};
+    ghost use Rattle.desk_data.specs.PlanRows.{PlanRows, IsSound};
 
     ghost Value = { PlanRows };
 
-    ghost view = { λ p. p.plan };
+    ghost view = { λ p. record { rows = p.rows; groups = p.groups } };
+
+    ghost invariant = { λ p. IsSound (record { rows = p.rows; groups = p.groups }) };
 }
 
 impl Pages {
-    /// The pages of an equal plan. The only error is out of memory.
-    pub fn of(alloc: Global, plan: &Plan) -> Result<Pages, NoMem>
+    /// The pages of an equal plan, which has groups for so many reservations. The only error is out of memory.
+    pub fn of(alloc: Global, plan: &Plan, reservations: u32) -> Result<Pages, NoMem>
+        requires { reservations ≡ length plan.now.groups }
         ensures { IfOk result (λ pages. pages ≡ plan.now) }
     {
-        let plan = plan.copy(alloc)?;
-        Ok(Pages { plan })
+        Pages::from_plan(alloc, plan.copy(alloc)?, reservations)
     }
 
-    /// The pages of a plan that is handed in, and not copied. The only error is out of memory.
-    pub fn from_plan(_alloc: Global, plan: Plan) -> Result<Pages, NoMem>
+    /// The pages of a plan that is handed in, and whose groups are not copied: it has groups for so many
+    /// reservations. The only error is out of memory.
+    pub fn from_plan(alloc: Global, plan: Plan, reservations: u32) -> Result<Pages, NoMem>
+        requires { reservations ≡ length plan.groups }
         ensures { IfOk result (λ pages. pages ≡ plan) }
     {
-        Ok(Pages { plan })
+        let rows = PagedList::of(alloc, plan.rows())?;
+        let groups = shared_groups(alloc, plan, reservations)?;
+        let groups = PagedList::of(alloc, groups.as_slice())?;
+        Ok(Pages { rows, groups })
     }
 
-    /// Equal pages, which may be the same ones in memory. The only error is out of memory.
+    /// Equal pages, which are the same ones in memory. No row and no group is copied. The only error is out of
+    /// memory.
     pub fn share(&self, alloc: Global) -> Result<Pages, NoMem>
         ensures { IfOk result (λ shared. shared ≡ self.now) }
     {
-        let plan = self.plan.copy(alloc)?;
-        Ok(Pages { plan })
+        let rows = self.rows.share(alloc)?;
+        let groups = self.groups.share(alloc)?;
+        Ok(Pages { rows, groups })
     }
 
     /// An equal plan. The only error is out of memory.
     pub fn to_plan(&self, alloc: Global) -> Result<Plan, NoMem>
         ensures { IfOk result (λ plan. plan ≡ self.now) }
     {
-        self.plan.copy(alloc)
+        let rows = self.rows.to_vec(alloc)?;
+        let shared = self.groups.to_vec(alloc)?;
+        let groups = copied_groups(alloc, shared.as_slice())?;
+        Ok(Plan::of(rows, groups))
     }
 
     /// The row of a leg. Counts one step.
@@ -65,7 +80,8 @@ impl Pages {
         ensures departs { IsRow result }
         ensures steps { steps.new ≡ steps.old + 1 }
     {
-        self.plan.row(leg, steps)
+        steps.tick();
+        self.read_row(leg)
     }
 
     /// The row of a leg, for code that counts no steps.
@@ -74,7 +90,7 @@ impl Pages {
         ensures row { result ≡ row_at self.now leg.0 }
         ensures departs { IsRow result }
     {
-        self.plan.read_row(leg)
+        *self.rows.at(leg.0)
     }
 
     /// The groups of a reservation, ascending by path.
@@ -83,13 +99,13 @@ impl Pages {
         ensures groups { result.now ≡ groups_at self.now res.0 }
         ensures sound { AreGroups result.now }
     {
-        self.plan.groups(res)
+        self.groups.at(res.0).as_slice()
     }
 
     /// Gives a leg another row, and hands out what stood, for `put_back`. All else stays. The only error is out
     /// of memory, and after it nothing has changed.
     #[tactic(auto, unfolding(crate::specs::Pages::with_page, crate::specs::Pages::IsPageOf))]
-    pub fn replace_row(&mut self, _alloc: Global, leg: Leg, row: Row) -> Result<Page, NoMem>
+    pub fn replace_row(&mut self, alloc: Global, leg: Leg, row: Row) -> Result<Page, NoMem>
         requires leg { leg.0 < length self.old.rows }
         requires row { IsRow row }
         ensures ok { OnOk result (self.new ≡ with_row self.old leg.0 row) }
@@ -97,10 +113,9 @@ impl Pages {
         ensures place { IfOk result (λ page. IsPageOf self.new page) }
         ensures err { OnErr result (self.new ≡ self.old) }
     {
-        let had = self.plan.read_row(leg);
-        self.plan.put_row(leg, row);
+        let page = self.rows.replace(alloc, leg.0, row)?;
         Ok(Page {
-            what: What::Row { leg, row: had },
+            what: What::Rows(page),
         })
     }
 
@@ -109,7 +124,7 @@ impl Pages {
     #[tactic(auto, unfolding(crate::specs::Pages::with_page, crate::specs::Pages::IsPageOf))]
     pub fn replace_groups(
         &mut self,
-        _alloc: Global,
+        alloc: Global,
         res: Res,
         groups: Vec<Group>,
     ) -> Result<Page, NoMem>
@@ -120,13 +135,10 @@ impl Pages {
         ensures place { IfOk result (λ page. IsPageOf self.new page) }
         ensures err { OnErr result (self.new ≡ self.old) }
     {
-        let mut had = groups;
-        self.plan.swap_groups(res, &mut had);
+        let groups = SharedItems::of(alloc, groups)?;
+        let page = self.groups.replace(alloc, res.0, groups)?;
         Ok(Page {
-            what: What::Groups {
-                res,
-                groups: List(had),
-            },
+            what: What::Groups(page),
         })
     }
 
@@ -137,8 +149,8 @@ impl Pages {
         ensures { self.new ≡ with_page self.old page }
     {
         match page.what {
-            What::Row { leg, row } => self.plan.put_row(leg, row),
-            What::Groups { res, groups } => self.plan.put_groups(res, groups.0),
+            What::Rows(page) => self.rows.put_back(page),
+            What::Groups(page) => self.groups.put_back(page),
         }
     }
 }
@@ -153,4 +165,58 @@ impl ReadPlan for Pages {
     fn groups(&self, res: Res) -> &[Group] {
         Pages::groups(self, res)
     }
+}
+
+/// The groups of a plan, of so many reservations, which can be shared from now on. None is copied.
+fn shared_groups(
+    alloc: Global,
+    plan: Plan,
+    reservations: u32,
+) -> Result<Vec<SharedItems<Group>>, NoMem>
+    requires { reservations ≡ length plan.groups }
+    ensures { IfOk result (λ shared. shared.items ≡ plan.groups) }
+{
+    let mut left = plan;
+    let mut shared = Vec::with_capacity(alloc, reservations as usize)?;
+    for r in 0..reservations {
+        let groups = taken_groups(alloc, &mut left, Res(r));
+        shared.push(SharedItems::of(alloc, groups)?)?;
+    }
+    Ok(shared)
+}
+
+/// The groups of a reservation, which are taken out of a plan; none are left in their place.
+fn taken_groups(alloc: Global, plan: &mut Plan, res: Res) -> Vec<Group>
+    requires { res.0 < length plan.old.groups }
+    ensures taken { result.items ≡ groups_at plan.old res.0 }
+    ensures left { plan.new ≡ with_groups plan.old res.0 [] }
+{
+    let mut groups = Vec::new(alloc);
+    plan.swap_groups(res, &mut groups);
+    groups
+}
+
+/// Equal groups, of each reservation.
+fn copied_groups(alloc: Global, shared: &[SharedItems<Group>]) -> Result<Vec<Vec<Group>>, NoMem>
+    ensures { IfOk result (λ copies. map (λ copy. copy.items) copies.items ≡ shared.now) }
+{
+    let mut copies = Vec::with_capacity(alloc, shared.len())?;
+    for groups in shared {
+        copies.push(copy_of(alloc, groups.as_slice())?)?;
+    }
+    Ok(copies)
+}
+
+/// Equal groups.
+fn copy_of(alloc: Global, groups: &[Group]) -> Result<Vec<Group>, NoMem>
+    ensures { IfOk result (λ copy. copy.items ≡ groups.now) }
+{
+    let mut copy = Vec::with_capacity(alloc, groups.len())?;
+    for group in groups {
+        copy.push(Group {
+            count: group.count,
+            path: group.path.copy(alloc)?,
+        })?;
+    }
+    Ok(copy)
 }

@@ -40,6 +40,12 @@ impl Board for LentCostBoard {
     /// The rows that the board reads.
     ghost group_reads = { λ P r groups. 10 * (length (groups_at P r) + length groups) };
 
+    /// Copies the board of the cost; the copy can take no change back.
+    fn copy(&self, alloc: Global) -> Result<LentCostBoard, NoMem> {
+        let cost = self.cost.copy(alloc)?;
+        Ok(LentCostBoard { cost, changes: 0 })
+    }
+
     /// How many changes can be taken back.
     fn depth(&self) -> u32 {
         self.changes.min(2_000_000_000)

@@ -22,7 +22,7 @@ use std::test::Fail;
 pub(super) const STEPS: u32 = 500;
 
 /// A board that can be walked: what it says is compared with what the rules or the prices say from scratch.
-pub(super) trait Walkable: Board + Drop {
+pub(super) trait Walkable: Board {
     ghost use Rattle.std.specs.Prelude.{[], IfOk};
     ghost use Rattle.desk_data.specs.Valid.{IsPlanFor};
 
@@ -190,8 +190,25 @@ fn forget<B: Walkable>(inst: &Instance, walk: &mut Walk<B>)
     walk.past.clear();
 }
 
+/// Goes on with a copy of the board, whose past is empty. The board itself is given up.
+fn go_on_with_copy<B: Walkable>(
+    alloc: Global,
+    inst: &Instance,
+    walk: &mut Walk<B>,
+) -> Result<(), NoMem>
+    requires { IsWalk B.is_board_of inst.now walk.old.board walk.old.pages walk.old.past.items }
+    ensures { OnOk result (IsWalk B.is_board_of inst.now walk.new.board walk.new.pages walk.new.past.items) }
+{
+    // only the contract speaks of the day
+    let _ = inst;
+    let copy = walk.board.copy(alloc)?;
+    walk.board = copy;
+    walk.past.clear();
+    Ok(())
+}
+
 /// Does a step of a walk, so many of 12 changes being of rows: mostly a change; of one in ten up to 19 of the last changes are taken back,
-/// and of one in forty none can be any more.
+/// of one in forty none can be any more, and of one in forty it goes on with a copy of the board.
 fn step<B: Walkable, L: Ledger>(
     alloc: Global,
     inst: &Instance,
@@ -205,7 +222,8 @@ fn step<B: Walkable, L: Ledger>(
 {
     match draws.below(40) {
         0 => forget(inst, walk),
-        1..=4 => take_back(inst, walk, draws.below(20)),
+        1 => go_on_with_copy(alloc, inst, walk)?,
+        2..=5 => take_back(inst, walk, draws.below(20)),
         _ if draws.below(12) < rows => change_row(alloc, inst, walk, draws, steps)?,
         _ => change_groups(alloc, inst, walk, draws, steps)?,
     }
@@ -251,7 +269,7 @@ fn start_of<B: Walkable>(alloc: Global, inst: &Instance) -> Result<Walk<B>, Fail
     ensures { IfOk result (λ walk. IsWalk B.is_board_of inst.now walk.board walk.pages walk.past.items) }
 {
     let plan = inst.schedule(alloc)?;
-    let pages = Pages::from_plan(alloc, plan)?;
+    let pages = Pages::from_plan(alloc, plan, inst.reservations())?;
     Ok(Walk {
         board: B::of(alloc, inst, &pages)?,
         pages,

@@ -161,7 +161,7 @@ fn are_routes(
             if res.0 >= inst.reservations() {
                 return Ok(false);
             }
-            let pages = Pages::of(alloc, &plan)?;
+            let pages = Pages::of(alloc, &plan, inst.reservations())?;
             let found = routes(alloc, &inst, &pages, res)?;
             Ok(are_ways(found.as_slice(), ways))
         }

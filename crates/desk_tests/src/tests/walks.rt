@@ -1,6 +1,6 @@
 //! Walks of an evaluator: changes that are drawn, of rows and of passengers, some of which are taken back or can be no more. After
 //! each what the evaluator says is what the rules and the prices say from scratch: so each of its boards keeps up, that of the
-//! seats and that of the cost too.
+//! seats and that of the cost too. And walks of an evaluator and a copy of it side by side, of which each leaves the other as it is.
 
 ghost use Rattle.std.specs.Prelude.{◌≡◌, ◌<◌, length, IfOk};
 ghost use Rattle.std.specs.Option.{ForSome};
@@ -261,6 +261,85 @@ fn after_any_changes_an_evaluator_says_what_is_said_from_scratch(
     for (seed, rows, is_disrupted) in &WALKS {
         let agreed = walked(rt.alloc(), *seed, *rows, *is_disrupted)?;
         assert_eq!(rt; agreed, STEPS, "walk {seed}");
+    }
+    Ok(())
+}
+
+// ---- an evaluator and a copy of it
+
+/// How often one of the two goes on for some steps.
+const ROUNDS: u32 = 60;
+
+/// Walks of two: the seed of the day and of the draws, how many of 12 changes are of rows, and whether the day has orders and legs that have
+/// left.
+const WALKS_OF_TWO: [(u32, u32, bool); 3] = [(21, 6, false), (22, 10, true), (23, 2, true)];
+
+/// Whether an evaluator says what the rules and the prices say from scratch.
+fn is_right(alloc: Global, eval: &Evaluator) -> Result<bool, NoMem> {
+    Ok(said(eval) == said_anew(alloc, eval)?)
+}
+
+/// Has one evaluator go on for five steps. Whether it then says what is said from scratch, and another one says what it did before.
+fn leaves_the_other<L: Ledger>(
+    alloc: Global,
+    one: &mut Evaluator,
+    other: &Evaluator,
+    rows: u32,
+    draws: &mut Draws,
+    steps: &mut Steps<L>,
+) -> Result<bool, Fail> {
+    let before = said(other);
+    for _ in 0..5 {
+        step(alloc, one, rows, draws, steps)?;
+    }
+    Ok(said(other) == before && is_right(alloc, one)? && is_right(alloc, other)?)
+}
+
+/// After how many rounds one of an evaluator and its copy did not leave the other as it was: `ROUNDS` where they always did. Before one
+/// round in eight the copy is made anew.
+fn kept_apart<L: Ledger>(
+    blank: Blank,
+    alloc: Global,
+    eval: &mut Evaluator,
+    seed: u32,
+    rows: u32,
+) -> Result<u32, Fail>
+    requires name { blank.name ≡ L.name }
+    requires parts { blank.parts ≡ L.parts }
+    requires some { 0 < blank.parts }
+{
+    let mut steps = Steps::<L>::new(blank);
+    let mut draws = Draws {
+        state: u64::from(seed),
+    };
+    let mut copy = eval.copy(alloc)?;
+    for round in 0..ROUNDS {
+        if draws.below(8) == 0 {
+            copy = eval.copy(alloc)?;
+        }
+        let is_kept = if draws.below(2) == 0 {
+            leaves_the_other(alloc, eval, &copy, rows, &mut draws, &mut steps)?
+        } else {
+            leaves_the_other(alloc, &mut copy, &*eval, rows, &mut draws, &mut steps)?
+        };
+        if !is_kept {
+            return Ok(round);
+        }
+    }
+    Ok(ROUNDS)
+}
+
+/// The same of the evaluator of a day's schedule.
+fn walked_apart(alloc: Global, seed: u32, rows: u32, is_disrupted: bool) -> Result<u32, Fail> {
+    let mut eval = start_of(alloc, seed, is_disrupted)?;
+    kept_apart::<Brand>(Blank::new(1), alloc, &mut eval, seed, rows)
+}
+
+#[test]
+fn an_evaluator_and_its_copy_leave_each_other_as_they_are(rt: HostRuntime) -> Result<(), Fail> {
+    for (seed, rows, is_disrupted) in &WALKS_OF_TWO {
+        let apart = walked_apart(rt.alloc(), *seed, *rows, *is_disrupted)?;
+        assert_eq!(rt; apart, ROUNDS, "walk {seed}");
     }
     Ok(())
 }

@@ -1,8 +1,14 @@
-use Rattle.std.proofs.Common.{◌∙◌}
-use Rattle.plan_pages.specs.Pages.{with_page}
-use Rattle.plan_pages.proofs.PageLaws.{with_groups-back}
+use Rattle.std.proofs.Common.{sym, subst}
+use Rattle.desk_data.specs.PlanRows.{AreGroups}
+use Rattle.plan_pages.specs.Pages.{IsPageOf}
+use Rattle.plan_pages.proofs.PageLaws.{all_on_page, groups_sound}
 use Rattle.plan_pages.proofs.pages.Pages.replace_groups.Goals as goal
 
-pub returns-clause-back : goal.returns-clause-back
-unfolding with_page
-returns-clause-back c = rw (c.swap_groups.ensures.plan, c.swap_groups.ensures.had) (with_groups-back c.self.inside.plan c.args.res.0 c.args.groups.items ∙ c.self.view_is)
+pub invariant_of-self-2 : goal.invariant_of-self-2
+invariant_of-self-2 c =
+    groups_sound (record { rows = c.self.inside.rows; groups = c.self.inside.groups }) c.replace.new.self c.args.res.0 c.in_ok-groups.groups
+    c.self.invariant c.in_ok-page.ensures.ok (subst AreGroups (sym c.in_ok-groups.ensures) c.requires.groups)
+
+pub returns-clause-place : goal.returns-clause-place
+unfolding IsPageOf
+returns-clause-place c = (c.in_ok-page.ensures.place, all_on_page AreGroups c.replace.new.self c.self.inside.groups c.in_ok-page.page c.in_ok-page.ensures.back c.self.invariant.groups)

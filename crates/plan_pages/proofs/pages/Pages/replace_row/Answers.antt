@@ -1,8 +1,8 @@
-use Rattle.std.proofs.Common.{◌∙◌}
-use Rattle.plan_pages.specs.Pages.{with_page}
-use Rattle.plan_pages.proofs.PageLaws.{with_row-back}
+use Rattle.desk_data.specs.PlanRows.{IsRow}
+use Rattle.plan_pages.specs.Pages.{IsPageOf}
+use Rattle.plan_pages.proofs.PageLaws.{all_on_page}
 use Rattle.plan_pages.proofs.pages.Pages.replace_row.Goals as goal
 
-pub returns-clause-back : goal.returns-clause-back
-unfolding with_page
-returns-clause-back c = rw (c.put_row.ensures, c.read_row-had.ensures.row) (with_row-back c.self.inside.plan c.args.leg.0 c.args.row ∙ c.self.view_is)
+pub returns-clause-place : goal.returns-clause-place
+unfolding IsPageOf
+returns-clause-place c = (c.in_ok-page.ensures.place, all_on_page IsRow c.replace.new.self c.self.inside.rows c.in_ok-page.page c.in_ok-page.ensures.back c.self.invariant.rows)
