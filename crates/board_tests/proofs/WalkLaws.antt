@@ -6,7 +6,7 @@ use Rattle.std.proofs.lemmas.List.Elements.{All-nil, All-cons, All-head, All-tai
 use Rattle.desk_data.specs.Situation.{Situation}
 use Rattle.desk_data.specs.PlanRows.{PlanRows}
 use Rattle.desk_data.specs.Valid.{IsPlanFor}
-use Rattle.board_kit.specs.Boards.{IsReady, CanGoBack, IsChanged, IsTakenBack, IsForgotten}
+use Rattle.board_kit.specs.Boards.{IsReady, CanGoBack, IsChanged, IsTakenBack, HasNoPast}
 use Rattle.board_tests.specs.Walks.{IsWalk}
 
 -- of which board a board is
@@ -55,5 +55,5 @@ taken_back is I board now P Q past walk so =
     }
 
 -- the past is emptied
-pub forgotten : {B : Type 0} (is : IsBoard B) (I : Situation) (board now : B) (P : PlanRows) (past : List PlanRows) → IsWalk is I board P past → IsForgotten is board now → IsWalk is I now P []
+pub forgotten : {B : Type 0} (is : IsBoard B) (I : Situation) (board now : B) (P : PlanRows) (past : List PlanRows) → IsWalk is I board P past → HasNoPast is board now → IsWalk is I now P []
 forgotten is I board now P past walk so = record { valid = walk.valid; kept = so I P (reverse past) walk.kept; before = All-nil (IsPlanFor I) }

@@ -1,11 +1,30 @@
-//! Whether groups of passengers are the same.
+//! Whether plans have the same.
 
 ghost use Rattle.std.specs.Prelude.{◌≡◌, true};
 
-use desk_data::{Group, same_path};
+use desk_data::{Group, Row, same_path};
+
+/// Whether two rows are the same.
+pub fn is_same_row(was: Row, row: Row) -> bool
+    ensures { result ≡ true → row ≡ was }
+{
+    match was {
+        Row::Flown { plane, dep } => match row {
+            Row::Flown {
+                plane: other,
+                dep: at,
+            } => plane.0 == other.0 && dep.0 == at.0,
+            Row::Cancelled => false,
+        },
+        Row::Cancelled => match row {
+            Row::Flown { .. } => false,
+            Row::Cancelled => true,
+        },
+    }
+}
 
 /// Whether some groups are the same as others.
-pub(crate) fn are_same_groups(some: &[Group], others: &[Group]) -> bool
+pub fn are_same_groups(some: &[Group], others: &[Group]) -> bool
     ensures { result ≡ true → others.now ≡ some.now }
 {
     match some {

@@ -4,7 +4,7 @@ use Rattle.desk_units.specs.declared.numbers.Cabin.{Cabin}
 use Rattle.desk_data.specs.declared.row.Group.{Group}
 use Rattle.desk_data.specs.PlanRows.{path_cmp, same_path}
 use Rattle.desk_data.proofs.PathOrder.{is_eq-holds, path_same}
-use Rattle.near_notes.proofs.groups.is_same_group.Goals as goal
+use Rattle.plan_pages.proofs.same.is_same_group.Goals as goal
 
 group_is : (g h : Group) → g.count ≡ h.count → g.path ≡ h.path → h ≡ g
 group_is g h count path =
