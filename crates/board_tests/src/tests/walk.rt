@@ -207,8 +207,8 @@ fn go_on_with_copy<B: Walkable>(
     Ok(())
 }
 
-/// Does a step of a walk, so many of 12 changes being of rows: mostly a change; of one in ten up to 19 of the last changes are taken back,
-/// of one in forty none can be any more, and of one in forty it goes on with a copy of the board.
+/// Does a step of a walk, so many of 12 changes being of rows: mostly a change; one step in ten takes up to 19 of the last changes back,
+/// one in forty forgets them, and one in forty goes on with a copy of the board.
 fn step<B: Walkable, L: Ledger>(
     alloc: Global,
     inst: &Instance,
