@@ -1,14 +1,10 @@
 //! The tests, by what they ask.
 
-mod book;
 mod changes;
 mod days;
 mod headway;
 mod limits;
 mod memory;
-mod moments;
-mod orders;
-mod parts;
 mod stops;
-mod under_way;
+mod usual;
 mod walks;

@@ -11,9 +11,11 @@ ghost use Rattle.plan_moves.specs.Fits.{IsPathIn};
 
 use super::changes::{said, said_anew};
 use super::days::day_in;
-use super::moments::go_on;
-use super::orders::{add_orders, closure, late, out_of_service};
-use desk_data::{Cabin, Group, Instance, Leg, List, Minute, NoMem, Path, Plane, Res, Row, Steps};
+use day_checks::can_add;
+use desk_data::{
+    Airport, Batch, Cabin, Group, Instance, Leg, List, Minute, NoMem, Order, Path, Plane, Res, Row,
+    Steps,
+};
 use desk_eval::Evaluator;
 use desk_folder::MemFolder;
 use desk_gen::generate;
@@ -63,19 +65,55 @@ impl Draws {
     }
 }
 
+/// A leg departs that many minutes late, or is off.
+fn late(leg: u32, delay: Option<u32>) -> Order {
+    Order::Flight {
+        leg: Leg(leg),
+        delay,
+    }
+}
+
+/// Has a day take a batch of these orders, and of this moment or none, while the schedule stands.
+fn take(
+    alloc: Global,
+    inst: &mut Instance,
+    at: Option<Minute>,
+    orders: &[Order],
+) -> Result<(), Fail> {
+    let batch = Batch {
+        at,
+        orders: List(Vec::from_slice(alloc, orders)?),
+    };
+    if !can_add(inst, &batch) {
+        return Err(Fail::new("a batch is out of range"));
+    }
+    let plan = inst.schedule(alloc)?;
+    inst.add(alloc, &plan, &batch)?;
+    Ok(())
+}
+
 /// Has a day take orders of each kind, and then the moment four hours after the window's start.
 fn disrupt(alloc: Global, inst: &mut Instance) -> Result<(), Fail> {
     let start = inst.now().0;
-    let noon = start.saturating_add(360);
-    let evening = start.saturating_add(720);
+    let noon = Minute(start.saturating_add(360));
     let orders = [
         late(5, Some(45)),
         late(9, None),
-        out_of_service(1, noon, evening),
-        closure(1, start, noon, 1),
+        Order::Aircraft {
+            plane: Plane(1),
+            from: noon,
+            to: Minute(start.saturating_add(720)),
+        },
+        Order::Field {
+            airport: Airport(1),
+            from: Minute(start),
+            to: noon,
+            deps: 1,
+            arrs: 100,
+        },
     ];
-    add_orders(alloc, inst, &orders)?;
-    go_on(alloc, inst, Some(Minute(start.saturating_add(240))))
+    take(alloc, inst, None, &orders)?;
+    take(alloc, inst, Some(Minute(start.saturating_add(240))), &[])
 }
 
 /// The evaluator of the schedule of a generated day.
