@@ -4,7 +4,5 @@ mod changes;
 mod days;
 mod headway;
 mod limits;
-mod memory;
-mod stops;
 mod usual;
 mod walks;
