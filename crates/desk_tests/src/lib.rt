@@ -1,5 +1,5 @@
-//! Tests of what no case of desk_rows can say: of runs each of whose allocations is refused in turn, of a million changes of
-//! one evaluator and of changes that are drawn, of a journal that is full, and of what only calls can ask of a day, of a move and of a book.
+//! Tests of what no case of desk_rows can say: of a million changes of one evaluator and of changes that are drawn, of a journal that is
+//! full, and of what only calls can ask.
 //!
 //! There is no code here but tests: a crate with tests is proved twice, so they stand in a crate of their own. What
 //! a run of the program can show is a case of desk_rows instead. The days are read from texts, as those of a run are. A

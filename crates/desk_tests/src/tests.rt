@@ -2,7 +2,6 @@
 
 mod changes;
 mod days;
-mod headway;
 mod limits;
 mod usual;
 mod walks;
