@@ -5,11 +5,12 @@
 //! must give.
 //!
 //! A case costs no proof: it is a few files that a person can read, and `bench/row.py` runs it on the disk
-//! by hand. It calls `desk_main` of desk_top over the folder and the sink in memory of desk_folder.
+//! by hand. It calls `desk_main_heard` of desk_top over the folder and the sink in memory of desk_folder.
 #![tactic(auto)]
 
 mod cases;
 mod gate;
+mod heard;
 mod lines;
 mod play;
 mod sink;
