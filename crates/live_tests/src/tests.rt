@@ -3,9 +3,9 @@ ghost use Rattle.live_board.specs.Histories.{history};
 ghost use Rattle.live_board.specs.Words.{board_of, opening_log, told_by, IsShown};
 
 use crate::most::{Blank, Most, Posted};
-use crate::threads::{all_learn, all_see, see_both, tell_and_end, tell_two};
+use crate::threads::{all_learn, all_see, see_both, tell_two};
 use desk_units::NoMem;
-use live_board::{Naming, Note, Opened, Teller, Viewer, watch};
+use live_board::{Naming, Opened, Teller};
 use std::alloc::Global;
 use std::marker::Brand;
 use std::process::Abort;
@@ -49,51 +49,6 @@ fn tell_and_see<J: Naming + Send + Sync, R: Threads + Wait + Abort + Sync>(
     assert_eq!(rt; (one.entries, one.largest), (1, 5));
     assert_eq!(rt; (all.entries, all.largest), (3, 9));
     assert_eq!(rt; (last.entries, last.largest), (3, 9));
-    Ok(())
-}
-
-#[test]
-fn watching_comes_to_the_last(rt: HostRuntime) -> Result<(), Fail> {
-    watch_on::<Brand, _>(&rt, rt.alloc(), Opened::new(&Blank))
-}
-
-fn watch_on<J: Naming + Send + Sync, R: Threads + Wait + Abort + Sync>(
-    rt: &R,
-    alloc: Global,
-    opened: Opened<Most>,
-) -> Result<(), Fail>
-    requires board { board_of opened ≡ J.book }
-    requires fresh { length (history (opening_log opened)) < 100 }
-{
-    let Ok(notes) = Vec::with_capacity(alloc, 63) else {
-        panic!(rt; "no memory")
-    };
-    let Ok((teller, mut viewers)) = opened.open::<Posted, J, &R>(rt, alloc, 1) else {
-        panic!(rt; "no memory")
-    };
-    let Some(viewer) = viewers.pop() else {
-        panic!(rt; "no viewer")
-    };
-    let ended = AtomicU64::new(0);
-    // Where no thread can be made the first closure is called last: the viewer goes on until the teller has ended.
-    let ((mut viewer, notes), (teller, told)) = join(
-        rt,
-        || -> (Viewer<Most, Posted, J>, Vec<Note<Most, J>>)
-            requires { notes.items ≡ [] }
-        { watch(rt, viewer, notes, &ended) },
-        || -> (Teller<Most, Posted, J, &R>, Result<(), NoMem>)
-            requires room { length (history (told_by teller)) < 100 }
-            requires shown { IsShown (λ (p : Posted). p.0.seen.log) teller }
-        { tell_and_end(teller, &ended) },
-    );
-    let note = teller.note();
-    viewer.learn(teller.note());
-    let last = viewer.see();
-    drop(teller);
-    assert!(rt; told.is_ok());
-    assert!(rt; viewer.kept().is_same(&note));
-    assert_eq!(rt; (last.entries, last.largest), (3, 9));
-    assert!(rt; 1 <= notes.len() && notes.len() <= 3);
     Ok(())
 }
 

@@ -31,33 +31,6 @@ pub fn tell_two<J: Naming, R: Wait + Drop>(
     (teller, told)
 }
 
-/// Tells one number, and then two, and says that it ended.
-pub fn tell_and_end<J: Naming, R: Wait + Drop>(
-    teller: Teller<Most, Posted, J, R>,
-    ended: &AtomicU64,
-) -> (Teller<Most, Posted, J, R>, Result<(), NoMem>)
-    requires room { length (history (told_by teller)) < 100 }
-    requires shown { IsShown (λ (p : Posted). p.0.seen.log) teller }
-{
-    let (teller, told) = tell_one_and_two(teller);
-    ended.store(1, Ordering::SeqCst);
-    (teller, told)
-}
-
-fn tell_one_and_two<J: Naming, R: Wait + Drop>(
-    teller: Teller<Most, Posted, J, R>,
-) -> (Teller<Most, Posted, J, R>, Result<(), NoMem>)
-    requires room { length (history (told_by teller)) < 100 }
-    requires shown { IsShown (λ (p : Posted). p.0.seen.log) teller }
-{
-    let mut teller = teller;
-    let Ok(()) = teller.tell(&[5]) else {
-        return (teller, Err(NoMem));
-    };
-    let told = teller.tell(&[3, 9]);
-    (teller, told)
-}
-
 /// Waits until the first number was seen, or too long.
 fn wait_until_seen(saw: &AtomicU64) {
     for _ in 0..MOST_LOOKS {
