@@ -20,23 +20,13 @@ fn none_yet() -> AtomicBool {
 }
 
 /// A gate that holds whoever comes to an entrance until another has been entered.
+#[derive(Drop)]
 pub(crate) struct HoldingGate<'a> {
     /// Each entrance that holds, and the other one.
     holds: &'a [(Entrance, Entrance)],
     entered: [AtomicBool; 9],
     /// Someone waited too long.
     late: AtomicBool,
-}
-
-/// Dropped in one call, so that a function that owns one proves it once, and not part by part.
-impl Drop for HoldingGate<'_> {
-    fn drop(self) {
-        let HoldingGate {
-            holds: _,
-            entered: _,
-            late: _,
-        } = self;
-    }
 }
 
 impl<'a> HoldingGate<'a> {

@@ -378,12 +378,26 @@ impl Player {
         text: &[u8],
         others: &[(File, Vec<u8>)],
     ) -> Result<Vec<u8>, AllocError> {
-        let alloc = self.alloc;
-        let before = std::mem::replace(&mut self.played, Vec::new(alloc));
-        self.change(file, Vec::from_slice(alloc, text)?)?;
+        let before = std::mem::replace(&mut self.played, Vec::new(self.alloc));
+        let is_run = self.run_with(threads, words, file, text, others);
+        let given = std::mem::replace(&mut self.played, before);
+        is_run?;
+        Ok(given)
+    }
+
+    // Runs the desk with this text of one file, and these of others.
+    fn run_with<R: Threads + Wait + Sync>(
+        &mut self,
+        threads: &R,
+        words: &str,
+        file: File,
+        text: &[u8],
+        others: &[(File, Vec<u8>)],
+    ) -> Result<(), AllocError> {
+        let text = Vec::from_slice(self.alloc, text)?;
+        self.change(file, text)?;
         add_all(&mut self.changed, others)?;
-        self.run(threads, words)?;
-        Ok(std::mem::replace(&mut self.played, before))
+        self.run(threads, words)
     }
 
     // Runs the desk with each beginning of a file, and adds what they gave, once for those one after another that gave the same.
@@ -396,15 +410,35 @@ impl Player {
         let alloc = self.alloc;
         let text = self.text_now(file)?;
         let others = std::mem::replace(&mut self.changed, Vec::new(alloc));
-        let mut from = 0;
         let mut last = Vec::new(alloc);
+        self.run_fronts_of(
+            threads,
+            file,
+            words,
+            text.as_slice(),
+            others.as_slice(),
+            &mut last,
+        )
+    }
+
+    // The same of this text, beside these of others; `last` is what the run before gave.
+    fn run_fronts_of<R: Threads + Wait + Sync>(
+        &mut self,
+        threads: &R,
+        file: File,
+        words: &str,
+        text: &[u8],
+        others: &[(File, Vec<u8>)],
+        last: &mut Vec<u8>,
+    ) -> Result<(), AllocError> {
+        let mut from = 0;
         for size in 0..=text.len() {
             let (front, _) = text.split_at(size.min(text.len()));
-            let given = self.given_by(threads, words, file, front, others.as_slice())?;
+            let given = self.given_by(threads, words, file, front, others)?;
             if given.as_slice() != last.as_slice() {
                 push_front(&mut self.played, from, size, last.as_slice())?;
                 from = size;
-                last = given;
+                *last = given;
             }
         }
         let after = text.len().saturating_add(1);
@@ -419,14 +453,8 @@ impl Player {
         heard: &[u8],
         folder: &MemFolder,
     ) -> Result<(), AllocError> {
-        let ended = format!(in self.alloc; "status {status}\n")?;
-        self.push(ended.as_str())?;
-        if self.last {
-            let report = last_seen(self.alloc, report)?;
-            push_text(&mut self.played, report.as_slice())?;
-        } else {
-            push_text(&mut self.played, report)?;
-        }
+        self.push_status(status)?;
+        self.push_report(report)?;
         if self.heard {
             push_text(&mut self.played, heard)?;
         }
@@ -441,6 +469,20 @@ impl Player {
         self.heard = false;
         self.written = written_texts(self.alloc, folder, &ALL_FILES)?;
         Ok(())
+    }
+
+    fn push_status(&mut self, status: u8) -> Result<(), AllocError> {
+        let ended = format!(in self.alloc; "status {status}\n")?;
+        self.push(ended.as_str())
+    }
+
+    // Adds a report, of whose views the last stands alone where that is asked for.
+    fn push_report(&mut self, report: &[u8]) -> Result<(), AllocError> {
+        if !self.last {
+            return push_text(&mut self.played, report);
+        }
+        let report = last_seen(self.alloc, report)?;
+        push_text(&mut self.played, report.as_slice())
     }
 
     // Adds the bytes of the file on the disk, where it has any, and keeps them.
