@@ -122,7 +122,14 @@ fn flier_left(alloc: Global, first: usize, second: usize) -> Result<u32, NoMem> 
 #[test]
 fn versions_are_dropped_in_any_order(rt: HostRuntime) -> Result<(), Fail> {
     let alloc = rt.alloc();
-    for (first, second, flier) in [(0, 0, 3), (0, 1, 2), (1, 0, 3), (1, 1, 1), (2, 0, 2), (2, 1, 1)] {
+    for (first, second, flier) in [
+        (0, 0, 3),
+        (0, 1, 2),
+        (1, 0, 3),
+        (1, 1, 1),
+        (2, 0, 2),
+        (2, 1, 1),
+    ] {
         if flier_left(alloc, first, second)? != flier {
             return Err(Fail::new("a version that is left shows another row"));
         }
