@@ -5,7 +5,7 @@ ghost use Rattle.std.specs.Option.{option_or};
 ghost use Rattle.desk_data.specs.Situation.{legs_of, reservations_of};
 ghost use Rattle.desk_data.specs.Valid.{IsPlanFor};
 ghost use Rattle.desk_data.specs.declared.broken.Broken.TheVariants as broken;
-ghost use Rattle.desk_rules.specs.Least.{breaks, each_cabin, least, least_pax, least_slots};
+ghost use Rattle.desk_rules.specs.Least.{breaks, each_cabin, least, least_pax, least_rot, least_slots};
 ghost use Rattle.par_check.specs.Paths.{first_of_paths};
 
 use crate::paths::are_paths_kept;
@@ -31,7 +31,8 @@ pub fn is_large(inst: &Instance) -> bool
 /// The first item of C1 to C15 that the plan breaks, by rule and then by what the items name, or `None` where it breaks
 /// none: what `full_check` answers, whatever the number of threads. On one processor, and where the day is not large, it
 /// starts none. It waits for its own threads alone, and where a thread can't be started it does that one's work. The time of
-/// all threads together is that of `full_check`, and where a path breaks C13 to C15 that of a second walk over the passengers.
+/// all threads together is that of `full_check` of a plan that breaks no rule, and where a path breaks C13 to C15 that of a second walk
+/// over the passengers. All rules are asked, where one that comes first is broken too.
 /// The only error is out of memory.
 pub fn par_check<R: Threads + Sync>(
     rt: &R,
@@ -45,9 +46,20 @@ pub fn par_check<R: Threads + Sync>(
     if !is_large(inst) || current_num_threads(rt) == 1 {
         return full_check(alloc, inst, plan);
     }
-    match least_rot(alloc, inst, plan)? {
+    let (rotations, others) = join(
+        rt,
+        || -> Result<Option<Broken>, NoMem>
+            requires { IsPlanFor inst.now plan.now }
+            ensures { IfOk result (λ item. item ≡ least_rot inst.entry.now plan.entry.now) }
+        { least_rot(alloc, inst, plan) },
+        || -> Result<Option<Broken>, NoMem>
+            requires { IsPlanFor inst.now plan.now }
+            ensures { IfOk result (λ item. item ≡ option_or (least_slots inst.entry.now plan.entry.now) (least_pax inst.entry.now plan.entry.now)) }
+        { first_of_others(rt, alloc, inst, plan) },
+    );
+    match rotations? {
         Some(item) => Ok(Some(item)),
-        None => first_of_others(rt, alloc, inst, plan),
+        None => others,
     }
 }
 

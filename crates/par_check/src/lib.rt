@@ -5,9 +5,9 @@
 //!         Some(item) => ..,           // the first item that it breaks, as C5 of a leg
 //!     }
 //!
-//! It answers what `full_check` answers, whatever the number of threads. The rules of rotations come first, in one thread. Then the
-//! hours of airports and the seats are counted in one thread each, while the reservations are asked for the rules of paths in
-//! pieces, by `rayon`. On one processor, and of a day that `is_large` does not call large, it is `full_check` itself.
+//! It answers what `full_check` answers, whatever the number of threads. The rules of rotations are asked in one thread, the
+//! hours of airports and the seats are counted in one each, and the reservations are asked for the rules of paths in
+//! pieces, by `rayon`, all side by side. On one processor, and of a day that `is_large` does not call large, it is `full_check` itself.
 //!
 //! Proved: the answer is `least` of desk_rules, the first broken item of all in the order of rules and of what they name. That the
 //! work runs side by side no clause says.

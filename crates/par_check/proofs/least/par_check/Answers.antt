@@ -10,13 +10,15 @@ pub returns-in-Some : goal.returns-in-Some
 returns-in-Some g c =
     let I = c.args.inst.now in
     let P = c.args.plan.now in
-    let rot : least_rot I P ≡ Some c.in-Some.item = sym c.in_ok-item.ensures ∙ c.in-Some.is in
+    let told : c.in_ok-item.field-0 ≡ least_rot I P = rw c.in_ok-item.was at c.join-rotations.ensures.first in
+    let rot : least_rot I P ≡ Some c.in-Some.item = sym told ∙ c.in-Some.is in
     sym (least-split I P ∙ ap (λ (first : Option Broken). option_or first (option_or (least_slots I P) (least_pax I P))) rot)
 
 pub returns-in-None : goal.returns-in-None
 returns-in-None g c =
     let I = c.args.inst.now in
     let P = c.args.plan.now in
-    let rot : least_rot I P ≡ None = sym c.in_ok-item.ensures ∙ c.in-None.is in
+    let told : c.in_ok-item.field-0 ≡ least_rot I P = rw c.in_ok-item.was at c.join-rotations.ensures.first in
+    let rot : least_rot I P ≡ None = sym told ∙ c.in-None.is in
     let is : option_or (least_slots I P) (least_pax I P) ≡ least I P = sym (least-split I P ∙ ap (λ (first : Option Broken). option_or first (option_or (least_slots I P) (least_pax I P))) rot) in
-    subst (λ (first : Option Broken). IfOk c.first_of_others.result (λ item. item ≡ first)) is c.first_of_others.ensures
+    subst (λ (first : Option Broken). IfOk c.join-rotations.result.1 (λ item. item ≡ first)) is c.join-rotations.ensures.second
