@@ -32,6 +32,7 @@ mod passengers;
 mod rotations;
 mod ruled_out;
 mod trial;
+mod units;
 
 pub use finder::Finder;
 pub use first::{first_better, first_better_heard};

@@ -42,11 +42,13 @@ pub(crate) fn first_of_passengers<L: Listener>(
     ensures notes { AreNotedAt eval.old.inst eval.old.rows notes.new }
     ensures eval { eval.new ≡ eval.old }
 {
-    if let Some(m) = first_of(alloc, eval, rotations, moves, listener)? {
+    let tried = first_of(alloc, eval, rotations, moves, listener)?;
+    if let Some(m) = tried.found {
         return Ok(Some(m));
     }
     while let Some((res, place)) = go_on(eval, moves, notes) {
-        if let Some(m) = first_of(alloc, eval, rotations, moves, listener)? {
+        let tried = first_of(alloc, eval, rotations, moves, listener)?;
+        if let Some(m) = tried.found {
             return Ok(Some(m));
         }
         note(eval, notes, res, place);
