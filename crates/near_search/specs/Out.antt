@@ -1,18 +1,14 @@
 -- Moves of which it is known why they are not better.
-use Rattle.std.specs.Prelude.{◌≡◌, ℕ, ◌<◌, ◌≤◌, ◌≢◌, true, false, List, All, None}
+use Rattle.std.specs.Prelude.{◌≡◌, false, List, All}
 use Rattle.std.specs.List.{Contains}
 use Rattle.desk_data.specs.Situation.{Situation}
 use Rattle.desk_data.specs.PlanRows.{PlanRows}
 use Rattle.plan_moves.specs.declared.moves.Move.{Move}
-use Rattle.desk_rules.specs.Cost.{cost}
-use Rattle.desk_rules.specs.Least.{least}
 use Rattle.near_moves.specs.Descent.{is_better}
 use Rattle.near_moves.specs.Near.{unit_moves}
 use Rattle.near_moves.specs.Units.{MoveUnit}
 use Rattle.near_units.specs.Steps.{BeginsFlown}
 use Rattle.near_units.specs.Out.{IsOut}
-use Rattle.near_search.specs.declared.trial.Verdict.{Verdict}
-use Rattle.near_search.specs.declared.trial.Verdict.TheVariants.{Better, Out, Worse}
 
 -- a move is out, whichever unit of legs it is of
 abbrev pub IsMoveOut : Situation → PlanRows → Move → Type 0
@@ -26,15 +22,3 @@ pub record IsRuledOut (I : Situation) (P : PlanRows) (m : Move) : Type 0 where
 -- each of some moves is out
 abbrev pub AreMovesOut : Situation → PlanRows → List Move → Type 0
 AreMovesOut I P ms = All (IsMoveOut I P) ms
-
--- what is known of a move at plan P
-abbrev pub IsVerdict : Situation → PlanRows → Move → Verdict → Type 0
-IsVerdict I P m Better = is_better I P m ≡ true
-IsVerdict I P m Out = IsRuledOut I P m
-IsVerdict I P m Worse = is_better I P m ≡ false
-
--- what is known of a move that made plan Q of one that costs so much: it is no cheaper; or it is feasible and cheaper, or neither
-abbrev pub IsMade : Situation → PlanRows → ℕ → Verdict → Type 0
-IsMade I Q now Better = (least I Q ≡ None) × (cost I Q < now)
-IsMade I Q now Out = now ≤ cost I Q
-IsMade I Q now Worse = least I Q ≢ None

@@ -13,7 +13,7 @@ ghost use Rattle.near_search.specs.Rotations.{AreRotations};
 use crate::in_vain::is_in_vain;
 use crate::left::MadeMoves;
 use crate::rotations::Rotations;
-use crate::trial::{Tried, first_of};
+use crate::trial::{Tried, try_all};
 use crate::units::{is_noted_out, note_out};
 use day_notes::UnitNotes;
 use desk_data::NoMem;
@@ -82,7 +82,7 @@ fn first_of_unit<L: Listener>(
     }
     let made = units.moves(alloc, eval.instance(), eval.plan(), unit)?;
     let mut moves = MadeMoves::of(made);
-    let Tried { found, out } = first_of(alloc, eval, rotations, &mut moves, listener)?;
+    let Tried { found, out } = try_all(alloc, eval, rotations, &mut moves, listener)?;
     if out {
         note_out(eval, notes, unit)?;
     }

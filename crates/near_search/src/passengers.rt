@@ -42,13 +42,11 @@ pub(crate) fn first_of_passengers<L: Listener>(
     ensures notes { AreNotedAt eval.old.inst eval.old.rows notes.new }
     ensures eval { eval.new ≡ eval.old }
 {
-    let tried = first_of(alloc, eval, rotations, moves, listener)?;
-    if let Some(m) = tried.found {
+    if let Some(m) = first_of(alloc, eval, rotations, moves, listener)? {
         return Ok(Some(m));
     }
     while let Some((res, place)) = go_on(eval, moves, notes) {
-        let tried = first_of(alloc, eval, rotations, moves, listener)?;
-        if let Some(m) = tried.found {
+        if let Some(m) = first_of(alloc, eval, rotations, moves, listener)? {
             return Ok(Some(m));
         }
         note(eval, notes, res, place);

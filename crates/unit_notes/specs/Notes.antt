@@ -12,7 +12,7 @@ use Rattle.near_legs.specs.Choices.{IsLegUnit, unit_of}
 use Rattle.near_legs.specs.declared.unit.LegUnit.{LegUnit}
 use Rattle.near_legs.specs.declared.unit.LegUnit.TheVariants.{Retimed, Swapped, Dropped, Restored, Handed}
 use Rattle.near_units.specs.Out.{IsOut}
-use Rattle.unit_notes.specs.Numbers.{number_at}
+use Rattle.number_rows.specs.Rows.{number_at}
 use Rattle.unit_notes.specs.Places.{number_of}
 use Rattle.unit_notes.specs.declared.notes.UnitNotes.{UnitNotes}
 use Rattle.unit_notes.specs.declared.place.Place.{Place}
@@ -51,8 +51,8 @@ pub record AreUnitNotes (I : Situation) (notes : UnitNotes) : Type 0 where
 pub record IsNow (old new : UnitNotes) (there : Place) : Type 0 where
   pub plan : new.plan ≡ old.plan
   pub search : new.search ≡ old.search
-  pub planes : new.planes ≡ old.planes
-  pub again : new.again ≡ old.again
+  pub planes : new.planes.items ≡ old.planes.items
+  pub again : new.again.items ≡ old.again.items
   pub found : (row column : ℕ) → (number_at new.found row column ≡ number_at old.found row column) ⊎ ((row ≡ there.row) × (column ≡ there.column) × (number_at new.found row column ≡ old.search))
 
 -- if there are any

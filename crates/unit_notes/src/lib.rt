@@ -15,7 +15,6 @@
 
 mod known;
 mod notes;
-mod numbers;
 mod place;
 
 pub use near_legs::LegUnit;

@@ -8,10 +8,10 @@ ghost use Rattle.near_legs.specs.Choices.{IsLegUnit, unit_of};
 ghost use Rattle.unit_notes.specs.Places.{number_of};
 ghost use Rattle.unit_notes.specs.Notes.{AreUnitNotes, AreUnitNotesAt, IsNow, IsUnitOut, is_noted};
 
-use crate::numbers::Numbers;
 use crate::place::{Place, place_of};
 use desk_data::{Instance, NoMem};
 use near_legs::LegUnit;
+use number_rows::NumberRows;
 use plan_pages::Pages;
 use std::alloc::Global;
 
@@ -26,7 +26,7 @@ pub struct UnitNotes {
     /// For each leg that of the last search after which it might not be flown again as before.
     pub again: Vec<u32>,
     /// For each unit that of the search that found it out, 0 where none did.
-    pub found: Numbers,
+    pub found: NumberRows,
 }
 
 /// Dropped in one call, so that a function that owns one proves it once, and not part by part.
@@ -52,7 +52,7 @@ impl UnitNotes {
         let planes = zeros(alloc, inst.planes() as usize)?;
         let again = zeros(alloc, inst.legs() as usize)?;
         let most = inst.planes().max(inst.legs());
-        let found = Numbers::zeros(alloc, 8 * most as usize)?;
+        let found = NumberRows::zeros(alloc, 8 * most as usize)?;
         let plan = plan.share(alloc)?;
         Ok(UnitNotes {
             plan,

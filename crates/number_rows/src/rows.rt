@@ -1,20 +1,20 @@
 //! Numbers in rows.
 
 ghost use Rattle.std.specs.Prelude.{◌≡◌, ℕ, ◌<◌, [], ◌==◌, if◌then◌else◌, IfOk, OnOk, length, map, replicate, slice_index_or};
-ghost use Rattle.unit_notes.specs.Numbers.{IsPut, number_at};
+ghost use Rattle.number_rows.specs.Rows.{IsPut, number_at};
 
-use desk_data::NoMem;
+use desk_units::NoMem;
 use std::alloc::Global;
 use std::marker::Model;
 
 /// A number for each place, a row and a column: 0 where none was put. Contracts see it as its rows, each of which may
 /// stop where only zeros follow.
 #[derive(Drop)]
-pub struct Numbers {
+pub struct NumberRows {
     rows: Vec<Vec<u32>>,
 }
 
-impl Model for Numbers {
+impl Model for NumberRows {
     ghost use Rattle.std.specs.Prelude.{ℕ, List, map};
 
     ghost Value = { List (List ℕ) };
@@ -22,27 +22,27 @@ impl Model for Numbers {
     ghost view = { λ n. map (λ row. row.items) n.rows.items };
 }
 
-impl Numbers {
+impl NumberRows {
     /// So many rows of zeros. The only error is out of memory.
-    pub(crate) fn zeros(alloc: Global, rows: usize) -> Result<Numbers, NoMem>
+    pub fn zeros(alloc: Global, rows: usize) -> Result<NumberRows, NoMem>
         ensures { IfOk result (λ numbers. numbers ≡ replicate rows []) }
     {
         let mut all = Vec::with_capacity(alloc, rows)?;
         for _ in 0..rows {
             all.push(Vec::new(alloc))?;
         }
-        Ok(Numbers { rows: all })
+        Ok(NumberRows { rows: all })
     }
 
     /// How many rows there are.
-    pub(crate) fn rows(&self) -> usize
+    pub fn rows(&self) -> usize
         ensures { result ≡ length self.now }
     {
         self.rows.len()
     }
 
     /// The number at a place.
-    pub(crate) fn at(&self, row: usize, column: usize) -> u32
+    pub fn at(&self, row: usize, column: usize) -> u32
         ensures { result ≡ number_at self.now row column }
     {
         match self.rows.as_slice().get(row) {
@@ -52,7 +52,7 @@ impl Numbers {
     }
 
     /// Puts a number at a place of a row that there is. The only error is out of memory.
-    pub(crate) fn put(&mut self, row: usize, column: usize, number: u32) -> Result<(), NoMem>
+    pub fn put(&mut self, row: usize, column: usize, number: u32) -> Result<(), NoMem>
         requires { row < length self.old }
         ensures { OnOk result (IsPut self.old self.new row column number) }
     {

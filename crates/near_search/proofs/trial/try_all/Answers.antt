@@ -3,10 +3,10 @@ use Rattle.plan_moves.specs.Fits.{Fits}
 use Rattle.desk_eval.specs.Evaluated.{Evaluated}
 use Rattle.near_moves.specs.Descent.{is_better}
 use Rattle.near_search.proofs.PassedLaws.{next-is, first-fits, rest-fits, rest-found}
-use Rattle.near_search.proofs.trial.first_of.Goals as goal
+use Rattle.near_search.proofs.trial.try_all.Goals as goal
 
-pub is_better-requires-clause-fits : goal.is_better-requires-clause-fits
-is_better-requires-clause-fits g c =
+pub judge-requires-clause-fits : goal.judge-requires-clause-fits
+judge-requires-clause-fits g c =
     let m = c.in-Some.m in
     let at = rw (c.instance.ensures, c.plan.ensures.rows, c.loop-m.invariant.eval) at c.in_ok-m.ensures.next in
     let next = next-is c.in_ok-m.field-0 m _ _ at c.in-Some.is in
@@ -25,10 +25,10 @@ loop-m-preserved g c =
     let m = c.in-Some.m in
     let at = rw (c.instance.ensures, c.plan.ensures.rows, c.loop-m.invariant.eval) at c.in_ok-m.ensures.next in
     let next = next-is c.in_ok-m.field-0 m _ _ at c.in-Some.is in
-    let worse : is_better c.args.eval.now.inst c.args.eval.now.rows m ≡ false = sym (rw c.loop-m.invariant.eval at c.in_ok-is_better.ensures.ok) ∙ c.if-branch.false in
+    let worse : is_better c.args.eval.now.inst c.args.eval.now.rows m ≡ false = sym (rw c.loop-m.invariant.eval at c.in_ok-verdict.ensures.better) ∙ c.if-branch.false in
     record {
       of = rw (c.instance.ensures, c.plan.ensures.rows, c.loop-m.invariant.eval) at c.in_ok-m.ensures.of;
-      eval = c.is_better.ensures.eval ∙ c.loop-m.invariant.eval;
+      eval = c.judge-verdict.ensures.eval ∙ c.loop-m.invariant.eval;
       units_after = (rw (c.instance.ensures, c.plan.ensures.rows, c.loop-m.invariant.eval) at c.in_ok-m.ensures.units_after) ∙ c.loop-m.invariant.units_after;
       same = rest-found c.args.eval.now.inst c.args.eval.now.rows m _ _ next worse ∙ c.loop-m.invariant.same;
       fits = rest-fits c.args.eval.now.inst m _ _ next c.loop-m.invariant.fits;

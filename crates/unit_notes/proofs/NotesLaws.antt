@@ -1,0 +1,86 @@
+-- Notes of which nothing is known, and of one more unit.
+use Rattle.std.proofs.Common.{◌≡◌, ℕ, inl, inr, true, false, List, [], length, get_or, replicate, refl, sym, ap, subst, ◌∙◌, arith}
+use Rattle.std.specs.Prelude.{Option, Some, None}
+use Rattle.std.proofs.lemmas.List.{get_or-replicate, get_or_past, length-replicate}
+use Rattle.std.proofs.lemmas.Bool.{true≢false, cases_lt}
+use Rattle.desk_data.specs.Situation.{Situation}
+use Rattle.desk_data.specs.PlanRows.{PlanRows}
+use Rattle.desk_data.specs.Valid.{IsPlanFor}
+use Rattle.desk_rules.specs.Least.{least}
+use Rattle.near_legs.specs.Choices.{IsLegUnit, unit_of}
+use Rattle.near_legs.specs.declared.unit.LegUnit.{LegUnit}
+use Rattle.near_legs.specs.declared.unit.LegUnit.TheVariants.{Retimed, Swapped, Dropped, Restored, Handed}
+use Rattle.number_rows.specs.Rows.{number_at}
+use Rattle.unit_notes.specs.Places.{place, number_of, number_of_place}
+use Rattle.unit_notes.specs.declared.place.Place.{Place}
+use Rattle.unit_notes.specs.declared.notes.UnitNotes.{UnitNotes}
+use Rattle.unit_notes.specs.Notes.{AreUnitNotes, IsNow, IsUnitOut, is_rest}
+use Rattle.unit_notes.proofs.PlaceLaws.{same-place}
+
+-- ---- nothing was touched before search 0, so nothing is known of what no search found out
+
+pub never-rest : (P : PlanRows) (planes again : List ℕ) (u : LegUnit) → is_rest P planes again u 0 ≡ false
+never-rest P planes again (Retimed leg) = refl
+never-rest P planes again (Swapped first second) = refl
+never-rest P planes again (Dropped leg) = refl
+never-rest P planes again (Restored leg plane) = refl
+never-rest P planes again (Handed leg count plane) = refl
+
+-- rows of nothing
+pub none-at : (rows row column : ℕ) → number_at (replicate rows []) row column ≡ 0
+none-at rows row column =
+    ap (λ (xs : List ℕ). get_or xs column 0) (rows-at rows row)
+  where
+    rows-at : (n r : ℕ) → get_or (replicate n []) r [] ≡ []
+    rows-at n r = elim (cases_lt r n) [
+      | inl within ↦ get_or-replicate n r [] [] within
+      | inr past ↦ get_or_past (replicate n []) r [] (let many = length-replicate n [] in omega (arith, many, past))
+    ]
+
+-- ---- one more unit
+
+module _ (I : Situation) (old new : UnitNotes) (u : LegUnit) (there : Place) (placed : place u ≡ Some there) (now : IsNow old new there) (are : AreUnitNotes I old) (known : IsUnitOut I old.plan (unit_of u)) where
+  rest-same : (v : LegUnit) (n : ℕ) → is_rest new.plan new.planes.items new.again.items v n ≡ is_rest old.plan old.planes.items old.again.items v n
+  rest-same v n =
+      ap (λ (P : PlanRows). is_rest P new.planes.items new.again.items v n) now.plan
+      ∙ ap (λ (planes : List ℕ). is_rest old.plan planes new.again.items v n) now.planes
+      ∙ ap (λ (again : List ℕ). is_rest old.plan old.planes.items again v n) now.again
+
+  known-at : (v : LegUnit) (o : Option Place) → place v ≡ o → IsLegUnit I old.plan v → is_rest old.plan old.planes.items old.again.items v (number_of_place new.found o) ≡ true → IsUnitOut I old.plan (unit_of v)
+  known-at v None is of rest = absurd (true≢false (sym rest ∙ never-rest old.plan old.planes.items old.again.items v))
+  known-at v (Some here) is of rest =
+      elim (now.found here.row here.column) [
+        | inl same ↦
+            let before : is_rest old.plan old.planes.items old.again.items v (number_of_place old.found (place v)) ≡ true =
+            ap (λ (o : Option Place). is_rest old.plan old.planes.items old.again.items v (number_of_place old.found o)) is
+            ∙ ap (λ (n : ℕ). is_rest old.plan old.planes.items old.again.items v n) (sym same)
+            ∙ rest in
+            are.out v of before
+        | inr put ↦ subst (λ (w : LegUnit). IsUnitOut I old.plan (unit_of w)) (same-place u v there here placed is (sym put.0) (sym put.1)) known
+      ]
+
+  pub noted-more : AreUnitNotes I new
+  noted-more = record {
+    valid = subst (IsPlanFor I) (sym now.plan) are.valid;
+    feasible = ap (least I) now.plan ∙ are.feasible;
+    planes = ap (λ (planes : List ℕ). length planes) now.planes ∙ are.planes;
+    again = ap (λ (again : List ℕ). length again) now.again ∙ are.again;
+    latest = λ row column. elim (now.found row column) [
+      | inl same ↦ (let before = are.latest row column in let search = now.search in omega (arith, same, before, search))
+      | inr put ↦ (let number = put.2 in let search = now.search in omega (arith, number, search))
+    ];
+    out = λ v of noted.
+        let here : IsLegUnit I old.plan v = subst (λ (P : PlanRows). IsLegUnit I P v) now.plan of in
+        subst (λ (P : PlanRows). IsUnitOut I P (unit_of v)) (sym now.plan)
+        (known-at v (place v) refl here (sym (rest-same v (number_of_place new.found (place v))) ∙ noted));
+  }
+
+-- ---- nothing is known yet
+
+pub nothing-noted : (I : Situation) (P : PlanRows) (rows : ℕ) (planes again : List ℕ) (u : LegUnit) → is_rest P planes again u (number_of (replicate rows []) u) ≡ true → ⊥
+nothing-noted I P rows planes again u noted =
+    true≢false (sym noted ∙ ap (λ (n : ℕ). is_rest P planes again u n) (zero-of (place u)) ∙ never-rest P planes again u)
+  where
+    zero-of : (o : Option Place) → number_of_place (replicate rows []) o ≡ 0
+    zero-of None = refl
+    zero-of (Some there) = none-at rows there.row there.column
