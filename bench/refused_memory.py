@@ -1,7 +1,7 @@
 #!/usr/bin/env python3
 """Refuses each allocation of runs of the built desk in turn: replays, recoveries alone and with workers, checks, made-up days, runs
 that go on with a journal on the disk and a refused command, over the host's folder by the program, and over the folder in memory by
-its test, where that is built.
+a case of desk_rows, where that is built.
 
 Each run must end with status 6 or with its own status, and with its own status it must write what it writes where nothing is refused.
 With status 6 the output files are whole up to one, which has a front of its text, and what the report has is a front of it, before the
@@ -17,13 +17,13 @@ import tempfile
 from concurrent.futures import ThreadPoolExecutor
 from typing import NamedTuple
 
+import memory_case
 from judge.stored import file_payloads
 
 HERE = os.path.dirname(os.path.abspath(__file__))
 CRATES = os.path.join(os.path.dirname(HERE), "crates")
 PROGRAM = os.path.join(CRATES, "desk", "out", "desk")
-TESTS = os.path.join(CRATES, "desk_tests", "out", "desk_tests_tests")
-TEST = "tests::memory::running_out_of_memory_gives_status_6_or_the_runs_own"
+ROWS = os.path.join(CRATES, "desk_rows", "out", "desk_rows")
 DAY = os.path.join(os.path.dirname(HERE), "examples", "disrupted")
 ROTATIONS = "F1 01/03/08 P1\nF2 01/03/08 P1\nF3 01/03/08 P2\n"
 CHEAPER = "1,move,set F3 01/03/08 + P2 01/03/08 12:00 + P1 01/03/08 12:00\n"
@@ -232,17 +232,18 @@ def runs_in(shim, folder):
     yield Run("`gen` with words that are no command", "gen {out} --size 41", seats)
 
 
-def refuse_in_test(shim):
-    """How often the test was run with an allocation refused, and how often it failed."""
-    if not os.path.exists(TESTS):
+def refuse_in_case(shim, folder):
+    """How often the case was played with an allocation refused, and how often it ended as it may not."""
+    if not os.path.exists(ROWS):
         return 0, 0
+    data = memory_case.laid_out(folder)
 
-    def status_of(refuse):
+    def played(refuse):
         env = {**os.environ, "LD_PRELOAD": shim, "REFUSE": str(refuse)}
-        return subprocess.run([TESTS, TEST], capture_output=True, text=True, env=env)
+        return subprocess.run([ROWS], cwd=data, capture_output=True, text=True, env=env)
 
-    calls = int(status_of(0).stderr.split()[-1])
-    return calls, sum(status_of(refuse).returncode != 0 for refuse in range(1, calls + 1))
+    calls = int(played(0).stderr.split()[-1])
+    return calls, sum(not memory_case.is_right(played(refuse)) for refuse in range(1, calls + 1))
 
 
 def main():
@@ -257,8 +258,8 @@ def main():
             tried, six, wrong = tried + more[0], six + more[1], wrong + more[2]
         print("%d allocations refused: %d runs ended with 6, %d as if none was refused, %d wrong"
               % (tried, six, tried - six - wrong, wrong))
-        calls, failed = refuse_in_test(shim)
-        print("%d allocations of the test refused: %d times it failed" % (calls, failed))
+        calls, failed = refuse_in_case(shim, folder)
+        print("%d allocations of the case refused: %d times it ended otherwise" % (calls, failed))
     sys.exit(1 if wrong or failed else 0)
 
 

@@ -6,8 +6,8 @@ Usage: bench/row.py [--second] NAME ..
 With --second the cases are played by the package bench/judge.
 
 Prints each transcript as it comes, and ends with 1 where one is not as it stands in the case. A run
-whose calls are to fail, whose sink has little room, or in which somebody waits at the gate, can't be made so: it is left out, with
-its answer. So are all runs of a case that keeps a journal on a disk, whose bytes one run hands to the next. A run whose calls are to give
+whose calls are to fail, whose sink has little room, in which somebody waits at the gate, or of which it is told what a listener hears,
+can't be made so: it is left out, with its answer. So are all runs of a case that keeps a journal on a disk, whose bytes one run hands to the next. A run whose calls are to give
 and take few bytes is made as any other.
 """
 import itertools
@@ -80,7 +80,7 @@ def change(day, before, words):
         write(path, read(path) + b"".join(rows))
     elif verb == "take":
         write(path, before.get(name, b""))
-    elif verb not in ("cut", "sizes", "repeats", "last"):
+    elif verb not in ("cut", "sizes", "repeats", "last", "heard"):
         sys.exit("no command: " + words)
 
 
@@ -196,7 +196,7 @@ def play(case, folder, run):
         if not line or line.startswith(("#", "$ ")):
             text += line.encode() + b"\n"
         if line.startswith("$ ./desk"):
-            by_hand = not on_disk and not any(words.startswith(("fail ", "room ", "hold ")) for words in changes)
+            by_hand = not on_disk and not any(words.startswith(("fail ", "room ", "hold ", "heard")) for words in changes)
             if by_hand:
                 day = ready_day(case, folder, before, changes)
                 told, before = played(run, day, line[len("$ ./desk"):], changes)

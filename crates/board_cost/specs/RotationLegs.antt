@@ -86,9 +86,9 @@ is_there (Some there) airport = there.0 == airport
 abbrev pub without_room : RotationRow → RotationRow
 without_room rotation = record rotation { room = 0 }
 
--- the same, of which no edit can be taken back
-abbrev pub as_new : RotationRow → RotationRow
-as_new rotation = record rotation { edits = 0; room = 0 }
+-- an aircraft with no edits to take back, whatever room it has
+abbrev pub without_edits_and_room : RotationRow → RotationRow
+without_edits_and_room rotation = record rotation { edits = 0; room = 0 }
 
 -- this is kept of aircraft p
 pub record IsRotationOf (I : Situation) (P : PlanRows) (p : ℕ) (rotation : RotationRow) : Type 0 where

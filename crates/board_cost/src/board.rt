@@ -7,7 +7,7 @@ ghost use Rattle.desk_data.specs.Situation.{Situation, legs_of, planes_of, reser
 ghost use Rattle.desk_data.specs.Valid.{AreGroupsOf, IsPlanFor, IsRowOf};
 ghost use Rattle.desk_rules.specs.Cost.{cost, grains};
 ghost use Rattle.leg_users.specs.Users.{HasUsers, has_user, users};
-ghost use Rattle.board_kit.specs.Boards.{CanGoBack, IsChanged, IsForgotten, IsReady, IsTakenBack, IsUnchanged};
+ghost use Rattle.board_kit.specs.Boards.{CanGoBack, IsChanged, HasNoPast, IsReady, IsTakenBack, IsUnchanged};
 ghost use Rattle.board_cost.specs.Board.{HasFewEdits, HasPlace, HasRoomFor, IsBoardOf, IsRoomierFleet};
 
 use crate::balance::Balance;
@@ -76,7 +76,7 @@ impl CostBoard {
     /// A board of the same plan, with an empty past. What is kept is copied as it stands: no cost is worked out
     /// anew, and no row of the plan is read. The only error is out of memory.
     pub fn copy(&self, alloc: Global) -> Result<CostBoard, NoMem>
-        ensures { IfOk result (λ copy. IsForgotten IsBoardOf self.now copy) }
+        ensures { IfOk result (λ copy. HasNoPast IsBoardOf self.now copy) }
     {
         let fleet = self.fleet.copy(alloc)?;
         Ok(CostBoard {
@@ -179,7 +179,7 @@ impl CostBoard {
 
     /// Empties the past; the total stays. It takes no memory.
     pub fn forget(&mut self)
-        ensures { IsForgotten IsBoardOf self.old self.new }
+        ensures { HasNoPast IsBoardOf self.old self.new }
     {
         self.past.clear();
         self.fleet.forget();

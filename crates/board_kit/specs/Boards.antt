@@ -39,9 +39,9 @@ IsUnchanged is I P old new = (Ps : List PlanRows) → is I P Ps old → is I P P
 abbrev pub IsTakenBack : {B : Type 0} → (Situation → PlanRows → List PlanRows → B → Type 0) → B → B → Type 0
 IsTakenBack is old new = (I : Situation) (P Q : PlanRows) (Qs : List PlanRows) → is I P (Q ∷ Qs) old → is I Q Qs new
 
--- a board, or a copy of it, is that of its plan, and its past is empty now
-abbrev pub IsForgotten : {B : Type 0} → (Situation → PlanRows → List PlanRows → B → Type 0) → B → B → Type 0
-IsForgotten is old new = (I : Situation) (P : PlanRows) (Ps : List PlanRows) → is I P Ps old → is I P [] new
+-- a board, or a copy of it, is that of its plan, and has no past
+abbrev pub HasNoPast : {B : Type 0} → (Situation → PlanRows → List PlanRows → B → Type 0) → B → B → Type 0
+HasNoPast is old new = (I : Situation) (P : PlanRows) (Ps : List PlanRows) → is I P Ps old → is I P [] new
 
 -- n is how many plans a board's past has
 abbrev pub IsDepth : {B : Type 0} → (Situation → PlanRows → List PlanRows → B → Type 0) → ℕ → B → Type 0

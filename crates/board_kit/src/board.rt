@@ -4,7 +4,7 @@ ghost use Rattle.std.specs.Prelude.{◌+◌, ◌<◌, ◌≤◌, List as Items, 
 ghost use Rattle.desk_data.specs.PlanRows.{PlanRows, AreGroups, with_row, with_groups};
 ghost use Rattle.desk_data.specs.Situation.{Situation, legs_of, planes_of, reservations_of, res_at};
 ghost use Rattle.desk_data.specs.Valid.{AreGroupsOf, IsPlanFor, IsRowOf};
-ghost use Rattle.board_kit.specs.Boards.{IsReady, CanGoBack, IsChanged, IsUnchanged, IsTakenBack, IsForgotten, IsDepth};
+ghost use Rattle.board_kit.specs.Boards.{IsReady, CanGoBack, IsChanged, IsUnchanged, IsTakenBack, HasNoPast, IsDepth};
 
 use desk_data::{Group, Instance, Leg, NoMem, Res, Row, Steps};
 use plan_pages::Pages;
@@ -32,7 +32,7 @@ pub trait Board: Drop {
     /// worked out anew, and no row of the plan is read. The board itself stays as it is. The only error is out
     /// of memory.
     fn copy(&self, alloc: Global) -> Result<Self, NoMem>
-        ensures { IfOk result (λ copy. IsForgotten is_board_of self.now copy) };
+        ensures { IfOk result (λ copy. HasNoPast is_board_of self.now copy) };
 
     /// How many changes can be taken back: the length of the past, at most 2,000,000,000.
     fn depth(&self) -> u32
@@ -88,5 +88,5 @@ pub trait Board: Drop {
 
     /// Empties the past, so that what was changed is not taken back any more. It takes no memory.
     fn forget(&mut self)
-        ensures { IsForgotten is_board_of self.old self.new };
+        ensures { HasNoPast is_board_of self.old self.new };
 }

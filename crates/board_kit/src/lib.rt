@@ -6,7 +6,8 @@
 //!     let other = all.copy(alloc)?;                                  // of the same plan, with no past
 //!
 //! Proved: `Both` is a board where its two parts are boards, for a change that finds no memory too: where
-//! the second finds none, the first takes the change back. `back` takes no memory, and a copy judges nothing.
+//! the second finds none, the first takes the change back. `back` takes no memory, and a copy is the board
+//! of the same plan, with no past.
 #![tactic(auto)]
 
 mod board;

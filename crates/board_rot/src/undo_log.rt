@@ -61,7 +61,7 @@ impl UndoLog {
         })
     }
 
-    /// The same summary, of which no edit can be taken back. The only error is out of memory.
+    /// The same summary with no edits to take back. The only error is out of memory.
     pub(crate) fn copy(&self, alloc: Global) -> Result<UndoLog, NoMem>
         ensures { IfOk result (λ copy. seen copy ≡ record (seen self.now) { edits = [] }) }
     {
@@ -230,7 +230,7 @@ fn forget_all(rotations: &mut Vec<Rotation>)
     }
 }
 
-/// The same rotation legs of each aircraft, of which no edit can be taken back.
+/// The same rotation legs of each aircraft with no edits to take back.
 fn copied_rotations(alloc: Global, rotations: &[Rotation]) -> Result<Vec<Rotation>, NoMem>
     ensures { IfOk result (λ copies. copies.items ≡ map without_edits rotations.now) }
 {

@@ -80,7 +80,7 @@ impl UndoLog {
         })
     }
 
-    /// The same summary, of which no edit can be taken back. The only error is out of memory.
+    /// The same summary with no edits to take back. The only error is out of memory.
     pub(crate) fn copy(&self, alloc: Global) -> Result<UndoLog, NoMem>
         ensures { IfOk result (λ copy. copy ≡ record self.now { edits = [] }) }
     {

@@ -7,3 +7,4 @@ mod ValidPax
 mod ValidParts
 mod OrderLemmas
 mod FilledLemmas
+mod ToldLemmas

@@ -1,3 +1,4 @@
 pub mod Legs
+pub mod Told
 pub mod Day
 pub mod Batches

@@ -1,6 +1,7 @@
 //! The day of the rows.
 
-ghost use Rattle.std.specs.Prelude.{◌≡◌, map, IfOk};
+ghost use Rattle.std.specs.Prelude.{◌≡◌, ◌≢◌, map, IfOk};
+ghost use Rattle.std.specs.List.{AllPairs};
 ghost use Rattle.build_tables.specs.Facts.{AreFileRows};
 ghost use Rattle.build_tables.specs.Fitting.{AreFew, FitTogether};
 ghost use Rattle.build_day.specs.Legs.{leg_of, HasKnownFlights};
@@ -37,6 +38,7 @@ fn legs(alloc: Global, tables: &NameTables<'_>) -> Result<Vec<LegInfo>, NoMem>
 fn parts(alloc: Global, tables: &NameTables<'_>) -> Result<Parts, NoMem>
     requires rows { AreFileRows tables.now.files.now }
     requires few { AreFew tables.now.files.now }
+    requires apart { AllPairs (λ a b. a.airport ≢ b.airport) tables.now.files.now.airports }
     requires known { HasKnownFlights tables.now.files.now }
     ensures { IfOk result (λ parts. parts ≡ parts_of tables.now.files.now) }
 {

@@ -5,7 +5,7 @@
 //!     if notes.knows(res, place) { .. }      // no rebooking off that path is better
 //!     day.put_notes(notes);
 //!
-//! Notes are of one plan, of which they keep a copy: how many were aboard its legs, and off which paths no rebooking is
+//! Notes are of one plan, whose pages they share: how many were aboard its legs, and off which paths no rebooking is
 //! better there. They say nothing of any other plan, and of no other day: whoever has notes of an earlier plan has to
 //! see first what of them still holds (`near_notes` does). Beside them a day keeps notes of its units of legs (`unit_notes`,
 //! and `near_later` for a later plan). A day keeps its notes as long as it is the same, and contracts see none of them.

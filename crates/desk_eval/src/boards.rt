@@ -8,7 +8,7 @@ ghost use Rattle.desk_rules.specs.Numbers.{numbers};
 ghost use Rattle.desk_rules.specs.Least.{least};
 ghost use Rattle.desk_rules.specs.Cost.{cost, grains};
 ghost use Rattle.desk_model.specs.Push.{rotation};
-ghost use Rattle.board_kit.specs.Boards.{IsForgotten};
+ghost use Rattle.board_kit.specs.Boards.{HasNoPast};
 ghost use Rattle.board_rot.specs.Boards.{planes_on};
 ghost use Rattle.desk_eval.specs.Asked.{keeps_paths};
 ghost use Rattle.desk_eval.specs.Boards.{AreBoardsOf, rotations_of, slots_of, seats_of, cost_board_of};
@@ -63,7 +63,7 @@ impl Boards {
 
     /// The boards of the same plan, with no past. Nothing is judged or worked out anew.
     pub(crate) fn copy(&self, alloc: Global) -> Result<Boards, NoMem>
-        ensures { IfOk result (λ copy. IsForgotten AreBoardsOf self.now.all copy.all) }
+        ensures { IfOk result (λ copy. HasNoPast AreBoardsOf self.now.all copy.all) }
     {
         let all = self.all.copy(alloc)?;
         Ok(Boards { all })

@@ -82,17 +82,3 @@ pub(crate) fn change_groups<L: Ledger>(
         }
     }
 }
-
-/// Equal groups.
-pub(crate) fn copied_groups(alloc: Global, groups: &[Group]) -> Result<Vec<Group>, NoMem>
-    ensures { IfOk result (λ copy. copy.items ≡ groups.now) }
-{
-    let mut copy = Vec::with_capacity(alloc, groups.len())?;
-    for group in groups {
-        copy.push(Group {
-            count: group.count,
-            path: group.path.copy(alloc)?,
-        })?;
-    }
-    Ok(copy)
-}

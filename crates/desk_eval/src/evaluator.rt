@@ -5,7 +5,7 @@ ghost use Rattle.std.specs.Arc.{arc_value};
 ghost use Rattle.desk_eval.specs.Asked.{AreBooked};
 
 use crate::boards::Boards;
-use crate::change::{change_groups, change_row, copied_groups};
+use crate::change::{change_groups, change_row};
 use board_kit::Board;
 use day_notes::{NotedDay, Notes, UnitNotes};
 use desk_data::{
@@ -14,7 +14,7 @@ use desk_data::{
 use hour_counts::KnowsHours;
 use leg_users::LegUsers;
 use plan_groups::KnowsAboard;
-use plan_pages::{Page, Pages};
+use plan_pages::{Page, Pages, copied_groups};
 use std::alloc::Global;
 use std::marker::Model;
 use std::sync::Arc;
@@ -89,8 +89,8 @@ impl Evaluator {
         Evaluator::of_pages(alloc, inst, pages, booked)
     }
 
-    /// The evaluator of a plan that is handed in and not copied, with an empty past. The plan is one for the
-    /// instance. The only error is out of memory.
+    /// The evaluator of a plan that is handed in and whose groups are not copied, with an empty past. The plan is one for
+    /// the instance. The only error is out of memory, after which the plan is given up.
     pub fn of_plan(alloc: Global, inst: Instance, plan: Plan) -> Result<Evaluator, NoMem>
         requires { IsPlanFor inst plan }
         ensures { IfOk result (λ opened. opened ≡ record { inst = inst; rows = plan; past = [] }) }
@@ -102,13 +102,14 @@ impl Evaluator {
 
     /// The evaluator of another plan of the same day, which may have gone on and have more orders, with an
     /// empty past. The plan is handed in, and one for the instance that is handed in. What depends on the rows
-    /// of the day alone is shared. The only error is out of memory.
+    /// of the day alone is shared, and so are the pages on which both plans have the same. The only error is out of
+    /// memory, after which the plan is given up.
     pub fn of_same_day(&self, alloc: Global, inst: Instance, plan: Plan) -> Result<Evaluator, NoMem>
         requires day { inst.parts ≡ self.now.inst.parts }
         requires plan { IsPlanFor inst plan }
         ensures { IfOk result (λ opened. opened ≡ record { inst = inst; rows = plan; past = [] }) }
     {
-        let pages = Pages::from_plan(alloc, plan, inst.reservations())?;
+        let pages = self.pages.with_plan(alloc, &inst, plan)?;
         let booked = self.booked.clone()?;
         Evaluator::of_pages(alloc, inst, pages, booked)
     }
@@ -261,7 +262,7 @@ impl Evaluator {
 
     /// An evaluator of the same instance and plan, with an empty past. The pages of the plan are shared and the
     /// boards are copied as they stand, so that nothing is judged and no row is read. The only error is out of
-    /// memory.
+    /// memory; that too many share a page already is told as that.
     pub fn copy(&self, alloc: Global) -> Result<Evaluator, NoMem>
         ensures { IfOk result (λ copy. copy ≡ record self.now { past = [] }) }
     {

@@ -31,15 +31,32 @@ pub(crate) fn case_names(rt: &HostRuntime) -> io::Result<Vec<String>> {
 
 // Adds the texts of the files of a folder. Its transcript is left out; another file is an error.
 fn add_folder(rt: &HostRuntime, texts: &mut Texts, folder: &str) -> io::Result<()> {
-    let alloc = rt.alloc();
     for name in &names_in(rt, folder, false)? {
         if name.as_str() != "transcript" {
             let file = file_of(name.as_str()).ok_or(io::Error::from(ErrorKind::InvalidFilename))?;
-            let path = format!(in alloc; "{folder}/{name}")?;
-            texts.push((file, fs::read(rt, path.as_str())?))?;
+            texts.push((file, bytes_in(rt, folder, name.as_str())?))?;
         }
     }
     Ok(())
+}
+
+// The bytes of a file of a folder.
+fn bytes_in(rt: &HostRuntime, folder: &str, name: &str) -> io::Result<Vec<u8>> {
+    let path = format!(in rt.alloc(); "{folder}/{name}")?;
+    fs::read(rt, path.as_str())
+}
+
+// The texts with which the runs of a case begin.
+fn day_of(rt: &HostRuntime, name: &str) -> io::Result<Texts> {
+    let mut day = Vec::new(rt.alloc());
+    add_folder(rt, &mut day, name)?;
+    add_folder(rt, &mut day, "usual")?;
+    Ok(day)
+}
+
+fn transcript_of(rt: &HostRuntime, name: &str) -> io::Result<String> {
+    let path = format!(in rt.alloc(); "{name}/transcript")?;
+    fs::read_to_string(rt, path.as_str())
 }
 
 /// Plays a case, with these threads for its runs: none where it gives what its transcript says, and else the transcript as it came.
@@ -49,12 +66,8 @@ pub(crate) fn play_case<R: Threads + Wait + Sync>(
     name: &str,
 ) -> io::Result<Option<String>> {
     let alloc = rt.alloc();
-    let mut day = Vec::new(alloc);
-    add_folder(rt, &mut day, name)?;
-    add_folder(rt, &mut day, "usual")?;
-    let path = format!(in alloc; "{name}/transcript")?;
-    let transcript = fs::read_to_string(rt, path.as_str())?;
-    let played = play(threads, alloc, day, transcript.as_str())?;
+    let transcript = transcript_of(rt, name)?;
+    let played = play(threads, alloc, day_of(rt, name)?, transcript.as_str())?;
     if played.as_slice() == transcript.as_bytes() {
         return Ok(None);
     }

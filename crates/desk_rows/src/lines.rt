@@ -56,6 +56,9 @@ pub(crate) enum Command<'a> {
     Cut(u32),
     /// `sizes` and `repeats`: how the files that the run writes are given
     Show(Shown),
+    /// `heard`: what a listener hears of the next run is given after its report: for each batch that was taken and each move that was
+    /// accepted `heard`, the batch, the changes and the cost, and `tried` where moves were tried after that
+    Heard,
     /// `last`: of the views that were seen the last one is given alone; which stand before it depends on when the viewer looked
     Last,
 }
@@ -159,6 +162,7 @@ fn command_of(words: &str) -> Option<Command<'_>> {
         "cut" => cut_of(rest),
         "sizes" => Some(Command::Show(Shown::Sizes)),
         "repeats" => Some(Command::Show(Shown::Repeats)),
+        "heard" => Some(Command::Heard),
         "last" => Some(Command::Last),
         _ => None,
     }

@@ -5,11 +5,12 @@
 //! must give.
 //!
 //! A case costs no proof: it is a few files that a person can read, and `bench/row.py` runs it on the disk
-//! by hand. It calls `desk_main` of desk_top over the folder and the sink in memory of desk_folder.
+//! by hand. It calls `desk_main_heard` of desk_top over the folder and the sink in memory of desk_folder.
 #![tactic(auto)]
 
 mod cases;
 mod gate;
+mod heard;
 mod lines;
 mod play;
 mod sink;
@@ -22,17 +23,27 @@ use std::process::ExitCode;
 use std::sync::Wait;
 use std::thread::Threads;
 
+// Plays a case, and prints its name, with what came where that is something else than must come.
+fn is_as_expected<R: Threads + Wait + Sync>(
+    rt: HostRuntime,
+    threads: &R,
+    name: &str,
+) -> io::Result<bool> {
+    let Some(played) = play_case(&rt, threads, name)? else {
+        println!(rt; "{name}")?;
+        return Ok(true);
+    };
+    println!(rt; "{name}: other than expected\n{played}")?;
+    Ok(false)
+}
+
 // Plays each case, and answers how many gave something else than they must give.
 fn play_all<R: Threads + Wait + Sync>(rt: HostRuntime, threads: &R) -> io::Result<u64> {
     let names = case_names(&rt)?;
     let mut others = 0u64;
     for name in &names {
-        match play_case(&rt, threads, name.as_str())? {
-            None => println!(rt; "{name}")?,
-            Some(played) => {
-                others = others.saturating_add(1);
-                println!(rt; "{name}: other than expected\n{played}")?;
-            }
+        if !is_as_expected(rt, threads, name.as_str())? {
+            others = others.saturating_add(1);
         }
     }
     println!(rt; "{} cases, {others} other than expected", names.len())?;

@@ -1,13 +1,14 @@
 //! Plays a transcript: runs the desk as its commands say, and puts what each run gave after them.
 
 use crate::gate::{Entrance, HoldingGate};
+use crate::heard::Notes;
 use crate::lines::{Call, Command, Line, Shown, line_of, unescaped};
 use crate::sink::ReportSink;
 use crate::texts::{Texts, add_all, last_seen, push_rows, text_of, written_texts};
 use crate::told::{push_bytes, push_file, push_front, push_text};
 use desk_disk::MemDisk;
 use desk_folder::{ALL_FILES, File, MemFolder};
-use desk_top::desk_main;
+use desk_top::desk_main_heard;
 use std::alloc::{AllocError, Global};
 use std::sync::Wait;
 use std::thread::Threads;
@@ -110,6 +111,8 @@ struct Player {
     shown: Shown,
     /// whether of the views that the next run reports the last one is given alone
     last: bool,
+    /// whether what a listener hears of the next run is given
+    heard: bool,
     /// what the run before wrote
     written: Texts,
     /// the bytes of the file on the disk, which each run goes on with
@@ -129,6 +132,7 @@ impl Drop for Player {
             holds: _,
             shown: _,
             last: _,
+            heard: _,
             written: _,
             stored: _,
             runs: _,
@@ -152,18 +156,16 @@ pub(crate) fn play<R: Threads + Wait + Sync>(
         holds: Vec::new(alloc),
         shown: Shown::Texts,
         last: false,
+        heard: false,
         written: Vec::new(alloc),
         stored: Vec::new(alloc),
         runs: 0,
         played: Vec::new(alloc),
     };
-    for line in transcript.lines() {
-        player.play_line(threads, line)?;
-    }
-    if player.runs == 0 {
-        player.push("nothing was run\n")?;
-    }
-    Ok(player.end())
+    let is_played = player.play_lines(threads, transcript);
+    let played = player.end();
+    is_played?;
+    Ok(played)
 }
 
 // The words of a run; `''` is one of no bytes.
@@ -187,6 +189,7 @@ impl Player {
             holds: _,
             shown: _,
             last: _,
+            heard: _,
             written: _,
             stored: _,
             runs: _,
@@ -197,6 +200,20 @@ impl Player {
 
     fn push(&mut self, text: &str) -> Result<(), AllocError> {
         self.played.extend_from_slice(text.as_bytes())
+    }
+
+    fn play_lines<R: Threads + Wait + Sync>(
+        &mut self,
+        threads: &R,
+        transcript: &str,
+    ) -> Result<(), AllocError> {
+        for line in transcript.lines() {
+            self.play_line(threads, line)?;
+        }
+        if self.runs == 0 {
+            self.push("nothing was run\n")?;
+        }
+        Ok(())
     }
 
     fn play_line<R: Threads + Wait + Sync>(
@@ -269,6 +286,10 @@ impl Player {
                 self.shown = shown;
                 Ok(())
             }
+            Command::Heard => {
+                self.heard = true;
+                Ok(())
+            }
             Command::Last => {
                 self.last = true;
                 Ok(())
@@ -314,7 +335,8 @@ impl Player {
         let (mut folder, mut sink, mut disk) = faults.outside(alloc, inputs, stored);
         let holds = std::mem::replace(&mut self.holds, Vec::new(alloc));
         let gate = HoldingGate::new(holds.as_slice());
-        let status = desk_main(
+        let mut notes = Notes::new(alloc);
+        let status = desk_main_heard(
             threads,
             alloc,
             words.as_slice(),
@@ -322,13 +344,29 @@ impl Player {
             &mut sink,
             &gate,
             &mut disk,
+            &mut notes,
         );
-        if !gate.all_came() {
+        let came = gate.all_came();
+        let (report, heard) = (sink.bytes.as_slice(), notes.lines.as_slice());
+        self.tell_run(came, status, report, heard, &folder, disk.bytes())
+    }
+
+    // Adds what a run gave, with the bytes of the disk that it left, after whether all came to where its gate holds.
+    fn tell_run(
+        &mut self,
+        came: bool,
+        status: u8,
+        report: &[u8],
+        heard: &[u8],
+        folder: &MemFolder,
+        stored: &[u8],
+    ) -> Result<(), AllocError> {
+        if !came {
             self.push("not all came to the gate\n")?;
         }
         self.runs = self.runs.saturating_add(1);
-        self.tell(status, sink.bytes.as_slice(), &folder)?;
-        self.keep_disk(disk.bytes())
+        self.tell(status, report, heard, folder)?;
+        self.keep_disk(stored)
     }
 
     // Runs the desk with a text of one file in the place of the one that these files or the day have, and answers what it gave.
@@ -340,12 +378,26 @@ impl Player {
         text: &[u8],
         others: &[(File, Vec<u8>)],
     ) -> Result<Vec<u8>, AllocError> {
-        let alloc = self.alloc;
-        let before = std::mem::replace(&mut self.played, Vec::new(alloc));
-        self.change(file, Vec::from_slice(alloc, text)?)?;
+        let before = std::mem::replace(&mut self.played, Vec::new(self.alloc));
+        let is_run = self.run_with(threads, words, file, text, others);
+        let given = std::mem::replace(&mut self.played, before);
+        is_run?;
+        Ok(given)
+    }
+
+    // Runs the desk with this text of one file, and these of others.
+    fn run_with<R: Threads + Wait + Sync>(
+        &mut self,
+        threads: &R,
+        words: &str,
+        file: File,
+        text: &[u8],
+        others: &[(File, Vec<u8>)],
+    ) -> Result<(), AllocError> {
+        let text = Vec::from_slice(self.alloc, text)?;
+        self.change(file, text)?;
         add_all(&mut self.changed, others)?;
-        self.run(threads, words)?;
-        Ok(std::mem::replace(&mut self.played, before))
+        self.run(threads, words)
     }
 
     // Runs the desk with each beginning of a file, and adds what they gave, once for those one after another that gave the same.
@@ -358,15 +410,35 @@ impl Player {
         let alloc = self.alloc;
         let text = self.text_now(file)?;
         let others = std::mem::replace(&mut self.changed, Vec::new(alloc));
-        let mut from = 0;
         let mut last = Vec::new(alloc);
+        self.run_fronts_of(
+            threads,
+            file,
+            words,
+            text.as_slice(),
+            others.as_slice(),
+            &mut last,
+        )
+    }
+
+    // The same of this text, beside these of others; `last` is what the run before gave.
+    fn run_fronts_of<R: Threads + Wait + Sync>(
+        &mut self,
+        threads: &R,
+        file: File,
+        words: &str,
+        text: &[u8],
+        others: &[(File, Vec<u8>)],
+        last: &mut Vec<u8>,
+    ) -> Result<(), AllocError> {
+        let mut from = 0;
         for size in 0..=text.len() {
             let (front, _) = text.split_at(size.min(text.len()));
-            let given = self.given_by(threads, words, file, front, others.as_slice())?;
+            let given = self.given_by(threads, words, file, front, others)?;
             if given.as_slice() != last.as_slice() {
                 push_front(&mut self.played, from, size, last.as_slice())?;
                 from = size;
-                last = given;
+                *last = given;
             }
         }
         let after = text.len().saturating_add(1);
@@ -374,14 +446,17 @@ impl Player {
     }
 
     // Adds what a run gave, and keeps what it wrote.
-    fn tell(&mut self, status: u8, report: &[u8], folder: &MemFolder) -> Result<(), AllocError> {
-        let ended = format!(in self.alloc; "status {status}\n")?;
-        self.push(ended.as_str())?;
-        if self.last {
-            let report = last_seen(self.alloc, report)?;
-            push_text(&mut self.played, report.as_slice())?;
-        } else {
-            push_text(&mut self.played, report)?;
+    fn tell(
+        &mut self,
+        status: u8,
+        report: &[u8],
+        heard: &[u8],
+        folder: &MemFolder,
+    ) -> Result<(), AllocError> {
+        self.push_status(status)?;
+        self.push_report(report)?;
+        if self.heard {
+            push_text(&mut self.played, heard)?;
         }
         for file in ALL_FILES {
             let text = folder.written(file);
@@ -391,8 +466,23 @@ impl Player {
         }
         self.shown = Shown::Texts;
         self.last = false;
+        self.heard = false;
         self.written = written_texts(self.alloc, folder, &ALL_FILES)?;
         Ok(())
+    }
+
+    fn push_status(&mut self, status: u8) -> Result<(), AllocError> {
+        let ended = format!(in self.alloc; "status {status}\n")?;
+        self.push(ended.as_str())
+    }
+
+    // Adds a report, of whose views the last stands alone where that is asked for.
+    fn push_report(&mut self, report: &[u8]) -> Result<(), AllocError> {
+        if !self.last {
+            return push_text(&mut self.played, report);
+        }
+        let report = last_seen(self.alloc, report)?;
+        push_text(&mut self.played, report.as_slice())
     }
 
     // Adds the bytes of the file on the disk, where it has any, and keeps them.

@@ -1,4 +1,4 @@
-//! Tests of what reads and writes files and text: the folder and its loops, the host's disk, and fields that no file has.
+//! Tests of what reads and writes files and text: the folder, the host's disk, and fields that no file has.
 //!
 //! There is no code here but tests: a crate with tests is proved twice, so they stand in a crate of their
 //! own. A table of like cases is one test, and a row that fails names itself. What a run of the program

@@ -2,5 +2,4 @@
 
 mod disk;
 mod folder;
-mod loops;
 mod text;

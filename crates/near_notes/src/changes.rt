@@ -9,10 +9,10 @@ ghost use Rattle.day_notes.specs.Notes.{HaveAboard};
 ghost use Rattle.near_memory.specs.Untouched.{IsStill};
 ghost use Rattle.near_notes.specs.Changes.{AreAllStill, AreChanges};
 
-use crate::rows::{has_no_fewer, is_same_row};
+use crate::rows::has_no_fewer;
 use desk_data::{Cabin, Instance, Leg, NoMem, Seats};
 use plan_groups::KnowsAboard;
-use plan_pages::Pages;
+use plan_pages::{Pages, is_same_row};
 use std::alloc::Global;
 
 /// The legs that were touched between two plans: that have another row, or fewer passengers in a cabin.

@@ -14,7 +14,6 @@
 #![tactic(auto)]
 
 mod changes;
-mod groups;
 mod later;
 mod links;
 mod onward;

@@ -1,31 +1,12 @@
-//! What changed of one leg.
+//! How many are aboard a leg.
 
 ghost use Rattle.std.specs.Prelude.{◌≡◌, ◌<◌, ◌≤◌, length, true};
 ghost use Rattle.desk_units.specs.declared.numbers.Cabin.{Cabin as InCabin};
 ghost use Rattle.desk_data.specs.PlanRows.{PlanRows};
 ghost use Rattle.desk_rules.specs.Passengers.{aboard, seats_in};
 
-use desk_data::{Cabin, Leg, Row, Seats};
+use desk_data::{Cabin, Leg, Seats};
 use plan_groups::KnowsAboard;
-
-/// Whether two rows are the same.
-pub(crate) fn is_same_row(was: Row, row: Row) -> bool
-    ensures { result ≡ true → row ≡ was }
-{
-    match was {
-        Row::Flown { plane, dep } => match row {
-            Row::Flown {
-                plane: other,
-                dep: at,
-            } => plane.0 == other.0 && dep.0 == at.0,
-            Row::Cancelled => false,
-        },
-        Row::Cancelled => match row {
-            Row::Flown { .. } => false,
-            Row::Cancelled => true,
-        },
-    }
-}
 
 /// Whether at least so many are aboard a leg in each cabin.
 pub(crate) fn has_no_fewer<A: KnowsAboard>(knower: &A, leg: Leg, had: Seats) -> bool

@@ -11,12 +11,11 @@ ghost use Rattle.near_notes.specs.Onward.{IsClear, may_follow};
 ghost use Rattle.near_notes.specs.Links.{AreLinks};
 
 use crate::changes::Changes;
-use crate::groups::are_same_groups;
 use crate::links::Links;
 use crate::onward::Outset;
 use desk_data::{Cabin, Group, Instance, Leg, Res};
 use flight_net::{begun_path, is_other_stem};
-use plan_pages::Pages;
+use plan_pages::{Pages, are_same_groups};
 
 /// Two plans of a day, the later one as it stands, and what changed between them.
 #[derive(Drop)]

@@ -3,7 +3,7 @@ use Rattle.std.proofs.Common.{◌≡◌, ℕ, zero, suc, ◌+◌, ◌-◌, ◌*�
 use Rattle.std.specs.Prelude.{min}
 use Rattle.std.proofs.lemmas.List.{length-set, set-set, set-get_or, set_split, get_or-set_same, get_or_read, set-append_left, set-append_right, take_at, drop_at}
 use Rattle.std.proofs.lemmas.List.Concat.{flat_map-append, get_or-flat_map}
-use Rattle.paged_list.specs.Pages.{joined, ArePages, PageItems, with_page, IsPageOf}
+use Rattle.paged_list.specs.Pages.{joined, ArePages, PageItems, with_former_page, IsFormerPageOf}
 
 -- before page k stand 16 items for each page before it
 before : {X : Type 0} (pages : List (List X)) (k : ℕ) → ArePages pages → k < length pages → length (joined (take k pages)) ≡ k * 16
@@ -72,7 +72,7 @@ split_at : {X : Type 0} (pages : List (List X)) (k : ℕ) (other : List X) → k
 split_at pages k other lt = ap joined (set_split pages k other lt) ∙ flat_map-append (λ page. page) (take k pages) (other ∷ drop (suc k) pages)
 
 -- all items of pages of which one is another of the same size
-joined_set : {X : Type 0} (pages : List (List X)) (k : ℕ) (d other : List X) → ArePages pages → k < length pages → length other ≡ length (get_or pages k d) → joined (set pages k other) ≡ with_page (joined pages) (record { number = k; items = other })
+joined_set : {X : Type 0} (pages : List (List X)) (k : ℕ) (d other : List X) → ArePages pages → k < length pages → length other ≡ length (get_or pages k d) → joined (set pages k other) ≡ with_former_page (joined pages) (record { number = k; items = other })
 joined_set pages k d other are lt same =
     let front = joined (take k pages) in
     let page = get_or pages k d in
@@ -145,7 +145,7 @@ pub anew_pages : {X : Type 0} (pages : List (List X)) (x : ℕ) (a : X) (new : L
 anew_pages pages x a new are of_new = pages_set pages (x / 16) [] new are (same_long pages x a new of_new)
 
 -- the way back
-pub anew_back : {X : Type 0} (pages : List (List X)) (list : List X) (x : ℕ) (a : X) (new had : List X) → ArePages pages → joined pages ≡ list → x < length list → new ≡ set (get_or pages (x / 16) []) (x % 16) a → had ≡ get_or pages (x / 16) [] → with_page (joined (set pages (x / 16) new)) (record { number = x / 16; items = had }) ≡ list
+pub anew_back : {X : Type 0} (pages : List (List X)) (list : List X) (x : ℕ) (a : X) (new had : List X) → ArePages pages → joined pages ≡ list → x < length list → new ≡ set (get_or pages (x / 16) []) (x % 16) a → had ≡ get_or pages (x / 16) [] → with_former_page (joined (set pages (x / 16) new)) (record { number = x / 16; items = had }) ≡ list
 anew_back {X = X} pages list x a new had are is lt of_new of_had =
     let k = x / 16 in
     let now = set pages k new in
@@ -158,7 +158,7 @@ anew_back {X = X} pages list x a new had are is lt of_new of_had =
     ∙ is
 
 -- and that what stood has its place
-pub anew_place : {X : Type 0} (pages : List (List X)) (list : List X) (x : ℕ) (a : X) (new had : List X) → ArePages pages → joined pages ≡ list → x < length list → new ≡ set (get_or pages (x / 16) []) (x % 16) a → had ≡ get_or pages (x / 16) [] → IsPageOf (joined (set pages (x / 16) new)) (record { number = x / 16; items = had })
+pub anew_place : {X : Type 0} (pages : List (List X)) (list : List X) (x : ℕ) (a : X) (new had : List X) → ArePages pages → joined pages ≡ list → x < length list → new ≡ set (get_or pages (x / 16) []) (x % 16) a → had ≡ get_or pages (x / 16) [] → IsFormerPageOf (joined (set pages (x / 16) new)) (record { number = x / 16; items = had })
 anew_place {X = X} pages list x a new had are is lt of_new of_had =
     let k = x / 16 in
     let now = set pages k new in
@@ -172,25 +172,25 @@ anew_place {X = X} pages list x a new had are is lt of_new of_had =
     }
 
 -- a page of the list, among its pages
-pub number_within : {X : Type 0} (pages : List (List X)) (list : List X) (inside page : PageItems X) → ArePages pages → joined pages ≡ list → inside ≡ page → IsPageOf list page → inside.number < length pages
+pub number_within : {X : Type 0} (pages : List (List X)) (list : List X) (inside page : PageItems X) → ArePages pages → joined pages ≡ list → inside ≡ page → IsFormerPageOf list page → inside.number < length pages
 number_within {X = X} pages list inside page are is of_page has =
     let within : page.number * 16 < length (joined pages) = subst (λ (xs : List X). page.number * 16 < length xs) (sym is) has.within in
     subst (λ (p : PageItems X). p.number < length pages) (sym of_page) (has_page pages page.number zero are (omega (arith, within)) (omega arith))
 
-same_size : {X : Type 0} (pages : List (List X)) (list : List X) (inside page : PageItems X) → ArePages pages → joined pages ≡ list → inside ≡ page → IsPageOf list page → length inside.items ≡ length (get_or pages inside.number [])
+same_size : {X : Type 0} (pages : List (List X)) (list : List X) (inside page : PageItems X) → ArePages pages → joined pages ≡ list → inside ≡ page → IsFormerPageOf list page → length inside.items ≡ length (get_or pages inside.number [])
 same_size {X = X} pages list inside page are is of_page has =
-    let has_inside : IsPageOf (joined pages) inside = subst (λ (p : PageItems X). IsPageOf (joined pages) p) (sym of_page) (subst (λ (xs : List X). IsPageOf xs page) (sym is) has) in
+    let has_inside : IsFormerPageOf (joined pages) inside = subst (λ (p : PageItems X). IsFormerPageOf (joined pages) p) (sym of_page) (subst (λ (xs : List X). IsFormerPageOf xs page) (sym is) has) in
     has_inside.full ∙ sym (size pages inside.number [] are (number_within pages list inside page are is of_page has))
 
 -- pages in which it was put back
-pub back_pages : {X : Type 0} (pages : List (List X)) (list : List X) (inside page : PageItems X) → ArePages pages → joined pages ≡ list → inside ≡ page → IsPageOf list page → ArePages (set pages inside.number inside.items)
+pub back_pages : {X : Type 0} (pages : List (List X)) (list : List X) (inside page : PageItems X) → ArePages pages → joined pages ≡ list → inside ≡ page → IsFormerPageOf list page → ArePages (set pages inside.number inside.items)
 back_pages pages list inside page are is of_page has = pages_set pages inside.number [] inside.items are (same_size pages list inside page are is of_page has)
 
-pub back_list : {X : Type 0} (pages : List (List X)) (list : List X) (inside page : PageItems X) → ArePages pages → joined pages ≡ list → inside ≡ page → IsPageOf list page → joined (set pages inside.number inside.items) ≡ with_page list page
+pub back_list : {X : Type 0} (pages : List (List X)) (list : List X) (inside page : PageItems X) → ArePages pages → joined pages ≡ list → inside ≡ page → IsFormerPageOf list page → joined (set pages inside.number inside.items) ≡ with_former_page list page
 back_list {X = X} pages list inside page are is of_page has =
     joined_set pages inside.number [] inside.items are (number_within pages list inside page are is of_page has) (same_size pages list inside page are is of_page has)
-    ∙ ap (λ (xs : List X). with_page xs inside) is
-    ∙ ap (with_page list) of_page
+    ∙ ap (λ (xs : List X). with_former_page xs inside) is
+    ∙ ap (with_former_page list) of_page
 
 -- one page more, at its end
 joined_pushed : {X : Type 0} (pages : List (List X)) (page : List X) → joined (pages ++ page ∷ []) ≡ joined pages ++ page

@@ -7,13 +7,13 @@ abbrev pub joined : {X : Type 0} → List (List X) → List X
 joined pages = flat_map (λ page. page) pages
 
 -- a page has at most 16 items, and just so many where there are pages after it
-pub record HasPlaces {X : Type 0} (page : List X) (later : List (List X)) : Type 0 where
+pub record IsFullOrLast {X : Type 0} (page : List X) (later : List (List X)) : Type 0 where
   pub few : length page ≤ 16
   pub full : 0 < length later → length page ≡ 16
 
 abbrev pub ArePages : {X : Type 0} → List (List X) → Type 0
 ArePages [] = Unit {0}
-ArePages (page ∷ later) = HasPlaces page later × ArePages later
+ArePages (page ∷ later) = IsFullOrLast page later × ArePages later
 
 -- which page, and its items
 pub record PageItems (X : Type 0) : Type 0 where
@@ -21,10 +21,10 @@ pub record PageItems (X : Type 0) : Type 0 where
   pub items : List X
 
 -- the list with the items of a page in their places, and all else as it is
-abbrev pub with_page : {X : Type 0} → List X → PageItems X → List X
-with_page xs page = take (page.number * 16) xs ++ page.items ++ drop (page.number * 16 + length page.items) xs
+abbrev pub with_former_page : {X : Type 0} → List X → PageItems X → List X
+with_former_page xs page = take (page.number * 16) xs ++ page.items ++ drop (page.number * 16 + length page.items) xs
 
 -- a page that the list has: as many items as the list has in its places
-pub record IsPageOf {X : Type 0} (xs : List X) (page : PageItems X) : Type 0 where
+pub record IsFormerPageOf {X : Type 0} (xs : List X) (page : PageItems X) : Type 0 where
   pub within : page.number * 16 < length xs
   pub full : length page.items ≡ min 16 (length xs - page.number * 16)

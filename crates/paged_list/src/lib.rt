@@ -16,5 +16,5 @@
 mod list;
 mod shared;
 
-pub use list::{Page, PagedList};
+pub use list::{FormerPage, PagedList};
 pub use shared::{CopyItems, SharedItems};

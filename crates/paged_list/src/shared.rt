@@ -10,7 +10,8 @@ use std::sync::Arc;
 pub trait CopyItems: Sized + Drop {
     ghost use Rattle.std.specs.Prelude.{◌≡◌, IfOk};
 
-    /// Equal items, which may share what they hold. The only error is out of memory.
+    /// Equal items, which may share what they hold. The only error is out of memory; that too many share one already is
+    /// told as that.
     fn copies(alloc: Global, items: &[Self]) -> Result<Vec<Self>, AllocError>
         ensures { IfOk result (λ copies. copies.items ≡ items.now) };
 }
@@ -39,7 +40,7 @@ impl<T: Drop> SharedItems<T> {
         Ok(SharedItems { items })
     }
 
-    /// The same items in memory. The only error is that too many share them already.
+    /// The same items in memory. The only error is that too many share them already, told as out of memory.
     pub fn share(&self) -> Result<SharedItems<T>, AllocError>
         ensures { IfOk result (λ shared. shared ≡ self.now) }
     {
@@ -56,7 +57,7 @@ impl<T: Drop> SharedItems<T> {
 }
 
 impl<T: Drop> CopyItems for SharedItems<T> {
-    /// The same items in memory, for each.
+    /// The same items in memory, for each. The only error is out of memory, told where too many share one, too.
     fn copies(alloc: Global, items: &[SharedItems<T>]) -> Result<Vec<SharedItems<T>>, AllocError> {
         let mut copies = Vec::with_capacity(alloc, items.len())?;
         for one in items {

@@ -1,7 +1,7 @@
 //! One page of a plan.
 
 use desk_data::{Group, Row};
-use paged_list::SharedItems;
+use paged_list::{FormerPage, SharedItems};
 
 /// A page of a plan as it stood before a change: `Pages::put_back` puts it back. It has the rows of some legs,
 /// one after the other, or the groups of some reservations.
@@ -13,6 +13,6 @@ pub struct Page {
 /// What stood on a page, and which page it is.
 #[derive(Drop)]
 pub(crate) enum What {
-    Rows(paged_list::Page<Row>),
-    Groups(paged_list::Page<SharedItems<Group>>),
+    Rows(FormerPage<Row>),
+    Groups(FormerPage<SharedItems<Group>>),
 }

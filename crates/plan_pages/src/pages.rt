@@ -2,10 +2,13 @@
 
 ghost use Rattle.std.specs.Prelude.{◌≡◌, ◌+◌, ◌<◌, [], map, length, IfOk, OnOk, OnErr};
 ghost use Rattle.desk_data.specs.PlanRows.{IsRow, AreGroups, IsSound, row_at, groups_at, with_row, with_groups};
+ghost use Rattle.desk_data.specs.Situation.{legs_of, reservations_of};
+ghost use Rattle.desk_data.specs.Valid.{IsPlanFor};
 ghost use Rattle.plan_pages.specs.Pages.{with_page, IsPageOf};
 
+use crate::changed::{put_groups, put_rows};
 use crate::page::{Page, What};
-use desk_data::{Group, Leg, NoMem, Plan, Res, Row, Steps};
+use desk_data::{Group, Instance, Leg, NoMem, Plan, Res, Row, Steps};
 use paged_list::{PagedList, SharedItems};
 use plan_reads::ReadPlan;
 use std::alloc::Global;
@@ -42,7 +45,7 @@ impl Pages {
     }
 
     /// The pages of a plan that is handed in, and whose groups are not copied: it has groups for so many
-    /// reservations. The only error is out of memory.
+    /// reservations. The only error is out of memory, after which the plan is given up.
     pub fn from_plan(alloc: Global, plan: Plan, reservations: u32) -> Result<Pages, NoMem>
         requires { reservations ≡ length plan.groups }
         ensures { IfOk result (λ pages. pages ≡ plan) }
@@ -54,7 +57,7 @@ impl Pages {
     }
 
     /// Equal pages, which are the same ones in memory. No row and no group is copied. The only error is out of
-    /// memory.
+    /// memory; that too many share a page already is told as that.
     pub fn share(&self, alloc: Global) -> Result<Pages, NoMem>
         ensures { IfOk result (λ shared. shared ≡ self.now) }
     {
@@ -63,13 +66,28 @@ impl Pages {
         Ok(Pages { rows, groups })
     }
 
-    /// An equal plan. The only error is out of memory.
+    /// The pages of another plan of the day, which is handed in. A page on which both plans have the same is shared, and
+    /// so are the groups of each reservation that has the same in both; no group is copied. The only error is out of memory,
+    /// after which the plan is given up.
+    pub fn with_plan(&self, alloc: Global, inst: &Instance, plan: Plan) -> Result<Pages, NoMem>
+        requires legs { length self.now.rows ≡ legs_of inst.now }
+        requires reservations { length self.now.groups ≡ reservations_of inst.now }
+        requires plan { IsPlanFor inst.now plan }
+        ensures { IfOk result (λ pages. pages ≡ plan) }
+    {
+        let mut pages = self.share(alloc)?;
+        put_rows(alloc, &mut pages, &plan, inst.legs())?;
+        put_groups(alloc, &mut pages, plan, inst.reservations())?;
+        Ok(pages)
+    }
+
+    /// An equal plan. The only error is out of memory, told where too many share a page, too.
     pub fn to_plan(&self, alloc: Global) -> Result<Plan, NoMem>
         ensures { IfOk result (λ plan. plan ≡ self.now) }
     {
         let rows = self.rows.to_vec(alloc)?;
         let shared = self.groups.to_vec(alloc)?;
-        let groups = copied_groups(alloc, shared.as_slice())?;
+        let groups = copies_of_all_groups(alloc, shared.as_slice())?;
         Ok(Plan::of(rows, groups))
     }
 
@@ -102,8 +120,8 @@ impl Pages {
         self.groups.at(res.0).as_slice()
     }
 
-    /// Gives a leg another row, and hands out what stood, for `put_back`. All else stays. The only error is out
-    /// of memory, and after it nothing has changed.
+    /// Gives a leg another row, which departs before minute 52,500,000 where it is flown, and hands out what stood, for
+    /// `put_back`. All else stays. The only error is out of memory, and after it nothing has changed.
     #[tactic(auto, unfolding(crate::specs::Pages::with_page, crate::specs::Pages::IsPageOf))]
     pub fn replace_row(&mut self, alloc: Global, leg: Leg, row: Row) -> Result<Page, NoMem>
         requires leg { leg.0 < length self.old.rows }
@@ -186,7 +204,7 @@ fn shared_groups(
 }
 
 /// The groups of a reservation, which are taken out of a plan; none are left in their place.
-fn taken_groups(alloc: Global, plan: &mut Plan, res: Res) -> Vec<Group>
+pub(crate) fn taken_groups(alloc: Global, plan: &mut Plan, res: Res) -> Vec<Group>
     requires { res.0 < length plan.old.groups }
     ensures taken { result.items ≡ groups_at plan.old res.0 }
     ensures left { plan.new ≡ with_groups plan.old res.0 [] }
@@ -197,18 +215,21 @@ fn taken_groups(alloc: Global, plan: &mut Plan, res: Res) -> Vec<Group>
 }
 
 /// Equal groups, of each reservation.
-fn copied_groups(alloc: Global, shared: &[SharedItems<Group>]) -> Result<Vec<Vec<Group>>, NoMem>
+fn copies_of_all_groups(
+    alloc: Global,
+    shared: &[SharedItems<Group>],
+) -> Result<Vec<Vec<Group>>, NoMem>
     ensures { IfOk result (λ copies. map (λ copy. copy.items) copies.items ≡ shared.now) }
 {
     let mut copies = Vec::with_capacity(alloc, shared.len())?;
     for groups in shared {
-        copies.push(copy_of(alloc, groups.as_slice())?)?;
+        copies.push(copied_groups(alloc, groups.as_slice())?)?;
     }
     Ok(copies)
 }
 
-/// Equal groups.
-fn copy_of(alloc: Global, groups: &[Group]) -> Result<Vec<Group>, NoMem>
+/// Equal groups of one reservation. The only error is out of memory.
+pub fn copied_groups(alloc: Global, groups: &[Group]) -> Result<Vec<Group>, NoMem>
     ensures { IfOk result (λ copy. copy.items ≡ groups.now) }
 {
     let mut copy = Vec::with_capacity(alloc, groups.len())?;

@@ -3,9 +3,10 @@
 ghost use Rattle.std.specs.Prelude.{◌≡◌, IfOk};
 ghost use Rattle.desk_data.specs.Situation.{fresh_day};
 
+use super::texts::{TOLD, TOLD_LATER, WALKED};
 use desk_data::{Instance, NoMem};
 use desk_folder::{File, MemFolder};
-use desk_story::{InputStory, InputTask, read_task};
+use desk_story::{InputPlan, InputStory, InputTask, read_task};
 use desk_words::Command;
 use std::alloc::Global;
 use std::test::Fail;
@@ -48,4 +49,32 @@ pub(super) fn day_of(alloc: Global, changed: Texts<'_>, day: Texts<'_>) -> Resul
 {
     let mut folder = folder_of(alloc, changed, day)?;
     day_in(alloc, &mut folder)
+}
+
+/// What the walks' day is told.
+#[derive(Clone, Copy)]
+pub(super) enum Orders {
+    /// Nothing: all leave as scheduled.
+    None,
+    /// A delay, a cancellation, a breakdown and two closures, before any leg of the window has left.
+    Told,
+    /// The same when some legs have left, and their passengers with them.
+    ToldLater,
+}
+
+/// The walks' day, once it was told these orders while its schedule was flown.
+pub(super) fn told(alloc: Global, orders: Orders) -> Result<Instance, Fail> {
+    let feed = match orders {
+        Orders::None => "1,none\n",
+        Orders::Told => TOLD,
+        Orders::ToldLater => TOLD_LATER,
+    };
+    let mut folder = folder_of(alloc, &[(File::Feed, feed)], WALKED)?;
+    match read_task(alloc, &Command::Check { crew: false }, &mut folder) {
+        Ok(InputTask::Judge(input)) => {
+            let InputPlan { inst, plan: _ } = input;
+            Ok(inst)
+        }
+        _ => Err(Fail::new("the day is not read")),
+    }
 }

@@ -1,5 +1,5 @@
-use Rattle.std.proofs.Common.{◌≡◌, take, map}
+use Rattle.std.proofs.Common.{◌≡◌, take}
 use Rattle.plan_pages.proofs.pages.copied_groups.Given as goal
 
-abbrev pub invariant-loop-groups : goal.invariant-loop-groups
-invariant-loop-groups l = map (λ copy. copy.items) l.copies.items ≡ take l.groups-index l.shared
+abbrev pub invariant-loop-group : goal.invariant-loop-group
+invariant-loop-group l = l.copy.items ≡ take l.group-index l.groups

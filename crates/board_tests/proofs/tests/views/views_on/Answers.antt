@@ -1,7 +1,0 @@
-use Rattle.std.proofs.Common.{refl, ◌∙◌}
-use Rattle.desk_board.specs.Told.{told_to}
-use Rattle.board_tests.proofs.Going.{told_first}
-use Rattle.board_tests.proofs.tests.views.views_on.Goals as goal
-
-pub views_among-requires : goal.views_among-requires
-views_among-requires g c = record { told = (c.args.book, refl, told_first c.args.book (told_to c.new-telling.result) (c.new-telling.ensures ∙ c.in_ok-teller.ensures.teller ∙ c.requires.log)) }

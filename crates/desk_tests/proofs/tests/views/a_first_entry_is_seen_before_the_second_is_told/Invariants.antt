@@ -1,0 +1,6 @@
+use Rattle.live_board.specs.Words.{board_of}
+use Rattle.desk_tests.proofs.tests.views.a_first_entry_is_seen_before_the_second_is_told.Given as goal
+
+-- the board that was just opened
+abbrev pub ghosts-views_on : goal.ghosts-views_on
+ghosts-views_on g a = record { book = board_of a.opened }

@@ -1,4 +1,0 @@
-use Rattle.desk_tests.proofs.tests.walks.walked_apart.Given as goal
-
-abbrev pub ghosts-kept_apart : goal.ghosts-kept_apart
-ghosts-kept_apart a = record { name = a.blank.name; parts = a.blank.parts }

@@ -1,0 +1,6 @@
+//! Of live_board.
+
+mod most;
+mod tests;
+mod threads;
+mod two;

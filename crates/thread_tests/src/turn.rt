@@ -1,0 +1,5 @@
+//! Of turn_book.
+
+mod sums;
+mod tests;
+mod threads;
