@@ -34,16 +34,11 @@ use Rattle.near_untouched.specs.Hours.{margin}
 use Rattle.near_untouched.specs.Untouched.{AreUntouched}
 use Rattle.near_untouched.specs.declared.untouched.Untouched.{Untouched}
 use Rattle.number_rows.specs.Rows.{number_at}
-use Rattle.unit_notes.specs.Places.{place, number_of, number_of_place}
-use Rattle.unit_notes.specs.declared.place.Place.{Place}
+use Rattle.unit_notes.specs.Places.{number_of}
 use Rattle.unit_notes.specs.declared.notes.UnitNotes.{UnitNotes}
-use Rattle.unit_notes.specs.Notes.{AreUnitNotes, AreUnitNotesAt, IsUnitOut, is_before, is_noted, is_rest}
+use Rattle.unit_notes.specs.Notes.{AreUnitNotes, IsUnitOut, is_before, is_rest}
+use Rattle.unit_notes.proofs.NotesLaws.{number-latest}
 use Rattle.near_later.specs.Later.{AreTouchedAt}
-
--- the number of a unit is not that of a later search
-number-latest : (found : List (List ℕ)) (search : ℕ) (o : Option Place) → ((row column : ℕ) → number_at found row column ≤ search) → number_of_place found o ≤ search
-number-latest found search None latest = omega arith
-number-latest found search (Some there) latest = latest there.row there.column
 
 flier-within : (planes : ℕ) (row : Row) → is_flown row ≡ true → IsRowOf planes row → flier row < planes
 flier-within planes (Flown plane dep) on within = within.0
@@ -184,7 +179,7 @@ moved-notes I old new known valid notes later feasible are all_planes all_again 
           let n = number_of old.found u in
           let here : is_rest Q new.planes.items new.again.items u n ≡ true = ap (λ (f : List (List ℕ)). is_rest Q new.planes.items new.again.items u (number_of f u)) (sym found) ∙ noted in
           let stay = stays I P Q known old.planes.items new.planes.items old.again.items new.again.items old.search later many are by_planes by_again u n
-          (number-latest old.found old.search (place u) notes.latest) of here in
+          (number-latest old.found old.search u notes.latest) of here in
           let was = notes.out u stay.unit stay.rest in
           let moves : unit_moves I P (unit_of u) ≡ unit_moves I Q (unit_of u) = moves-same I P Q (unit_of u) stay.same in
           record {

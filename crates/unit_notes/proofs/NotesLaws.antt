@@ -1,8 +1,8 @@
 -- Notes of which nothing is known, and of one more unit.
-use Rattle.std.proofs.Common.{◌≡◌, ℕ, inl, inr, true, false, List, [], length, get_or, replicate, refl, sym, ap, subst, ◌∙◌, arith}
+use Rattle.std.proofs.Common.{◌≡◌, ℕ, ◌≤◌, inl, inr, Bool, true, false, ◌&&◌, cond, eqb, List, [], length, get_or, replicate, refl, sym, ap, subst, ◌∙◌, arith}
 use Rattle.std.specs.Prelude.{Option, Some, None}
 use Rattle.std.proofs.lemmas.List.{get_or-replicate, get_or_past, length-replicate}
-use Rattle.std.proofs.lemmas.Bool.{true≢false, cases_lt}
+use Rattle.std.proofs.lemmas.Bool.{true≢false, and_parts, cases_Bool, cases_lt, eqb-true}
 use Rattle.desk_data.specs.Situation.{Situation}
 use Rattle.desk_data.specs.PlanRows.{PlanRows}
 use Rattle.desk_data.specs.Valid.{IsPlanFor}
@@ -10,7 +10,7 @@ use Rattle.desk_rules.specs.Least.{least}
 use Rattle.near_legs.specs.Choices.{IsLegUnit, unit_of}
 use Rattle.near_legs.specs.declared.unit.LegUnit.{LegUnit}
 use Rattle.near_legs.specs.declared.unit.LegUnit.TheVariants.{Retimed, Swapped, Dropped, Restored, Handed}
-use Rattle.number_rows.specs.Rows.{number_at}
+use Rattle.number_rows.specs.Rows.{number_at, IsPut}
 use Rattle.unit_notes.specs.Places.{place, number_of, number_of_place}
 use Rattle.unit_notes.specs.declared.place.Place.{Place}
 use Rattle.unit_notes.specs.declared.notes.UnitNotes.{UnitNotes}
@@ -36,6 +36,14 @@ none-at rows row column =
       | inl within ↦ get_or-replicate n r [] [] within
       | inr past ↦ get_or_past (replicate n []) r [] (let many = length-replicate n [] in omega (arith, many, past))
     ]
+
+-- the number of a unit is that of no later search
+pub number-latest : (found : List (List ℕ)) (search : ℕ) (u : LegUnit) → ((row column : ℕ) → number_at found row column ≤ search) → number_of found u ≤ search
+number-latest found search u latest = of (place u)
+  where
+    of : (o : Option Place) → number_of_place found o ≤ search
+    of None = omega arith
+    of (Some there) = latest there.row there.column
 
 -- ---- one more unit
 
@@ -74,6 +82,26 @@ module _ (I : Situation) (old new : UnitNotes) (u : LegUnit) (there : Place) (pl
         subst (λ (P : PlanRows). IsUnitOut I P (unit_of v)) (sym now.plan)
         (known-at v (place v) refl here (sym (rest-same v (number_of_place new.found (place v))) ∙ noted));
   }
+
+-- the number of the search at hand is put at a place
+pub put-now : (old : UnitNotes) (found : List (List ℕ)) (there : Place) → IsPut old.found found there.row there.column old.search → IsNow old (record old { found = found }) there
+put-now old found there put = record {
+  plan = refl;
+  search = refl;
+  planes = refl;
+  again = refl;
+  found = λ row column. elim (cases_Bool (eqb row there.row && eqb column there.column)) [
+    | inl here ↦
+        let parts = and_parts (eqb row there.row) (eqb column there.column) here in
+        inr (eqb-true row there.row parts.0, eqb-true column there.column parts.1, put.each row column ∙ at-true _ old.search (number_at old.found row column) here)
+    | inr other ↦ inl (put.each row column ∙ at-false _ old.search (number_at old.found row column) other)
+  ];
+}
+  where
+    at-true : (b : Bool) (x y : ℕ) → b ≡ true → cond b x y ≡ x
+    at-true b x y is = rw is refl
+    at-false : (b : Bool) (x y : ℕ) → b ≡ false → cond b x y ≡ y
+    at-false b x y is = rw is refl
 
 -- ---- nothing is known yet
 
