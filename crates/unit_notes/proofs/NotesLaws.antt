@@ -2,11 +2,12 @@
 use Rattle.std.proofs.Common.{◌≡◌, ℕ, ◌≤◌, inl, inr, Bool, true, false, ◌&&◌, cond, eqb, List, [], length, get_or, replicate, refl, sym, ap, subst, ◌∙◌, arith}
 use Rattle.std.specs.Prelude.{Option, Some, None}
 use Rattle.std.proofs.lemmas.List.{get_or-replicate, get_or_past, length-replicate}
-use Rattle.std.proofs.lemmas.Bool.{true≢false, and_parts, cases_Bool, cases_lt, eqb-true}
+use Rattle.std.proofs.lemmas.Bool.{true≢false, and_parts, cases_Bool, cases_lt, eqb-true, false_from_ne_true, ltb-true}
 use Rattle.desk_data.specs.Situation.{Situation}
-use Rattle.desk_data.specs.PlanRows.{PlanRows}
+use Rattle.desk_data.specs.PlanRows.{PlanRows, row_at}
 use Rattle.desk_data.specs.Valid.{IsPlanFor}
 use Rattle.desk_rules.specs.Least.{least}
+use Rattle.near_moves.specs.MoveParts.{flier}
 use Rattle.near_legs.specs.Choices.{IsLegUnit, unit_of}
 use Rattle.near_legs.specs.declared.unit.LegUnit.{LegUnit}
 use Rattle.near_legs.specs.declared.unit.LegUnit.TheVariants.{Retimed, Swapped, Dropped, Restored, Handed}
@@ -14,28 +15,31 @@ use Rattle.number_rows.specs.Rows.{number_at, IsPut}
 use Rattle.unit_notes.specs.Places.{place, number_of, number_of_place}
 use Rattle.unit_notes.specs.declared.place.Place.{Place}
 use Rattle.unit_notes.specs.declared.notes.UnitNotes.{UnitNotes}
-use Rattle.unit_notes.specs.Notes.{AreUnitNotes, IsNow, IsUnitOut, is_rest}
+use Rattle.unit_notes.specs.Notes.{AreUnitNotes, IsNow, IsUnitOut, is_before, is_rest}
 use Rattle.unit_notes.proofs.PlaceLaws.{same-place}
 
 -- ---- nothing was touched before search 0, so nothing is known of what no search found out
 
+not-before : (touched : List ℕ) (k : ℕ) → is_before touched k 0 ≡ false
+not-before touched k = false_from_ne_true (is_before touched k 0) (λ is. absurd (let less = ltb-true (get_or touched k 0) 0 is in omega (arith, less)))
+
 pub never-rest : (P : PlanRows) (planes again : List ℕ) (u : LegUnit) → is_rest P planes again u 0 ≡ false
-never-rest P planes again (Retimed leg) = refl
-never-rest P planes again (Swapped first second) = refl
-never-rest P planes again (Dropped leg) = refl
-never-rest P planes again (Restored leg plane) = refl
-never-rest P planes again (Handed leg count plane) = refl
+never-rest P planes again (Retimed leg) = not-before planes (flier (row_at P leg.0))
+never-rest P planes again (Swapped first second) = ap (λ (b : Bool). b && is_before planes second.0 0) (not-before planes first.0)
+never-rest P planes again (Dropped leg) = not-before planes (flier (row_at P leg.0))
+never-rest P planes again (Restored leg plane) = ap (λ (b : Bool). b && is_before again leg.0 0) (not-before planes plane.0)
+never-rest P planes again (Handed leg count plane) = ap (λ (b : Bool). b && is_before planes plane.0 0) (not-before planes (flier (row_at P leg.0)))
 
 -- rows of nothing
-pub none-at : (rows row column : ℕ) → number_at (replicate rows []) row column ≡ 0
-none-at rows row column =
-    ap (λ (xs : List ℕ). get_or xs column 0) (rows-at rows row)
-  where
-    rows-at : (n r : ℕ) → get_or (replicate n []) r [] ≡ []
-    rows-at n r = elim (cases_lt r n) [
-      | inl within ↦ get_or-replicate n r [] [] within
-      | inr past ↦ get_or_past (replicate n []) r [] (let many = length-replicate n [] in omega (arith, many, past))
+rows-at : (n r : ℕ) (none : List ℕ) → get_or (replicate n none) r none ≡ none
+rows-at n r none =
+    elim (cases_lt r n) [
+      | inl within ↦ get_or-replicate n r none none within
+      | inr past ↦ get_or_past (replicate n none) r none (let many = length-replicate n none in omega (arith, many, past))
     ]
+
+pub none-at : (rows row column : ℕ) → number_at (replicate rows []) row column ≡ 0
+none-at rows row column = ap (λ (xs : List ℕ). get_or xs column 0) (rows-at rows row [])
 
 -- the number of a unit is that of no later search
 pub number-latest : (found : List (List ℕ)) (search : ℕ) (u : LegUnit) → ((row column : ℕ) → number_at found row column ≤ search) → number_of found u ≤ search
