@@ -3,7 +3,7 @@ use Rattle.std.proofs.Common.{◌≡◌, ℕ, ◌<◌, ◌≤◌, inl, inr, Bool
 use Rattle.std.specs.Prelude.{None}
 use Rattle.std.specs.List.{All, Contains, list_all}
 use Rattle.std.proofs.lemmas.Bool.{true≢false, and_parts, and_right, eqb-true, le-ltb}
-use Rattle.std.proofs.lemmas.List.Elements.{All-contains, Contains-append_cases}
+use Rattle.std.proofs.lemmas.List.Elements.{All-cons, All-contains, Contains-append_cases}
 use Rattle.desk_data.specs.declared.row.Row.{Row}
 use Rattle.desk_data.specs.declared.row.Row.TheVariants.{Flown, Cancelled}
 use Rattle.desk_data.specs.Situation.{Situation, legs_of}
@@ -150,6 +150,10 @@ all-out I P u begins fits out = record {
   fits = fits;
   out = All_from_contains (IsOut I P u) (unit_moves I P u) (λ m has. All-contains (IsMoveOut I P) (unit_moves I P u) m out has u begins has);
 }
+
+-- one more move that is out, before others that are
+pub more-out : (I : Situation) (P : PlanRows) (m : Move) (before after : List Move) → before ≡ m ∷ after → IsMoveOut I P m → AreMovesOut I P after → AreMovesOut I P before
+more-out I P m before after is one rest = subst (AreMovesOut I P) (sym is) (All-cons (IsMoveOut I P) m after one rest)
 
 -- and so is one that hands a run on in vain
 pub hands-out : (I : Situation) (P : PlanRows) (u : MoveUnit) → All (Fits I) (unit_moves I P u) → HandsInVain I P u → IsUnitOut I P u
