@@ -70,8 +70,9 @@ fn moved(inst: &Instance, notes: UnitNotes, known: &Untouched, plan: Pages) -> U
     let _rows = inst.parts();
     let mut notes = notes;
     let before = notes.search;
-    touch(inst.planes(), known.planes.as_slice(), before, &mut notes.planes);
-    touch(inst.legs(), known.again.as_slice(), before, &mut notes.again);
+    let (planes, again) = (known.planes.as_slice(), known.again.as_slice());
+    touch(inst.planes(), planes, before, &mut notes.planes);
+    touch(inst.legs(), again, before, &mut notes.again);
     notes.search = before + 1;
     notes.plan = plan;
     notes

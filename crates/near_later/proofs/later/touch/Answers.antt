@@ -17,13 +17,13 @@ loop-k-preserved c =
     let within : k < length now = omega (arith, c.loop-k-test.true, long) in
     elim c.if-marks-k.branch [
       | then-marks-k w ↦ rw w.touched-is (record {
-          touched = length-set now k number ∙ inv.touched;
-          each = touched-more marks number k old now inv.each within;
-          same = touched-same number k old now inv.same;
-        })
+        touched = length-set now k number ∙ inv.touched;
+        each = touched-more marks number k old now inv.each within;
+        same = touched-same number k old now inv.same;
+      })
       | else-marks-k w ↦ rw w.touched-is (record {
-          touched = inv.touched;
-          each = free-more marks number k old now inv.each inv.same w.if-marks-k.false;
-          same = λ j past. inv.same j (omega (arith, past));
-        })
+        touched = inv.touched;
+        each = free-more marks number k old now inv.each inv.same w.if-marks-k.false;
+        same = λ j past. inv.same j (omega (arith, past));
+      })
     ]
