@@ -1,31 +1,27 @@
 -- A unit that stays known at a later plan is out there.
-use Rattle.std.proofs.Common.{◌≡◌, ℕ, ◌<◌, ◌≤◌, ◌⊎◌, inl, inr, Bool, true, false, ◌&&◌, ◌||◌, eqb, ltb, List, length, get_or, refl, sym, ap, subst, ◌∙◌, arith}
-use Rattle.std.specs.Prelude.{None, Option, Some}
+use Rattle.std.proofs.Common.{◌≡◌, ℕ, ◌<◌, ◌≤◌, inl, inr, true, ◌||◌, eqb, ltb, List, length, get_or, sym, ap, subst, ◌∙◌, arith}
+use Rattle.std.specs.Prelude.{None}
 use Rattle.std.specs.List.{All}
 use Rattle.std.proofs.lemmas.Bool.{true≢false, and_parts, and_from, eqb-true, ltb-true}
-use Rattle.desk_units.specs.declared.numbers.Leg.{Leg}
-use Rattle.desk_units.specs.declared.numbers.Plane.{Plane}
 use Rattle.desk_data.specs.declared.row.Row.{Row}
 use Rattle.desk_data.specs.declared.row.Row.TheVariants.{Flown, Cancelled}
 use Rattle.desk_data.specs.Situation.{Situation, legs_of, planes_of}
 use Rattle.desk_data.specs.PlanRows.{PlanRows, row_at}
 use Rattle.desk_data.specs.Valid.{IsPlanFor, IsRowOf, IsValid}
 use Rattle.plan_moves.specs.Fits.{Fits}
-use Rattle.plan_moves.specs.declared.moves.Move.{Move}
 use Rattle.desk_rules.specs.Least.{least}
-use Rattle.desk_rules.specs.Maintenance.{flies}
 use Rattle.desk_rules.specs.Passengers.{is_flown}
 use Rattle.near_moves.proofs.FromLaws.{or_cases}
 use Rattle.near_moves.specs.MoveParts.{flier}
 use Rattle.near_moves.specs.Near.{unit_moves}
-use Rattle.near_moves.specs.Units.{MoveUnit, retimed, swapped, dropped, restored, handed}
+use Rattle.near_moves.specs.Units.{retimed, swapped, dropped, restored, handed}
 use Rattle.near_legs.specs.Choices.{IsFlownLeg, IsLegUnit, unit_of}
 use Rattle.near_legs.specs.declared.unit.LegUnit.{LegUnit}
 use Rattle.near_legs.specs.declared.unit.LegUnit.TheVariants.{Retimed, Swapped, Dropped, Restored, Handed}
-use Rattle.near_units.specs.Same.{FliesSame, FlyUnitSame}
-use Rattle.near_units.specs.Steps.{BeginsFlown, unit_planes}
+use Rattle.near_units.specs.Same.{FlyUnitSame}
+use Rattle.near_units.specs.Steps.{BeginsFlown}
 use Rattle.near_units.proofs.MoveLaws.{flier-flies, moves-same}
-use Rattle.near_dearer.specs.Planes.{AreUntouchedBeside, IsUntouchedPlane}
+use Rattle.near_dearer.specs.Planes.{IsUntouchedPlane}
 use Rattle.near_dearer.specs.Untouched.{IsUntouchedUnit}
 use Rattle.near_dearer.proofs.UntouchedLaws.{planes-untouched}
 use Rattle.near_dearer.proofs.OutLaws.{unit-out}
@@ -36,7 +32,7 @@ use Rattle.near_untouched.specs.declared.untouched.Untouched.{Untouched}
 use Rattle.number_rows.specs.Rows.{number_at}
 use Rattle.unit_notes.specs.Places.{number_of}
 use Rattle.unit_notes.specs.declared.notes.UnitNotes.{UnitNotes}
-use Rattle.unit_notes.specs.Notes.{AreUnitNotes, IsUnitOut, is_before, is_rest}
+use Rattle.unit_notes.specs.Notes.{AreUnitNotes, is_before, is_rest}
 use Rattle.unit_notes.proofs.NotesLaws.{number-latest}
 use Rattle.near_later.specs.Later.{AreTouchedAt}
 

@@ -1,6 +1,5 @@
-use Rattle.std.proofs.Common.{◌≡◌, ◌<◌, true, false, get_or, length, sym, ap, ◌∙◌, arith}
+use Rattle.std.proofs.Common.{◌<◌, length, ◌∙◌, arith}
 use Rattle.std.proofs.lemmas.List.{length-set}
-use Rattle.near_untouched.specs.Marks.{is_marked}
 use Rattle.near_later.proofs.TouchLaws.{touched-more, touched-same, free-more}
 use Rattle.near_later.proofs.later.touch.Goals as goal
 use Rattle.near_later.proofs.later.touch.Goals.{then-marks-k, else-marks-k}
