@@ -25,3 +25,11 @@ returns-then-is_in_vain-clause-ok g c =
     let P = c.args.eval.now.rows in
     let u = unit_of c.args.unit in
     sym (worse-none I P u (unit-none I P u (hands-out I P u c.requires.fits (c.is_in_vain.ensures c.if-is_in_vain.true))))
+
+pub note_out-2-requires-clause-out : goal.note_out-2-requires-clause-out
+note_out-2-requires-clause-out g c =
+    let I = c.args.eval.now.inst in
+    let P = c.args.eval.now.rows in
+    let u = unit_of c.args.unit in
+    let made = c.of-moves.ensures ∙ (rw (c.instance.ensures, c.plan.ensures.rows) at c.in_ok-made.ensures) in
+    rw c.try_all.ensures.eval (all-out I P u (begins-flown I P c.args.unit c.requires.unit) c.requires.fits (subst (AreMovesOut I P) made (c.in_ok-try_all.ensures.out c.if-out.true)))
