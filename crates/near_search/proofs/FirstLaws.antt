@@ -38,10 +38,12 @@ unfolding is_better
 dearer-ruled_out I P m less = and_right _ _ (le-ltb (cost I (after_move I P m)) (cost I P) less)
 
 -- a step alone is the move
-pub one-ruled_out : (I : Situation) (P : PlanRows) (m : Move) (step : Step) → m.steps ≡ step ∷ [] → cost I P ≤ cost I (after_step I P step) → is_better I P m ≡ false
+pub one-dear : (I : Situation) (P : PlanRows) (m : Move) (step : Step) → m.steps ≡ step ∷ [] → cost I P ≤ cost I (after_step I P step) → cost I P ≤ cost I (after_move I P m)
 unfolding after_move
-one-ruled_out I P m step is less =
-    dearer-ruled_out I P m (subst (λ (steps : List Step). cost I P ≤ cost I (after_steps I P steps)) (sym is) less)
+one-dear I P m step is less = subst (λ (steps : List Step). cost I P ≤ cost I (after_steps I P steps)) (sym is) less
+
+pub one-ruled_out : (I : Situation) (P : PlanRows) (m : Move) (step : Step) → m.steps ≡ step ∷ [] → cost I P ≤ cost I (after_step I P step) → is_better I P m ≡ false
+one-ruled_out I P m step is less = dearer-ruled_out I P m (one-dear I P m step is less)
 
 pub rebook-step : (I : Situation) (P : PlanRows) (res : Res) (path to : List (Leg × Cabin)) (count : ℕ) → passenger_cost I P res.0 path ≤ passenger_cost I P res.0 to → cost I P ≤ cost I (after_step I P (Rebook res path to count))
 unfolding after_step

@@ -10,6 +10,7 @@ use crate::legs::first_of_legs;
 use crate::noted::{keep, noted};
 use crate::passengers::first_of_passengers;
 use crate::rotations::Rotations;
+use crate::units::{keep_units, noted_units};
 use desk_data::NoMem;
 use desk_eval::Evaluator;
 use desk_headway::{Listener, Nobody};
@@ -57,7 +58,10 @@ pub fn first_better_heard<L: Listener>(
     let _rows = eval.instance().parts();
     let rotations = Rotations::of(alloc, eval)?;
     let mut units = LegUnits::of(alloc, eval.instance(), eval.plan(), shard, shards)?;
-    if let Some(m) = first_of_legs(alloc, eval, &rotations, &mut units, listener)? {
+    let mut known = noted_units(alloc, eval)?;
+    let of_legs = first_of_legs(alloc, eval, &rotations, &mut units, &mut known, listener)?;
+    keep_units(eval, known);
+    if let Some(m) = of_legs {
         return Ok(Some(m));
     }
     let mut passengers = PaxMoves::of(alloc, eval.instance(), eval.plan(), shard, shards)?;

@@ -18,7 +18,7 @@ first_of_legs-requires-clause-fits g c =
     let P = c.args.eval.now.rows in
     let plan : IsPlanFor I P = rw c.plan.ensures.rows at c.plan.ensures.valid in
     let left = rw (c.instance-2.ensures, c.plan.ensures.rows) at c.in_ok-units.ensures.left in
-    subst (λ (us : List MoveUnit). All (Fits I) (moves_of I P us)) (sym left) (shard-all I P (Fits I) c.args.shard c.args.shards (leg_units I P) (moves_of_legs-fit I P plan))
+    rw c.noted_units.ensures.eval (subst (λ (us : List MoveUnit). All (Fits I) (moves_of I P us)) (sym left) (shard-all I P (Fits I) c.args.shard c.args.shards (leg_units I P) (moves_of_legs-fit I P plan)))
 
 pub first_of_passengers-requires-clause-fits : goal.first_of_passengers-requires-clause-fits
 first_of_passengers-requires-clause-fits g c =
@@ -26,7 +26,7 @@ first_of_passengers-requires-clause-fits g c =
     let P = c.args.eval.now.rows in
     let valid : IsValid I = rw c.instance.ensures at c.parts-rows.ensures.valid in
     let plan : IsPlanFor I P = rw c.plan.ensures.rows at c.plan.ensures.valid in
-    let stays = c.first_of_legs.ensures.eval in
+    let stays = c.keep_units.ensures ∙ c.first_of_legs-of_legs.ensures.eval ∙ c.noted_units.ensures.eval in
     let left = rw (c.instance-3.ensures, c.plan-2.ensures.rows, stays) at c.in_ok-passengers.ensures.left in
     rw (c.noted.ensures.eval, stays) (subst (All (Fits I)) (sym left) (shard-all I P (Fits I) c.args.shard c.args.shards (rebooked_units I P) (rebookings-fit I P valid plan)))
 
@@ -35,17 +35,17 @@ returns-in-Some-clause-ok g c =
     let I = c.args.eval.now.inst in
     let P = c.args.eval.now.rows in
     let left = rw (c.instance-2.ensures, c.plan.ensures.rows) at c.in_ok-units.ensures.left in
-    let found : c.in_ok-m.field-0 ≡ find (is_better I P) (moves_of I P (of_shard c.args.shard c.args.shards (leg_units I P))) = c.in_ok-m.ensures.ok ∙ ap (λ (us : List MoveUnit). find (is_better I P) (moves_of I P us)) left in
-    first-leg I P c.args.shard c.args.shards c.in_ok-m.field-0 c.in-Some.m found c.in-Some.is
+    let found : c.in_ok-of_legs.field-0 ≡ find (is_better I P) (moves_of I P (of_shard c.args.shard c.args.shards (leg_units I P))) = (rw c.noted_units.ensures.eval at c.in_ok-of_legs.ensures.ok) ∙ ap (λ (us : List MoveUnit). find (is_better I P) (moves_of I P us)) left in
+    first-leg I P c.args.shard c.args.shards c.in_ok-of_legs.field-0 c.in-Some.m found c.in-Some.is
 
 pub returns-clause-ok : goal.returns-clause-ok
 returns-clause-ok g c =
     let I = c.args.eval.now.inst in
     let P = c.args.eval.now.rows in
     let left = rw (c.instance-2.ensures, c.plan.ensures.rows) at c.in_ok-units.ensures.left in
-    let found : c.in_ok-m.field-0 ≡ find (is_better I P) (moves_of I P (of_shard c.args.shard c.args.shards (leg_units I P))) = c.in_ok-m.ensures.ok ∙ ap (λ (us : List MoveUnit). find (is_better I P) (moves_of I P us)) left in
-    let stays = c.first_of_legs.ensures.eval in
+    let found : c.in_ok-of_legs.field-0 ≡ find (is_better I P) (moves_of I P (of_shard c.args.shard c.args.shards (leg_units I P))) = (rw c.noted_units.ensures.eval at c.in_ok-of_legs.ensures.ok) ∙ ap (λ (us : List MoveUnit). find (is_better I P) (moves_of I P us)) left in
+    let stays = c.keep_units.ensures ∙ c.first_of_legs-of_legs.ensures.eval ∙ c.noted_units.ensures.eval in
     let more = rw (c.instance-3.ensures, c.plan-2.ensures.rows, stays) at c.in_ok-passengers.ensures.left in
     let units_after : find (is_better I P) (moves_of I P (of_shard c.args.shard c.args.shards (rebooked_units I P))) ≡ first_better I P c.args.shard c.args.shards =
-    first-passengers I P c.args.shard c.args.shards c.in_ok-m.field-0 found c.in_default.is in
+    first-passengers I P c.args.shard c.args.shards c.in_ok-of_legs.field-0 found c.in_default.is in
     (rw (c.noted.ensures.eval, stays) at c.in_ok-found.ensures.ok) ∙ ap (find (is_better I P)) more ∙ units_after

@@ -1,0 +1,21 @@
+//! What is noted of the units of legs: of which of them it is known why none of their moves is better.
+//!
+//!     let mut notes = UnitNotes::of(alloc, &inst, &plan)?;      // of a feasible plan, and nothing is known yet
+//!     notes.note(&inst, unit)?;                                 // none of its moves is better, and it is known why
+//!     if notes.knows(&inst, unit) { .. }
+//!     let notes = notes.touch(alloc, &later, planes, again)?;   // at a later plan, once some aircraft were touched
+//!
+//! Searches are numbered. A unit is noted with the number of the search that found it out, and an aircraft with that of
+//! the last search after which it was touched, and so is a leg that may not be flown again as before. So a unit is known as long
+//! as it was found out after each of its aircraft was touched, and nothing is taken out of a table when an aircraft is.
+//!
+//! Proved: what is known of a unit is true at the plan of the notes (`AreUnitNotes`), as `near_units` says it. What holds
+//! at a later plan `near_later` says. It depends on `near_units`, `near_legs` and `plan_pages`.
+#![tactic(auto)]
+
+mod known;
+mod notes;
+mod place;
+
+pub use near_legs::LegUnit;
+pub use notes::UnitNotes;
