@@ -35,7 +35,6 @@ mod again;
 mod changed;
 mod counts;
 mod ends;
-mod groups;
 mod hours;
 mod laws;
 mod legs;

@@ -7,11 +7,11 @@ ghost use Rattle.desk_data.specs.Valid.{IsPlanFor};
 ghost use Rattle.near_untouched.specs.Marks.{AreKept, HoldsOf};
 ghost use Rattle.near_untouched.specs.Passengers.{HasSameUsers, IsBookedTold, IsRegroupedTold, IsUserTold};
 
-use crate::groups::are_same_groups;
 use crate::marks::{mark_path, mark_paths, unmarked};
 use crate::plans::Plans;
 use crate::same::{have_same_rows, keeps_seats};
 use desk_data::{NoMem, Res};
+use plan_pages::are_same_groups;
 use std::alloc::Global;
 
 /// Marks the legs on which somebody is, in the one plan or the other, of a reservation that is not the same, or on which one

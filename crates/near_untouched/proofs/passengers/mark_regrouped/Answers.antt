@@ -18,7 +18,7 @@ pub returns-then-are_same_groups : goal.returns-then-are_same_groups
 returns-then-are_same_groups c =
     let P = c.args.plans.now.earlier.now in
     let Q = c.args.plans.now.later.now in
-    let same : groups_at P c.args.res.0 ≡ groups_at Q c.args.res.0 = sym c.groups-before.ensures.groups ∙ c.are_same_groups.ensures c.if-are_same_groups.true ∙ c.groups-now.ensures.groups in
+    let same : groups_at P c.args.res.0 ≡ groups_at Q c.args.res.0 = sym c.groups-before.ensures.groups ∙ c.are_same_groups.ensures.yes c.if-are_same_groups.true ∙ c.groups-now.ensures.groups in
     record {
       regrouped = c.requires.regrouped;
       kept = λ k on. on;
