@@ -4,7 +4,7 @@ ghost use Rattle.std.specs.Prelude.{◌≡◌, true};
 
 use desk_data::{Group, same_path};
 
-/// Whether some groups are the same as others.
+/// Whether some groups are the same as others. It calls itself once for each group, of which a reservation has at most 1,000.
 pub fn are_same_groups(some: &[Group], others: &[Group]) -> bool
     ensures yes { result ≡ true → others.now ≡ some.now }
     ensures no { others.now ≡ some.now → result ≡ true }
