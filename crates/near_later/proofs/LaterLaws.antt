@@ -12,6 +12,7 @@ use Rattle.plan_moves.specs.Fits.{Fits}
 use Rattle.desk_rules.specs.Least.{least}
 use Rattle.desk_rules.specs.Passengers.{is_flown}
 use Rattle.near_moves.proofs.FromLaws.{or_cases}
+use Rattle.near_moves.specs.Descent.{first_better}
 use Rattle.near_moves.specs.MoveParts.{flier}
 use Rattle.near_moves.specs.Near.{unit_moves}
 use Rattle.near_moves.specs.Units.{retimed, swapped, dropped, restored, handed}
@@ -32,7 +33,8 @@ use Rattle.near_untouched.specs.declared.untouched.Untouched.{Untouched}
 use Rattle.number_rows.specs.Rows.{number_at}
 use Rattle.unit_notes.specs.Places.{number_of}
 use Rattle.unit_notes.specs.declared.notes.UnitNotes.{UnitNotes}
-use Rattle.unit_notes.specs.Notes.{AreUnitNotes, is_before, is_rest}
+use Rattle.unit_notes.specs.declared.notes.Shard.{Shard}
+use Rattle.unit_notes.specs.Notes.{AreUnitNotes, is_before, is_untouched_since}
 use Rattle.unit_notes.proofs.NotesLaws.{number-latest}
 use Rattle.near_later.specs.Later.{AreTouchedAt}
 
@@ -46,7 +48,7 @@ record Stays (I : Situation) (P Q : PlanRows) (planes again : List ℕ) (u : Leg
   begins : BeginsFlown P (unit_of u)
   same : FlyUnitSame I P Q (unit_of u)
   untouched : IsUntouchedUnit I P Q (unit_of u)
-  rest : is_rest P planes again u n ≡ true
+  rest : is_untouched_since P planes again u n ≡ true
 
 -- a leg that an untouched aircraft flies at the later plan has the same row, and aircraft
 record SameFlier (I : Situation) (P Q : PlanRows) (planes : List ℕ) (x n : ℕ) : Type 0 where
@@ -97,7 +99,7 @@ module _ (I : Situation) (P Q : PlanRows) (known : Untouched) (planes planes_now
         | inr two ↦ one-plane p r two second
       ]
 
-  stays : (u : LegUnit) (n : ℕ) → n ≤ search → IsLegUnit I Q u → is_rest Q planes_now again_now u n ≡ true → Stays I P Q planes again u n
+  stays : (u : LegUnit) (n : ℕ) → n ≤ search → IsLegUnit I Q u → is_untouched_since Q planes_now again_now u n ≡ true → Stays I P Q planes again u n
   stays (Retimed leg) n before of is =
       let x = leg.0 in
       let same = flier-rest x n before of is in
@@ -158,8 +160,8 @@ module _ (I : Situation) (P Q : PlanRows) (known : Untouched) (planes planes_now
       }
 
 -- so notes are moved to the later plan
-pub moved-notes : (I : Situation) (old new : UnitNotes) (known : Untouched) → IsValid I → AreUnitNotes I old → IsPlanFor I new.plan → least I new.plan ≡ None → AreUntouched I old.plan new.plan known → length new.planes.items ≡ planes_of I → length new.again.items ≡ legs_of I → AreTouchedAt (planes_of I) known.planes.items old.search old.planes.items new.planes.items → AreTouchedAt (legs_of I) known.again.items old.search old.again.items new.again.items → old.search ≤ new.search → new.found ≡ old.found → AreUnitNotes I new
-moved-notes I old new known valid notes later feasible are all_planes all_again by_planes by_again more found =
+pub moved-notes : (I : Situation) (old new : UnitNotes) (known : Untouched) → IsValid I → AreUnitNotes I old → IsPlanFor I new.plan → least I new.plan ≡ None → AreUntouched I old.plan new.plan known → length new.planes.items ≡ planes_of I → length new.again.items ≡ legs_of I → AreTouchedAt (planes_of I) known.planes.items old.search old.planes.items new.planes.items → AreTouchedAt (legs_of I) known.again.items old.search old.again.items new.again.items → old.search ≤ new.search → new.found ≡ old.found → new.quiet ≡ None → AreUnitNotes I new
+moved-notes I old new known valid notes later feasible are all_planes all_again by_planes by_again more found none =
     let P = old.plan in
     let Q = new.plan in
     let rows = notes.valid.legs in
@@ -173,7 +175,7 @@ moved-notes I old new known valid notes later feasible are all_planes all_again 
       latest = λ row column. (let before = notes.latest row column in let same = ap (λ (f : List (List ℕ)). number_at f row column) found in omega (arith, before, same, more));
       out = λ u of noted.
           let n = number_of old.found u in
-          let here : is_rest Q new.planes.items new.again.items u n ≡ true = ap (λ (f : List (List ℕ)). is_rest Q new.planes.items new.again.items u (number_of f u)) (sym found) ∙ noted in
+          let here : is_untouched_since Q new.planes.items new.again.items u n ≡ true = ap (λ (f : List (List ℕ)). is_untouched_since Q new.planes.items new.again.items u (number_of f u)) (sym found) ∙ noted in
           let stay = stays I P Q known old.planes.items new.planes.items old.again.items new.again.items old.search later many are by_planes by_again u n
           (number-latest old.found old.search u notes.latest) of here in
           let was = notes.out u stay.unit stay.rest in
@@ -182,4 +184,5 @@ moved-notes I old new known valid notes later feasible are all_planes all_again 
             fits = subst (All (Fits I)) moves was.fits;
             out = unit-out I P Q (unit_of u) valid notes.valid later notes.feasible feasible stay.begins was.fits stay.untouched was.out;
           };
+      quiet = subst (λ (q : Option Shard). ForSome q (λ (s : Shard). first_better I Q s.number s.count ≡ None)) (sym none) tt;
     }

@@ -11,7 +11,8 @@ ghost use Rattle.near_untouched.specs.Untouched.{AreUntouched};
 ghost use Rattle.unit_notes.specs.Notes.{AreUnitNotes, AreUnitNotesAt};
 ghost use Rattle.near_later.specs.Later.{AreTouchedAt};
 
-use desk_data::{Instance, Leg, NoMem, Plane};
+use crate::same::is_same_plan;
+use desk_data::{Instance, NoMem};
 use hour_counts::{HourCounts, KnowsHours};
 use near_untouched::Untouched;
 use plan_pages::Pages;
@@ -19,7 +20,8 @@ use std::alloc::Global;
 use unit_notes::UnitNotes;
 
 /// What of the notes of an earlier plan holds at a feasible plan as it stands, whose hours are known: a unit stays known
-/// where nothing was touched that it hangs on. The only error is out of memory, and then the notes are given up.
+/// where nothing was touched that it hangs on, and notes of the same plan stay as they are. The only error is out of memory,
+/// and then the notes are given up.
 pub fn later_unit_notes<H: KnowsHours>(
     alloc: Global,
     notes: UnitNotes,
@@ -31,8 +33,12 @@ pub fn later_unit_notes<H: KnowsHours>(
     requires plan { IsPlanFor inst.now plan.now }
     requires feasible { least inst.now plan.now ≡ None }
     requires hours { H.knows hours.now inst.now plan.now }
-    ensures { IfOk result (AreUnitNotesAt inst.now plan.now) }
+    ensures later { IfOk result (AreUnitNotesAt inst.now plan.now) }
+    ensures same { notes.plan ≡ plan.now → IfOk result (λ now. now ≡ notes) }
 {
+    if is_same_plan(inst, &notes.plan, plan) {
+        return Ok(notes);
+    }
     if notes.search == u32::MAX {
         return UnitNotes::of(alloc, inst, plan);
     }
@@ -75,6 +81,7 @@ fn moved(inst: &Instance, notes: UnitNotes, known: &Untouched, plan: Pages) -> U
     touch(inst.legs(), again, before, &mut notes.again);
     notes.search = before + 1;
     notes.plan = plan;
+    notes.quiet = None;
     notes
 }
 

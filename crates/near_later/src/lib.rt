@@ -12,5 +12,6 @@
 #![tactic(auto)]
 
 mod later;
+mod same;
 
 pub use later::later_unit_notes;

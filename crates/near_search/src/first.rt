@@ -10,7 +10,7 @@ use crate::legs::first_of_legs;
 use crate::noted::{keep, noted};
 use crate::passengers::first_of_passengers;
 use crate::rotations::Rotations;
-use crate::units::{keep_units, noted_units};
+use crate::units::{is_noted_quiet, keep_units, note_quiet, noted_units};
 use desk_data::NoMem;
 use desk_eval::Evaluator;
 use desk_headway::{Listener, Nobody};
@@ -23,7 +23,8 @@ use std::alloc::Global;
 /// where no move of the shard does. A shard's number is below the number of shards: shard 0 of 1 is all moves.
 /// The evaluator's past has fewer than 1,900,000,000 changes. Moves are tried on the evaluator and taken back:
 /// it stands where it stood, after an error too. What is found to be in vain is noted in the evaluator, for the next
-/// search; the finder keeps nothing, and is not asked. The only error is out of memory.
+/// search, and that nothing was found: the same shard is not looked at again until the plan is another one. The finder keeps
+/// nothing, and is not asked. The only error is out of memory.
 pub fn first_better(
     alloc: Global,
     eval: &mut Evaluator,
@@ -56,12 +57,16 @@ pub fn first_better_heard<L: Listener>(
     ensures eval { eval.new ≡ eval.old }
 {
     let _rows = eval.instance().parts();
+    let mut known = noted_units(alloc, eval)?;
+    if is_noted_quiet(eval, &known, shard, shards) {
+        keep_units(eval, known);
+        return Ok(None);
+    }
     let rotations = Rotations::of(alloc, eval)?;
     let mut units = LegUnits::of(alloc, eval.instance(), eval.plan(), shard, shards)?;
-    let mut known = noted_units(alloc, eval)?;
     let of_legs = first_of_legs(alloc, eval, &rotations, &mut units, &mut known, listener)?;
-    keep_units(eval, known);
     if let Some(m) = of_legs {
+        keep_units(eval, known);
         return Ok(Some(m));
     }
     let mut passengers = PaxMoves::of(alloc, eval.instance(), eval.plan(), shard, shards)?;
@@ -75,5 +80,9 @@ pub fn first_better_heard<L: Listener>(
         listener,
     )?;
     keep(eval, notes);
+    if found.is_none() {
+        note_quiet(eval, &mut known, shard, shards);
+    }
+    keep_units(eval, known);
     Ok(found)
 }

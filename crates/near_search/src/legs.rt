@@ -77,14 +77,14 @@ fn first_of_unit<L: Listener>(
         return Ok(None);
     }
     if is_in_vain(eval, rotations, unit) {
-        note_out(eval, notes, unit)?;
+        note_out(eval, notes, unit);
         return Ok(None);
     }
     let made = units.moves(alloc, eval.instance(), eval.plan(), unit)?;
     let mut moves = MadeMoves::of(made);
     let Tried { found, out } = try_all(alloc, eval, rotations, &mut moves, listener)?;
     if out {
-        note_out(eval, notes, unit)?;
+        note_out(eval, notes, unit);
     }
     Ok(found)
 }

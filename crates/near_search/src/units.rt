@@ -1,8 +1,8 @@
 //! What is noted of units of legs.
 
-ghost use Rattle.std.specs.Prelude.{◌≡◌, All, IfOk, IfSome, None, OnOk, false, true};
+ghost use Rattle.std.specs.Prelude.{◌≡◌, All, IfOk, IfSome, None, false, true};
 ghost use Rattle.desk_rules.specs.Least.{least};
-ghost use Rattle.near_moves.specs.Descent.{is_better};
+ghost use Rattle.near_moves.specs.Descent.{first_better, is_better};
 ghost use Rattle.near_moves.specs.Near.{unit_moves};
 ghost use Rattle.near_legs.specs.Choices.{IsLegUnit, unit_of};
 ghost use Rattle.unit_notes.specs.Notes.{AreUnitNotes, AreUnitNotesAt, IsUnitOut};
@@ -70,18 +70,48 @@ pub(crate) fn is_noted_out(eval: &Evaluator, notes: &Option<UnitNotes>, unit: Le
     }
 }
 
-/// Notes that a unit is out, if there are notes. The only error is out of memory, and then the notes are of nothing known.
-pub(crate) fn note_out(
-    eval: &Evaluator,
-    notes: &mut Option<UnitNotes>,
-    unit: LegUnit,
-) -> Result<(), NoMem>
+/// Notes that a unit is out, if there are notes. Where there is no memory for that they are given up, and the search goes on.
+pub(crate) fn note_out(eval: &Evaluator, notes: &mut Option<UnitNotes>, unit: LegUnit)
     requires notes { AreUnitsNotedAt eval.now.inst eval.now.rows notes.old }
     requires out { IsUnitOut eval.now.inst eval.now.rows (unit_of unit) }
-    ensures { OnOk result (AreUnitsNotedAt eval.now.inst eval.now.rows notes.new) }
+    ensures { AreUnitsNotedAt eval.now.inst eval.now.rows notes.new }
+{
+    if let Some(mut all) = notes.take() {
+        if all.note(unit).is_ok() {
+            *notes = Some(all);
+        }
+    }
+}
+
+/// Whether it is noted of a shard that none of its moves is better. Where it says no, nothing is known.
+pub(crate) fn is_noted_quiet(
+    eval: &Evaluator,
+    notes: &Option<UnitNotes>,
+    shard: u32,
+    shards: u32,
+) -> bool
+    requires notes { AreUnitsNotedAt eval.now.inst eval.now.rows notes.now }
+    ensures { result ≡ true → first_better eval.now.inst eval.now.rows shard shards ≡ None }
 {
     match notes {
-        Some(notes) => notes.note(unit),
-        None => Ok(()),
+        Some(notes) => notes.is_quiet(shard, shards),
+        None => false,
+    }
+}
+
+/// Notes of a shard that none of its moves is better, if there are notes.
+pub(crate) fn note_quiet(
+    eval: &Evaluator,
+    notes: &mut Option<UnitNotes>,
+    shard: u32,
+    shards: u32,
+)
+    requires notes { AreUnitsNotedAt eval.now.inst eval.now.rows notes.old }
+    requires quiet { first_better eval.now.inst eval.now.rows shard shards ≡ None }
+    ensures { AreUnitsNotedAt eval.now.inst eval.now.rows notes.new }
+{
+    match notes {
+        Some(notes) => notes.note_quiet(shard, shards),
+        None => {}
     }
 }

@@ -1,7 +1,7 @@
 //! Numbers in rows and columns, most of which are 0.
 //!
 //!     let mut numbers = NumberRows::zeros(alloc, rows)?;
-//!     numbers.put(row, column, 7)?;          // a row takes memory up to its last column that was put
+//!     numbers.put(row, column, 7)?;          // a row takes memory for up to twice its last column that was put
 //!     numbers.at(row, column)                // 7
 //!     numbers.at(row, column + 1)            // 0
 //!

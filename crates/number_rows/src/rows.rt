@@ -51,7 +51,7 @@ impl NumberRows {
         }
     }
 
-    /// Puts a number at a place of a row that there is. The only error is out of memory.
+    /// Puts a number at a place of a row that there is. The only error is out of memory, and then nothing is promised of the numbers.
     pub fn put(&mut self, row: usize, column: usize, number: u32) -> Result<(), NoMem>
         requires { row < length self.old }
         ensures { OnOk result (IsPut self.old self.new row column number) }

@@ -1,12 +1,14 @@
 -- Notes of which nothing is known, and of one more unit.
 use Rattle.std.proofs.Common.{◌≡◌, ℕ, ◌≤◌, inl, inr, Bool, true, false, ◌&&◌, cond, eqb, List, [], length, get_or, replicate, refl, sym, ap, subst, ◌∙◌, arith}
 use Rattle.std.specs.Prelude.{Option, Some, None}
+use Rattle.std.specs.Option.{ForSome}
 use Rattle.std.proofs.lemmas.List.{get_or-replicate, get_or_past, length-replicate}
 use Rattle.std.proofs.lemmas.Bool.{true≢false, and_parts, cases_Bool, cases_lt, eqb-true, false_from_ne_true, ltb-true}
 use Rattle.desk_data.specs.Situation.{Situation}
 use Rattle.desk_data.specs.PlanRows.{PlanRows, row_at}
 use Rattle.desk_data.specs.Valid.{IsPlanFor}
 use Rattle.desk_rules.specs.Least.{least}
+use Rattle.near_moves.specs.Descent.{first_better}
 use Rattle.near_moves.specs.MoveParts.{flier}
 use Rattle.near_legs.specs.Choices.{IsLegUnit, unit_of}
 use Rattle.near_legs.specs.declared.unit.LegUnit.{LegUnit}
@@ -15,7 +17,8 @@ use Rattle.number_rows.specs.Rows.{number_at, IsPut}
 use Rattle.unit_notes.specs.Places.{place, number_of, number_of_place}
 use Rattle.unit_notes.specs.declared.place.Place.{Place}
 use Rattle.unit_notes.specs.declared.notes.UnitNotes.{UnitNotes}
-use Rattle.unit_notes.specs.Notes.{AreUnitNotes, IsNow, IsUnitOut, is_before, is_rest}
+use Rattle.unit_notes.specs.declared.notes.Shard.{Shard}
+use Rattle.unit_notes.specs.Notes.{AreUnitNotes, IsNotedAt, IsUnitOut, is_before, is_untouched_since}
 use Rattle.unit_notes.proofs.PlaceLaws.{same-place}
 
 -- ---- nothing was touched before search 0, so nothing is known of what no search found out
@@ -23,7 +26,7 @@ use Rattle.unit_notes.proofs.PlaceLaws.{same-place}
 not-before : (touched : List ℕ) (k : ℕ) → is_before touched k 0 ≡ false
 not-before touched k = false_from_ne_true (is_before touched k 0) (λ is. absurd (let less = ltb-true (get_or touched k 0) 0 is in omega (arith, less)))
 
-pub never-rest : (P : PlanRows) (planes again : List ℕ) (u : LegUnit) → is_rest P planes again u 0 ≡ false
+pub never-rest : (P : PlanRows) (planes again : List ℕ) (u : LegUnit) → is_untouched_since P planes again u 0 ≡ false
 never-rest P planes again (Retimed leg) = not-before planes (flier (row_at P leg.0))
 never-rest P planes again (Swapped first second) = ap (λ (b : Bool). b && is_before planes second.0 0) (not-before planes first.0)
 never-rest P planes again (Dropped leg) = not-before planes (flier (row_at P leg.0))
@@ -51,21 +54,21 @@ number-latest found search u latest = of (place u)
 
 -- ---- one more unit
 
-module _ (I : Situation) (old new : UnitNotes) (u : LegUnit) (there : Place) (placed : place u ≡ Some there) (now : IsNow old new there) (are : AreUnitNotes I old) (known : IsUnitOut I old.plan (unit_of u)) where
-  rest-same : (v : LegUnit) (n : ℕ) → is_rest new.plan new.planes.items new.again.items v n ≡ is_rest old.plan old.planes.items old.again.items v n
+module _ (I : Situation) (old new : UnitNotes) (u : LegUnit) (there : Place) (placed : place u ≡ Some there) (now : IsNotedAt old new there) (are : AreUnitNotes I old) (known : IsUnitOut I old.plan (unit_of u)) where
+  rest-same : (v : LegUnit) (n : ℕ) → is_untouched_since new.plan new.planes.items new.again.items v n ≡ is_untouched_since old.plan old.planes.items old.again.items v n
   rest-same v n =
-      ap (λ (P : PlanRows). is_rest P new.planes.items new.again.items v n) now.plan
-      ∙ ap (λ (planes : List ℕ). is_rest old.plan planes new.again.items v n) now.planes
-      ∙ ap (λ (again : List ℕ). is_rest old.plan old.planes.items again v n) now.again
+      ap (λ (P : PlanRows). is_untouched_since P new.planes.items new.again.items v n) now.plan
+      ∙ ap (λ (planes : List ℕ). is_untouched_since old.plan planes new.again.items v n) now.planes
+      ∙ ap (λ (again : List ℕ). is_untouched_since old.plan old.planes.items again v n) now.again
 
-  known-at : (v : LegUnit) (o : Option Place) → place v ≡ o → IsLegUnit I old.plan v → is_rest old.plan old.planes.items old.again.items v (number_of_place new.found o) ≡ true → IsUnitOut I old.plan (unit_of v)
+  known-at : (v : LegUnit) (o : Option Place) → place v ≡ o → IsLegUnit I old.plan v → is_untouched_since old.plan old.planes.items old.again.items v (number_of_place new.found o) ≡ true → IsUnitOut I old.plan (unit_of v)
   known-at v None is of rest = absurd (true≢false (sym rest ∙ never-rest old.plan old.planes.items old.again.items v))
   known-at v (Some here) is of rest =
       elim (now.found here.row here.column) [
         | inl same ↦
-            let before : is_rest old.plan old.planes.items old.again.items v (number_of_place old.found (place v)) ≡ true =
-            ap (λ (o : Option Place). is_rest old.plan old.planes.items old.again.items v (number_of_place old.found o)) is
-            ∙ ap (λ (n : ℕ). is_rest old.plan old.planes.items old.again.items v n) (sym same)
+            let before : is_untouched_since old.plan old.planes.items old.again.items v (number_of_place old.found (place v)) ≡ true =
+            ap (λ (o : Option Place). is_untouched_since old.plan old.planes.items old.again.items v (number_of_place old.found o)) is
+            ∙ ap (λ (n : ℕ). is_untouched_since old.plan old.planes.items old.again.items v n) (sym same)
             ∙ rest in
             are.out v of before
         | inr put ↦ subst (λ (w : LegUnit). IsUnitOut I old.plan (unit_of w)) (same-place u v there here placed is (sym put.0) (sym put.1)) known
@@ -85,15 +88,18 @@ module _ (I : Situation) (old new : UnitNotes) (u : LegUnit) (there : Place) (pl
         let here : IsLegUnit I old.plan v = subst (λ (P : PlanRows). IsLegUnit I P v) now.plan of in
         subst (λ (P : PlanRows). IsUnitOut I P (unit_of v)) (sym now.plan)
         (known-at v (place v) refl here (sym (rest-same v (number_of_place new.found (place v))) ∙ noted));
+    quiet = subst (λ (P : PlanRows). ForSome new.quiet (λ (s : Shard). first_better I P s.number s.count ≡ None)) (sym now.plan)
+    (subst (λ (q : Option Shard). ForSome q (λ (s : Shard). first_better I old.plan s.number s.count ≡ None)) (sym now.quiet) are.quiet);
   }
 
 -- the number of the search at hand is put at a place
-pub put-now : (old : UnitNotes) (found : List (List ℕ)) (there : Place) → IsPut old.found found there.row there.column old.search → IsNow old (record old { found = found }) there
+pub put-now : (old : UnitNotes) (found : List (List ℕ)) (there : Place) → IsPut old.found found there.row there.column old.search → IsNotedAt old (record old { found = found }) there
 put-now old found there put = record {
   plan = refl;
   search = refl;
   planes = refl;
   again = refl;
+  quiet = refl;
   found = λ row column. elim (cases_Bool (eqb row there.row && eqb column there.column)) [
     | inl here ↦
         let parts = and_parts (eqb row there.row) (eqb column there.column) here in
@@ -109,9 +115,9 @@ put-now old found there put = record {
 
 -- ---- nothing is known yet
 
-pub nothing-noted : (I : Situation) (P : PlanRows) (rows : ℕ) (planes again : List ℕ) (u : LegUnit) → is_rest P planes again u (number_of (replicate rows []) u) ≡ true → ⊥
+pub nothing-noted : (I : Situation) (P : PlanRows) (rows : ℕ) (planes again : List ℕ) (u : LegUnit) → is_untouched_since P planes again u (number_of (replicate rows []) u) ≡ true → ⊥
 nothing-noted I P rows planes again u noted =
-    true≢false (sym noted ∙ ap (λ (n : ℕ). is_rest P planes again u n) (zero-of (place u)) ∙ never-rest P planes again u)
+    true≢false (sym noted ∙ ap (λ (n : ℕ). is_untouched_since P planes again u n) (zero-of (place u)) ∙ never-rest P planes again u)
   where
     zero-of : (o : Option Place) → number_of_place (replicate rows []) o ≡ 0
     zero-of None = refl

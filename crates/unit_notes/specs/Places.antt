@@ -13,7 +13,7 @@ abbrev pub handed_place : ℕ → ℕ → ℕ → Option Place
 handed_place x k q = if nat_le 1 k && nat_le k 4 then Some (at (8 * x + 3 + k) q) else None
 
 -- eight rows to a leg, and to an aircraft: of a leg that is retimed or dropped in the first one, of two aircraft in the second, of a leg that an aircraft flies
--- again in the third, and of a run of one to four legs that goes to an aircraft in the last four
+-- again in the third, and of a run of one to four legs that goes to an aircraft in the last four; the fourth stays empty
 abbrev pub place : LegUnit → Option Place
 place (Retimed leg) = Some (at (8 * leg.0) 0)
 place (Swapped first second) = Some (at (8 * first.0 + 1) second.0)

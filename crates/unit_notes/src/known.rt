@@ -6,7 +6,7 @@ ghost use Rattle.desk_data.specs.Situation.{legs_of};
 ghost use Rattle.desk_data.specs.Valid.{IsPlanFor};
 ghost use Rattle.near_moves.specs.MoveParts.{flier};
 ghost use Rattle.near_legs.specs.Choices.{IsLegUnit};
-ghost use Rattle.unit_notes.specs.Notes.{is_before, is_rest};
+ghost use Rattle.unit_notes.specs.Notes.{is_before, is_untouched_since};
 
 use crate::notes::UnitNotes;
 use desk_data::{Instance, Leg, Plane, Row};
@@ -14,10 +14,10 @@ use near_legs::LegUnit;
 
 impl UnitNotes {
     /// Whether all that a unit hangs on was last touched before a search.
-    pub(crate) fn is_rest(&self, inst: &Instance, unit: LegUnit, search: u32) -> bool
+    pub(crate) fn is_untouched_since(&self, inst: &Instance, unit: LegUnit, search: u32) -> bool
         requires plan { IsPlanFor inst.now self.now.plan }
         requires unit { IsLegUnit inst.now self.now.plan unit }
-        ensures { result ≡ is_rest self.now.plan self.now.planes.items self.now.again.items unit search }
+        ensures { result ≡ is_untouched_since self.now.plan self.now.planes.items self.now.again.items unit search }
     {
         match unit {
             LegUnit::Retimed { leg } => self.is_flier_before(inst, leg, search),
@@ -53,7 +53,7 @@ impl UnitNotes {
         is_below(self.planes.as_slice(), plane.0, search)
     }
 
-    /// Whether a leg last might not be flown again as before, before a search.
+    /// Whether the last search after which a leg might not be flown again as it was came before a search.
     fn is_again_before(&self, leg: Leg, search: u32) -> bool
         ensures { result ≡ is_before self.now.again.items leg.0 search }
     {

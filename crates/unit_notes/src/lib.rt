@@ -1,9 +1,12 @@
 //! What is noted of the units of legs: of which of them it is known why none of their moves is better.
 //!
 //!     let mut notes = UnitNotes::of(alloc, &inst, &plan)?;      // of a feasible plan, and nothing is known yet
-//!     notes.note(&inst, unit)?;                                 // none of its moves is better, and it is known why
-//!     if notes.knows(&inst, unit) { .. }
-//!     let notes = notes.touch(alloc, &later, planes, again)?;   // at a later plan, once some aircraft were touched
+//!     notes.note(unit)?;                                        // of each of its moves it is known why it is not better
+//!     if notes.knows(&inst, unit) { .. }                        // none of its moves is better
+//!     notes.note_quiet(shard, shards);                          // no move of a shard is better
+//!     if notes.is_quiet(shard, shards) { .. }
+//!
+//! `later_unit_notes` of near_later brings them to a later plan.
 //!
 //! Searches are numbered. A unit is noted with the number of the search that found it out, and an aircraft with that of
 //! the last search after which it was touched, and so is a leg that may not be flown again as before. So a unit is known as long
@@ -18,4 +21,4 @@ mod notes;
 mod place;
 
 pub use near_legs::LegUnit;
-pub use notes::UnitNotes;
+pub use notes::{Shard, UnitNotes};

@@ -4,9 +4,10 @@ ghost use Rattle.std.specs.Prelude.{◌≡◌, None, IfOk, OnOk, replicate, true
 ghost use Rattle.desk_data.specs.Situation.{Situation};
 ghost use Rattle.desk_data.specs.Valid.{IsPlanFor};
 ghost use Rattle.desk_rules.specs.Least.{least};
+ghost use Rattle.near_moves.specs.Descent.{first_better};
 ghost use Rattle.near_legs.specs.Choices.{IsLegUnit, unit_of};
 ghost use Rattle.unit_notes.specs.Places.{number_of};
-ghost use Rattle.unit_notes.specs.Notes.{AreUnitNotes, AreUnitNotesAt, IsNow, IsUnitOut, is_noted};
+ghost use Rattle.unit_notes.specs.Notes.{AreUnitNotes, AreUnitNotesAt, IsNotedAt, IsUnitOut, is_noted};
 
 use crate::place::{Place, place_of};
 use desk_data::{Instance, NoMem};
@@ -14,6 +15,17 @@ use near_legs::LegUnit;
 use number_rows::NumberRows;
 use plan_pages::Pages;
 use std::alloc::Global;
+
+/// How many pairs of a leg and an aircraft a day may have for its units to be noted: beyond these the table could take more
+/// than some 128 MB, and nothing is noted.
+const MOST_PAIRS: u32 = 8_000_000;
+
+/// A shard of the moves near a plan: its number, from 0, and how many shards there are.
+#[derive(Clone, Copy)]
+pub struct Shard {
+    pub number: u32,
+    pub count: u32,
+}
 
 /// What is noted of the units of legs of a day at a plan of it that is feasible.
 pub struct UnitNotes {
@@ -27,6 +39,8 @@ pub struct UnitNotes {
     pub again: Vec<u32>,
     /// For each unit that of the search that found it out, 0 where none did.
     pub found: NumberRows,
+    /// A shard of which it is known that none of its moves is better at the plan, those of passengers neither.
+    pub quiet: Option<Shard>,
 }
 
 /// Dropped in one call, so that a function that owns one proves it once, and not part by part.
@@ -38,6 +52,7 @@ impl Drop for UnitNotes {
             planes: _,
             again: _,
             found: _,
+            quiet: _,
         } = self;
     }
 }
@@ -51,8 +66,7 @@ impl UnitNotes {
     {
         let planes = zeros(alloc, inst.planes() as usize)?;
         let again = zeros(alloc, inst.legs() as usize)?;
-        let most = inst.planes().max(inst.legs());
-        let found = NumberRows::zeros(alloc, 8 * most as usize)?;
+        let found = NumberRows::zeros(alloc, rows_of(inst))?;
         let plan = plan.share(alloc)?;
         Ok(UnitNotes {
             plan,
@@ -60,6 +74,7 @@ impl UnitNotes {
             planes,
             again,
             found,
+            quiet: None,
         })
     }
 
@@ -80,7 +95,7 @@ impl UnitNotes {
         ensures { result ≡ is_noted self.now.plan self.now unit }
     {
         let found = self.number_of(unit);
-        self.is_rest(inst, unit, found)
+        self.is_untouched_since(inst, unit, found)
     }
 
     /// The number of the search that found a unit out, 0 where none did.
@@ -93,7 +108,30 @@ impl UnitNotes {
         }
     }
 
-    /// Notes of a unit that it is out. The only error is out of memory, and then the notes are of nothing known.
+    /// Whether it is known of a shard that none of its moves is better at the plan of the notes. Where it says no, nothing is
+    /// known.
+    pub fn is_quiet(&self, shard: u32, shards: u32) -> bool
+        ensures { result ≡ true → (I : Situation) → AreUnitNotes I self.now → first_better I self.now.plan shard shards ≡ None }
+    {
+        match self.quiet {
+            Some(known) => known.number == shard && known.count == shards,
+            None => false,
+        }
+    }
+
+    /// Notes of a shard that none of its moves is better at the plan, in the place of what was known of one.
+    pub fn note_quiet(&mut self, shard: u32, shards: u32)
+        ensures plan { self.new.plan ≡ self.old.plan }
+        ensures notes { (I : Situation) → AreUnitNotes I self.old → first_better I self.old.plan shard shards ≡ None → AreUnitNotes I self.new }
+    {
+        self.quiet = Some(Shard {
+            number: shard,
+            count: shards,
+        });
+    }
+
+    /// Notes of a unit that it is out. The only error is out of memory, and then nothing is promised of the notes: they are
+    /// given up.
     pub fn note(&mut self, unit: LegUnit) -> Result<(), NoMem>
         ensures plan { OnOk result (self.new.plan ≡ self.old.plan) }
         ensures notes { (I : Situation) → AreUnitNotes I self.old → IsUnitOut I self.old.plan (unit_of unit) → OnOk result (AreUnitNotes I self.new) }
@@ -106,12 +144,22 @@ impl UnitNotes {
 
     /// Puts the number of the search at hand at a place, if the table has its row.
     fn put(&mut self, there: Place) -> Result<(), NoMem>
-        ensures { OnOk result (IsNow self.old self.new there) }
+        ensures { OnOk result (IsNotedAt self.old self.new there) }
     {
         if self.found.rows() <= there.row {
             return Ok(());
         }
         self.found.put(there.row, there.column, self.search)
+    }
+}
+
+/// How many rows the table has: eight for each leg and each aircraft, and none on a day with too many pairs of these.
+fn rows_of(inst: &Instance) -> usize {
+    let (legs, planes) = (inst.legs(), inst.planes());
+    if legs > MOST_PAIRS / planes.max(1) {
+        0
+    } else {
+        8 * planes.max(legs) as usize
     }
 }
 

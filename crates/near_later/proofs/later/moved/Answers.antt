@@ -15,6 +15,6 @@ returns c =
     let by_again : AreTouchedAt (legs_of I) known.again.items old.search old.again.items c.touch-2.new.touched.items = rw (c.legs.ensures.count, marks-2) at c.touch-2.ensures.each in
     record {
       notes = moved-notes I old _ known c.parts-rows.ensures.valid c.requires.notes c.requires.plan c.requires.feasible c.requires.known
-          (c.touch.ensures.touched ∙ c.planes.ensures.count) (c.touch-2.ensures.touched ∙ c.legs.ensures.count) by_planes by_again (omega arith) refl;
+          (c.touch.ensures.touched ∙ c.planes.ensures.count) (c.touch-2.ensures.touched ∙ c.legs.ensures.count) by_planes by_again (omega arith) refl refl;
       plan = refl;
     }

@@ -5,7 +5,7 @@ use Rattle.desk_data.specs.Valid.{IsPlanFor}
 use Rattle.desk_rules.specs.Least.{least}
 use Rattle.number_rows.specs.Rows.{number_at}
 use Rattle.unit_notes.specs.Places.{number_of}
-use Rattle.unit_notes.specs.Notes.{is_rest}
+use Rattle.unit_notes.specs.Notes.{is_untouched_since}
 use Rattle.unit_notes.proofs.NotesLaws.{none-at, nothing-noted}
 use Rattle.unit_notes.proofs.notes.UnitNotes.of.Goals as goal
 
@@ -24,7 +24,8 @@ returns c =
         planes = ap length c.in_ok-planes.ensures ∙ length-replicate _ 0 ∙ c.planes.ensures.count;
         again = ap length c.in_ok-again.ensures ∙ length-replicate _ 0 ∙ c.legs.ensures.count;
         latest = λ row column. (let none = ap (λ (f : List (List ℕ)). number_at f row column) c.in_ok-found.ensures ∙ none-at _ row column in omega (arith, none));
-        out = λ u of noted. absurd (nothing-noted I P _ planes again u (ap (λ (f : List (List ℕ)). is_rest P planes again u (number_of f u)) (sym c.in_ok-found.ensures) ∙ noted));
+        out = λ u of noted. absurd (nothing-noted I P _ planes again u (ap (λ (f : List (List ℕ)). is_untouched_since P planes again u (number_of f u)) (sym c.in_ok-found.ensures) ∙ noted));
+        quiet = tt;
       };
       plan = same;
     }
