@@ -2,7 +2,7 @@
 use Rattle.std.proofs.Common.{◌≡◌, ℕ, ◌<◌, ◌≤◌, inl, inr, Bool, true, false, ◌&&◌, ◌||◌, not, eqb, List, [], ◌∷◌, ◌++◌, refl, sym, ap, subst, ◌∙◌}
 use Rattle.std.specs.Prelude.{None}
 use Rattle.std.specs.List.{All, Contains, list_all}
-use Rattle.std.proofs.lemmas.Bool.{true≢false, and_parts, and_right, eqb-true, le-ltb}
+use Rattle.std.proofs.lemmas.Bool.{true≢false, and_parts, eq-eqb, eqb-true}
 use Rattle.std.proofs.lemmas.List.Elements.{All-cons, All-contains, Contains-append_cases}
 use Rattle.desk_data.specs.declared.row.Row.{Row}
 use Rattle.desk_data.specs.declared.row.Row.TheVariants.{Flown, Cancelled}
@@ -31,8 +31,6 @@ use Rattle.near_trial.specs.RowRules.{keeps_rows}
 use Rattle.near_trial.proofs.RowLaws.{steps-rows}
 use Rattle.near_draft.specs.Drafts.{Drafted, IsDraftOf, plan_of}
 use Rattle.near_draft.specs.LegRules.{BreaksOf, BreaksPushed, keeps_leg_rules}
-use Rattle.near_draft.proofs.BreakLaws.{broken-worse}
-use Rattle.near_draft.proofs.RuleLaws.{of-breaks}
 use Rattle.near_legs.specs.Choices.{IsLegUnit, unit_of}
 use Rattle.near_legs.specs.declared.unit.LegUnit.{LegUnit}
 use Rattle.near_legs.specs.declared.unit.LegUnit.TheVariants.{Retimed, Swapped, Dropped, Restored, Handed}
@@ -41,6 +39,7 @@ use Rattle.near_units.specs.Out.{HandsInVain, IsOut, RestoresInVain, SwapsInVain
 use Rattle.near_units.specs.Same.{FliesSame, is_of}
 use Rattle.near_units.specs.Steps.{BeginsFlown, IsSplit, is_among, is_tidying, unit_legs, unit_planes, unit_refills}
 use Rattle.near_units.proofs.OutLaws.{unit-worse}
+use Rattle.near_units.proofs.OwnLaws.{breaks-worse}
 use Rattle.near_units.proofs.RuleLaws.{c2-same, c4-same, c5-same, c6-same, c7-same}
 use Rattle.near_units.proofs.SplitLaws.{moves-split}
 use Rattle.near_unpaid.proofs.DearLaws.{dear-worse}
@@ -112,26 +111,32 @@ made-rows I P m first others is keeps =
     ∙ ap (λ (R : PlanRows). R.rows) (steps-append I P first others)
     ∙ steps-rows I (after_steps I P first) others keeps
 
+-- so a leg of some aircraft breaks a rule once the move is made, if that aircraft is one of them
+breaks-own : (planes : ℕ → Bool) (I : Situation) (P : PlanRows) (m : Move) (D : Drafted) → IsDraftOf I P m D → (p : ℕ) → planes p ≡ true → BreaksOf D.inst (plan_of D) p → BreaksOwn planes I P m
+breaks-own planes I P m D is p own broken =
+    let F = after_move I P m in
+    let G = after_steps I P is.first in
+    let here : BreaksOf I G p = subst (λ (K : Situation). BreaksOf K G p) is.day (subst (λ (R : PlanRows). BreaksOf D.inst R p) is.made broken) in
+    let rows : F.rows ≡ G.rows = made-rows I P m is.first is.others is.steps is.keeps in
+    let x = here.leg in
+    let row : row_at F x ≡ row_at G x = ap (λ (all : List Row). row_at (record { rows = all; groups = [] }) x) rows in
+    record {
+      leg = x;
+      within = here.within;
+      own = ap (is_of planes) row ∙ of-flier planes p (row_at G x) own here.flown;
+      broken = sym (rows-rules I G F p x (sym rows) here.flown) ∙ here.broken;
+    }
+
 pub breaks-out : (I : Situation) (P : PlanRows) (m : Move) (D : Drafted) → IsDraftOf I P m D → BreaksPushed D.inst (plan_of D) m.steps → IsRuledOut I P m
 breaks-out I P m D is pushed =
     let p = pushed.plane.0 in
-    let F = after_move I P m in
-    let G = after_steps I P is.first in
-    let here : BreaksOf I G p = subst (λ (K : Situation). BreaksOf K G p) is.day (subst (λ (R : PlanRows). BreaksOf D.inst R p) is.made pushed.breaks) in
-    let rows : F.rows ≡ G.rows = made-rows I P m is.first is.others is.steps is.keeps in
-    let x = here.leg in
+    let this : ℕ → Bool = λ q. eqb q p in
     record {
-      worse = broken-worse I P m D is (of-breaks D.inst (plan_of D) p pushed.breaks);
+      worse = breaks-worse this I P m (breaks-own this I P m D is p (eq-eqb p p refl) pushed.breaks);
       out = λ u begins has.
           let split = moves-split I P u m begins has in
           let own : unit_planes P u p ≡ true = own-step (unit_planes P u) (unit_legs I P u) (unit_refills I P u) m (Push pushed.plane pushed.after) split refl pushed.pushed in
-          let row : row_at F x ≡ row_at G x = ap (λ (all : List Row). row_at (record { rows = all; groups = [] }) x) rows in
-          breaks (record {
-            leg = x;
-            within = here.within;
-            own = ap (is_of (unit_planes P u)) row ∙ of-flier (unit_planes P u) p (row_at G x) own here.flown;
-            broken = sym (rows-rules I G F p x (sym rows) here.flown) ∙ here.broken;
-          });
+          breaks (breaks-own (unit_planes P u) I P m D is p own pushed.breaks);
     }
 
 -- ---- units
