@@ -103,7 +103,7 @@ impl Evaluator {
     /// The evaluator of another plan of the same day, which may have gone on and have more orders, with an
     /// empty past. The plan is handed in, and one for the instance that is handed in. What depends on the rows
     /// of the day alone is shared, and so are the pages on which both plans have the same. The only error is out of
-    /// memory, after which the plan is given up.
+    /// memory, told where too many share a page or the day, too; after it the plan is given up.
     pub fn of_same_day(&self, alloc: Global, inst: Instance, plan: Plan) -> Result<Evaluator, NoMem>
         requires day { inst.parts ≡ self.now.inst.parts }
         requires plan { IsPlanFor inst plan }
@@ -262,7 +262,7 @@ impl Evaluator {
 
     /// An evaluator of the same instance and plan, with an empty past. The pages of the plan are shared and the
     /// boards are copied as they stand, so that nothing is judged and no row is read. The only error is out of
-    /// memory; that too many share a page already is told as that.
+    /// memory, told where too many share a page or the day, too.
     pub fn copy(&self, alloc: Global) -> Result<Evaluator, NoMem>
         ensures { IfOk result (λ copy. copy ≡ record self.now { past = [] }) }
     {

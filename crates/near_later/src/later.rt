@@ -39,7 +39,7 @@ pub fn later_unit_notes<H: KnowsHours>(
     if is_same_plan(inst, &notes.plan, plan) {
         return Ok(notes);
     }
-    if notes.search == u32::MAX {
+    if notes.search == u32::MAX || notes.found.rows() == 0 {
         return UnitNotes::of(alloc, inst, plan);
     }
     let known = untouched_since(alloc, &notes, inst, plan, hours)?;

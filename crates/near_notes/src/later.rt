@@ -13,7 +13,7 @@ ghost use Rattle.near_notes.specs.Links.{AreLinks};
 
 use crate::changes::Changes;
 use crate::links::Links;
-use crate::rows::seats_aboard;
+use crate::aboard::seats_aboard;
 use crate::untouched::{Plans, is_untouched};
 use day_notes::Notes;
 use desk_data::{Instance, Leg, NoMem, Res, Seats};

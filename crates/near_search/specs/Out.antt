@@ -10,7 +10,7 @@ use Rattle.near_moves.specs.Units.{MoveUnit}
 use Rattle.near_units.specs.Steps.{BeginsFlown}
 use Rattle.near_units.specs.Out.{IsOut}
 
--- a move is out, whichever unit of legs it is of
+-- a move is out, whichever unit of legs it is of; of a rebooking, which is of none, nothing is said
 abbrev pub IsMoveOut : Situation → PlanRows → Move → Type 0
 IsMoveOut I P m = (u : MoveUnit) → BeginsFlown P u → Contains (unit_moves I P u) m → IsOut I P u m
 

@@ -22,8 +22,8 @@ use std::alloc::Global;
 /// The first move of a shard of those near the evaluator's plan that makes it feasible and cheaper, or none
 /// where no move of the shard does. A shard's number is below the number of shards: shard 0 of 1 is all moves.
 /// The evaluator's past has fewer than 1,900,000,000 changes. Moves are tried on the evaluator and taken back:
-/// it stands where it stood, after an error too. What is found to be in vain is noted in the evaluator, for the next
-/// search, and that nothing was found: the same shard is not looked at again until the plan is another one. The finder keeps
+/// it stands where it stood, after an error too. What is found out of paths and of units of legs is noted in the evaluator, for
+/// the next search, and that nothing was found, so that the same shard need not be looked at again as long as the plan is the same. The finder keeps
 /// nothing, and is not asked. The only error is out of memory.
 pub fn first_better(
     alloc: Global,

@@ -18,7 +18,7 @@ use desk_eval::Evaluator;
 use full_cost::passenger_cost;
 use plan_moves::{Move, Step};
 
-/// Whether it is known without trying it that a move is not better, and why: it has one step, and that makes no plan
+/// Whether it is known without trying it that a move is not better, and why: it has one step, and that makes the plan no
 /// cheaper; or its first step is in vain; or nobody pays on its aircraft. Where it says no, nothing is known.
 pub(crate) fn ruled_out(eval: &Evaluator, rotations: &Rotations, m: &Move) -> bool
     requires rotations { AreRotations eval.now.inst eval.now.rows rotations.now }

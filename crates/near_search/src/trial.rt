@@ -32,7 +32,7 @@ pub(crate) struct Tried {
 pub(crate) struct Verdict {
     /// Whether it is better.
     better: bool,
-    /// Whether it is known that it is not, and why.
+    /// Whether it is known that it is not, and why, so that its unit may be noted: a rule that it breaks is no reason here.
     out: bool,
 }
 

@@ -17,7 +17,7 @@ use plan_pages::Pages;
 use std::alloc::Global;
 
 /// How many pairs of a leg and an aircraft a day may have for its units to be noted: beyond these the table could take more
-/// than some 128 MB, and nothing is noted.
+/// than some 256 MB, and nothing is noted.
 const MOST_PAIRS: u32 = 8_000_000;
 
 /// A shard of the moves near a plan: its number, from 0, and how many shards there are.
@@ -95,7 +95,7 @@ impl UnitNotes {
         ensures { result ≡ is_noted self.now.plan self.now unit }
     {
         let found = self.number_of(unit);
-        self.is_untouched_since(inst, unit, found)
+        found != 0 && self.is_untouched_since(inst, unit, found)
     }
 
     /// The number of the search that found a unit out, 0 where none did.
