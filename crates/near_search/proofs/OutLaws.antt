@@ -1,19 +1,17 @@
 -- Why a move is not better, whichever unit of legs it is of.
-use Rattle.std.proofs.Common.{◌≡◌, ℕ, ◌<◌, ◌≤◌, inl, inr, Bool, true, false, ◌&&◌, ◌||◌, not, eqb, List, [], ◌∷◌, ◌++◌, refl, sym, ap, subst, ◌∙◌}
-use Rattle.std.specs.Prelude.{None}
+use Rattle.std.proofs.Common.{◌≡◌, ℕ, ◌≤◌, inl, inr, Bool, true, false, ◌||◌, eqb, List, [], ◌∷◌, ◌++◌, refl, sym, ap, subst, ◌∙◌}
 use Rattle.std.specs.List.{All, Contains, list_all}
 use Rattle.std.proofs.lemmas.Bool.{true≢false, and_parts, eq-eqb, eqb-true}
 use Rattle.std.proofs.lemmas.List.Elements.{All-cons, All-contains, Contains-append_cases}
 use Rattle.desk_data.specs.declared.row.Row.{Row}
 use Rattle.desk_data.specs.declared.row.Row.TheVariants.{Flown, Cancelled}
-use Rattle.desk_data.specs.Situation.{Situation, legs_of}
+use Rattle.desk_data.specs.Situation.{Situation}
 use Rattle.desk_data.specs.PlanRows.{PlanRows, row_at}
 use Rattle.plan_moves.specs.declared.moves.Move.{Move}
 use Rattle.plan_moves.specs.declared.moves.Step.{Step}
 use Rattle.plan_moves.specs.declared.moves.Step.TheVariants.{Set, Push, Swap}
 use Rattle.plan_moves.specs.Fits.{Fits}
 use Rattle.desk_rules.specs.Cost.{cost}
-use Rattle.desk_rules.specs.Least.{least}
 use Rattle.desk_rules.specs.Maintenance.{is_flown_by, flies}
 use Rattle.desk_rules.proofs.CarriageLaws.{list_all-holds}
 use Rattle.desk_model.specs.Steps.{after_steps, after_move}
@@ -35,16 +33,16 @@ use Rattle.near_legs.specs.Choices.{IsLegUnit, unit_of}
 use Rattle.near_legs.specs.declared.unit.LegUnit.{LegUnit}
 use Rattle.near_legs.specs.declared.unit.LegUnit.TheVariants.{Retimed, Swapped, Dropped, Restored, Handed}
 use Rattle.near_units.specs.Own.{BreaksOwn, keeps_own_rules}
-use Rattle.near_units.specs.Out.{HandsInVain, IsOut, RestoresInVain, SwapsInVain, breaks, dear, hands, restores, swaps}
+use Rattle.near_units.specs.Out.{HandsInVain, IsOut, breaks, dear, hands, restores, swaps}
 use Rattle.near_units.specs.Same.{FliesSame, is_of}
 use Rattle.near_units.specs.Steps.{BeginsFlown, IsSplit, is_among, is_tidying, unit_legs, unit_planes, unit_refills}
 use Rattle.near_units.proofs.OutLaws.{unit-worse}
 use Rattle.near_units.proofs.OwnLaws.{breaks-worse}
 use Rattle.near_units.proofs.RuleLaws.{c2-same, c4-same, c5-same, c6-same, c7-same}
 use Rattle.near_units.proofs.SplitLaws.{moves-split}
-use Rattle.near_unpaid.proofs.DearLaws.{dear-worse}
 use Rattle.unit_notes.specs.Notes.{IsUnitOut}
 use Rattle.near_search.specs.Out.{AreMovesOut, IsMoveOut, IsRuledOut}
+use Rattle.near_search.proofs.FirstLaws.{dearer-ruled_out}
 
 -- ---- steps of a unit's own legs
 
@@ -65,7 +63,7 @@ contains-first s steps all is = subst (λ (xs : List Step). Contains xs s) (sym 
 -- ---- the reasons
 
 pub dear-out : (I : Situation) (P : PlanRows) (m : Move) → cost I P ≤ cost I (after_move I P m) → IsRuledOut I P m
-dear-out I P m less = record { worse = dear-worse I P m less; out = λ u begins has. dear less }
+dear-out I P m less = record { worse = dearer-ruled_out I P m less; out = λ u begins has. dear less }
 
 pub swaps-out : (I : Situation) (P : PlanRows) (m : Move) (p q at : ℕ) (others : List Step) → m.steps ≡ Swap (plane p) (plane q) (minute at) ∷ others → list_all keeps_aircraft others ≡ true → IsSwappedInVain I P p q at → IsRuledOut I P m
 swaps-out I P m p q at others is keeps vain = record {
