@@ -184,5 +184,5 @@ moved-notes I old new known valid notes later feasible are all_planes all_again 
             fits = subst (All (Fits I)) moves was.fits;
             out = unit-out I P Q (unit_of u) valid notes.valid later notes.feasible feasible stay.begins was.fits stay.untouched was.out;
           };
-      quiet = subst (λ (q : Option Shard). ForSome q (λ (s : Shard). first_better I Q s.number s.count ≡ None)) (sym none) tt;
+      quiet = subst (λ (q : Option Shard). ForSome q (λ (s : Shard). first_better I Q s.number s.count ≡ None)) (sym none) (λ s is. absurd cc);
     }
