@@ -3,14 +3,18 @@ use Rattle.std.proofs.Common.{◌≡◌, ℕ, ◌+◌, ◌<◌, ◌⊎◌, inl, 
 use Rattle.std.specs.Prelude.{Option, None, Some}
 use Rattle.std.specs.List.{All, Contains}
 use Rattle.std.proofs.lemmas.Bool.{true≢false, false_from_ne_true}
-use Rattle.std.proofs.lemmas.List.{get_or-set_same}
+use Rattle.std.proofs.lemmas.List.{get_or-set_same, get_or_default, same_lists}
 use Rattle.std.proofs.lemmas.List.Elements.{All-contains, All-push, All-weaker, Contains-append_left, Contains-push}
 use Rattle.desk_units.specs.declared.numbers.Airport.{Airport}
 use Rattle.desk_units.specs.declared.numbers.Leg.{Leg}
 use Rattle.desk_units.specs.declared.numbers.Plane.{Plane}
 use Rattle.desk_data.specs.declared.info.PositionInfo.{PositionInfo}
 use Rattle.desk_data.specs.Situation.{Situation, legs_of, planes_of, plane_at}
-use Rattle.desk_data.specs.PlanRows.{PlanRows}
+use Rattle.desk_data.specs.PlanRows.{PlanRows, row_at}
+use Rattle.desk_data.specs.declared.row.Group.{Group}
+use Rattle.desk_data.specs.declared.row.Row.{Row}
+use Rattle.desk_data.specs.declared.row.Row.TheVariants.{Cancelled}
+use Rattle.desk_data.specs.Valid.{IsPlanFor}
 use Rattle.desk_rules.specs.Numbers.{numbers}
 use Rattle.desk_rules.specs.Cost.{at_hand, is_wanted, ends_at}
 use Rattle.plan_reads.specs.Last.{IsLastOf, stand}
@@ -19,9 +23,9 @@ use Rattle.full_cost.specs.Stands.{AreStands, end_of, is_there}
 use Rattle.near_moves.specs.MoveParts.{plane}
 use Rattle.near_moves.proofs.ListLaws.{numbers_below}
 use Rattle.near_units.proofs.PlaneLaws.{filter-same}
-use Rattle.near_untouched.specs.Marks.{is_marked, AreKept, HoldsOf}
+use Rattle.near_untouched.specs.Marks.{is_marked, AreChanged, AreKept, HoldsOf}
 use Rattle.near_untouched.specs.Positions.{AreElsewhere, IsPositionTold, HasSameHands}
-use Rattle.near_untouched.proofs.MarkLaws.{mark-kept}
+use Rattle.near_untouched.proofs.MarkLaws.{mark-kept, rows-all}
 
 -- ---- where aircraft end
 
@@ -75,6 +79,19 @@ hands-same I P Q was now planes position ends later are same =
           | inr has ↦ All-contains (λ (q : Plane). IsSameHand I was now position q.0) planes (plane p) same has
         ] in
         ap (λ (b : Bool). wants && b) (sym (ends.each p a lt)) ∙ between ∙ ap (λ (b : Bool). wants && b) (later.each p a lt)
+
+-- by the rows of a plan alone, whatever its groups
+abbrev at_hand_by : Situation → PositionInfo → List (List Group) → List Row → ℕ
+at_hand_by I position groups rows = at_hand I (record { rows = rows; groups = groups }) position
+
+-- where no leg has another row, as many are at hand
+pub hands-still : (I : Situation) (P Q : PlanRows) (legs : List Leg) (position : PositionInfo) → IsPlanFor I P → IsPlanFor I Q → length legs ≡ 0 → AreChanged I P Q legs → at_hand I P position ≡ at_hand I Q position
+hands-still I P Q legs position plan later none are =
+    let before = plan.legs in
+    let now = later.legs in
+    let same : P.rows ≡ Q.rows = same_lists P.rows Q.rows (before ∙ sym now) (λ k d lt.
+    get_or_default P.rows k d Cancelled lt ∙ rows-all P Q (legs_of I) legs none are k (omega (arith, lt, before)) ∙ get_or_default Q.rows k Cancelled d (omega (arith, lt, before, now))) in
+    ap (at_hand_by I position P.groups) same
 
 -- ---- aircraft
 

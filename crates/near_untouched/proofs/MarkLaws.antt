@@ -88,3 +88,11 @@ row-same P Q n legs touched are marked y lt off =
       | inl same ↦ same
       | inr on ↦ absurd (true≢false (sym on ∙ off))
     ]
+
+-- where none is listed, all have the same
+pub rows-all : (P Q : PlanRows) (n : ℕ) (legs : List Leg) → length legs ≡ 0 → AreChangedOfFirst n P Q legs → (y : ℕ) → y < n → row_at P y ≡ row_at Q y
+rows-all P Q n legs none are y lt =
+    elim (changed-at P Q n legs (λ x. ⊥) are (λ k d there. omega (arith, there, none)) y lt) [
+      | inl same ↦ same
+      | inr no_leg ↦ absurd no_leg
+    ]

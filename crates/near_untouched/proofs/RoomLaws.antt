@@ -1,5 +1,5 @@
 -- Hours that have the same room in both plans, since no leg is counted in them otherwise, or since they are roomy in both.
-use Rattle.std.proofs.Common.{◌≡◌, ◌≢◌, ℕ, ◌+◌, ◌-◌, ◌<◌, ◌≤◌, ◌⊎◌, inl, inr, Bool, true, false, ◌&&◌, not, eqb, List, refl, sym, ap, subst, ◌∙◌, arith}
+use Rattle.std.proofs.Common.{◌≡◌, ◌≢◌, ℕ, ◌+◌, ◌-◌, ◌<◌, ◌≤◌, ◌⊎◌, inl, inr, Bool, true, false, ◌&&◌, not, eqb, List, length, refl, sym, ap, subst, ◌∙◌, arith}
 use Rattle.std.specs.Prelude.{Option, None, Some, count_by}
 use Rattle.std.specs.List.{All, list_any}
 use Rattle.std.proofs.lemmas.Bool.{true≢false, false≢true, cases_Bool, cases_eq, and_parts, and_right, eqb-true, eq-eqb, ne_eqb, false_from_ne_true}
@@ -20,7 +20,7 @@ use Rattle.near_units.specs.Room.{IsSameRoom}
 use Rattle.near_units.proofs.FrameLaws.{count-weaker}
 use Rattle.near_untouched.specs.Marks.{is_marked, AreKept, HoldsOf, AreChanged}
 use Rattle.near_untouched.specs.Hours.{margin, place_of, beside, cap, counted_hour, HasRoom, IsRoomy, IsHourTold, IsLegTold, HasSameRoom}
-use Rattle.near_untouched.proofs.MarkLaws.{off-before, changed-at}
+use Rattle.near_untouched.proofs.MarkLaws.{off-before, changed-at, rows-all}
 use Rattle.near_untouched.proofs.CountLaws.{one_if-few}
 
 -- ---- when a leg is counted
@@ -217,3 +217,9 @@ room-same m I P Q legs before now touched are kept first second told y lt off h 
       | inl free ↦ room-told m I P Q legs before now are kept first second (place_of m I y) y h free
       | inr on ↦ absurd (true≢false (sym on ∙ off))
     ]
+
+-- where no leg has another row, each hour has the same room
+pub room-still : (m : Movement) (I : Situation) (P Q : PlanRows) (legs : List Leg) (touched : List Bool) → length legs ≡ 0 → AreChanged I P Q legs → HoldsOf (legs_of I) touched (HasSameRoom m I P Q)
+room-still m I P Q legs touched none are y lt off h =
+    same-count (beside m I P y (place_of m I y) h) (beside m I Q y (place_of m I y) h) (cap m I (place_of m I y) h)
+    (same-beside m I P Q y (place_of m I y) h (λ z within. ap (counts_at m I (place_of m I y) h z) (rows-all P Q (legs_of I) legs none are z within)))

@@ -15,7 +15,8 @@ use hour_counts::{KnowsHours, Movement};
 use std::alloc::Global;
 
 /// Marks the legs that leave an airport, or reach it, whose hours have no longer the same room, by what knows the hours
-/// of both plans, given the legs that have another row. The only error is out of memory.
+/// of both plans, given the legs that have another row: where there are none, all have the same. The only error is out of
+/// memory.
 pub(crate) fn touch_hours<H: KnowsHours, K: KnowsHours>(
     alloc: Global,
     plans: &Plans,
@@ -35,6 +36,9 @@ pub(crate) fn touch_hours<H: KnowsHours, K: KnowsHours>(
     ensures kept { AreKept touched.old.items touched.new.items }
     ensures room { OnOk result (HoldsOf (legs_of plans.now.inst.now) touched.new.items (HasSameRoom movement plans.now.inst.now plans.now.earlier.now plans.now.later.now)) }
 {
+    if changed.is_empty() {
+        return Ok(());
+    }
     let mut tight = unmarked(alloc, plans.inst.airports() as usize)?;
     mark_tight(
         plans,

@@ -4,7 +4,7 @@ ghost use Rattle.std.specs.Prelude.{◌≡◌, ℕ, ◌<◌, ◌⊎◌, IfOk, fa
 ghost use Rattle.desk_data.specs.Situation.{legs_of, planes_of};
 ghost use Rattle.desk_data.specs.Valid.{IsPlanFor};
 ghost use Rattle.near_untouched.specs.Legs.{AreLegsTold};
-ghost use Rattle.near_untouched.specs.Marks.{AreKept, IsFlierMarked, is_marked};
+ghost use Rattle.near_untouched.specs.Marks.{AreChanged, AreKept, IsFlierMarked, is_marked};
 ghost use Rattle.near_untouched.specs.Untouched.{ArePlanesTold};
 
 use crate::counts::touch_many;
@@ -16,17 +16,19 @@ use hour_counts::Movement;
 use plan_pages::Pages;
 use std::alloc::Global;
 
-/// Marks of the aircraft that were touched, or may have been, given the marks of legs: they fly a leg that was touched, in the
-/// one plan or the other; they have many legs at an airport; or a position that wants them has other aircraft at hand. The
-/// only error is out of memory.
+/// Marks of the aircraft that were touched, or may have been, given the marks of legs, and the legs that have another row: they
+/// fly a leg that was touched, in the one plan or the other; they have many legs at an airport; or a position that wants them
+/// has other aircraft at hand. The only error is out of memory.
 pub(crate) fn touched_planes(
     alloc: Global,
     plans: &Plans,
     legs: &[bool],
+    changed: &[Leg],
 ) -> Result<Vec<bool>, NoMem>
     requires earlier { IsPlanFor plans.now.inst.now plans.now.earlier.now }
     requires later { IsPlanFor plans.now.inst.now plans.now.later.now }
     requires legs { AreLegsTold plans.now.inst.now plans.now.earlier.now plans.now.later.now legs.now }
+    requires changed { AreChanged plans.now.inst.now plans.now.earlier.now plans.now.later.now changed.now }
     ensures { IfOk result (λ planes. ArePlanesTold plans.now.inst.now plans.now.earlier.now plans.now.later.now planes.items) }
 {
     let mut planes = unmarked(alloc, plans.inst.planes() as usize)?;
@@ -46,7 +48,7 @@ pub(crate) fn touched_planes(
         Movement::Arrival,
         &mut planes,
     )?;
-    touch_wanted(alloc, plans, &mut planes)?;
+    touch_wanted(alloc, plans, changed, &mut planes)?;
     Ok(planes)
 }
 

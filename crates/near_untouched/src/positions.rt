@@ -5,29 +5,35 @@ ghost use Rattle.desk_data.specs.Situation.{planes_of};
 ghost use Rattle.desk_data.specs.Valid.{IsPlanFor};
 ghost use Rattle.desk_rules.specs.Cost.{at_hand, is_wanted};
 ghost use Rattle.full_cost.specs.Stands.{AreStands, is_there};
-ghost use Rattle.near_untouched.specs.Marks.{AreKept, HoldsOf};
+ghost use Rattle.near_untouched.specs.Marks.{AreChanged, AreKept, HoldsOf};
 ghost use Rattle.near_untouched.specs.Positions.{AreElsewhere, AreWantedMarked, HasSameHands, IsPositionTold};
 
 use crate::ends::{elsewhere, ends_of};
 use crate::plans::Plans;
-use desk_data::{Airport, Instance, NoMem, Plane, PlaneInfo, PositionInfo};
+use desk_data::{Airport, Instance, Leg, NoMem, Plane, PlaneInfo, PositionInfo};
 use plan_reads::same_seats;
 use std::alloc::Global;
 
-/// Marks the aircraft that a position wants which has other aircraft at hand in the later plan: two walks over the legs, and
-/// for each aircraft that ends elsewhere one over the positions. The only error is out of memory.
+/// Marks the aircraft that a position wants which has other aircraft at hand in the later plan, given the legs that have
+/// another row: where there are none, all end where they did. Two walks over the legs, and for each aircraft that ends
+/// elsewhere one over the positions. The only error is out of memory.
 pub(crate) fn touch_wanted(
     alloc: Global,
     plans: &Plans,
+    changed: &[Leg],
     touched: &mut Vec<bool>,
 ) -> Result<(), NoMem>
     requires earlier { IsPlanFor plans.now.inst.now plans.now.earlier.now }
     requires later { IsPlanFor plans.now.inst.now plans.now.later.now }
+    requires changed { AreChanged plans.now.inst.now plans.now.earlier.now plans.now.later.now changed.now }
     requires touched { length touched.old.items ≡ planes_of plans.now.inst.now }
     ensures touched { length touched.new.items ≡ planes_of plans.now.inst.now }
     ensures kept { AreKept touched.old.items touched.new.items }
     ensures hands { OnOk result (HoldsOf (planes_of plans.now.inst.now) touched.new.items (HasSameHands plans.now.inst.now plans.now.earlier.now plans.now.later.now)) }
 {
+    if changed.is_empty() {
+        return Ok(());
+    }
     let was = ends_of(alloc, plans.inst, plans.earlier)?;
     let now = ends_of(alloc, plans.inst, plans.later)?;
     let planes = elsewhere(alloc, plans.inst, was.as_slice(), now.as_slice())?;

@@ -66,7 +66,7 @@ impl Untouched {
         let changed = changed_legs(alloc, &plans)?;
         let rows = changed.as_slice();
         let legs = touched_legs(alloc, &plans, earlier_hours, later_hours, rows)?;
-        let planes = touched_planes(alloc, &plans, legs.as_slice())?;
+        let planes = touched_planes(alloc, &plans, legs.as_slice(), rows)?;
         let again = touched_again(alloc, &plans, legs.as_slice(), rows)?;
         Ok(Untouched {
             legs,

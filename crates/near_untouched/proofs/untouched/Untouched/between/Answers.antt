@@ -11,6 +11,10 @@ pub touched_planes-requires-clause-legs : goal.touched_planes-requires-clause-le
 touched_planes-requires-clause-legs g c =
     subst (AreLegsTold c.args.inst.now c.args.earlier.now c.args.later.now) (sym c.as_slice.ensures.value) c.in_ok-legs.ensures
 
+pub touched_planes-requires-clause-changed : goal.touched_planes-requires-clause-changed
+touched_planes-requires-clause-changed g c =
+    subst (AreChanged c.args.inst.now c.args.earlier.now c.args.later.now) (sym c.as_slice-rows.ensures.value) c.in_ok-changed.ensures
+
 pub touched_again-requires-clause-legs : goal.touched_again-requires-clause-legs
 touched_again-requires-clause-legs g c =
     subst (AreLegsTold c.args.inst.now c.args.earlier.now c.args.later.now) (sym c.as_slice-2.ensures.value) c.in_ok-legs.ensures
