@@ -4,12 +4,12 @@ use Rattle.std.specs.Option.{is_some}
 use Rattle.std.proofs.lemmas.Bool.{ltb-true}
 use Rattle.std.proofs.lemmas.Slice.Eq.{bytes_eq-Decides}
 use Rattle.file_rows.specs.declared.network.AirportRow.{AirportRow}
-use Rattle.build_day.proofs.ToldLemmas.{place_is}
-use Rattle.build_day.proofs.told.place_near.Goals as goal
+use Rattle.build_tables.proofs.PairLemmas.{place_is, apart_names}
+use Rattle.build_tables.proofs.pairs.place_near.Goals as goal
 
 pub returns-then-eq : goal.returns-then-eq
 returns-then-eq c =
-    let airports = c.args.tables.now.files.now.airports in
+    let airports = c.args.files.now.airports in
     let rows = c.as_slice.result.now in
     let row = c.in-Some.row.now in
     let k = c.args.near in
@@ -19,5 +19,6 @@ returns-then-eq c =
     sym c.as_slice-in-Some.ensures.bytes
     ∙ (bytes_eq-Decides c.as_slice-in-Some.result.now c.as_slice-in-Some-2.result.now).0 (sym c.eq.ensures ∙ c.if-eq.true)
     ∙ c.as_slice-in-Some-2.ensures.bytes in
-    place_is airports c.requires c.args.name.now k row (subst (λ (xs : List AirportRow). k < length xs) c.as_slice.ensures within)
+    let apart = apart_names airports (c.requires.apart (sym c.are_apart.ensures ∙ c.if-are_apart.true)) in
+    place_is airports apart c.args.name.now k row (subst (λ (xs : List AirportRow). k < length xs) c.as_slice.ensures within)
     (sym (ap (λ (a : AirportRow). a.airport) (at ∙ ap (λ (xs : List AirportRow). get_or xs k row) c.as_slice.ensures)) ∙ same)
