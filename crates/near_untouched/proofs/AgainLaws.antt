@@ -28,7 +28,7 @@ use Rattle.near_dearer.specs.Planes.{IsUntouchedAgain}
 use Rattle.near_untouched.specs.Marks.{is_marked, AreChanged, HoldsOf}
 use Rattle.near_untouched.specs.Hours.{margin}
 use Rattle.near_untouched.specs.Legs.{AreLegsTold, IsUntouchedLeg}
-use Rattle.near_untouched.specs.Again.{leads_back, AreCancelledOfFirst, AreCancelled, AreFree, IsFree}
+use Rattle.near_untouched.specs.Again.{leads_back, AreRestorableOfFirst, AreRestorable, AreFree, IsFree}
 use Rattle.near_untouched.proofs.MarkLaws.{changed-at}
 use Rattle.near_untouched.proofs.CountLaws.{count-none, leg-is, one_if-few}
 use Rattle.near_untouched.proofs.LegLaws.{legs-together}
@@ -41,28 +41,28 @@ holds-more n marks mark Holds many holds own =
     (λ k lt off. holds k lt (sym (get_or_append_left marks (mark ∷ []) false k (omega (arith, lt, many))) ∙ off))
     (λ off. own (sym (get_or_push marks mark false n many) ∙ off))
 
--- ---- legs that are cancelled
+-- ---- legs that may be flown again
 
-pub cancelled-skip : (P : PlanRows) (n : ℕ) (legs : List Leg) → AreCancelledOfFirst n P legs → is_flown (row_at P n) ≡ true → AreCancelledOfFirst (n + 1) P legs
-cancelled-skip P n legs are on = record {
-  each = are.each ∙ sym (filter_no (λ y. not (is_flown (row_at P y))) n (ap not on));
+pub restorable-skip : (I : Situation) (P : PlanRows) (n : ℕ) (legs : List Leg) → AreRestorableOfFirst n I P legs → is_restorable I P n ≡ false → AreRestorableOfFirst (n + 1) I P legs
+restorable-skip I P n legs are off = record {
+  each = are.each ∙ sym (filter_no (is_restorable I P) n off);
   within = All-weaker (λ (x : Leg). x.0 < n) (λ (x : Leg). x.0 < n + 1) (λ x lt. omega (arith, lt)) legs are.within;
 }
 
-pub cancelled-more : (P : PlanRows) (n : ℕ) (legs : List Leg) → AreCancelledOfFirst n P legs → is_flown (row_at P n) ≡ false → AreCancelledOfFirst (n + 1) P (legs ++ leg n ∷ [])
-cancelled-more P n legs are off = record {
+pub restorable-more : (I : Situation) (P : PlanRows) (n : ℕ) (legs : List Leg) → AreRestorableOfFirst n I P legs → is_restorable I P n ≡ true → AreRestorableOfFirst (n + 1) I P (legs ++ leg n ∷ [])
+restorable-more I P n legs are on = record {
   each =
       map-append (λ (x : Leg). x.0) legs (leg n ∷ [])
       ∙ ap (λ (xs : List ℕ). xs ++ n ∷ []) are.each
-      ∙ sym (filter_yes (λ y. not (is_flown (row_at P y))) n (ap not off));
+      ∙ sym (filter_yes (is_restorable I P) n on);
   within = All-push (λ (x : Leg). x.0 < n + 1) legs (leg n)
       (All-weaker (λ (x : Leg). x.0 < n) (λ (x : Leg). x.0 < n + 1) (λ x lt. omega (arith, lt)) legs are.within)
       (omega arith);
 }
 
-pub cancelled-few : (I : Situation) (P : PlanRows) (legs : List Leg) → IsValid I → AreCancelled I P legs → length legs ≤ 20000
-cancelled-few I P legs valid are =
-    let test : ℕ → Bool = λ y. not (is_flown (row_at P y)) in
+pub restorable-few : (I : Situation) (P : PlanRows) (legs : List Leg) → IsValid I → AreRestorable I P legs → length legs ≤ 20000
+restorable-few I P legs valid are =
+    let test : ℕ → Bool = is_restorable I P in
     let xs = numbers (legs_of I) in
     let same : length (map (λ (x : Leg). x.0) legs) ≡ length (filter test xs) = ap length are.each in
     let all = valid.parts.few.legs in
@@ -105,22 +105,24 @@ count-one x (suc n) =
           omega (arith, last, none, count-one x n)
     ]
 
--- how many legs lead back, of those that are cancelled
-count-backs : (I : Situation) (P : PlanRows) (x : ℕ) (cancelled : List Leg) → AreCancelled I P cancelled → count_by (λ y. leads_back I x y.0) cancelled ≡ count_by (λ y. not (is_flown (row_at P y)) && leads_back I x y) (numbers (legs_of I))
-count-backs I P x cancelled are =
-    sym (fold-map (λ (n y : ℕ). n + cond (leads_back I x y) 1 0) (λ (y : Leg). y.0) 0 cancelled)
+-- how many legs lead back, of those that may be flown again
+count-backs : (I : Situation) (P : PlanRows) (x : ℕ) (restorable : List Leg) → AreRestorable I P restorable → count_by (λ y. leads_back I x y.0) restorable ≡ count_by (λ y. is_restorable I P y && leads_back I x y) (numbers (legs_of I))
+count-backs I P x restorable are =
+    sym (fold-map (λ (n y : ℕ). n + cond (leads_back I x y) 1 0) (λ (y : Leg). y.0) 0 restorable)
     ∙ ap (count_by (leads_back I x)) are.each
-    ∙ count-filter (λ y. not (is_flown (row_at P y))) (leads_back I x) (numbers (legs_of I))
+    ∙ count-filter (is_restorable I P) (leads_back I x) (numbers (legs_of I))
 
 -- ---- legs that lead back
 
-restores-parts : (I : Situation) (P : PlanRows) (x y : ℕ) → brings_back I P x y ≡ true → (is_flown (row_at P y) ≡ false) × (leads_back I x y ≡ true)
+restores-parts : (I : Situation) (P : PlanRows) (x y : ℕ) → brings_back I P x y ≡ true → (is_restorable I P y ≡ true) × (leads_back I x y ≡ true)
 unfolding brings_back
-restores-parts I P x y back =
-    let parts = and_parts (is_restorable I P y) (leads_back I x y) back in
-    let movable = and_parts (not (fixed I y)) (not (is_flown (row_at P y)) && not (called_off I y)) parts.0 in
+restores-parts I P x y back = and_parts (is_restorable I P y) (leads_back I x y) back
+
+restorable-off : (I : Situation) (P : PlanRows) (y : ℕ) → is_restorable I P y ≡ true → is_flown (row_at P y) ≡ false
+restorable-off I P y on =
+    let movable = and_parts (not (fixed I y)) (not (is_flown (row_at P y)) && not (called_off I y)) on in
     let cancelled = and_parts (not (is_flown (row_at P y))) (not (called_off I y)) movable.1 in
-    (not-true (is_flown (row_at P y)) cancelled.0, parts.1)
+    not-true (is_flown (row_at P y)) cancelled.0
 
 -- a leg that leads back is one of the day
 leads-within : (I : Situation) (x y : ℕ) → IsValid I → x < legs_of I → leads_back I x y ≡ true → y < legs_of I
@@ -139,25 +141,25 @@ leads-within I x y valid lt on =
           absurd (omega (arith, some, late, none))
     ]
 
-module _ (I : Situation) (P Q : PlanRows) (marks : List Bool) (changed cancelled : List Leg) (x count : ℕ) (valid : IsValid I) (lt : x < legs_of I) (off : is_flown (row_at P x) ≡ false) (free : is_marked marks x ≡ false) (told : AreLegsTold I P Q marks) (are : AreChanged I P Q changed) (nowhere : All (λ (y : Leg). leads_back I x y.0 ≡ false) changed) (all : AreCancelled I P cancelled) (backs : AreFree I marks x cancelled count) (few : count < 8) (p : ℕ) where
+module _ (I : Situation) (P Q : PlanRows) (marks : List Bool) (changed restorable : List Leg) (x count : ℕ) (valid : IsValid I) (lt : x < legs_of I) (own_on : is_restorable I P x ≡ true) (free : is_marked marks x ≡ false) (told : AreLegsTold I P Q marks) (are : AreChanged I P Q changed) (nowhere : All (λ (y : Leg). leads_back I x y.0 ≡ false) changed) (all : AreRestorable I P restorable) (backs : AreFree I marks x restorable count) (few : count < 8) (p : ℕ) where
   abbrev own : ℕ → Bool
   own = unit_restores I P (restored x p)
 
-  -- a leg that leads back and is cancelled is untouched
-  back-free : (y : ℕ) → y < legs_of I → is_flown (row_at P y) ≡ false → leads_back I x y ≡ true → is_marked marks y ≡ false
-  back-free y within none leads =
-      let each : All (λ (k : ℕ). leads_back I x k ≡ true → is_marked marks k ≡ false) (map (λ (z : Leg). z.0) cancelled) = All-map (λ (k : ℕ). leads_back I x k ≡ true → is_marked marks k ≡ false) (λ (z : Leg). z.0) cancelled backs.free in
-      All-contains (λ (k : ℕ). leads_back I x k ≡ true → is_marked marks k ≡ false) (filter (λ z. not (is_flown (row_at P z))) (numbers (legs_of I))) y
+  -- a leg that leads back and may be flown again is untouched
+  back-free : (y : ℕ) → y < legs_of I → is_restorable I P y ≡ true → leads_back I x y ≡ true → is_marked marks y ≡ false
+  back-free y within may leads =
+      let each : All (λ (k : ℕ). leads_back I x k ≡ true → is_marked marks k ≡ false) (map (λ (z : Leg). z.0) restorable) = All-map (λ (k : ℕ). leads_back I x k ≡ true → is_marked marks k ≡ false) (λ (z : Leg). z.0) restorable backs.free in
+      All-contains (λ (k : ℕ). leads_back I x k ≡ true → is_marked marks k ≡ false) (filter (is_restorable I P) (numbers (legs_of I))) y
       (subst (All (λ (k : ℕ). leads_back I x k ≡ true → is_marked marks k ≡ false)) all.each each)
-      (contains_filter (λ z. not (is_flown (row_at P z))) (numbers (legs_of I)) y (numbers_each (legs_of I) y within) (ap not none))
+      (contains_filter (is_restorable I P) (numbers (legs_of I)) y (numbers_each (legs_of I) y within) may)
       leads
 
   -- each leg that may be flown again is cancelled and untouched
   own-cancelled : (y : ℕ) → own y ≡ true → is_flown (row_at P y) ≡ false
   own-cancelled y on =
       elim (or_cases (eqb y x) (brings_back I P x y) on) [
-        | inl is ↦ ap (λ (k : ℕ). is_flown (row_at P k)) (eqb-true y x is) ∙ off
-        | inr back ↦ (restores-parts I P x y back).0
+        | inl is ↦ ap (λ (k : ℕ). is_flown (row_at P k)) (eqb-true y x is) ∙ restorable-off I P x own_on
+        | inr back ↦ restorable-off I P y (restores-parts I P x y back).0
       ]
 
   own-untouched : (y : ℕ) → own y ≡ true → IsUntouchedLeg I P Q y
@@ -188,17 +190,17 @@ module _ (I : Situation) (P Q : PlanRows) (marks : List Bool) (changed cancelled
       let xs = numbers (legs_of I) in
       let split = count-split (λ y. eqb y x) own xs in
       let itself = count-weaker (λ y. eqb y x && own y) (λ y. eqb y x) xs (λ y on. (and_parts (eqb y x) (own y) on).0) in
-      let others = count-weaker (λ y. not (eqb y x) && own y) (λ y. not (is_flown (row_at P y)) && leads_back I x y) xs
+      let others = count-weaker (λ y. not (eqb y x) && own y) (λ y. is_restorable I P y && leads_back I x y) xs
       (λ y on. (
       let parts = and_parts (not (eqb y x)) (own y) on in
       elim (or_cases (eqb y x) (brings_back I P x y) parts.1) [
         | inl is ↦ absurd (true≢false (sym is ∙ not-true (eqb y x) parts.0))
         | inr back ↦
             let own_parts = restores-parts I P x y back in
-            and_from (not (is_flown (row_at P y))) (leads_back I x y) (ap not own_parts.0) own_parts.1
+            and_from (is_restorable I P y) (leads_back I x y) own_parts.0 own_parts.1
       ])) in
       let one = count-one x (legs_of I) in
-      let rest = count-backs I P x cancelled all in
+      let rest = count-backs I P x restorable all in
       let counted = backs.counted in
       omega (arith, split, itself, others, one, rest, counted, few)
 

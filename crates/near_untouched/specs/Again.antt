@@ -1,13 +1,13 @@
 -- Legs that may be flown again as before.
 --
 -- P is the earlier plan, and Q the later one.
-use Rattle.std.specs.Prelude.{◌≡◌, ℕ, ◌+◌, ◌<◌, Bool, true, false, ◌&&◌, not, nat_le, ◌==◌, if◌then◌else◌, List, length, map, filter, count_by, All}
+use Rattle.std.specs.Prelude.{◌≡◌, ℕ, ◌+◌, ◌<◌, Bool, true, false, ◌&&◌, nat_le, ◌==◌, if◌then◌else◌, List, length, map, filter, count_by, All}
 use Rattle.desk_units.specs.declared.numbers.Leg.{Leg}
 use Rattle.desk_data.specs.Situation.{Situation, legs_of, leg_at}
-use Rattle.desk_data.specs.PlanRows.{PlanRows, row_at}
+use Rattle.desk_data.specs.PlanRows.{PlanRows}
 use Rattle.desk_rules.specs.Numbers.{numbers}
-use Rattle.desk_rules.specs.Passengers.{is_flown}
 use Rattle.near_moves.specs.LegMoves.{back_within}
+use Rattle.near_moves.specs.MoveParts.{is_restorable}
 use Rattle.near_dearer.specs.Planes.{IsUntouchedAgain}
 use Rattle.near_untouched.specs.Marks.{HoldsOf, is_marked}
 use Rattle.near_untouched.specs.Hours.{margin}
@@ -20,14 +20,14 @@ leads_back I x y =
     (back.origin.0 == there.dest.0) && (back.dest.0 == there.origin.0)
     && (nat_le (there.sched.0 + there.block) back.sched.0 && nat_le back.sched.0 (there.sched.0 + there.block + back_within))
 
--- the cancelled ones of the first n legs, in order
-pub record AreCancelledOfFirst (n : ℕ) (P : PlanRows) (legs : List Leg) : Type 0 where
-  pub each : map (λ x. x.0) legs ≡ filter (λ y. not (is_flown (row_at P y))) (numbers n)
+-- those of the first n legs that may be flown again, in order
+pub record AreRestorableOfFirst (n : ℕ) (I : Situation) (P : PlanRows) (legs : List Leg) : Type 0 where
+  pub each : map (λ x. x.0) legs ≡ filter (is_restorable I P) (numbers n)
   pub within : All (λ x. x.0 < n) legs
 
 -- all of them
-abbrev pub AreCancelled : Situation → PlanRows → List Leg → Type 0
-AreCancelled I P legs = AreCancelledOfFirst (legs_of I) P legs
+abbrev pub AreRestorable : Situation → PlanRows → List Leg → Type 0
+AreRestorable I P legs = AreRestorableOfFirst (legs_of I) I P legs
 
 -- leg y leads back from leg x once or not at all, and is not marked where it does
 pub record IsFree (I : Situation) (marks : List Bool) (x y count : ℕ) : Type 0 where

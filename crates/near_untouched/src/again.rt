@@ -3,7 +3,8 @@
 ghost use Rattle.std.specs.Prelude.{◌≡◌, ◌<◌, ◌≤◌, All, IfOk, IfSome, false, length, true};
 ghost use Rattle.desk_data.specs.Situation.{legs_of};
 ghost use Rattle.desk_data.specs.Valid.{IsPlanFor};
-ghost use Rattle.near_untouched.specs.Again.{AreAgainTold, AreCancelled, AreFree, IsAgain, IsFree, leads_back};
+ghost use Rattle.near_moves.specs.MoveParts.{is_restorable};
+ghost use Rattle.near_untouched.specs.Again.{AreAgainTold, AreFree, AreRestorable, IsAgain, IsFree, leads_back};
 ghost use Rattle.near_untouched.specs.Legs.{AreLegsTold};
 ghost use Rattle.near_untouched.specs.Marks.{AreChanged};
 
@@ -19,10 +20,10 @@ const MOST: u32 = 8;
 /// The most minutes from the scheduled arrival of a leg to the scheduled departure of one that leads back.
 const BACK_WITHIN: u32 = 1_440;
 
-/// Marks of the legs that may not be flown again as before, given the marks of legs, and the legs that have another row: they
-/// are flown, or touched; or a leg leads back from them that has another row, or one that is cancelled and touched, or too
-/// many do. For each cancelled leg one walk over the legs with another row, and one over the cancelled legs. The only error
-/// is out of memory.
+/// Marks of the legs that may not be flown again as before, given the marks of legs, and the legs that have another row: no unit
+/// restores them, or they are touched; or a leg leads back from them that has another row, or one that may be flown again and
+/// is touched, or too many do. For each leg that may be flown again one walk over the legs with another row, and one over
+/// those that may be. The only error is out of memory.
 pub(crate) fn touched_again(
     alloc: Global,
     plans: &Plans,
@@ -35,27 +36,27 @@ pub(crate) fn touched_again(
     requires changed { AreChanged plans.now.inst.now plans.now.earlier.now plans.now.later.now changed.now }
     ensures { IfOk result (λ touched. AreAgainTold plans.now.inst.now plans.now.earlier.now plans.now.later.now touched.items) }
 {
-    let list = cancelled_legs(alloc, plans.inst, plans.earlier)?;
-    let cancelled = list.as_slice();
+    let list = restorable_legs(alloc, plans.inst, plans.earlier)?;
+    let restorable = list.as_slice();
     let mut touched = Vec::with_capacity(alloc, plans.inst.legs() as usize)?;
     for x in 0..plans.inst.legs() {
-        touched.push(is_touched(plans, legs, changed, cancelled, Leg(x)))?;
+        touched.push(is_touched(plans, legs, changed, restorable, Leg(x)))?;
     }
     Ok(touched)
 }
 
 /// Whether a leg may not be flown again as before.
-fn is_touched(plans: &Plans, legs: &[bool], changed: &[Leg], cancelled: &[Leg], leg: Leg) -> bool
+fn is_touched(plans: &Plans, legs: &[bool], changed: &[Leg], restorable: &[Leg], leg: Leg) -> bool
     requires earlier { IsPlanFor plans.now.inst.now plans.now.earlier.now }
     requires later { IsPlanFor plans.now.inst.now plans.now.later.now }
     requires legs { AreLegsTold plans.now.inst.now plans.now.earlier.now plans.now.later.now legs.now }
     requires changed { AreChanged plans.now.inst.now plans.now.earlier.now plans.now.later.now changed.now }
-    requires cancelled { AreCancelled plans.now.inst.now plans.now.earlier.now cancelled.now }
+    requires restorable { AreRestorable plans.now.inst.now plans.now.earlier.now restorable.now }
     requires leg { leg.0 < legs_of plans.now.inst.now }
     ensures { result ≡ false → IsAgain plans.now.inst.now plans.now.earlier.now plans.now.later.now leg.0 }
 {
     let _rows = plans.inst.parts();
-    if is_flown(plans.earlier.read_row(leg)) {
+    if !is_restorable(plans.inst, plans.earlier, leg) {
         return true;
     }
     if legs[leg.0 as usize] {
@@ -64,7 +65,7 @@ fn is_touched(plans: &Plans, legs: &[bool], changed: &[Leg], cancelled: &[Leg], 
     if !lead_nowhere(plans.inst, changed, leg) {
         return true;
     }
-    match backs_of(plans.inst, legs, cancelled, leg) {
+    match backs_of(plans.inst, legs, restorable, leg) {
         Some(count) => MOST <= count,
         None => true,
     }
@@ -130,16 +131,28 @@ fn leads_back(inst: &Instance, leg: Leg, back: Leg) -> bool
         && (arrives <= back.sched.0 && back.sched.0 <= arrives + BACK_WITHIN)
 }
 
-/// The legs that are cancelled in a plan, ascending. The only error is out of memory.
-fn cancelled_legs(alloc: Global, inst: &Instance, plan: &Pages) -> Result<Vec<Leg>, NoMem>
+/// The legs that may be flown again in a plan, ascending. The only error is out of memory.
+fn restorable_legs(alloc: Global, inst: &Instance, plan: &Pages) -> Result<Vec<Leg>, NoMem>
     requires { IsPlanFor inst.now plan.now }
-    ensures { IfOk result (λ legs. AreCancelled inst.now plan.now legs.items) }
+    ensures { IfOk result (λ legs. AreRestorable inst.now plan.now legs.items) }
 {
     let mut legs = Vec::new(alloc);
     for x in 0..inst.legs() {
-        if !is_flown(plan.read_row(Leg(x))) {
+        if is_restorable(inst, plan, Leg(x)) {
             legs.push(Leg(x))?;
         }
     }
     Ok(legs)
+}
+
+/// Whether a leg may be flown again in a plan: it may move, and is cancelled though it is not called off.
+fn is_restorable(inst: &Instance, plan: &Pages, leg: Leg) -> bool
+    requires plan { IsPlanFor inst.now plan.now }
+    requires leg { leg.0 < legs_of inst.now }
+    ensures { result ≡ is_restorable inst.now plan.now leg.0 }
+{
+    if is_flown(plan.read_row(leg)) {
+        return false;
+    }
+    !inst.fixed(leg) && !inst.called_off(leg)
 }

@@ -17,8 +17,8 @@ use std::alloc::Global;
 /// How many legs of an aircraft may leave an airport, or reach it: half the margin.
 const MOST: u8 = 8;
 
-/// Marks the aircraft of which more legs than that leave one airport, or reach one, in one walk over the legs. The only
-/// error is out of memory.
+/// Marks the aircraft of which more legs than that leave one airport, or reach one, in one walk over the legs of the earlier
+/// plan: an aircraft that is not marked flies the same legs in the later one. The only error is out of memory.
 pub(crate) fn touch_many(
     alloc: Global,
     inst: &Instance,

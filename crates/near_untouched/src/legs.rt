@@ -1,12 +1,12 @@
 //! Legs that were touched between two plans.
 
-ghost use Rattle.std.specs.Prelude.{◌≡◌, ◌<◌, IfOk, length};
+ghost use Rattle.std.specs.Prelude.{IfOk};
 ghost use Rattle.desk_data.specs.Valid.{IsPlanFor};
 ghost use Rattle.near_untouched.specs.Legs.{AreLegsTold};
 ghost use Rattle.near_untouched.specs.Marks.{AreChanged};
 
+use crate::changed::changed_rows;
 use crate::hours::touch_hours;
-use crate::marks::{mark_listed, unmarked};
 use crate::passengers::touch_passengers;
 use crate::plans::Plans;
 use desk_data::{Leg, NoMem};
@@ -30,8 +30,8 @@ pub(crate) fn touched_legs<H: KnowsHours, K: KnowsHours>(
     requires changed { AreChanged plans.now.inst.now plans.now.earlier.now plans.now.later.now changed.now }
     ensures { IfOk result (λ touched. AreLegsTold plans.now.inst.now plans.now.earlier.now plans.now.later.now touched.items) }
 {
-    let mut touched = unmarked(alloc, plans.inst.legs() as usize)?;
-    mark_listed(changed, &mut touched);
+    let rows = changed_rows(alloc, plans, changed)?;
+    let mut touched = changed_rows(alloc, plans, changed)?;
     let leaves = Movement::Departure;
     touch_hours(
         alloc,
@@ -52,6 +52,6 @@ pub(crate) fn touched_legs<H: KnowsHours, K: KnowsHours>(
         comes,
         &mut touched,
     )?;
-    touch_passengers(alloc, plans, &mut touched)?;
+    touch_passengers(alloc, plans, rows.as_slice(), &mut touched)?;
     Ok(touched)
 }

@@ -1,9 +1,9 @@
 //! Legs and aircraft that are untouched between two plans of a day.
 //!
 //!     let known = Untouched::between(alloc, &inst, &earlier, &hours, &later, &eval)?;
-//!     known.has_plane(plane)      // nothing was touched that moves of this aircraft's legs hang on
-//!     known.has_leg(leg)          // nothing was touched that has to do with this leg
-//!     known.has_again(leg)        // nothing was touched that it hangs on whether this cancelled leg is flown again
+//!     known.planes[p]     // whether something may have been touched that moves of the legs of aircraft p hang on
+//!     known.legs[x]       // whether something may have been that has to do with leg x
+//!     known.again[x]      // whether something may have been on which it hangs how leg x is flown again
 //!
 //! A move of legs that was not better at the earlier plan is not better at the later one, where its aircraft are untouched
 //! (`near_dearer`). The two plans are compared place by place, and marked is what may have been touched. A leg is marked if
@@ -20,8 +20,8 @@
 //! airport, or reach one; or if it is wanted by a position that has other aircraft at hand. So more may be marked than was
 //! touched: the hours of an airport are told together, and passengers who change places count as others.
 //!
-//! A leg may be flown again as before if it is cancelled and not marked, and so is each cancelled leg that leads back from it,
-//! of which there are few, and no leg that would lead back has another row.
+//! A leg that is cancelled, may move and is not called off may be flown again. It may be so as before if it is not marked, nor is
+//! any such leg that leads back from it, of which there are few, and if no leg that would lead back has another row.
 //!
 //! Marks are of two plans, and nothing is said of what is untouched from one plan to a second, and from there to a third.
 //! Nobody needs that: what was known of a unit of untouched aircraft at the first is known at the second, so notes are
@@ -45,7 +45,6 @@ mod planes;
 mod plans;
 mod positions;
 mod room;
-mod same;
 mod untouched;
 
 pub use laws::legs_that_are_untouched_are_so_together;

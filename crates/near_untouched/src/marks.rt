@@ -2,7 +2,7 @@
 
 ghost use Rattle.std.specs.Prelude.{◌≡◌, ◌<◌, length, All, IfOk, false, replicate, true};
 ghost use Rattle.desk_data.specs.Valid.{IsPathOf};
-ghost use Rattle.near_untouched.specs.Marks.{AreKept, AreLegsMarked, ArePathsMarked, is_marked};
+ghost use Rattle.near_untouched.specs.Marks.{AreKept, AreLegsFree, AreLegsMarked, ArePathsFree, ArePathsMarked, is_marked};
 
 use desk_data::{Cabin, Group, Leg, NoMem};
 use std::alloc::Global;
@@ -48,4 +48,30 @@ pub(crate) fn mark_path(path: &[(Leg, Cabin)], marks: &mut Vec<bool>)
     for pair in path {
         marks[pair.0.0 as usize] = true;
     }
+}
+
+/// Whether no leg of the paths of some groups is marked.
+pub(crate) fn are_paths_free(marks: &[bool], groups: &[Group]) -> bool
+    requires { All (λ group. IsPathOf (length marks.now) group.path) groups.now }
+    ensures { result ≡ true → ArePathsFree marks.now groups.now }
+{
+    for group in groups {
+        if !is_path_free(marks, group.path.as_slice()) {
+            return false;
+        }
+    }
+    true
+}
+
+/// Whether no leg of a path is marked.
+pub(crate) fn is_path_free(marks: &[bool], path: &[(Leg, Cabin)]) -> bool
+    requires { IsPathOf (length marks.now) path.now }
+    ensures { result ≡ true → AreLegsFree marks.now path.now }
+{
+    for pair in path {
+        if marks[pair.0.0 as usize] {
+            return false;
+        }
+    }
+    true
 }

@@ -113,7 +113,7 @@ fn is_roomy<H: KnowsHours>(
 {
     let airport = place_of(inst, movement, leg);
     match cap_of(inst, movement, airport, hour) {
-        // the leg itself may be counted in the hour, and is left out by those that are told
+        // `others` leaves this leg out, and where another leg is left out this one counts: so one more has to fit
         Some(cap) => {
             let others = beside(inst, plan, hours, movement, leg, airport, hour);
             others < cap.saturating_sub(MARGIN + 1)

@@ -1,13 +1,7 @@
 //! Legs and aircraft that are untouched between two plans.
 
-ghost use Rattle.std.specs.Prelude.{◌≡◌, ◌<◌, IfOk, length, true};
-ghost use Rattle.desk_data.specs.PlanRows.{PlanRows};
-ghost use Rattle.desk_data.specs.Situation.{Situation};
+ghost use Rattle.std.specs.Prelude.{IfOk};
 ghost use Rattle.desk_data.specs.Valid.{IsPlanFor};
-ghost use Rattle.near_dearer.specs.Planes.{IsUntouchedPlane};
-ghost use Rattle.near_untouched.specs.Again.{IsAgain};
-ghost use Rattle.near_untouched.specs.Hours.{margin};
-ghost use Rattle.near_untouched.specs.Legs.{IsUntouchedLeg};
 ghost use Rattle.near_untouched.specs.Untouched.{AreUntouched};
 
 use crate::again::touched_again;
@@ -15,7 +9,7 @@ use crate::changed::changed_legs;
 use crate::legs::touched_legs;
 use crate::planes::touched_planes;
 use crate::plans::Plans;
-use desk_data::{Instance, Leg, NoMem, Plane};
+use desk_data::{Instance, NoMem};
 use hour_counts::KnowsHours;
 use plan_pages::Pages;
 use std::alloc::Global;
@@ -43,7 +37,9 @@ impl Drop for Untouched {
 
 impl Untouched {
     /// Those between a plan and a later one, by what knows the hours of each: a few walks over the legs, and two over the
-    /// reservations. Both are plans for the instance. The only error is out of memory.
+    /// reservations; for each leg that may be flown again one over the legs with another row, and one over those that may be;
+    /// and for each position one over the aircraft that end elsewhere. Two tables take a byte for each aircraft and airport,
+    /// of 500 airports. Both are plans for the instance. The only error is out of memory.
     pub fn between<H: KnowsHours, K: KnowsHours>(
         alloc: Global,
         inst: &Instance,
@@ -73,30 +69,5 @@ impl Untouched {
             planes,
             again,
         })
-    }
-
-    /// Whether an aircraft is known to be untouched. Where it says no, nothing is known.
-    pub fn has_plane(&self, plane: Plane) -> bool
-        requires { plane.0 < length self.now.planes.items }
-        ensures { (I : Situation) (P Q : PlanRows) → AreUntouched I P Q self.now → result ≡ true → IsUntouchedPlane margin I P Q plane.0 }
-    {
-        !self.planes[plane.0 as usize]
-    }
-
-    /// Whether a leg is known to be untouched. Where it says no, nothing is known.
-    pub fn has_leg(&self, leg: Leg) -> bool
-        requires { leg.0 < length self.now.legs.items }
-        ensures { (I : Situation) (P Q : PlanRows) → AreUntouched I P Q self.now → result ≡ true → IsUntouchedLeg I P Q leg.0 }
-    {
-        !self.legs[leg.0 as usize]
-    }
-
-    /// Whether it is known that a leg may be flown again as before, by whichever aircraft: it is cancelled, and nothing was
-    /// touched that its units hang on beside their aircraft. Where it says no, nothing is known.
-    pub fn has_again(&self, leg: Leg) -> bool
-        requires { leg.0 < length self.now.again.items }
-        ensures { (I : Situation) (P Q : PlanRows) → AreUntouched I P Q self.now → result ≡ true → IsAgain I P Q leg.0 }
-    {
-        !self.again[leg.0 as usize]
     }
 }

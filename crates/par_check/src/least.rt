@@ -1,14 +1,14 @@
 //! The first item that a plan breaks.
 
-ghost use Rattle.std.specs.Prelude.{◌≡◌, ◌||◌, true, None, nat_le, find, IfOk};
-ghost use Rattle.std.specs.Option.{option_or};
+ghost use Rattle.std.specs.Prelude.{◌≡◌, ◌||◌, true, nat_le, find, IfOk};
 ghost use Rattle.desk_data.specs.Situation.{legs_of, reservations_of};
 ghost use Rattle.desk_data.specs.Valid.{IsPlanFor};
 ghost use Rattle.desk_data.specs.declared.broken.Broken.TheVariants as broken;
-ghost use Rattle.desk_rules.specs.Least.{breaks, each_cabin, least, least_pax, least_rot, least_slots};
-ghost use Rattle.par_check.specs.Paths.{first_of_paths};
+ghost use Rattle.desk_rules.specs.Least.{breaks, each_cabin, least, least_rot, least_slots};
+ghost use Rattle.par_check.specs.Paths.{KeepPaths};
 
 use crate::paths::are_paths_kept;
+use crate::pieces::{Cuts, cuts_of};
 use desk_data::{Broken, Instance, NoMem, Plan};
 use full_check::full_check;
 use rayon::{current_num_threads, join};
@@ -26,6 +26,21 @@ pub fn is_large(inst: &Instance) -> bool
     ensures { result ≡ (nat_le 2048 (legs_of inst.now) || nat_le 2048 (reservations_of inst.now)) }
 {
     inst.legs() >= LEAST_LARGE || inst.reservations() >= LEAST_LARGE
+}
+
+/// What a thread found: the first item of its rules, and whether the paths of its piece are kept.
+#[derive(Drop)]
+struct Found {
+    first: Result<Option<Broken>, NoMem>,
+    are_kept: bool,
+}
+
+/// What the threads found that do not count the hours.
+#[derive(Drop)]
+struct Others {
+    rotations: Result<Option<Broken>, NoMem>,
+    seats: Result<Option<Broken>, NoMem>,
+    are_kept: bool,
 }
 
 /// The first item of C1 to C15 that the plan breaks, by rule and then by what the items name, or `None` where it breaks
@@ -46,74 +61,108 @@ pub fn par_check<R: Threads + Sync>(
     if !is_large(inst) || current_num_threads(rt) == 1 {
         return full_check(alloc, inst, plan);
     }
-    let (rotations, others) = join(
+    let cuts = cuts_of(inst);
+    let (hours, others) = join(
         rt,
-        || -> Result<Option<Broken>, NoMem>
+        || -> Found
             requires { IsPlanFor inst.now plan.now }
-            ensures { IfOk result (λ item. item ≡ least_rot inst.entry.now plan.entry.now) }
-        { least_rot(alloc, inst, plan) },
-        || -> Result<Option<Broken>, NoMem>
+            ensures first { IfOk result.first (λ item. item ≡ least_slots inst.entry.now plan.entry.now) }
+            ensures kept { result.are_kept ≡ true → KeepPaths inst.entry.now plan.entry.now 0 cuts.hours }
+        {
+            Found {
+                first: least_slots(alloc, inst, plan),
+                are_kept: are_paths_kept(inst, plan, 0, cuts.hours),
+            }
+        },
+        || -> Others
             requires { IsPlanFor inst.now plan.now }
-            ensures { IfOk result (λ item. item ≡ option_or (least_slots inst.entry.now plan.entry.now) (least_pax inst.entry.now plan.entry.now)) }
-        { first_of_others(rt, alloc, inst, plan) },
+            ensures rotations { IfOk result.rotations (λ item. item ≡ least_rot inst.entry.now plan.entry.now) }
+            ensures seats { IfOk result.seats (λ item. item ≡ find (breaks inst.entry.now plan.entry.now) (each_cabin inst.entry.now broken.C12)) }
+            ensures kept { result.are_kept ≡ true → KeepPaths inst.entry.now plan.entry.now cuts.hours (reservations_of inst.entry.now) }
+        { found_by_others(rt, alloc, inst, plan, cuts) },
     );
-    match rotations? {
+    match others.rotations? {
         Some(item) => Ok(Some(item)),
-        None => others,
+        None => match hours.first? {
+            Some(slot) => Ok(Some(slot)),
+            None if hours.are_kept && others.are_kept => others.seats,
+            None => least_pax(alloc, inst, plan),
+        },
     }
 }
 
-// The first item of C10 to C15 that the plan breaks: the hours of airports are counted beside the passengers.
-fn first_of_others<R: Threads + Sync>(
+// A thread asks for paths alone, while two have the rotations and the seats too.
+fn found_by_others<R: Threads + Sync>(
     rt: &R,
     alloc: Global,
     inst: &Instance,
     plan: &Plan,
-) -> Result<Option<Broken>, NoMem>
+    cuts: Cuts,
+) -> Others
     requires { IsPlanFor inst.now plan.now }
-    ensures { IfOk result (λ item. item ≡ option_or (least_slots inst.now plan.now) (least_pax inst.now plan.now)) }
+    ensures rotations { IfOk result.rotations (λ item. item ≡ least_rot inst.now plan.now) }
+    ensures seats { IfOk result.seats (λ item. item ≡ find (breaks inst.now plan.now) (each_cabin inst.now broken.C12)) }
+    ensures kept { result.are_kept ≡ true → KeepPaths inst.now plan.now cuts.hours (reservations_of inst.now) }
 {
-    let (slots, passengers) = join(
+    let (are_kept, others) = join(
         rt,
-        || -> Result<Option<Broken>, NoMem>
-            requires { IsPlanFor inst.now plan.now }
-            ensures { IfOk result (λ item. item ≡ least_slots inst.entry.now plan.entry.now) }
-        { least_slots(alloc, inst, plan) },
-        || -> Result<Option<Broken>, NoMem>
-            requires { IsPlanFor inst.now plan.now }
-            ensures { IfOk result (λ item. item ≡ least_pax inst.entry.now plan.entry.now) }
-        { first_of_passengers(rt, alloc, inst, plan) },
-    );
-    match slots? {
-        Some(slot) => Ok(Some(slot)),
-        None => passengers,
-    }
-}
-
-// The first item of C12 to C15 that the plan breaks: the seats are counted while the paths are asked. Where a path breaks a rule,
-// the passengers are looked through in one thread for which comes first.
-fn first_of_passengers<R: Threads + Sync>(
-    rt: &R,
-    alloc: Global,
-    inst: &Instance,
-    plan: &Plan,
-) -> Result<Option<Broken>, NoMem>
-    requires { IsPlanFor inst.now plan.now }
-    ensures { IfOk result (λ item. item ≡ least_pax inst.now plan.now) }
-{
-    let (seats, are_kept) = join(
-        rt,
-        || -> Result<Option<Broken>, NoMem>
-            requires { IsPlanFor inst.now plan.now }
-            ensures { IfOk result (λ item. item ≡ find (breaks inst.entry.now plan.entry.now) (each_cabin inst.entry.now broken.C12)) }
-        { first_c12(alloc, inst, plan) },
         || -> bool
             requires { IsPlanFor inst.now plan.now }
-            ensures { result ≡ true → first_of_paths inst.entry.now plan.entry.now ≡ None }
-        { are_paths_kept(rt, inst, plan) },
+            ensures { result ≡ true → KeepPaths inst.entry.now plan.entry.now cuts.hours cuts.alone }
+        { are_paths_kept(inst, plan, cuts.hours, cuts.alone) },
+        || -> Others
+            requires { IsPlanFor inst.now plan.now }
+            ensures rotations { IfOk result.rotations (λ item. item ≡ least_rot inst.entry.now plan.entry.now) }
+            ensures seats { IfOk result.seats (λ item. item ≡ find (breaks inst.entry.now plan.entry.now) (each_cabin inst.entry.now broken.C12)) }
+            ensures kept { result.are_kept ≡ true → KeepPaths inst.entry.now plan.entry.now cuts.alone (reservations_of inst.entry.now) }
+        { rotations_and_seats(rt, alloc, inst, plan, cuts) },
     );
-    if !are_kept {
-        return least_pax(alloc, inst, plan);
+    Others {
+        rotations: others.rotations,
+        seats: others.seats,
+        are_kept: are_kept && others.are_kept,
     }
-    seats
+}
+
+// The rotations in a thread, the seats in this one, and a piece of the paths in each.
+fn rotations_and_seats<R: Threads + Sync>(
+    rt: &R,
+    alloc: Global,
+    inst: &Instance,
+    plan: &Plan,
+    cuts: Cuts,
+) -> Others
+    requires { IsPlanFor inst.now plan.now }
+    ensures rotations { IfOk result.rotations (λ item. item ≡ least_rot inst.now plan.now) }
+    ensures seats { IfOk result.seats (λ item. item ≡ find (breaks inst.now plan.now) (each_cabin inst.now broken.C12)) }
+    ensures kept { result.are_kept ≡ true → KeepPaths inst.now plan.now cuts.alone (reservations_of inst.now) }
+{
+    let (rotations, seats) = join(
+        rt,
+        || -> Found
+            requires { IsPlanFor inst.now plan.now }
+            ensures first { IfOk result.first (λ item. item ≡ least_rot inst.entry.now plan.entry.now) }
+            ensures kept { result.are_kept ≡ true → KeepPaths inst.entry.now plan.entry.now cuts.alone cuts.rotations }
+        {
+            Found {
+                first: least_rot(alloc, inst, plan),
+                are_kept: are_paths_kept(inst, plan, cuts.alone, cuts.rotations),
+            }
+        },
+        || -> Found
+            requires { IsPlanFor inst.now plan.now }
+            ensures first { IfOk result.first (λ item. item ≡ find (breaks inst.entry.now plan.entry.now) (each_cabin inst.entry.now broken.C12)) }
+            ensures kept { result.are_kept ≡ true → KeepPaths inst.entry.now plan.entry.now cuts.rotations (reservations_of inst.entry.now) }
+        {
+            Found {
+                first: first_c12(alloc, inst, plan),
+                are_kept: are_paths_kept(inst, plan, cuts.rotations, inst.reservations()),
+            }
+        },
+    );
+    Others {
+        rotations: rotations.first,
+        seats: seats.first,
+        are_kept: rotations.are_kept && seats.are_kept,
+    }
 }

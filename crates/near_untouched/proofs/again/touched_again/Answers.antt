@@ -2,13 +2,13 @@ use Rattle.std.proofs.Common.{◌≡◌, ℕ, sym, subst, ◌∙◌, arith}
 use Rattle.std.proofs.lemmas.List.{length_push}
 use Rattle.desk_data.specs.Situation.{legs_of}
 use Rattle.near_untouched.specs.Marks.{HoldsOf}
-use Rattle.near_untouched.specs.Again.{AreCancelled, IsAgain}
+use Rattle.near_untouched.specs.Again.{AreRestorable, IsAgain}
 use Rattle.near_untouched.proofs.AgainLaws.{holds-more}
 use Rattle.near_untouched.proofs.again.touched_again.Goals as goal
 
-pub is_touched-requires-clause-cancelled : goal.is_touched-requires-clause-cancelled
-is_touched-requires-clause-cancelled c =
-    subst (AreCancelled c.args.plans.now.inst.now c.args.plans.now.earlier.now) (sym c.as_slice-cancelled.ensures.value) c.in_ok-list.ensures
+pub is_touched-requires-clause-restorable : goal.is_touched-requires-clause-restorable
+is_touched-requires-clause-restorable c =
+    subst (AreRestorable c.args.plans.now.inst.now c.args.plans.now.earlier.now) (sym c.as_slice-restorable.ensures.value) c.in_ok-list.ensures
 
 pub loop-x-preserved : goal.loop-x-preserved
 loop-x-preserved c =

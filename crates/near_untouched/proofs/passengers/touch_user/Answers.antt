@@ -7,16 +7,9 @@ use Rattle.near_untouched.proofs.MarkLaws.{paths-kept}
 use Rattle.near_untouched.proofs.PassengerLaws.{paths-among}
 use Rattle.near_untouched.proofs.passengers.touch_user.Goals as goal
 
-pub have_same_rows-requires-clause-earlier : goal.have_same_rows-requires-clause-earlier
-have_same_rows-requires-clause-earlier c =
-    let P = c.args.plans.now.earlier.now in
-    paths-among c.args.plans.now.inst.now P c.args.res.0 (length P.rows) c.groups-before.result.now c.requires.earlier c.requires.res c.requires.earlier.legs c.groups-before.ensures.groups
-
-pub have_same_rows-requires-clause-later : goal.have_same_rows-requires-clause-later
-have_same_rows-requires-clause-later c =
-    let P = c.args.plans.now.earlier.now in
-    let Q = c.args.plans.now.later.now in
-    paths-among c.args.plans.now.inst.now P c.args.res.0 (length Q.rows) c.groups-before.result.now c.requires.earlier c.requires.res c.requires.later.legs c.groups-before.ensures.groups
+pub are_paths_free-requires : goal.are_paths_free-requires
+are_paths_free-requires c =
+    paths-among c.args.plans.now.inst.now c.args.plans.now.earlier.now c.args.res.0 (length c.args.rows.now) c.groups-before.result.now c.requires.earlier c.requires.res c.requires.rows.all c.groups-before.ensures.groups
 
 pub mark_paths-requires : goal.mark_paths-requires
 mark_paths-requires c =
