@@ -1,11 +1,5 @@
-use Rattle.std.proofs.Common.{◌≡◌, true, subst, sym, ◌∙◌}
-use Rattle.std.specs.Prelude.{All}
-use Rattle.desk_data.specs.Situation.{Situation}
-use Rattle.desk_data.specs.PlanRows.{PlanRows}
-use Rattle.plan_moves.specs.Fits.{Fits}
-use Rattle.plan_moves.specs.declared.moves.Move.{Move}
+use Rattle.std.proofs.Common.{subst, sym, ◌∙◌}
 use Rattle.near_legs.specs.Choices.{unit_of}
-use Rattle.near_moves.specs.Near.{unit_moves}
 use Rattle.near_search.specs.Out.{AreMovesOut}
 use Rattle.near_search.proofs.OutLaws.{all-out, begins-flown, hands-out, unit-none}
 use Rattle.near_search.proofs.VainLaws.{worse-none}
@@ -15,8 +9,8 @@ pub returns-then-is_noted_out-clause-ok : goal.returns-then-is_noted_out-clause-
 returns-then-is_noted_out-clause-ok g c =
     sym (worse-none c.args.eval.now.inst c.args.eval.now.rows (unit_of c.args.unit) (c.is_noted_out.ensures c.if-is_noted_out.true))
 
-pub note_out-requires-then-is_in_vain-clause-out : goal.note_out-requires-then-is_in_vain-clause-out
-note_out-requires-then-is_in_vain-clause-out g c =
+pub note_out-requires-clause-out : goal.note_out-requires-clause-out
+note_out-requires-clause-out g c =
     hands-out c.args.eval.now.inst c.args.eval.now.rows (unit_of c.args.unit) c.requires.fits (c.is_in_vain.ensures c.if-is_in_vain.true)
 
 pub returns-then-is_in_vain-clause-ok : goal.returns-then-is_in_vain-clause-ok
@@ -26,10 +20,10 @@ returns-then-is_in_vain-clause-ok g c =
     let u = unit_of c.args.unit in
     sym (worse-none I P u (unit-none I P u (hands-out I P u c.requires.fits (c.is_in_vain.ensures c.if-is_in_vain.true))))
 
-pub note_out-2-requires-clause-out : goal.note_out-2-requires-clause-out
-note_out-2-requires-clause-out g c =
+pub note_out-requires-then-out-clause-out : goal.note_out-requires-then-out-clause-out
+note_out-requires-then-out-clause-out g c =
     let I = c.args.eval.now.inst in
     let P = c.args.eval.now.rows in
     let u = unit_of c.args.unit in
     let made = c.of-moves.ensures ∙ (rw (c.instance.ensures, c.plan.ensures.rows) at c.in_ok-made.ensures) in
-    rw c.try_all.ensures.eval (all-out I P u (begins-flown I P c.args.unit c.requires.unit) c.requires.fits (subst (AreMovesOut I P) made (c.in_ok-try_all.ensures.out c.if-out.true)))
+    rw c.try_all.ensures.eval (all-out I P u (begins-flown I P c.args.unit c.requires.unit) c.requires.fits (subst (AreMovesOut I P) made (c.in_ok-found.ensures.out c.if-out.true)))

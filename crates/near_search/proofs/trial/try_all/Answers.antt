@@ -1,4 +1,4 @@
-use Rattle.std.proofs.Common.{◌≡◌, true, false, sym, subst, ◌∙◌}
+use Rattle.std.proofs.Common.{◌≡◌, false, sym, subst, ◌∙◌}
 use Rattle.plan_moves.specs.Fits.{Fits}
 use Rattle.desk_eval.specs.Evaluated.{Evaluated}
 use Rattle.near_moves.specs.Descent.{is_better}
@@ -16,8 +16,8 @@ judge-requires-clause-fits g c =
     let next = next-is c.in_ok-m.field-0 m _ _ at c.in-Some.is in
     subst (λ (E : Evaluated). Fits E.inst m) (sym c.loop-m.invariant.eval) (first-fits c.args.eval.now.inst m _ _ next c.loop-m.invariant.fits)
 
-pub returns-then-branch-clause-fits : goal.returns-then-branch-clause-fits
-returns-then-branch-clause-fits g c = λ x is.
+pub returns-then-verdict-clause-fits : goal.returns-then-verdict-clause-fits
+returns-then-verdict-clause-fits g c = λ x is.
     let m = c.in-Some.m in
     let at = rw (c.instance.ensures, c.plan.ensures.rows, c.loop-m.invariant.eval) at c.in_ok-m.ensures.next in
     let next = next-is c.in_ok-m.field-0 m _ _ at c.in-Some.is in
@@ -29,10 +29,10 @@ loop-m-preserved g c =
     let m = c.in-Some.m in
     let at = rw (c.instance.ensures, c.plan.ensures.rows, c.loop-m.invariant.eval) at c.in_ok-m.ensures.next in
     let next = next-is c.in_ok-m.field-0 m _ _ at c.in-Some.is in
-    let worse : is_better c.args.eval.now.inst c.args.eval.now.rows m ≡ false = sym (rw c.loop-m.invariant.eval at c.in_ok-verdict.ensures.better) ∙ c.if-branch.false in
+    let worse : is_better c.args.eval.now.inst c.args.eval.now.rows m ≡ false = sym (rw c.loop-m.invariant.eval at c.in_ok-verdict.ensures.better) ∙ c.if-verdict.false in
     record {
       of = rw (c.instance.ensures, c.plan.ensures.rows, c.loop-m.invariant.eval) at c.in_ok-m.ensures.of;
-      eval = c.judge-verdict.ensures.eval ∙ c.loop-m.invariant.eval;
+      eval = c.judge.ensures.eval ∙ c.loop-m.invariant.eval;
       units_after = (rw (c.instance.ensures, c.plan.ensures.rows, c.loop-m.invariant.eval) at c.in_ok-m.ensures.units_after) ∙ c.loop-m.invariant.units_after;
       same = rest-found c.args.eval.now.inst c.args.eval.now.rows m _ _ next worse ∙ c.loop-m.invariant.same;
       out = elim c.if-out.branch [
