@@ -1,5 +1,5 @@
 pub mod ChangeLaws
 mod HourLaws
 mod LegLaws
-mod RuleLaws
+pub mod RuleLaws
 pub mod BreakLaws

@@ -1,7 +1,8 @@
 -- A unit that stays known at a later plan is out there.
 use Rattle.std.proofs.Common.{◌≡◌, ℕ, ◌<◌, ◌≤◌, inl, inr, true, ◌||◌, eqb, ltb, List, length, get_or, sym, ap, subst, ◌∙◌, arith}
-use Rattle.std.specs.Prelude.{None}
+use Rattle.std.specs.Prelude.{Option, None}
 use Rattle.std.specs.List.{All}
+use Rattle.std.specs.Option.{ForSome}
 use Rattle.std.proofs.lemmas.Bool.{true≢false, and_parts, and_from, eqb-true, ltb-true}
 use Rattle.desk_data.specs.declared.row.Row.{Row}
 use Rattle.desk_data.specs.declared.row.Row.TheVariants.{Flown, Cancelled}
@@ -184,5 +185,5 @@ moved-notes I old new known valid notes later feasible are all_planes all_again 
             fits = subst (All (Fits I)) moves was.fits;
             out = unit-out I P Q (unit_of u) valid notes.valid later notes.feasible feasible stay.begins was.fits stay.untouched was.out;
           };
-      quiet = subst (λ (q : Option Shard). ForSome q (λ (s : Shard). first_better I Q s.number s.count ≡ None)) (sym none) tt;
+      quiet = subst (λ (q : Option Shard). ForSome q (λ (s : Shard). first_better I Q s.number s.count ≡ None)) (sym none) (λ s is. absurd cc);
     }

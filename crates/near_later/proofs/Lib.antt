@@ -1,2 +1,3 @@
 pub mod TouchLaws
 pub mod LaterLaws
+mod SameLaws

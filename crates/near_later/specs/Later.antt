@@ -1,5 +1,5 @@
 -- What was touched after a search.
-use Rattle.std.specs.Prelude.{◌≡◌, ℕ, ◌<◌, Bool, true, false, ◌⊎◌, List, slice_index_or}
+use Rattle.std.specs.Prelude.{◌≡◌, ℕ, ◌<◌, Bool, false, ◌⊎◌, List, slice_index_or}
 use Rattle.near_untouched.specs.Marks.{is_marked}
 
 -- each number below n has the number of the search, or it is not marked and has what it had

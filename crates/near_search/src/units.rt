@@ -100,12 +100,7 @@ pub(crate) fn is_noted_quiet(
 }
 
 /// Notes of a shard that none of its moves is better, if there are notes.
-pub(crate) fn note_quiet(
-    eval: &Evaluator,
-    notes: &mut Option<UnitNotes>,
-    shard: u32,
-    shards: u32,
-)
+pub(crate) fn note_quiet(eval: &Evaluator, notes: &mut Option<UnitNotes>, shard: u32, shards: u32)
     requires notes { AreUnitsNotedAt eval.now.inst eval.now.rows notes.old }
     requires quiet { first_better eval.now.inst eval.now.rows shard shards ≡ None }
     ensures { AreUnitsNotedAt eval.now.inst eval.now.rows notes.new }

@@ -89,7 +89,7 @@ module _ (I : Situation) (old new : UnitNotes) (u : LegUnit) (there : Place) (pl
         subst (λ (P : PlanRows). IsUnitOut I P (unit_of v)) (sym now.plan)
         (known-at v (place v) refl here (sym (rest-same v (number_of_place new.found (place v))) ∙ noted));
     quiet = subst (λ (P : PlanRows). ForSome new.quiet (λ (s : Shard). first_better I P s.number s.count ≡ None)) (sym now.plan)
-    (subst (λ (q : Option Shard). ForSome q (λ (s : Shard). first_better I old.plan s.number s.count ≡ None)) (sym now.quiet) are.quiet);
+        (subst (λ (q : Option Shard). ForSome q (λ (s : Shard). first_better I old.plan s.number s.count ≡ None)) (sym now.quiet) are.quiet);
   }
 
 -- the number of the search at hand is put at a place
@@ -110,6 +110,7 @@ put-now old found there put = record {
   where
     at-true : (b : Bool) (x y : ℕ) → b ≡ true → cond b x y ≡ x
     at-true b x y is = rw is refl
+
     at-false : (b : Bool) (x y : ℕ) → b ≡ false → cond b x y ≡ y
     at-false b x y is = rw is refl
 

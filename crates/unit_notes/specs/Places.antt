@@ -1,5 +1,5 @@
 -- Where the number of a unit stands.
-use Rattle.std.specs.Prelude.{◌≡◌, ℕ, ◌+◌, ◌*◌, ◌<◌, Bool, ◌&&◌, nat_le, if◌then◌else◌, Option, Some, None, List}
+use Rattle.std.specs.Prelude.{ℕ, ◌+◌, ◌*◌, ◌&&◌, nat_le, if◌then◌else◌, Option, Some, None, List}
 use Rattle.unit_notes.specs.declared.place.Place.{Place}
 use Rattle.near_legs.specs.declared.unit.LegUnit.{LegUnit}
 use Rattle.near_legs.specs.declared.unit.LegUnit.TheVariants.{Retimed, Swapped, Dropped, Restored, Handed}

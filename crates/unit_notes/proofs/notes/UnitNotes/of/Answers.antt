@@ -1,6 +1,5 @@
 use Rattle.std.proofs.Common.{◌≡◌, ℕ, List, length, sym, ap, subst, ◌∙◌, arith}
 use Rattle.std.proofs.lemmas.List.{length-replicate}
-use Rattle.desk_data.specs.PlanRows.{PlanRows}
 use Rattle.desk_data.specs.Valid.{IsPlanFor}
 use Rattle.desk_rules.specs.Least.{least}
 use Rattle.number_rows.specs.Rows.{number_at}
@@ -25,7 +24,7 @@ returns c =
         again = ap length c.in_ok-again.ensures ∙ length-replicate _ 0 ∙ c.legs.ensures.count;
         latest = λ row column. (let none = ap (λ (f : List (List ℕ)). number_at f row column) c.in_ok-found.ensures ∙ none-at _ row column in omega (arith, none));
         out = λ u of noted. absurd (nothing-noted I P _ planes again u (ap (λ (f : List (List ℕ)). is_untouched_since P planes again u (number_of f u)) (sym c.in_ok-found.ensures) ∙ noted));
-        quiet = tt;
+        quiet = λ s is. absurd cc;
       };
       plan = same;
     }
