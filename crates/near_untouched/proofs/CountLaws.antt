@@ -5,6 +5,7 @@ use Rattle.std.proofs.lemmas.Bool.{true≢false, false≢true, cases_eq, cases_l
 use Rattle.std.proofs.lemmas.List.{get_or-set_same, get_or-set_other, length-replicate, length-set}
 use Rattle.std.proofs.lemmas.List.Elements.{All-replicate, All-set}
 use Rattle.std.proofs.lemmas.List.Sums.{sum_by_push}
+use Rattle.std.proofs.lemmas.Nat.{mul-add-lt}
 use Rattle.desk_data.specs.declared.row.Row.{Row}
 use Rattle.desk_data.specs.declared.row.Row.TheVariants.{Flown, Cancelled}
 use Rattle.desk_data.specs.Situation.{Situation, airports_of, legs_of, planes_of, leg_at, no_leg}
@@ -17,7 +18,7 @@ use Rattle.hour_counts.specs.declared.slot.Movement.{Movement}
 use Rattle.hour_counts.specs.declared.slot.Movement.TheVariants.{Departure, Arrival}
 use Rattle.std.proofs.lemmas.List.Elements.{All-get_or}
 use Rattle.near_untouched.specs.Marks.{is_marked, HoldsOf}
-use Rattle.near_untouched.specs.Hours.{place_of, is_at, HasFew}
+use Rattle.near_untouched.specs.Hours.{half_margin, place_of, is_at, HasFew}
 use Rattle.near_untouched.specs.Counts.{place_number, AreCounted}
 use Rattle.near_untouched.proofs.MarkLaws.{mark-kept}
 
@@ -54,13 +55,18 @@ place-there : (m : Movement) (I : Situation) (y : ℕ) → IsValid I → y < leg
 place-there Departure I y valid lt = (leg-is I y valid lt).origin
 place-there Arrival I y valid lt = (leg-is I y valid lt).dest
 
+-- the place of an aircraft and an airport of the day is one of the table
+pub place-within : (I : Situation) (p a : ℕ) (counts : List ℕ) → length counts ≡ airports_of I * planes_of I → p < planes_of I → a < airports_of I → place_number (airports_of I) p a < length counts
+place-within I p a counts places lt within =
+    subst (λ (n : ℕ). place_number (airports_of I) p a < n) (sym places) (mul-add-lt p (airports_of I) a (planes_of I) lt within)
+
 -- ---- one leg more
 
-pub counted-first : (m : Movement) (I : Situation) (R : PlanRows) (touched : List Bool) → length touched ≡ planes_of I → AreCounted 0 m I R (replicate (500 * planes_of I) 0) touched
+pub counted-first : (m : Movement) (I : Situation) (R : PlanRows) (touched : List Bool) → length touched ≡ planes_of I → AreCounted 0 m I R (replicate (airports_of I * planes_of I) 0) touched
 counted-first m I R touched planes = record {
-  places = length-replicate (500 * planes_of I) 0;
+  places = length-replicate (airports_of I * planes_of I) 0;
   planes = planes;
-  few = All-replicate (λ (count : ℕ). count ≤ 8) (500 * planes_of I) 0 (omega arith);
+  few = All-replicate (λ (count : ℕ). count ≤ half_margin) (airports_of I * planes_of I) 0 (omega arith);
   each = λ p a lt within. inr (omega arith);
 }
 
@@ -89,26 +95,27 @@ other-off m I R n p a q flown other =
     let parts = and_parts (flies R p n) (eqb (place_of m I n) a) on in
     other (one-flier p q (row_at R n) parts.0 flown) (sym (eqb-true (place_of m I n) a parts.1)))
 
-pub counted-more : (m : Movement) (I : Situation) (R : PlanRows) (n count q b : ℕ) (counts : List ℕ) (touched : List Bool) → AreCounted n m I R counts touched → flies R q n ≡ true → q < planes_of I → b ≡ place_of m I n → b < 500 → count ≡ get_or counts (place_number q b) 0 → count < 8 → AreCounted (n + 1) m I R (set counts (place_number q b) (count + 1)) touched
+pub counted-more : (m : Movement) (I : Situation) (R : PlanRows) (n count q b : ℕ) (counts : List ℕ) (touched : List Bool) → AreCounted n m I R counts touched → flies R q n ≡ true → q < planes_of I → b ≡ place_of m I n → b < airports_of I → count ≡ get_or counts (place_number (airports_of I) q b) 0 → count < half_margin → AreCounted (n + 1) m I R (set counts (place_number (airports_of I) q b) (count + 1)) touched
 counted-more m I R n count q b counts touched are flown by at below is less =
-    let place = place_number q b in
+    let airports = airports_of I in
+    let place = place_number airports q b in
+    let there : place < length counts = place-within I q b counts are.places by below in
     record {
       places = length-set counts place (count + 1) ∙ are.places;
       planes = are.planes;
-      few = All-set (λ (c : ℕ). c ≤ 8) counts place (count + 1) (omega (arith, less)) are.few;
+      few = All-set (λ (c : ℕ). c ≤ half_margin) counts place (count + 1) (omega (arith, less)) are.few;
       each = λ p a lt within.
-          (let places = are.places in
-          elim (are.each p a lt within) [
+          (elim (are.each p a lt within) [
             | inl on ↦ inl on
-            | inr le ↦ elim (cases_eq (place_number p a) place) [
+            | inr le ↦ elim (cases_eq (place_number airports p a) place) [
               | inl same ↦
-                  let now : get_or (set counts place (count + 1)) (place_number p a) 0 ≡ count + 1 =
-                  ap (λ (k : ℕ). get_or (set counts place (count + 1)) k 0) same ∙ get_or-set_same counts place (count + 1) 0 (omega (arith, places, by, below)) in
-                  let was : get_or counts (place_number p a) 0 ≡ count = ap (λ (k : ℕ). get_or counts k 0) same ∙ sym is in
+                  let now : get_or (set counts place (count + 1)) (place_number airports p a) 0 ≡ count + 1 =
+                  ap (λ (k : ℕ). get_or (set counts place (count + 1)) k 0) same ∙ get_or-set_same counts place (count + 1) 0 there in
+                  let was : get_or counts (place_number airports p a) 0 ≡ count = ap (λ (k : ℕ). get_or counts k 0) same ∙ sym is in
                   inr (omega (arith, le, now, was, count-on (is_at m I R p a) n))
               | inr other ↦
-                  let now : get_or (set counts place (count + 1)) (place_number p a) 0 ≡ get_or counts (place_number p a) 0 = get_or-set_other counts place (place_number p a) (count + 1) 0 other in
-                  let none : is_at m I R p a n ≡ false = other-off m I R n p a q flown (λ one two. other (omega (arith, one, two, at))) in
+                  let now : get_or (set counts place (count + 1)) (place_number airports p a) 0 ≡ get_or counts (place_number airports p a) 0 = get_or-set_other counts place (place_number airports p a) (count + 1) 0 other in
+                  let none : is_at m I R p a n ≡ false = other-off m I R n p a q flown (λ one two. other (ap (λ (k : ℕ). place_number airports k a) one ∙ ap (place_number airports q) (two ∙ sym at))) in
                   inr (omega (arith, le, now, count-off (is_at m I R p a) n none))
             ]
           ]);
@@ -135,18 +142,17 @@ counted-full m I R n q counts touched are flown by = record {
 -- all legs are counted
 pub few-told : (m : Movement) (I : Situation) (R : PlanRows) (counts : List ℕ) (touched : List Bool) → IsValid I → AreCounted (legs_of I) m I R counts touched → HoldsOf (planes_of I) touched (HasFew m I R)
 few-told m I R counts touched valid are p lt off a =
-    elim (cases_lt a 500) [
+    elim (cases_lt a (airports_of I)) [
       | inl within ↦ elim (are.each p a lt within) [
         | inl on ↦ absurd (true≢false (sym on ∙ off))
         | inr le ↦
-            let places = are.places in
-            let few : get_or counts (place_number p a) 0 ≤ 8 = are.few (place_number p a) 0 (omega (arith, places, lt, within)) in
+            let place = place_number (airports_of I) p a in
+            let few : get_or counts place 0 ≤ half_margin = are.few place 0 (place-within I p a counts are.places lt within) in
             omega (arith, le, few)
       ]
       | inr past ↦
-          let airports = valid.parts.few.airports in
           let none = count-none (is_at m I R p a) (legs_of I)
           (λ y there. and_right (flies R p y) (eqb (place_of m I y) a)
-          (ne_eqb (place_of m I y) a (λ same. (let place = place-there m I y valid there in omega (arith, place, same, past, airports))))) in
+          (ne_eqb (place_of m I y) a (λ same. (let place = place-there m I y valid there in omega (arith, place, same, past))))) in
           omega (arith, none)
     ]

@@ -22,6 +22,10 @@ use Rattle.near_untouched.specs.Marks.{is_marked}
 abbrev pub margin : ℕ
 margin = 16
 
+-- half of it
+abbrev pub half_margin : ℕ
+half_margin = 8
+
 -- the airport that leg x leaves, or that it reaches
 abbrev pub place_of : Movement → Situation → ℕ → ℕ
 place_of Departure I x = (leg_at I x).origin.0

@@ -8,14 +8,12 @@ ghost use Rattle.near_untouched.specs.Again.{AreAgainTold, AreFree, AreRestorabl
 ghost use Rattle.near_untouched.specs.Legs.{AreLegsTold};
 ghost use Rattle.near_untouched.specs.Marks.{AreChanged};
 
+use crate::counts::HALF_MARGIN;
 use crate::plans::Plans;
 use desk_data::{Instance, Leg, NoMem};
 use plan_pages::Pages;
 use plan_reads::is_flown;
 use std::alloc::Global;
-
-/// How many legs of a unit may leave an airport, or reach it: half the margin.
-const MOST: u32 = 8;
 
 /// The most minutes from the scheduled arrival of a leg to the scheduled departure of one that leads back.
 const BACK_WITHIN: u32 = 1_440;
@@ -66,7 +64,7 @@ fn is_touched(plans: &Plans, legs: &[bool], changed: &[Leg], restorable: &[Leg],
         return true;
     }
     match backs_of(plans.inst, legs, restorable, leg) {
-        Some(count) => MOST <= count,
+        Some(count) => HALF_MARGIN as u32 <= count,
         None => true,
     }
 }

@@ -1,7 +1,7 @@
 //! Aircraft with many legs at an airport.
 
-ghost use Rattle.std.specs.Prelude.{◌≡◌, ◌+◌, ◌<◌, IfOk, OnOk, length, replicate, true};
-ghost use Rattle.desk_data.specs.Situation.{legs_of, planes_of};
+ghost use Rattle.std.specs.Prelude.{◌≡◌, ◌+◌, ◌*◌, ◌<◌, IfOk, OnOk, length, replicate, true};
+ghost use Rattle.desk_data.specs.Situation.{airports_of, legs_of, planes_of};
 ghost use Rattle.desk_data.specs.Valid.{IsPlanFor};
 ghost use Rattle.desk_rules.specs.Maintenance.{flies};
 ghost use Rattle.near_untouched.specs.Counts.{AreCounted, place_number};
@@ -14,8 +14,8 @@ use hour_counts::Movement;
 use plan_pages::Pages;
 use std::alloc::Global;
 
-/// How many legs of an aircraft may leave an airport, or reach it: half the margin.
-const MOST: u8 = 8;
+/// How many legs of an aircraft, or of a unit that restores legs, may leave an airport, or reach it: half the margin.
+pub(crate) const HALF_MARGIN: u8 = 8;
 
 /// Marks the aircraft of which more legs than that leave one airport, or reach one, in one walk over the legs of the earlier
 /// plan: an aircraft that is not marked flies the same legs in the later one. The only error is out of memory.
@@ -33,7 +33,7 @@ pub(crate) fn touch_many(
     ensures few { OnOk result (HoldsOf (planes_of inst.now) touched.new.items (HasFew movement inst.now plan.now)) }
 {
     let _rows = inst.parts();
-    let mut counts = no_counts(alloc, 500 * inst.planes() as usize)?;
+    let mut counts = no_counts(alloc, places_of(inst))?;
     for x in 0..inst.legs() {
         count_leg(inst, plan, movement, Leg(x), &mut counts, touched);
     }
@@ -79,23 +79,30 @@ fn count_at(
     ensures kept { AreKept touched.old.items touched.new.items }
     ensures counted { AreCounted (leg.0 + 1) movement inst.now _plan.now counts.new.items touched.new.items }
 {
-    let (_few, _most) = (inst.airports(), inst.planes());
-    let place = place_number(plane, place_of(inst, movement, leg));
+    let place = place_number(inst, plane, place_of(inst, movement, leg));
     let count = counts[place];
-    if count < MOST {
+    if count < HALF_MARGIN {
         counts[place] = count + 1;
         return;
     }
     touched[plane.0 as usize] = true;
 }
 
-/// The place of an aircraft and an airport: there are at most 500 airports.
-fn place_number(plane: Plane, airport: Airport) -> usize
-    requires plane { plane.0 < 1000 }
-    requires airport { airport.0 < 500 }
-    ensures { result ≡ place_number plane.0 airport.0 }
+/// How many places there are.
+fn places_of(inst: &Instance) -> usize
+    ensures { result ≡ airports_of inst.now * planes_of inst.now }
 {
-    500 * plane.0 as usize + airport.0 as usize
+    inst.airports() as usize * inst.planes() as usize
+}
+
+/// The place of an aircraft and an airport.
+fn place_number(inst: &Instance, plane: Plane, airport: Airport) -> usize
+    requires plane { plane.0 < planes_of inst.now }
+    requires airport { airport.0 < airports_of inst.now }
+    ensures { result ≡ place_number (airports_of inst.now) plane.0 airport.0 }
+{
+    let _most = inst.planes();
+    plane.0 as usize * inst.airports() as usize + airport.0 as usize
 }
 
 /// So many zeros.

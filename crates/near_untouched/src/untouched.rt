@@ -38,8 +38,8 @@ impl Drop for Untouched {
 impl Untouched {
     /// Those between a plan and a later one, by what knows the hours of each: a few walks over the legs, and two over the
     /// reservations; for each leg that may be flown again one over the legs with another row, and one over those that may be;
-    /// and for each position one over the aircraft that end elsewhere. Two tables take a byte for each aircraft and airport,
-    /// of 500 airports. Both are plans for the instance. The only error is out of memory.
+    /// and for each position one over the aircraft that end elsewhere. A table takes a byte for each aircraft and airport.
+    /// Both are plans for the instance. The only error is out of memory.
     pub fn between<H: KnowsHours, K: KnowsHours>(
         alloc: Global,
         inst: &Instance,

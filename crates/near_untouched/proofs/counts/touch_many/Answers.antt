@@ -1,5 +1,5 @@
-use Rattle.std.proofs.Common.{◌≡◌, ℕ, ◌*◌, List, replicate, sym, ap, subst, ◌∙◌, arith}
-use Rattle.desk_data.specs.Situation.{legs_of, planes_of}
+use Rattle.std.proofs.Common.{◌≡◌, ℕ, List, replicate, sym, ap, subst, ◌∙◌, arith}
+use Rattle.desk_data.specs.Situation.{legs_of}
 use Rattle.near_untouched.specs.Counts.{AreCounted}
 use Rattle.near_untouched.proofs.CountLaws.{counted-first, few-told}
 use Rattle.near_untouched.proofs.counts.touch_many.Goals as goal
@@ -10,10 +10,9 @@ loop-x-init c =
     let I = c.args.inst.now in
     let R = c.args.plan.now in
     let touched = c.args.touched.now.items in
-    let many : 500 * c.planes.result ≡ 500 * planes_of I = ap (λ (n : ℕ). 500 * n) c.planes.ensures.count in
     record {
       kept = λ k on. on;
-      counted = subst (λ (counts : List ℕ). AreCounted 0 m I R counts touched) (sym (c.in_ok-counts.ensures ∙ ap (λ (n : ℕ). replicate n 0) many)) (counted-first m I R touched c.requires.touched);
+      counted = subst (λ (counts : List ℕ). AreCounted 0 m I R counts touched) (sym (c.in_ok-counts.ensures ∙ ap (λ (n : ℕ). replicate n 0) c.places_of.ensures)) (counted-first m I R touched c.requires.touched);
     }
 
 pub loop-x-preserved : goal.loop-x-preserved
