@@ -1,3 +1,4 @@
 pub mod TouchLaws
 pub mod LaterLaws
 mod SameLaws
+mod HourLaws

@@ -11,7 +11,8 @@ ghost use Rattle.near_untouched.specs.Untouched.{AreUntouched};
 ghost use Rattle.unit_notes.specs.Notes.{AreUnitNotes, AreUnitNotesAt};
 ghost use Rattle.near_later.specs.Later.{AreTouchedAt};
 
-use crate::same::is_same_plan;
+use crate::hours::SameHours;
+use crate::same::{has_same_rows, is_same_plan};
 use desk_data::{Instance, NoMem};
 use hour_counts::{HourCounts, KnowsHours};
 use near_untouched::Untouched;
@@ -47,7 +48,8 @@ pub fn later_unit_notes<H: KnowsHours>(
     Ok(moved(inst, notes, &known, shared))
 }
 
-/// What is known to be untouched since the plan of some notes.
+/// What is known to be untouched since the plan of some notes. Its hours are counted anew only where its rows are not those of
+/// the plan as it stands.
 fn untouched_since<H: KnowsHours>(
     alloc: Global,
     notes: &UnitNotes,
@@ -60,6 +62,10 @@ fn untouched_since<H: KnowsHours>(
     requires hours { H.knows hours.now inst.now plan.now }
     ensures { IfOk result (AreUntouched inst.now notes.now.plan plan.now) }
 {
+    if has_same_rows(inst.legs(), &notes.plan, plan) {
+        let before = SameHours { hours, plan };
+        return Untouched::between(alloc, inst, &notes.plan, &before, plan, hours);
+    }
     let before = HourCounts::of(alloc, inst, &notes.plan)?;
     Untouched::between(alloc, inst, &notes.plan, &before, plan, hours)
 }

@@ -11,6 +11,7 @@
 //! `near_untouched`.
 #![tactic(auto)]
 
+mod hours;
 mod later;
 mod same;
 

@@ -18,7 +18,7 @@ pub(crate) fn is_same_plan(inst: &Instance, one: &Pages, other: &Pages) -> bool
 }
 
 /// Whether two plans of so many legs have the same rows.
-fn has_same_rows(legs: u32, one: &Pages, other: &Pages) -> bool
+pub(crate) fn has_same_rows(legs: u32, one: &Pages, other: &Pages) -> bool
     requires one { length one.now.rows ≡ legs }
     requires other { length other.now.rows ≡ legs }
     ensures yes { result ≡ true → one.now.rows ≡ other.now.rows }
