@@ -5,8 +5,11 @@ use desk_data::Instance;
 // What is measured of a large day, in nanoseconds: for each leg what the rules of rotations and the hours of airports take, and for
 // each reservation its seats and the rules of its paths.
 const ROTATIONS: u32 = 75;
+
 const HOURS: u32 = 135;
+
 const SEATS: u32 = 20;
+
 const PATHS: u32 = 45;
 
 /// The numbers at which the reservations are cut into four pieces, each of which may be empty.
