@@ -10,8 +10,8 @@ use desk_data::{Broken, Instance, NoMem, Plan};
 use hour_counts::Movement;
 use std::alloc::Global;
 
-/// The first airport and hour that break C10.
-pub(crate) fn c10_departures(
+/// The first airport and hour that break C10. The only error is out of memory.
+pub fn first_c10(
     alloc: Global,
     inst: &Instance,
     plan: &Plan,
