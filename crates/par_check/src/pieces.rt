@@ -5,8 +5,11 @@ use desk_data::Instance;
 // What a large day takes, as it was measured, in tens of nanoseconds: for each leg the rules of rotations, and its hour of departure or of
 // arrival, and for each reservation its seats, and the rules of its paths.
 const ROTATIONS: u32 = 4;
+
 const HOUR: u32 = 5;
+
 const SEATS: u32 = 1;
+
 const PATHS: u32 = 3;
 
 /// The numbers at which the reservations are cut into four pieces, each of which may be empty.

@@ -2,7 +2,7 @@ use Rattle.std.proofs.Common.{◌≡◌, ◌∙◌, None, Some, sym, ap, subst}
 use Rattle.std.specs.Prelude.{Option, IfOk}
 use Rattle.std.specs.Option.{option_or}
 use Rattle.desk_data.specs.declared.broken.Broken.{Broken}
-use Rattle.desk_rules.specs.Least.{least, least_rot, least_slots, least_pax}
+use Rattle.desk_rules.specs.Least.{least_rot, least_slots, least_pax}
 use Rattle.desk_rules.proofs.LeastLaws.{least-split}
 use Rattle.par_check.proofs.PathLaws.{none_in_pieces, passengers-alone, seats-alone}
 use Rattle.par_check.proofs.least.par_check.Goals as goal
