@@ -4,7 +4,7 @@ ghost use Rattle.std.specs.Prelude.{◌≡◌, ◌||◌, true, nat_le, find, IfO
 ghost use Rattle.desk_data.specs.Situation.{legs_of, reservations_of};
 ghost use Rattle.desk_data.specs.Valid.{IsPlanFor};
 ghost use Rattle.desk_data.specs.declared.broken.Broken.TheVariants as broken;
-ghost use Rattle.desk_rules.specs.Least.{breaks, each_cabin, least, least_rot, least_slots};
+ghost use Rattle.desk_rules.specs.Least.{breaks, each_cabin, each_hour, least, least_rot, least_slots};
 ghost use Rattle.par_check.specs.Paths.{KeepPaths};
 
 use crate::paths::are_paths_kept;
@@ -14,7 +14,7 @@ use full_check::full_check;
 use rayon::{current_num_threads, join};
 use rule_pax::{first_c12, least_pax};
 use rule_rot::least_rot;
-use rule_slots::least_slots;
+use rule_slots::{first_c10, first_c11};
 use std::alloc::Global;
 use std::thread::Threads;
 
@@ -28,16 +28,17 @@ pub fn is_large(inst: &Instance) -> bool
     inst.legs() >= LEAST_LARGE || inst.reservations() >= LEAST_LARGE
 }
 
-/// What a thread found: the first item of its rules, and whether the paths of its piece are kept.
+/// What a thread found: the first item of its rule, or of its rules, and whether the paths of its piece are kept.
 #[derive(Drop)]
 struct Found {
     first: Result<Option<Broken>, NoMem>,
     are_kept: bool,
 }
 
-/// What the threads found that do not count the hours.
+/// What the threads found that do not count the departures.
 #[derive(Drop)]
 struct Others {
+    arrivals: Result<Option<Broken>, NoMem>,
     rotations: Result<Option<Broken>, NoMem>,
     seats: Result<Option<Broken>, NoMem>,
     are_kept: bool,
@@ -62,36 +63,54 @@ pub fn par_check<R: Threads + Sync>(
         return full_check(alloc, inst, plan);
     }
     let cuts = cuts_of(inst);
-    let (hours, others) = join(
+    let (departures, others) = join(
         rt,
         || -> Found
             requires { IsPlanFor inst.now plan.now }
-            ensures first { IfOk result.first (λ item. item ≡ least_slots inst.entry.now plan.entry.now) }
-            ensures kept { result.are_kept ≡ true → KeepPaths inst.entry.now plan.entry.now 0 cuts.hours }
+            ensures first { IfOk result.first (λ item. item ≡ find (breaks inst.entry.now plan.entry.now) (each_hour inst.entry.now broken.C10)) }
+            ensures kept { result.are_kept ≡ true → KeepPaths inst.entry.now plan.entry.now 0 cuts.departures }
         {
             Found {
-                first: least_slots(alloc, inst, plan),
-                are_kept: are_paths_kept(inst, plan, 0, cuts.hours),
+                first: first_c10(alloc, inst, plan),
+                are_kept: are_paths_kept(inst, plan, 0, cuts.departures),
             }
         },
         || -> Others
             requires { IsPlanFor inst.now plan.now }
+            ensures arrivals { IfOk result.arrivals (λ item. item ≡ find (breaks inst.entry.now plan.entry.now) (each_hour inst.entry.now broken.C11)) }
             ensures rotations { IfOk result.rotations (λ item. item ≡ least_rot inst.entry.now plan.entry.now) }
             ensures seats { IfOk result.seats (λ item. item ≡ find (breaks inst.entry.now plan.entry.now) (each_cabin inst.entry.now broken.C12)) }
-            ensures kept { result.are_kept ≡ true → KeepPaths inst.entry.now plan.entry.now cuts.hours (reservations_of inst.entry.now) }
+            ensures kept { result.are_kept ≡ true → KeepPaths inst.entry.now plan.entry.now cuts.departures (reservations_of inst.entry.now) }
         { found_by_others(rt, alloc, inst, plan, cuts) },
     );
     match others.rotations? {
         Some(item) => Ok(Some(item)),
-        None => match hours.first? {
+        None => match first_of_hours(inst, plan, departures.first, others.arrivals)? {
             Some(slot) => Ok(Some(slot)),
-            None if hours.are_kept && others.are_kept => others.seats,
+            None if departures.are_kept && others.are_kept => others.seats,
             None => least_pax(alloc, inst, plan),
         },
     }
 }
 
-// A thread asks for paths alone, while two have the rotations and the seats too.
+/// The first item of C10 and C11 that the plan breaks, given the first of each.
+fn first_of_hours(
+    inst: &Instance,
+    plan: &Plan,
+    departures: Result<Option<Broken>, NoMem>,
+    arrivals: Result<Option<Broken>, NoMem>,
+) -> Result<Option<Broken>, NoMem>
+    requires departures { IfOk departures (λ item. item ≡ find (breaks inst.now plan.now) (each_hour inst.now broken.C10)) }
+    requires arrivals { IfOk arrivals (λ item. item ≡ find (breaks inst.now plan.now) (each_hour inst.now broken.C11)) }
+    ensures { IfOk result (λ item. item ≡ least_slots inst.now plan.now) }
+{
+    match departures? {
+        Some(item) => Ok(Some(item)),
+        None => arrivals,
+    }
+}
+
+// The arrivals are counted in a thread, while others have the rotations and the seats.
 fn found_by_others<R: Threads + Sync>(
     rt: &R,
     alloc: Global,
@@ -100,27 +119,36 @@ fn found_by_others<R: Threads + Sync>(
     cuts: Cuts,
 ) -> Others
     requires { IsPlanFor inst.now plan.now }
+    ensures arrivals { IfOk result.arrivals (λ item. item ≡ find (breaks inst.now plan.now) (each_hour inst.now broken.C11)) }
     ensures rotations { IfOk result.rotations (λ item. item ≡ least_rot inst.now plan.now) }
     ensures seats { IfOk result.seats (λ item. item ≡ find (breaks inst.now plan.now) (each_cabin inst.now broken.C12)) }
-    ensures kept { result.are_kept ≡ true → KeepPaths inst.now plan.now cuts.hours (reservations_of inst.now) }
+    ensures kept { result.are_kept ≡ true → KeepPaths inst.now plan.now cuts.departures (reservations_of inst.now) }
 {
-    let (are_kept, others) = join(
+    let (arrivals, (rotations, seats)) = join(
         rt,
-        || -> bool
+        || -> Found
             requires { IsPlanFor inst.now plan.now }
-            ensures { result ≡ true → KeepPaths inst.entry.now plan.entry.now cuts.hours cuts.alone }
-        { are_paths_kept(inst, plan, cuts.hours, cuts.alone) },
-        || -> Others
+            ensures first { IfOk result.first (λ item. item ≡ find (breaks inst.entry.now plan.entry.now) (each_hour inst.entry.now broken.C11)) }
+            ensures kept { result.are_kept ≡ true → KeepPaths inst.entry.now plan.entry.now cuts.departures cuts.arrivals }
+        {
+            Found {
+                first: first_c11(alloc, inst, plan),
+                are_kept: are_paths_kept(inst, plan, cuts.departures, cuts.arrivals),
+            }
+        },
+        || -> (Found, Found)
             requires { IsPlanFor inst.now plan.now }
-            ensures rotations { IfOk result.rotations (λ item. item ≡ least_rot inst.entry.now plan.entry.now) }
-            ensures seats { IfOk result.seats (λ item. item ≡ find (breaks inst.entry.now plan.entry.now) (each_cabin inst.entry.now broken.C12)) }
-            ensures kept { result.are_kept ≡ true → KeepPaths inst.entry.now plan.entry.now cuts.alone (reservations_of inst.entry.now) }
+            ensures rotations { IfOk result.0.first (λ item. item ≡ least_rot inst.entry.now plan.entry.now) }
+            ensures seats { IfOk result.1.first (λ item. item ≡ find (breaks inst.entry.now plan.entry.now) (each_cabin inst.entry.now broken.C12)) }
+            ensures front { result.0.are_kept ≡ true → KeepPaths inst.entry.now plan.entry.now cuts.arrivals cuts.rotations }
+            ensures back { result.1.are_kept ≡ true → KeepPaths inst.entry.now plan.entry.now cuts.rotations (reservations_of inst.entry.now) }
         { rotations_and_seats(rt, alloc, inst, plan, cuts) },
     );
     Others {
-        rotations: others.rotations,
-        seats: others.seats,
-        are_kept: are_kept && others.are_kept,
+        arrivals: arrivals.first,
+        rotations: rotations.first,
+        seats: seats.first,
+        are_kept: arrivals.are_kept && rotations.are_kept && seats.are_kept,
     }
 }
 
@@ -131,22 +159,23 @@ fn rotations_and_seats<R: Threads + Sync>(
     inst: &Instance,
     plan: &Plan,
     cuts: Cuts,
-) -> Others
+) -> (Found, Found)
     requires { IsPlanFor inst.now plan.now }
-    ensures rotations { IfOk result.rotations (λ item. item ≡ least_rot inst.now plan.now) }
-    ensures seats { IfOk result.seats (λ item. item ≡ find (breaks inst.now plan.now) (each_cabin inst.now broken.C12)) }
-    ensures kept { result.are_kept ≡ true → KeepPaths inst.now plan.now cuts.alone (reservations_of inst.now) }
+    ensures rotations { IfOk result.0.first (λ item. item ≡ least_rot inst.now plan.now) }
+    ensures seats { IfOk result.1.first (λ item. item ≡ find (breaks inst.now plan.now) (each_cabin inst.now broken.C12)) }
+    ensures front { result.0.are_kept ≡ true → KeepPaths inst.now plan.now cuts.arrivals cuts.rotations }
+    ensures back { result.1.are_kept ≡ true → KeepPaths inst.now plan.now cuts.rotations (reservations_of inst.now) }
 {
-    let (rotations, seats) = join(
+    join(
         rt,
         || -> Found
             requires { IsPlanFor inst.now plan.now }
             ensures first { IfOk result.first (λ item. item ≡ least_rot inst.entry.now plan.entry.now) }
-            ensures kept { result.are_kept ≡ true → KeepPaths inst.entry.now plan.entry.now cuts.alone cuts.rotations }
+            ensures kept { result.are_kept ≡ true → KeepPaths inst.entry.now plan.entry.now cuts.arrivals cuts.rotations }
         {
             Found {
                 first: least_rot(alloc, inst, plan),
-                are_kept: are_paths_kept(inst, plan, cuts.alone, cuts.rotations),
+                are_kept: are_paths_kept(inst, plan, cuts.arrivals, cuts.rotations),
             }
         },
         || -> Found
@@ -159,10 +188,5 @@ fn rotations_and_seats<R: Threads + Sync>(
                 are_kept: are_paths_kept(inst, plan, cuts.rotations, inst.reservations()),
             }
         },
-    );
-    Others {
-        rotations: rotations.first,
-        seats: seats.first,
-        are_kept: rotations.are_kept && seats.are_kept,
-    }
+    )
 }
