@@ -25,6 +25,18 @@ pub fn legs_of_plane(alloc: Global, draft: &Draft, plane: Plane) -> Result<Vec<L
     ensures legs { IfOk result (λ legs. AreLegsOf draft.now.inst (plan_of draft.now) plane.0 (numbers_of legs.items)) }
     ensures within { IfOk result (λ legs. All (λ leg. leg.0 < legs_of draft.now.inst) legs.items) }
 {
+    match draft.kept(plane) {
+        Some(legs) => Ok(legs.to_vec(alloc)?),
+        None => find_legs(alloc, draft, plane),
+    }
+}
+
+/// The same where they are not kept.
+fn find_legs(alloc: Global, draft: &Draft, plane: Plane) -> Result<Vec<Leg>, NoMem>
+    requires { plane.0 < planes_of draft.now.inst }
+    ensures legs { IfOk result (λ legs. AreLegsOf draft.now.inst (plan_of draft.now) plane.0 (numbers_of legs.items)) }
+    ensures within { IfOk result (λ legs. All (λ leg. leg.0 < legs_of draft.now.inst) legs.items) }
+{
     let own = draft.eval().rotation(alloc, plane)?;
     let mut legs = kept(alloc, draft, plane, own.as_slice())?;
     let changes = draft.changes();

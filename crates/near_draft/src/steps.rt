@@ -76,6 +76,7 @@ fn push_step(
     };
     let inst = draft.eval().instance();
     let all = placings(alloc, inst, &*draft, order.as_slice(), after)?;
+    draft.keep(plane, order)?;
     for placing in &all {
         place(draft, plane, placing)?;
     }

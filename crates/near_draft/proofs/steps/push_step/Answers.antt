@@ -9,11 +9,17 @@ use Rattle.plan_push.specs.Placings.{AreLegs, IsPlacing}
 use Rattle.plan_push.proofs.PlacedLaws.{placed_all, placed_all-more, placed_all-is}
 use Rattle.near_draft.specs.Drafts.{plan_of}
 use Rattle.near_draft.specs.Legs.{numbers_of}
+use Rattle.near_draft.proofs.LegLaws.{rotation-legs}
 use Rattle.near_draft.proofs.steps.push_step.Goals as goal
 
 -- what is read where there is no placing
 no_placing : Placing
 no_placing = record { leg = record { 0 = 0 }; before = None }
+
+pub keep-requires : goal.keep-requires
+keep-requires c =
+    let D = c.args.draft.now in
+    rotation-legs D.inst (plan_of D) c.args.plane.0 (numbers_of c.in-Some.order.items) (c.in_ok-order.ensures.order c.in-Some.order c.in-Some.is)
 
 pub place-requires-clause-legs : goal.place-requires-clause-legs
 unfolding no_placing
