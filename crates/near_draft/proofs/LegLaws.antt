@@ -142,6 +142,10 @@ in-order I P p legs are next =
     (λ z has. let one = All-contains (λ x. (x < legs_of I) × (flies P p x ≡ true)) legs z are.flown has in rotation-each I P p z one.0 one.1)
     (λ z has. let one = All-contains (λ x. (x < legs_of I) × (flies P p x ≡ true)) (rotation I P p) z (rotation-flown I P p) has in are.each z one.0 one.1)
 
+-- those that stand in their order are the legs of the aircraft
+pub rotation-legs : (I : Situation) (P : PlanRows) (p : ℕ) (legs : List ℕ) → legs ≡ rotation I P p → AreLegsOf I P p legs
+rotation-legs I P p legs is = subst (AreLegsOf I P p) (sym is) (record { flown = rotation-flown I P p; each = rotation-each I P p })
+
 -- ---- the legs of two aircraft
 
 pub both-one : (I : Situation) (P : PlanRows) (p q : ℕ) → q ≡ p → rotation I P p ≡ legs_of_both I P p q

@@ -1,5 +1,6 @@
 pub mod ChangeLaws
 mod HourLaws
 mod LegLaws
+mod KeptLaws
 pub mod RuleLaws
 pub mod BreakLaws

@@ -1,20 +1,21 @@
 //! The drafts of moves, and whether the rows that they make break a rule.
 
-ghost use Rattle.std.specs.Prelude.{◌≡◌, ◌<◌, ◌≤◌, true, length, All, IfOk};
+ghost use Rattle.std.specs.Prelude.{◌≡◌, ◌<◌, ◌≤◌, ℕ, true, length, All, IfOk};
 ghost use Rattle.plan_moves.specs.Fits.{Fits, StepFits};
 ghost use Rattle.std.specs.List.{list_all};
 ghost use Rattle.std.specs.Option.{ForSome};
-ghost use Rattle.desk_data.specs.Situation.{planes_of};
+ghost use Rattle.desk_data.specs.Situation.{legs_of, planes_of};
 ghost use Rattle.near_trial.specs.RowRules.{keeps_rows};
 ghost use Rattle.desk_model.specs.Steps.{after_steps};
 ghost use Rattle.near_draft.specs.Drafts.{IsDraftOf, plan_of};
 ghost use Rattle.near_draft.specs.LegRules.{BreaksOf, BreaksPushed};
+ghost use Rattle.near_draft.specs.Legs.{AreLegsOf, numbers_of};
 
 use crate::draft::Draft;
 use crate::legs::{are_in_order, legs_of_plane};
 use crate::rules::break_leg_rules;
 use crate::steps::take_step;
-use desk_data::{NoMem, Plane};
+use desk_data::{Leg, NoMem, Plane};
 use desk_eval::Evaluator;
 use near_trial::keeps_rows;
 use plan_moves::{Move, Step};
@@ -105,8 +106,20 @@ fn plane_breaks_rows(alloc: Global, draft: &Draft, plane: Plane) -> Result<bool,
     requires { plane.0 < planes_of draft.now.inst }
     ensures { IfOk result (λ breaks. breaks ≡ true → BreaksOf draft.now.inst (plan_of draft.now) plane.0) }
 {
-    let legs = legs_of_plane(alloc, draft, plane)?;
-    let order = legs.as_slice();
+    match draft.kept(plane) {
+        Some(legs) => Ok(break_rules(draft, legs)),
+        None => {
+            let legs = legs_of_plane(alloc, draft, plane)?;
+            Ok(break_rules(draft, legs.as_slice()))
+        }
+    }
+}
+
+/// Whether one of the legs of an aircraft does, which are handed in, in whatever order.
+fn break_rules(draft: &Draft, legs: &[Leg]) -> bool
+    requires { All (λ leg. leg.0 < legs_of draft.now.inst) legs.now }
+    ensures { (p : ℕ) → AreLegsOf draft.now.inst (plan_of draft.now) p (numbers_of legs.now) → result ≡ true → BreaksOf draft.now.inst (plan_of draft.now) p }
+{
     let inst = draft.eval().instance();
-    Ok(are_in_order(draft, order) && break_leg_rules(inst, draft, order))
+    are_in_order(draft, legs) && break_leg_rules(inst, draft, legs)
 }

@@ -10,7 +10,7 @@ use Rattle.near_draft.specs.Drafts.{plan_of}
 use Rattle.near_draft.specs.Legs.{numbers_of}
 use Rattle.near_draft.proofs.ChangeLaws.{no_change}
 use Rattle.near_draft.proofs.LegLaws.{found-legs, numbers-within, still-flown}
-use Rattle.near_draft.proofs.legs.legs_of_plane.Goals as goal
+use Rattle.near_draft.proofs.legs.find_legs.Goals as goal
 
 pub add_leg-requires-clause-within : goal.add_leg-requires-clause-within
 add_leg-requires-clause-within c = numbers-within c.args.draft.now.inst (plan_of c.args.draft.now) c.args.plane.0 c.loop-change.legs.items c.loop-change.invariant.flown

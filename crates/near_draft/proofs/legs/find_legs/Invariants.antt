@@ -7,7 +7,7 @@ use Rattle.desk_model.specs.Push.{rotation}
 use Rattle.near_draft.specs.Drafts.{plan_of}
 use Rattle.near_draft.specs.Legs.{numbers_of}
 use Rattle.near_draft.proofs.ChangeLaws.{no_change}
-use Rattle.near_draft.proofs.legs.legs_of_plane.Given as goal
+use Rattle.near_draft.proofs.legs.find_legs.Given as goal
 
 abbrev pub invariant-loop-change : goal.invariant-loop-change
 invariant-loop-change l = record {
