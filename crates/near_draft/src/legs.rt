@@ -159,10 +159,16 @@ pub(crate) fn are_in_order<P: ReadPlan>(plan: &P, legs: &[Leg]) -> bool
     requires within { All (λ leg. leg.0 < length (P.plan_of plan.now).rows) legs.now }
     ensures { (I : Situation) (p : ℕ) → AreLegsOf I (P.plan_of plan.now) p (numbers_of legs.now) → result ≡ true → numbers_of legs.now ≡ rotation I (P.plan_of plan.now) p }
 {
+    if legs.is_empty() {
+        return true;
+    }
+    let mut row = plan.read_row(legs[0]);
     for k in 1..legs.len() {
-        if !precedes(plan, legs[k - 1], legs[k]) {
+        let next_row = plan.read_row(legs[k]);
+        if !comes_before(legs[k - 1], row, legs[k], next_row) {
             return false;
         }
+        row = next_row;
     }
     true
 }
