@@ -100,8 +100,8 @@ fn kept(alloc: Global, draft: &Draft, plane: Plane, legs: &[Leg]) -> Result<Vec<
     Ok(kept)
 }
 
-/// Puts a leg among those of an aircraft, if it flies it in a draft and it is not among them: before the first that
-/// departs later.
+/// Puts a leg among those of an aircraft, if it flies it in a draft and it is not among them: behind the last that
+/// departs before it.
 fn add_leg(draft: &Draft, plane: Plane, leg: Leg, legs: &mut Vec<Leg>) -> Result<(), NoMem>
     requires leg { leg.0 < legs_of draft.now.inst }
     requires within { All (λ leg. leg.0 < legs_of draft.now.inst) legs.old.items }
@@ -136,19 +136,22 @@ pub(crate) fn has(legs: &[Leg], leg: Leg) -> bool
     legs.iter().any(|other| other.0 == leg.0)
 }
 
-/// Where the first of some legs stands that departs after a leg, or else behind the last.
+/// Behind the last of some legs that departs before a leg, or else before the first.
 fn place_of(draft: &Draft, legs: &[Leg], leg: Leg) -> usize
     requires leg { leg.0 < legs_of draft.now.inst }
     requires within { All (λ leg. leg.0 < legs_of draft.now.inst) legs.now }
     ensures { result ≤ length legs.now }
 {
     let row = draft.row(leg);
-    for k in 0..legs.len() {
-        if comes_before(leg, row, legs[k], draft.row(legs[k])) {
-            return k;
+    let mut place = legs.len();
+    while place > 0 {
+        let other = legs[place - 1];
+        if comes_before(other, draft.row(other), leg, row) {
+            return place;
         }
+        place -= 1;
     }
-    legs.len()
+    0
 }
 
 /// Whether the legs of an aircraft stand in their order.
@@ -156,10 +159,16 @@ pub(crate) fn are_in_order<P: ReadPlan>(plan: &P, legs: &[Leg]) -> bool
     requires within { All (λ leg. leg.0 < length (P.plan_of plan.now).rows) legs.now }
     ensures { (I : Situation) (p : ℕ) → AreLegsOf I (P.plan_of plan.now) p (numbers_of legs.now) → result ≡ true → numbers_of legs.now ≡ rotation I (P.plan_of plan.now) p }
 {
+    if legs.is_empty() {
+        return true;
+    }
+    let mut row = plan.read_row(legs[0]);
     for k in 1..legs.len() {
-        if !precedes(plan, legs[k - 1], legs[k]) {
+        let next_row = plan.read_row(legs[k]);
+        if !comes_before(legs[k - 1], row, legs[k], next_row) {
             return false;
         }
+        row = next_row;
     }
     true
 }

@@ -10,18 +10,20 @@ use crate::change::Change;
 use desk_data::{Leg, Row};
 use desk_eval::Evaluator;
 
-/// The row of a leg after some changes of the evaluator's plan.
+/// The row of a leg after some changes of the evaluator's plan: that of its last change, if it has one.
 pub(crate) fn row_after(eval: &Evaluator, changes: &[Change], leg: Leg) -> Row
     requires changes { AreChanges eval.now.inst eval.now.rows changes.now }
     requires leg { leg.0 < legs_of eval.now.inst }
     ensures row { result ≡ row_at (drafted eval.now.rows changes.now) leg.0 }
     ensures fits { IsRowOf (planes_of eval.now.inst) result }
 {
-    let mut row = eval.plan().read_row(leg);
-    for change in changes {
-        if change.leg.0 == leg.0 {
-            row = change.row;
+    let plan = eval.plan();
+    let mut place = changes.len();
+    while place > 0 {
+        place -= 1;
+        if changes[place].leg.0 == leg.0 {
+            return changes[place].row;
         }
     }
-    row
+    plan.read_row(leg)
 }
