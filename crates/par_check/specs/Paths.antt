@@ -16,7 +16,7 @@ keeps_paths I P r = keeps_c13 I P r && keeps_c14 I P r && keeps_c15 I P r
 abbrev pub KeepPaths : Situation → PlanRows → ℕ → ℕ → Type 0
 KeepPaths I P from to = (r : ℕ) → from ≤ r → r < to → r < reservations_of I → keeps_paths I P r ≡ true
 
--- the first reservation that breaks C13, or else C14, or else C15
+-- the first item of C13 that is broken, or else of C14, or else of C15
 abbrev pub first_of_paths : Situation → PlanRows → Option Broken
 first_of_paths I P =
     option_or (option_or (find (breaks I P) (each_res I C13)) (find (breaks I P) (each_res I C14))) (find (breaks I P) (each_res I C15))

@@ -18,7 +18,7 @@ use rule_slots::{first_c10, first_c11};
 use std::alloc::Global;
 use std::thread::Threads;
 
-// From so many legs or reservations on the pieces of a rule are worth their threads.
+// From so many legs or reservations on a check is worth its threads.
 const LEAST_LARGE: u32 = 2048;
 
 /// Whether a day has so many legs or reservations, 2,048 of either, that a check of it is worth its threads.
