@@ -11,7 +11,7 @@ ghost use Rattle.near_draft.specs.Legs.{AreLegsOf, numbers_of};
 use crate::change::Change;
 use crate::hours::beside_after;
 use crate::kept::{PlaneLegs, kept_legs, let_go};
-use crate::rows::row_after;
+use crate::rows::{MARKS, row_after};
 use desk_data::{Airport, Group, Instance, Leg, NoMem, Plane, Res, Row};
 use desk_eval::Evaluator;
 use hour_counts::{KnowsHours, Movement};
@@ -25,6 +25,7 @@ use std::marker::Model;
 pub struct Draft<'a> {
     eval: &'a Evaluator,
     changes: Vec<Change>,
+    marks: [bool; MARKS],
     /// The legs of some aircraft in this draft.
     lists: Vec<PlaneLegs>,
 }
@@ -35,6 +36,7 @@ impl<'a> Drop for Draft<'a> {
         let Draft {
             eval: _,
             changes: _,
+            marks: _,
             lists: _,
         } = self;
     }
@@ -48,7 +50,7 @@ impl<'a> Model for Draft<'a> {
 
     ghost view = { λ d. record { inst = d.eval.now.inst; rows = d.eval.now.rows; changes = d.changes.items } };
 
-    ghost invariant = { λ d. AreDrafted d.eval.now.inst d.eval.now.rows d.changes.items d.lists.items };
+    ghost invariant = { λ d. AreDrafted d.eval.now.inst d.eval.now.rows d.changes.items d.marks d.lists.items };
 }
 
 impl<'a> Draft<'a> {
@@ -59,6 +61,7 @@ impl<'a> Draft<'a> {
         Draft {
             eval,
             changes: Vec::new(alloc),
+            marks: [false; MARKS],
             lists: Vec::new(alloc),
         }
     }
@@ -89,7 +92,7 @@ impl<'a> Draft<'a> {
         ensures row { result ≡ row_at (plan_of self.now) leg.0 }
         ensures fits { IsRowOf (planes_of self.now.inst) result }
     {
-        row_after(self.eval, self.changes.as_slice(), leg)
+        row_after(self.eval, self.changes.as_slice(), &self.marks, leg)
     }
 
     /// Whether a leg has the row that it has in the evaluator's plan.
@@ -111,9 +114,10 @@ impl<'a> Draft<'a> {
         ensures inst { self.new.inst ≡ self.old.inst }
         ensures rows { self.new.rows ≡ self.old.rows }
     {
-        let was = row_after(self.eval, self.changes.as_slice(), leg);
+        let was = row_after(self.eval, self.changes.as_slice(), &self.marks, leg);
         if was != row {
             self.changes.push(Change { leg, was, row })?;
+            self.marks[leg.0 as usize % MARKS] = true;
             let_go(&mut self.lists, was, row);
         }
         Ok(())
@@ -145,7 +149,7 @@ impl<'a> ReadPlan for Draft<'a> {
     fn read_row(&self, leg: Leg) -> Row {
         // there are as many rows as legs
         let _ = self.eval.plan();
-        row_after(self.eval, self.changes.as_slice(), leg)
+        row_after(self.eval, self.changes.as_slice(), &self.marks, leg)
     }
 
     fn groups(&self, res: Res) -> &[Group] {

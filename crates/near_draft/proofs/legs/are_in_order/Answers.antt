@@ -26,7 +26,8 @@ loop-k-preserved g c =
     let second : get_or (numbers_of legs) k 0 ≡ y = get_or-map (λ (leg : Leg). leg.0) legs k no_leg 0 in_k in
     let next : c.read_row-next_row.result ≡ row_at P y = c.read_row-next_row.ensures.row in
     let come : comes_before x c.loop-k.row y c.read_row-next_row.result ≡ true = sym c.comes_before.ensures ∙ c.if-not-comes_before.false in
-    let is : precedes P x y ≡ true = subst (λ (row : Row). comes_before x row y (row_at P y) ≡ true) (c.loop-k.invariant.row ∙ ap (row_at P) first) (subst (λ (row : Row). comes_before x c.loop-k.row y row ≡ true) next come) in
+    let own : c.loop-k.row ≡ row_at P x = subst (λ (z : ℕ). c.loop-k.row ≡ row_at P z) first c.loop-k.invariant.row in
+    let is : precedes P x y ≡ true = subst (λ (row : Row). comes_before x row y (row_at P y) ≡ true) own (subst (λ (row : Row). comes_before x c.loop-k.row y row ≡ true) next come) in
     let there : precedes P (get_or (numbers_of legs) (k - 1) 0) (get_or (numbers_of legs) k 0) ≡ true =
     subst (λ (z : ℕ). precedes P z (get_or (numbers_of legs) k 0) ≡ true) (sym first) (subst (λ (z : ℕ). precedes P x z ≡ true) (sym second) is) in
     let same_place : k ≡ k + 1 - 1 = omega arith in

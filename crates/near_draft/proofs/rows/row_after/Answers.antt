@@ -1,9 +1,17 @@
-use Rattle.std.proofs.Common.{◌≡◌, ℕ, ◌+◌, ◌-◌, ◌<◌, length, take, ap, subst, ◌∙◌, arith}
-use Rattle.desk_data.specs.PlanRows.{row_at}
+use Rattle.std.proofs.Common.{◌≡◌, ℕ, ◌+◌, ◌-◌, ◌%◌, ◌<◌, false, length, get_or, take, rules, ap, subst, ◌∙◌, arith}
+use Rattle.desk_data.specs.PlanRows.{PlanRows, row_at}
 use Rattle.desk_data.specs.Valid.{IsPlanFor}
 use Rattle.near_draft.specs.Drafts.{drafted}
 use Rattle.near_draft.proofs.ChangeLaws.{changes-at, row-same, row-other}
+use Rattle.near_draft.proofs.MarkLaws.{unmarked-row}
 use Rattle.near_draft.proofs.rows.row_after.Goals as goal
+
+pub returns-then-not-marks-leg-clause-row : goal.returns-then-not-marks-leg-clause-row
+returns-then-not-marks-leg-clause-row c =
+    let P = c.args.eval.now.rows in
+    let x = c.args.leg.0 in
+    let none : get_or c.args.marks.now (x % 64) false ≡ false = search rules in
+    c.read_row.ensures.row ∙ ap (λ (Q : PlanRows). row_at Q x) c.plan-plan.ensures.rows ∙ unmarked-row P c.args.changes.now c.args.marks.now x c.requires.marks none
 
 pub loop-place-preserved : goal.loop-place-preserved
 loop-place-preserved c =

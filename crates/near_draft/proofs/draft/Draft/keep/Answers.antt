@@ -13,6 +13,7 @@ invariant_of-self-2 c =
     let Q = drafted e.eval.now.rows e.changes.items in
     let list : PlaneLegs = record { plane = c.args.plane; legs = c.args.legs } in
     record {
+      marked = c.self.invariant.marked;
       are = c.self.invariant.are;
       kept = subst (AreKept I Q) (sym c.in_ok-push.ensures.items) (kept-more I Q e.lists.items list c.self.invariant.kept
           (subst (λ (D : Drafted). AreLegsOf D.inst (plan_of D) c.args.plane.0 (numbers_of c.args.legs.items)) (sym c.self.view_is) c.requires));
