@@ -2,20 +2,23 @@
 use Rattle.std.proofs.Common.{◌≡◌, ◌≢◌, ℕ, zero, suc, ◌+◌, ◌<◌, ◌≤◌, inl, inr, Bool, true, false, ◌&&◌, not, cond, eqb, ltb, List, [], ◌∷◌, ◌++◌, length, get_or, take, refl, sym, ap, subst, ◌∙◌, arith}
 use Rattle.std.specs.Prelude.{Option, None, Some}
 use Rattle.std.specs.List.{All, Contains}
-use Rattle.std.proofs.lemmas.Bool.{true≢false, cases_eq, eq-eqb, ne_eqb, and_parts, and_from, and_right, le-ltb, lt-ltb, false_from_ne_true}
+use Rattle.std.proofs.lemmas.Bool.{true≢false, cases_eq, eq-eqb, ne_eqb, eqb-true, and_parts, and_from, and_right, le-ltb, lt-ltb, false_from_ne_true}
 use Rattle.std.proofs.lemmas.List.{take_more, map-append, length-map, get_or-map}
 use Rattle.std.proofs.lemmas.List.Elements.{All-append, All-nil, All-cons, All-weaker, All-contains}
 use Rattle.desk_units.specs.declared.numbers.Leg.{Leg}
 use Rattle.desk_data.specs.declared.info.PositionInfo.{PositionInfo}
+use Rattle.desk_data.specs.declared.row.Row.{Row}
+use Rattle.desk_data.specs.declared.row.Row.TheVariants.{Flown, Cancelled}
 use Rattle.desk_data.specs.Situation.{Situation, legs_of, planes_of, plane_at}
 use Rattle.desk_data.specs.PlanRows.{PlanRows, row_at}
 use Rattle.desk_data.specs.Valid.{IsValid}
 use Rattle.desk_rules.specs.Cost.{is_wanted, ends_at, at_hand}
-use Rattle.desk_rules.specs.Rotations.{dep, precedes}
+use Rattle.desk_rules.specs.Rotations.{comes_before, dep, departure, is_earlier, precedes}
 use Rattle.desk_rules.specs.Maintenance.{flies, departs_before, is_flown_by}
 use Rattle.desk_rules.proofs.RotationLaws.{precedes-holds, precedes-from}
 use Rattle.desk_model.proofs.RotationOrder.{Contains-head, Contains-tail, precedes-trans, precedes-itself}
 use Rattle.plan_reads.specs.Last.{IsLastOf}
+use Rattle.plan_reads.specs.declared.rotation_leg.RotationLeg.{RotationLeg}
 use Rattle.full_cost.specs.Stands.{end_of, is_there}
 use Rattle.board_items.proofs.SumLaws.{one_if, filter_change}
 use Rattle.board_cost.proofs.HandLaws.{hand_few}
@@ -97,6 +100,20 @@ module _ (P : PlanRows) (p at : ℕ) (legs : List ℕ) (x : ℕ) where
         legs was.last)
         (λ on. not-itself P x);
   })
+
+-- of two legs of an aircraft the rows are told by the departures
+ordered : (p x y : ℕ) (row next : Row) → is_flown_by p row ≡ true → is_flown_by p next ≡ true → comes_before x row y next ≡ is_earlier x (departure row) y (departure next)
+ordered p x y (Flown plane dep) (Flown other later) one two = ap (λ (b : Bool). b && is_earlier x dep.0 y later.0) (eq-eqb plane.0 other.0 (eqb-true plane.0 p one ∙ sym (eqb-true other.0 p two)))
+ordered p x y (Flown plane dep) Cancelled one two = absurd (true≢false (sym two))
+ordered p x y Cancelled row one two = absurd (true≢false (sym one))
+
+pub precedes-is : (P : PlanRows) (p at : ℕ) (legs : List ℕ) (last : RotationLeg) (x : ℕ) {d : ℕ} → IsLastAmong P p at legs (Some last.leg) → flies P p x ≡ true → last.dep.0 ≡ dep P last.leg.0 → d ≡ dep P x → precedes P last.leg.0 x ≡ is_earlier last.leg.0 last.dep.0 x d
+precedes-is P p at legs last x {d} was flown one two =
+    let leg = last.leg.0 in
+    let first = (and_parts (flies P p leg) (ltb (dep P leg) at) was.before).0 in
+    ordered p leg x (row_at P leg) (row_at P x) first flown
+    ∙ ap (λ (n : ℕ). is_earlier leg n x (dep P x)) (sym one)
+    ∙ ap (λ (n : ℕ). is_earlier leg last.dep.0 x n) (sym two)
 
 -- the last of all that an aircraft flies
 pub last-of-all : (I : Situation) (P : PlanRows) (p at : ℕ) (legs : List ℕ) (last : Option Leg) → AreLegsOf I P p legs → IsLastAmong P p at legs last → IsLastOf P p at (legs_of I) last

@@ -5,6 +5,8 @@ ghost use Rattle.std.specs.Option.{ForSome};
 ghost use Rattle.desk_data.specs.Situation.{legs_of, planes_of};
 ghost use Rattle.desk_data.specs.Valid.{IsPlanFor};
 ghost use Rattle.desk_rules.specs.Maintenance.{flies, is_flown_by};
+ghost use Rattle.desk_rules.specs.Rotations.{dep, is_earlier};
+ghost use Rattle.plan_reads.specs.AfterLeg.{leg_in};
 ghost use Rattle.plan_reads.specs.Last.{IsLastOf};
 ghost use Rattle.near_units.specs.Same.{FliesSame};
 ghost use Rattle.near_unpaid.specs.Unpaid.{is_either};
@@ -15,9 +17,9 @@ ghost use Rattle.near_priced.specs.Tables.{ArePayments};
 
 use crate::payments::Payments;
 use desk_data::{Instance, Leg, Minute, NoMem, Plane, Row};
-use near_draft::{Draft, legs_of_plane, precedes};
+use near_draft::{Draft, legs_of_plane};
 use plan_pages::Pages;
-use plan_reads::{ReadPlan, departure};
+use plan_reads::{ReadPlan, RotationLeg, departure};
 use std::alloc::Global;
 
 /// An aircraft, its last leg before the window's end, if there is one, and the same after a move's first steps.
@@ -136,28 +138,56 @@ fn last_of(inst: &Instance, draft: &Draft, plane: Plane, legs: &[Leg]) -> Option
     for leg in legs {
         last = later_of(draft, plane, end, last, *leg);
     }
-    last
+    leg_in(last)
 }
 
-/// The later of two legs of an aircraft that depart before a moment.
-fn later_of(draft: &Draft, _plane: Plane, at: Minute, last: Option<Leg>, leg: Leg) -> Option<Leg>
-    requires leg { leg.0 < length (plan_of draft.now).rows }
-    requires last { ForSome last (λ leg. leg.0 < length (plan_of draft.now).rows) }
-    requires flown { flies (plan_of draft.now) _plane.0 leg.0 ≡ true }
-    ensures last { (legs : Items ℕ) → IsLastAmong (plan_of draft.now) _plane.0 at.0 legs last → IsLastAmong (plan_of draft.now) _plane.0 at.0 (legs ++ leg.0 ∷ []) result }
-    ensures within { ForSome result (λ leg. leg.0 < length (plan_of draft.now).rows) }
+/// Which leg it is, if there is one.
+fn leg_in(last: Option<RotationLeg>) -> Option<Leg>
+    ensures { result ≡ leg_in last }
 {
-    if departure(draft, leg) >= at.0 {
+    match last {
+        Some(at) => Some(at.leg),
+        None => None,
+    }
+}
+
+/// The later of two legs of an aircraft that depart before a moment, with its departure.
+fn later_of(
+    draft: &Draft,
+    _plane: Plane,
+    at: Minute,
+    last: Option<RotationLeg>,
+    leg: Leg,
+) -> Option<RotationLeg>
+    requires leg { leg.0 < length (plan_of draft.now).rows }
+    requires flown { flies (plan_of draft.now) _plane.0 leg.0 ≡ true }
+    requires departs { ForSome last (λ other. other.dep.0 ≡ dep (plan_of draft.now) other.leg.0) }
+    ensures last { (legs : Items ℕ) → IsLastAmong (plan_of draft.now) _plane.0 at.0 legs (leg_in last) → IsLastAmong (plan_of draft.now) _plane.0 at.0 (legs ++ leg.0 ∷ []) (leg_in result) }
+    ensures departs { ForSome result (λ other. other.dep.0 ≡ dep (plan_of draft.now) other.leg.0) }
+{
+    let departs = departure(draft, leg);
+    if departs >= at.0 {
         return last;
     }
+    let next = RotationLeg {
+        dep: Minute(departs),
+        leg,
+    };
     match last {
         Some(other) => {
-            if precedes(draft, other, leg) {
-                Some(leg)
+            if is_earlier(other, next) {
+                Some(next)
             } else {
                 last
             }
         }
-        None => Some(leg),
+        None => Some(next),
     }
+}
+
+/// By departure, then by leg.
+fn is_earlier(leg: RotationLeg, next: RotationLeg) -> bool
+    ensures { result ≡ is_earlier leg.leg.0 leg.dep.0 next.leg.0 next.dep.0 }
+{
+    leg.dep.0 < next.dep.0 || leg.dep.0 == next.dep.0 && leg.leg.0 < next.leg.0
 }
