@@ -1,6 +1,6 @@
 -- Where aircraft end, and how many are at hand then.
 use Rattle.std.proofs.Common.{◌≡◌, ◌≢◌, ℕ, zero, suc, ◌+◌, ◌<◌, ◌≤◌, inl, inr, Bool, true, false, ◌&&◌, not, cond, eqb, ltb, List, [], ◌∷◌, ◌++◌, length, get_or, take, refl, sym, ap, subst, ◌∙◌, arith}
-use Rattle.std.specs.Prelude.{Option, None, Some}
+use Rattle.std.specs.Prelude.{Option, None, Some, if◌then◌else◌}
 use Rattle.std.specs.List.{All, Contains}
 use Rattle.std.proofs.lemmas.Bool.{true≢false, cases_eq, eq-eqb, ne_eqb, eqb-true, and_parts, and_from, and_right, le-ltb, lt-ltb, false_from_ne_true}
 use Rattle.std.proofs.lemmas.List.{take_more, map-append, length-map, get_or-map}
@@ -17,7 +17,7 @@ use Rattle.desk_rules.specs.Rotations.{comes_before, dep, departure, is_earlier,
 use Rattle.desk_rules.specs.Maintenance.{flies, departs_before, is_flown_by}
 use Rattle.desk_rules.proofs.RotationLaws.{precedes-holds, precedes-from}
 use Rattle.desk_model.proofs.RotationOrder.{Contains-head, Contains-tail, precedes-trans, precedes-itself}
-use Rattle.plan_reads.specs.Last.{IsLastOf}
+use Rattle.plan_reads.specs.Last.{IsLastOf, stand}
 use Rattle.plan_reads.specs.declared.rotation_leg.RotationLeg.{RotationLeg}
 use Rattle.full_cost.specs.Stands.{end_of, is_there}
 use Rattle.board_items.proofs.SumLaws.{one_if, filter_change}
@@ -241,6 +241,20 @@ module _ (I : Situation) (P Q : PlanRows) (position : PositionInfo) (ends : Plan
         counted-is I P b other.was position second.was,
         counted-is I Q b other.is position second.is,
       )
+
+-- aircraft that end where they did are at hand where they were
+counted-alike : (I : Situation) (plane_end : PlaneEnd) (position : PositionInfo) → (stand I plane_end.plane.0 plane_end.is).0 ≡ (stand I plane_end.plane.0 plane_end.was).0 → counted I plane_end.plane.0 plane_end.is position ≡ counted I plane_end.plane.0 plane_end.was position
+counted-alike I plane_end position same =
+    let p = plane_end.plane.0 in
+    ap (λ (n : ℕ). one_if (is_wanted position (plane_at I p) && is_there (if (plane_at I p).surface then None else Some (record { 0 = n })) position.airport.0)) same
+
+pub hands-alike-one : (I : Situation) (P Q : PlanRows) (ends : PlaneEnds) → ArePlaneEnds I P Q ends → ends.other ≡ None → (stand I ends.one.plane.0 ends.one.is).0 ≡ (stand I ends.one.plane.0 ends.one.was).0 → (position : PositionInfo) → at_hand I Q position ≡ at_hand I P position
+hands-alike-one I P Q ends are none same position =
+    omega (arith, hands-one I P Q position ends are none, counted-alike I ends.one position same)
+
+pub hands-alike-two : (I : Situation) (P Q : PlanRows) (ends : PlaneEnds) (other : PlaneEnd) → ArePlaneEnds I P Q ends → ends.other ≡ Some other → (stand I ends.one.plane.0 ends.one.is).0 ≡ (stand I ends.one.plane.0 ends.one.was).0 → (stand I other.plane.0 other.is).0 ≡ (stand I other.plane.0 other.was).0 → (position : PositionInfo) → at_hand I Q position ≡ at_hand I P position
+hands-alike-two I P Q ends other are some first second position =
+    omega (arith, hands-two I P Q position ends are other some, counted-alike I ends.one position first, counted-alike I other position second)
 
 -- ---- legs, one more
 
