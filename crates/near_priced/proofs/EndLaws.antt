@@ -199,6 +199,10 @@ two-ends I P Q one other a b differ is other_is plane_end other_end others = rec
 
 -- ---- how many are at hand
 
+pub and-last : (a b : Bool) → b ≡ true → a ≡ (a && b)
+and-last true b is = sym is
+and-last false b is = refl
+
 counted-is : (I : Situation) (P : PlanRows) (p : ℕ) (last : Option Leg) (position : PositionInfo) → IsLastOf P p I.parts.to.0 (legs_of I) last → one_if (is_hand I P position p) ≡ counted I p last position
 counted-is I P p last position h = ap (λ (e : Bool). one_if (is_wanted position (plane_at I p) && e)) (sym (ends-is I P p position.airport.0 last h))
 
