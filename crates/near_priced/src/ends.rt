@@ -1,6 +1,6 @@
 //! Where the aircraft of a move end.
 
-ghost use Rattle.std.specs.Prelude.{◌≡◌, ◌<◌, ◌≤◌, ℕ, true, false, List as Items, [], ◌∷◌, ◌++◌, length, All, IfOk};
+ghost use Rattle.std.specs.Prelude.{◌≡◌, ◌<◌, ℕ, true, List as Items, [], ◌∷◌, ◌++◌, length, IfOk};
 ghost use Rattle.std.specs.List.{list_all};
 ghost use Rattle.std.specs.Option.{ForSome};
 ghost use Rattle.desk_data.specs.Situation.{legs_of, planes_of};
@@ -18,7 +18,7 @@ use crate::payments::Payments;
 use desk_data::{Instance, Leg, Minute, NoMem, Plane, Row};
 use near_draft::{Change, Draft, legs_of_plane};
 use plan_pages::Pages;
-use plan_reads::{ReadPlan, RotationLeg, departure};
+use plan_reads::{RotationLeg, departure};
 use std::alloc::Global;
 
 /// An aircraft, its last leg before the window's end, if there is one, and the same after a move's first steps.
