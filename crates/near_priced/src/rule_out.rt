@@ -57,14 +57,14 @@ impl Payments {
         let Some(planes) = pushed(inst, steps) else {
             return Ok(false);
         };
-        let legs = changed_legs(alloc, draft)?;
-        let found = ends_of(alloc, self, inst, plan, draft, legs.as_slice(), planes)?;
+        let found = ends_of(alloc, self, inst, plan, draft, planes)?;
         let Some(ends) = found else {
             return Ok(false);
         };
         let Some(dearer) = dearer_by(self, inst, plan, draft, ends) else {
             return Ok(false);
         };
+        let legs = changed_legs(alloc, draft)?;
         Ok(self.pay_at_most(legs.as_slice(), steps, dearer))
     }
 
