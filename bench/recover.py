@@ -67,7 +67,7 @@ def tried_on(day, asked):
     """How many moves a recovery came to, in hundreds: by the lines that the desk prints on standard error where it is asked for them."""
     with tempfile.TemporaryDirectory() as out:
         moves = ["--moves", str(asked.moves)] if asked.moves else []
-        lines = subprocess.run(PROGRAM + ["recover", day, out] + moves, env={**AS_DESK, "DESK_HEADWAY": "100"}, capture_output=True, check=True)
+        lines = subprocess.run(PROGRAM + ["recover", day, out] + moves, env={**AS_DESK, "DESK_HEADWAY": "100"}, capture_output=True)
         counts = re.findall(rb"tried (\d+)", lines.stderr)
         return int(counts[-1]) // 100 * 100 if counts else 0
 
@@ -115,7 +115,7 @@ def main():
             differ += others
             grown = "" if before is None else ", %.1f times that of the size before" % (took / before)
             beside = "; the other %.3f s, %d of them otherwise" % (other_took, others) if asked.other else ""
-            came = ", %d moves tried" % tried if asked.tried else ""
+            came = ", %d moves looked at" % tried if asked.tried else ""
             print("size %d, %d days: %d moves accepted%s, %.3f s%s%s" % (size, asked.seeds, accepted, came, took, grown, beside), flush=True)
             before = took
         if asked.walk:
