@@ -1,18 +1,20 @@
 #!/usr/bin/env python3
 """Times recoveries of days that are made up, and walks through their lists of moves.
 
-Usage: bench/recover.py [--sizes 1,2,3] [--seeds 5] [--moves N] [--runs 3] [--walk SIZE] [OTHER ..]
+Usage: bench/recover.py [--sizes 1,2,3] [--seeds 5] [--moves N] [--runs 3] [--tried] [--walk SIZE] [OTHER ..]
 
 OTHER is a command that takes the words of the desk. `recover` runs on days of some sizes, each of some seeds from 1 on, with the
 built desk and with OTHER beside it: how many moves were accepted, the time of each size, how it grows, and whether OTHER wrote the
 same. A time is of the processor, and the shortest of some runs, so that other work beside it counts for little. With --moves at most so
-many moves are accepted after each batch. Then the moves near the schedule of a day of a size, 40 where it is left out, are made one
+many moves are accepted after each batch. With --tried it tells how many moves the search came to that it did not pass over as those of a
+unit or a path of which it is known that none is better, to the next hundred below. Then the moves near the schedule of a day of a size, 40 where it is left out, are made one
 after another and not applied, by the program of bench/near.py; with 0 that is left out.
 
 The status is 1 where OTHER gave something else.
 """
 import argparse
 import os
+import re
 import subprocess
 import sys
 import tempfile
@@ -61,19 +63,30 @@ def recover(program, day, asked):
     return given, best
 
 
+def tried_on(day, asked):
+    """How many moves a recovery came to, in hundreds: by the lines that the desk prints on standard error where it is asked for them."""
+    with tempfile.TemporaryDirectory() as out:
+        moves = ["--moves", str(asked.moves)] if asked.moves else []
+        lines = subprocess.run(PROGRAM + ["recover", day, out] + moves, env={**AS_DESK, "DESK_HEADWAY": "100"}, capture_output=True)
+        counts = re.findall(rb"tried (\d+)", lines.stderr)
+        return int(counts[-1]) // 100 * 100 if counts else 0
+
+
 def times_of(folder, size, asked):
-    """The moves accepted on the days of a size, the time of all, that of OTHER, and how many it gave otherwise."""
-    accepted, own_time, other_time, differ = 0, 0.0, 0.0, 0
+    """The moves accepted on the days of a size, the time of all, that of OTHER, how many it gave otherwise, and how many moves were tried."""
+    accepted, own_time, other_time, differ, tried = 0, 0.0, 0.0, 0, 0
     for seed in range(1, asked.seeds + 1):
         day = make_day(folder, seed, size)
         given, took = recover(PROGRAM, day, asked)
         accepted += given[2].count(b",accepted ")
         own_time += took
+        if asked.tried:
+            tried += tried_on(day, asked)
         if asked.other:
             others, took = recover(asked.other, day, asked)
             other_time += took
             differ += others != given
-    return accepted, own_time, other_time, differ
+    return accepted, own_time, other_time, differ, tried
 
 
 def walk(folder, size):
@@ -91,17 +104,19 @@ def main():
     words.add_argument("--seeds", type=int, default=5)
     words.add_argument("--moves", type=int)
     words.add_argument("--runs", type=int, default=3)
+    words.add_argument("--tried", action="store_true")
     words.add_argument("--walk", type=int, default=40)
     words.add_argument("other", nargs="*")
     asked = words.parse_args()
     before, differ = None, 0
     with tempfile.TemporaryDirectory() as folder:
         for size in map(int, asked.sizes.split(",")):
-            accepted, took, other_took, others = times_of(folder, size, asked)
+            accepted, took, other_took, others, tried = times_of(folder, size, asked)
             differ += others
             grown = "" if before is None else ", %.1f times that of the size before" % (took / before)
             beside = "; the other %.3f s, %d of them otherwise" % (other_took, others) if asked.other else ""
-            print("size %d, %d days: %d moves accepted, %.3f s%s%s" % (size, asked.seeds, accepted, took, grown, beside), flush=True)
+            came = ", %d moves looked at" % tried if asked.tried else ""
+            print("size %d, %d days: %d moves accepted%s, %.3f s%s%s" % (size, asked.seeds, accepted, came, took, grown, beside), flush=True)
             before = took
         if asked.walk:
             walk(folder, asked.walk)

@@ -7,4 +7,3 @@ mod ValidPax
 mod ValidParts
 mod OrderLemmas
 mod FilledLemmas
-mod ToldLemmas

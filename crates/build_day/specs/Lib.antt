@@ -1,4 +1,3 @@
 pub mod Legs
-pub mod Told
 pub mod Day
 pub mod Batches

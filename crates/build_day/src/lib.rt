@@ -20,7 +20,6 @@ mod planes;
 mod positions;
 mod reservations;
 mod surface;
-mod told;
 
 pub use batches::batches_of;
 pub use day::day_of;

@@ -1,3 +1,4 @@
 pub mod PlaceLemmas
 pub mod BatchLemmas
+pub mod PairLemmas
 pub mod RowLemmas

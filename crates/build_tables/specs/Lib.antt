@@ -1,6 +1,7 @@
 pub mod Keys
 pub mod Found
 pub mod Names
+pub mod Pairs
 pub mod Departures
 pub mod Facts
 pub mod Batches

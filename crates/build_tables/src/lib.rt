@@ -18,6 +18,7 @@
 
 mod files;
 mod legs;
+mod pairs;
 mod places;
 mod rows;
 mod tables;

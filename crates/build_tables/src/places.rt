@@ -102,6 +102,16 @@ impl<'a> Drop for RowPlaces<'a> {
 }
 
 impl<'a> RowPlaces<'a> {
+    /// Of no rows.
+    pub(crate) fn none(alloc: Global) -> Result<RowPlaces<'a>, NoMem>
+        ensures { IfOk result (λ none. (k : RowKey) → place_in none k ≡ None) }
+    {
+        Ok(RowPlaces {
+            places: IndexMap::with_capacity(alloc, 0)?,
+            apart: true,
+        })
+    }
+
     /// The place of the first row with this key.
     pub(crate) fn place_of(&self, key: Key<'_>) -> Option<usize>
         ensures { result ≡ place_in self.now (key_of_borrowed key.entry) }
@@ -117,7 +127,7 @@ impl<'a> RowPlaces<'a> {
     }
 
     // Puts in the place of a row that stands before those whose places are in. The only error is out of memory.
-    fn put(&mut self, key: Key<'a>, place: usize) -> Result<(), NoMem>
+    pub(crate) fn put(&mut self, key: Key<'a>, place: usize) -> Result<(), NoMem>
         ensures kept { OnOk result ((k : RowKey) → place_in self.new k ≡ (if is_key k (key_of_borrowed key.entry) then Some place else place_in self.old k)) }
         ensures apart { OnOk result (self.new.apart ≡ true → self.old.apart ≡ true) }
         ensures new { OnOk result (self.new.apart ≡ true → place_in self.old (key_of_borrowed key.entry) ≡ None) }

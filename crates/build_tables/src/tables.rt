@@ -1,13 +1,16 @@
 //! The rows of the files, found by their names.
 
-ghost use Rattle.std.specs.Prelude.{◌≡◌, true, IfOk, option_map, find, position, ◌==◌, ◌&&◌, bytes_eq};
-ghost use Rattle.std.specs.List.{flat_map};
+ghost use Rattle.std.specs.Prelude.{◌≡◌, ◌≢◌, ◌<◌, ◌≤◌, true, length, slice_index_or, IfOk, IfSome, option_map, find, position, ◌==◌, ◌&&◌, bytes_eq};
+ghost use Rattle.std.specs.List.{flat_map, AllPairs};
+ghost use Rattle.file_rows.specs.declared.network.AirportRow.{AirportRow};
 ghost use Rattle.build_tables.specs.Keys.{by_name, on_day, between, by_reservation, type_number, AreApart};
 ghost use Rattle.build_tables.specs.Found.{ArePlacesOf};
 ghost use Rattle.build_tables.specs.Names.{flight_named, rotation_place, leg_places, airport_place, aircraft_place, is_between, distance_between};
+ghost use Rattle.build_tables.specs.Pairs.{ArePairPlaces};
 
 use crate::files::Files;
 use crate::legs::leg_places;
+use crate::pairs::{PairPlaces, pair_at, pair_place, pairs_in};
 use crate::places::{Key, RowPlaces, Spelled, places_in};
 use desk_units::{Name, NoMem};
 use file_rows::{DistRow, FlightRow};
@@ -21,14 +24,14 @@ pub struct NameTables<'a> {
     rotations: RowPlaces<'a>,
     aircraft: RowPlaces<'a>,
     airports: RowPlaces<'a>,
-    dist: RowPlaces<'a>,
+    dist: PairPlaces<'a>,
     itineraries: RowPlaces<'a>,
     legs: Vec<Option<usize>>,
     ghost flights_placed: { ArePlacesOf (λ row. by_name row.flight) files.now.flights flights },
     ghost rotations_placed: { ArePlacesOf (λ row. on_day row.flight row.day) files.now.rotations rotations },
     ghost aircraft_placed: { ArePlacesOf (λ row. by_name row.name) files.now.aircraft aircraft },
     ghost airports_placed: { ArePlacesOf (λ row. by_name row.airport) files.now.airports airports },
-    ghost dist_placed: { ArePlacesOf (λ row. between row.origin row.dest) files.now.dist dist },
+    ghost dist_placed: { ArePairPlaces files.now.airports files.now.dist dist },
     ghost itineraries_placed: { ArePlacesOf (λ row. by_reservation row.name row.inbound) files.now.itineraries itineraries },
     ghost itineraries_apart: { itineraries.apart ≡ true → AreApart (λ row. by_reservation row.name row.inbound) files.now.itineraries },
     ghost legs_placed: { legs.items ≡ flat_map (leg_places files.now.rotations) files.now.itineraries },
@@ -76,20 +79,17 @@ fn places_of_legs<'a>(
     Ok((rotations, legs))
 }
 
-/// The places of airports, distances and reservations.
+/// The places of airports and distances.
 fn places_of_network<'a>(
     alloc: Global,
     files: &'a Files,
-) -> Result<(RowPlaces<'a>, RowPlaces<'a>, RowPlaces<'a>), NoMem>
+) -> Result<(RowPlaces<'a>, PairPlaces<'a>), NoMem>
     ensures airports { IfOk result (λ places. ArePlacesOf (λ row. by_name row.airport) files.now.airports places.0) }
-    ensures dist { IfOk result (λ places. ArePlacesOf (λ row. between row.origin row.dest) files.now.dist places.1) }
-    ensures itineraries { IfOk result (λ places. ArePlacesOf (λ row. by_reservation row.name row.inbound) files.now.itineraries places.2) }
-    ensures apart { IfOk result (λ places. places.2.apart ≡ true → AreApart (λ row. by_reservation row.name row.inbound) files.now.itineraries) }
+    ensures dist { IfOk result (λ places. ArePairPlaces files.now.airports files.now.dist places.1) }
 {
     let airports = places_in(alloc, &files.airports)?;
-    let dist = places_in(alloc, &files.dist)?;
-    let itineraries = places_in(alloc, &files.itineraries)?;
-    Ok((airports, dist, itineraries))
+    let dist = pairs_in(alloc, files, &airports)?;
+    Ok((airports, dist))
 }
 
 impl<'a> NameTables<'a> {
@@ -99,7 +99,8 @@ impl<'a> NameTables<'a> {
     {
         let (flights, aircraft) = places_of_fleet(alloc, files)?;
         let (rotations, legs) = places_of_legs(alloc, files)?;
-        let (airports, dist, itineraries) = places_of_network(alloc, files)?;
+        let (airports, dist) = places_of_network(alloc, files)?;
+        let itineraries = places_in(alloc, &files.itineraries)?;
         Ok(NameTables {
             files,
             flights,
@@ -176,8 +177,10 @@ impl<'a> NameTables<'a> {
     fn dist_place(&self, origin: &Name, dest: &Name) -> Option<usize>
         ensures { result ≡ position (is_between origin.now dest.now) self.now.files.now.dist }
     {
-        self.dist
-            .place_of(Key::Between(Spelled::of(origin), Spelled::of(dest)))
+        match pair_at(self.airport_place(origin), self.airport_place(dest)) {
+            Some(pair) => self.dist.place_at(pair),
+            None => self.dist.place_named(origin, dest),
+        }
     }
 
     /// The first row from the one airport to the other.
@@ -196,6 +199,44 @@ impl<'a> NameTables<'a> {
         match self.distance_from(origin, dest) {
             Some(row) => Some(row),
             None => self.distance_from(dest, origin),
+        }
+    }
+    /// The place of the first row from the one airport to the other, by the places of the two.
+    fn dist_place_at(&self, origin: usize, dest: usize) -> Option<usize>
+        requires few { length self.now.files.now.airports ≤ 500 }
+        requires apart { AllPairs (λ a b. a.airport ≢ b.airport) self.now.files.now.airports }
+        requires origin { origin < length self.now.files.now.airports }
+        requires dest { dest < length self.now.files.now.airports }
+        ensures exact { (a b : AirportRow) → result ≡ position (is_between (slice_index_or self.now.files.now.airports origin a).airport (slice_index_or self.now.files.now.airports dest b).airport) self.now.files.now.dist }
+        ensures within { IfSome result (λ place. place < length self.now.files.now.dist) }
+    {
+        self.dist.place_at(pair_place(origin, dest))
+    }
+
+    /// The first row from the one airport to the other, by the places of the two.
+    fn distance_from_at(&self, origin: usize, dest: usize) -> Option<&'a DistRow>
+        requires few { length self.now.files.now.airports ≤ 500 }
+        requires apart { AllPairs (λ a b. a.airport ≢ b.airport) self.now.files.now.airports }
+        requires origin { origin < length self.now.files.now.airports }
+        requires dest { dest < length self.now.files.now.airports }
+        ensures { (a b : AirportRow) → option_map (λ row. row.now) result ≡ find (is_between (slice_index_or self.now.files.now.airports origin a).airport (slice_index_or self.now.files.now.airports dest b).airport) self.now.files.now.dist }
+    {
+        let place = self.dist_place_at(origin, dest)?;
+        Some(&self.files.dist.as_slice()[place])
+    }
+
+    /// The distance between two airports, by their places: the first row from the one to the other, else the
+    /// first row the other way. No name is looked up.
+    pub fn distance_at(&self, origin: usize, dest: usize) -> Option<&'a DistRow>
+        requires few { length self.now.files.now.airports ≤ 500 }
+        requires apart { AllPairs (λ a b. a.airport ≢ b.airport) self.now.files.now.airports }
+        requires origin { origin < length self.now.files.now.airports }
+        requires dest { dest < length self.now.files.now.airports }
+        ensures { (a b : AirportRow) → option_map (λ row. row.now) result ≡ distance_between self.now.files.now.dist (slice_index_or self.now.files.now.airports origin a).airport (slice_index_or self.now.files.now.airports dest b).airport }
+    {
+        match self.distance_from_at(origin, dest) {
+            Some(row) => Some(row),
+            None => self.distance_from_at(dest, origin),
         }
     }
 }

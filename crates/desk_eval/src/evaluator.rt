@@ -7,7 +7,7 @@ ghost use Rattle.desk_eval.specs.Asked.{AreBooked};
 use crate::boards::Boards;
 use crate::change::{change_groups, change_row};
 use board_kit::Board;
-use day_notes::{NotedDay, Notes};
+use day_notes::{NotedDay, Notes, UnitNotes};
 use desk_data::{
     Airport, Broken, Cabin, Grains, Group, Instance, Leg, NoMem, Plan, Plane, Res, Row, Steps,
 };
@@ -74,6 +74,7 @@ impl Evaluator {
     ghost use Rattle.desk_eval.specs.Asked.{keeps_paths};
     ghost use Rattle.leg_users.specs.Users.{is_booked_on};
     ghost use Rattle.day_notes.specs.Notes.{AreNotes};
+    ghost use Rattle.unit_notes.specs.Notes.{AreUnitNotes};
     ghost use Rattle.desk_eval.specs.Boards.{AreBoardsOf};
     ghost use Rattle.desk_eval.specs.Evaluated.{after_change, row_reads, group_reads};
 
@@ -102,7 +103,7 @@ impl Evaluator {
     /// The evaluator of another plan of the same day, which may have gone on and have more orders, with an
     /// empty past. The plan is handed in, and one for the instance that is handed in. What depends on the rows
     /// of the day alone is shared, and so are the pages on which both plans have the same. The only error is out of
-    /// memory, after which the plan is given up.
+    /// memory, told where too many share a page or the day, too; after it the plan is given up.
     pub fn of_same_day(&self, alloc: Global, inst: Instance, plan: Plan) -> Result<Evaluator, NoMem>
         requires day { inst.parts ≡ self.now.inst.parts }
         requires plan { IsPlanFor inst plan }
@@ -261,7 +262,7 @@ impl Evaluator {
 
     /// An evaluator of the same instance and plan, with an empty past. The pages of the plan are shared and the
     /// boards are copied as they stand, so that nothing is judged and no row is read. The only error is out of
-    /// memory; that too many share a page already is told as that.
+    /// memory, told where too many share a page or the day, too.
     pub fn copy(&self, alloc: Global) -> Result<Evaluator, NoMem>
         ensures { IfOk result (λ copy. copy ≡ record self.now { past = [] }) }
     {
@@ -294,7 +295,7 @@ impl Evaluator {
         self.past.clear();
     }
 
-    /// Hands out what a search noted of the day, at the plan at which it did, and keeps none of it. An evaluator that
+    /// Hands out what a search noted of rebookings, at the plan at which it did, and keeps none of it. An evaluator that
     /// was just made has nothing noted, and no change of the plan touches what is.
     pub fn take_notes(&mut self) -> Option<Notes>
         ensures notes { IfSome result (AreNotes self.old.inst) }
@@ -303,12 +304,28 @@ impl Evaluator {
         self.inst.take_notes()
     }
 
-    /// Keeps notes of the day, in the place of those that it has. They may be of any plan for it.
+    /// Keeps notes of rebookings, in the place of those that it has. They may be of any plan for the day.
     pub fn put_notes(&mut self, notes: Notes)
         requires { AreNotes self.old.inst notes }
         ensures { self.new ≡ self.old }
     {
         self.inst.put_notes(notes);
+    }
+
+    /// Hands out what a search noted of units of legs, as `take_notes` does with what it noted of rebookings.
+    pub fn take_unit_notes(&mut self) -> Option<UnitNotes>
+        ensures notes { IfSome result (AreUnitNotes self.old.inst) }
+        ensures same { self.new ≡ self.old }
+    {
+        self.inst.take_unit_notes()
+    }
+
+    /// Keeps notes of units of legs, in the place of those that it has. They may be of any plan for the day.
+    pub fn put_unit_notes(&mut self, notes: UnitNotes)
+        requires { AreUnitNotes self.old.inst notes }
+        ensures { self.new ≡ self.old }
+    {
+        self.inst.put_unit_notes(notes);
     }
 
     /// The legs that an aircraft flies, in their order. No others are walked over. The only error is out of

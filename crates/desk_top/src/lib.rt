@@ -10,8 +10,8 @@
 //! these put the line that says why a run was
 //! not done.
 //!
-//! Its runs are in `desk_rows`, as files, and what a file cannot say of them is in `desk_tests`. It depends on the
-//! crates of the commands; the program `desk`, `desk_rows` and `desk_tests` depend on it.
+//! Its runs are in `desk_rows`, as files. It depends on the crates of the commands; the program `desk` and `desk_rows`
+//! depend on it.
 #![tactic(auto)]
 
 mod day;

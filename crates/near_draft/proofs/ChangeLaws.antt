@@ -23,6 +23,10 @@ pub changes-push : (I : Situation) (P : PlanRows) (changes : List Change) (chang
 changes-push I P [] change are is = (is, tt)
 changes-push I P (first ∷ changes) change are is = (are.0, changes-push I (changed P first) changes change are.1 is)
 
+pub drafted-push : (P : PlanRows) (changes : List Change) (change : Change) → drafted P (changes ++ change ∷ []) ≡ changed (drafted P changes) change
+drafted-push P [] change = refl
+drafted-push P (first ∷ changes) change = drafted-push (changed P first) changes change
+
 -- each change is one of the plan that those before it made
 pub changes-at : (I : Situation) (P : PlanRows) (changes : List Change) (i : ℕ) → AreChanges I P changes → i < length changes → IsChange I (drafted P (take i changes)) (get_or changes i no_change)
 changes-at I P [] i are lt = absurd (omega (arith, lt))

@@ -28,14 +28,14 @@ use Rattle.near_draft.proofs.ChangeLaws.{no_change}
 -- ---- legs that are flown as before
 
 -- whether leg x has a change
-abbrev is_changed : List Change → ℕ → Bool
+abbrev pub is_changed : List Change → ℕ → Bool
 is_changed changes x = list_any (λ (change : Change). eqb change.leg.0 x) changes
 
 or-none : (a b : Bool) → (a || b) ≡ false → (a ≡ false) × (b ≡ false)
 or-none true b none = absurd cc
 or-none false b none = (refl, none)
 
-unchanged-row : (P : PlanRows) (changes : List Change) (x : ℕ) → is_changed changes x ≡ false → row_at (drafted P changes) x ≡ row_at P x
+pub unchanged-row : (P : PlanRows) (changes : List Change) (x : ℕ) → is_changed changes x ≡ false → row_at (drafted P changes) x ≡ row_at P x
 unchanged-row P [] x none = refl
 unchanged-row P (change ∷ changes) x none =
     let parts = or-none (eqb change.leg.0 x) (is_changed changes x) none in
@@ -43,12 +43,12 @@ unchanged-row P (change ∷ changes) x none =
     ∙ get_or-set_other P.rows change.leg.0 x change.row Cancelled (λ same. true≢false (sym (eq-eqb change.leg.0 x (sym same)) ∙ parts.0))
 
 -- where it has one
-record ChangedAt (changes : List Change) (x : ℕ) : Type 0 where
-  place : ℕ
-  within : place < length changes
-  is : (get_or changes place no_change).leg.0 ≡ x
+pub record ChangedAt (changes : List Change) (x : ℕ) : Type 0 where
+  pub place : ℕ
+  pub within : place < length changes
+  pub is : (get_or changes place no_change).leg.0 ≡ x
 
-changed-at : (changes : List Change) (x : ℕ) → is_changed changes x ≡ true → ChangedAt changes x
+pub changed-at : (changes : List Change) (x : ℕ) → is_changed changes x ≡ true → ChangedAt changes x
 changed-at [] x some = absurd cc
 changed-at (change ∷ changes) x some =
     elim (cases_Bool (eqb change.leg.0 x)) [
@@ -141,6 +141,10 @@ in-order I P p legs are next =
     same_legs P legs (rotation I P p) (ordered P legs next) (rotation-ordered I P p)
     (λ z has. let one = All-contains (λ x. (x < legs_of I) × (flies P p x ≡ true)) legs z are.flown has in rotation-each I P p z one.0 one.1)
     (λ z has. let one = All-contains (λ x. (x < legs_of I) × (flies P p x ≡ true)) (rotation I P p) z (rotation-flown I P p) has in are.each z one.0 one.1)
+
+-- those that stand in their order are the legs of the aircraft
+pub rotation-legs : (I : Situation) (P : PlanRows) (p : ℕ) (legs : List ℕ) → legs ≡ rotation I P p → AreLegsOf I P p legs
+rotation-legs I P p legs is = subst (AreLegsOf I P p) (sym is) (record { flown = rotation-flown I P p; each = rotation-each I P p })
 
 -- ---- the legs of two aircraft
 

@@ -1,5 +1,7 @@
 pub mod ChangeLaws
 mod HourLaws
 mod LegLaws
-mod RuleLaws
+mod KeptLaws
+mod MarkLaws
+pub mod RuleLaws
 pub mod BreakLaws

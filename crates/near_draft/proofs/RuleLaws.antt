@@ -22,7 +22,7 @@ use Rattle.plan_reads.specs.Before.{IsNearest, IsLegBefore}
 use Rattle.desk_model.specs.Push.{rotation}
 use Rattle.desk_model.proofs.RotationOrder.{flown_once, precedes-trans, precedes-itself, rotation-ordered, rotation-flown, rotation-each}
 use Rattle.near_trial.specs.RowRules.{BreaksRows}
-use Rattle.near_draft.specs.LegRules.{IsLeft, keeps_leg_rules, leg_rules_after}
+use Rattle.near_draft.specs.LegRules.{BreaksOf, IsLeft, keeps_leg_rules, leg_rules_after}
 
 -- leg z stands before place k
 record IsPlacedBefore (legs : List ℕ) (k z : ℕ) : Type 0 where
@@ -148,3 +148,7 @@ leg-breaks I P leg within fails =
         ]
       ]
     ]
+
+-- a plan breaks an item where an aircraft flies a leg that breaks a rule
+pub of-breaks : (I : Situation) (P : PlanRows) (p : ℕ) → BreaksOf I P p → BreaksRows I P
+of-breaks I P p is = leg-breaks I P (record { 0 = is.leg }) is.within is.broken

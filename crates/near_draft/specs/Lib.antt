@@ -3,4 +3,5 @@ pub use Rattle.near_trial.specs.RowRules
 pub mod Drafts
 pub mod Hours
 pub mod Legs
+pub mod Kept
 pub mod LegRules

@@ -1,15 +1,18 @@
 //! A draft: the plan of an evaluator with other rows, which the evaluator does not see.
 
 ghost use Rattle.std.specs.Prelude.{◌≡◌, ◌<◌, [], All, OnOk, true};
+ghost use Rattle.std.specs.Option.{ForSome};
 ghost use Rattle.desk_data.specs.Situation.{legs_of, planes_of};
 ghost use Rattle.desk_data.specs.PlanRows.{row_at, with_row};
 ghost use Rattle.desk_data.specs.Valid.{IsPlanFor, IsRowOf};
 ghost use Rattle.near_draft.specs.Drafts.{AreChanges, plan_of};
+ghost use Rattle.near_draft.specs.Legs.{AreLegsOf, numbers_of};
 
 use crate::change::Change;
 use crate::hours::beside_after;
-use crate::rows::row_after;
-use desk_data::{Airport, Group, Instance, Leg, NoMem, Res, Row};
+use crate::kept::{PlaneLegs, kept_legs, let_go};
+use crate::rows::{MARKS, row_after};
+use desk_data::{Airport, Group, Instance, Leg, NoMem, Plane, Res, Row};
 use desk_eval::Evaluator;
 use hour_counts::{KnowsHours, Movement};
 use plan_reads::ReadPlan;
@@ -22,6 +25,9 @@ use std::marker::Model;
 pub struct Draft<'a> {
     eval: &'a Evaluator,
     changes: Vec<Change>,
+    marks: [bool; MARKS],
+    /// The legs of some aircraft in this draft.
+    lists: Vec<PlaneLegs>,
 }
 
 /// Dropped in one call, so that a function that owns one proves it once, and not part by part.
@@ -30,18 +36,21 @@ impl<'a> Drop for Draft<'a> {
         let Draft {
             eval: _,
             changes: _,
+            marks: _,
+            lists: _,
         } = self;
     }
 }
 
 impl<'a> Model for Draft<'a> {
-    ghost use Rattle.near_draft.specs.Drafts.{AreChanges, Drafted};
+    ghost use Rattle.near_draft.specs.Drafts.{Drafted};
+    ghost use Rattle.near_draft.specs.Kept.{AreDrafted};
 
     ghost Value = { Drafted };
 
     ghost view = { λ d. record { inst = d.eval.now.inst; rows = d.eval.now.rows; changes = d.changes.items } };
 
-    ghost invariant = { λ d. AreChanges d.eval.now.inst d.eval.now.rows d.changes.items };
+    ghost invariant = { λ d. AreDrafted d.eval.now.inst d.eval.now.rows d.changes.items d.marks d.lists.items };
 }
 
 impl<'a> Draft<'a> {
@@ -52,6 +61,8 @@ impl<'a> Draft<'a> {
         Draft {
             eval,
             changes: Vec::new(alloc),
+            marks: [false; MARKS],
+            lists: Vec::new(alloc),
         }
     }
 
@@ -81,7 +92,7 @@ impl<'a> Draft<'a> {
         ensures row { result ≡ row_at (plan_of self.now) leg.0 }
         ensures fits { IsRowOf (planes_of self.now.inst) result }
     {
-        row_after(self.eval, self.changes.as_slice(), leg)
+        row_after(self.eval, self.changes.as_slice(), &self.marks, leg)
     }
 
     /// Whether a leg has the row that it has in the evaluator's plan.
@@ -103,10 +114,29 @@ impl<'a> Draft<'a> {
         ensures inst { self.new.inst ≡ self.old.inst }
         ensures rows { self.new.rows ≡ self.old.rows }
     {
-        let was = row_after(self.eval, self.changes.as_slice(), leg);
+        let was = row_after(self.eval, self.changes.as_slice(), &self.marks, leg);
         if was != row {
             self.changes.push(Change { leg, was, row })?;
+            self.marks[leg.0 as usize % MARKS] = true;
+            let_go(&mut self.lists, was, row);
         }
+        Ok(())
+    }
+
+    /// The legs that an aircraft flies, in some order, where they are kept.
+    pub(crate) fn kept(&self, plane: Plane) -> Option<&[Leg]>
+        ensures legs { ForSome result (λ legs. AreLegsOf self.now.inst (plan_of self.now) plane.0 (numbers_of legs.now)) }
+        ensures within { ForSome result (λ legs. All (λ leg. leg.0 < legs_of self.now.inst) legs.now) }
+    {
+        kept_legs(self.lists.as_slice(), plane)
+    }
+
+    /// Keeps the legs that an aircraft flies. The only error is out of memory.
+    pub(crate) fn keep(&mut self, plane: Plane, legs: Vec<Leg>) -> Result<(), NoMem>
+        requires { AreLegsOf self.old.inst (plan_of self.old) plane.0 (numbers_of legs.items) }
+        ensures { self.new ≡ self.old }
+    {
+        self.lists.push(PlaneLegs { plane, legs })?;
         Ok(())
     }
 }
@@ -119,7 +149,7 @@ impl<'a> ReadPlan for Draft<'a> {
     fn read_row(&self, leg: Leg) -> Row {
         // there are as many rows as legs
         let _ = self.eval.plan();
-        row_after(self.eval, self.changes.as_slice(), leg)
+        row_after(self.eval, self.changes.as_slice(), &self.marks, leg)
     }
 
     fn groups(&self, res: Res) -> &[Group] {

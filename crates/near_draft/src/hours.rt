@@ -1,7 +1,7 @@
 //! The hours of airports after some changes.
 
-ghost use Rattle.std.specs.Prelude.{◌≡◌, ◌<◌};
-ghost use Rattle.desk_data.specs.Situation.{legs_of, planes_of};
+ghost use Rattle.std.specs.Prelude.{◌≡◌, ◌<◌, ◌≤◌, ◌+◌, ◌-◌, ℕ, true, false};
+ghost use Rattle.desk_data.specs.Situation.{Situation, legs_of, planes_of};
 ghost use Rattle.desk_data.specs.Valid.{IsRowOf};
 ghost use Rattle.near_draft.specs.Drafts.{AreChanges, drafted};
 ghost use Rattle.hour_counts.specs.Counts.{one_if};
@@ -33,9 +33,7 @@ pub(crate) fn beside_after(
     let mut count = beside(eval, movement, leg, airport, hour);
     for change in changes {
         if change.leg.0 != leg.0 {
-            let come = counted_at(inst, movement, change.leg, change.row, airport, hour);
-            let gone = counted_at(inst, movement, change.leg, change.was, airport, hour);
-            count = (count + come).saturating_sub(gone);
+            count = after_change(inst, movement, change, airport, hour, count);
         }
     }
     count
@@ -51,6 +49,53 @@ fn beside(eval: &Evaluator, movement: Movement, leg: Leg, airport: Airport, hour
     match movement {
         Movement::Departure => eval.departures_beside(inst, leg, row, airport, hour),
         Movement::Arrival => eval.arrivals_beside(inst, leg, row, airport, hour),
+    }
+}
+
+/// How many legs depart from an airport in an hour after a change, or arrive there, given how many do before it.
+fn after_change(
+    inst: &Instance,
+    movement: Movement,
+    change: &Change,
+    airport: Airport,
+    hour: u32,
+    count: u32,
+) -> u32
+    requires leg { change.now.leg.0 < legs_of inst.now }
+    requires row { IsRowOf (planes_of inst.now) change.now.row }
+    requires was { IsRowOf (planes_of inst.now) change.now.was }
+    requires few { count ≤ 20000 }
+    ensures { result ≡ (count + one_if (is_counted_at movement inst.now airport.0 hour change.now.leg.0 change.now.row)) - one_if (is_counted_at movement inst.now airport.0 hour change.now.leg.0 change.now.was) }
+{
+    if have_one_departure(change.was, change.row)
+        || is_elsewhere(inst, movement, change.leg, airport)
+    {
+        return count;
+    }
+    let come = counted_at(inst, movement, change.leg, change.row, airport, hour);
+    let gone = counted_at(inst, movement, change.leg, change.was, airport, hour);
+    (count + come).saturating_sub(gone)
+}
+
+/// Whether a leg with either of two rows is flown, and departs at the same moment.
+fn have_one_departure(row: Row, other: Row) -> bool
+    ensures { result ≡ true → (m : Movement) (I : Situation) (a h y : ℕ) → is_counted_at m I a h y row ≡ is_counted_at m I a h y other }
+{
+    match (row, other) {
+        (Row::Flown { dep, .. }, Row::Flown { dep: at, .. }) => dep.0 == at.0,
+        _ => false,
+    }
+}
+
+/// Whether a leg departs from another airport, or arrives at another one: then it is not counted there with any row.
+fn is_elsewhere(inst: &Instance, movement: Movement, leg: Leg, airport: Airport) -> bool
+    requires { leg.0 < legs_of inst.now }
+    ensures { result ≡ true → (h : ℕ) (row : Row) → is_counted_at movement inst.now airport.0 h leg.0 row ≡ false }
+{
+    let info = inst.leg(leg);
+    match movement {
+        Movement::Departure => info.origin.0 != airport.0,
+        Movement::Arrival => info.dest.0 != airport.0,
     }
 }
 

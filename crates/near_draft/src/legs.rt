@@ -2,6 +2,7 @@
 
 ghost use Rattle.std.specs.Prelude.{◌≡◌, ◌<◌, ◌≤◌, true, ℕ, filter, length, All, IfOk, OnOk};
 ghost use Rattle.std.specs.List.{Contains};
+ghost use Rattle.std.specs.Option.{ForSome};
 ghost use Rattle.desk_data.specs.Situation.{Situation, legs_of, planes_of};
 ghost use Rattle.desk_rules.specs.Maintenance.{flies};
 ghost use Rattle.desk_rules.specs.Rotations.{comes_before, is_earlier, precedes};
@@ -24,6 +25,18 @@ pub fn legs_of_plane(alloc: Global, draft: &Draft, plane: Plane) -> Result<Vec<L
     ensures legs { IfOk result (λ legs. AreLegsOf draft.now.inst (plan_of draft.now) plane.0 (numbers_of legs.items)) }
     ensures within { IfOk result (λ legs. All (λ leg. leg.0 < legs_of draft.now.inst) legs.items) }
 {
+    match draft.kept(plane) {
+        Some(legs) => Ok(legs.to_vec(alloc)?),
+        None => find_legs(alloc, draft, plane),
+    }
+}
+
+/// The same where they are not kept.
+fn find_legs(alloc: Global, draft: &Draft, plane: Plane) -> Result<Vec<Leg>, NoMem>
+    requires { plane.0 < planes_of draft.now.inst }
+    ensures legs { IfOk result (λ legs. AreLegsOf draft.now.inst (plan_of draft.now) plane.0 (numbers_of legs.items)) }
+    ensures within { IfOk result (λ legs. All (λ leg. leg.0 < legs_of draft.now.inst) legs.items) }
+{
     let own = draft.eval().rotation(alloc, plane)?;
     let mut legs = kept(alloc, draft, plane, own.as_slice())?;
     let changes = draft.changes();
@@ -31,6 +44,46 @@ pub fn legs_of_plane(alloc: Global, draft: &Draft, plane: Plane) -> Result<Vec<L
         add_leg(draft, plane, change.leg, &mut legs)?;
     }
     Ok(legs)
+}
+
+/// The legs of an aircraft in their order; `None` where that is not known, or they are more than 64. The only error is out
+/// of memory.
+pub(crate) fn legs_in_order(
+    alloc: Global,
+    draft: &Draft,
+    plane: Plane,
+) -> Result<Option<Vec<Leg>>, NoMem>
+    requires { plane.0 < planes_of draft.now.inst }
+    ensures order { IfOk result (λ all. ForSome all (λ legs. numbers_of legs.items ≡ rotation draft.now.inst (plan_of draft.now) plane.0)) }
+    ensures within { IfOk result (λ all. ForSome all (λ legs. All (λ leg. leg.0 < legs_of draft.now.inst) legs.items)) }
+{
+    let Some(legs) = all_in_order(alloc, draft, plane)? else {
+        return Ok(None);
+    };
+    if MOST_LEGS < legs.len() {
+        return Ok(None);
+    }
+    Ok(Some(legs))
+}
+
+/// The same of any number. Where there is no change, the evaluator knows the order.
+fn all_in_order(alloc: Global, draft: &Draft, plane: Plane) -> Result<Option<Vec<Leg>>, NoMem>
+    requires { plane.0 < planes_of draft.now.inst }
+    ensures order { IfOk result (λ all. ForSome all (λ legs. numbers_of legs.items ≡ rotation draft.now.inst (plan_of draft.now) plane.0)) }
+    ensures within { IfOk result (λ all. ForSome all (λ legs. All (λ leg. leg.0 < legs_of draft.now.inst) legs.items)) }
+{
+    // there are as many rows as legs
+    let eval = draft.eval();
+    if draft.changes().is_empty() {
+        let legs = eval.rotation(alloc, plane)?;
+        return Ok(Some(legs));
+    }
+    let legs = legs_of_plane(alloc, draft, plane)?;
+    if are_in_order(draft, legs.as_slice()) {
+        Ok(Some(legs))
+    } else {
+        Ok(None)
+    }
 }
 
 /// Those of some legs that an aircraft flies in a draft.
@@ -47,8 +100,8 @@ fn kept(alloc: Global, draft: &Draft, plane: Plane, legs: &[Leg]) -> Result<Vec<
     Ok(kept)
 }
 
-/// Puts a leg among those of an aircraft, if it flies it in a draft and it is not among them: before the first that
-/// departs later.
+/// Puts a leg among those of an aircraft, if it flies it in a draft and it is not among them: behind the last that
+/// departs before it.
 fn add_leg(draft: &Draft, plane: Plane, leg: Leg, legs: &mut Vec<Leg>) -> Result<(), NoMem>
     requires leg { leg.0 < legs_of draft.now.inst }
     requires within { All (λ leg. leg.0 < legs_of draft.now.inst) legs.old.items }
@@ -83,19 +136,22 @@ pub(crate) fn has(legs: &[Leg], leg: Leg) -> bool
     legs.iter().any(|other| other.0 == leg.0)
 }
 
-/// Where the first of some legs stands that departs after a leg, or else behind the last.
+/// Behind the last of some legs that departs before a leg, or else before the first.
 fn place_of(draft: &Draft, legs: &[Leg], leg: Leg) -> usize
     requires leg { leg.0 < legs_of draft.now.inst }
     requires within { All (λ leg. leg.0 < legs_of draft.now.inst) legs.now }
     ensures { result ≤ length legs.now }
 {
     let row = draft.row(leg);
-    for k in 0..legs.len() {
-        if comes_before(leg, row, legs[k], draft.row(legs[k])) {
-            return k;
+    let mut place = legs.len();
+    while place > 0 {
+        let other = legs[place - 1];
+        if comes_before(other, draft.row(other), leg, row) {
+            return place;
         }
+        place -= 1;
     }
-    legs.len()
+    0
 }
 
 /// Whether the legs of an aircraft stand in their order.
@@ -103,10 +159,16 @@ pub(crate) fn are_in_order<P: ReadPlan>(plan: &P, legs: &[Leg]) -> bool
     requires within { All (λ leg. leg.0 < length (P.plan_of plan.now).rows) legs.now }
     ensures { (I : Situation) (p : ℕ) → AreLegsOf I (P.plan_of plan.now) p (numbers_of legs.now) → result ≡ true → numbers_of legs.now ≡ rotation I (P.plan_of plan.now) p }
 {
+    if legs.is_empty() {
+        return true;
+    }
+    let mut row = plan.read_row(legs[0]);
     for k in 1..legs.len() {
-        if !precedes(plan, legs[k - 1], legs[k]) {
+        let next_row = plan.read_row(legs[k]);
+        if !comes_before(legs[k - 1], row, legs[k], next_row) {
             return false;
         }
+        row = next_row;
     }
     true
 }

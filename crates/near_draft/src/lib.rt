@@ -19,6 +19,7 @@ mod change;
 mod changed;
 mod draft;
 mod hours;
+mod kept;
 mod laws;
 mod legs;
 mod moves;

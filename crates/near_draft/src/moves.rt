@@ -1,19 +1,21 @@
 //! The drafts of moves, and whether the rows that they make break a rule.
 
-ghost use Rattle.std.specs.Prelude.{◌≡◌, ◌<◌, ◌≤◌, true, length, All, IfOk};
+ghost use Rattle.std.specs.Prelude.{◌≡◌, ◌<◌, ◌≤◌, ℕ, true, length, All, IfOk};
 ghost use Rattle.plan_moves.specs.Fits.{Fits, StepFits};
 ghost use Rattle.std.specs.List.{list_all};
 ghost use Rattle.std.specs.Option.{ForSome};
-ghost use Rattle.desk_data.specs.Situation.{planes_of};
-ghost use Rattle.near_trial.specs.RowRules.{BreaksRows, keeps_rows};
+ghost use Rattle.desk_data.specs.Situation.{legs_of, planes_of};
+ghost use Rattle.near_trial.specs.RowRules.{keeps_rows};
 ghost use Rattle.desk_model.specs.Steps.{after_steps};
 ghost use Rattle.near_draft.specs.Drafts.{IsDraftOf, plan_of};
+ghost use Rattle.near_draft.specs.LegRules.{BreaksOf, BreaksPushed};
+ghost use Rattle.near_draft.specs.Legs.{AreLegsOf, numbers_of};
 
 use crate::draft::Draft;
 use crate::legs::{are_in_order, legs_of_plane};
 use crate::rules::break_leg_rules;
 use crate::steps::take_step;
-use desk_data::{NoMem, Plane};
+use desk_data::{Leg, NoMem, Plane};
 use desk_eval::Evaluator;
 use near_trial::keeps_rows;
 use plan_moves::{Move, Step};
@@ -46,7 +48,7 @@ pub fn draft_of<'a>(
 /// of C4 to C7 there. Where it says no, nothing is known. The only error is out of memory.
 pub fn breaks_rule(alloc: Global, draft: &Draft, m: &Move) -> Result<bool, NoMem>
     requires { Fits draft.now.inst m.now }
-    ensures { IfOk result (λ breaks. breaks ≡ true → BreaksRows draft.now.inst (plan_of draft.now)) }
+    ensures { IfOk result (λ breaks. breaks ≡ true → BreaksPushed draft.now.inst (plan_of draft.now) m.now.steps) }
 {
     breaks_rows(alloc, draft, m.steps.as_slice())
 }
@@ -87,7 +89,7 @@ fn take_steps(alloc: Global, draft: &mut Draft, steps: &[Step]) -> Result<bool, 
 /// Whether an aircraft that is pushed has a leg that breaks a rule.
 fn breaks_rows(alloc: Global, draft: &Draft, steps: &[Step]) -> Result<bool, NoMem>
     requires { All (StepFits draft.now.inst) steps.now }
-    ensures { IfOk result (λ breaks. breaks ≡ true → BreaksRows draft.now.inst (plan_of draft.now)) }
+    ensures { IfOk result (λ breaks. breaks ≡ true → BreaksPushed draft.now.inst (plan_of draft.now) steps.now) }
 {
     for step in steps {
         if let Step::Push { plane, .. } = step {
@@ -102,10 +104,22 @@ fn breaks_rows(alloc: Global, draft: &Draft, steps: &[Step]) -> Result<bool, NoM
 /// Whether an aircraft has a leg that breaks a rule.
 fn plane_breaks_rows(alloc: Global, draft: &Draft, plane: Plane) -> Result<bool, NoMem>
     requires { plane.0 < planes_of draft.now.inst }
-    ensures { IfOk result (λ breaks. breaks ≡ true → BreaksRows draft.now.inst (plan_of draft.now)) }
+    ensures { IfOk result (λ breaks. breaks ≡ true → BreaksOf draft.now.inst (plan_of draft.now) plane.0) }
 {
-    let legs = legs_of_plane(alloc, draft, plane)?;
-    let order = legs.as_slice();
+    match draft.kept(plane) {
+        Some(legs) => Ok(break_rules(draft, legs)),
+        None => {
+            let legs = legs_of_plane(alloc, draft, plane)?;
+            Ok(break_rules(draft, legs.as_slice()))
+        }
+    }
+}
+
+/// Whether one of the legs of an aircraft does, which are handed in, in whatever order.
+fn break_rules(draft: &Draft, legs: &[Leg]) -> bool
+    requires { All (λ leg. leg.0 < legs_of draft.now.inst) legs.now }
+    ensures { (p : ℕ) → AreLegsOf draft.now.inst (plan_of draft.now) p (numbers_of legs.now) → result ≡ true → BreaksOf draft.now.inst (plan_of draft.now) p }
+{
     let inst = draft.eval().instance();
-    Ok(are_in_order(draft, order) && break_leg_rules(inst, draft, order))
+    are_in_order(draft, legs) && break_leg_rules(inst, draft, legs)
 }

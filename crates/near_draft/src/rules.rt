@@ -6,9 +6,8 @@ ghost use Rattle.desk_data.specs.Situation.{legs_of, planes_of};
 ghost use Rattle.desk_data.specs.Valid.{IsPlanFor, IsRowOf};
 ghost use Rattle.desk_model.specs.Push.{rotation};
 ghost use Rattle.plan_reads.specs.AfterLeg.{IsRotationLegOf};
-ghost use Rattle.near_trial.specs.RowRules.{BreaksRows};
 ghost use Rattle.near_draft.specs.Legs.{numbers_of};
-ghost use Rattle.near_draft.specs.LegRules.{IsLeft, leg_rules_after};
+ghost use Rattle.near_draft.specs.LegRules.{BreaksOf, IsLeft, leg_rules_after};
 
 use desk_data::{Instance, Leg, Row};
 use plan_reads::{
@@ -21,7 +20,7 @@ use plan_reads::{
 pub(crate) fn break_leg_rules<P: ReadPlan>(inst: &Instance, plan: &P, legs: &[Leg]) -> bool
     requires plan { IsPlanFor inst.now (P.plan_of plan.now) }
     requires within { All (λ leg. leg.0 < legs_of inst.now) legs.now }
-    ensures { (p : ℕ) → numbers_of legs.now ≡ rotation inst.now (P.plan_of plan.now) p → result ≡ true → BreaksRows inst.now (P.plan_of plan.now) }
+    ensures { (p : ℕ) → numbers_of legs.now ≡ rotation inst.now (P.plan_of plan.now) p → result ≡ true → BreaksOf inst.now (P.plan_of plan.now) p }
 {
     for k in 0..legs.len() {
         if breaks_leg_rules(inst, plan, legs, k) {
@@ -36,7 +35,7 @@ fn breaks_leg_rules<P: ReadPlan>(inst: &Instance, plan: &P, legs: &[Leg], k: usi
     requires plan { IsPlanFor inst.now (P.plan_of plan.now) }
     requires within { All (λ leg. leg.0 < legs_of inst.now) legs.now }
     requires place { k < length legs.now }
-    ensures { (p : ℕ) → numbers_of legs.now ≡ rotation inst.now (P.plan_of plan.now) p → result ≡ true → BreaksRows inst.now (P.plan_of plan.now) }
+    ensures { (p : ℕ) → numbers_of legs.now ≡ rotation inst.now (P.plan_of plan.now) p → result ≡ true → BreaksOf inst.now (P.plan_of plan.now) p }
 {
     // there are as many rows as legs
     let _ = inst.legs();

@@ -13,7 +13,7 @@ ghost use Rattle.plan_push.specs.Placings.{AreLegs, IsPlacing};
 ghost use Rattle.near_draft.specs.Drafts.{plan_of};
 
 use crate::draft::Draft;
-use crate::legs::{MOST_LEGS, are_in_order, legs_of_plane};
+use crate::legs::legs_in_order;
 use crate::swap::{Exchange, swap_step};
 use desk_data::{Leg, NoMem, Plane, Row};
 use plan_moves::Step;
@@ -71,16 +71,12 @@ fn push_step(
     ensures inst { draft.new.inst ≡ draft.old.inst }
     ensures rows { draft.new.rows ≡ draft.old.rows }
 {
-    let legs = legs_of_plane(alloc, draft, plane)?;
-    let order = legs.as_slice();
-    if order.len() > MOST_LEGS {
+    let Some(order) = legs_in_order(alloc, &*draft, plane)? else {
         return Ok(false);
-    }
+    };
     let inst = draft.eval().instance();
-    if !are_in_order(&*draft, order) {
-        return Ok(false);
-    }
-    let all = placings(alloc, inst, &*draft, order, after)?;
+    let all = placings(alloc, inst, &*draft, order.as_slice(), after)?;
+    draft.keep(plane, order)?;
     for placing in &all {
         place(draft, plane, placing)?;
     }

@@ -6,13 +6,11 @@ ghost use Rattle.desk_data.specs.Situation.{legs_of, planes_of};
 ghost use Rattle.desk_data.specs.PlanRows.{row_at, with_row};
 ghost use Rattle.desk_data.specs.Valid.{IsRowOf};
 ghost use Rattle.desk_model.specs.Swap.{after_swap, other_plane, row_after_swap};
-ghost use Rattle.desk_model.specs.Push.{rotation};
 ghost use Rattle.desk_moves.specs.Swapped.{legs_of_both};
 ghost use Rattle.near_draft.specs.Drafts.{plan_of};
-ghost use Rattle.near_draft.specs.Legs.{numbers_of};
 
 use crate::draft::Draft;
-use crate::legs::{MOST_LEGS, are_in_order, legs_of_plane};
+use crate::legs::legs_in_order;
 use desk_data::{Leg, Minute, NoMem, Plane, Row};
 use std::alloc::Global;
 
@@ -62,24 +60,6 @@ fn legs_of_both(alloc: Global, draft: &Draft, exchange: Exchange) -> Result<Opti
     };
     legs.extend_from_slice(others.as_slice())?;
     Ok(Some(legs))
-}
-
-/// The legs of an aircraft in their order; `None` where that is not known, or they are more than 64.
-fn legs_in_order(alloc: Global, draft: &Draft, plane: Plane) -> Result<Option<Vec<Leg>>, NoMem>
-    requires { plane.0 < planes_of draft.now.inst }
-    ensures { IfOk result (λ all. ForSome all (λ legs. numbers_of legs.items ≡ rotation draft.now.inst (plan_of draft.now) plane.0)) }
-{
-    // there are as many rows as legs
-    let _ = draft.eval();
-    let legs = legs_of_plane(alloc, draft, plane)?;
-    if MOST_LEGS < legs.len() {
-        return Ok(None);
-    }
-    if are_in_order(draft, legs.as_slice()) {
-        Ok(Some(legs))
-    } else {
-        Ok(None)
-    }
 }
 
 /// Gives a leg its row after the swap.

@@ -1,18 +1,15 @@
 //! Which legs changed from one plan to a later one.
 
-ghost use Rattle.std.specs.Prelude.{◌≡◌, ◌<◌, length, All, IfOk, true, false, slice_index_or};
-ghost use Rattle.desk_units.specs.declared.numbers.Leg.{Leg as LegNumber};
-ghost use Rattle.desk_data.specs.PlanRows.{PlanRows};
-ghost use Rattle.desk_data.specs.Situation.{legs_of};
+ghost use Rattle.std.specs.Prelude.{◌≡◌, ◌<◌, length, All, IfOk, true};
 ghost use Rattle.desk_data.specs.Valid.{IsPlanFor};
 ghost use Rattle.day_notes.specs.Notes.{HaveAboard};
 ghost use Rattle.near_memory.specs.Untouched.{IsStill};
 ghost use Rattle.near_notes.specs.Changes.{AreAllStill, AreChanges};
 
-use crate::rows::has_no_fewer;
+use crate::aboard::has_no_fewer;
 use desk_data::{Cabin, Instance, Leg, NoMem, Seats};
 use plan_groups::KnowsAboard;
-use plan_pages::{Pages, is_same_row};
+use plan_pages::Pages;
 use std::alloc::Global;
 
 /// The legs that were touched between two plans: that have another row, or fewer passengers in a cabin.
@@ -76,6 +73,5 @@ fn is_still<A: KnowsAboard>(was: &Pages, had: &[Seats], plan: &Pages, aboard: &A
     requires aboard { A.knows aboard.now plan.now }
     ensures { result ≡ true → IsStill was.now plan.now leg.0 }
 {
-    is_same_row(was.read_row(leg), plan.read_row(leg))
-        && has_no_fewer(aboard, leg, had[leg.0 as usize])
+    was.read_row(leg) == plan.read_row(leg) && has_no_fewer(aboard, leg, had[leg.0 as usize])
 }

@@ -11,9 +11,9 @@ ghost use Rattle.near_notes.specs.Changes.{AreChanges};
 ghost use Rattle.near_notes.specs.Later.{AreNotesAt, AreKnown};
 ghost use Rattle.near_notes.specs.Links.{AreLinks};
 
+use crate::aboard::seats_aboard;
 use crate::changes::Changes;
 use crate::links::Links;
-use crate::rows::seats_aboard;
 use crate::untouched::{Plans, is_untouched};
 use day_notes::Notes;
 use desk_data::{Instance, Leg, NoMem, Res, Seats};

@@ -13,11 +13,11 @@
 //! `near_memory` and `flight_net`.
 #![tactic(auto)]
 
+mod aboard;
 mod changes;
 mod later;
 mod links;
 mod onward;
-mod rows;
 mod untouched;
 
 pub use later::{first_notes, later_notes};

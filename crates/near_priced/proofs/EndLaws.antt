@@ -1,34 +1,41 @@
 -- Where aircraft end, and how many are at hand then.
-use Rattle.std.proofs.Common.{◌≡◌, ◌≢◌, ℕ, zero, suc, ◌+◌, ◌<◌, ◌≤◌, inl, inr, Bool, true, false, ◌&&◌, not, cond, eqb, ltb, List, [], ◌∷◌, ◌++◌, length, get_or, take, refl, sym, ap, subst, ◌∙◌, arith}
-use Rattle.std.specs.Prelude.{Option, None, Some}
-use Rattle.std.specs.List.{All, Contains}
-use Rattle.std.proofs.lemmas.Bool.{true≢false, cases_eq, eq-eqb, ne_eqb, and_parts, and_from, and_right, le-ltb, lt-ltb, false_from_ne_true}
+use Rattle.std.proofs.Common.{◌≡◌, ◌≢◌, ℕ, zero, suc, ◌+◌, ◌<◌, ◌≤◌, inl, inr, Bool, true, false, ◌&&◌, ◌||◌, not, cond, eqb, ltb, List, [], ◌∷◌, ◌++◌, length, get_or, take, refl, sym, ap, subst, ◌∙◌, arith}
+use Rattle.std.specs.Prelude.{Option, None, Some, if◌then◌else◌}
+use Rattle.std.specs.List.{All, Contains, list_all}
+use Rattle.std.proofs.lemmas.Bool.{true≢false, cases_eq, eq-eqb, ne_eqb, eqb-true, and_parts, and_from, and_right, le-ltb, lt-ltb, false_from_ne_true}
 use Rattle.std.proofs.lemmas.List.{take_more, map-append, length-map, get_or-map}
 use Rattle.std.proofs.lemmas.List.Elements.{All-append, All-nil, All-cons, All-weaker, All-contains}
 use Rattle.desk_units.specs.declared.numbers.Leg.{Leg}
 use Rattle.desk_data.specs.declared.info.PositionInfo.{PositionInfo}
+use Rattle.desk_data.specs.declared.row.Row.{Row}
+use Rattle.desk_data.specs.declared.row.Row.TheVariants.{Flown, Cancelled}
 use Rattle.desk_data.specs.Situation.{Situation, legs_of, planes_of, plane_at}
 use Rattle.desk_data.specs.PlanRows.{PlanRows, row_at}
-use Rattle.desk_data.specs.Valid.{IsValid}
+use Rattle.desk_data.specs.Valid.{IsPlanFor, IsValid}
 use Rattle.desk_rules.specs.Cost.{is_wanted, ends_at, at_hand}
-use Rattle.desk_rules.specs.Rotations.{dep, precedes}
+use Rattle.desk_rules.specs.Rotations.{comes_before, dep, departure, is_earlier, precedes}
 use Rattle.desk_rules.specs.Maintenance.{flies, departs_before, is_flown_by}
 use Rattle.desk_rules.proofs.RotationLaws.{precedes-holds, precedes-from}
+use Rattle.desk_model.proofs.ValidLaws.{with_row-valid}
 use Rattle.desk_model.proofs.RotationOrder.{Contains-head, Contains-tail, precedes-trans, precedes-itself}
-use Rattle.plan_reads.specs.Last.{IsLastOf}
+use Rattle.plan_reads.specs.Last.{IsLastOf, stand}
+use Rattle.plan_reads.specs.declared.rotation_leg.RotationLeg.{RotationLeg}
 use Rattle.full_cost.specs.Stands.{end_of, is_there}
+use Rattle.board_items.proofs.RowLaws.{row_here, row_there}
 use Rattle.board_items.proofs.SumLaws.{one_if, filter_change}
 use Rattle.board_cost.proofs.HandLaws.{hand_few}
 use Rattle.near_units.specs.Same.{FliesSame}
 use Rattle.near_units.proofs.RuleLaws.{left_at-same}
 use Rattle.near_unpaid.specs.Unpaid.{is_either}
 use Rattle.near_unpaid.proofs.PayerLaws.{ends-is}
-use Rattle.near_draft.specs.Drafts.{AreAllChanged}
+use Rattle.near_draft.specs.declared.change.Change.{Change}
+use Rattle.near_draft.specs.Drafts.{AreChanges, Drafted, changed, drafted, plan_of}
 use Rattle.near_draft.specs.Legs.{AreLegsOf, numbers_of}
+use Rattle.near_priced.proofs.FlyingLaws.{changes-for}
 use Rattle.near_priced.specs.declared.ends.PlaneEnd.{PlaneEnd}
 use Rattle.near_priced.specs.declared.ends.PlaneEnds.{PlaneEnds}
 use Rattle.near_priced.specs.Tables.{is_hand}
-use Rattle.near_priced.specs.Ends.{IsLastIn, IsLastAmong, IsPlaneEnd, IsOther, IsPlaneEndOf, ArePlaneEnds}
+use Rattle.near_priced.specs.Ends.{IsLastIn, IsLastAmong, IsPlaneEnd, IsOther, IsPlaneEndOf, ArePlaneEnds, is_change_of, is_of}
 use Rattle.near_priced.specs.Balances.{counted}
 
 -- ---- the last leg of some
@@ -98,6 +105,20 @@ module _ (P : PlanRows) (p at : ℕ) (legs : List ℕ) (x : ℕ) where
         (λ on. not-itself P x);
   })
 
+-- of two legs of an aircraft the rows are told by the departures
+ordered : (p x y : ℕ) (row next : Row) → is_flown_by p row ≡ true → is_flown_by p next ≡ true → comes_before x row y next ≡ is_earlier x (departure row) y (departure next)
+ordered p x y (Flown plane dep) (Flown other later) one two = ap (λ (b : Bool). b && is_earlier x dep.0 y later.0) (eq-eqb plane.0 other.0 (eqb-true plane.0 p one ∙ sym (eqb-true other.0 p two)))
+ordered p x y (Flown plane dep) Cancelled one two = absurd (true≢false (sym two))
+ordered p x y Cancelled row one two = absurd (true≢false (sym one))
+
+pub precedes-is : (P : PlanRows) (p at : ℕ) (legs : List ℕ) (last : RotationLeg) (x : ℕ) {d : ℕ} → IsLastAmong P p at legs (Some last.leg) → flies P p x ≡ true → last.dep.0 ≡ dep P last.leg.0 → d ≡ dep P x → precedes P last.leg.0 x ≡ is_earlier last.leg.0 last.dep.0 x d
+precedes-is P p at legs last x {d} was flown one two =
+    let leg = last.leg.0 in
+    let first = (and_parts (flies P p leg) (ltb (dep P leg) at) was.before).0 in
+    ordered p leg x (row_at P leg) (row_at P x) first flown
+    ∙ ap (λ (n : ℕ). is_earlier leg n x (dep P x)) (sym one)
+    ∙ ap (λ (n : ℕ). is_earlier leg last.dep.0 x n) (sym two)
+
 -- the last of all that an aircraft flies
 pub last-of-all : (I : Situation) (P : PlanRows) (p at : ℕ) (legs : List ℕ) (last : Option Leg) → AreLegsOf I P p legs → IsLastAmong P p at legs last → IsLastOf P p at (legs_of I) last
 last-of-all I P p at legs None are none = λ x lt.
@@ -114,14 +135,43 @@ last-of-all I P p at legs (Some leg) are is = record {
 
 -- ---- the others end where they did
 
-pub others-same : (P Q : PlanRows) (legs : List ℕ) (p : ℕ) → AreAllChanged P Q legs → All (λ x. (is_flown_by p (row_at P x) ≡ false) × (is_flown_by p (row_at Q x) ≡ false)) legs → FliesSame Q P p
-others-same P Q legs p changed off x =
-    elim (changed x) [
-      | inl same ↦ inl (sym same)
-      | inr has ↦
-          let both = All-contains (λ y. (is_flown_by p (row_at P y) ≡ false) × (is_flown_by p (row_at Q y) ≡ false)) legs x off has in
-          inr (both.1, both.0)
+not-flown : (a b p : ℕ) (row : Row) → is_either a b p ≡ false → is_of a b row ≡ true → is_flown_by p row ≡ false
+not-flown a b p (Flown plane dep) off is = false_from_ne_true (eqb plane.0 p) (λ same. true≢false (sym (subst (λ (n : ℕ). (eqb n a || eqb n b) ≡ true) (eqb-true plane.0 p same) is) ∙ off))
+not-flown a b p Cancelled off is = refl
+
+others-same : (I : Situation) (P : PlanRows) (changes : List Change) (a b p : ℕ) → AreChanges I P changes → IsPlanFor I P → list_all (is_change_of a b) changes ≡ true → is_either a b p ≡ false → FliesSame (drafted P changes) P p
+others-same I P [] a b p are plan all off x = inl refl
+others-same I P (change ∷ changes) a b p are plan all off x =
+    let y = change.leg.0 in
+    let parts = and_parts (is_change_of a b change) (list_all (is_change_of a b) changes) all in
+    let both = and_parts (is_of a b change.was) (is_of a b change.row) parts.0 in
+    let rest = others-same I (changed P change) changes a b p are.1 (with_row-valid I P y change.row are.0.row plan) parts.1 off x in
+    let within : y < length P.rows = (let leg = are.0.leg in let rows = plan.legs in omega (arith, leg, rows)) in
+    elim (cases_eq x y) [
+      | inl same ↦
+          let was : row_at P x ≡ change.was = ap (row_at P) same ∙ sym are.0.was in
+          let row : row_at (changed P change) x ≡ change.row = ap (row_at (changed P change)) same ∙ row_here P y change.row within in
+          inr (
+            elim rest [
+              | inl is ↦ ap (is_flown_by p) (is ∙ row) ∙ not-flown a b p change.row off both.1
+              | inr none ↦ none.0
+            ],
+            ap (is_flown_by p) was ∙ not-flown a b p change.was off both.0,
+          )
+      | inr other ↦
+          let there : row_at (changed P change) x ≡ row_at P x = row_there P y change.row x other in
+          elim rest [
+            | inl is ↦ inl (is ∙ there)
+            | inr none ↦ inr (none.0, ap (is_flown_by p) (sym there) ∙ none.1)
+          ]
     ]
+
+-- those of a draft over a plan
+pub draft-same : (I : Situation) (P : PlanRows) (D : Drafted) (changes : List Change) (a b : ℕ) → D.inst ≡ I → D.rows ≡ P → changes ≡ D.changes → AreChanges D.inst D.rows changes → IsPlanFor I P → list_all (is_change_of a b) changes ≡ true → (p : ℕ) → is_either a b p ≡ false → FliesSame (plan_of D) P p
+draft-same I P D changes a b day over all are plan tests p off =
+    let tested : list_all (is_change_of a b) D.changes ≡ true = subst (λ (cs : List Change). list_all (is_change_of a b) cs ≡ true) all tests in
+    subst (λ (R : PlanRows). FliesSame (drafted R D.changes) P p) (sym over)
+    (others-same I P D.changes a b p (changes-for I P D changes day over all are) plan tested off)
 
 pub ends-same : (I : Situation) (P Q : PlanRows) (p airport : ℕ) → FliesSame Q P p → ends_at I Q p airport ≡ ends_at I P p airport
 ends-same I P Q p airport same = ap (λ (c : Bool). not (plane_at I p).surface && c) (left_at-same I Q P p same I.parts.to.0 airport)
@@ -148,6 +198,10 @@ two-ends I P Q one other a b differ is other_is plane_end other_end others = rec
 }
 
 -- ---- how many are at hand
+
+pub and-last : (a b : Bool) → b ≡ true → a ≡ (a && b)
+and-last true b is = sym is
+and-last false b is = refl
 
 counted-is : (I : Situation) (P : PlanRows) (p : ℕ) (last : Option Leg) (position : PositionInfo) → IsLastOf P p I.parts.to.0 (legs_of I) last → one_if (is_hand I P position p) ≡ counted I p last position
 counted-is I P p last position h = ap (λ (e : Bool). one_if (is_wanted position (plane_at I p) && e)) (sym (ends-is I P p position.airport.0 last h))
@@ -225,6 +279,20 @@ module _ (I : Situation) (P Q : PlanRows) (position : PositionInfo) (ends : Plan
         counted-is I Q b other.is position second.is,
       )
 
+-- aircraft that end where they did are at hand where they were
+counted-alike : (I : Situation) (plane_end : PlaneEnd) (position : PositionInfo) → (stand I plane_end.plane.0 plane_end.is).0 ≡ (stand I plane_end.plane.0 plane_end.was).0 → counted I plane_end.plane.0 plane_end.is position ≡ counted I plane_end.plane.0 plane_end.was position
+counted-alike I plane_end position same =
+    let p = plane_end.plane.0 in
+    ap (λ (n : ℕ). one_if (is_wanted position (plane_at I p) && is_there (if (plane_at I p).surface then None else Some (record { 0 = n })) position.airport.0)) same
+
+pub hands-alike-one : (I : Situation) (P Q : PlanRows) (ends : PlaneEnds) → ArePlaneEnds I P Q ends → ends.other ≡ None → (stand I ends.one.plane.0 ends.one.is).0 ≡ (stand I ends.one.plane.0 ends.one.was).0 → (position : PositionInfo) → at_hand I Q position ≡ at_hand I P position
+hands-alike-one I P Q ends are none same position =
+    omega (arith, hands-one I P Q position ends are none, counted-alike I ends.one position same)
+
+pub hands-alike-two : (I : Situation) (P Q : PlanRows) (ends : PlaneEnds) (other : PlaneEnd) → ArePlaneEnds I P Q ends → ends.other ≡ Some other → (stand I ends.one.plane.0 ends.one.is).0 ≡ (stand I ends.one.plane.0 ends.one.was).0 → (stand I other.plane.0 other.is).0 ≡ (stand I other.plane.0 other.was).0 → (position : PositionInfo) → at_hand I Q position ≡ at_hand I P position
+hands-alike-two I P Q ends other are some first second position =
+    omega (arith, hands-two I P Q position ends are other some, counted-alike I ends.one position first, counted-alike I other position second)
+
 -- ---- legs, one more
 
 -- what is read where there is no leg
@@ -233,9 +301,6 @@ no_leg = record { 0 = 0 }
 
 pub numbers-more : (legs : List Leg) (i : ℕ) → i < length legs → numbers_of (take (i + 1) legs) ≡ numbers_of (take i legs) ++ (get_or legs i no_leg).0 ∷ []
 numbers-more legs i lt = ap numbers_of (take_more legs i no_leg lt) ∙ map-append (λ (leg : Leg). leg.0) (take i legs) (get_or legs i no_leg ∷ [])
-
-pub all-more : (S : ℕ → Type 0) (legs : List Leg) (i : ℕ) → i < length legs → All S (numbers_of (take i legs)) → S (get_or legs i no_leg).0 → All S (numbers_of (take (i + 1) legs))
-all-more S legs i lt all one = subst (All S) (sym (numbers-more legs i lt)) (push-all S (numbers_of (take i legs)) (get_or legs i no_leg).0 all one)
 
 -- the legs of an aircraft are flown by it
 pub leg-flown : (I : Situation) (P : PlanRows) (p : ℕ) (legs : List Leg) (i : ℕ) → i < length legs → AreLegsOf I P p (numbers_of legs) → ((get_or legs i no_leg).0 < legs_of I) × (flies P p (get_or legs i no_leg).0 ≡ true)

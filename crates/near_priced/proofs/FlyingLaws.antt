@@ -2,6 +2,7 @@
 use Rattle.std.proofs.Common.{◌≡◌, ℕ, ◌+◌, ◌-◌, ◌*◌, ◌<◌, ◌≤◌, List, [], ◌∷◌, length, get_or, take, refl, sym, ap, subst, ◌∙◌, arith}
 use Rattle.std.specs.Prelude.{sum_by}
 use Rattle.std.proofs.Math.Nat.{mul-add}
+use Rattle.std.proofs.Math.Path.{fun_ext}
 use Rattle.std.proofs.lemmas.List.Elements.{All-get_or}
 use Rattle.std.proofs.lemmas.List.Sums.{sum_by-cons}
 use Rattle.desk_units.specs.declared.tariff.Term.TheVariants as term
@@ -79,3 +80,8 @@ gap-few I P position g valid lt is =
     let one = (valid.parts.positions g position lt).count in
     let same : position.count ≡ (get_or I.parts.positions g position).count = ap (λ (p : PositionInfo). p.count) is in
     omega (arith, one, same)
+
+pub positions-stay : (I : Situation) (P Q : PlanRows) → ((position : PositionInfo) → at_hand I Q position ≡ at_hand I P position) → position_cost I Q ≡ position_cost I P
+positions-stay I P Q same =
+    let lack : lacking I Q ≡ lacking I P = ap (λ (f : PositionInfo → ℕ). sum_by f I.parts.positions) (fun_ext (λ (position : PositionInfo). ap (λ (n : ℕ). position.count - n) (same position))) in
+    positions-is I Q ∙ ap (by_item (weight I term.Position) (position_price (rows_of I))) lack ∙ sym (positions-is I P)

@@ -17,16 +17,16 @@ use Rattle.plan_moves.specs.declared.moves.Step.{Step}
 use Rattle.plan_moves.specs.declared.moves.Step.TheVariants.{Set, Push, Swap, Rebook, Tidy, Refill}
 use Rattle.desk_rules.specs.Numbers.{numbers}
 use Rattle.desk_rules.specs.Least.{least}
-use Rattle.desk_rules.specs.Cost.{operating_cost, position_cost}
+use Rattle.desk_rules.specs.Cost.{cost, operating_cost, position_cost}
 use Rattle.desk_model.specs.Refill.{has_leg}
-use Rattle.desk_model.specs.Steps.{after_steps}
+use Rattle.desk_model.specs.Steps.{after_steps, after_move}
 use Rattle.full_cost.specs.Amounts.{reservation_cost}
 use Rattle.board_cost.proofs.BalanceLaws.{cost_is}
 use Rattle.leg_users.specs.Users.{uses, is_booked_on}
 use Rattle.near_moves.specs.Descent.{is_better}
 use Rattle.near_trial.specs.RowRules.{keeps_rows}
 use Rattle.near_alone.specs.Alone.{IsLeftAlone, leaves_alone, cost_of_some}
-use Rattle.near_alone.proofs.AloneLaws.{saves-worse}
+use Rattle.near_unpaid.proofs.DearLaws.{saves-dear, dear-worse}
 use Rattle.near_draft.specs.Drafts.{AreAllChanged}
 use Rattle.near_priced.specs.Priced.{paid_on, paid_booked, tidies, refilled}
 
@@ -136,8 +136,8 @@ alone I P Q others legs r all changed off =
 
 -- ---- a whole move
 
-pub priced-worse : (I : Situation) (P : PlanRows) (m : Move) (first others : List Step) (legs : List ℕ) → IsValid I → IsPlanFor I (after_steps I P first) → least I P ≡ None → m.steps ≡ first ++ others → (after_steps I P first).groups ≡ P.groups → list_all tidies others ≡ true → AreAllChanged P (after_steps I P first) legs → operating_cost I P + position_cost I P + sum_by (paid_on I P) legs + sum_by (paid_booked I P) (refilled others) ≤ operating_cost I (after_steps I P first) + position_cost I (after_steps I P first) → is_better I P m ≡ false
-priced-worse I P m first others legs valid plan feasible steps same all changed less =
+pub priced-dear : (I : Situation) (P : PlanRows) (m : Move) (first others : List Step) (legs : List ℕ) → IsValid I → IsPlanFor I (after_steps I P first) → least I P ≡ None → m.steps ≡ first ++ others → (after_steps I P first).groups ≡ P.groups → list_all tidies others ≡ true → AreAllChanged P (after_steps I P first) legs → operating_cost I P + position_cost I P + sum_by (paid_on I P) legs + sum_by (paid_booked I P) (refilled others) ≤ operating_cost I (after_steps I P first) + position_cost I (after_steps I P first) → cost I P ≤ cost I (after_move I P m)
+priced-dear I P m first others legs valid plan feasible steps same all changed less =
     let Q = after_steps I P first in
     let refills = refilled others in
     let hit = touched I P legs refills in
@@ -145,6 +145,10 @@ priced-worse I P m first others legs valid plan feasible steps same all changed 
     let booked : cost_of_some I P (λ r. list_any (λ x. is_booked_on I x r) refills) ≤ sum_by (paid_booked I P) refills = any-le I P (is_booked_on I) refills in
     let both : cost_of_some I P hit ≤ cost_of_some I P (λ r. list_any (λ x. uses P x r) legs) + cost_of_some I P (λ r. list_any (λ x. is_booked_on I x r) refills) = either-le I P (λ r. list_any (λ x. uses P x r) legs) (λ r. list_any (λ x. is_booked_on I x r) refills) in
     let rest = others-le I P hit in
-    saves-worse I P m first others (λ r. not (hit r)) valid plan feasible steps same (tidied-rows others all)
+    saves-dear I P m first others (λ r. not (hit r)) valid plan feasible steps same (tidied-rows others all)
     (λ r lt spared. alone I P Q others legs r all changed (not-true (hit r) spared))
     (omega (arith, less, on, booked, both, rest, cost_is I P))
+
+pub priced-worse : (I : Situation) (P : PlanRows) (m : Move) (first others : List Step) (legs : List ℕ) → IsValid I → IsPlanFor I (after_steps I P first) → least I P ≡ None → m.steps ≡ first ++ others → (after_steps I P first).groups ≡ P.groups → list_all tidies others ≡ true → AreAllChanged P (after_steps I P first) legs → operating_cost I P + position_cost I P + sum_by (paid_on I P) legs + sum_by (paid_booked I P) (refilled others) ≤ operating_cost I (after_steps I P first) + position_cost I (after_steps I P first) → is_better I P m ≡ false
+priced-worse I P m first others legs valid plan feasible steps same all changed less =
+    dear-worse I P m (priced-dear I P m first others legs valid plan feasible steps same all changed less)

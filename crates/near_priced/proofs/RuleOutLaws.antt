@@ -12,9 +12,8 @@ use Rattle.plan_moves.specs.declared.moves.Move.{Move}
 use Rattle.plan_moves.specs.declared.moves.Step.{Step}
 use Rattle.plan_moves.specs.declared.moves.Step.TheVariants.{Set, Push, Swap, Rebook, Tidy, Refill}
 use Rattle.desk_rules.specs.Least.{least}
-use Rattle.desk_rules.specs.Cost.{operating_cost, position_cost}
-use Rattle.desk_model.specs.Steps.{after_steps}
-use Rattle.near_moves.specs.Descent.{is_better}
+use Rattle.desk_rules.specs.Cost.{cost, operating_cost, position_cost}
+use Rattle.desk_model.specs.Steps.{after_steps, after_move}
 use Rattle.near_trial.specs.RowRules.{keeps_rows}
 use Rattle.near_draft.specs.Drafts.{AreAllChanged, Drafted, IsDraftOf, plan_of}
 use Rattle.near_draft.specs.Legs.{numbers_of}
@@ -22,7 +21,7 @@ use Rattle.near_draft.proofs.ChangeLaws.{drafted-groups}
 use Rattle.near_priced.specs.declared.payments.Payments.{Payments}
 use Rattle.near_priced.specs.Priced.{names_no_path, paid_on, paid_booked, refilled, tidies}
 use Rattle.near_priced.specs.Tables.{ArePayments, amount, refill_amount}
-use Rattle.near_priced.proofs.PricedLaws.{priced-worse}
+use Rattle.near_priced.proofs.PricedLaws.{priced-dear}
 
 -- ---- steps
 
@@ -58,7 +57,7 @@ legs-are amounts (leg ∷ legs) = (let rest = legs-are amounts legs in omega (ar
 
 -- ---- a move
 
-pub rule-out : (I : Situation) (P : PlanRows) (payments : Payments) (m : Move) (D : Drafted) (legs : List Leg) (dearer : ℕ) → IsValid I → IsPlanFor I (plan_of D) → ArePayments I P payments → IsDraftOf I P m D → list_all names_no_path m.steps ≡ true → AreAllChanged P (plan_of D) (numbers_of legs) → operating_cost I P + position_cost I P + dearer ≡ operating_cost I (plan_of D) + position_cost I (plan_of D) → sum_by (λ (leg : Leg). amount payments.on.items leg.0) legs + sum_by (refill_amount payments.booked.items) m.steps ≤ dearer → least I P ≡ None → is_better I P m ≡ false
+pub rule-out : (I : Situation) (P : PlanRows) (payments : Payments) (m : Move) (D : Drafted) (legs : List Leg) (dearer : ℕ) → IsValid I → IsPlanFor I (plan_of D) → ArePayments I P payments → IsDraftOf I P m D → list_all names_no_path m.steps ≡ true → AreAllChanged P (plan_of D) (numbers_of legs) → operating_cost I P + position_cost I P + dearer ≡ operating_cost I (plan_of D) + position_cost I (plan_of D) → sum_by (λ (leg : Leg). amount payments.on.items leg.0) legs + sum_by (refill_amount payments.booked.items) m.steps ≤ dearer → least I P ≡ None → cost I P ≤ cost I (after_move I P m)
 rule-out I P payments m D legs dearer valid plan are is named changed costs paid feasible =
     let first = is.first in
     let others = is.others in
@@ -73,5 +72,5 @@ rule-out I P payments m D legs dearer valid plan are is named changed costs paid
     let steps : sum_by (refill_amount booked) m.steps ≡ sum_by (refill_amount booked) first + sum_by (refill_amount booked) others = ap (sum_by (refill_amount booked)) is.steps ∙ sum_by-append (refill_amount booked) first others in
     let flying : operating_cost I (plan_of D) ≡ operating_cost I Q = ap (operating_cost I) made in
     let positions : position_cost I (plan_of D) ≡ position_cost I Q = ap (position_cost I) made in
-    priced-worse I P m first others (numbers_of legs) valid (subst (IsPlanFor I) made plan) feasible is.steps groups (tidying others no_path is.keeps) (subst (λ (R : PlanRows). AreAllChanged P R (numbers_of legs)) made changed)
+    priced-dear I P m first others (numbers_of legs) valid (subst (IsPlanFor I) made plan) feasible is.steps groups (tidying others no_path is.keeps) (subst (λ (R : PlanRows). AreAllChanged P R (numbers_of legs)) made changed)
     (omega (arith, costs, paid, on_legs, on_refills, steps, flying, positions, legs-are on legs, refills-are booked others))

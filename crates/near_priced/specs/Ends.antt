@@ -1,13 +1,16 @@
 -- Where the aircraft of a move end, before it and after its first steps.
-use Rattle.std.specs.Prelude.{◌≡◌, ◌≢◌, ℕ, ◌<◌, true, false, Option, Some, None, List, All}
+use Rattle.std.specs.Prelude.{◌≡◌, ◌≢◌, ℕ, ◌<◌, Bool, true, false, ◌==◌, ◌&&◌, ◌||◌, Option, Some, None, List, All}
 use Rattle.std.specs.List.{Contains}
 use Rattle.desk_units.specs.declared.numbers.Leg.{Leg}
+use Rattle.desk_data.specs.declared.row.Row.{Row}
+use Rattle.desk_data.specs.declared.row.Row.TheVariants.{Flown, Cancelled}
 use Rattle.desk_data.specs.Situation.{Situation, legs_of, planes_of}
 use Rattle.desk_data.specs.PlanRows.{PlanRows}
 use Rattle.desk_rules.specs.Cost.{ends_at}
 use Rattle.desk_rules.specs.Rotations.{precedes}
 use Rattle.desk_rules.specs.Maintenance.{departs_before}
 use Rattle.plan_reads.specs.Last.{IsLastOf}
+use Rattle.near_draft.specs.declared.change.Change.{Change}
 use Rattle.near_priced.specs.declared.ends.PlaneEnd.{PlaneEnd}
 use Rattle.near_priced.specs.declared.ends.PlaneEnds.{PlaneEnds}
 
@@ -42,3 +45,11 @@ pub record ArePlaneEnds (I : Situation) (P Q : PlanRows) (ends : PlaneEnds) : Ty
   pub one : IsPlaneEnd I P Q ends.one
   pub other : IsPlaneEndOf I P Q ends.one.plane.0 ends.other
   pub stay : (p airport : ℕ) → p ≢ ends.one.plane.0 → IsOther p ends.other → ends_at I Q p airport ≡ ends_at I P p airport
+
+-- whether one of two aircraft flies a row, or nobody does, and whether that is so of both rows of a change
+abbrev pub is_of : ℕ → ℕ → Row → Bool
+is_of a b (Flown plane dep) = (plane.0 == a) || (plane.0 == b)
+is_of a b Cancelled = true
+
+abbrev pub is_change_of : ℕ → ℕ → Change → Bool
+is_change_of a b change = is_of a b change.was && is_of a b change.row

@@ -1,10 +1,11 @@
 //! What flying and the positions cost before a move, and after its first steps.
 
-ghost use Rattle.std.specs.Prelude.{◌≡◌, ◌+◌, ◌<◌, ◌≤◌, ◌^◌, length};
+ghost use Rattle.std.specs.Prelude.{◌≡◌, ◌+◌, ◌<◌, ◌≤◌, ◌^◌, length, true};
 ghost use Rattle.std.specs.Option.{ForSome};
 ghost use Rattle.desk_data.specs.Situation.{legs_of, planes_of};
 ghost use Rattle.desk_data.specs.Valid.{IsPlanFor};
 ghost use Rattle.desk_rules.specs.Cost.{at_hand, operating_cost, position_cost};
+ghost use Rattle.plan_reads.specs.Last.{stand};
 ghost use Rattle.near_draft.specs.Drafts.{plan_of};
 ghost use Rattle.near_priced.specs.Balances.{ArePositions, IsFlying, counted};
 ghost use Rattle.near_priced.specs.Ends.{ArePlaneEnds};
@@ -18,6 +19,7 @@ use desk_units::per_item;
 use full_cost::flight_cost;
 use near_draft::Draft;
 use plan_pages::Pages;
+use plan_reads::stand_of;
 
 /// What something costs before a move, and after its first steps, in grains.
 #[derive(Clone, Copy)]
@@ -51,13 +53,46 @@ pub(crate) fn dearer_by(
     ensures { ForSome result (λ n. operating_cost inst.now plan.now + position_cost inst.now plan.now + n ≡ operating_cost inst.now (plan_of draft.now) + position_cost inst.now (plan_of draft.now)) }
 {
     let flying = flying(inst, plan, draft);
+    if end_alike(inst, plan, draft, ends) {
+        return beyond(flying.old, flying.new);
+    }
     let positions = positions(payments, inst, plan, draft, ends);
-    let new = flying.new + positions.new;
-    let old = flying.old + positions.old;
+    beyond(flying.old + positions.old, flying.new + positions.new)
+}
+
+/// By how much an amount is more than another; `None` where it is less.
+fn beyond(old: u128, new: u128) -> Option<u128>
+    ensures { ForSome result (λ n. old + n ≡ new) }
+{
     if new < old {
         return None;
     }
     Some(new - old)
+}
+
+/// Whether each aircraft of a move ends at the airport where it did: then the positions cost what they did.
+fn end_alike(inst: &Instance, _plan: &Pages, _draft: &Draft, ends: PlaneEnds) -> bool
+    requires { ArePlaneEnds inst.now _plan.now (plan_of _draft.now) ends }
+    ensures { result ≡ true → position_cost inst.now (plan_of _draft.now) ≡ position_cost inst.now _plan.now }
+{
+    if !ends_alike(inst, ends.one) {
+        return false;
+    }
+    match ends.other {
+        Some(other) => ends_alike(inst, other),
+        None => true,
+    }
+}
+
+/// Whether an aircraft stands at the airport where it did.
+fn ends_alike(inst: &Instance, plane_end: PlaneEnd) -> bool
+    requires plane { plane_end.plane.0 < planes_of inst.now }
+    requires was { ForSome plane_end.was (λ leg. leg.0 < legs_of inst.now) }
+    requires is { ForSome plane_end.is (λ leg. leg.0 < legs_of inst.now) }
+    ensures { result ≡ true → (stand inst.now plane_end.plane.0 plane_end.is).0 ≡ (stand inst.now plane_end.plane.0 plane_end.was).0 }
+{
+    let plane = plane_end.plane;
+    stand_of(inst, plane, plane_end.is).0 == stand_of(inst, plane, plane_end.was).0
 }
 
 /// What the legs cost that get other rows, by those that they had and by those that they get, change by change.

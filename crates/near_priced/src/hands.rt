@@ -90,5 +90,8 @@ pub(crate) fn stands_ready(
     requires last { ForSome last (λ leg. leg.0 < legs_of inst.now) }
     ensures { result ≡ (is_wanted position.now (plane_at inst.now plane.0) && is_there (end_of inst.now plane.0 last) position.now.airport.0) }
 {
-    is_wanted(position, inst.plane(plane)) && is_at(end_of(inst, plane, last), position.airport)
+    if !is_at(end_of(inst, plane, last), position.airport) {
+        return false;
+    }
+    is_wanted(position, inst.plane(plane))
 }

@@ -5,9 +5,10 @@ ghost use Rattle.std.specs.List.{list_all};
 ghost use Rattle.std.specs.Option.{ForSome};
 ghost use Rattle.desk_data.specs.Situation.{planes_of};
 ghost use Rattle.desk_data.specs.Valid.{IsPlanFor};
+ghost use Rattle.desk_rules.specs.Cost.{cost};
 ghost use Rattle.desk_rules.specs.Least.{least};
+ghost use Rattle.desk_model.specs.Steps.{after_move};
 ghost use Rattle.plan_moves.specs.Fits.{Fits, StepFits};
-ghost use Rattle.near_moves.specs.Descent.{is_better};
 ghost use Rattle.near_draft.specs.Drafts.{IsDraftOf};
 ghost use Rattle.near_priced.specs.Priced.{names_no_path};
 ghost use Rattle.near_priced.specs.Tables.{ArePayments, amount, refill_amount};
@@ -26,7 +27,7 @@ use std::alloc::Global;
 const MOST_CHANGES: usize = 1_000;
 
 impl Payments {
-    /// Whether it is known that a move of a feasible plan is not better, since it costs at least as much more as those pay
+    /// Whether it is known that a move makes a feasible plan no cheaper, since it costs at least as much more as those pay
     /// whom it touches. The payments are those at the plan, and the draft is of the move. Where it says no, nothing is
     /// known. The only error is out of memory.
     pub fn rule_out(
@@ -41,7 +42,7 @@ impl Payments {
         requires payments { ArePayments inst.now plan.now self.now }
         requires fits { Fits inst.now m.now }
         requires draft { IsDraftOf inst.now plan.now m.now draft.now }
-        ensures { IfOk result (λ known. known ≡ true → least inst.now plan.now ≡ None → is_better inst.now plan.now m.now ≡ false) }
+        ensures { IfOk result (λ known. known ≡ true → least inst.now plan.now ≡ None → cost inst.now plan.now ≤ cost inst.now (after_move inst.now plan.now m.now)) }
     {
         if self.are_too_many(inst, draft) {
             return Ok(false);
@@ -56,14 +57,14 @@ impl Payments {
         let Some(planes) = pushed(inst, steps) else {
             return Ok(false);
         };
-        let legs = changed_legs(alloc, draft)?;
-        let found = ends_of(alloc, self, inst, plan, draft, legs.as_slice(), planes)?;
+        let found = ends_of(alloc, self, inst, plan, draft, planes)?;
         let Some(ends) = found else {
             return Ok(false);
         };
         let Some(dearer) = dearer_by(self, inst, plan, draft, ends) else {
             return Ok(false);
         };
+        let legs = changed_legs(alloc, draft)?;
         Ok(self.pay_at_most(legs.as_slice(), steps, dearer))
     }
 

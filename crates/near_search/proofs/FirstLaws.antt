@@ -1,9 +1,10 @@
 -- What rules moves out, and what is found of the moves near a plan.
-use Rattle.std.proofs.Common.{◌≡◌, ℕ, ◌<◌, ◌≤◌, Bool, true, false, ltb, List, [], ◌∷◌, ◌++◌, length, get_or, refl, sym, ap, subst, ◌∙◌, arith}
+use Rattle.std.proofs.Common.{◌≡◌, ℕ, ◌-◌, ◌<◌, ◌≤◌, Bool, true, false, ltb, List, [], ◌∷◌, ◌++◌, length, get_or, take, drop, refl, sym, ap, subst, ◌∙◌, arith}
 use Rattle.std.specs.Prelude.{Option, None, Some, filter, find, map, not, is_none, is_some, ◌&&◌}
 use Rattle.std.specs.List.{All, flat_map, list_all}
 use Rattle.std.specs.Option.{option_or}
 use Rattle.std.proofs.lemmas.Bool.{le-ltb, and_right}
+use Rattle.std.proofs.lemmas.List.{take_all}
 use Rattle.std.proofs.lemmas.List.Concat.{flat_map-append}
 use Rattle.std.proofs.lemmas.List.Elements.{All-map, All-filter, All-append, All-nil, All-cons, filter-append}
 use Rattle.std.proofs.lemmas.List.Folds.{find-append}
@@ -38,10 +39,12 @@ unfolding is_better
 dearer-ruled_out I P m less = and_right _ _ (le-ltb (cost I (after_move I P m)) (cost I P) less)
 
 -- a step alone is the move
-pub one-ruled_out : (I : Situation) (P : PlanRows) (m : Move) (step : Step) → m.steps ≡ step ∷ [] → cost I P ≤ cost I (after_step I P step) → is_better I P m ≡ false
+pub one-dear : (I : Situation) (P : PlanRows) (m : Move) (step : Step) → m.steps ≡ step ∷ [] → cost I P ≤ cost I (after_step I P step) → cost I P ≤ cost I (after_move I P m)
 unfolding after_move
-one-ruled_out I P m step is less =
-    dearer-ruled_out I P m (subst (λ (steps : List Step). cost I P ≤ cost I (after_steps I P steps)) (sym is) less)
+one-dear I P m step is less = subst (λ (steps : List Step). cost I P ≤ cost I (after_steps I P steps)) (sym is) less
+
+pub one-ruled_out : (I : Situation) (P : PlanRows) (m : Move) (step : Step) → m.steps ≡ step ∷ [] → cost I P ≤ cost I (after_step I P step) → is_better I P m ≡ false
+one-ruled_out I P m step is less = dearer-ruled_out I P m (one-dear I P m step is less)
 
 pub rebook-step : (I : Situation) (P : PlanRows) (res : Res) (path to : List (Leg × Cabin)) (count : ℕ) → passenger_cost I P res.0 path ≤ passenger_cost I P res.0 to → cost I P ≤ cost I (after_step I P (Rebook res path to count))
 unfolding after_step
@@ -127,3 +130,9 @@ pub one-is : {X : Type 0} (xs : List X) (x : X) → 1 ≤ length xs → length x
 one-is [] x some few is = absurd (omega arith)
 one-is (y ∷ []) x some few is = ap (λ z. z ∷ []) (sym is)
 one-is (y ∷ z ∷ xs) x some few is = absurd (omega arith)
+
+-- a list that has a first element, and those after it
+pub begins-is : {X : Type 0} (xs : List X) (x : X) → 1 ≤ length xs → x ≡ get_or xs 0 x → xs ≡ x ∷ take (length xs - 1) (drop 1 xs)
+begins-is [] x some is = absurd (omega arith)
+begins-is (y ∷ xs) x some is =
+    ap (λ z. z ∷ xs) (sym is) ∙ ap (λ zs. x ∷ zs) (sym (take_all (length (y ∷ xs) - 1) xs (omega arith)))

@@ -3,3 +3,4 @@ pub mod FirstLaws
 pub mod PassedLaws
 pub mod RotationLaws
 pub mod VainLaws
+pub mod OutLaws

@@ -12,9 +12,8 @@ use Rattle.desk_rules.specs.Least.{least}
 use Rattle.desk_rules.proofs.MaintenanceLaws.{flies-holds}
 use Rattle.near_moves.specs.Descent.{is_better}
 use Rattle.near_moves.specs.Near.{unit_moves}
-use Rattle.near_moves.specs.Units.{MoveUnit, handed}
-use Rattle.near_chains.specs.Chains.{from_airport, run_leads_to, stand}
-use Rattle.near_chains.proofs.HandLaws.{handed_unit_in_vain}
+use Rattle.near_moves.specs.Units.{MoveUnit}
+use Rattle.near_chains.specs.Chains.{IsHandedInVain, from_airport, run_leads_to, stand}
 use Rattle.near_search.proofs.PassedLaws.{find_none}
 
 pub none_left : {X : Type 0} (o : Option X) → is_none o ≡ true → o ≡ None
@@ -31,9 +30,9 @@ pub worse-none : (I : Situation) (P : PlanRows) (u : MoveUnit) → All (λ (m : 
 worse-none I P u worse = find_none (is_better I P) (unit_moves I P u) (recursion_from_All (λ (m : Move). is_better I P m ≡ false) (unit_moves I P u) worse)
 
 -- a run that leads elsewhere
-pub handed-worse : (I : Situation) (P : PlanRows) (x k p q from to : ℕ) → is_none (least I P) ≡ true → x < legs_of I → flies P p x ≡ true → q ≢ p → (plane_at I p).surface ≡ false → (plane_at I q).surface ≡ false → from ≡ from_airport I x → to ≡ run_leads_to I P x k → to ≢ from → (to ≢ stand I P p) ⊎ (from ≢ stand I P q) → All (λ (m : Move). is_better I P m ≡ false) (unit_moves I P (handed x k q))
-handed-worse I P x k p q from to feasible within flown other air other_air begins leads on elsewhere =
-    handed_unit_in_vain I P x k q (record {
+pub handed-vain : (I : Situation) (P : PlanRows) (x k p q from to : ℕ) → is_none (least I P) ≡ true → x < legs_of I → flies P p x ≡ true → q ≢ p → (plane_at I p).surface ≡ false → (plane_at I q).surface ≡ false → from ≡ from_airport I x → to ≡ run_leads_to I P x k → to ≢ from → (to ≢ stand I P p) ⊎ (from ≢ stand I P q) → IsHandedInVain I P x k q
+handed-vain I P x k p q from to feasible within flown other air other_air begins leads on elsewhere =
+    record {
       feasible = none_left (least I P) feasible;
       leg = within;
       plane = p;
@@ -47,4 +46,4 @@ handed-worse I P x k p q from to feasible within flown other air other_air begin
         | inl apart ↦ inl (λ same. apart (leads ∙ same))
         | inr apart ↦ inr (λ same. apart (begins ∙ same))
       ];
-    })
+    }

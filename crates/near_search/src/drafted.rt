@@ -1,9 +1,9 @@
 //! Moves that are known not to be better by the rows that they make.
 
-ghost use Rattle.std.specs.Prelude.{◌≡◌, IfOk, false, true};
+ghost use Rattle.std.specs.Prelude.{◌≡◌, IfOk, true};
 ghost use Rattle.plan_moves.specs.Fits.{Fits};
-ghost use Rattle.near_moves.specs.Descent.{is_better};
 ghost use Rattle.near_draft.specs.Drafts.{IsDraftOf};
+ghost use Rattle.near_search.specs.Out.{IsRuledOut};
 ghost use Rattle.near_search.specs.Rotations.{AreRotations};
 
 use crate::rotations::Rotations;
@@ -23,7 +23,7 @@ pub(crate) fn is_known_worse(
 ) -> Result<bool, NoMem>
     requires rotations { AreRotations eval.now.inst eval.now.rows rotations.now }
     requires fits { Fits eval.now.inst m.now }
-    ensures { IfOk result (λ known. known ≡ true → is_better eval.now.inst eval.now.rows m.now ≡ false) }
+    ensures { IfOk result (λ known. known ≡ true → IsRuledOut eval.now.inst eval.now.rows m.now) }
 {
     let Some(draft) = draft_of(alloc, eval, m)? else {
         return Ok(false);
@@ -42,7 +42,7 @@ fn is_worse_by(
     requires rotations { AreRotations eval.now.inst eval.now.rows rotations.now }
     requires fits { Fits eval.now.inst m.now }
     requires draft { IsDraftOf eval.now.inst eval.now.rows m.now draft.now }
-    ensures { IfOk result (λ known. known ≡ true → is_better eval.now.inst eval.now.rows m.now ≡ false) }
+    ensures { IfOk result (λ known. known ≡ true → IsRuledOut eval.now.inst eval.now.rows m.now) }
 {
     if is_too_dear(alloc, eval, rotations, draft, m)? {
         return Ok(true);
@@ -61,7 +61,7 @@ fn is_too_dear(
     requires rotations { AreRotations eval.now.inst eval.now.rows rotations.now }
     requires fits { Fits eval.now.inst m.now }
     requires draft { IsDraftOf eval.now.inst eval.now.rows m.now draft.now }
-    ensures { IfOk result (λ known. known ≡ true → is_better eval.now.inst eval.now.rows m.now ≡ false) }
+    ensures { IfOk result (λ known. known ≡ true → IsRuledOut eval.now.inst eval.now.rows m.now) }
 {
     if !rotations.feasible {
         return Ok(false);

@@ -10,6 +10,7 @@ use crate::legs::first_of_legs;
 use crate::noted::{keep, noted};
 use crate::passengers::first_of_passengers;
 use crate::rotations::Rotations;
+use crate::units::{is_noted_quiet, keep_units, note_quiet, noted_units};
 use desk_data::NoMem;
 use desk_eval::Evaluator;
 use desk_headway::{Listener, Nobody};
@@ -21,8 +22,9 @@ use std::alloc::Global;
 /// The first move of a shard of those near the evaluator's plan that makes it feasible and cheaper, or none
 /// where no move of the shard does. A shard's number is below the number of shards: shard 0 of 1 is all moves.
 /// The evaluator's past has fewer than 1,900,000,000 changes. Moves are tried on the evaluator and taken back:
-/// it stands where it stood, after an error too. What is found to be in vain is noted in the evaluator, for the next
-/// search; the finder keeps nothing, and is not asked. The only error is out of memory.
+/// it stands where it stood, after an error too. What is found out of paths and of units of legs is noted in the evaluator, for
+/// the next search, and that nothing was found, so that the same shard need not be looked at again as long as the plan is the same. The finder keeps
+/// nothing, and is not asked. The only error is out of memory.
 pub fn first_better(
     alloc: Global,
     eval: &mut Evaluator,
@@ -55,9 +57,16 @@ pub fn first_better_heard<L: Listener>(
     ensures eval { eval.new ≡ eval.old }
 {
     let _rows = eval.instance().parts();
+    let mut known = noted_units(alloc, eval)?;
+    if is_noted_quiet(eval, &known, shard, shards) {
+        keep_units(eval, known);
+        return Ok(None);
+    }
     let rotations = Rotations::of(alloc, eval)?;
     let mut units = LegUnits::of(alloc, eval.instance(), eval.plan(), shard, shards)?;
-    if let Some(m) = first_of_legs(alloc, eval, &rotations, &mut units, listener)? {
+    let of_legs = first_of_legs(alloc, eval, &rotations, &mut units, &mut known, listener)?;
+    if let Some(m) = of_legs {
+        keep_units(eval, known);
         return Ok(Some(m));
     }
     let mut passengers = PaxMoves::of(alloc, eval.instance(), eval.plan(), shard, shards)?;
@@ -71,5 +80,9 @@ pub fn first_better_heard<L: Listener>(
         listener,
     )?;
     keep(eval, notes);
+    if found.is_none() {
+        note_quiet(eval, &mut known, shard, shards);
+    }
+    keep_units(eval, known);
     Ok(found)
 }

@@ -1,6 +1,6 @@
 //! Moves that are known not to be better by where legs lead.
 
-ghost use Rattle.std.specs.Prelude.{◌≡◌, ◌<◌, ◌≢◌, ◌∷◌, List as Items, All, false, true};
+ghost use Rattle.std.specs.Prelude.{◌≡◌, ◌<◌, ◌≢◌, ◌∷◌, List as Items, false, true};
 ghost use Rattle.std.specs.List.{list_all};
 ghost use Rattle.plan_moves.specs.declared.moves.Move.{Move};
 ghost use Rattle.plan_moves.specs.declared.moves.Step.{Step as AskedStep};
@@ -9,11 +9,10 @@ ghost use Rattle.plan_moves.specs.Fits.{StepFits};
 ghost use Rattle.desk_data.specs.Situation.{legs_of, plane_at, planes_of};
 ghost use Rattle.desk_data.specs.Valid.{IsRowOf};
 ghost use Rattle.desk_rules.specs.Maintenance.{flies};
-ghost use Rattle.near_moves.specs.Descent.{is_better};
-ghost use Rattle.near_moves.specs.Near.{unit_moves};
-ghost use Rattle.near_moves.specs.Units.{handed};
 ghost use Rattle.near_legs.specs.Choices.{IsLegUnit, unit_of};
-ghost use Rattle.near_chains.specs.Chains.{IsRestoredInVain, IsSwappedInVain, keeps_aircraft};
+ghost use Rattle.near_chains.specs.Chains.{IsHandedInVain, IsRestoredInVain, IsSwappedInVain, keeps_aircraft};
+ghost use Rattle.near_units.specs.Out.{HandsInVain};
+ghost use Rattle.near_search.specs.Out.{IsRuledOut};
 ghost use Rattle.near_search.specs.Rotations.{AreRotations};
 
 use crate::rotations::{Rotations, run_leads_to, stand, stand_before};
@@ -28,7 +27,7 @@ use plan_reads::is_flown;
 pub(crate) fn is_in_vain(eval: &Evaluator, rotations: &Rotations, unit: LegUnit) -> bool
     requires rotations { AreRotations eval.now.inst eval.now.rows rotations.now }
     requires unit { IsLegUnit eval.now.inst eval.now.rows unit }
-    ensures { result ≡ true → All (λ m. is_better eval.now.inst eval.now.rows m ≡ false) (unit_moves eval.now.inst eval.now.rows (unit_of unit)) }
+    ensures { result ≡ true → HandsInVain eval.now.inst eval.now.rows (unit_of unit) }
 {
     match unit {
         LegUnit::Handed { leg, count, plane } => {
@@ -49,7 +48,7 @@ fn is_handed_in_vain(
     requires rotations { AreRotations eval.now.inst eval.now.rows rotations.now }
     requires leg { leg.0 < legs_of eval.now.inst }
     requires plane { plane.0 < planes_of eval.now.inst }
-    ensures { result ≡ true → All (λ m. is_better eval.now.inst eval.now.rows m ≡ false) (unit_moves eval.now.inst eval.now.rows (handed leg.0 count plane.0)) }
+    ensures { result ≡ true → IsHandedInVain eval.now.inst eval.now.rows leg.0 count plane.0 }
 {
     match eval.plan().read_row(leg) {
         Row::Flown { plane: own, .. } => leads_elsewhere(eval, rotations, own, leg, count, plane),
@@ -72,7 +71,7 @@ fn leads_elsewhere(
     requires leg { leg.0 < legs_of eval.now.inst }
     requires flown { flies eval.now.rows own.0 leg.0 ≡ true }
     requires other { other.0 < planes_of eval.now.inst }
-    ensures { result ≡ true → All (λ m. is_better eval.now.inst eval.now.rows m ≡ false) (unit_moves eval.now.inst eval.now.rows (handed leg.0 count other.0)) }
+    ensures { result ≡ true → IsHandedInVain eval.now.inst eval.now.rows leg.0 count other.0 }
 {
     if !rotations.feasible || !are_two_aircraft(eval.instance(), own, other) {
         return false;
@@ -93,7 +92,7 @@ pub(crate) fn are_in_vain(
 ) -> bool
     requires rotations { AreRotations eval.now.inst eval.now.rows rotations.now }
     requires fits { StepFits eval.now.inst first.now }
-    ensures { result ≡ true → (m : Move) → m.steps ≡ first.now ∷ others.now → is_better eval.now.inst eval.now.rows m ≡ false }
+    ensures { result ≡ true → (m : Move) → m.steps ≡ first.now ∷ others.now → IsRuledOut eval.now.inst eval.now.rows m }
 {
     keep_aircraft(others) && begins_in_vain(eval, rotations, first)
 }
@@ -119,7 +118,7 @@ fn keeps_aircraft(step: &Step) -> bool
 fn begins_in_vain(eval: &Evaluator, rotations: &Rotations, step: &Step) -> bool
     requires rotations { AreRotations eval.now.inst eval.now.rows rotations.now }
     requires fits { StepFits eval.now.inst step.now }
-    ensures { result ≡ true → (others : Items AskedStep) (m : Move) → list_all keeps_aircraft others ≡ true → m.steps ≡ step.now ∷ others → is_better eval.now.inst eval.now.rows m ≡ false }
+    ensures { result ≡ true → (others : Items AskedStep) (m : Move) → list_all keeps_aircraft others ≡ true → m.steps ≡ step.now ∷ others → IsRuledOut eval.now.inst eval.now.rows m }
 {
     match step {
         Step::Swap { first, second, at } => {
@@ -158,7 +157,7 @@ fn is_set_in_vain(eval: &Evaluator, rotations: &Rotations, leg: Leg, was: Row, n
     requires rotations { AreRotations eval.now.inst eval.now.rows rotations.now }
     requires leg { leg.0 < legs_of eval.now.inst }
     requires new { IsRowOf (planes_of eval.now.inst) new }
-    ensures { result ≡ true → (others : Items AskedStep) (m : Move) → list_all keeps_aircraft others ≡ true → m.steps ≡ Set leg was new ∷ others → is_better eval.now.inst eval.now.rows m ≡ false }
+    ensures { result ≡ true → (others : Items AskedStep) (m : Move) → list_all keeps_aircraft others ≡ true → m.steps ≡ Set leg was new ∷ others → IsRuledOut eval.now.inst eval.now.rows m }
 {
     match was {
         Row::Cancelled => match new {

@@ -15,6 +15,8 @@
 //! breaks a rule of a leg, by a draft of its rows (`near_draft`). What is known is a law each. A path off which
 //! no rebooking was better is noted in the evaluator, and passed over by the next search as long as nothing is touched
 //! that those hang on (`near_notes`).
+//! So is a unit of legs of each of whose moves it is known why it is not better (`unit_notes`, and `near_later` for a later plan): each test that rules a
+//! move out says why, and a trial does where the plan that the move makes is no cheaper.
 //!
 //! Proved: what is found is the first of `find` over the shard, as `near_moves` defines it, and it fits; the
 //! evaluator stands where it stood, also where memory ran out.
@@ -32,6 +34,7 @@ mod passengers;
 mod rotations;
 mod ruled_out;
 mod trial;
+mod units;
 
 pub use finder::Finder;
 pub use first::{first_better, first_better_heard};

@@ -32,7 +32,7 @@ pub(crate) fn noted(alloc: Global, eval: &mut Evaluator) -> Result<Option<Notes>
 }
 
 /// Whether the evaluator's plan breaks no rule.
-fn is_feasible(eval: &Evaluator) -> bool
+pub(crate) fn is_feasible(eval: &Evaluator) -> bool
     ensures { result ≡ true → least eval.now.inst eval.now.rows ≡ None }
 {
     eval.least_broken().is_none()

@@ -6,9 +6,9 @@ ghost use Rattle.desk_data.specs.Situation.{legs_of, reservations_of};
 ghost use Rattle.desk_data.specs.PlanRows.{groups_at};
 ghost use Rattle.desk_rules.specs.Cost.{cost};
 ghost use Rattle.desk_model.specs.Steps.{after_step};
-ghost use Rattle.near_moves.specs.Descent.{is_better};
 ghost use Rattle.near_pax.specs.Units.{path_at};
 ghost use Rattle.full_cost.specs.Amounts.{passenger_cost};
+ghost use Rattle.near_search.specs.Out.{IsRuledOut};
 ghost use Rattle.near_search.specs.Rotations.{AreRotations};
 
 use crate::in_vain::are_in_vain;
@@ -18,12 +18,12 @@ use desk_eval::Evaluator;
 use full_cost::passenger_cost;
 use plan_moves::{Move, Step};
 
-/// Whether it is known without trying it that a move is not better: it has one step, and that makes no plan
+/// Whether it is known without trying it that a move is not better, and why: it has one step, and that makes the plan no
 /// cheaper; or its first step is in vain; or nobody pays on its aircraft. Where it says no, nothing is known.
 pub(crate) fn ruled_out(eval: &Evaluator, rotations: &Rotations, m: &Move) -> bool
     requires rotations { AreRotations eval.now.inst eval.now.rows rotations.now }
     requires fits { Fits eval.now.inst m.now }
-    ensures { result ≡ true → is_better eval.now.inst eval.now.rows m.now ≡ false }
+    ensures { result ≡ true → IsRuledOut eval.now.inst eval.now.rows m.now }
 {
     match m.steps.as_slice() {
         [step] => is_no_cheaper(eval, step),
@@ -38,7 +38,7 @@ pub(crate) fn ruled_out(eval: &Evaluator, rotations: &Rotations, m: &Move) -> bo
 fn is_unpaid(eval: &Evaluator, rotations: &Rotations, m: &Move) -> bool
     requires rotations { AreRotations eval.now.inst eval.now.rows rotations.now }
     requires fits { Fits eval.now.inst m.now }
-    ensures { result ≡ true → is_better eval.now.inst eval.now.rows m.now ≡ false }
+    ensures { result ≡ true → IsRuledOut eval.now.inst eval.now.rows m.now }
 {
     if !rotations.feasible {
         return false;

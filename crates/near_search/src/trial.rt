@@ -1,9 +1,10 @@
 //! Moves that are tried.
 
-ghost use Rattle.std.specs.Prelude.{◌≡◌, ◌<◌, length, All, IfOk, find};
+ghost use Rattle.std.specs.Prelude.{◌≡◌, ◌<◌, length, All, IfOk, find, true};
 ghost use Rattle.std.specs.Option.{ForSome};
 ghost use Rattle.plan_moves.specs.Fits.{Fits};
 ghost use Rattle.near_moves.specs.Descent.{is_better};
+ghost use Rattle.near_search.specs.Out.{AreMovesOut, IsRuledOut};
 ghost use Rattle.near_search.specs.Rotations.{AreRotations};
 
 use crate::drafted::is_known_worse;
@@ -16,6 +17,24 @@ use desk_headway::Listener;
 use desk_moves::{apply, undo};
 use plan_moves::Move;
 use std::alloc::Global;
+
+/// What is found of some moves.
+#[derive(Drop)]
+pub(crate) struct Tried {
+    /// The first better one, if one is.
+    pub(crate) found: Option<Move>,
+    /// Whether none is, and it is known of each why it is not.
+    pub(crate) out: bool,
+}
+
+/// What is known of a move.
+#[derive(Clone, Copy)]
+pub(crate) struct Verdict {
+    /// Whether it is better.
+    better: bool,
+    /// Whether it is known that it is not, and why, so that its unit may be noted: a rule that it breaks is no reason here.
+    out: bool,
+}
 
 /// The first better one of some moves, which fit; the listener is told of each that is tried. The evaluator stands
 /// where it stood, after an error too.
@@ -36,38 +55,85 @@ pub(crate) fn first_of<M: MovesLeft, L: Listener>(
     ensures units_after { M.units_after eval.old.inst eval.old.rows moves.new ≡ M.units_after eval.old.inst eval.old.rows moves.old }
     ensures eval { eval.new ≡ eval.old }
 {
-    while let Some(m) = moves.next_left(alloc, eval.instance(), eval.plan())? {
-        listener.tried();
-        if is_better(alloc, eval, rotations, &m)? {
-            return Ok(Some(m));
-        }
-    }
-    Ok(None)
+    let tried = try_all(alloc, eval, rotations, moves, listener)?;
+    Ok(tried.found)
 }
 
-/// Whether a move makes the plan feasible and cheaper. It is tried on the evaluator, unless it is known not
-/// to, by the plan or by a draft of its rows. The evaluator stands where it stood, after an error too.
-fn is_better(
+/// The same, and whether they are all out.
+pub(crate) fn try_all<M: MovesLeft, L: Listener>(
+    alloc: Global,
+    eval: &mut Evaluator,
+    rotations: &Rotations,
+    moves: &mut M,
+    listener: &mut L,
+) -> Result<Tried, NoMem>
+    requires rotations { AreRotations eval.old.inst eval.old.rows rotations.now }
+    requires moves { M.is_of eval.old.inst eval.old.rows moves.old }
+    requires fits { All (Fits eval.old.inst) (M.left eval.old.inst eval.old.rows moves.old) }
+    requires depth { length eval.old.past < 1900000000 }
+    ensures ok { IfOk result (λ tried. tried.found ≡ find (is_better eval.old.inst eval.old.rows) (M.left eval.old.inst eval.old.rows moves.old)) }
+    ensures fits { IfOk result (λ tried. ForSome tried.found (Fits eval.old.inst)) }
+    ensures out { IfOk result (λ tried. tried.out ≡ true → AreMovesOut eval.old.inst eval.old.rows (M.left eval.old.inst eval.old.rows moves.old)) }
+    ensures moves { M.is_of eval.old.inst eval.old.rows moves.new }
+    ensures units_after { M.units_after eval.old.inst eval.old.rows moves.new ≡ M.units_after eval.old.inst eval.old.rows moves.old }
+    ensures eval { eval.new ≡ eval.old }
+{
+    let mut out = true;
+    while let Some(m) = moves.next_left(alloc, eval.instance(), eval.plan())? {
+        listener.tried();
+        let verdict = judge(alloc, eval, rotations, &m)?;
+        if verdict.better {
+            return Ok(Tried {
+                found: Some(m),
+                out: false,
+            });
+        }
+        out = out && verdict.out;
+    }
+    Ok(Tried { found: None, out })
+}
+
+/// Whether a move makes the plan feasible and cheaper, and whether it is known why where it does not. It is tried on the
+/// evaluator, unless it is known not to, by the plan or by a draft of its rows. The evaluator stands where it stood, after an
+/// error too.
+fn judge(
     alloc: Global,
     eval: &mut Evaluator,
     rotations: &Rotations,
     m: &Move,
-) -> Result<bool, NoMem>
+) -> Result<Verdict, NoMem>
     requires rotations { AreRotations eval.old.inst eval.old.rows rotations.now }
     requires fits { Fits eval.old.inst m.now }
     requires depth { length eval.old.past < 1900000000 }
-    ensures ok { IfOk result (λ better. better ≡ is_better eval.old.inst eval.old.rows m.now) }
+    ensures better { IfOk result (λ verdict. verdict.better ≡ is_better eval.old.inst eval.old.rows m.now) }
+    ensures out { IfOk result (λ verdict. verdict.out ≡ true → IsRuledOut eval.old.inst eval.old.rows m.now) }
     ensures eval { eval.new ≡ eval.old }
 {
+    let known = Verdict {
+        better: false,
+        out: true,
+    };
     if ruled_out(eval, rotations, m) {
-        return Ok(false);
+        return Ok(known);
     }
     if is_known_worse(alloc, eval, rotations, m)? {
-        return Ok(false);
+        return Ok(known);
     }
+    try_move(alloc, eval, m)
+}
+
+/// The same by a trial on the evaluator: it is out where the plan is no cheaper then.
+fn try_move(alloc: Global, eval: &mut Evaluator, m: &Move) -> Result<Verdict, NoMem>
+    requires fits { Fits eval.old.inst m.now }
+    requires depth { length eval.old.past < 1900000000 }
+    ensures better { IfOk result (λ verdict. verdict.better ≡ is_better eval.old.inst eval.old.rows m.now) }
+    ensures out { IfOk result (λ verdict. verdict.out ≡ true → IsRuledOut eval.old.inst eval.old.rows m.now) }
+    ensures eval { eval.new ≡ eval.old }
+{
     let now = eval.cost();
     let applied = apply(alloc, eval, m)?;
     let better = eval.least_broken().is_none() && eval.cost().0 < now.0;
+    let out = now.0 <= eval.cost().0;
     undo(eval, applied);
-    Ok(better)
+    Ok(Verdict { better, out })
 }

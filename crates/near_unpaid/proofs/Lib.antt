@@ -1,2 +1,3 @@
+pub mod DearLaws
 pub mod UnpaidLaws
 pub mod PayerLaws

@@ -22,20 +22,20 @@ use Rattle.plan_moves.specs.declared.moves.Step.{Step}
 use Rattle.plan_moves.specs.declared.moves.Step.TheVariants.{Set, Push, Swap, Rebook, Tidy, Refill}
 use Rattle.desk_rules.specs.Least.{least}
 use Rattle.desk_rules.specs.Maintenance.{flies}
-use Rattle.desk_rules.specs.Cost.{grains, is_wanted, ends_at, at_hand}
+use Rattle.desk_rules.specs.Cost.{cost, grains, is_wanted, ends_at, at_hand}
 use Rattle.desk_model.specs.Refill.{has_leg}
 use Rattle.plan_reads.specs.Last.{IsLastOf, stand}
 use Rattle.plan_reads.proofs.LastLaws.{left_asked}
 use Rattle.full_cost.specs.Amounts.{reservation_cost}
 use Rattle.full_cost.specs.Stands.{end_of, is_there}
-use Rattle.near_moves.specs.Descent.{is_better}
+use Rattle.desk_model.specs.Steps.{after_move}
 use Rattle.near_trial.specs.RowRules.{keeps_rows}
 use Rattle.near_alone.specs.Alone.{leaves_alone}
 use Rattle.near_dearer.specs.Planes.{is_on}
 use Rattle.near_unpaid.specs.declared.payers.Payers.{Payers}
 use Rattle.near_unpaid.specs.Unpaid.{flies_on, HasNoneToSave, may_serve, services, saved_by_ending, flown_again}
 use Rattle.near_unpaid.specs.Payers.{AreCosts, is_marked, AreKept, AreFliersMarked, AreLegsMarked, IsMarked, AreMarked, ArePayers, spares}
-use Rattle.near_unpaid.proofs.UnpaidLaws.{list-weaker, unpaid-worse}
+use Rattle.near_unpaid.proofs.UnpaidLaws.{list-weaker, unpaid-dear}
 
 -- ---- what reservations cost
 
@@ -186,8 +186,8 @@ spared-rows booked (Rebook res path to count) spares_it = absurd cc
 spared-rows booked Tidy spares_it = refl
 spared-rows booked (Refill leg) spares_it = refl
 
-pub payers-worse : (I : Situation) (P : PlanRows) (payers : Payers) (m : Move) (first others : List Step) (a b : ℕ) → IsValid I → IsPlanFor I P → ArePayers I P payers → Fits I m → m.steps ≡ first ++ others → list_all (flies_on P a b) first ≡ true → list_all (spares payers.booked.items) others ≡ true → (plane_at I a).hourly.0 ≡ (plane_at I b).hourly.0 → is_marked payers.on.items a ≡ false → is_marked payers.on.items b ≡ false → saved_by_ending I P a b ≤ flown_again I P first → least I P ≡ None → is_better I P m ≡ false
-payers-worse I P payers m first others a b valid plan are fits steps on spared_all hourly off_a off_b less feasible =
+pub payers-dear : (I : Situation) (P : PlanRows) (payers : Payers) (m : Move) (first others : List Step) (a b : ℕ) → IsValid I → IsPlanFor I P → ArePayers I P payers → Fits I m → m.steps ≡ first ++ others → list_all (flies_on P a b) first ≡ true → list_all (spares payers.booked.items) others ≡ true → (plane_at I a).hourly.0 ≡ (plane_at I b).hourly.0 → is_marked payers.on.items a ≡ false → is_marked payers.on.items b ≡ false → saved_by_ending I P a b ≤ flown_again I P first → least I P ≡ None → cost I P ≤ cost I (after_move I P m)
+payers-dear I P payers m first others a b valid plan are fits steps on spared_all hourly off_a off_b less feasible =
     let on_marks = payers.on.items in
     let booked = payers.booked.items in
     let none : (r : ℕ) → r < reservations_of I → HasNoneToSave I P a b others r = λ r lt.
@@ -199,4 +199,4 @@ payers-worse I P payers m first others a b valid plan are fits steps on spared_a
         list-weaker (spares booked) (leaves_alone I r) others (spared I booked r marked.path) spared_all,
       )
     ] in
-    unpaid-worse I P m first others a b valid plan feasible fits steps on (list-weaker (spares booked) keeps_rows others (spared-rows booked) spared_all) hourly none less
+    unpaid-dear I P m first others a b valid plan feasible fits steps on (list-weaker (spares booked) keeps_rows others (spared-rows booked) spared_all) hourly none less

@@ -27,11 +27,11 @@ use Rattle.desk_rules.specs.Least.{least}
 use Rattle.desk_rules.specs.Rows.{is_row}
 use Rattle.desk_rules.specs.Maintenance.{is_flown_by, flies}
 use Rattle.desk_rules.specs.Passengers.{is_flown}
-use Rattle.desk_rules.specs.Cost.{weight, rows_of, by_hour, operating_of, operating, operating_cost, is_wanted, ends_at, at_hand, missing_aircraft, position_cost}
+use Rattle.desk_rules.specs.Cost.{cost, weight, rows_of, by_hour, operating_of, operating, operating_cost, is_wanted, ends_at, at_hand, missing_aircraft, position_cost}
 use Rattle.desk_rules.specs.Words.{IsFeasible, IsFlown, TakesThere}
 use Rattle.desk_rules.proofs.LeastLaws.{feasible-holds}
 use Rattle.desk_model.specs.Swap.{row_after_swap}
-use Rattle.desk_model.specs.Steps.{after_set, after_step, after_steps}
+use Rattle.desk_model.specs.Steps.{after_set, after_step, after_steps, after_move}
 use Rattle.desk_model.proofs.SetLaws.{with_row-same, with_row-other}
 use Rattle.desk_model.proofs.SwapLaws.{after_swap-row}
 use Rattle.desk_model.proofs.MoveLaws.{after_steps-valid}
@@ -44,7 +44,6 @@ use Rattle.near_moves.specs.Descent.{is_better}
 use Rattle.near_moves.proofs.FromLaws.{or_cases, or_left}
 use Rattle.near_trial.specs.RowRules.{keeps_rows}
 use Rattle.near_alone.specs.Alone.{IsLeftAlone, leaves_alone, cost_of_some}
-use Rattle.near_alone.proofs.AloneLaws.{saves-worse}
 use Rattle.near_units.specs.Same.{is_of, IsOwn, AgreeOn, FliesSame}
 use Rattle.near_units.specs.Steps.{is_among}
 use Rattle.near_units.specs.Room.{IsSameRoom, HaveSameRoom, AreMadeAlike}
@@ -52,6 +51,7 @@ use Rattle.near_units.proofs.FrameLaws.{steps-alike, start-alike}
 use Rattle.near_units.proofs.MoveLaws.{flier-flies}
 use Rattle.near_units.proofs.RuleLaws.{left_at-same}
 use Rattle.near_dearer.specs.Planes.{is_on}
+use Rattle.near_unpaid.proofs.DearLaws.{saves-dear, dear-worse}
 use Rattle.near_unpaid.specs.Unpaid.{is_either, is_own_leg, flies_on, HasNoneToSave, may_serve, services, saved_by_ending, flown_again}
 
 -- ---- sums
@@ -503,14 +503,18 @@ first-fit : (I : Situation) (first others : List Step) → AllByRecursion (StepF
 first-fit I [] others fits = tt
 first-fit I (step ∷ first) others fits = (fits.0, first-fit I first others fits.1)
 
-pub unpaid-worse : (I : Situation) (P : PlanRows) (m : Move) (first others : List Step) (a b : ℕ) → IsValid I → IsPlanFor I P → least I P ≡ None → Fits I m → m.steps ≡ first ++ others → list_all (flies_on P a b) first ≡ true → list_all keeps_rows others ≡ true → (plane_at I a).hourly.0 ≡ (plane_at I b).hourly.0 → ((r : ℕ) → r < reservations_of I → HasNoneToSave I P a b others r) → saved_by_ending I P a b ≤ flown_again I P first → is_better I P m ≡ false
-unpaid-worse I P m first others a b valid plan feasible fits steps on keeps hourly unpaid less =
+pub unpaid-dear : (I : Situation) (P : PlanRows) (m : Move) (first others : List Step) (a b : ℕ) → IsValid I → IsPlanFor I P → least I P ≡ None → Fits I m → m.steps ≡ first ++ others → list_all (flies_on P a b) first ≡ true → list_all keeps_rows others ≡ true → (plane_at I a).hourly.0 ≡ (plane_at I b).hourly.0 → ((r : ℕ) → r < reservations_of I → HasNoneToSave I P a b others r) → saved_by_ending I P a b ≤ flown_again I P first → cost I P ≤ cost I (after_move I P m)
+unpaid-dear I P m first others a b valid plan feasible fits steps on keeps hourly unpaid less =
     let all : AllByRecursion (StepFits I) first = first-fit I first others (subst (AllByRecursion (StepFits I)) steps (recursion_from_All (StepFits I) m.steps fits.each)) in
     let flying = again-le I P a b first all on hourly plan in
     let positions = positions-all I P a b first on hourly in
-    saves-worse I P m first others (costs_something I P) valid (after_steps-valid I P first valid all plan) feasible steps (made I P a b first on).groups keeps
+    saves-dear I P m first others (costs_something I P) valid (after_steps-valid I P first valid all plan) feasible steps (made I P a b first on).groups keeps
     (λ r lt some. elim (unpaid r lt) [
       | inl none ↦ absurd (costs-apart (reservation_cost I P r) some none)
       | inr off ↦ alone I P a b first on hourly (feasible-holds I P feasible) others r lt off.0 off.1 off.2
     ])
     (omega (arith, cost_is I P, all-cost I P, flying, positions, less))
+
+pub unpaid-worse : (I : Situation) (P : PlanRows) (m : Move) (first others : List Step) (a b : ℕ) → IsValid I → IsPlanFor I P → least I P ≡ None → Fits I m → m.steps ≡ first ++ others → list_all (flies_on P a b) first ≡ true → list_all keeps_rows others ≡ true → (plane_at I a).hourly.0 ≡ (plane_at I b).hourly.0 → ((r : ℕ) → r < reservations_of I → HasNoneToSave I P a b others r) → saved_by_ending I P a b ≤ flown_again I P first → is_better I P m ≡ false
+unpaid-worse I P m first others a b valid plan feasible fits steps on keeps hourly unpaid less =
+    dear-worse I P m (unpaid-dear I P m first others a b valid plan feasible fits steps on keeps hourly unpaid less)

@@ -7,9 +7,10 @@ ghost use Rattle.plan_moves.specs.Fits.{Fits, StepFits};
 ghost use Rattle.plan_moves.specs.declared.moves.Move.{Move as Asked};
 ghost use Rattle.desk_data.specs.Situation.{plane_at, planes_of};
 ghost use Rattle.desk_data.specs.Valid.{IsPlanFor, IsRowOf};
+ghost use Rattle.desk_rules.specs.Cost.{cost};
 ghost use Rattle.desk_rules.specs.Least.{least};
+ghost use Rattle.desk_model.specs.Steps.{after_move};
 ghost use Rattle.desk_rules.specs.Passengers.{is_flown};
-ghost use Rattle.near_moves.specs.Descent.{is_better};
 ghost use Rattle.near_units.specs.Same.{is_of};
 ghost use Rattle.near_unpaid.specs.Unpaid.{flies_on, flown_again, is_either, is_own_leg, saved_by_ending, services};
 ghost use Rattle.near_unpaid.specs.Payers.{ArePayers, is_marked, spares};
@@ -24,13 +25,13 @@ use plan_pages::Pages;
 use plan_reads::is_flown;
 
 impl Payers {
-    /// Whether it is known that a move of a feasible plan is not better, since nobody pays on its aircraft. The payers are those
+    /// Whether it is known that a move makes a feasible plan no cheaper, since nobody pays on its aircraft. The payers are those
     /// at the plan. Where it says no, nothing is known.
     pub fn rule_out(&self, inst: &Instance, plan: &Pages, m: &Move) -> bool
         requires plan { IsPlanFor inst.now plan.now }
         requires payers { ArePayers inst.now plan.now self.now }
         requires fits { Fits inst.now m.now }
-        ensures { result ≡ true → least inst.now plan.now ≡ None → is_better inst.now plan.now m.now ≡ false }
+        ensures { result ≡ true → least inst.now plan.now ≡ None → cost inst.now plan.now ≤ cost inst.now (after_move inst.now plan.now m.now) }
     {
         let steps = m.steps.as_slice();
         let (first, others) = steps.split_at(first_steps(steps));
@@ -55,7 +56,7 @@ impl Payers {
         requires fits { All (StepFits inst.now) first.now }
         requires one { one.0 < planes_of inst.now }
         requires other { other.0 < planes_of inst.now }
-        ensures { result ≡ true → (m : Asked) → Fits inst.now m → m.steps ≡ first.now ++ others.now → least inst.now plan.now ≡ None → is_better inst.now plan.now m ≡ false }
+        ensures { result ≡ true → (m : Asked) → Fits inst.now m → m.steps ≡ first.now ++ others.now → least inst.now plan.now ≡ None → cost inst.now plan.now ≤ cost inst.now (after_move inst.now plan.now m) }
     {
         let _rows = inst.parts();
         if !fly_on(inst, plan, one, other, first) {

@@ -131,22 +131,28 @@ fn put_words(
         Part::Given(flight),
         Part::Own("</tspan>"),
     ])?;
-    let origin = airport_name(inst, info.origin);
-    let dest = airport_name(inst, info.dest);
-    let route = flight
-        .len()
-        .saturating_add(origin.len())
-        .saturating_add(dest.len());
-    if fits(route.saturating_add(2), 7, at.width) {
-        page.put(&[
-            Part::Own(" "),
-            Part::Given(origin),
-            Part::Own("-"),
-            Part::Given(dest),
-        ])?;
-    }
+    put_route(page, inst, info, at)?;
     page.put(&[Part::Own("</text>")])?;
     put_times(page, bar, aboard, x, at)
+}
+
+// Puts the route of a flown leg behind its flight, where there is room.
+fn put_route(page: &mut Page, inst: &Instance, info: &LegInfo, at: Place) -> Result<(), NoMem> {
+    let origin = airport_name(inst, info.origin);
+    let dest = airport_name(inst, info.dest);
+    let flight = info.flight.as_slice().len();
+    let route = flight
+        .saturating_add(origin.len())
+        .saturating_add(dest.len());
+    if !fits(route.saturating_add(2), 7, at.width) {
+        return Ok(());
+    }
+    page.put(&[
+        Part::Own(" "),
+        Part::Given(origin),
+        Part::Own("-"),
+        Part::Given(dest),
+    ])
 }
 
 // Puts the times of a flown leg, and its passengers after them where there is room.
@@ -232,23 +238,37 @@ fn put_title<'a>(
     ])?;
     put_time(page, info.sched, info.day)?;
     page.put(&[Part::Own(" by "), Part::Given(plane_name(inst, info.plane))])?;
+    put_state(page, inst, info, bar, aboard)?;
+    page.put(&[Part::Own("</title>")])
+}
+
+// Puts what became of a leg.
+fn put_state(
+    page: &mut Page,
+    inst: &Instance,
+    info: &LegInfo,
+    bar: &Bar,
+    aboard: u32,
+) -> Result<(), NoMem> {
     match bar.look {
-        Look::Cancelled => page.put(&[Part::Own(", cancelled")])?,
+        Look::Cancelled => page.put(&[Part::Own(", cancelled")]),
         Look::Left { now } => page.put(&[
             Part::Own(", flown by "),
             Part::Given(plane_name(inst, Plane(now))),
-        ])?,
-        Look::Flown { .. } => {
-            page.put(&[Part::Own(", departs ")])?;
-            put_time(page, Minute(bar.from), info.day)?;
-            page.put(&[
-                Part::Own(" with "),
-                Part::Number(u64::from(aboard)),
-                Part::Own(" passengers"),
-            ])?;
-        }
+        ]),
+        Look::Flown { .. } => put_departure(page, info, bar, aboard),
     }
-    page.put(&[Part::Own("</title>")])
+}
+
+// Puts when a leg departs, and with how many passengers.
+fn put_departure(page: &mut Page, info: &LegInfo, bar: &Bar, aboard: u32) -> Result<(), NoMem> {
+    page.put(&[Part::Own(", departs ")])?;
+    put_time(page, Minute(bar.from), info.day)?;
+    page.put(&[
+        Part::Own(" with "),
+        Part::Number(u64::from(aboard)),
+        Part::Own(" passengers"),
+    ])
 }
 
 /// Puts a bar. The first piece of time in which a flown or cancelled leg stands has the mark `#legN`, to which the table of
@@ -267,20 +287,37 @@ pub(crate) fn put_bar(
     let x = span.place(bar.from);
     let width = span.place(bar.to).saturating_sub(x).max(2);
     let at = Place { x, y, width };
+    put_start(page, span, bar)?;
+    put_title(page, inst, info, bar, aboard)?;
+    put_shape(page, bar.look, at)?;
+    put_inside(page, inst, info, bar, aboard, at)?;
+    page.put(&[Part::Own("</g>")])
+}
+
+// Puts the start of a bar, with its mark.
+fn put_start(page: &mut Page, span: Span, bar: &Bar) -> Result<(), NoMem> {
     page.put(&[Part::Own("<g class=\""), Part::Own(class_of(bar.look))])?;
     if span.from <= bar.from && !matches!(bar.look, Look::Left { .. }) {
         page.put(&[Part::Own("\" id=\"leg"), Part::Number(u64::from(bar.leg))])?;
     }
-    page.put(&[Part::Own("\">")])?;
-    put_title(page, inst, info, bar, aboard)?;
-    put_shape(page, bar.look, at)?;
+    page.put(&[Part::Own("\">")])
+}
+
+// Puts what stands in the outline of a bar.
+fn put_inside(
+    page: &mut Page,
+    inst: &Instance,
+    info: &LegInfo,
+    bar: &Bar,
+    aboard: u32,
+    at: Place,
+) -> Result<(), NoMem> {
     match bar.look {
-        Look::Flown { .. } => put_words(page, inst, info, bar, aboard, at)?,
-        Look::Left { .. } => put_left(page, inst, info, bar.look, at)?,
+        Look::Flown { .. } => put_words(page, inst, info, bar, aboard, at),
+        Look::Left { .. } => put_left(page, inst, info, bar.look, at),
         Look::Cancelled => {
             put_cross(page, at)?;
-            put_left(page, inst, info, bar.look, at)?;
+            put_left(page, inst, info, bar.look, at)
         }
     }
-    page.put(&[Part::Own("</g>")])
 }

@@ -89,15 +89,6 @@ fn put_span(
         return Ok(());
     }
     let closures = closures_in(alloc, inst, span)?;
-    put_grid(page, span, number)?;
-    page.put(&[
-        Part::Own("<table class=\"gantt\"><caption>Aircraft on "),
-        Part::Given(&date(Minute(span.from))),
-        Part::Own("</caption>\n"),
-    ])?;
-    put_hours(page, span)?;
-    page.put(&[Part::Own("<tbody>\n")])?;
-    put_airports(page, inst, closures.as_slice(), span, number)?;
     let sheet = Sheet {
         inst,
         bars,
@@ -107,8 +98,27 @@ fn put_span(
         number,
         is_dense: inst.planes() > FULL_ROWS,
     };
-    put_planes(page, alloc, &sheet)?;
+    put_table(page, alloc, &sheet)
+}
+
+// Puts the table of a piece of time, below the lines of its hours.
+fn put_table(page: &mut Page, alloc: Global, sheet: &Sheet<'_>) -> Result<(), NoMem> {
+    put_head(page, sheet.span, sheet.number)?;
+    put_airports(page, sheet.inst, sheet.closures, sheet.span, sheet.number)?;
+    put_planes(page, alloc, sheet)?;
     page.put(&[Part::Own("</tbody></table>\n")])
+}
+
+// Puts the lines of a piece's hours, the caption of its table, and the hours above the rows.
+fn put_head(page: &mut Page, span: Span, number: u32) -> Result<(), NoMem> {
+    put_grid(page, span, number)?;
+    page.put(&[
+        Part::Own("<table class=\"gantt\"><caption>Aircraft on "),
+        Part::Given(&date(Minute(span.from))),
+        Part::Own("</caption>\n"),
+    ])?;
+    put_hours(page, span)?;
+    page.put(&[Part::Own("<tbody>\n")])
 }
 
 /// Puts the picture on a page, a table for each day. The only error is out of memory.

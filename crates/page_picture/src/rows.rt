@@ -52,16 +52,22 @@ fn put_thin(page: &mut Page, sheet: &Sheet<'_>, bars: &[Bar], plane: u32) -> Res
     ])?;
     put_services(page, sheet.inst, sheet.span, plane, 5)?;
     page.put(&[Part::Own("<path class=\"thin-bar\" d=\"")])?;
+    put_marks(page, sheet.span, bars)?;
+    page.put(&[Part::Own("\"/></svg>")])
+}
+
+// Puts a thin mark for each bar.
+fn put_marks(page: &mut Page, span: Span, bars: &[Bar]) -> Result<(), NoMem> {
     for bar in bars {
-        let x = sheet.span.place(bar.from);
+        let x = span.place(bar.from);
         page.put(&[
             Part::Own("M"),
             Part::Number(u64::from(x)),
             Part::Own(" 4.5H"),
-            Part::Number(u64::from(sheet.span.place(bar.to).saturating_sub(2).max(x))),
+            Part::Number(u64::from(span.place(bar.to).saturating_sub(2).max(x))),
         ])?;
     }
-    page.put(&[Part::Own("\"/></svg>")])
+    Ok(())
 }
 
 // Puts a row with its bars, the flown ones in lanes above and the outlines below.
@@ -72,6 +78,19 @@ fn put_full(page: &mut Page, sheet: &Sheet<'_>, bars: &[Bar], plane: u32) -> Res
         .saturating_add(2);
     let below = lanes_of(bars, false).saturating_mul(OUTLINE + 1);
     let height = above.saturating_add(below).saturating_add(2);
+    put_behind(page, sheet, bars, plane, height)?;
+    put_bars(page, sheet, bars, above)?;
+    page.put(&[Part::Own("</svg>")])
+}
+
+// Puts what stands behind the bars of a row.
+fn put_behind(
+    page: &mut Page,
+    sheet: &Sheet<'_>,
+    bars: &[Bar],
+    plane: u32,
+    height: u32,
+) -> Result<(), NoMem> {
     page.put(&[
         Part::Own("<svg viewBox=\"0 0 1440 "),
         Part::Number(u64::from(height)),
@@ -83,7 +102,11 @@ fn put_full(page: &mut Page, sheet: &Sheet<'_>, bars: &[Bar], plane: u32) -> Res
         Part::Number(u64::from(sheet.number)),
         Part::Own("\"/>"),
     ])?;
-    put_services(page, sheet.inst, sheet.span, plane, BAR)?;
+    put_services(page, sheet.inst, sheet.span, plane, BAR)
+}
+
+// Puts the bars of a row, and the outlines below so many units.
+fn put_bars(page: &mut Page, sheet: &Sheet<'_>, bars: &[Bar], above: u32) -> Result<(), NoMem> {
     for bar in bars {
         let lane = lane_of(bars, bar);
         let y = if bar.is_flown() {
@@ -100,29 +123,43 @@ fn put_full(page: &mut Page, sheet: &Sheet<'_>, bars: &[Bar], plane: u32) -> Res
             y,
         )?;
     }
-    page.put(&[Part::Own("</svg>")])
+    Ok(())
 }
 
 // Puts the row of an aircraft.
 fn put_row(page: &mut Page, alloc: Global, sheet: &Sheet<'_>, plane: u32) -> Result<(), NoMem> {
     let span = sheet.span;
     let bars = bars_in(alloc, sheet.bars, plane, span.from, span.end())?;
-    let bars = bars.as_slice();
+    put_row_of(page, sheet, bars.as_slice(), plane)
+}
+
+// Puts the row of an aircraft with these bars.
+fn put_row_of(page: &mut Page, sheet: &Sheet<'_>, bars: &[Bar], plane: u32) -> Result<(), NoMem> {
     let is_thin = sheet.is_dense && !bars.iter().any(|bar| bar.is_change());
     let class = if is_thin { "thin-row" } else { "row" };
-    page.put(&[
-        Part::Own("<tr class=\""),
-        Part::Own(class),
-        Part::Own("\"><th scope=\"row\">"),
-    ])?;
-    put_label(page, sheet.inst, plane)?;
-    page.put(&[Part::Own("</th><td>")])?;
+    put_row_start(page, sheet.inst, class, plane)?;
     if is_thin {
         put_thin(page, sheet, bars, plane)?;
     } else {
         put_full(page, sheet, bars, plane)?;
     }
     page.put(&[Part::Own("</td></tr>\n")])
+}
+
+// Puts the start of the row of an aircraft, up to its drawing.
+fn put_row_start(
+    page: &mut Page,
+    inst: &Instance,
+    class: &'static str,
+    plane: u32,
+) -> Result<(), NoMem> {
+    page.put(&[
+        Part::Own("<tr class=\""),
+        Part::Own(class),
+        Part::Own("\"><th scope=\"row\">"),
+    ])?;
+    put_label(page, inst, plane)?;
+    page.put(&[Part::Own("</th><td>")])
 }
 
 // Whether two aircraft are of one family.
@@ -143,22 +180,28 @@ fn is_first(inst: &Instance, plane: u32) -> bool {
     true
 }
 
+// Puts the name of the family of an aircraft.
+fn put_family_name(page: &mut Page, inst: &Instance, first: u32) -> Result<(), NoMem> {
+    let Some(info) = plane_of(inst, Plane(first)) else {
+        return Ok(());
+    };
+    page.put(&[
+        Part::Own("<tr class=\"f\"><th scope=\"rowgroup\">"),
+        Part::Given(info.family.as_slice()),
+        Part::Own("</th><td>"),
+        Part::Own(if info.surface {
+            "surface transport"
+        } else {
+            ""
+        }),
+        Part::Own("</td></tr>\n"),
+    ])
+}
+
 // Puts the aircraft of a family, in their order, below its name.
 fn put_family(page: &mut Page, alloc: Global, sheet: &Sheet<'_>, first: u32) -> Result<(), NoMem> {
     let inst = sheet.inst;
-    if let Some(info) = plane_of(inst, Plane(first)) {
-        page.put(&[
-            Part::Own("<tr class=\"f\"><th scope=\"rowgroup\">"),
-            Part::Given(info.family.as_slice()),
-            Part::Own("</th><td>"),
-            Part::Own(if info.surface {
-                "surface transport"
-            } else {
-                ""
-            }),
-            Part::Own("</td></tr>\n"),
-        ])?;
-    }
+    put_family_name(page, inst, first)?;
     for plane in first..inst.planes() {
         if same_family(inst, first, plane) {
             put_row(page, alloc, sheet, plane)?;

@@ -3,7 +3,7 @@
 use crate::airports::{Closure, Limit};
 use crate::axis::{Span, WIDTH};
 use crate::bars::Bar;
-use desk_data::{Instance, Leg, NoMem, Plane};
+use desk_data::{Instance, Leg, Maint, NoMem, Plane};
 use page_text::{Page, Part};
 use page_values::{airport_name, leg_of, plane_of};
 
@@ -74,13 +74,26 @@ pub(crate) fn put_background(
     let (from, to) = inst.window();
     put_shade(page, span, span.from, from.0, "out", "", 0, height)?;
     put_shade(page, span, to.0, span.end(), "out", "", 0, height)?;
+    put_closed(page, inst, closures, bars, span, height)?;
+    put_edge(page, span, from.0, height)?;
+    put_edge(page, span, to.0, height)
+}
+
+// Puts the hours in which an airport of some legs is closed.
+fn put_closed(
+    page: &mut Page,
+    inst: &Instance,
+    closures: &[Closure],
+    bars: &[Bar],
+    span: Span,
+    height: u32,
+) -> Result<(), NoMem> {
     for closure in closures {
         if closure.limit == Limit::Closed && is_used(inst, bars, closure) {
             put_shade(page, span, closure.from, closure.to, "near", "", 0, height)?;
         }
     }
-    put_edge(page, span, from.0, height)?;
-    put_edge(page, span, to.0, height)
+    Ok(())
 }
 
 // Puts the line of the window's start or end.
@@ -125,8 +138,19 @@ pub(crate) fn put_services(
     for (from, to) in inst.spans(Plane(plane)) {
         put_shade(page, span, from.0, to.0, "oos", "out of service", 2, height)?;
     }
-    if let Some(maint) = inst.plane(Plane(plane)).maint {
-        put_shade(
+    put_maintenance(page, span, inst.plane(Plane(plane)).maint, height)
+}
+
+// Puts the maintenance of an aircraft, if it has any.
+fn put_maintenance(
+    page: &mut Page,
+    span: Span,
+    maint: Option<Maint>,
+    height: u32,
+) -> Result<(), NoMem> {
+    match maint {
+        None => Ok(()),
+        Some(maint) => put_shade(
             page,
             span,
             maint.from.0,
@@ -135,9 +159,8 @@ pub(crate) fn put_services(
             "maintenance",
             2,
             height,
-        )?;
+        ),
     }
-    Ok(())
 }
 
 /// Puts the label of an aircraft: its name, model and seats.

@@ -7,7 +7,7 @@ use crate::shared::{CopyItems, SharedItems};
 use std::alloc::{AllocError, Global};
 use std::marker::Model;
 
-/// How many items a page has: each page but the last has so many, and the last at least one.
+/// How many items a page has: each page but the last has just so many, and the last no more.
 const ITEMS_OF_PAGE: usize = 16;
 
 /// A list in pages, which its copies share. Contracts see it as the list of its items.

@@ -1,37 +1,25 @@
-//! The rules of the paths on which passengers are carried, asked in pieces of the reservations.
+//! The rules of the paths on which passengers are carried, asked of a piece of the reservations.
 
-ghost use Rattle.std.specs.Prelude.{◌≡◌, ◌<◌, true, not, None};
+ghost use Rattle.std.specs.Prelude.{◌≡◌, ◌<◌, true};
 ghost use Rattle.desk_data.specs.Situation.{reservations_of};
 ghost use Rattle.desk_data.specs.Valid.{IsPlanFor};
-ghost use Rattle.par_check.specs.Paths.{first_of_paths, keeps_paths};
+ghost use Rattle.par_check.specs.Paths.{KeepPaths, keeps_paths};
 
 use desk_data::{Instance, Plan, Res};
-use rayon::prelude::*;
 use rule_pax::{keeps_c13, keeps_c14, keeps_c15};
-use std::thread::Threads;
 
-// A thread costs as much as some thousand reservations, so a piece has so many at least.
-const LEAST_PIECE: usize = 20_000;
-
-/// Whether no reservation breaks C13, C14 or C15. Each is asked, in pieces of 20,000 reservations or more.
-pub(crate) fn are_paths_kept<R: Threads + Sync>(rt: &R, inst: &Instance, plan: &Plan) -> bool
+/// Whether no reservation from one number on, before another, breaks C13, C14 or C15. Of numbers that are past the last
+/// reservation none is asked.
+pub(crate) fn are_paths_kept(inst: &Instance, plan: &Plan, from: u32, to: u32) -> bool
     requires { IsPlanFor inst.now plan.now }
-    ensures { result ≡ true → first_of_paths inst.now plan.now ≡ None }
+    ensures { result ≡ true → KeepPaths inst.now plan.now from to }
 {
-    let broken = (0..inst.reservations())
-        .into_par_iter()
-        .with_min_len(LEAST_PIECE)
-        .find_first(
-            rt,
-            |r: &u32| -> bool
-                requires { IsPlanFor inst.now plan.now × (r.now < reservations_of inst.now) }
-                ensures { result ≡ not (keeps_paths inst.entry.now plan.entry.now r.entry.now) }
-            { !keeps_paths(inst, plan, Res(*r)) },
-        );
-    match broken {
-        None => true,
-        Some(_) => false,
+    for r in from..to.min(inst.reservations()) {
+        if !keeps_paths(inst, plan, Res(r)) {
+            return false;
+        }
     }
+    true
 }
 
 /// Whether a reservation keeps C13, C14 and C15.

@@ -12,7 +12,8 @@ abbrev pub version_at : List PlanRows → ℕ → PlanRows
 version_at versions which = slice_index_or versions which no_plan
 
 -- what becomes of versions: another one comes to share the pages of one, and stands last; one is dropped, and those after it move up by a
--- place; or one is replaced by another plan: a row, groups or a page of it has changed
+-- place; or one is replaced by another plan: a row, groups or a page of it has changed. Another plan that shares pages with one (`Pages::with_plan`)
+-- is a shared copy that is replaced
 pub data VersionChange : Type 0 where
   shared : ℕ → VersionChange
   dropped : ℕ → VersionChange

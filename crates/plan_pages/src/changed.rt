@@ -4,7 +4,7 @@ ghost use Rattle.std.specs.Prelude.{◌≡◌, ◌≢◌, ◌<◌, ℕ, length, 
 ghost use Rattle.desk_data.specs.PlanRows.{IsRow, with_row, with_groups, groups_at};
 
 use crate::pages::{Pages, taken_groups};
-use crate::same::{are_same_groups, is_same_row};
+use crate::same::are_same_groups;
 use desk_data::{Leg, NoMem, Plan, Res, Row};
 use std::alloc::Global;
 
@@ -31,7 +31,7 @@ fn put_row(alloc: Global, pages: &mut Pages, leg: Leg, row: Row) -> Result<(), N
     requires row { IsRow row }
     ensures { OnOk result (pages.new ≡ with_row pages.old leg.0 row) }
 {
-    if !is_same_row(pages.read_row(leg), row) {
+    if pages.read_row(leg) != row {
         let _stood = pages.replace_row(alloc, leg, row)?;
     }
     Ok(())

@@ -26,7 +26,7 @@ mod versions;
 
 pub use page::Page;
 pub use pages::{Pages, copied_groups};
-pub use same::{are_same_groups, is_same_row};
+pub use same::are_same_groups;
 pub use versions::{
     a_version_stays_whatever_is_done_with_others, change_groups_of, change_row_of, drop_version,
     put_back_in, share_version,

@@ -68,7 +68,7 @@ impl Pages {
 
     /// The pages of another plan of the day, which is handed in. A page on which both plans have the same is shared, and
     /// so are the groups of each reservation that has the same in both; no group is copied. The only error is out of memory,
-    /// after which the plan is given up.
+    /// told where too many share a page, too; after it the plan is given up.
     pub fn with_plan(&self, alloc: Global, inst: &Instance, plan: Plan) -> Result<Pages, NoMem>
         requires legs { length self.now.rows ≡ legs_of inst.now }
         requires reservations { length self.now.groups ≡ reservations_of inst.now }
@@ -138,7 +138,8 @@ impl Pages {
     }
 
     /// Gives a reservation other groups, and hands out what stood, for `put_back`. All else stays. The only
-    /// error is out of memory, and after it nothing has changed but that the groups are given up.
+    /// error is out of memory, told where too many share the groups of a reservation, too; after it nothing has changed but
+    /// that the groups are given up.
     #[tactic(auto, unfolding(crate::specs::Pages::with_page, crate::specs::Pages::IsPageOf))]
     pub fn replace_groups(
         &mut self,

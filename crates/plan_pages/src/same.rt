@@ -2,30 +2,12 @@
 
 ghost use Rattle.std.specs.Prelude.{◌≡◌, true};
 
-use desk_data::{Group, Row, same_path};
+use desk_data::{Group, same_path};
 
-/// Whether two rows are the same.
-pub fn is_same_row(was: Row, row: Row) -> bool
-    ensures { result ≡ true → row ≡ was }
-{
-    match was {
-        Row::Flown { plane, dep } => match row {
-            Row::Flown {
-                plane: other,
-                dep: at,
-            } => plane.0 == other.0 && dep.0 == at.0,
-            Row::Cancelled => false,
-        },
-        Row::Cancelled => match row {
-            Row::Flown { .. } => false,
-            Row::Cancelled => true,
-        },
-    }
-}
-
-/// Whether some groups are the same as others.
+/// Whether some groups are the same as others. It calls itself once for each group, of which a reservation has at most 1,000.
 pub fn are_same_groups(some: &[Group], others: &[Group]) -> bool
-    ensures { result ≡ true → others.now ≡ some.now }
+    ensures yes { result ≡ true → others.now ≡ some.now }
+    ensures no { others.now ≡ some.now → result ≡ true }
 {
     match some {
         [] => others.is_empty(),
@@ -38,7 +20,8 @@ pub fn are_same_groups(some: &[Group], others: &[Group]) -> bool
 
 /// Whether a group is the same as another.
 fn is_same_group(group: &Group, other: &Group) -> bool
-    ensures { result ≡ true → other.now ≡ group.now }
+    ensures yes { result ≡ true → other.now ≡ group.now }
+    ensures no { other.now ≡ group.now → result ≡ true }
 {
     group.count == other.count && same_path(group.path.as_slice(), other.path.as_slice())
 }

@@ -12,7 +12,7 @@ use desk_data::{Group, Leg, NoMem, Res, Row};
 use std::alloc::Global;
 
 /// One version more, which shares the pages of another, and stands last. All versions stay, after an error too, which is
-/// out of memory.
+/// out of memory, told where too many share a page, too.
 pub fn share_version(alloc: Global, versions: &mut Vec<Pages>, which: usize) -> Result<(), NoMem>
     requires { which < length versions.old.items }
     ensures ok { OnOk result (versions.new.items ≡ after_version_change versions.old.items (shared which)) }
@@ -44,7 +44,7 @@ pub fn change_row_of(
 }
 
 /// Gives a reservation other groups in one version. All others stay, and all stay after an error, which is out
-/// of memory, and after which the groups are given up.
+/// of memory, told where too many share the groups of a reservation, too, and after which the groups are given up.
 pub fn change_groups_of(
     alloc: Global,
     versions: &mut [Pages],

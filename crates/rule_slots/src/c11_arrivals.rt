@@ -10,12 +10,8 @@ use desk_data::{Broken, Instance, NoMem, Plan};
 use hour_counts::Movement;
 use std::alloc::Global;
 
-/// The first airport and hour that break C11.
-pub(crate) fn c11_arrivals(
-    alloc: Global,
-    inst: &Instance,
-    plan: &Plan,
-) -> Result<Option<Broken>, NoMem>
+/// The first airport and hour that break C11. The only error is out of memory.
+pub fn first_c11(alloc: Global, inst: &Instance, plan: &Plan) -> Result<Option<Broken>, NoMem>
     requires { IsPlanFor inst.now plan.now }
     ensures { IfOk result (λ first. first ≡ find (breaks inst.now plan.now) (each_hour inst.now broken.C11)) }
 {

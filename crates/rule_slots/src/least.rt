@@ -4,8 +4,8 @@ ghost use Rattle.std.specs.Prelude.{◌≡◌, IfOk};
 ghost use Rattle.desk_data.specs.Valid.{IsPlanFor};
 ghost use Rattle.desk_rules.specs.Least.{least_slots};
 
-use crate::c10_departures::c10_departures;
-use crate::c11_arrivals::c11_arrivals;
+use crate::c10_departures::first_c10;
+use crate::c11_arrivals::first_c11;
 use desk_data::{Broken, Instance, NoMem, Plan};
 use std::alloc::Global;
 
@@ -16,8 +16,8 @@ pub fn least_slots(alloc: Global, inst: &Instance, plan: &Plan) -> Result<Option
     requires { IsPlanFor inst.now plan.now }
     ensures { IfOk result (λ item. item ≡ least_slots inst.now plan.now) }
 {
-    match c10_departures(alloc, inst, plan)? {
+    match first_c10(alloc, inst, plan)? {
         Some(item) => Ok(Some(item)),
-        None => c11_arrivals(alloc, inst, plan),
+        None => first_c11(alloc, inst, plan),
     }
 }

@@ -7,7 +7,8 @@
 //! linear in the legs.
 //!
 //! Proved: the answer is `least_slots` of desk_rules, which looks at every hour of a century. It depends on
-//! `desk_data`, `desk_rules` and `hour_counts`, which says what a slot is.
+//! `desk_data`, `desk_rules` and `hour_counts`, which says what a slot is. Its two halves are there for whoever counts both side
+//! by side, as `par_check`: the first airport and hour that break C10, and those that break C11.
 #![tactic(auto)]
 
 mod c10_departures;
@@ -16,4 +17,6 @@ mod least;
 mod overfull;
 mod slots;
 
+pub use c10_departures::first_c10;
+pub use c11_arrivals::first_c11;
 pub use least::least_slots;

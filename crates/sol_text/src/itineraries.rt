@@ -7,8 +7,9 @@ ghost use Rattle.desk_data.specs.Valid.{IsPlanFor, IsPathOf};
 ghost use Rattle.sol_text.specs.Itineraries.{seat_text, group_line, group_lines, itineraries_text};
 ghost use Rattle.desk_text.specs.Texts.{direction_text};
 
+use crate::dates::SeatDates;
 use desk_data::{Cabin, Group, Instance, Leg, NoMem, Res, ResInfo};
-use desk_text::{LastDate, cabin_letter, push_all, push_number};
+use desk_text::{push_all, push_number};
 use plan_pages::Pages;
 use std::alloc::Global;
 
@@ -22,7 +23,7 @@ pub fn itineraries_text(alloc: Global, inst: &Instance, plan: &Pages) -> Result<
 {
     let reservations = inst.parts().res.as_slice();
     let mut text = Vec::new(alloc);
-    let mut dates = LastDate::new();
+    let mut dates = SeatDates::new();
     for (r, res) in reservations.iter().enumerate() {
         let groups = plan.groups(Res(r as u32));
         push_groups(&mut text, &mut dates, inst, res, groups)?;
@@ -34,7 +35,7 @@ pub fn itineraries_text(alloc: Global, inst: &Instance, plan: &Pages) -> Result<
 #[tactic(auto, unfolding(crate::specs::Itineraries::group_lines))]
 fn push_groups(
     text: &mut Vec<u8>,
-    dates: &mut LastDate,
+    dates: &mut SeatDates,
     inst: &Instance,
     res: &ResInfo,
     groups: &[Group],
@@ -52,7 +53,7 @@ fn push_groups(
 #[tactic(auto, unfolding(crate::specs::Itineraries::group_line))]
 pub(crate) fn push_group(
     text: &mut Vec<u8>,
-    dates: &mut LastDate,
+    dates: &mut SeatDates,
     inst: &Instance,
     res: &ResInfo,
     group: &Group,
@@ -63,7 +64,8 @@ pub(crate) fn push_group(
     push_reservation(text, res)?;
     push_number(text, u128::from(group.count))?;
     push_seats(text, dates, inst, group.path.as_slice())?;
-    push_all(text, &[b"\n"])
+    text.push(b'\n')?;
+    Ok(())
 }
 
 /// Adds the name and the direction of a reservation, each followed by a space.
@@ -86,7 +88,7 @@ fn direction_in_spaces(inbound: bool) -> [u8; 3]
 /// Adds the legs of a path with their cabins, each after a space.
 fn push_seats(
     text: &mut Vec<u8>,
-    dates: &mut LastDate,
+    dates: &mut SeatDates,
     inst: &Instance,
     legs: &[(Leg, Cabin)],
 ) -> Result<(), NoMem>
@@ -104,7 +106,7 @@ fn push_seats(
 #[tactic(auto, unfolding(crate::specs::Itineraries::seat_text))]
 fn push_seat(
     text: &mut Vec<u8>,
-    dates: &mut LastDate,
+    dates: &mut SeatDates,
     inst: &Instance,
     leg: Leg,
     cabin: Cabin,
@@ -113,10 +115,6 @@ fn push_seat(
     ensures { OnOk result (text.new.items ≡ text.old.items ++ seat_text inst.now (leg, cabin)) }
 {
     let info = inst.leg(leg);
-    let date = dates.text(info.day);
-    let cabin = cabin_letter(cabin);
-    push_all(
-        text,
-        &[b" ", info.flight.as_slice(), b" ", &date, b" ", &cabin],
-    )
+    let end = dates.text(info.day, cabin);
+    push_all(text, &[b" ", info.flight.as_slice(), &end])
 }

@@ -11,6 +11,7 @@
 //! depends on `desk_data`, on `plan_pages` and, for dates, on `desk_text`.
 #![tactic(auto)]
 
+mod dates;
 mod itineraries;
 mod rotations;
 

@@ -5,8 +5,9 @@ ghost use Rattle.desk_data.specs.Situation.{planes_of};
 ghost use Rattle.desk_data.specs.Valid.{IsPlanFor, IsRowOf};
 ghost use Rattle.sol_text.specs.Rotations.{rotation_line, rotations_text};
 
+use crate::dates::SpacedDate;
 use desk_data::{Instance, Leg, LegInfo, NoMem, Row};
-use desk_text::{date_text, moment_text, push_all};
+use desk_text::{push_all, time_text};
 use plan_pages::Pages;
 use std::alloc::Global;
 
@@ -20,9 +21,10 @@ pub fn rotations_text(alloc: Global, inst: &Instance, plan: &Pages) -> Result<Ve
 {
     let legs = inst.parts().legs.as_slice();
     let mut text = Vec::new(alloc);
+    let mut dates = SpacedDate::new();
     for (x, leg) in legs.iter().enumerate() {
         let row = plan.read_row(Leg(x as u32));
-        push_line(&mut text, inst, leg, row)?;
+        push_line(&mut text, &mut dates, inst, leg, row)?;
     }
     Ok(text)
 }
@@ -31,6 +33,7 @@ pub fn rotations_text(alloc: Global, inst: &Instance, plan: &Pages) -> Result<Ve
 #[tactic(auto, unfolding(crate::specs::Rotations::rotation_line))]
 pub(crate) fn push_line(
     text: &mut Vec<u8>,
+    dates: &mut SpacedDate,
     inst: &Instance,
     leg: &LegInfo,
     row: Row,
@@ -40,16 +43,14 @@ pub(crate) fn push_line(
     ensures { OnOk result (text.new.items ≡ text.old.items ++ rotation_line inst.now leg.now row) }
 {
     let flight = leg.flight.as_slice();
-    let date = date_text(leg.day);
+    let date = dates.text(leg.day);
     match row {
         Row::Flown { plane, dep } => {
             let plane = inst.plane(plane).name.as_slice();
-            let departure = moment_text(dep);
-            push_all(
-                text,
-                &[flight, b" ", &date, b" ", plane, b" ", &departure, b"\n"],
-            )
+            let departs = dates.text(dep.0 / 1_440);
+            let time = time_text(dep.0 % 1_440);
+            push_all(text, &[flight, &date, plane, &departs, &time, b"\n"])
         }
-        Row::Cancelled => push_all(text, &[flight, b" ", &date, b" ", b"cancelled", b"\n"]),
+        Row::Cancelled => push_all(text, &[flight, &date, b"cancelled\n"]),
     }
 }

@@ -1,27 +1,48 @@
-use Rattle.std.proofs.Common.{◌∙◌, sym, subst}
-use Rattle.desk_data.specs.declared.row.Row.{Row}
-use Rattle.desk_data.specs.Situation.{planes_of}
-use Rattle.desk_data.specs.Valid.{IsPlanFor, IsRowOf}
+use Rattle.std.proofs.Common.{◌≡◌, ℕ, ◌+◌, ◌-◌, ◌%◌, ◌<◌, false, length, get_or, take, rules, ap, subst, ◌∙◌, arith}
+use Rattle.desk_data.specs.PlanRows.{PlanRows, row_at}
+use Rattle.desk_data.specs.Valid.{IsPlanFor}
+use Rattle.near_draft.specs.Drafts.{drafted}
 use Rattle.near_draft.proofs.ChangeLaws.{changes-at, row-same, row-other}
+use Rattle.near_draft.proofs.MarkLaws.{unmarked-row}
 use Rattle.near_draft.proofs.rows.row_after.Goals as goal
-use Rattle.near_draft.proofs.rows.row_after.Goals.{then-change-leg, else-change-leg}
 
-pub loop-change-preserved : goal.loop-change-preserved
-loop-change-preserved c =
+pub returns-then-not-marks-leg-clause-row : goal.returns-then-not-marks-leg-clause-row
+returns-then-not-marks-leg-clause-row c =
+    let P = c.args.eval.now.rows in
+    let x = c.args.leg.0 in
+    let none : get_or c.args.marks.now (x % 64) false ≡ false = search rules in
+    c.read_row.ensures.row ∙ ap (λ (Q : PlanRows). row_at Q x) c.plan-plan.ensures.rows ∙ unmarked-row P c.args.changes.now c.args.marks.now x c.requires.marks none
+
+pub loop-place-preserved : goal.loop-place-preserved
+loop-place-preserved c =
     let I = c.args.eval.now.inst in
     let P = c.args.eval.now.rows in
     let changes = c.args.changes.now in
-    let i = c.loop-change.change-index in
-    let are = c.requires.changes in
-    let lt = c.loop-change-test.true in
-    let plan : IsPlanFor I P = subst (IsPlanFor I) c.plan.ensures.rows c.plan.ensures.valid in
-    elim c.if-change-leg.branch [
-      | then-change-leg w ↦ record {
-        row = w.row-is ∙ row-same I P changes i c.args.leg.0 are plan lt w.if-change-leg.true;
-        fits = subst (λ (row : Row). IsRowOf (planes_of I) row) (sym w.row-is) (changes-at I P changes i are lt).row;
-      }
-      | else-change-leg w ↦ record {
-        row = w.row-is ∙ c.loop-change.invariant.row ∙ row-other I P changes i c.args.leg.0 are plan lt w.if-change-leg.false;
-        fits = subst (λ (row : Row). IsRowOf (planes_of I) row) (sym w.row-is) c.loop-change.invariant.fits;
-      }
-    ]
+    let x = c.args.leg.0 in
+    let i = c.loop-place.place - 1 in
+    let inv = c.loop-place.invariant in
+    let plan : IsPlanFor I P = subst (IsPlanFor I) c.plan-plan.ensures.rows c.plan-plan.ensures.valid in
+    let lt : i < length changes = omega (arith, inv.within, c.loop-place-test.true) in
+    let next : i + 1 ≡ c.loop-place.place = omega (arith, c.loop-place-test.true) in
+    record {
+      within = omega (arith, inv.within);
+      row = row-other I P changes i x c.requires.changes plan lt c.if-changes-place.false ∙ ap (λ (k : ℕ). row_at (drafted P (take k changes)) x) next ∙ inv.row;
+    }
+
+pub returns-then-changes-place-clause-row : goal.returns-then-changes-place-clause-row
+returns-then-changes-place-clause-row c =
+    let I = c.args.eval.now.inst in
+    let P = c.args.eval.now.rows in
+    let changes = c.args.changes.now in
+    let x = c.args.leg.0 in
+    let i = c.loop-place.place - 1 in
+    let inv = c.loop-place.invariant in
+    let plan : IsPlanFor I P = subst (IsPlanFor I) c.plan-plan.ensures.rows c.plan-plan.ensures.valid in
+    let lt : i < length changes = omega (arith, inv.within, c.loop-place-test.true) in
+    let next : i + 1 ≡ c.loop-place.place = omega (arith, c.loop-place-test.true) in
+    row-same I P changes i x c.requires.changes plan lt c.if-changes-place.true ∙ ap (λ (k : ℕ). row_at (drafted P (take k changes)) x) next ∙ inv.row
+
+pub returns-then-changes-place-clause-fits : goal.returns-then-changes-place-clause-fits
+returns-then-changes-place-clause-fits c =
+    let lt : c.loop-place.place - 1 < length c.args.changes.now = omega (arith, c.loop-place.invariant.within, c.loop-place-test.true) in
+    (changes-at c.args.eval.now.inst c.args.eval.now.rows c.args.changes.now (c.loop-place.place - 1) c.requires.changes lt).row

@@ -1,12 +1,14 @@
-use Rattle.std.proofs.Common.{◌≡◌, take}
+use Rattle.std.proofs.Common.{◌≡◌, ◌≤◌, length, take}
 use Rattle.desk_data.specs.PlanRows.{row_at}
-use Rattle.desk_data.specs.Situation.{planes_of}
-use Rattle.desk_data.specs.Valid.{IsRowOf}
 use Rattle.near_draft.specs.Drafts.{drafted}
 use Rattle.near_draft.proofs.rows.row_after.Given as goal
 
-abbrev pub invariant-loop-change : goal.invariant-loop-change
-invariant-loop-change l = record {
-  row : l.row ≡ row_at (drafted l.eval.rows (take l.change-index l.changes)) l.leg.0;
-  fits : IsRowOf (planes_of l.eval.inst) l.row;
+-- the changes from this one on are of other legs
+abbrev pub invariant-loop-place : goal.invariant-loop-place
+invariant-loop-place l = record {
+  within : l.place ≤ length l.changes;
+  row : row_at (drafted l.eval.rows (take l.place l.changes)) l.leg.0 ≡ row_at (drafted l.eval.rows l.changes) l.leg.0;
 }
+
+abbrev pub decreases-loop-place : goal.decreases-loop-place
+decreases-loop-place l = l.place

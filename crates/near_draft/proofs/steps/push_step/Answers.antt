@@ -1,7 +1,6 @@
-use Rattle.std.proofs.Common.{◌≡◌, true, List, get_or, rules, sym, ap, subst, ◌∙◌}
+use Rattle.std.proofs.Common.{◌≡◌, get_or, sym, ap, subst, ◌∙◌}
 use Rattle.std.specs.Prelude.{None}
 use Rattle.std.proofs.lemmas.List.{take_all}
-use Rattle.desk_units.specs.declared.numbers.Leg.{Leg}
 use Rattle.desk_data.specs.Situation.{Situation}
 use Rattle.desk_data.specs.PlanRows.{PlanRows}
 use Rattle.desk_model.specs.Push.{after_placing, rotation}
@@ -9,12 +8,18 @@ use Rattle.plan_push.specs.declared.pushed.Placing.{Placing}
 use Rattle.plan_push.specs.Placings.{AreLegs, IsPlacing}
 use Rattle.plan_push.proofs.PlacedLaws.{placed_all, placed_all-more, placed_all-is}
 use Rattle.near_draft.specs.Drafts.{plan_of}
-use Rattle.near_draft.specs.Legs.{AreLegsOf, numbers_of}
+use Rattle.near_draft.specs.Legs.{numbers_of}
+use Rattle.near_draft.proofs.LegLaws.{rotation-legs}
 use Rattle.near_draft.proofs.steps.push_step.Goals as goal
 
 -- what is read where there is no placing
 no_placing : Placing
 no_placing = record { leg = record { 0 = 0 }; before = None }
+
+pub keep-requires : goal.keep-requires
+keep-requires c =
+    let D = c.args.draft.now in
+    rotation-legs D.inst (plan_of D) c.args.plane.0 (numbers_of c.in-Some.order.items) (c.in_ok-order.ensures.order c.in-Some.order c.in-Some.is)
 
 pub place-requires-clause-legs : goal.place-requires-clause-legs
 unfolding no_placing
@@ -23,9 +28,8 @@ place-requires-clause-legs c =
     let p = c.args.plane.0 in
     let items = c.deref-placing-items.result.now in
     let i = c.loop-placing.placing-index in
-    let yes : c.are_in_order.result ≡ true = search rules in
-    let order : numbers_of c.as_slice-order.result.now ≡ rotation D.inst (plan_of D) p =
-    c.are_in_order.ensures D.inst p (subst (λ (legs : List Leg). AreLegsOf D.inst (plan_of D) p (numbers_of legs)) (sym c.as_slice-order.ensures.value) c.in_ok-legs.ensures.legs) yes in
+    let order : numbers_of c.as_slice.result.now ≡ rotation D.inst (plan_of D) p =
+    ap numbers_of c.as_slice.ensures.value ∙ c.in_ok-order.ensures.order c.in-Some.order c.in-Some.is in
     let are = rw (c.instance-inst.ensures, c.eval.ensures.inst, ← c.deref-placing-items.ensures.value) at c.in_ok-all.ensures.before p order in
     let is : IsPlacing D.inst (plan_of D) (get_or items i no_placing) = are i no_placing c.loop-placing-test.true in
     subst (λ (I : Situation). AreLegs I (get_or items i no_placing)) (sym c.loop-placing.invariant.inst) is.legs
@@ -39,9 +43,8 @@ loop-placing-preserved c =
     let items = c.deref-placing-items.result.now in
     let i = c.loop-placing.placing-index in
     let placing = get_or items i no_placing in
-    let yes : c.are_in_order.result ≡ true = search rules in
-    let order : numbers_of c.as_slice-order.result.now ≡ rotation D.inst (plan_of D) p =
-    c.are_in_order.ensures D.inst p (subst (λ (legs : List Leg). AreLegsOf D.inst (plan_of D) p (numbers_of legs)) (sym c.as_slice-order.ensures.value) c.in_ok-legs.ensures.legs) yes in
+    let order : numbers_of c.as_slice.result.now ≡ rotation D.inst (plan_of D) p =
+    ap numbers_of c.as_slice.ensures.value ∙ c.in_ok-order.ensures.order c.in-Some.order c.in-Some.is in
     let are = rw (c.instance-inst.ensures, c.eval.ensures.inst, ← c.deref-placing-items.ensures.value) at c.in_ok-all.ensures.before p order in
     let is : IsPlacing D.inst (plan_of D) placing = are i no_placing c.loop-placing-test.true in
     record {
@@ -58,9 +61,8 @@ returns-clause-taken c = λ taken.
     let D = c.args.draft.now in
     let p = c.args.plane.0 in
     let items = c.deref-placing-items.result.now in
-    let yes : c.are_in_order.result ≡ true = search rules in
-    let order : numbers_of c.as_slice-order.result.now ≡ rotation D.inst (plan_of D) p =
-    c.are_in_order.ensures D.inst p (subst (λ (legs : List Leg). AreLegsOf D.inst (plan_of D) p (numbers_of legs)) (sym c.as_slice-order.ensures.value) c.in_ok-legs.ensures.legs) yes in
+    let order : numbers_of c.as_slice.result.now ≡ rotation D.inst (plan_of D) p =
+    ap numbers_of c.as_slice.ensures.value ∙ c.in_ok-order.ensures.order c.in-Some.order c.in-Some.is in
     let legs = rw (c.instance-inst.ensures, c.eval.ensures.inst, ← c.deref-placing-items.ensures.value) at c.in_ok-all.ensures.legs p order in
     c.loop-placing.invariant.plan
     ∙ ap (placed_all D.inst (plan_of D) p) (take_all c.loop-placing.placing-index items c.loop-placing-test.false)

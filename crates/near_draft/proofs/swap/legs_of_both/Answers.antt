@@ -14,7 +14,7 @@ returns-then-exchange c =
     let P = plan_of c.args.draft.now in
     let p = c.args.exchange.first.0 in
     let q = c.args.exchange.second.0 in
-    let own : numbers_of c.in-Some.legs.items ≡ rotation I P p = c.in_ok-legs.ensures c.in-Some.legs c.in-Some.is in
+    let own : numbers_of c.in-Some.legs.items ≡ rotation I P p = c.in_ok-legs.ensures.order c.in-Some.legs c.in-Some.is in
     let same : q ≡ p = search rules in
     for_some (λ (legs : Vec Leg Global). map (λ (leg : Leg). leg.0) legs.items ≡ legs_of_both I P p q) c.in-Some.legs (own ∙ both-one I P p q same)
 
@@ -24,8 +24,8 @@ returns c =
     let P = plan_of c.args.draft.now in
     let p = c.args.exchange.first.0 in
     let q = c.args.exchange.second.0 in
-    let own : numbers_of c.in-Some.legs.items ≡ rotation I P p = c.in_ok-legs.ensures c.in-Some.legs c.in-Some.is in
-    let second : numbers_of c.in-Some-2.others.items ≡ rotation I P q = c.in_ok-others.ensures c.in-Some-2.others c.in-Some-2.is in
+    let own : numbers_of c.in-Some.legs.items ≡ rotation I P p = c.in_ok-legs.ensures.order c.in-Some.legs c.in-Some.is in
+    let second : numbers_of c.in-Some-2.others.items ≡ rotation I P q = c.in_ok-others.ensures.order c.in-Some-2.others c.in-Some-2.is in
     let other : q ≢ p = search rules in
     let all = c.extend_from_slice.new.self in
     let are : all.items ≡ c.in-Some.legs.items ++ c.in-Some-2.others.items = c.in_ok-extend_from_slice.ensures.items ∙ ap (λ xs. c.in-Some.legs.items ++ xs) c.as_slice.ensures.value in

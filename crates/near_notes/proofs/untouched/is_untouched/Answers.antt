@@ -16,7 +16,7 @@ returns c = λ is.
     let Q = c.args.plans.now.plan.now in
     let changes = c.args.plans.now.changes.now in
     let r = c.args.res.0 in
-    let same : groups_at Q r ≡ groups_at P r = sym c.groups-now.ensures.groups ∙ c.are_same_groups.ensures c.if-not-are_same_groups.false ∙ c.groups-before.ensures.groups in
+    let same : groups_at Q r ≡ groups_at P r = sym c.groups-now.ensures.groups ∙ c.are_same_groups.ensures.yes c.if-not-are_same_groups.false ∙ c.groups-before.ensures.groups in
     let paths = subst (All (λ (group : Group). AreAllStill changes.touched.items group.path)) c.groups-before.ensures.groups (c.have_still_paths.ensures c.if-not-have_still_paths.false) in
     let booked = subst (AreAllStill changes.touched.items) (c.as_slice-booked.ensures ∙ ap (λ (res : ResInfo). res.path) c.res.ensures.row) (c.are_still.ensures c.if-not-are_still.false) in
     untouched-from I P Q changes r c.requires.changes c.requires.was c.requires.res same paths booked (c.has_clear_stems.ensures is))

@@ -2,6 +2,7 @@ use Rattle.std.proofs.Common.{ℕ, List, take, sym, ap, subst, arith}
 use Rattle.std.proofs.lemmas.List.{take_all}
 use Rattle.desk_units.specs.declared.numbers.Leg.{Leg}
 use Rattle.desk_data.specs.Situation.{legs_of}
+use Rattle.plan_reads.specs.AfterLeg.{leg_in}
 use Rattle.near_draft.specs.Drafts.{plan_of}
 use Rattle.near_draft.specs.Legs.{numbers_of}
 use Rattle.near_priced.specs.Ends.{IsLastAmong}
@@ -27,9 +28,9 @@ loop-leg-preserved c =
     let i = c.loop-leg.leg-index in
     let step = rw c.window.ensures at c.later_of-last.ensures.last in
     record {
-      last = subst (λ (xs : List ℕ). IsLastAmong Q c.args.plane.0 c.args.inst.now.parts.to.0 xs c.later_of-last.result) (sym (numbers-more legs i c.loop-leg-test.true))
+      last = subst (λ (xs : List ℕ). IsLastAmong Q c.args.plane.0 c.args.inst.now.parts.to.0 xs (leg_in c.later_of-last.result)) (sym (numbers-more legs i c.loop-leg-test.true))
           (step (numbers_of (take i legs)) c.loop-leg.invariant.last);
-      within = c.later_of-last.ensures.within;
+      departs = c.later_of-last.ensures.departs;
     }
 
 pub returns : goal.returns
@@ -39,5 +40,6 @@ returns c =
     let p = c.args.plane.0 in
     let at = I.parts.to.0 in
     let legs = c.args.legs.now in
-    last-of-all I Q p at (numbers_of legs) c.loop-leg.last c.requires.legs
-    (subst (λ (xs : List Leg). IsLastAmong Q p at (numbers_of xs) c.loop-leg.last) (take_all c.loop-leg.leg-index legs c.loop-leg-test.false) c.loop-leg.invariant.last)
+    let last = leg_in c.loop-leg.last in
+    rw c.leg_in.ensures (last-of-all I Q p at (numbers_of legs) last c.requires.legs
+    (subst (λ (xs : List Leg). IsLastAmong Q p at (numbers_of xs) last) (take_all c.loop-leg.leg-index legs c.loop-leg-test.false) c.loop-leg.invariant.last))

@@ -35,6 +35,7 @@ loop-unit-preserved g c =
     record {
       walk = rw (c.instance.ensures, c.plan.ensures.rows, c.loop-unit.invariant.eval) at c.in_ok-unit.ensures.walk;
       eval = c.first_of_unit.ensures.eval ∙ c.loop-unit.invariant.eval;
+      notes = rw c.loop-unit.invariant.eval at c.in_ok-m.ensures.notes;
       same = sym (ap (λ (us : List MoveUnit). find (is_better I P) (moves_of I P us)) next
           ∙ find-after (is_better I P) (unit_moves I P (unit_of u)) (moves_of I P units_after) (sym found ∙ c.in_default-2.is))
           ∙ c.loop-unit.invariant.same;

@@ -1,5 +1,6 @@
-use Rattle.std.proofs.Common.{◌≡◌, sym, ◌∙◌, [], ◌∷◌}
-use Rattle.near_search.proofs.FirstLaws.{one-is, one-ruled_out}
+use Rattle.std.proofs.Common.{◌≡◌, sym, ◌∙◌, [], ◌∷◌, arith}
+use Rattle.near_search.proofs.FirstLaws.{begins-is, one-is, one-dear}
+use Rattle.near_search.proofs.OutLaws.{dear-out}
 use Rattle.near_search.proofs.ruled_out.ruled_out.Goals as goal
 
 pub returns-in-len1 : goal.returns-in-len1
@@ -7,4 +8,10 @@ returns-in-len1 c = λ yes.
     let m = c.args.m.now in
     let step = c.step-item.result in
     let alone : m.steps ≡ step ∷ [] = sym c.as_slice.ensures ∙ one-is c.as_slice.result.now step c.in-len1.len_at_least c.in-len1.len_below c.step-item.is in
-    one-ruled_out c.args.eval.now.inst c.args.eval.now.rows m step alone (c.is_no_cheaper.ensures yes)
+    dear-out c.args.eval.now.inst c.args.eval.now.rows m (one-dear c.args.eval.now.inst c.args.eval.now.rows m step alone (c.is_no_cheaper.ensures yes))
+
+pub returns-then-are_in_vain : goal.returns-then-are_in_vain
+returns-then-are_in_vain c = λ yes.
+    let first = c.first-item.result in
+    let some = c.in-len1-up.len_at_least in
+    c.are_in_vain.ensures yes c.args.m.now (sym c.as_slice.ensures ∙ begins-is c.as_slice.result.now first (omega (arith, some)) c.first-item.is)

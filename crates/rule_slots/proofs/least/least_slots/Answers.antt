@@ -18,4 +18,4 @@ returns-in-None c =
     let plan = c.args.plan.now in
     let rest : least_slots inst plan ≡ find (breaks inst plan) (each_hour inst C11) =
     least-by_rule inst plan ∙ ap (λ first. option_or first (find (breaks inst plan) (each_hour inst C11))) (sym c.in_ok-item.ensures ∙ c.in-None.is) in
-    subst (λ least. IfOk c.c11_arrivals.result (λ item. item ≡ least)) (sym rest) c.c11_arrivals.ensures
+    subst (λ least. IfOk c.first_c11.result (λ item. item ≡ least)) (sym rest) c.first_c11.ensures

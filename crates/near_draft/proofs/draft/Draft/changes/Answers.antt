@@ -11,10 +11,10 @@ returns-clause-within c =
     let e = c.self.inside in
     subst (λ (changes : List Change). All (λ (change : Change). change.leg.0 < legs_of c.args.self.now.inst) changes) (sym c.as_slice.ensures.value)
     (subst (λ (I : Situation). All (λ (change : Change). change.leg.0 < legs_of I) e.changes.items) (ap (λ (D : Drafted). D.inst) c.self.view_is)
-    (changes-within e.eval.now.inst e.eval.now.rows e.changes.items c.self.invariant))
+    (changes-within e.eval.now.inst e.eval.now.rows e.changes.items c.self.invariant.are))
 
 pub returns-clause-are : goal.returns-clause-are
 returns-clause-are c =
     let e = c.self.inside in
     subst (AreChanges c.args.self.now.inst c.args.self.now.rows) (sym c.as_slice.ensures.value)
-    (subst (λ (D : Drafted). AreChanges D.inst D.rows e.changes.items) c.self.view_is c.self.invariant)
+    (subst (λ (D : Drafted). AreChanges D.inst D.rows e.changes.items) c.self.view_is c.self.invariant.are)

@@ -9,4 +9,4 @@ returns-clause-plan c =
     let I = c.self.inside.eval.now.inst in
     let P = c.self.inside.eval.now.rows in
     let valid : IsPlanFor I P = subst (IsPlanFor I) c.plan.ensures.rows c.plan.ensures.valid in
-    subst (λ (D : Drafted). IsPlanFor D.inst (plan_of D)) c.self.view_is (drafted-valid I P c.self.inside.changes.items c.self.invariant valid)
+    subst (λ (D : Drafted). IsPlanFor D.inst (plan_of D)) c.self.view_is (drafted-valid I P c.self.inside.changes.items c.self.invariant.are valid)

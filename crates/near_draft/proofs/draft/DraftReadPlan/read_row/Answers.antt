@@ -10,6 +10,6 @@ row_after-requires-clause-leg c =
     let I = e.eval.now.inst in
     let P = e.eval.now.rows in
     let valid : IsPlanFor I P = subst (IsPlanFor I) c.plan.ensures.rows c.plan.ensures.valid in
-    let rows = (drafted-valid I P e.changes.items c.self.invariant valid).legs in
+    let rows = (drafted-valid I P e.changes.items c.self.invariant.are valid).legs in
     let lt : c.args.leg.0 < length (drafted P e.changes.items).rows = subst (λ (D : Drafted). c.args.leg.0 < length (plan_of D).rows) (sym c.self.view_is) c.requires in
     omega (arith, rows, lt)

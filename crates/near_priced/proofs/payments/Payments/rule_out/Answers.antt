@@ -28,7 +28,7 @@ returns c = λ known feasible.
     let changed : AreAllChanged P (plan_of D) (numbers_of legs) = subst (λ (R : PlanRows). AreAllChanged R (plan_of D) (numbers_of legs)) c.requires.draft.plan c.in_ok-legs.ensures.all in
     let costs = c.dearer_by.ensures dearer c.in-Some-dearer_by.is in
     let paid = c.pay_at_most.ensures known in
-    let on : sum_by (λ (leg : Leg). amount payments.on.items leg.0) c.as_slice-2.result.now ≡ sum_by (λ (leg : Leg). amount payments.on.items leg.0) legs = ap (sum_by (λ (leg : Leg). amount payments.on.items leg.0)) c.as_slice-2.ensures.value in
+    let on : sum_by (λ (leg : Leg). amount payments.on.items leg.0) c.as_slice.result.now ≡ sum_by (λ (leg : Leg). amount payments.on.items leg.0) legs = ap (sum_by (λ (leg : Leg). amount payments.on.items leg.0)) c.as_slice.ensures.value in
     let booked : sum_by (refill_amount payments.booked.items) c.as_slice-steps.result.now ≡ sum_by (refill_amount payments.booked.items) m.steps = ap (sum_by (refill_amount payments.booked.items)) all in
     let less : sum_by (λ (leg : Leg). amount payments.on.items leg.0) legs + sum_by (refill_amount payments.booked.items) m.steps ≤ dearer = omega (arith, paid, on, booked) in
     rule-out I P payments m D legs dearer c.parts-rows.ensures.valid plan c.requires.payments c.requires.draft named changed costs less feasible)

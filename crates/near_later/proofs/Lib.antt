@@ -1,0 +1,4 @@
+pub mod TouchLaws
+pub mod LaterLaws
+mod SameLaws
+mod HourLaws

@@ -1,0 +1,2 @@
+pub use Rattle.unit_notes.specs.Notes
+pub mod Later

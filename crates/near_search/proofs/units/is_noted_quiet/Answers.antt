@@ -1,0 +1,14 @@
+use Rattle.std.proofs.Common.{◌≡◌, subst}
+use Rattle.std.specs.Prelude.{None}
+use Rattle.desk_data.specs.PlanRows.{PlanRows}
+use Rattle.near_moves.specs.Descent.{first_better}
+use Rattle.unit_notes.specs.Notes.{AreUnitNotesAt}
+use Rattle.near_search.specs.Noted.{AreUnitsNotedAt}
+use Rattle.near_search.proofs.units.is_noted_quiet.Goals as goal
+
+pub returns-in-Some : goal.returns-in-Some
+returns-in-Some c = λ known.
+    (let I = c.args.eval.now.inst in
+    let P = c.args.eval.now.rows in
+    let at : AreUnitNotesAt I P c.in-Some.notes = subst (AreUnitsNotedAt I P) c.in-Some.is c.requires.notes in
+    subst (λ (R : PlanRows). first_better I R c.args.shard c.args.shards ≡ None) at.plan (c.is_quiet.ensures known I at.notes))

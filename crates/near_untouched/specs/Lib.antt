@@ -1,0 +1,9 @@
+pub use Rattle.near_dearer.specs.Planes
+pub mod Marks
+pub mod Hours
+pub mod Passengers
+pub mod Legs
+pub mod Counts
+pub mod Positions
+pub mod Again
+pub mod Untouched
