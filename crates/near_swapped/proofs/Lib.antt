@@ -1,0 +1,4 @@
+pub mod TakeLaws
+pub mod SumLaws
+pub mod FlyLaws
+pub mod StandLaws

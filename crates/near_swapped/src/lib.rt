@@ -1,0 +1,17 @@
+//! What an exchange of legs between two aircraft costs, told without making it.
+//!
+//! Once two aircraft have exchanged their legs from a moment on, and are pushed, flying costs what each pays for the legs of
+//! the other, whatever the departures. Where the moved plan meets C5 and all legs of the two depart before the window's
+//! end, it is told by the plan before where they end: each where the other did, if both stand at one airport at the
+//! moment, and else each where it did itself. So it is known what the positions cost then.
+//!
+//! The code here is laws: each is a public function with an empty body, whose contract is the law.
+#![tactic(auto)]
+
+mod laws;
+
+pub use laws::{
+    an_exchange_costs_what_each_pays_for_the_legs_of_the_other,
+    an_exchange_is_dear_that_costs_at_least_as_much_more_as_those_pay_on_its_legs,
+    exchanged_aircraft_end_where_their_legs_lead,
+};
