@@ -5,3 +5,5 @@ pub mod StandLaws
 pub mod EndLaws
 pub mod HandLaws
 pub mod DearLaws
+pub mod RoomLaws
+pub mod LateLaws

@@ -1,2 +1,3 @@
 pub mod Exchanged
 pub mod Moves
+pub mod Calm
