@@ -70,10 +70,10 @@ pushes-among legs p q (Rebook res path to count ∷ pushes) all = absurd cc
 pushes-among legs p q (Tidy ∷ pushes) all = absurd cc
 pushes-among legs p q (Refill leg ∷ pushes) all = absurd cc
 
-either-first : (p q : ℕ) → is_either p q p ≡ true
+pub either-first : (p q : ℕ) → is_either p q p ≡ true
 either-first p q = rw (eq-eqb p p refl) refl
 
-either-second : (p q : ℕ) → is_either p q q ≡ true
+pub either-second : (p q : ℕ) → is_either p q q ≡ true
 either-second p q =
     elim (cases_Bool (eqb q p)) [
       | inl same ↦ rw same refl
@@ -93,11 +93,11 @@ made-alike I P p q at pushes all =
     (pushes-among own p q pushes all) in
     steps-alike (is_either p q) own I P P P P (first_steps p q at pushes) room among (start-alike (is_either p q) own P P (start-own P p q))
 
-of-cases : (p q : ℕ) (row : Row) → is_of (is_either p q) row ≡ true → (is_flown_by p row ≡ true) ⊎ (is_flown_by q row ≡ true)
+pub of-cases : (p q : ℕ) (row : Row) → is_of (is_either p q) row ≡ true → (is_flown_by p row ≡ true) ⊎ (is_flown_by q row ≡ true)
 of-cases p q (Flown n d) on = or_cases (eqb n.0 p) (eqb n.0 q) on
 of-cases p q Cancelled on = absurd cc
 
-flown-within : (I : Situation) (P : PlanRows) (u x : ℕ) → IsPlanFor I P → flies P u x ≡ true → x < legs_of I
+pub flown-within : (I : Situation) (P : PlanRows) (u x : ℕ) → IsPlanFor I P → flies P u x ≡ true → x < legs_of I
 flown-within I P u x plan on =
     elim (cases_lt x (length P.rows)) [
       | inl within ↦ subst (λ (n : ℕ). x < n) plan.legs within

@@ -7,3 +7,4 @@ pub mod HandLaws
 pub mod DearLaws
 pub mod RoomLaws
 pub mod LateLaws
+pub mod TimeLaws
