@@ -51,14 +51,14 @@ front-has S front rest x w sorted has before =
     ]
 
 -- what is asked of plan S before the Push of aircraft u: its legs depart by moment c, movable ones not before they may, and it is free from then on.
--- Of each plan in which only legs of a list are elsewhere than in S, hours have room for them until the window's end
+-- In each plan in which only its legs depart otherwise, the hours of their airports have room for them from then until the window's end
 pub record IsSettled (I : Situation) (S : PlanRows) (u c : ℕ) : Type 0 where
   pub plan : IsPlanFor I S
   pub departs : (x : ℕ) → x < legs_of I → flies S u x ≡ true → dep S x ≤ c
   pub earliest : (x : ℕ) → x < legs_of I → flies S u x ≡ true → fixed I x ≡ false → earliest I x ≤ dep S x
   pub free : IsFreeFrom I u c
-  pub departures : (T : PlanRows) → ((y : ℕ) → flies S u y ≡ false → row_at T y ≡ row_at S y) → (x a h cap : ℕ) → IsBetween I c h → dep_cap I a h ≡ Some cap → departures_beside I T x a h < cap
-  pub arrivals : (T : PlanRows) → ((y : ℕ) → flies S u y ≡ false → row_at T y ≡ row_at S y) → (x a h cap : ℕ) → IsBetween I c h → arr_cap I a h ≡ Some cap → arrivals_beside I T x a h < cap
+  pub departures : (T : PlanRows) → ((y : ℕ) → flies S u y ≡ false → row_at T y ≡ row_at S y) → (x h cap : ℕ) → x < legs_of I → flies S u x ≡ true → IsBetween I c h → dep_cap I (leg_at I x).origin.0 h ≡ Some cap → departures_beside I T x (leg_at I x).origin.0 h < cap
+  pub arrivals : (T : PlanRows) → ((y : ℕ) → flies S u y ≡ false → row_at T y ≡ row_at S y) → (x h cap : ℕ) → x < legs_of I → flies S u x ≡ true → IsBetween I c h → arr_cap I (leg_at I x).dest.0 h ≡ Some cap → arrivals_beside I T x (leg_at I x).dest.0 h < cap
 
 module _ (I : Situation) (S : PlanRows) (u c : ℕ) (is : IsSettled I S u c) where
   abbrev R : PlanRows
@@ -174,8 +174,8 @@ module _ (I : Situation) (S : PlanRows) (u c : ℕ) (is : IsSettled I S u c) whe
           latest = short;
           service = All-weaker (λ (s : Minute × Minute). s.1.0 ≤ c) (λ s. MeetsSpan I x t s.0 s.1 → ⊥) (λ s over_by meets. (let less = from-c in let ends = meets.before_end in omega (arith, over_by, less, ends))) (spans I u) is.free.service;
           maintenance = λ maint one meets. (let over_by = is.free.maintenance maint one in let less = from-c in let ends = meets.before_end in omega (arith, over_by, less, ends));
-          departures = λ cap capped. is.departures T outside x (leg_at I x).origin.0 (hour_of t) cap leaves capped;
-          arrivals = λ cap capped. is.arrivals T outside x (leg_at I x).dest.0 (hour_of (t + (leg_at I x).block)) cap lands capped;
+          departures = λ cap capped. is.departures T outside x (hour_of t) cap mine.0 mine.1 leaves capped;
+          arrivals = λ cap capped. is.arrivals T outside x (hour_of (t + (leg_at I x).block)) cap mine.0 mine.1 lands capped;
         }
 
         placed-by : dep R x ≤ t

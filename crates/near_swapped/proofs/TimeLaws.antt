@@ -3,7 +3,7 @@ use Rattle.std.proofs.Common.{◌≡◌, ◌≢◌, ℕ, zero, suc, ◌+◌, ◌
 use Rattle.std.specs.Prelude.{Option, None, Some, sum_by, count_by}
 use Rattle.std.specs.List.{Contains, AllByRecursion}
 use Rattle.std.proofs.lemmas.Bool.{true≢false, cases_Bool, eq-eqb, false_from_ne_true}
-use Rattle.std.proofs.lemmas.List.Elements.{Contains-append_left, Contains-append_right, Contains-append_cases, recursion_from_All}
+use Rattle.std.proofs.lemmas.List.Elements.{All-contains, Contains-append_left, Contains-append_right, Contains-append_cases, recursion_from_All}
 use Rattle.std.proofs.lemmas.List.Sums.{sum_by-cons, sum_by-le-sum_by}
 use Rattle.plan_moves.specs.Fits.{Fits, StepFits}
 use Rattle.plan_moves.specs.declared.moves.Move.{Move}
@@ -40,8 +40,8 @@ use Rattle.near_units.proofs.FrameLaws.{is_of-by}
 use Rattle.near_unpaid.specs.Unpaid.{is_either}
 use Rattle.near_priced.specs.Priced.{paid_on}
 use Rattle.near_swapped.specs.Exchanged.{own_cost, exchanged_cost, positions_then}
-use Rattle.near_swapped.specs.Moves.{first_steps, IsExchange, IsInTime, exchanged}
-use Rattle.near_swapped.specs.Calm.{HasRoomFor, IsBetween, IsCalm, IsFreeFrom, ground, both, busy, DepartsBy, AreDoneInTime}
+use Rattle.near_swapped.specs.Moves.{first_steps, IsExchange, IsInTime, AreInTime, exchanged, both_pushed}
+use Rattle.near_swapped.specs.Calm.{HasRoomFor, IsBetween, IsCalmFor, IsFreeFrom, ground, both, busy, DepartsBy, AreDoneInTime}
 use Rattle.near_swapped.proofs.TakeLaws.{early, TakesOver, takes-first, takes-second}
 use Rattle.near_swapped.proofs.SumLaws.{part, AreMembers, members-sum}
 use Rattle.near_swapped.proofs.HandLaws.{legs, made-alike, of-cases, flown-within, either-first, either-second}
@@ -179,16 +179,21 @@ module _ (I : Situation) (P : PlanRows) (p q at c : ℕ) (valid : IsValid I) (pl
   few : count_by own (numbers (legs_of I)) ≡ length (both I P p q)
   few = both-counted I P p q plan other
 
+  calm-for : (x : ℕ) → x < legs_of I → own x ≡ true → IsCalmFor (length (both I P p q)) I P c x
+  calm-for x lt here = All-contains (IsCalmFor (length (both I P p q)) I P c) (both I P p q) x done.calm ((both-members I P p q plan other).each x lt here)
+
   -- hours have room in each plan that differs from P by their legs alone
-  room-leaves : (T : PlanRows) → ((y : ℕ) → own y ≡ false → row_at T y ≡ row_at P y) → (x a h cap : ℕ) → IsBetween I c h → dep_cap I a h ≡ Some cap → departures_beside I T x a h < cap
-  room-leaves T same x a h cap between is =
-      let room = capped (length (both I P p q)) (departures_beside I P x a h) cap (dep_cap I a h) is (done.calm.departures x a h between) in
+  room-leaves : (T : PlanRows) → ((y : ℕ) → own y ≡ false → row_at T y ≡ row_at P y) → (x h cap : ℕ) → x < legs_of I → own x ≡ true → IsBetween I c h → dep_cap I (leg_at I x).origin.0 h ≡ Some cap → departures_beside I T x (leg_at I x).origin.0 h < cap
+  room-leaves T same x h cap lt here between is =
+      let a = (leg_at I x).origin.0 in
+      let room = capped (length (both I P p q)) (departures_beside I P x a h) cap (dep_cap I a h) is ((calm-for x lt here).origin.departures x h between) in
       let less = departures-few own I P T same x a h in
       omega (arith, room, less, few)
 
-  room-lands : (T : PlanRows) → ((y : ℕ) → own y ≡ false → row_at T y ≡ row_at P y) → (x a h cap : ℕ) → IsBetween I c h → arr_cap I a h ≡ Some cap → arrivals_beside I T x a h < cap
-  room-lands T same x a h cap between is =
-      let room = capped (length (both I P p q)) (arrivals_beside I P x a h) cap (arr_cap I a h) is (done.calm.arrivals x a h between) in
+  room-lands : (T : PlanRows) → ((y : ℕ) → own y ≡ false → row_at T y ≡ row_at P y) → (x h cap : ℕ) → x < legs_of I → own x ≡ true → IsBetween I c h → arr_cap I (leg_at I x).dest.0 h ≡ Some cap → arrivals_beside I T x (leg_at I x).dest.0 h < cap
+  room-lands T same x h cap lt here between is =
+      let a = (leg_at I x).dest.0 in
+      let room = capped (length (both I P p q)) (arrivals_beside I P x a h) cap (arr_cap I a h) is ((calm-for x lt here).dest.arrivals x h between) in
       let less = arrivals-few own I P T same x a h in
       omega (arith, room, less, few)
 
@@ -204,8 +209,8 @@ module _ (I : Situation) (P : PlanRows) (p q at c : ℕ) (valid : IsValid I) (pl
     departs = λ x lt on. (let same = same-departure x in let by = own-departs x lt (first-own x on) in omega (arith, same, by));
     earliest = λ x lt on movable. (let same = same-departure x in let soonest = own-earliest x lt (first-own x on) movable in omega (arith, same, soonest));
     free = done.free;
-    departures = λ T same x a h cap between is. room-leaves T (first-outside T same) x a h cap between is;
-    arrivals = λ T same x a h cap between is. room-lands T (first-outside T same) x a h cap between is;
+    departures = λ T same x h cap lt on between is. room-leaves T (first-outside T same) x h cap lt (first-own x on) between is;
+    arrivals = λ T same x h cap lt on between is. room-lands T (first-outside T same) x h cap lt (first-own x on) between is;
   }
 
   first-in-time : IsInTime I R p
@@ -241,8 +246,8 @@ module _ (I : Situation) (P : PlanRows) (p q at c : ℕ) (valid : IsValid I) (pl
     departs = λ x lt on. (let same = second-departure x on in let by = own-departs x lt (second-pushed-own x on) in omega (arith, same, by));
     earliest = λ x lt on movable. (let same = second-departure x on in let soonest = own-earliest x lt (second-pushed-own x on) movable in omega (arith, same, soonest));
     free = done.other_free;
-    departures = λ T same x a h cap between is. room-leaves T (second-outside T same) x a h cap between is;
-    arrivals = λ T same x a h cap between is. room-lands T (second-outside T same) x a h cap between is;
+    departures = λ T same x h cap lt on between is. room-leaves T (second-outside T same) x h cap lt (second-pushed-own x on) between is;
+    arrivals = λ T same x h cap lt on between is. room-lands T (second-outside T same) x h cap lt (second-pushed-own x on) between is;
   }
 
   abbrev Q : PlanRows
@@ -267,17 +272,8 @@ module _ (I : Situation) (P : PlanRows) (p q at c : ℕ) (valid : IsValid I) (pl
 
 -- ---- the moves of N2
 
-pub pushes : ℕ → ℕ → List Step
-pushes p q = Push (plane p) None ∷ Push (plane q) None ∷ []
-
-pub record AllInTime (I : Situation) (P Q : PlanRows) (p q : ℕ) : Type 0 where
-  pub first : IsInTime I P p
-  pub second : IsInTime I P q
-  pub first_then : IsInTime I Q p
-  pub second_then : IsInTime I Q q
-
-pub all-in-time : (I : Situation) (P : PlanRows) (p q at c : ℕ) → IsValid I → IsPlanFor I P → least I P ≡ None → p < planes_of I → q < planes_of I → p ≢ q → AreDoneInTime I P p q c → AllInTime I P (exchanged I P p q at (pushes p q)) p q
-unfolding after_step pushes
+pub all-in-time : (I : Situation) (P : PlanRows) (p q at c : ℕ) → IsValid I → IsPlanFor I P → least I P ≡ None → p < planes_of I → q < planes_of I → p ≢ q → AreDoneInTime I P p q c → AreInTime I P (exchanged I P p q at (both_pushed p q)) p q
+unfolding after_step
 all-in-time I P p q at c valid plan feasible first_lt second_lt other done = record {
   first = now-in-time I P p q at c valid plan feasible first_lt second_lt other done p done.departs;
   second = now-in-time I P p q at c valid plan feasible first_lt second_lt other done q done.other_departs;
@@ -286,10 +282,9 @@ all-in-time I P p q at c valid plan feasible first_lt second_lt other done = rec
 }
 
 pub known-dear : (I : Situation) (P : PlanRows) (m : Move) (p q at c : ℕ) → IsValid I → IsPlanFor I P → least I P ≡ None → Fits I m → m.steps ≡ exchange p q at → p ≢ q → (plane_at I p).surface ≡ false → (plane_at I q).surface ≡ false → AreDoneInTime I P p q c → own_cost I P p q at + position_cost I P + sum_by (paid_on I P) (both I P p q) ≤ exchanged_cost I P p q at + positions_then I P p q at → (cost I P ≤ cost I (after_move I P m)) ⊎ BreaksOwn (is_either p q) I P m
-unfolding pushes
 known-dear I P m p q at c valid plan feasible fits steps other air other_air done less =
     let fit : AllByRecursion (StepFits I) (exchange p q at) = subst (AllByRecursion (StepFits I)) steps (recursion_from_All (StepFits I) m.steps fits.each) in
-    let is : IsExchange I m p q at (pushes p q) (Tidy ∷ []) = record {
+    let is : IsExchange I m p q at (both_pushed p q) (Tidy ∷ []) = record {
       steps = steps;
       pushed = rw (eq-eqb p p refl, either-second p q) refl;
       tidied = refl;
@@ -298,4 +293,4 @@ known-dear I P m p q at c valid plan feasible fits steps other air other_air don
       other_air = other_air;
     } in
     let time = all-in-time I P p q at c valid plan feasible fit.0.0 fit.0.1 other done in
-    exchange-dear I P m p q at (pushes p q) (Tidy ∷ []) valid plan feasible fits is time.first time.second time.first_then time.second_then (omega (arith, less))
+    exchange-dear I P m p q at (both_pushed p q) (Tidy ∷ []) valid plan feasible fits is time.first time.second time.first_then time.second_then (omega (arith, less))

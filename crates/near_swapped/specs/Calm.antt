@@ -18,10 +18,15 @@ pub record IsBetween (I : Situation) (c h : ℕ) : Type 0 where
   pub from : c < 60 * h + 60
   pub to : 60 * h < I.parts.to.0
 
--- from moment c until the window's end each hour of each airport has room for so many legs beside those of the plan
-pub record IsCalm (most : ℕ) (I : Situation) (P : PlanRows) (c : ℕ) : Type 0 where
-  pub departures : (x a h : ℕ) → IsBetween I c h → HasRoomFor most (departures_beside I P x a h) (dep_cap I a h)
-  pub arrivals : (x a h : ℕ) → IsBetween I c h → HasRoomFor most (arrivals_beside I P x a h) (arr_cap I a h)
+-- from moment c until the window's end each hour of airport a has room for so many legs beside those of the plan
+pub record IsCalmAt (most : ℕ) (I : Situation) (P : PlanRows) (a c : ℕ) : Type 0 where
+  pub departures : (x h : ℕ) → IsBetween I c h → HasRoomFor most (departures_beside I P x a h) (dep_cap I a h)
+  pub arrivals : (x h : ℕ) → IsBetween I c h → HasRoomFor most (arrivals_beside I P x a h) (arr_cap I a h)
+
+-- so it is at the airports that leg x leaves and reaches
+pub record IsCalmFor (most : ℕ) (I : Situation) (P : PlanRows) (c x : ℕ) : Type 0 where
+  pub origin : IsCalmAt most I P (leg_at I x).origin.0 c
+  pub dest : IsCalmAt most I P (leg_at I x).dest.0 c
 
 -- from moment c on aircraft p is in service, and at no maintenance
 pub record IsFreeFrom (I : Situation) (p c : ℕ) : Type 0 where
@@ -43,9 +48,9 @@ busy I P p q = sum_by (λ x. (leg_at I x).block + max (ground I p) (ground I q))
 abbrev pub DepartsBy : Situation → PlanRows → ℕ → ℕ → Type 0
 DepartsBy I P p c = (x : ℕ) → x < legs_of I → flies P p x ≡ true → dep P x ≤ c
 
--- all legs of two aircraft depart by moment c, from which on there is room for all of them and both are free; and if all were still to come then, one after another, they would be over before the window ends
+-- all legs of two aircraft depart by moment c, from which on there is room for all of them at their airports, and both are free; and if all were still to come then, one after another, they would be over before the window ends
 pub record AreDoneInTime (I : Situation) (P : PlanRows) (p q c : ℕ) : Type 0 where
-  pub calm : IsCalm (length (both I P p q)) I P c
+  pub calm : All (IsCalmFor (length (both I P p q)) I P c) (both I P p q)
   pub free : IsFreeFrom I p c
   pub other_free : IsFreeFrom I q c
   pub departs : DepartsBy I P p c

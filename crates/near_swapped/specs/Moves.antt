@@ -1,5 +1,5 @@
 -- Moves that exchange the legs of two aircraft.
-use Rattle.std.specs.Prelude.{◌≡◌, ◌≢◌, ℕ, ◌<◌, Bool, true, false, List, ◌∷◌, ◌++◌}
+use Rattle.std.specs.Prelude.{◌≡◌, ◌≢◌, ℕ, ◌<◌, Bool, true, false, None, List, [], ◌∷◌, ◌++◌}
 use Rattle.std.specs.List.{list_all}
 use Rattle.desk_data.specs.Situation.{Situation, legs_of, plane_at}
 use Rattle.desk_data.specs.PlanRows.{PlanRows}
@@ -42,3 +42,14 @@ exchanged I P p q at pushes = after_steps I P (first_steps p q at pushes)
 -- each leg of aircraft p departs before the window's end
 abbrev pub IsInTime : Situation → PlanRows → ℕ → Type 0
 IsInTime I P p = (x : ℕ) → x < legs_of I → flies P p x ≡ true → dep P x < I.parts.to.0
+
+-- so do all legs of both, in plan P and in plan Q
+pub record AreInTime (I : Situation) (P Q : PlanRows) (p q : ℕ) : Type 0 where
+  pub first : IsInTime I P p
+  pub second : IsInTime I P q
+  pub first_then : IsInTime I Q p
+  pub second_then : IsInTime I Q q
+
+-- the pushes of a move of N2: all of the first aircraft, and then all of the second
+abbrev pub both_pushed : ℕ → ℕ → List Step
+both_pushed p q = Push (plane p) None ∷ Push (plane q) None ∷ []
