@@ -35,13 +35,19 @@ use Rattle.near_moves.specs.LegMoves.{exchange}
 use Rattle.near_chains.proofs.TallyLaws.{AreApart}
 use Rattle.near_chains.proofs.ChainLaws.{rotation-apart, in-rotation}
 use Rattle.near_chains.proofs.HandLaws.{apart-join}
+use Rattle.near_moves.specs.Descent.{is_better}
+use Rattle.near_moves.specs.Units.{swapped}
 use Rattle.near_units.specs.Own.{BreaksOwn}
+use Rattle.near_units.specs.Out.{IsOut, dear, breaks}
+use Rattle.near_units.proofs.OwnLaws.{breaks-worse}
+use Rattle.near_unpaid.proofs.DearLaws.{dear-worse}
 use Rattle.near_units.proofs.FrameLaws.{is_of-by}
 use Rattle.near_unpaid.specs.Unpaid.{is_either}
 use Rattle.near_priced.specs.Priced.{paid_on}
 use Rattle.near_swapped.specs.Exchanged.{own_cost, exchanged_cost, positions_then}
 use Rattle.near_swapped.specs.Moves.{first_steps, IsExchange, IsInTime, AreInTime, exchanged, both_pushed}
 use Rattle.near_swapped.specs.Calm.{HasRoomFor, IsBetween, IsCalmFor, IsFreeFrom, ground, both, busy, DepartsBy, AreDoneInTime}
+use Rattle.near_swapped.specs.Dear.{IsDearExchange}
 use Rattle.near_swapped.proofs.TakeLaws.{early, TakesOver, takes-first, takes-second}
 use Rattle.near_swapped.proofs.SumLaws.{part, AreMembers, members-sum}
 use Rattle.near_swapped.proofs.HandLaws.{legs, made-alike, of-cases, flown-within, either-first, either-second}
@@ -294,3 +300,22 @@ known-dear I P m p q at c valid plan feasible fits steps other air other_air don
     } in
     let time = all-in-time I P p q at c valid plan feasible fit.0.0 fit.0.1 other done in
     exchange-dear I P m p q at (both_pushed p q) (Tidy ∷ []) valid plan feasible fits is time.first time.second time.first_then time.second_then (omega (arith, less))
+
+-- ---- what that says of a move
+
+pub known-exchange : (I : Situation) (P : PlanRows) (m : Move) (p q at : ℕ) → IsValid I → IsPlanFor I P → least I P ≡ None → Fits I m → m.steps ≡ exchange p q at → IsDearExchange I P p q at → (cost I P ≤ cost I (after_move I P m)) ⊎ BreaksOwn (is_either p q) I P m
+known-exchange I P m p q at valid plan feasible fits steps h = known-dear I P m p q at h.from valid plan feasible fits steps h.other h.air h.other_air h.done h.dear
+
+out-by : (I : Situation) (P : PlanRows) (m : Move) (p q : ℕ) → (cost I P ≤ cost I (after_move I P m)) ⊎ BreaksOwn (is_either p q) I P m → IsOut I P (swapped p q) m
+out-by I P m p q (inl less) = dear less
+out-by I P m p q (inr broken) = breaks broken
+
+worse-by : (I : Situation) (P : PlanRows) (m : Move) (p q : ℕ) → (cost I P ≤ cost I (after_move I P m)) ⊎ BreaksOwn (is_either p q) I P m → is_better I P m ≡ false
+worse-by I P m p q (inl less) = dear-worse I P m less
+worse-by I P m p q (inr broken) = breaks-worse (is_either p q) I P m broken
+
+pub exchange-out : (I : Situation) (P : PlanRows) (m : Move) (p q at : ℕ) → IsValid I → IsPlanFor I P → least I P ≡ None → Fits I m → m.steps ≡ exchange p q at → IsDearExchange I P p q at → IsOut I P (swapped p q) m
+exchange-out I P m p q at valid plan feasible fits steps h = out-by I P m p q (known-exchange I P m p q at valid plan feasible fits steps h)
+
+pub exchange-worse : (I : Situation) (P : PlanRows) (m : Move) (p q at : ℕ) → IsValid I → IsPlanFor I P → least I P ≡ None → Fits I m → m.steps ≡ exchange p q at → IsDearExchange I P p q at → is_better I P m ≡ false
+exchange-worse I P m p q at valid plan feasible fits steps h = worse-by I P m p q (known-exchange I P m p q at valid plan feasible fits steps h)

@@ -1,3 +1,4 @@
 pub mod Exchanged
 pub mod Moves
 pub mod Calm
+pub mod Dear
