@@ -1,8 +1,8 @@
 -- An exchange that costs at least as much more as those pay on the legs of its aircraft makes the plan no cheaper, or breaks a rule of a leg of theirs.
-use Rattle.std.proofs.Common.{◌≡◌, ◌≢◌, ℕ, zero, suc, ◌+◌, ◌<◌, ◌≤◌, ◌⊎◌, inl, inr, Bool, true, false, ◌&&◌, ◌||◌, not, eqb, List, [], ◌∷◌, ◌++◌, length, get_or, refl, sym, ap, subst, ◌∙◌, arith}
+use Rattle.std.proofs.Common.{◌≡◌, ◌≢◌, ℕ, zero, suc, ◌+◌, ◌<◌, ◌≤◌, ◌⊎◌, inl, inr, Bool, true, false, ◌&&◌, ◌||◌, eqb, List, [], ◌∷◌, ◌++◌, get_or, refl, sym, ap, subst, ◌∙◌, arith}
 use Rattle.std.specs.Prelude.{None, sum_by}
-use Rattle.std.specs.List.{All, AllByRecursion, list_all}
-use Rattle.std.proofs.lemmas.Bool.{true≢false, cases_Bool, cases_eq, and_parts, eq-eqb, ne_eqb}
+use Rattle.std.specs.List.{AllByRecursion, list_all}
+use Rattle.std.proofs.lemmas.Bool.{true≢false, cases_Bool, eq-eqb}
 use Rattle.std.proofs.lemmas.List.Elements.{recursion_from_All}
 use Rattle.plan_moves.specs.Fits.{Fits, StepFits}
 use Rattle.plan_moves.specs.declared.moves.Move.{Move}
@@ -10,7 +10,7 @@ use Rattle.plan_moves.specs.declared.moves.Step.{Step}
 use Rattle.plan_moves.specs.declared.moves.Step.TheVariants.{Set, Push, Swap, Rebook, Tidy, Refill}
 use Rattle.desk_data.specs.declared.row.Row.{Row}
 use Rattle.desk_data.specs.declared.row.Row.TheVariants.{Flown, Cancelled}
-use Rattle.desk_data.specs.Situation.{Situation, legs_of, planes_of}
+use Rattle.desk_data.specs.Situation.{Situation, legs_of}
 use Rattle.desk_data.specs.PlanRows.{PlanRows, row_at}
 use Rattle.desk_data.specs.Valid.{IsPlanFor, IsValid}
 use Rattle.desk_rules.specs.Numbers.{each_below, implies}
@@ -18,21 +18,19 @@ use Rattle.desk_rules.specs.Least.{least}
 use Rattle.desk_rules.specs.Rules.{keeps_c2, keeps_c4, keeps_c5, keeps_c6, keeps_c7}
 use Rattle.desk_rules.specs.Words.{MeetsC5}
 use Rattle.desk_rules.specs.Maintenance.{is_flown_by, flies}
-use Rattle.desk_rules.specs.Cost.{cost, operating_cost, position_cost}
+use Rattle.desk_rules.specs.Cost.{cost, position_cost}
 use Rattle.desk_rules.proofs.LeastLaws.{feasible-holds}
 use Rattle.desk_rules.proofs.RotationLaws.{keeps_c5-holds, keeps_c5-from}
 use Rattle.desk_rules.proofs.Tests.{each_below-holds, implies-holds}
 use Rattle.desk_model.specs.Push.{rotation}
 use Rattle.desk_model.specs.Steps.{after_steps, after_move}
 use Rattle.desk_model.proofs.MoveLaws.{after_steps-valid}
-use Rattle.near_moves.specs.MoveParts.{flier}
 use Rattle.near_chains.proofs.ChainLaws.{KeepsC5}
 use Rattle.near_chains.proofs.KeptLaws.{steps-append}
 use Rattle.near_trial.specs.RowRules.{keeps_rows}
 use Rattle.near_trial.proofs.RowLaws.{steps-rows}
 use Rattle.near_units.specs.Same.{FliesSame, is_of}
 use Rattle.near_units.specs.Own.{keeps_own_rules, BreaksOwn}
-use Rattle.near_units.proofs.OwnLaws.{own-flier}
 use Rattle.near_units.proofs.RuleLaws.{c5-same}
 use Rattle.near_unpaid.specs.Unpaid.{is_either}
 use Rattle.near_priced.specs.Priced.{paid_on, paid_booked, refilled, tidies}

@@ -1,7 +1,6 @@
 -- What flying costs once two aircraft have exchanged legs.
-use Rattle.std.proofs.Common.{◌≡◌, ◌≢◌, ℕ, ◌+◌, ◌*◌, ◌<◌, ◌≤◌, inl, inr, Bool, true, false, ◌&&◌, not, cond, eqb, leb, ltb, List, [], ◌∷◌, ◌++◌, refl, sym, ap, subst, ◌∙◌, arith}
-use Rattle.std.specs.Prelude.{sum_by, filter}
-use Rattle.std.specs.List.{Contains, list_all}
+use Rattle.std.proofs.Common.{◌≡◌, ◌≢◌, ℕ, ◌+◌, ◌*◌, ◌<◌, inl, inr, Bool, false, ◌&&◌, not, eqb, ltb, List, refl, sym, ap, ◌∙◌, arith}
+use Rattle.std.specs.Prelude.{sum_by}
 use Rattle.std.proofs.lemmas.Bool.{true≢false, cases_Bool, cases_eq, and_parts, and_from, eq-eqb, ne_eqb, eqb-true}
 use Rattle.desk_units.specs.declared.tariff.Term.TheVariants as term
 use Rattle.plan_moves.specs.declared.moves.Move.{Move}
@@ -11,7 +10,7 @@ use Rattle.desk_data.specs.declared.row.Row.TheVariants.{Flown, Cancelled}
 use Rattle.desk_data.specs.Situation.{Situation, legs_of, leg_at, plane_at}
 use Rattle.desk_data.specs.PlanRows.{PlanRows, row_at}
 use Rattle.desk_rules.specs.Numbers.{numbers}
-use Rattle.desk_rules.specs.Rotations.{departure, dep}
+use Rattle.desk_rules.specs.Rotations.{departure}
 use Rattle.desk_rules.specs.Maintenance.{flies, is_flown_by}
 use Rattle.desk_rules.specs.Cost.{weight, by_hour, operating_of, operating, operating_cost}
 use Rattle.desk_model.specs.Push.{rotation}
@@ -19,7 +18,7 @@ use Rattle.desk_model.specs.Swap.{row_after_swap}
 use Rattle.desk_model.proofs.RotationOrder.{rotation-each}
 use Rattle.near_moves.proofs.ListLaws.{contains_filter, filter_contains}
 use Rattle.near_chains.proofs.ChainLaws.{in-rotation}
-use Rattle.near_swapped.specs.Exchanged.{tail, minutes, cost_by, own_cost, exchanged_cost}
+use Rattle.near_swapped.specs.Exchanged.{tail, cost_by, own_cost, exchanged_cost}
 use Rattle.near_swapped.specs.Moves.{IsExchange, exchanged}
 use Rattle.near_swapped.proofs.TakeLaws.{late, filter-apart, goes-on, stays-soon, exchanged-flies}
 use Rattle.near_swapped.proofs.SumLaws.{part, AreMembers, members-sum, scaled, two-sums, sum-two}

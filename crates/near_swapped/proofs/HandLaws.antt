@@ -1,11 +1,11 @@
 -- Which legs keep their rows, and how many aircraft are at hand once two have exchanged legs.
-use Rattle.std.proofs.Common.{◌≡◌, ◌≢◌, ℕ, ◌+◌, ◌-◌, ◌*◌, ◌<◌, ◌≤◌, ◌⊎◌, inl, inr, Bool, true, false, ◌&&◌, ◌||◌, not, cond, eqb, leb, List, [], ◌∷◌, ◌++◌, length, get_or, refl, sym, ap, subst, ◌∙◌, arith}
+use Rattle.std.proofs.Common.{◌≡◌, ◌≢◌, ℕ, ◌+◌, ◌-◌, ◌<◌, ◌⊎◌, inl, inr, Bool, true, false, ◌&&◌, cond, eqb, List, [], ◌∷◌, ◌++◌, length, refl, sym, ap, subst, ◌∙◌, arith}
 use Rattle.std.specs.Prelude.{Option, None, Some, sum_by}
-use Rattle.std.specs.List.{All, Contains, list_all}
+use Rattle.std.specs.List.{list_all}
 use Rattle.std.proofs.Math.Path.{fun_ext}
 use Rattle.std.proofs.lemmas.Bool.{true≢false, cases_Bool, cases_eq, cases_lt, eq-eqb, ne_eqb, eqb-true, and_parts, and_from}
 use Rattle.std.proofs.lemmas.List.{get_or_past}
-use Rattle.std.proofs.lemmas.List.Elements.{All-append, All-weaker, Contains-append_left, Contains-append_right}
+use Rattle.std.proofs.lemmas.List.Elements.{Contains-append_left, Contains-append_right}
 use Rattle.plan_moves.specs.declared.moves.Move.{Move}
 use Rattle.plan_moves.specs.declared.moves.Step.{Step}
 use Rattle.plan_moves.specs.declared.moves.Step.TheVariants.{Set, Push, Swap, Rebook, Tidy, Refill}
@@ -19,10 +19,9 @@ use Rattle.desk_data.specs.PlanRows.{PlanRows, row_at}
 use Rattle.desk_data.specs.Valid.{IsPlanFor}
 use Rattle.desk_rules.specs.Least.{least}
 use Rattle.desk_rules.specs.Maintenance.{is_flown_by, flies}
-use Rattle.desk_rules.specs.Cost.{weight, rows_of, by_item, ends_at, at_hand, missing_aircraft, position_cost, is_wanted}
+use Rattle.desk_rules.specs.Cost.{weight, rows_of, by_item, at_hand, missing_aircraft, position_cost, is_wanted}
 use Rattle.desk_model.specs.Push.{rotation}
-use Rattle.desk_model.specs.Swap.{other_plane, row_after_swap}
-use Rattle.desk_model.proofs.RotationOrder.{rotation-each, rotation-flown}
+use Rattle.desk_model.proofs.RotationOrder.{rotation-each}
 use Rattle.board_items.proofs.SumLaws.{one_if, filter_change}
 use Rattle.near_moves.proofs.FromLaws.{or_cases}
 use Rattle.near_chains.specs.Chains.{stand}

@@ -1,33 +1,31 @@
 -- How late the legs of an aircraft depart after a Push of all of them.
-use Rattle.std.proofs.Common.{◌≡◌, ℕ, ◌+◌, ◌*◌, ◌<◌, ◌≤◌, ◌⊎◌, max, inl, inr, Bool, true, false, ◌&&◌, List, [], ◌∷◌, ◌++◌, length, refl, sym, ap, subst, ◌∙◌, arith}
-use Rattle.std.specs.Prelude.{Option, None, Some, sum_by}
+use Rattle.std.proofs.Common.{◌≡◌, ℕ, ◌+◌, ◌<◌, ◌≤◌, inl, inr, true, false, List, [], ◌∷◌, ◌++◌, refl, sym, ap, subst, ◌∙◌, arith}
+use Rattle.std.specs.Prelude.{None, Some, sum_by}
 use Rattle.std.specs.List.{All, AllPairs, Contains}
-use Rattle.std.proofs.lemmas.Bool.{true≢false, cases_Bool, cases_lt, cases_eq}
+use Rattle.std.proofs.lemmas.Bool.{true≢false, cases_Bool, cases_lt}
 use Rattle.std.proofs.lemmas.List.{append_assoc, append-nil}
 use Rattle.std.proofs.lemmas.List.Elements.{All-nil, All-cons, All-append, All-weaker, All-contains, Contains-append_left, Contains-append_right, Contains-append_cases}
 use Rattle.std.proofs.lemmas.List.Sums.{sum_by-cons, sum_by-append}
-use Rattle.desk_units.specs.declared.numbers.Leg.{Leg}
 use Rattle.desk_units.specs.declared.numbers.Minute.{Minute}
-use Rattle.desk_data.specs.declared.info.Maint.{Maint}
-use Rattle.desk_data.specs.Situation.{Situation, legs_of, leg_at, plane_at, fixed, earliest, latest, spans}
+use Rattle.desk_data.specs.Situation.{Situation, legs_of, leg_at, fixed, earliest, latest, spans}
 use Rattle.desk_data.specs.Hours.{dep_cap, arr_cap}
 use Rattle.desk_data.specs.PlanRows.{PlanRows, row_at}
 use Rattle.desk_data.specs.Valid.{IsPlanFor}
-use Rattle.desk_data.proofs.PathOrder.{pairs_head, pairs_tail}
+use Rattle.desk_data.proofs.PathOrder.{pairs_head}
 use Rattle.desk_rules.specs.Rotations.{departure, dep, arr, is_leg, ground_time}
 use Rattle.desk_rules.specs.Maintenance.{flies}
 use Rattle.desk_rules.specs.Slots.{hour_of}
 use Rattle.desk_rules.specs.Words.{Flies, Precedes, Follows, MeetsSpan}
 use Rattle.desk_rules.proofs.MaintenanceLaws.{dep-is, flies-holds, flies-from}
-use Rattle.desk_model.specs.Push.{rotation, pushed_legs, after_push, departures_beside, arrivals_beside, IsPushed, MayDepart, DepartsFirst, KeepsItsRow, PlacesLeg}
+use Rattle.desk_model.specs.Push.{rotation, pushed_legs, after_push, departures_beside, arrivals_beside, IsPushed, MayDepart, PlacesLeg}
 use Rattle.desk_model.proofs.PushLaws.{pushed-ordered, pushed-all, pushed-each, after_push-others, after_push-places}
 use Rattle.desk_model.proofs.RotationOrder.{flown_once, precedes-trans, precedes-itself, pairs_after, rotation-ordered, rotation-each}
 use Rattle.plan_push.proofs.FlownLaws.{pushed-flies}
-use Rattle.near_moves.proofs.ListLaws.{contains_cases, contains_head, contains_tail}
+use Rattle.near_moves.proofs.ListLaws.{contains_cases, contains_head}
 use Rattle.near_chains.proofs.TallyLaws.{place}
 use Rattle.near_chains.proofs.ChainLaws.{in-rotation}
 use Rattle.near_swapped.specs.Moves.{IsInTime}
-use Rattle.near_swapped.specs.Calm.{HasRoomFor, IsBetween, IsFreeFrom, ground}
+use Rattle.near_swapped.specs.Calm.{IsBetween, IsFreeFrom, ground}
 
 -- between two legs an aircraft stands no longer than it may at most
 ground-most : (I : Situation) (u w x : ℕ) → ground_time I u w x ≤ ground I u

@@ -1,5 +1,5 @@
 -- Where aircraft stand at the end once they have exchanged legs.
-use Rattle.std.proofs.Common.{◌≡◌, ◌≢◌, ℕ, ◌+◌, ◌≤◌, inl, inr, Bool, true, false, eqb, List, [], ◌∷◌, ◌++◌, refl, sym, ap, subst, ◌∙◌, arith}
+use Rattle.std.proofs.Common.{◌≡◌, ◌≢◌, ℕ, ◌+◌, ◌≤◌, inl, inr, false, List, ◌++◌, refl, sym, ap, subst, ◌∙◌, arith}
 use Rattle.std.specs.Prelude.{None, filter}
 use Rattle.std.proofs.lemmas.Bool.{cases_eq, eq-eqb, ne_eqb}
 use Rattle.plan_moves.specs.declared.moves.Move.{Move}
@@ -10,7 +10,7 @@ use Rattle.desk_rules.specs.Least.{least}
 use Rattle.desk_rules.proofs.LeastLaws.{feasible-holds}
 use Rattle.desk_model.specs.Push.{rotation}
 use Rattle.desk_model.proofs.RotationOrder.{rotation-ordered}
-use Rattle.near_chains.specs.Chains.{from_airport, to_airport, is_same, tally, led, stand, stand_before}
+use Rattle.near_chains.specs.Chains.{from_airport, to_airport, is_same, led, stand, stand_before}
 use Rattle.near_chains.proofs.ChainLaws.{IsChain, KeepsC5, chain-tally, chain-front, chain-back, led-append, rotation-chain}
 use Rattle.near_chains.proofs.HandLaws.{same-yes, same-no}
 use Rattle.near_swapped.specs.Exchanged.{stand_then}

@@ -1,15 +1,15 @@
 -- Who flies which leg once two aircraft have exchanged legs: each its own until the moment, and then those of the other.
-use Rattle.std.proofs.Common.{◌≡◌, ◌≢◌, ℕ, ◌+◌, ◌<◌, ◌≤◌, inl, inr, Bool, true, false, ◌&&◌, eqb, leb, ltb, not, List, [], ◌∷◌, ◌++◌, refl, sym, ap, subst, ◌∙◌, arith}
+use Rattle.std.proofs.Common.{◌≡◌, ◌≢◌, ℕ, ◌+◌, ◌<◌, ◌≤◌, inl, inr, Bool, true, false, eqb, leb, ltb, not, List, [], ◌∷◌, ◌++◌, refl, sym, ap, ◌∙◌, arith}
 use Rattle.std.specs.Prelude.{filter}
 use Rattle.std.specs.List.{All, AllPairs, Contains, list_all}
-use Rattle.std.proofs.lemmas.Bool.{true≢false, cases_Bool, cases_eq, cases_lt, eq-eqb, ne_eqb, ltb-true, leb-true, le-leb, lt-ltb, not-true, not_from_false, and_parts, and_from}
+use Rattle.std.proofs.lemmas.Bool.{true≢false, cases_Bool, cases_eq, cases_lt, eq-eqb, ne_eqb, ltb-true, leb-true, le-leb, lt-ltb, not-true, not_from_false, and_parts}
 use Rattle.std.proofs.lemmas.List.Elements.{All-contains, Contains-append_left, Contains-append_right, Contains-append_cases}
 use Rattle.std.proofs.lemmas.List.Kept.{AllPairs-filter}
 use Rattle.plan_moves.specs.declared.moves.Step.{Step}
 use Rattle.plan_moves.specs.declared.moves.Step.TheVariants.{Set, Push, Swap, Rebook, Tidy, Refill}
 use Rattle.desk_data.specs.declared.row.Row.{Row}
 use Rattle.desk_data.specs.declared.row.Row.TheVariants.{Flown, Cancelled}
-use Rattle.desk_data.specs.Situation.{Situation, legs_of, plane_at}
+use Rattle.desk_data.specs.Situation.{Situation}
 use Rattle.desk_data.specs.PlanRows.{PlanRows, row_at}
 use Rattle.desk_rules.specs.Rotations.{departure, dep}
 use Rattle.desk_rules.specs.Maintenance.{flies, is_flown_by}
@@ -17,11 +17,11 @@ use Rattle.desk_rules.specs.Words.{Precedes}
 use Rattle.desk_rules.proofs.MaintenanceLaws.{dep-is}
 use Rattle.desk_model.specs.Push.{rotation}
 use Rattle.desk_model.specs.Swap.{other_plane, row_after_swap, after_swap}
-use Rattle.desk_model.specs.Steps.{after_step, after_steps}
+use Rattle.desk_model.specs.Steps.{after_step}
 use Rattle.desk_data.proofs.PathOrder.{pairs_head, pairs_tail}
 use Rattle.desk_model.proofs.SwapLaws.{after_swap-row}
 use Rattle.desk_model.proofs.RotationOrder.{precedes-itself, rotation-ordered, rotation-each}
-use Rattle.near_moves.specs.MoveParts.{plane, minute}
+use Rattle.near_moves.specs.MoveParts.{plane}
 use Rattle.near_moves.proofs.ListLaws.{contains_filter, filter_contains}
 use Rattle.near_chains.specs.Chains.{tally, keeps_aircraft}
 use Rattle.near_chains.proofs.TallyLaws.{AreApart, AreAmong, apart-ordered, tally-append, tally-same}

@@ -1,14 +1,13 @@
 -- Where hours are calm, the legs of two aircraft that have exchanged some depart before the window's end.
-use Rattle.std.proofs.Common.{◌≡◌, ◌≢◌, ℕ, zero, suc, ◌+◌, ◌*◌, ◌<◌, ◌≤◌, ◌⊎◌, max, inl, inr, Bool, true, false, ◌&&◌, ◌||◌, cond, eqb, leb, List, [], ◌∷◌, ◌++◌, length, refl, sym, ap, subst, ◌∙◌, arith}
+use Rattle.std.proofs.Common.{◌≡◌, ◌≢◌, ℕ, ◌+◌, ◌<◌, ◌≤◌, ◌⊎◌, max, inl, inr, Bool, true, false, leb, List, [], ◌∷◌, length, refl, sym, ap, subst, ◌∙◌, arith}
 use Rattle.std.specs.Prelude.{Option, None, Some, sum_by, count_by}
-use Rattle.std.specs.List.{Contains, AllByRecursion}
+use Rattle.std.specs.List.{AllByRecursion}
 use Rattle.std.proofs.lemmas.Bool.{true≢false, cases_Bool, eq-eqb, false_from_ne_true}
 use Rattle.std.proofs.lemmas.List.Elements.{All-contains, Contains-append_left, Contains-append_right, Contains-append_cases, recursion_from_All}
 use Rattle.std.proofs.lemmas.List.Sums.{sum_by-cons, sum_by-le-sum_by}
 use Rattle.plan_moves.specs.Fits.{Fits, StepFits}
 use Rattle.plan_moves.specs.declared.moves.Move.{Move}
-use Rattle.plan_moves.specs.declared.moves.Step.{Step}
-use Rattle.plan_moves.specs.declared.moves.Step.TheVariants.{Swap, Push, Tidy}
+use Rattle.plan_moves.specs.declared.moves.Step.TheVariants.{Tidy}
 use Rattle.desk_data.specs.declared.row.Row.{Row}
 use Rattle.desk_data.specs.declared.row.Row.TheVariants.{Flown, Cancelled}
 use Rattle.desk_data.specs.Situation.{Situation, legs_of, planes_of, leg_at, plane_at, fixed, earliest}
@@ -20,17 +19,15 @@ use Rattle.desk_rules.specs.Least.{least}
 use Rattle.desk_rules.specs.Cost.{cost, position_cost}
 use Rattle.desk_rules.specs.Rotations.{departure, dep}
 use Rattle.desk_rules.specs.Maintenance.{flies, is_flown_by}
-use Rattle.desk_rules.specs.Words.{Flies}
 use Rattle.desk_rules.proofs.LeastLaws.{feasible-holds}
 use Rattle.desk_rules.proofs.MaintenanceLaws.{flies-holds}
-use Rattle.desk_model.specs.Push.{rotation, after_push, departures_beside, arrivals_beside, IsPushed}
+use Rattle.desk_model.specs.Push.{rotation, after_push, departures_beside, arrivals_beside}
 use Rattle.desk_model.specs.Swap.{row_after_swap, after_swap}
-use Rattle.desk_model.specs.Steps.{after_step, after_steps, after_move}
+use Rattle.desk_model.specs.Steps.{after_step, after_move}
 use Rattle.desk_model.proofs.SwapLaws.{after_swap-row, after_swap-valid}
 use Rattle.desk_model.proofs.PushLaws.{after_push-others, after_push-valid}
 use Rattle.desk_model.proofs.RotationOrder.{flown_once, rotation-each}
 use Rattle.plan_push.proofs.FlownLaws.{pushed-flies}
-use Rattle.near_moves.specs.MoveParts.{plane, minute}
 use Rattle.near_moves.specs.LegMoves.{exchange}
 use Rattle.near_chains.proofs.TallyLaws.{AreApart}
 use Rattle.near_chains.proofs.ChainLaws.{rotation-apart, in-rotation}
@@ -45,12 +42,12 @@ use Rattle.near_units.proofs.FrameLaws.{is_of-by}
 use Rattle.near_unpaid.specs.Unpaid.{is_either}
 use Rattle.near_priced.specs.Priced.{paid_on}
 use Rattle.near_swapped.specs.Exchanged.{own_cost, exchanged_cost, positions_then}
-use Rattle.near_swapped.specs.Moves.{first_steps, IsExchange, IsInTime, AreInTime, exchanged, both_pushed}
-use Rattle.near_swapped.specs.Calm.{HasRoomFor, IsBetween, IsCalmFor, IsFreeFrom, ground, both, busy, DepartsBy, AreDoneInTime}
+use Rattle.near_swapped.specs.Moves.{IsExchange, IsInTime, AreInTime, exchanged, both_pushed}
+use Rattle.near_swapped.specs.Calm.{HasRoomFor, IsBetween, IsCalmFor, ground, both, DepartsBy, AreDoneInTime}
 use Rattle.near_swapped.specs.Dear.{IsDearExchange}
 use Rattle.near_swapped.proofs.TakeLaws.{early, TakesOver, takes-first, takes-second}
 use Rattle.near_swapped.proofs.SumLaws.{part, AreMembers, members-sum}
-use Rattle.near_swapped.proofs.HandLaws.{legs, made-alike, of-cases, flown-within, either-first, either-second}
+use Rattle.near_swapped.proofs.HandLaws.{legs, made-alike, of-cases, either-first, either-second}
 use Rattle.near_swapped.proofs.RoomLaws.{departures-few, arrivals-few}
 use Rattle.near_swapped.proofs.LateLaws.{IsSettled, pushed-in-time}
 use Rattle.near_swapped.proofs.DearLaws.{exchange-dear}

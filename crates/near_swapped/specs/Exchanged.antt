@@ -1,7 +1,7 @@
 -- What flying and the positions cost once two aircraft have exchanged their legs from a moment on, told by the plan before it.
 --
 -- P is the plan before the move, p and q are the two aircraft, and `at` is the moment.
-use Rattle.std.specs.Prelude.{ℕ, ◌+◌, ◌-◌, Bool, ◌&&◌, not, nat_lt, ◌==◌, if◌then◌else◌, List, filter, sum_by}
+use Rattle.std.specs.Prelude.{ℕ, ◌+◌, ◌-◌, ◌&&◌, not, nat_lt, ◌==◌, if◌then◌else◌, List, filter, sum_by}
 use Rattle.desk_units.specs.declared.tariff.Term.TheVariants as term
 use Rattle.tariff_prices.specs.Prices.{position_price}
 use Rattle.desk_data.specs.declared.info.PositionInfo.{PositionInfo}
