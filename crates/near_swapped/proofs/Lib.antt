@@ -8,3 +8,4 @@ pub mod DearLaws
 pub mod RoomLaws
 pub mod LateLaws
 pub mod TimeLaws
+pub mod MonoLaws

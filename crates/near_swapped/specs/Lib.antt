@@ -2,3 +2,4 @@ pub mod Exchanged
 pub mod Moves
 pub mod Calm
 pub mod Dear
+pub mod Times

@@ -9,7 +9,9 @@
 #![tactic(auto)]
 
 mod laws;
+mod times;
 
+pub use times::PlaneTimes;
 pub use laws::{
     a_dear_exchange_is_out, an_exchange_costs_what_each_pays_for_the_legs_of_the_other,
     an_exchange_is_dear_that_costs_at_least_as_much_more_as_those_pay_on_its_legs,
