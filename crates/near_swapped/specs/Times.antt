@@ -29,6 +29,8 @@ ArePaid I P amounts = (x : ℕ) → paid_on I P x ≤ slice_index_or amounts x 0
 -- leg x has departed by a moment, and the airports that it leaves and reaches are calm from it on
 pub record IsBy (I : Situation) (P : PlanRows) (moments : List ℕ) (by x : ℕ) : Type 0 where
   pub departs : dep P x ≤ by
+  pub from : (leg_at I x).origin.0 < airports_of I
+  pub to : (leg_at I x).dest.0 < airports_of I
   pub origin : moment moments (leg_at I x).origin.0 ≤ by
   pub dest : moment moments (leg_at I x).dest.0 ≤ by
 
