@@ -9,3 +9,4 @@ pub mod RoomLaws
 pub mod LateLaws
 pub mod TimeLaws
 pub mod MonoLaws
+pub mod TableLaws

@@ -22,16 +22,16 @@ room-fewer m n taken (Some cap) le room = omega (arith, le, room)
 between-earlier : (I : Situation) (c d h : ℕ) → c ≤ d → IsBetween I d h → IsBetween I c h
 between-earlier I c d h le is = record { from = (let from = is.from in omega (arith, le, from)); to = is.to }
 
-calm-later : (m n : ℕ) (I : Situation) (P : PlanRows) (a c d : ℕ) → m ≤ n → c ≤ d → IsCalmAt n I P a c → IsCalmAt m I P a d
-calm-later m n I P a c d fewer later is = record {
+pub calm-at-later : (m n : ℕ) (I : Situation) (P : PlanRows) (a c d : ℕ) → m ≤ n → c ≤ d → IsCalmAt n I P a c → IsCalmAt m I P a d
+calm-at-later m n I P a c d fewer later is = record {
   departures = λ x h between. room-fewer m n (departures_beside I P x a h) (dep_cap I a h) fewer (is.departures x h (between-earlier I c d h later between));
   arrivals = λ x h between. room-fewer m n (arrivals_beside I P x a h) (arr_cap I a h) fewer (is.arrivals x h (between-earlier I c d h later between));
 }
 
 pub calm-for-later : (m n : ℕ) (I : Situation) (P : PlanRows) (c d x : ℕ) → m ≤ n → c ≤ d → IsCalmFor n I P c x → IsCalmFor m I P d x
 calm-for-later m n I P c d x fewer later is = record {
-  origin = calm-later m n I P (leg_at I x).origin.0 c d fewer later is.origin;
-  dest = calm-later m n I P (leg_at I x).dest.0 c d fewer later is.dest;
+  origin = calm-at-later m n I P (leg_at I x).origin.0 c d fewer later is.origin;
+  dest = calm-at-later m n I P (leg_at I x).dest.0 c d fewer later is.dest;
 }
 
 pub free-later : (I : Situation) (p c d : ℕ) → c ≤ d → IsFreeFrom I p c → IsFreeFrom I p d

@@ -3,3 +3,4 @@ pub mod Moves
 pub mod Calm
 pub mod Dear
 pub mod Times
+pub mod Stands

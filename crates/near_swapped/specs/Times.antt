@@ -1,5 +1,5 @@
 -- What is looked up once of a plan: from when on airports are calm, and when each aircraft is done.
-use Rattle.std.specs.Prelude.{◌≡◌, ℕ, ◌<◌, ◌≤◌, List, length, slice_index_or, sum_by, All}
+use Rattle.std.specs.Prelude.{◌≡◌, ℕ, ◌<◌, ◌≤◌, nat_lt, if◌then◌else◌, List, length, slice_index_or, sum_by, All}
 use Rattle.desk_data.specs.Situation.{Situation, airports_of, leg_at}
 use Rattle.desk_data.specs.PlanRows.{PlanRows}
 use Rattle.desk_rules.specs.Rotations.{dep}
@@ -43,3 +43,7 @@ pub record ArePlaneTimes (I : Situation) (P : PlanRows) (p : ℕ) (times : Plane
   pub count : times.count ≡ length (rotation I P p)
   pub few : times.count ≤ most_legs
   pub paid : sum_by (paid_on I P) (rotation I P p) ≤ times.paid
+
+-- how many minutes leg x takes, if it departs at a moment or later
+abbrev pub late_block : Situation → PlanRows → ℕ → ℕ → ℕ
+late_block I P at x = if nat_lt (dep P x) at then 0 else (leg_at I x).block

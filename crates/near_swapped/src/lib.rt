@@ -8,9 +8,12 @@
 //! The code here is laws: each is a public function with an empty body, whose contract is the law.
 #![tactic(auto)]
 
+mod flying;
 mod laws;
+mod positions;
 mod times;
 
+pub use positions::Stands;
 pub use times::PlaneTimes;
 pub use laws::{
     a_dear_exchange_is_out, an_exchange_costs_what_each_pays_for_the_legs_of_the_other,
