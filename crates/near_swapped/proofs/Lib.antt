@@ -10,3 +10,4 @@ pub mod LateLaws
 pub mod TimeLaws
 pub mod MonoLaws
 pub mod TableLaws
+pub mod AtLaws

@@ -1,22 +1,18 @@
 -- What is looked up of an aircraft, leg by leg.
-use Rattle.std.proofs.Common.{◌≡◌, ℕ, ◌+◌, ◌<◌, ◌≤◌, List, [], ◌∷◌, ◌++◌, length, map, get_or, take, refl, sym, ap, subst, ◌∙◌, arith}
+use Rattle.std.proofs.Common.{◌≡◌, ℕ, ◌+◌, ◌<◌, ◌≤◌, List, [], ◌∷◌, length, get_or, take, refl, sym, ap, subst, ◌∙◌, arith}
 use Rattle.std.specs.Prelude.{sum_by}
 use Rattle.std.specs.List.{All}
 use Rattle.std.proofs.lemmas.List.{take_more}
 use Rattle.std.proofs.lemmas.List.Elements.{All-nil, All-cons, All-append, All-weaker, All-head, All-tail}
 use Rattle.std.proofs.lemmas.List.Sums.{sum_by-cons}
 use Rattle.desk_units.specs.declared.numbers.Leg.{Leg}
-use Rattle.desk_units.specs.declared.numbers.Minute.{Minute}
-use Rattle.desk_data.specs.Situation.{Situation, legs_of, airports_of, leg_at}
+use Rattle.desk_data.specs.Situation.{Situation, leg_at}
 use Rattle.desk_data.specs.PlanRows.{PlanRows}
-use Rattle.desk_rules.specs.Rotations.{dep}
-use Rattle.desk_rules.specs.Maintenance.{flies}
 use Rattle.desk_model.specs.Push.{rotation}
 use Rattle.desk_model.proofs.RotationOrder.{rotation-each}
 use Rattle.std.proofs.lemmas.List.Elements.{All-contains}
 use Rattle.near_draft.specs.Legs.{numbers_of}
 use Rattle.near_priced.specs.Priced.{paid_on}
-use Rattle.near_swapped.specs.Exchanged.{minutes}
 use Rattle.near_swapped.specs.Calm.{IsCalmFor, DepartsBy}
 use Rattle.near_swapped.specs.Times.{most_legs, AreCalm, ArePaid, IsBy}
 use Rattle.near_swapped.proofs.MonoLaws.{calm-at-later}

@@ -8,16 +8,18 @@
 //! The code here is laws: each is a public function with an empty body, whose contract is the law.
 #![tactic(auto)]
 
+mod dear;
 mod flying;
 mod laws;
 mod positions;
 mod times;
 
-pub use positions::Stands;
-pub use times::PlaneTimes;
+pub use dear::is_dear_exchange;
 pub use laws::{
     a_dear_exchange_is_out, an_exchange_costs_what_each_pays_for_the_legs_of_the_other,
     an_exchange_is_dear_that_costs_at_least_as_much_more_as_those_pay_on_its_legs,
     exchanged_aircraft_end_where_their_legs_lead,
     exchanged_legs_depart_in_time_where_hours_are_calm,
 };
+pub use positions::Stands;
+pub use times::PlaneTimes;

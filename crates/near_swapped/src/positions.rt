@@ -1,6 +1,6 @@
 //! What the positions cost once two aircraft end elsewhere.
 
-ghost use Rattle.std.specs.Prelude.{◌≡◌, ◌<◌, ◌≤◌, ◌^◌, length, map};
+ghost use Rattle.std.specs.Prelude.{◌≡◌, ◌<◌, ◌≤◌, ◌^◌, ◌==◌, if◌then◌else◌, map};
 ghost use Rattle.desk_data.specs.Situation.{planes_of};
 ghost use Rattle.desk_rules.specs.Cost.{at_hand, position_cost};
 ghost use Rattle.near_chains.specs.Chains.{stand, stand_before};
@@ -112,19 +112,32 @@ fn hand_after(
 {
     // there are no more at hand than aircraft
     let _rows = inst.parts();
-    let (first, second) = then(stands);
+    let first = end_then(
+        stands.before,
+        stands.other_before,
+        stands.end,
+        stands.other_end,
+    );
+    let second = end_then(
+        stands.other_before,
+        stands.before,
+        stands.other_end,
+        stands.end,
+    );
     let come = serves(inst, planes.0, first, position) + serves(inst, planes.1, second, position);
     let gone = serves(inst, planes.0, stands.end, position)
         + serves(inst, planes.1, stands.other_end, position);
     hand.saturating_add(come).saturating_sub(gone)
 }
 
-/// Where both stand at the end then.
-fn then(stands: Stands) -> (Airport, Airport) {
-    if stands.before.0 == stands.other_before.0 {
-        (stands.other_end, stands.end)
+/// Where an aircraft stands at the end then: where the other one does now, if both stand at one airport before.
+fn end_then(before: Airport, other_before: Airport, end: Airport, other_end: Airport) -> Airport
+    ensures { result.0 ≡ (if before.0 == other_before.0 then other_end.0 else end.0) }
+{
+    if before.0 == other_before.0 {
+        other_end
     } else {
-        (stands.end, stands.other_end)
+        end
     }
 }
 

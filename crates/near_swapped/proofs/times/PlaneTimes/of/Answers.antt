@@ -1,4 +1,4 @@
-use Rattle.std.proofs.Common.{◌≡◌, ◌≤◌, ℕ, length, refl, sym, ◌∙◌, arith, rules}
+use Rattle.std.proofs.Common.{◌≤◌, ℕ, length, refl, sym, ◌∙◌, rules}
 use Rattle.desk_data.specs.Situation.{leg_at}
 use Rattle.near_moves.proofs.ListLaws.{for_some}
 use Rattle.near_swapped.specs.Times.{ArePlaneTimes}
