@@ -11,3 +11,4 @@ pub mod TimeLaws
 pub mod MonoLaws
 pub mod TableLaws
 pub mod AtLaws
+pub mod CalmLaws

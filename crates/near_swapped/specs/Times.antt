@@ -3,10 +3,11 @@ use Rattle.std.specs.Prelude.{◌≡◌, ℕ, ◌<◌, ◌≤◌, nat_lt, if◌t
 use Rattle.desk_data.specs.Situation.{Situation, airports_of, leg_at}
 use Rattle.desk_data.specs.PlanRows.{PlanRows}
 use Rattle.desk_rules.specs.Rotations.{dep}
-use Rattle.desk_model.specs.Push.{rotation}
+use Rattle.desk_data.specs.Hours.{dep_cap, arr_cap}
+use Rattle.desk_model.specs.Push.{rotation, departures_beside, arrivals_beside}
 use Rattle.near_priced.specs.Priced.{paid_on}
 use Rattle.near_swapped.specs.Exchanged.{minutes}
-use Rattle.near_swapped.specs.Calm.{IsCalmAt, IsCalmFor, IsFreeFrom, DepartsBy}
+use Rattle.near_swapped.specs.Calm.{HasRoomFor, IsCalmAt, IsCalmFor, IsFreeFrom, DepartsBy}
 use Rattle.near_swapped.specs.declared.times.PlaneTimes.{PlaneTimes}
 
 -- two aircraft have at most so many legs together, or nothing is known of them; so many fit into each hour beside those of the plan
@@ -47,3 +48,8 @@ pub record ArePlaneTimes (I : Situation) (P : PlanRows) (p : ℕ) (times : Plane
 -- how many minutes leg x takes, if it departs at a moment or later
 abbrev pub late_block : Situation → PlanRows → ℕ → ℕ → ℕ
 late_block I P at x = if nat_lt (dep P x) at then 0 else (leg_at I x).block
+
+-- an hour of airport a has room for so many legs beside those of the plan, that depart and that arrive
+pub record IsCalmHour (most : ℕ) (I : Situation) (P : PlanRows) (a h : ℕ) : Type 0 where
+  pub departures : (x : ℕ) → HasRoomFor most (departures_beside I P x a h) (dep_cap I a h)
+  pub arrivals : (x : ℕ) → HasRoomFor most (arrivals_beside I P x a h) (arr_cap I a h)

@@ -8,12 +8,14 @@
 //! The code here is laws: each is a public function with an empty body, whose contract is the law.
 #![tactic(auto)]
 
+mod calm;
 mod dear;
 mod flying;
 mod laws;
 mod positions;
 mod times;
 
+pub use calm::calm_moments;
 pub use dear::is_dear_exchange;
 pub use laws::{
     a_dear_exchange_is_out, an_exchange_costs_what_each_pays_for_the_legs_of_the_other,
