@@ -1,5 +1,5 @@
 -- Hours that are calm, and a moment from which on they all are.
-use Rattle.std.proofs.Common.{◌≡◌, ℕ, ◌+◌, ◌-◌, ◌*◌, ◌/◌, ◌<◌, ◌≤◌, ◌⊎◌, inl, inr, List, [], ◌∷◌, ◌++◌, length, get_or, refl, sym, ap, subst, ◌∙◌, arith, length-append}
+use Rattle.std.proofs.Common.{◌≡◌, ℕ, ◌+◌, ◌-◌, ◌*◌, ◌/◌, ◌<◌, ◌≤◌, inl, inr, List, [], ◌∷◌, ◌++◌, length, get_or, sym, ap, subst, ◌∙◌, arith, length-append}
 use Rattle.std.specs.Prelude.{Option, None, Some}
 use Rattle.std.proofs.lemmas.List.{get_or_append_left, get_or-append-add}
 use Rattle.std.proofs.lemmas.Bool.{cases_lt}
@@ -9,7 +9,7 @@ use Rattle.desk_data.specs.PlanRows.{PlanRows}
 use Rattle.desk_model.specs.Push.{departures_beside, arrivals_beside}
 use Rattle.hour_counts.specs.declared.slot.Movement.TheVariants.{Departure, Arrival}
 use Rattle.near_untouched.specs.Hours.{HasRoom, IsRoomy}
-use Rattle.near_swapped.specs.Calm.{HasRoomFor, IsBetween, IsCalmAt}
+use Rattle.near_swapped.specs.Calm.{HasRoomFor, IsCalmAt}
 use Rattle.near_swapped.specs.Times.{IsCalmHour}
 
 room-for : (n : ℕ) (cap : Option ℕ) → HasRoom n cap → HasRoomFor 16 n cap

@@ -40,6 +40,7 @@ fn calm_from<H: KnowsHours>(inst: &Instance, plan: &Pages, hours: &H, airport: A
     requires airport { airport.0 < airports_of inst.now }
     ensures { IsCalmAt 16 inst.now plan.now airport.0 result }
 {
+    let _rows = inst.parts();
     let (from, to) = inst.window();
     let first = from.0 / 60;
     let mut hour = to.0 / 60 + 1;

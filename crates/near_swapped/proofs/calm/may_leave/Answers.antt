@@ -1,4 +1,4 @@
-use Rattle.std.proofs.Common.{◌≡◌, ℕ, ◌-◌, ◌<◌, rules, refl, sym, ap, ◌∙◌, arith}
+use Rattle.std.proofs.Common.{◌≡◌, ◌-◌, ◌<◌, rules, arith}
 use Rattle.std.proofs.lemmas.Bool.{ltb-true}
 use Rattle.desk_model.specs.Push.{departures_beside}
 use Rattle.hour_counts.specs.declared.slot.Movement.TheVariants.{Departure}
