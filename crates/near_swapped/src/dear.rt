@@ -1,6 +1,6 @@
 //! Exchanges that are known to be dear.
 
-ghost use Rattle.std.specs.Prelude.{◌≡◌, ◌≢◌, ◌+◌, ◌<◌, ◌≤◌, ◌^◌, All, length, map, true, false};
+ghost use Rattle.std.specs.Prelude.{◌≡◌, ◌≢◌, ◌+◌, ◌<◌, ◌≤◌, ◌^◌, All, map, true, false};
 ghost use Rattle.desk_data.specs.Situation.{legs_of, plane_at, planes_of};
 ghost use Rattle.desk_data.specs.Valid.{IsPlanFor};
 ghost use Rattle.desk_rules.specs.Cost.{at_hand};
@@ -38,10 +38,8 @@ pub fn is_dear_exchange(
     requires other_times { ArePlaneTimes inst.now plan.now planes.1.0 times.1 }
     requires legs { numbers_of legs.now ≡ rotation inst.now plan.now planes.0.0 }
     requires within { All (λ leg. leg.0 < legs_of inst.now) legs.now }
-    requires few { length legs.now ≤ 16 }
     requires others { numbers_of others.now ≡ rotation inst.now plan.now planes.1.0 }
     requires others_within { All (λ leg. leg.0 < legs_of inst.now) others.now }
-    requires few_others { length others.now ≤ 16 }
     requires stands { AreStands inst.now plan.now planes.0.0 planes.1.0 at.0 stands }
     ensures { result ≡ true → IsDearExchange inst.now plan.now planes.0.0 planes.1.0 at.0 }
 {

@@ -2,7 +2,20 @@ use Rattle.std.proofs.Common.{◌≡◌, max, true, arith, rules}
 use Rattle.std.proofs.lemmas.List.Sums.{sum_by-append}
 use Rattle.desk_model.specs.Push.{rotation}
 use Rattle.near_priced.specs.Priced.{paid_on}
+use Rattle.near_swapped.proofs.TableLaws.{legs-count}
 use Rattle.near_swapped.proofs.dear.is_dear_exchange.Goals as goal
+
+pub tail_costs-flying-requires-clause-few : goal.tail_costs-flying-requires-clause-few
+tail_costs-flying-requires-clause-few c =
+    let count = c.requires.times.count in
+    let few = c.requires.times.few in
+    omega (arith, count, few, legs-count c.args.inst.now c.args.plan.now c.args.planes.0.0 c.args.legs.now c.requires.legs)
+
+pub tail_costs-flying-requires-clause-few_others : goal.tail_costs-flying-requires-clause-few_others
+tail_costs-flying-requires-clause-few_others c =
+    let count = c.requires.other_times.count in
+    let few = c.requires.other_times.few in
+    omega (arith, count, few, legs-count c.args.inst.now c.args.plan.now c.args.planes.1.0 c.args.others.now c.requires.others)
 
 pub returns : goal.returns
 returns c = λ known.
