@@ -33,7 +33,9 @@ use Rattle.near_chains.proofs.TallyLaws.{AreApart}
 use Rattle.near_chains.proofs.ChainLaws.{rotation-apart, in-rotation}
 use Rattle.near_chains.proofs.HandLaws.{apart-join}
 use Rattle.near_moves.specs.Descent.{is_better}
-use Rattle.near_moves.specs.Units.{swapped}
+use Rattle.near_moves.specs.Units.{MoveUnit}
+use Rattle.near_units.specs.Same.{is_of}
+use Rattle.near_units.specs.Steps.{unit_planes}
 use Rattle.near_units.specs.Own.{BreaksOwn}
 use Rattle.near_units.specs.Out.{IsOut, dear, breaks}
 use Rattle.near_units.proofs.OwnLaws.{breaks-worse}
@@ -303,16 +305,29 @@ known-dear I P m p q at c valid plan feasible fits steps other air other_air don
 pub known-exchange : (I : Situation) (P : PlanRows) (m : Move) (p q at : ℕ) → IsValid I → IsPlanFor I P → least I P ≡ None → Fits I m → m.steps ≡ exchange p q at → IsDearExchange I P p q at → (cost I P ≤ cost I (after_move I P m)) ⊎ BreaksOwn (is_either p q) I P m
 known-exchange I P m p q at valid plan feasible fits steps h = known-dear I P m p q at h.from valid plan feasible fits steps h.other h.air h.other_air h.done h.dear
 
-out-by : (I : Situation) (P : PlanRows) (m : Move) (p q : ℕ) → (cost I P ≤ cost I (after_move I P m)) ⊎ BreaksOwn (is_either p q) I P m → IsOut I P (swapped p q) m
-out-by I P m p q (inl less) = dear less
-out-by I P m p q (inr broken) = breaks broken
+either-among : (planes : ℕ → Bool) (p q : ℕ) (row : Row) → planes p ≡ true → planes q ≡ true → is_of (is_either p q) row ≡ true → is_of planes row ≡ true
+either-among planes p q row one two on =
+    elim (of-cases p q row on) [
+      | inl first ↦ is_of-by planes p row one first
+      | inr second ↦ is_of-by planes q row two second
+    ]
+
+out-by : (I : Situation) (P : PlanRows) (m : Move) (u : MoveUnit) (p q : ℕ) → unit_planes P u p ≡ true → unit_planes P u q ≡ true → (cost I P ≤ cost I (after_move I P m)) ⊎ BreaksOwn (is_either p q) I P m → IsOut I P u m
+out-by I P m u p q one two (inl less) = dear less
+out-by I P m u p q one two (inr broken) =
+    breaks (record {
+      leg = broken.leg;
+      within = broken.within;
+      own = either-among (unit_planes P u) p q (row_at (after_move I P m) broken.leg) one two broken.own;
+      broken = broken.broken;
+    })
 
 worse-by : (I : Situation) (P : PlanRows) (m : Move) (p q : ℕ) → (cost I P ≤ cost I (after_move I P m)) ⊎ BreaksOwn (is_either p q) I P m → is_better I P m ≡ false
 worse-by I P m p q (inl less) = dear-worse I P m less
 worse-by I P m p q (inr broken) = breaks-worse (is_either p q) I P m broken
 
-pub exchange-out : (I : Situation) (P : PlanRows) (m : Move) (p q at : ℕ) → IsValid I → IsPlanFor I P → least I P ≡ None → Fits I m → m.steps ≡ exchange p q at → IsDearExchange I P p q at → IsOut I P (swapped p q) m
-exchange-out I P m p q at valid plan feasible fits steps h = out-by I P m p q (known-exchange I P m p q at valid plan feasible fits steps h)
+pub exchange-out : (I : Situation) (P : PlanRows) (m : Move) (u : MoveUnit) (p q at : ℕ) → IsValid I → IsPlanFor I P → least I P ≡ None → Fits I m → m.steps ≡ exchange p q at → IsDearExchange I P p q at → unit_planes P u p ≡ true → unit_planes P u q ≡ true → IsOut I P u m
+exchange-out I P m u p q at valid plan feasible fits steps h one two = out-by I P m u p q one two (known-exchange I P m p q at valid plan feasible fits steps h)
 
 pub exchange-worse : (I : Situation) (P : PlanRows) (m : Move) (p q at : ℕ) → IsValid I → IsPlanFor I P → least I P ≡ None → Fits I m → m.steps ≡ exchange p q at → IsDearExchange I P p q at → is_better I P m ≡ false
 exchange-worse I P m p q at valid plan feasible fits steps h = worse-by I P m p q (known-exchange I P m p q at valid plan feasible fits steps h)

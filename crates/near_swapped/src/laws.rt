@@ -1,6 +1,6 @@
 //! What holds of a move that exchanges the legs of two aircraft.
 
-ghost use Rattle.std.specs.Prelude.{◌≡◌, ℕ, ◌+◌, ◌<◌, ◌≤◌, ◌⊎◌, ◌++◌, ◌≢◌, List as Items, None, false, sum_by};
+ghost use Rattle.std.specs.Prelude.{◌≡◌, ℕ, ◌+◌, ◌<◌, ◌≤◌, ◌⊎◌, ◌++◌, ◌≢◌, List as Items, None, false, sum_by, true};
 ghost use Rattle.desk_data.specs.Situation.{Situation, legs_of, planes_of};
 ghost use Rattle.desk_data.specs.PlanRows.{PlanRows};
 ghost use Rattle.desk_data.specs.Valid.{IsPlanFor, IsValid};
@@ -16,7 +16,8 @@ ghost use Rattle.near_chains.specs.Chains.{stand};
 ghost use Rattle.near_unpaid.specs.Unpaid.{is_either};
 ghost use Rattle.near_moves.specs.Descent.{is_better};
 ghost use Rattle.near_moves.specs.LegMoves.{exchange};
-ghost use Rattle.near_moves.specs.Units.{swapped};
+ghost use Rattle.near_moves.specs.Units.{MoveUnit};
+ghost use Rattle.near_units.specs.Steps.{unit_planes};
 ghost use Rattle.near_units.specs.Out.{IsOut};
 ghost use Rattle.near_units.specs.Own.{BreaksOwn};
 ghost use Rattle.near_priced.specs.Priced.{paid_booked, paid_on, refilled};
@@ -51,9 +52,9 @@ pub fn exchanged_legs_depart_in_time_where_hours_are_calm()
 {}
 
 /// Of a move of N2 that is a dear exchange it is known why it is not better: it makes the plan no cheaper, or it breaks a
-/// rule of a leg of its aircraft.
+/// rule of a leg of its aircraft. So it is out, of whichever unit of these aircraft it is.
 pub fn a_dear_exchange_is_out()
     ensures known { (I : Situation) (P : PlanRows) (m : Move) (p q at : ℕ) → IsValid I → IsPlanFor I P → least I P ≡ None → Fits I m → m.steps ≡ exchange p q at → IsDearExchange I P p q at → (cost I P ≤ cost I (after_move I P m)) ⊎ BreaksOwn (is_either p q) I P m }
-    ensures out { (I : Situation) (P : PlanRows) (m : Move) (p q at : ℕ) → IsValid I → IsPlanFor I P → least I P ≡ None → Fits I m → m.steps ≡ exchange p q at → IsDearExchange I P p q at → IsOut I P (swapped p q) m }
+    ensures out { (I : Situation) (P : PlanRows) (m : Move) (u : MoveUnit) (p q at : ℕ) → IsValid I → IsPlanFor I P → least I P ≡ None → Fits I m → m.steps ≡ exchange p q at → IsDearExchange I P p q at → unit_planes P u p ≡ true → unit_planes P u q ≡ true → IsOut I P u m }
     ensures worse { (I : Situation) (P : PlanRows) (m : Move) (p q at : ℕ) → IsValid I → IsPlanFor I P → least I P ≡ None → Fits I m → m.steps ≡ exchange p q at → IsDearExchange I P p q at → is_better I P m ≡ false }
 {}
