@@ -29,15 +29,3 @@ times-more I P n times time are one =
                 subst (λ (o : Option PlaneTimes). ForSome o (ArePlaneTimes I P p)) (sym is) (subst (λ (k : ℕ). ForSome time (ArePlaneTimes I P k)) same one)
           ];
     }
-
--- a list of three elements
-pub three-are : {X : Type 0} (xs : List X) (a b c : X) → length xs ≡ 3 → get_or xs 0 a ≡ a → get_or xs 1 b ≡ b → get_or xs 2 c ≡ c → xs ≡ a ∷ b ∷ c ∷ []
-three-are [] a b c long one two three = absurd (omega (arith, long))
-three-are (x ∷ []) a b c long one two three = absurd (omega (arith, long))
-three-are (x ∷ y ∷ []) a b c long one two three = absurd (omega (arith, long))
-three-are (x ∷ y ∷ z ∷ []) a b c long one two three =
-    let first : x ≡ a = one in
-    let second : y ≡ b = two in
-    let third : z ≡ c = three in
-    cc
-three-are (x ∷ y ∷ z ∷ w ∷ xs) a b c long one two three = absurd (omega (arith, long))

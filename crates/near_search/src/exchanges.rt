@@ -1,6 +1,7 @@
 //! Exchanges of the legs of two aircraft that are known to be dear.
 
 ghost use Rattle.std.specs.Prelude.{◌≡◌, ◌<◌, ◌∷◌, length, None, [], true};
+ghost use Rattle.std.specs.Option.{ForSome};
 ghost use Rattle.plan_moves.specs.declared.moves.Move.{Move};
 ghost use Rattle.plan_moves.specs.declared.moves.Step.TheVariants.{Push, Tidy};
 ghost use Rattle.plan_moves.specs.Fits.{Fits, StepFits};
@@ -29,6 +30,9 @@ pub(crate) fn exchange_dearly(
     requires fits { StepFits eval.now.inst first.now }
     ensures { result ≡ true → (m : Move) → Fits eval.now.inst m → m.steps ≡ first.now ∷ others.now → IsRuledOut eval.now.inst eval.now.rows m }
 {
+    let _rows = eval.instance().parts();
+    // the plan is one for the day
+    let _ = eval.plan();
     match first {
         Step::Swap { first, second, at } => {
             push_both(others, *first, *second)
@@ -85,15 +89,22 @@ fn is_known_dear(
     if !rotations.feasible || !count_hands(eval, rotations) {
         return false;
     }
-    let times = rotations.times[first.0 as usize];
-    let other_times = rotations.times[second.0 as usize];
-    match times {
-        Some(one) => match other_times {
+    match times_at(eval, rotations, first) {
+        Some(one) => match times_at(eval, rotations, second) {
             Some(other) => is_dear(eval, rotations, (first, second), (one, other), at),
             None => false,
         },
         None => false,
     }
+}
+
+/// What is told of an aircraft, if it flies few enough legs.
+fn times_at(_eval: &Evaluator, rotations: &Rotations, plane: Plane) -> Option<PlaneTimes>
+    requires rotations { AreRotations _eval.now.inst _eval.now.rows rotations.now }
+    requires plane { plane.0 < planes_of _eval.now.inst }
+    ensures { ForSome result (ArePlaneTimes _eval.now.inst _eval.now.rows plane.0) }
+{
+    rotations.times[plane.0 as usize]
 }
 
 /// Whether it was counted how many aircraft are at hand for each position.
