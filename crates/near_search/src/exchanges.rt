@@ -139,12 +139,7 @@ fn is_dear(
 }
 
 /// Where two aircraft stand, at a moment and at the end.
-fn stands_at(
-    eval: &Evaluator,
-    rotations: &Rotations,
-    planes: (Plane, Plane),
-    at: Minute,
-) -> Stands
+fn stands_at(eval: &Evaluator, rotations: &Rotations, planes: (Plane, Plane), at: Minute) -> Stands
     requires rotations { AreRotations eval.now.inst eval.now.rows rotations.now }
     requires first { planes.0.0 < planes_of eval.now.inst }
     requires second { planes.1.0 < planes_of eval.now.inst }

@@ -1,6 +1,5 @@
-use Rattle.std.proofs.Common.{◌≡◌, ◌∷◌, [], List, sym, ap, subst, ◌∙◌}
+use Rattle.std.proofs.Common.{◌≡◌, ◌∷◌, List, sym, ap, subst, ◌∙◌}
 use Rattle.std.specs.Prelude.{None}
-use Rattle.desk_data.specs.Situation.{Situation}
 use Rattle.desk_data.specs.Valid.{IsPlanFor, IsValid}
 use Rattle.desk_rules.specs.Least.{least}
 use Rattle.plan_moves.specs.declared.moves.Step.{Step}
