@@ -87,7 +87,7 @@ fn swaps(
 fn later_pairs(alloc: Global, plane: Plane, others: &[Plane]) -> Result<Vec<LegUnit>, NoMem>
     ensures { IfOk result (λ units. units.items ≡ map (λ q. LegUnit.Swapped plane q) (filter (λ q. nat_lt plane.0 q.0) others.now)) }
 {
-    let mut units = Vec::new(alloc);
+    let mut units = Vec::with_capacity(alloc, others.len())?;
     for other in others {
         if plane.0 < other.0 {
             units.push(LegUnit::Swapped {
@@ -123,7 +123,7 @@ fn restored_by(
 fn each_plane(alloc: Global, leg: Leg, planes: &[Plane]) -> Result<Vec<LegUnit>, NoMem>
     ensures { IfOk result (λ units. units.items ≡ map (λ q. LegUnit.Restored leg q) planes.now) }
 {
-    let mut units = Vec::new(alloc);
+    let mut units = Vec::with_capacity(alloc, planes.len())?;
     for plane in planes {
         units.push(LegUnit::Restored { leg, plane: *plane })?;
     }
@@ -167,7 +167,7 @@ fn handed_runs(
     let plane = flier(inst, plan, leg);
     let family = tables.family(plane);
     let legs = run(alloc, inst, plan, tables, leg, 4)?;
-    let mut units = Vec::new(alloc);
+    let mut units = Vec::with_capacity(alloc, family.len().saturating_mul(4))?;
     for count in [1, 2, 3, 4] {
         if is_run(inst, plan, leg, legs.as_slice(), count) {
             add_others(leg, count, plane, family, &mut units)?;

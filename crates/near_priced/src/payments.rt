@@ -66,6 +66,20 @@ impl Payments {
             hands,
         })
     }
+
+    /// For each leg what the passengers of those reservations cost, in grains, that have somebody on it, or more.
+    pub fn on(&self) -> &[u128]
+        ensures { result.now ≡ self.now.on.items }
+    {
+        self.on.as_slice()
+    }
+
+    /// For each position how many aircraft are at hand; empty where there are too many positions.
+    pub fn hands(&self) -> &[u32]
+        ensures { result.now ≡ self.now.hands.items }
+    {
+        self.hands.as_slice()
+    }
 }
 
 /// So many times 0.

@@ -4,3 +4,4 @@ pub mod PassedLaws
 pub mod RotationLaws
 pub mod VainLaws
 pub mod OutLaws
+pub mod TimesLaws

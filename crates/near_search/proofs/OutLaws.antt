@@ -1,5 +1,6 @@
 -- Why a move is not better, whichever unit of legs it is of.
 use Rattle.std.proofs.Common.{◌≡◌, ℕ, ◌≤◌, inl, inr, Bool, true, false, ◌||◌, eqb, List, [], ◌∷◌, ◌++◌, refl, sym, ap, subst, ◌∙◌}
+use Rattle.std.specs.Prelude.{None}
 use Rattle.std.specs.List.{All, Contains, list_all}
 use Rattle.std.proofs.lemmas.Bool.{true≢false, and_parts, eq-eqb, eqb-true}
 use Rattle.std.proofs.lemmas.List.Elements.{All-cons, All-contains, Contains-append_cases}
@@ -7,15 +8,18 @@ use Rattle.desk_data.specs.declared.row.Row.{Row}
 use Rattle.desk_data.specs.declared.row.Row.TheVariants.{Flown, Cancelled}
 use Rattle.desk_data.specs.Situation.{Situation}
 use Rattle.desk_data.specs.PlanRows.{PlanRows, row_at}
+use Rattle.desk_data.specs.Valid.{IsPlanFor, IsValid}
 use Rattle.plan_moves.specs.declared.moves.Move.{Move}
 use Rattle.plan_moves.specs.declared.moves.Step.{Step}
-use Rattle.plan_moves.specs.declared.moves.Step.TheVariants.{Set, Push, Swap}
+use Rattle.plan_moves.specs.declared.moves.Step.TheVariants.{Set, Push, Swap, Tidy}
 use Rattle.plan_moves.specs.Fits.{Fits}
 use Rattle.desk_rules.specs.Cost.{cost}
+use Rattle.desk_rules.specs.Least.{least}
 use Rattle.desk_rules.specs.Maintenance.{is_flown_by, flies}
 use Rattle.desk_rules.proofs.CarriageLaws.{list_all-holds}
 use Rattle.desk_model.specs.Steps.{after_steps, after_move}
 use Rattle.near_moves.specs.Descent.{is_better}
+use Rattle.near_moves.specs.LegMoves.{exchange}
 use Rattle.near_moves.specs.MoveParts.{leg, plane, minute, flown_row}
 use Rattle.near_moves.specs.Near.{unit_moves}
 use Rattle.near_moves.specs.Units.{MoveUnit}
@@ -40,6 +44,8 @@ use Rattle.near_units.proofs.OutLaws.{unit-worse}
 use Rattle.near_units.proofs.OwnLaws.{breaks-worse}
 use Rattle.near_units.proofs.RuleLaws.{c2-same, c4-same, c5-same, c6-same, c7-same}
 use Rattle.near_units.proofs.SplitLaws.{moves-split}
+use Rattle.near_swapped.specs.Dear.{IsDearExchange}
+use Rattle.near_swapped.proofs.TimeLaws.{exchange-out, exchange-worse}
 use Rattle.unit_notes.specs.Notes.{IsUnitOut}
 use Rattle.near_search.specs.Out.{AreMovesOut, IsMoveOut, IsRuledOut}
 use Rattle.near_search.proofs.FirstLaws.{dearer-ruled_out}
@@ -74,6 +80,18 @@ swaps-out I P m p q at others is keeps vain = record {
       let own = own-step (unit_planes P u) (unit_legs I P u) (unit_refills I P u) m s split refl (contains-first s others m.steps is) in
       let both = and_parts (unit_planes P u p) (unit_planes P u q) own in
       swaps (record { first = p; second = q; at = at; others = others; steps = is; keeps = keeps; own = both.0; other_own = both.1; vain = vain });
+}
+
+-- two aircraft exchange their legs, and that is dear
+pub exchanges-out : (I : Situation) (P : PlanRows) (m : Move) (p q at : ℕ) → IsValid I → IsPlanFor I P → least I P ≡ None → Fits I m → m.steps ≡ exchange p q at → IsDearExchange I P p q at → IsRuledOut I P m
+exchanges-out I P m p q at valid plan feasible fits is known = record {
+  worse = exchange-worse I P m p q at valid plan feasible fits is known;
+  out = λ u begins has.
+      let split = moves-split I P u m begins has in
+      let s = Swap (plane p) (plane q) (minute at) in
+      let own = own-step (unit_planes P u) (unit_legs I P u) (unit_refills I P u) m s split refl (contains-first s (Push (plane p) None ∷ Push (plane q) None ∷ Tidy ∷ []) m.steps is) in
+      let both = and_parts (unit_planes P u p) (unit_planes P u q) own in
+      exchange-out I P m u p q at valid plan feasible fits is known both.0 both.1;
 }
 
 pub restores-out : (I : Situation) (P : PlanRows) (m : Move) (x p at : ℕ) (others : List Step) → m.steps ≡ Set (leg x) Cancelled (flown_row p at) ∷ others → list_all keeps_aircraft others ≡ true → IsRestoredInVain I P x p → IsRuledOut I P m

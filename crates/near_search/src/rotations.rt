@@ -9,19 +9,22 @@ ghost use Rattle.desk_model.specs.Push.{rotation};
 ghost use Rattle.near_chains.specs.Chains.{led, run_leads_to, stand, stand_before};
 ghost use Rattle.near_search.specs.Rotations.{AreRotations, from_leg};
 
+use crate::times::times_of;
 use desk_data::{Airport, Instance, Leg, Minute, NoMem, Plane};
 use desk_eval::Evaluator;
 use near_priced::Payments;
+use near_swapped::{PlaneTimes, calm_moments};
 use near_unpaid::{Payers, reservation_costs};
 use plan_reads::departure;
 use std::alloc::Global;
 
-/// The rotations of a plan, the legs of each aircraft in their order; who pays on them and how much; and whether the plan
-/// is feasible.
+/// The rotations of a plan, the legs of each aircraft in their order; who pays on them and how much; when each aircraft is
+/// done; and whether the plan is feasible.
 pub(crate) struct Rotations {
     legs: Vec<Vec<Leg>>,
     pub(crate) payers: Payers,
     pub(crate) payments: Payments,
+    pub(crate) times: Vec<Option<PlaneTimes>>,
     pub(crate) feasible: bool,
 }
 
@@ -32,6 +35,7 @@ impl Drop for Rotations {
             legs: _,
             payers: _,
             payments: _,
+            times: _,
             feasible: _,
         } = self;
     }
@@ -53,16 +57,20 @@ impl Rotations {
         let costs = reservation_costs(alloc, inst, plan)?;
         let payers = Payers::of(alloc, inst, plan, costs.as_slice())?;
         let payments = Payments::of(alloc, inst, plan, costs.as_slice())?;
+        let moments = calm_moments(alloc, inst, plan, eval)?;
+        let (calm, paid) = (moments.as_slice(), payments.on());
+        let times = times_of(alloc, inst, plan, calm, paid, legs.as_slice())?;
         Ok(Rotations {
             legs,
             payers,
             payments,
+            times,
             feasible,
         })
     }
 
     /// The legs of an aircraft, in their order.
-    fn of_plane(&self, plane: Plane) -> &[Leg]
+    pub(crate) fn of_plane(&self, plane: Plane) -> &[Leg]
         requires { plane.0 < length self.now.legs.items }
         ensures order { (I : Situation) (P : PlanRows) → AreRotations I P self.now → map (λ leg. leg.0) result.now ≡ rotation I P plane.0 }
         ensures within { (I : Situation) (P : PlanRows) → AreRotations I P self.now → All (λ leg. leg.0 < legs_of I) result.now }

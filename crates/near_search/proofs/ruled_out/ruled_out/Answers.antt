@@ -2,6 +2,7 @@ use Rattle.std.proofs.Common.{◌≡◌, sym, ◌∙◌, [], ◌∷◌, arith}
 use Rattle.near_search.proofs.FirstLaws.{begins-is, one-is, one-dear}
 use Rattle.near_search.proofs.OutLaws.{dear-out}
 use Rattle.near_search.proofs.ruled_out.ruled_out.Goals as goal
+use Rattle.near_search.proofs.ruled_out.ruled_out.Goals.{then-are_in_vain, else-are_in_vain}
 
 pub returns-in-len1 : goal.returns-in-len1
 returns-in-len1 c = λ yes.
@@ -10,8 +11,13 @@ returns-in-len1 c = λ yes.
     let alone : m.steps ≡ step ∷ [] = sym c.as_slice.ensures ∙ one-is c.as_slice.result.now step c.in-len1.len_at_least c.in-len1.len_below c.step-item.is in
     dear-out c.args.eval.now.inst c.args.eval.now.rows m (one-dear c.args.eval.now.inst c.args.eval.now.rows m step alone (c.is_no_cheaper.ensures yes))
 
-pub returns-then-are_in_vain : goal.returns-then-are_in_vain
-returns-then-are_in_vain c = λ yes.
+pub returns-then-exchange_dearly : goal.returns-then-exchange_dearly
+returns-then-exchange_dearly c = λ yes.
+    let m = c.args.m.now in
     let first = c.first-item.result in
     let some = c.in-len1-up.len_at_least in
-    c.are_in_vain.ensures yes c.args.m.now (sym c.as_slice.ensures ∙ begins-is c.as_slice.result.now first (omega (arith, some)) c.first-item.is)
+    let steps = sym c.as_slice.ensures ∙ begins-is c.as_slice.result.now first (omega (arith, some)) c.first-item.is in
+    elim c.if-are_in_vain.branch [
+      | then-are_in_vain w ↦ c.are_in_vain.ensures w.if-are_in_vain.true m steps
+      | else-are_in_vain w ↦ w.exchange_dearly.ensures (sym w.value-is ∙ yes) m c.requires.fits steps
+    ]

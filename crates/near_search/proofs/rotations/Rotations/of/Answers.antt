@@ -22,4 +22,5 @@ returns c =
       within = c.loop-p.invariant.within;
       payers = rw (c.instance-inst.ensures, c.plan-plan.ensures.rows) at c.in_ok-payers.ensures;
       payments = rw (c.instance-inst.ensures, c.plan-plan.ensures.rows) at c.in_ok-payments.ensures;
+      times = rw (c.instance-inst.ensures, c.plan-plan.ensures.rows) at c.in_ok-times.ensures;
     }

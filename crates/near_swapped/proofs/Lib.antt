@@ -1,0 +1,14 @@
+pub mod TakeLaws
+pub mod SumLaws
+pub mod FlyLaws
+pub mod StandLaws
+pub mod EndLaws
+pub mod HandLaws
+pub mod DearLaws
+pub mod RoomLaws
+pub mod LateLaws
+pub mod TimeLaws
+pub mod MonoLaws
+pub mod TableLaws
+pub mod AtLaws
+pub mod CalmLaws
