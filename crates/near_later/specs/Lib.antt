@@ -1,2 +1,3 @@
 pub use Rattle.unit_notes.specs.Notes
 pub mod Later
+pub mod Carried

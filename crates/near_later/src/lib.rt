@@ -7,10 +7,14 @@
 //! (`near_untouched`): each aircraft that was touched, or may have been, is given the number of the search before, and so
 //! is each leg that may not be flown again as before. So the units of these are not known any more, and no unit is looked at.
 //!
+//! Where the later plan has the same rows, as after a rebooking, what is out by rows alone stays so; and a unit that refills no
+//! leg hangs on the passengers of its aircraft alone, and not on the seats of all on which somebody is booked.
+//!
 //! Proved: what comes back are notes of the plan as it stands, and each of them is true. It depends on `unit_notes` and
 //! `near_untouched`.
 #![tactic(auto)]
 
+mod carried;
 mod hours;
 mod later;
 mod same;

@@ -1,24 +1,19 @@
 //! What is noted of the units of legs at a plan.
 
-ghost use Rattle.std.specs.Prelude.{◌≡◌, None, IfOk, OnOk, replicate, true};
+ghost use Rattle.std.specs.Prelude.{◌≡◌, None, IfOk, OnOk, true};
 ghost use Rattle.desk_data.specs.Situation.{Situation};
 ghost use Rattle.desk_data.specs.Valid.{IsPlanFor};
 ghost use Rattle.desk_rules.specs.Least.{least};
 ghost use Rattle.near_moves.specs.Descent.{first_better};
 ghost use Rattle.near_legs.specs.Choices.{IsLegUnit, unit_of};
-ghost use Rattle.unit_notes.specs.Places.{number_of};
-ghost use Rattle.unit_notes.specs.Notes.{AreUnitNotes, AreUnitNotesAt, IsNotedAt, IsUnitOut, is_noted};
+ghost use Rattle.unit_notes.specs.Notes.{AreUnitNotes, AreUnitNotesAt, IsUnitOut, IsUnitOutByRows};
 
-use crate::place::{Place, place_of};
+use crate::findings::Findings;
+use crate::place::place_of;
 use desk_data::{Instance, NoMem};
 use near_legs::LegUnit;
-use number_rows::NumberRows;
 use plan_pages::Pages;
 use std::alloc::Global;
-
-/// How many pairs of a leg and an aircraft a day may have for its units to be noted: beyond these the table could take more
-/// than some 256 MB, and nothing is noted.
-const MOST_PAIRS: u32 = 8_000_000;
 
 /// A shard of the moves near a plan: its number, from 0, and how many shards there are.
 #[derive(Clone, Copy)]
@@ -33,12 +28,10 @@ pub struct UnitNotes {
     pub plan: Pages,
     /// The number of the search at hand, from 1.
     pub search: u32,
-    /// For each aircraft the number of the last search after which it was touched, 0 where it was not.
-    pub planes: Vec<u32>,
-    /// For each leg that of the last search after which it might not be flown again as before.
-    pub again: Vec<u32>,
-    /// For each unit that of the search that found it out, 0 where none did.
-    pub found: NumberRows,
+    /// The units that are out, for whatever reason.
+    pub out: Findings,
+    /// Those that are out by rows alone: they stay so where passengers alone change.
+    pub by_rows: Findings,
     /// A shard of which it is known that none of its moves is better at the plan, those of passengers neither.
     pub quiet: Option<Shard>,
 }
@@ -49,9 +42,8 @@ impl Drop for UnitNotes {
         let UnitNotes {
             plan: _,
             search: _,
-            planes: _,
-            again: _,
-            found: _,
+            out: _,
+            by_rows: _,
             quiet: _,
         } = self;
     }
@@ -64,16 +56,14 @@ impl UnitNotes {
         requires feasible { least inst.now plan.now ≡ None }
         ensures { IfOk result (AreUnitNotesAt inst.now plan.now) }
     {
-        let planes = zeros(alloc, inst.planes() as usize)?;
-        let again = zeros(alloc, inst.legs() as usize)?;
-        let found = NumberRows::zeros(alloc, rows_of(inst))?;
+        let out = Findings::none(alloc, inst)?;
+        let by_rows = Findings::none(alloc, inst)?;
         let plan = plan.share(alloc)?;
         Ok(UnitNotes {
             plan,
             search: 1,
-            planes,
-            again,
-            found,
+            out,
+            by_rows,
             quiet: None,
         })
     }
@@ -85,27 +75,7 @@ impl UnitNotes {
         requires unit { IsLegUnit inst.now self.now.plan unit }
         ensures { result ≡ true → IsUnitOut inst.now self.now.plan (unit_of unit) }
     {
-        self.is_noted(inst, unit)
-    }
-
-    /// Whether a unit was found out after all that it hangs on was touched.
-    fn is_noted(&self, inst: &Instance, unit: LegUnit) -> bool
-        requires plan { IsPlanFor inst.now self.now.plan }
-        requires unit { IsLegUnit inst.now self.now.plan unit }
-        ensures { result ≡ is_noted self.now.plan self.now unit }
-    {
-        let found = self.number_of(unit);
-        found != 0 && self.is_untouched_since(inst, unit, found)
-    }
-
-    /// The number of the search that found a unit out, 0 where none did.
-    fn number_of(&self, unit: LegUnit) -> u32
-        ensures { result ≡ number_of self.now.found unit }
-    {
-        match place_of(unit) {
-            Some(there) => self.found.at(there.row, there.column),
-            None => 0,
-        }
+        self.by_rows.has(inst, &self.plan, unit) || self.out.has(inst, &self.plan, unit)
     }
 
     /// Whether it is known of a shard that none of its moves is better at the plan of the notes. Where it says no, nothing is
@@ -137,35 +107,19 @@ impl UnitNotes {
         ensures notes { (I : Situation) → AreUnitNotes I self.old → IsUnitOut I self.old.plan (unit_of unit) → OnOk result (AreUnitNotes I self.new) }
     {
         match place_of(unit) {
-            Some(there) => self.put(there),
+            Some(there) => self.out.put(there, self.search),
             None => Ok(()),
         }
     }
 
-    /// Puts the number of the search at hand at a place, if the table has its row.
-    fn put(&mut self, there: Place) -> Result<(), NoMem>
-        ensures { OnOk result (IsNotedAt self.old self.new there) }
+    /// The same of one that is out by rows alone.
+    pub fn note_by_rows(&mut self, unit: LegUnit) -> Result<(), NoMem>
+        ensures plan { OnOk result (self.new.plan ≡ self.old.plan) }
+        ensures notes { (I : Situation) → AreUnitNotes I self.old → IsUnitOutByRows I self.old.plan (unit_of unit) → OnOk result (AreUnitNotes I self.new) }
     {
-        if self.found.rows() <= there.row {
-            return Ok(());
+        match place_of(unit) {
+            Some(there) => self.by_rows.put(there, self.search),
+            None => Ok(()),
         }
-        self.found.put(there.row, there.column, self.search)
     }
-}
-
-/// How many rows the table has: eight for each leg and each aircraft, and none on a day with too many pairs of these.
-fn rows_of(inst: &Instance) -> usize {
-    let (legs, planes) = (inst.legs(), inst.planes());
-    if legs > MOST_PAIRS / planes.max(1) {
-        0
-    } else {
-        8 * planes.max(legs) as usize
-    }
-}
-
-/// So many times 0.
-fn zeros(alloc: Global, count: usize) -> Result<Vec<u32>, NoMem>
-    ensures { IfOk result (λ none. none.items ≡ replicate count 0) }
-{
-    Ok(vec![in alloc; 0; count]?)
 }
