@@ -37,7 +37,7 @@ use Rattle.near_legs.specs.Choices.{IsLegUnit, unit_of}
 use Rattle.near_legs.specs.declared.unit.LegUnit.{LegUnit}
 use Rattle.near_legs.specs.declared.unit.LegUnit.TheVariants.{Retimed, Swapped, Dropped, Restored, Handed}
 use Rattle.near_units.specs.Own.{BreaksOwn, keeps_own_rules}
-use Rattle.near_units.specs.Out.{HandsInVain, IsOut, breaks, dear, hands, restores, swaps}
+use Rattle.near_units.specs.Out.{HandsInVain, IsOut, dear}
 use Rattle.near_units.specs.Same.{FliesSame, is_of}
 use Rattle.near_units.specs.Steps.{BeginsFlown, IsSplit, is_among, is_tidying, unit_legs, unit_planes, unit_refills}
 use Rattle.near_units.proofs.OutLaws.{unit-worse}
@@ -46,8 +46,10 @@ use Rattle.near_units.proofs.RuleLaws.{c2-same, c4-same, c5-same, c6-same, c7-sa
 use Rattle.near_units.proofs.SplitLaws.{moves-split}
 use Rattle.near_swapped.specs.Dear.{IsDearExchange}
 use Rattle.near_swapped.proofs.TimeLaws.{exchange-out, exchange-worse}
-use Rattle.unit_notes.specs.Notes.{IsUnitOut}
-use Rattle.near_search.specs.Out.{AreMovesOut, IsMoveOut, IsRuledOut}
+use Rattle.unit_notes.specs.Notes.{IsOutByRows, IsUnitOut, IsUnitOutByRows, breaks_rule, swaps_in_vain, restores_in_vain, hands_in_vain}
+use Rattle.unit_notes.proofs.OutLaws.{move-out}
+use Rattle.near_search.specs.declared.verdict.Verdict.{Verdict}
+use Rattle.near_search.specs.Out.{AreMovesOut, AreMovesOutByRows, IsMoveOut, IsMoveOutByRows, IsRuledOut, IsRuledOutByRows, IsVerdict}
 use Rattle.near_search.proofs.FirstLaws.{dearer-ruled_out}
 
 -- ---- steps of a unit's own legs
@@ -71,7 +73,7 @@ contains-first s steps all is = subst (λ (xs : List Step). Contains xs s) (sym 
 pub dear-out : (I : Situation) (P : PlanRows) (m : Move) → cost I P ≤ cost I (after_move I P m) → IsRuledOut I P m
 dear-out I P m less = record { worse = dearer-ruled_out I P m less; out = λ u begins has. dear less }
 
-pub swaps-out : (I : Situation) (P : PlanRows) (m : Move) (p q at : ℕ) (others : List Step) → m.steps ≡ Swap (plane p) (plane q) (minute at) ∷ others → list_all keeps_aircraft others ≡ true → IsSwappedInVain I P p q at → IsRuledOut I P m
+pub swaps-out : (I : Situation) (P : PlanRows) (m : Move) (p q at : ℕ) (others : List Step) → m.steps ≡ Swap (plane p) (plane q) (minute at) ∷ others → list_all keeps_aircraft others ≡ true → IsSwappedInVain I P p q at → IsRuledOutByRows I P m
 swaps-out I P m p q at others is keeps vain = record {
   worse = swapped_in_vain I P m p q at others is keeps vain;
   out = λ u begins has.
@@ -79,7 +81,7 @@ swaps-out I P m p q at others is keeps vain = record {
       let s = Swap (plane p) (plane q) (minute at) in
       let own = own-step (unit_planes P u) (unit_legs I P u) (unit_refills I P u) m s split refl (contains-first s others m.steps is) in
       let both = and_parts (unit_planes P u p) (unit_planes P u q) own in
-      swaps (record { first = p; second = q; at = at; others = others; steps = is; keeps = keeps; own = both.0; other_own = both.1; vain = vain });
+      swaps_in_vain (record { first = p; second = q; at = at; others = others; steps = is; keeps = keeps; own = both.0; other_own = both.1; vain = vain });
 }
 
 -- two aircraft exchange their legs, and that is dear
@@ -94,7 +96,7 @@ exchanges-out I P m p q at valid plan feasible fits is known = record {
       exchange-out I P m u p q at valid plan feasible fits is known both.0 both.1;
 }
 
-pub restores-out : (I : Situation) (P : PlanRows) (m : Move) (x p at : ℕ) (others : List Step) → m.steps ≡ Set (leg x) Cancelled (flown_row p at) ∷ others → list_all keeps_aircraft others ≡ true → IsRestoredInVain I P x p → IsRuledOut I P m
+pub restores-out : (I : Situation) (P : PlanRows) (m : Move) (x p at : ℕ) (others : List Step) → m.steps ≡ Set (leg x) Cancelled (flown_row p at) ∷ others → list_all keeps_aircraft others ≡ true → IsRestoredInVain I P x p → IsRuledOutByRows I P m
 restores-out I P m x p at others is keeps vain = record {
   worse = restored_in_vain I P m x p at others is keeps vain;
   out = λ u begins has.
@@ -106,7 +108,7 @@ restores-out I P m x p at others is keeps vain = record {
         | inl here ↦ here
         | inr none ↦ absurd (true≢false (sym none))
       ] in
-      restores (record { leg = x; plane = p; at = at; others = others; steps = is; keeps = keeps; own = by; own_leg = both.0; vain = vain });
+      restores_in_vain (record { leg = x; plane = p; at = at; others = others; steps = is; keeps = keeps; own = by; own_leg = both.0; vain = vain });
 }
 
 -- ---- a draft that breaks a rule of a leg of an aircraft that is pushed
@@ -143,7 +145,7 @@ breaks-own planes I P m D is p own broken =
       broken = sym (rows-rules I G F p x (sym rows) here.flown) ∙ here.broken;
     }
 
-pub breaks-out : (I : Situation) (P : PlanRows) (m : Move) (D : Drafted) → IsDraftOf I P m D → BreaksPushed D.inst (plan_of D) m.steps → IsRuledOut I P m
+pub breaks-out : (I : Situation) (P : PlanRows) (m : Move) (D : Drafted) → IsDraftOf I P m D → BreaksPushed D.inst (plan_of D) m.steps → IsRuledOutByRows I P m
 breaks-out I P m D is pushed =
     let p = pushed.plane.0 in
     let this : ℕ → Bool = λ q. eqb q p in
@@ -152,7 +154,7 @@ breaks-out I P m D is pushed =
       out = λ u begins has.
           let split = moves-split I P u m begins has in
           let own : unit_planes P u p ≡ true = own-step (unit_planes P u) (unit_legs I P u) (unit_refills I P u) m (Push pushed.plane pushed.after) split refl pushed.pushed in
-          breaks (breaks-own (unit_planes P u) I P m D is p own pushed.breaks);
+          breaks_rule (breaks-own (unit_planes P u) I P m D is p own pushed.breaks);
     }
 
 -- ---- units
@@ -172,15 +174,41 @@ all-out I P u begins fits out = record {
   out = All_from_contains (IsOut I P u) (unit_moves I P u) (λ m has. All-contains (IsMoveOut I P) (unit_moves I P u) m out has u begins has);
 }
 
--- one more move that is out, before others that are
-pub more-out : (I : Situation) (P : PlanRows) (m : Move) (before after : List Move) → before ≡ m ∷ after → IsMoveOut I P m → AreMovesOut I P after → AreMovesOut I P before
-more-out I P m before after is one rest = subst (AreMovesOut I P) (sym is) (All-cons (IsMoveOut I P) m after one rest)
+pub all-out-by-rows : (I : Situation) (P : PlanRows) (u : MoveUnit) → BeginsFlown P u → All (Fits I) (unit_moves I P u) → AreMovesOutByRows I P (unit_moves I P u) → IsUnitOutByRows I P u
+all-out-by-rows I P u begins fits out = record {
+  fits = fits;
+  out = All_from_contains (IsOutByRows I P u) (unit_moves I P u) (λ m has. All-contains (IsMoveOutByRows I P) (unit_moves I P u) m out has u begins has);
+}
+
+-- one more move of which something is known, before others
+pub more-out : (IsKnown : Move → Type 0) (m : Move) (before after : List Move) → before ≡ m ∷ after → IsKnown m → All IsKnown after → All IsKnown before
+more-out IsKnown m before after is one rest = subst (All IsKnown) (sym is) (All-cons IsKnown m after one rest)
 
 -- and so is one that hands a run on in vain
-pub hands-out : (I : Situation) (P : PlanRows) (u : MoveUnit) → All (Fits I) (unit_moves I P u) → HandsInVain I P u → IsUnitOut I P u
+pub hands-out : (I : Situation) (P : PlanRows) (u : MoveUnit) → All (Fits I) (unit_moves I P u) → HandsInVain I P u → IsUnitOutByRows I P u
 hands-out I P u fits vain = record {
   fits = fits;
-  out = All_from_contains (IsOut I P u) (unit_moves I P u) (λ m has. hands vain);
+  out = All_from_contains (IsOutByRows I P u) (unit_moves I P u) (λ m has. hands_in_vain vain);
+}
+
+-- ---- verdicts
+
+-- what is out by rows alone is out
+pub by-rows-out : (I : Situation) (P : PlanRows) (m : Move) → IsRuledOutByRows I P m → IsRuledOut I P m
+by-rows-out I P m known = record { worse = known.worse; out = λ u begins has. move-out I P u m (known.out u begins has) }
+
+pub verdict-out : (I : Situation) (P : PlanRows) (m : Move) (v : Verdict) → v.better ≡ false → v.by_rows ≡ false → IsRuledOut I P m → IsVerdict I P m v
+verdict-out I P m v better rows known = record {
+  better = better ∙ sym known.worse;
+  out = λ is. known;
+  by_rows = λ is. absurd (true≢false (sym is ∙ rows));
+}
+
+pub verdict-by-rows : (I : Situation) (P : PlanRows) (m : Move) (v : Verdict) → v.better ≡ false → IsRuledOutByRows I P m → IsVerdict I P m v
+verdict-by-rows I P m v better known = record {
+  better = better ∙ sym known.worse;
+  out = λ is. by-rows-out I P m known;
+  by_rows = λ is. known;
 }
 
 -- none of its moves is better

@@ -1,56 +1,75 @@
 //! Moves that are known not to be better by the rows that they make.
 
 ghost use Rattle.std.specs.Prelude.{◌≡◌, IfOk, true};
+ghost use Rattle.std.specs.Option.{ForSome};
 ghost use Rattle.plan_moves.specs.Fits.{Fits};
 ghost use Rattle.near_draft.specs.Drafts.{IsDraftOf};
-ghost use Rattle.near_search.specs.Out.{IsRuledOut};
+ghost use Rattle.near_search.specs.Out.{IsRuledOut, IsRuledOutByRows, IsVerdict};
 ghost use Rattle.near_search.specs.Rotations.{AreRotations};
 
 use crate::rotations::Rotations;
+use crate::verdict::Verdict;
 use desk_data::NoMem;
 use desk_eval::Evaluator;
 use near_draft::{Draft, breaks_rule, draft_of};
 use plan_moves::Move;
 use std::alloc::Global;
 
-/// Whether it is known that a move is not better by a draft of the rows that its first steps make, which the evaluator does
-/// not see. Where it says no, nothing is known.
-pub(crate) fn is_known_worse(
+/// What is known of a move by a draft of the rows that its first steps make, which the evaluator does not see; `None` where
+/// nothing is.
+pub(crate) fn judge_draft(
     alloc: Global,
     eval: &Evaluator,
     rotations: &Rotations,
     m: &Move,
-) -> Result<bool, NoMem>
+) -> Result<Option<Verdict>, NoMem>
     requires rotations { AreRotations eval.now.inst eval.now.rows rotations.now }
     requires fits { Fits eval.now.inst m.now }
-    ensures { IfOk result (λ known. known ≡ true → IsRuledOut eval.now.inst eval.now.rows m.now) }
+    ensures { IfOk result (λ known. ForSome known (IsVerdict eval.now.inst eval.now.rows m.now)) }
 {
-    let Some(draft) = draft_of(alloc, eval, m)? else {
-        return Ok(false);
-    };
-    is_worse_by(alloc, eval, rotations, &draft, m)
+    match draft_of(alloc, eval, m)? {
+        Some(draft) => judge_by(alloc, eval, rotations, &draft, m),
+        None => Ok(None),
+    }
 }
 
 /// The same by its draft: the move costs at least as much more as those pay whom it touches, or the draft breaks a rule.
-fn is_worse_by(
+fn judge_by(
     alloc: Global,
     eval: &Evaluator,
     rotations: &Rotations,
     draft: &Draft,
     m: &Move,
-) -> Result<bool, NoMem>
+) -> Result<Option<Verdict>, NoMem>
     requires rotations { AreRotations eval.now.inst eval.now.rows rotations.now }
     requires fits { Fits eval.now.inst m.now }
     requires draft { IsDraftOf eval.now.inst eval.now.rows m.now draft.now }
-    ensures { IfOk result (λ known. known ≡ true → IsRuledOut eval.now.inst eval.now.rows m.now) }
+    ensures { IfOk result (λ known. ForSome known (IsVerdict eval.now.inst eval.now.rows m.now)) }
 {
     if is_too_dear(alloc, eval, rotations, draft, m)? {
-        return Ok(true);
+        return Ok(Some(Verdict::out()));
     }
+    if breaks_own_rule(alloc, eval, draft, m)? {
+        return Ok(Some(Verdict::out_by_rows()));
+    }
+    Ok(None)
+}
+
+/// Whether it is known that a move is not better since its draft breaks a rule.
+fn breaks_own_rule(
+    alloc: Global,
+    _eval: &Evaluator,
+    draft: &Draft,
+    m: &Move,
+) -> Result<bool, NoMem>
+    requires fits { Fits _eval.now.inst m.now }
+    requires draft { IsDraftOf _eval.now.inst _eval.now.rows m.now draft.now }
+    ensures { IfOk result (λ known. known ≡ true → IsRuledOutByRows _eval.now.inst _eval.now.rows m.now) }
+{
     breaks_rule(alloc, draft, m)
 }
 
-/// The same since the move costs at least as much more as those pay whom it touches.
+/// Whether it is known that a move is not better since it costs at least as much more as those pay whom it touches.
 fn is_too_dear(
     alloc: Global,
     eval: &Evaluator,

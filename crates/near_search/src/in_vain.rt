@@ -5,21 +5,21 @@ ghost use Rattle.std.specs.List.{list_all};
 ghost use Rattle.plan_moves.specs.declared.moves.Move.{Move};
 ghost use Rattle.plan_moves.specs.declared.moves.Step.{Step as AskedStep};
 ghost use Rattle.plan_moves.specs.declared.moves.Step.TheVariants.{Set};
-ghost use Rattle.plan_moves.specs.Fits.{StepFits};
+ghost use Rattle.plan_moves.specs.Fits.{Fits, StepFits};
 ghost use Rattle.desk_data.specs.Situation.{legs_of, plane_at, planes_of};
 ghost use Rattle.desk_data.specs.Valid.{IsRowOf};
 ghost use Rattle.desk_rules.specs.Maintenance.{flies};
 ghost use Rattle.near_legs.specs.Choices.{IsLegUnit, unit_of};
 ghost use Rattle.near_chains.specs.Chains.{IsHandedInVain, IsRestoredInVain, IsSwappedInVain, keeps_aircraft};
 ghost use Rattle.near_units.specs.Out.{HandsInVain};
-ghost use Rattle.near_search.specs.Out.{IsRuledOut};
+ghost use Rattle.near_search.specs.Out.{IsRuledOutByRows};
 ghost use Rattle.near_search.specs.Rotations.{AreRotations};
 
 use crate::rotations::{Rotations, run_leads_to, stand, stand_before};
 use desk_data::{Instance, Leg, Minute, Plane, Row};
 use desk_eval::Evaluator;
 use near_legs::LegUnit;
-use plan_moves::Step;
+use plan_moves::{Move, Step};
 use plan_reads::is_flown;
 
 /// Whether it is known that no move of a unit is better: it hands a run on that leads elsewhere. Where it says
@@ -82,9 +82,21 @@ fn leads_elsewhere(
         && (to.0 != stand(eval, rotations, own).0 || from.0 != stand(eval, rotations, other).0)
 }
 
+/// Whether it is known that a move is not better since its first step gives legs in vain. Where it says no, nothing is known.
+pub(crate) fn gives_in_vain(eval: &Evaluator, rotations: &Rotations, m: &Move) -> bool
+    requires rotations { AreRotations eval.now.inst eval.now.rows rotations.now }
+    requires fits { Fits eval.now.inst m.now }
+    ensures { result ≡ true → IsRuledOutByRows eval.now.inst eval.now.rows m.now }
+{
+    match m.steps.as_slice() {
+        [first, others @ ..] => are_in_vain(eval, rotations, first, others),
+        [] => false,
+    }
+}
+
 /// Whether it is known that a move that begins with a step, after which each leg stays with its aircraft, is not
 /// better. Where it says no, nothing is known.
-pub(crate) fn are_in_vain(
+fn are_in_vain(
     eval: &Evaluator,
     rotations: &Rotations,
     first: &Step,
@@ -92,7 +104,7 @@ pub(crate) fn are_in_vain(
 ) -> bool
     requires rotations { AreRotations eval.now.inst eval.now.rows rotations.now }
     requires fits { StepFits eval.now.inst first.now }
-    ensures { result ≡ true → (m : Move) → m.steps ≡ first.now ∷ others.now → IsRuledOut eval.now.inst eval.now.rows m }
+    ensures { result ≡ true → (m : Move) → m.steps ≡ first.now ∷ others.now → IsRuledOutByRows eval.now.inst eval.now.rows m }
 {
     keep_aircraft(others) && begins_in_vain(eval, rotations, first)
 }
@@ -118,7 +130,7 @@ fn keeps_aircraft(step: &Step) -> bool
 fn begins_in_vain(eval: &Evaluator, rotations: &Rotations, step: &Step) -> bool
     requires rotations { AreRotations eval.now.inst eval.now.rows rotations.now }
     requires fits { StepFits eval.now.inst step.now }
-    ensures { result ≡ true → (others : Items AskedStep) (m : Move) → list_all keeps_aircraft others ≡ true → m.steps ≡ step.now ∷ others → IsRuledOut eval.now.inst eval.now.rows m }
+    ensures { result ≡ true → (others : Items AskedStep) (m : Move) → list_all keeps_aircraft others ≡ true → m.steps ≡ step.now ∷ others → IsRuledOutByRows eval.now.inst eval.now.rows m }
 {
     match step {
         Step::Swap { first, second, at } => {
@@ -157,7 +169,7 @@ fn is_set_in_vain(eval: &Evaluator, rotations: &Rotations, leg: Leg, was: Row, n
     requires rotations { AreRotations eval.now.inst eval.now.rows rotations.now }
     requires leg { leg.0 < legs_of eval.now.inst }
     requires new { IsRowOf (planes_of eval.now.inst) new }
-    ensures { result ≡ true → (others : Items AskedStep) (m : Move) → list_all keeps_aircraft others ≡ true → m.steps ≡ Set leg was new ∷ others → IsRuledOut eval.now.inst eval.now.rows m }
+    ensures { result ≡ true → (others : Items AskedStep) (m : Move) → list_all keeps_aircraft others ≡ true → m.steps ≡ Set leg was new ∷ others → IsRuledOutByRows eval.now.inst eval.now.rows m }
 {
     match was {
         Row::Cancelled => match new {

@@ -14,7 +14,7 @@ use crate::in_vain::is_in_vain;
 use crate::left::MadeMoves;
 use crate::rotations::Rotations;
 use crate::trial::{Tried, try_all};
-use crate::units::{is_noted_out, note_out};
+use crate::units::{is_noted_out, note_by_rows, note_out};
 use day_notes::UnitNotes;
 use desk_data::NoMem;
 use desk_eval::Evaluator;
@@ -77,13 +77,19 @@ fn first_of_unit<L: Listener>(
         return Ok(None);
     }
     if is_in_vain(eval, rotations, unit) {
-        note_out(eval, notes, unit);
+        note_by_rows(eval, notes, unit);
         return Ok(None);
     }
     let made = units.moves(alloc, eval.instance(), eval.plan(), unit)?;
     let mut moves = MadeMoves::of(made);
-    let Tried { found, out } = try_all(alloc, eval, rotations, &mut moves, listener)?;
-    if out {
+    let Tried {
+        found,
+        out,
+        by_rows,
+    } = try_all(alloc, eval, rotations, &mut moves, listener)?;
+    if by_rows {
+        note_by_rows(eval, notes, unit);
+    } else if out {
         note_out(eval, notes, unit);
     }
     Ok(found)

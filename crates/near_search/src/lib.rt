@@ -38,6 +38,7 @@ mod ruled_out;
 mod times;
 mod trial;
 mod units;
+mod verdict;
 
 pub use finder::Finder;
 pub use first::{first_better, first_better_heard};

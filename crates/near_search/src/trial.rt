@@ -4,13 +4,15 @@ ghost use Rattle.std.specs.Prelude.{◌≡◌, ◌<◌, length, All, IfOk, find,
 ghost use Rattle.std.specs.Option.{ForSome};
 ghost use Rattle.plan_moves.specs.Fits.{Fits};
 ghost use Rattle.near_moves.specs.Descent.{is_better};
-ghost use Rattle.near_search.specs.Out.{AreMovesOut, IsRuledOut};
+ghost use Rattle.near_search.specs.Out.{AreMovesOut, AreMovesOutByRows, IsVerdict};
 ghost use Rattle.near_search.specs.Rotations.{AreRotations};
 
-use crate::drafted::is_known_worse;
+use crate::drafted::judge_draft;
+use crate::in_vain::gives_in_vain;
 use crate::left::MovesLeft;
 use crate::rotations::Rotations;
 use crate::ruled_out::ruled_out;
+use crate::verdict::Verdict;
 use desk_data::NoMem;
 use desk_eval::Evaluator;
 use desk_headway::Listener;
@@ -25,15 +27,8 @@ pub(crate) struct Tried {
     pub(crate) found: Option<Move>,
     /// Whether none is, and it is known of each why it is not.
     pub(crate) out: bool,
-}
-
-/// What is known of a move.
-#[derive(Clone, Copy)]
-pub(crate) struct Verdict {
-    /// Whether it is better.
-    better: bool,
-    /// Whether it is known that it is not, and why, so that its unit may be noted: a rule that it breaks is no reason here.
-    out: bool,
+    /// Whether rows alone say so of each.
+    pub(crate) by_rows: bool,
 }
 
 /// The first better one of some moves, which fit; the listener is told of each that is tried. The evaluator stands
@@ -74,11 +69,13 @@ pub(crate) fn try_all<M: MovesLeft, L: Listener>(
     ensures ok { IfOk result (λ tried. tried.found ≡ find (is_better eval.old.inst eval.old.rows) (M.left eval.old.inst eval.old.rows moves.old)) }
     ensures fits { IfOk result (λ tried. ForSome tried.found (Fits eval.old.inst)) }
     ensures out { IfOk result (λ tried. tried.out ≡ true → AreMovesOut eval.old.inst eval.old.rows (M.left eval.old.inst eval.old.rows moves.old)) }
+    ensures by_rows { IfOk result (λ tried. tried.by_rows ≡ true → AreMovesOutByRows eval.old.inst eval.old.rows (M.left eval.old.inst eval.old.rows moves.old)) }
     ensures moves { M.is_of eval.old.inst eval.old.rows moves.new }
     ensures units_after { M.units_after eval.old.inst eval.old.rows moves.new ≡ M.units_after eval.old.inst eval.old.rows moves.old }
     ensures eval { eval.new ≡ eval.old }
 {
     let mut out = true;
+    let mut by_rows = true;
     while let Some(m) = moves.next_left(alloc, eval.instance(), eval.plan())? {
         listener.tried();
         let verdict = judge(alloc, eval, rotations, &m)?;
@@ -86,11 +83,17 @@ pub(crate) fn try_all<M: MovesLeft, L: Listener>(
             return Ok(Tried {
                 found: Some(m),
                 out: false,
+                by_rows: false,
             });
         }
         out = out && verdict.out;
+        by_rows = by_rows && verdict.by_rows;
     }
-    Ok(Tried { found: None, out })
+    Ok(Tried {
+        found: None,
+        out,
+        by_rows,
+    })
 }
 
 /// Whether a move makes the plan feasible and cheaper, and whether it is known why where it does not. It is tried on the
@@ -105,29 +108,26 @@ fn judge(
     requires rotations { AreRotations eval.old.inst eval.old.rows rotations.now }
     requires fits { Fits eval.old.inst m.now }
     requires depth { length eval.old.past < 1900000000 }
-    ensures better { IfOk result (λ verdict. verdict.better ≡ is_better eval.old.inst eval.old.rows m.now) }
-    ensures out { IfOk result (λ verdict. verdict.out ≡ true → IsRuledOut eval.old.inst eval.old.rows m.now) }
+    ensures verdict { IfOk result (IsVerdict eval.old.inst eval.old.rows m.now) }
     ensures eval { eval.new ≡ eval.old }
 {
-    let known = Verdict {
-        better: false,
-        out: true,
-    };
+    if gives_in_vain(eval, rotations, m) {
+        return Ok(Verdict::out_by_rows());
+    }
     if ruled_out(eval, rotations, m) {
-        return Ok(known);
+        return Ok(Verdict::out());
     }
-    if is_known_worse(alloc, eval, rotations, m)? {
-        return Ok(known);
+    match judge_draft(alloc, eval, rotations, m)? {
+        Some(verdict) => Ok(verdict),
+        None => try_move(alloc, eval, m),
     }
-    try_move(alloc, eval, m)
 }
 
 /// The same by a trial on the evaluator: it is out where the plan is no cheaper then.
 fn try_move(alloc: Global, eval: &mut Evaluator, m: &Move) -> Result<Verdict, NoMem>
     requires fits { Fits eval.old.inst m.now }
     requires depth { length eval.old.past < 1900000000 }
-    ensures better { IfOk result (λ verdict. verdict.better ≡ is_better eval.old.inst eval.old.rows m.now) }
-    ensures out { IfOk result (λ verdict. verdict.out ≡ true → IsRuledOut eval.old.inst eval.old.rows m.now) }
+    ensures verdict { IfOk result (IsVerdict eval.old.inst eval.old.rows m.now) }
     ensures eval { eval.new ≡ eval.old }
 {
     let now = eval.cost();
@@ -135,5 +135,9 @@ fn try_move(alloc: Global, eval: &mut Evaluator, m: &Move) -> Result<Verdict, No
     let better = eval.least_broken().is_none() && eval.cost().0 < now.0;
     let out = now.0 <= eval.cost().0;
     undo(eval, applied);
-    Ok(Verdict { better, out })
+    Ok(Verdict {
+        better,
+        out,
+        by_rows: false,
+    })
 }

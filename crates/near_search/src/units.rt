@@ -5,7 +5,7 @@ ghost use Rattle.desk_rules.specs.Least.{least};
 ghost use Rattle.near_moves.specs.Descent.{first_better, is_better};
 ghost use Rattle.near_moves.specs.Near.{unit_moves};
 ghost use Rattle.near_legs.specs.Choices.{IsLegUnit, unit_of};
-ghost use Rattle.unit_notes.specs.Notes.{AreUnitNotes, AreUnitNotesAt, IsUnitOut};
+ghost use Rattle.unit_notes.specs.Notes.{AreUnitNotes, AreUnitNotesAt, IsUnitOut, IsUnitOutByRows};
 ghost use Rattle.near_search.specs.Noted.{AreUnitsNotedAt};
 
 use crate::noted::is_feasible;
@@ -78,6 +78,19 @@ pub(crate) fn note_out(eval: &Evaluator, notes: &mut Option<UnitNotes>, unit: Le
 {
     if let Some(mut all) = notes.take() {
         if all.note(unit).is_ok() {
+            *notes = Some(all);
+        }
+    }
+}
+
+/// The same of one that is out by rows alone.
+pub(crate) fn note_by_rows(eval: &Evaluator, notes: &mut Option<UnitNotes>, unit: LegUnit)
+    requires notes { AreUnitsNotedAt eval.now.inst eval.now.rows notes.old }
+    requires out { IsUnitOutByRows eval.now.inst eval.now.rows (unit_of unit) }
+    ensures { AreUnitsNotedAt eval.now.inst eval.now.rows notes.new }
+{
+    if let Some(mut all) = notes.take() {
+        if all.note_by_rows(unit).is_ok() {
             *notes = Some(all);
         }
     }

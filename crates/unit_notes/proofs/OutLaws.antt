@@ -9,7 +9,7 @@ use Rattle.near_moves.proofs.ListLaws.{All_from_contains}
 use Rattle.near_units.specs.Out.{IsOut, breaks, swaps, restores, hands}
 use Rattle.unit_notes.specs.Notes.{IsOutByRows, IsUnitOut, IsUnitOutByRows, breaks_rule, swaps_in_vain, restores_in_vain, hands_in_vain}
 
-move-out : (I : Situation) (P : PlanRows) (u : MoveUnit) (m : Move) → IsOutByRows I P u m → IsOut I P u m
+pub move-out : (I : Situation) (P : PlanRows) (u : MoveUnit) (m : Move) → IsOutByRows I P u m → IsOut I P u m
 move-out I P u m (breaks_rule h) = breaks h
 move-out I P u m (swaps_in_vain h) = swaps h
 move-out I P u m (restores_in_vain h) = restores h

@@ -2,7 +2,6 @@ use Rattle.std.proofs.Common.{◌≡◌, sym, ◌∙◌, [], ◌∷◌, arith}
 use Rattle.near_search.proofs.FirstLaws.{begins-is, one-is, one-dear}
 use Rattle.near_search.proofs.OutLaws.{dear-out}
 use Rattle.near_search.proofs.ruled_out.ruled_out.Goals as goal
-use Rattle.near_search.proofs.ruled_out.ruled_out.Goals.{then-are_in_vain, else-are_in_vain}
 
 pub returns-in-len1 : goal.returns-in-len1
 returns-in-len1 c = λ yes.
@@ -13,11 +12,7 @@ returns-in-len1 c = λ yes.
 
 pub returns-then-exchange_dearly : goal.returns-then-exchange_dearly
 returns-then-exchange_dearly c = λ yes.
-    let m = c.args.m.now in
     let first = c.first-item.result in
     let some = c.in-len1-up.len_at_least in
     let steps = sym c.as_slice.ensures ∙ begins-is c.as_slice.result.now first (omega (arith, some)) c.first-item.is in
-    elim c.if-are_in_vain.branch [
-      | then-are_in_vain w ↦ c.are_in_vain.ensures w.if-are_in_vain.true m steps
-      | else-are_in_vain w ↦ w.exchange_dearly.ensures (sym w.value-is ∙ yes) m c.requires.fits steps
-    ]
+    c.exchange_dearly.ensures c.if-exchange_dearly.true c.args.m.now c.requires.fits steps
