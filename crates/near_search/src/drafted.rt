@@ -56,12 +56,7 @@ fn judge_by(
 }
 
 /// Whether it is known that a move is not better since its draft breaks a rule.
-fn breaks_own_rule(
-    alloc: Global,
-    _eval: &Evaluator,
-    draft: &Draft,
-    m: &Move,
-) -> Result<bool, NoMem>
+fn breaks_own_rule(alloc: Global, _eval: &Evaluator, draft: &Draft, m: &Move) -> Result<bool, NoMem>
     requires fits { Fits _eval.now.inst m.now }
     requires draft { IsDraftOf _eval.now.inst _eval.now.rows m.now draft.now }
     ensures { IfOk result (λ known. known ≡ true → IsRuledOutByRows _eval.now.inst _eval.now.rows m.now) }

@@ -96,12 +96,7 @@ pub(crate) fn gives_in_vain(eval: &Evaluator, rotations: &Rotations, m: &Move) -
 
 /// Whether it is known that a move that begins with a step, after which each leg stays with its aircraft, is not
 /// better. Where it says no, nothing is known.
-fn are_in_vain(
-    eval: &Evaluator,
-    rotations: &Rotations,
-    first: &Step,
-    others: &[Step],
-) -> bool
+fn are_in_vain(eval: &Evaluator, rotations: &Rotations, first: &Step, others: &[Step]) -> bool
     requires rotations { AreRotations eval.now.inst eval.now.rows rotations.now }
     requires fits { StepFits eval.now.inst first.now }
     ensures { result ≡ true → (m : Move) → m.steps ≡ first.now ∷ others.now → IsRuledOutByRows eval.now.inst eval.now.rows m }
