@@ -46,10 +46,12 @@ fn judge_by(
     requires draft { IsDraftOf eval.now.inst eval.now.rows m.now draft.now }
     ensures { IfOk result (λ known. ForSome known (IsVerdict eval.now.inst eval.now.rows m.now)) }
 {
-    if is_too_dear(alloc, eval, rotations, draft, m)? {
+    let dear = is_too_dear(alloc, eval, rotations, draft, m)?;
+    if dear {
         return Ok(Some(Verdict::out()));
     }
-    if breaks_own_rule(alloc, eval, draft, m)? {
+    let breaks = breaks_own_rule(alloc, eval, draft, m)?;
+    if breaks {
         return Ok(Some(Verdict::out_by_rows()));
     }
     Ok(None)

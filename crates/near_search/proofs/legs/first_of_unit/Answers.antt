@@ -29,8 +29,8 @@ note_by_rows-requires-then-by_rows-clause-out g c =
     let made = c.of-moves.ensures ∙ (rw (c.instance.ensures, c.plan.ensures.rows) at c.in_ok-made.ensures) in
     rw c.try_all.ensures.eval (all-out-by-rows I P u (begins-flown I P c.args.unit c.requires.unit) c.requires.fits (subst (AreMovesOutByRows I P) made (c.in_ok-found.ensures.by_rows c.if-by_rows.true)))
 
-pub note_out-requires-then-out-clause-out : goal.note_out-requires-then-out-clause-out
-note_out-requires-then-out-clause-out g c =
+pub note_out-requires-clause-out : goal.note_out-requires-clause-out
+note_out-requires-clause-out g c =
     let I = c.args.eval.now.inst in
     let P = c.args.eval.now.rows in
     let u = unit_of c.args.unit in
