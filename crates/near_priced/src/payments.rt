@@ -74,6 +74,13 @@ impl Payments {
         self.on.as_slice()
     }
 
+    /// The same of those reservations that are booked on it.
+    pub fn booked(&self) -> &[u128]
+        ensures { result.now ≡ self.now.booked.items }
+    {
+        self.booked.as_slice()
+    }
+
     /// For each position how many aircraft are at hand; empty where there are too many positions.
     pub fn hands(&self) -> &[u32]
         ensures { result.now ≡ self.now.hands.items }

@@ -100,8 +100,8 @@ impl Payers {
         self.saved(inst, plan, one, other).0 <= again(inst, plan, first).0
     }
 
-    /// What two aircraft may save by ending elsewhere, or more.
-    fn saved(&self, inst: &Instance, plan: &Pages, one: Plane, other: Plane) -> Grains
+    /// What two aircraft, which may be one, save at most by ending elsewhere, or more, in grains.
+    pub fn saved(&self, inst: &Instance, plan: &Pages, one: Plane, other: Plane) -> Grains
         requires payers { ArePayers inst.now plan.now self.now }
         requires one { one.0 < planes_of inst.now }
         requires other { other.0 < planes_of inst.now }
