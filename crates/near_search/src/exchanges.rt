@@ -53,7 +53,7 @@ fn push_both(steps: &[Step], one: Plane, other: Plane) -> bool
 }
 
 /// Whether a step pushes all legs of an aircraft.
-fn pushes_all(step: &Step, aircraft: Plane) -> bool
+pub(crate) fn pushes_all(step: &Step, aircraft: Plane) -> bool
     ensures { result ≡ true → step.now ≡ Push aircraft None }
 {
     match step {
@@ -63,7 +63,7 @@ fn pushes_all(step: &Step, aircraft: Plane) -> bool
 }
 
 /// Whether a step is a Tidy.
-fn is_tidy(step: &Step) -> bool
+pub(crate) fn is_tidy(step: &Step) -> bool
     ensures { result ≡ true → step.now ≡ Tidy }
 {
     match step {

@@ -33,6 +33,7 @@ mod left;
 mod legs;
 mod noted;
 mod passengers;
+mod restores;
 mod rotations;
 mod ruled_out;
 mod times;

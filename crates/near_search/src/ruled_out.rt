@@ -1,6 +1,7 @@
 //! Moves that are known not to be better.
 
-ghost use Rattle.std.specs.Prelude.{◌≡◌, ◌<◌, ◌≤◌, ◌==◌, length, true, false, nat_le};
+ghost use Rattle.std.specs.Prelude.{◌≡◌, ◌<◌, ◌≤◌, ◌==◌, ◌∷◌, All, length, true, false, nat_le};
+ghost use Rattle.plan_moves.specs.declared.moves.Move.{Move as Asked};
 ghost use Rattle.plan_moves.specs.Fits.{Fits, IsPathIn, StepFits};
 ghost use Rattle.desk_data.specs.Situation.{legs_of, reservations_of};
 ghost use Rattle.desk_data.specs.PlanRows.{groups_at};
@@ -12,6 +13,7 @@ ghost use Rattle.near_search.specs.Out.{IsRuledOut};
 ghost use Rattle.near_search.specs.Rotations.{AreRotations};
 
 use crate::exchanges::exchange_dearly;
+use crate::restores::restore_dearly;
 use crate::rotations::Rotations;
 use desk_data::{Path, Res};
 use desk_eval::Evaluator;
@@ -19,7 +21,7 @@ use full_cost::passenger_cost;
 use plan_moves::{Move, Step};
 
 /// Whether it is known without trying it that a move is not better, and why: it has one step, and that makes the plan no
-/// cheaper; or it is a dear exchange; or nobody pays on its aircraft. Where it says no, nothing is known.
+/// cheaper; or it costs at least as much more as it saves at most; or nobody pays on its aircraft. Where it says no, nothing is known.
 pub(crate) fn ruled_out(eval: &Evaluator, rotations: &Rotations, m: &Move) -> bool
     requires rotations { AreRotations eval.now.inst eval.now.rows rotations.now }
     requires fits { Fits eval.now.inst m.now }
@@ -28,10 +30,22 @@ pub(crate) fn ruled_out(eval: &Evaluator, rotations: &Rotations, m: &Move) -> bo
     match m.steps.as_slice() {
         [step] => is_no_cheaper(eval, step),
         [first, others @ ..] => {
-            exchange_dearly(eval, rotations, first, others) || is_unpaid(eval, rotations, m)
+            goes_dearly(eval, rotations, first, others) || is_unpaid(eval, rotations, m)
         }
         [] => false,
     }
+}
+
+/// Whether it is known of a move with a first step and others that it is not better, since it exchanges legs of two aircraft, or
+/// flies legs again, and that costs at least as much more as it saves at most.
+fn goes_dearly(eval: &Evaluator, rotations: &Rotations, first: &Step, others: &[Step]) -> bool
+    requires rotations { AreRotations eval.now.inst eval.now.rows rotations.now }
+    requires first { StepFits eval.now.inst first.now }
+    requires others { All (StepFits eval.now.inst) others.now }
+    ensures { result ≡ true → (m : Asked) → Fits eval.now.inst m → m.steps ≡ first.now ∷ others.now → IsRuledOut eval.now.inst eval.now.rows m }
+{
+    exchange_dearly(eval, rotations, first, others)
+        || restore_dearly(eval, rotations, first, others)
 }
 
 /// Whether it is known that a move is not better since nobody pays on its aircraft.

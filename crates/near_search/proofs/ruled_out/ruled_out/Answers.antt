@@ -10,9 +10,9 @@ returns-in-len1 c = λ yes.
     let alone : m.steps ≡ step ∷ [] = sym c.as_slice.ensures ∙ one-is c.as_slice.result.now step c.in-len1.len_at_least c.in-len1.len_below c.step-item.is in
     dear-out c.args.eval.now.inst c.args.eval.now.rows m (one-dear c.args.eval.now.inst c.args.eval.now.rows m step alone (c.is_no_cheaper.ensures yes))
 
-pub returns-then-exchange_dearly : goal.returns-then-exchange_dearly
-returns-then-exchange_dearly c = λ yes.
+pub returns-then-goes_dearly : goal.returns-then-goes_dearly
+returns-then-goes_dearly c = λ yes.
     let first = c.first-item.result in
     let some = c.in-len1-up.len_at_least in
     let steps = sym c.as_slice.ensures ∙ begins-is c.as_slice.result.now first (omega (arith, some)) c.first-item.is in
-    c.exchange_dearly.ensures c.if-exchange_dearly.true c.args.m.now c.requires.fits steps
+    c.goes_dearly.ensures c.if-goes_dearly.true c.args.m.now c.requires.fits steps

@@ -1,0 +1,3 @@
+pub mod FlownLaws
+pub mod DearLaws
+pub mod TableLaws
