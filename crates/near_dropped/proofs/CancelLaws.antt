@@ -1,5 +1,5 @@
 -- What some legs that are cancelled, and a Push of their aircraft, leave of a plan.
-use Rattle.std.proofs.Common.{◌≡◌, ◌≢◌, ℕ, ◌+◌, ◌<◌, ◌≤◌, ◌⊎◌, inl, inr, Bool, true, false, ◌||◌, cond, eqb, List, [], ◌∷◌, ◌++◌, length, get_or, refl, sym, ap, subst, ◌∙◌, arith}
+use Rattle.std.proofs.Common.{◌≡◌, ℕ, ◌+◌, ◌≤◌, ◌⊎◌, inl, inr, Bool, true, false, ◌||◌, cond, eqb, List, [], ◌∷◌, ◌++◌, length, get_or, refl, sym, ap, subst, ◌∙◌, arith}
 use Rattle.std.specs.Prelude.{None, map, sum_by}
 use Rattle.std.specs.List.{Contains, list_any}
 use Rattle.std.proofs.lemmas.Bool.{true≢false, cases_Bool, cases_eq, cases_lt, or_parts, eq-eqb, ne_eqb, eqb-true}
@@ -14,7 +14,6 @@ use Rattle.plan_moves.specs.declared.moves.Step.{Step}
 use Rattle.plan_moves.specs.declared.moves.Step.TheVariants.{Push}
 use Rattle.desk_rules.specs.Cost.{weight, by_hour, operating_of, operating, operating_cost}
 use Rattle.desk_rules.specs.Maintenance.{is_flown_by, flies}
-use Rattle.desk_rules.specs.Numbers.{numbers}
 use Rattle.desk_rules.specs.Passengers.{is_flown}
 use Rattle.desk_rules.specs.Rows.{is_row}
 use Rattle.desk_rules.proofs.LegLaws.{is_row-from}

@@ -1,6 +1,6 @@
 -- A move that cancels legs of an aircraft makes the plan no cheaper where those on one of the legs come to cost what it could save.
-use Rattle.std.proofs.Common.{◌≡◌, ℕ, ◌+◌, ◌<◌, ◌≤◌, inl, inr, Bool, true, false, ◌||◌, not, cond, eqb, List, [], ◌∷◌, ◌++◌, length, get_or, take, refl, sym, ap, subst, ◌∙◌, append_assoc, arith}
-use Rattle.std.specs.Prelude.{None, filter, map, sum_by}
+use Rattle.std.proofs.Common.{◌≡◌, ℕ, ◌+◌, ◌<◌, ◌≤◌, inl, inr, Bool, true, false, ◌||◌, not, cond, eqb, List, [], ◌∷◌, ◌++◌, length, get_or, refl, sym, ap, subst, ◌∙◌, append_assoc, arith}
+use Rattle.std.specs.Prelude.{None, map, sum_by}
 use Rattle.std.specs.List.{All, AllByRecursion, list_any}
 use Rattle.std.proofs.lemmas.Bool.{true≢false, cases_Bool, or_parts, eq-eqb}
 use Rattle.std.proofs.lemmas.List.Elements.{All-nil, All-cons, All-contains, All-filter, All-take, All-weaker, recursion_from_All}
@@ -16,11 +16,10 @@ use Rattle.plan_moves.specs.Fits.{Fits, StepFits}
 use Rattle.plan_moves.specs.declared.moves.Move.{Move}
 use Rattle.plan_moves.specs.declared.moves.Step.{Step}
 use Rattle.plan_moves.specs.declared.moves.Step.TheVariants.{Push, Tidy}
-use Rattle.desk_rules.specs.Numbers.{numbers}
 use Rattle.desk_rules.specs.Least.{least}
 use Rattle.desk_rules.specs.Maintenance.{flies}
 use Rattle.desk_rules.specs.Rotations.{precedes}
-use Rattle.desk_rules.specs.Cost.{cost, operating}
+use Rattle.desk_rules.specs.Cost.{cost}
 use Rattle.desk_model.specs.Push.{rotation}
 use Rattle.desk_model.specs.Refill.{has_leg}
 use Rattle.desk_model.specs.Steps.{after_step, after_steps, after_move}
@@ -40,10 +39,9 @@ use Rattle.near_alone.specs.Alone.{IsLeftAlone}
 use Rattle.near_alone.proofs.AloneLaws.{left-alone, flying-same, positions-same}
 use Rattle.near_units.specs.Out.{IsOut, dear}
 use Rattle.near_unpaid.proofs.DearLaws.{dear-worse}
-use Rattle.near_unpaid.specs.Unpaid.{saved_by_ending}
 use Rattle.near_priced.specs.Priced.{paid_on}
 use Rattle.near_dropped.specs.Drops.{IsDearDrop, dropping_legs}
-use Rattle.near_dropped.specs.Owed.{owed_by, owed_on}
+use Rattle.near_dropped.specs.Owed.{owed_by}
 use Rattle.near_dropped.proofs.SumLaws.{any-le, both-le, others-le, some_of}
 use Rattle.near_dropped.proofs.OwedLaws.{none-owed, tidy-owes}
 use Rattle.near_dropped.proofs.CancelLaws.{among-has, first_steps, flying-saves, gone-after}

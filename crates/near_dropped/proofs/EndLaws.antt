@@ -1,6 +1,6 @@
 -- Which legs keep their rows where an aircraft loses legs, and what the positions save by that.
-use Rattle.std.proofs.Common.{◌≡◌, ◌≢◌, ℕ, ◌+◌, ◌-◌, ◌*◌, ◌<◌, ◌≤◌, ◌⊎◌, inl, inr, Bool, true, false, ◌&&◌, not, cond, eqb, ltb, List, [], ◌∷◌, ◌++◌, length, refl, sym, ap, subst, ◌∙◌, arith}
-use Rattle.std.specs.Prelude.{Option, None, Some, map, sum_by}
+use Rattle.std.proofs.Common.{◌≡◌, ◌≢◌, ℕ, ◌+◌, ◌-◌, ◌*◌, ◌<◌, ◌≤◌, ◌⊎◌, inl, inr, Bool, true, false, ◌&&◌, not, cond, eqb, ltb, List, [], ◌∷◌, length, refl, sym, ap, subst, ◌∙◌, arith}
+use Rattle.std.specs.Prelude.{Option, None, Some, sum_by}
 use Rattle.std.specs.List.{All, list_all}
 use Rattle.std.proofs.Math.Nat.{mul-add, mul-le-mul_left}
 use Rattle.std.proofs.lemmas.Bool.{true≢false, cases_Bool, cases_eq, cases_lt, and_from, eq-eqb, ne_eqb, eqb-true, lt-ltb}
@@ -9,8 +9,6 @@ use Rattle.std.proofs.lemmas.List.Elements.{All-head, All-tail}
 use Rattle.std.proofs.lemmas.List.Sums.{sum_by-cons, length-filter}
 use Rattle.desk_units.specs.declared.tariff.Term.TheVariants as term
 use Rattle.tariff_prices.specs.Prices.{position_price}
-use Rattle.plan_moves.specs.declared.moves.Step.{Step}
-use Rattle.plan_moves.specs.declared.moves.Step.TheVariants.{Push}
 use Rattle.desk_data.specs.declared.info.PositionInfo.{PositionInfo}
 use Rattle.desk_data.specs.declared.row.Row.{Row}
 use Rattle.desk_data.specs.declared.row.Row.TheVariants.{Flown, Cancelled}
@@ -23,7 +21,6 @@ use Rattle.desk_rules.specs.Numbers.{numbers}
 use Rattle.desk_model.specs.Push.{rotation}
 use Rattle.desk_model.specs.Steps.{after_steps}
 use Rattle.desk_model.proofs.RotationOrder.{rotation-each}
-use Rattle.near_moves.specs.LegMoves.{cancelling}
 use Rattle.near_moves.specs.MoveParts.{plane}
 use Rattle.near_units.specs.Same.{FliesSame, is_of, AgreeOn}
 use Rattle.near_units.specs.Steps.{is_among}

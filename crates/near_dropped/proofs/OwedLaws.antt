@@ -11,7 +11,6 @@ use Rattle.desk_units.specs.declared.numbers.Cabin.{Cabin}
 use Rattle.desk_units.specs.declared.tariff.Term.TheVariants as term
 use Rattle.tariff_prices.specs.Prices.{cancel_price, uncarried_care, uncarried_compensation}
 use Rattle.desk_data.specs.declared.row.Group.{Group}
-use Rattle.desk_data.specs.declared.row.Row.{Row}
 use Rattle.desk_data.specs.declared.row.Row.TheVariants.{Flown, Cancelled}
 use Rattle.desk_data.specs.Booked.{haul_of, reference_of}
 use Rattle.desk_data.specs.Paths.{is_carried}
@@ -26,7 +25,6 @@ use Rattle.desk_model.specs.Tidy.{is_fit_path, stays_carried, groups_after_tidy,
 use Rattle.desk_model.proofs.TidyLaws.{after_tidy-at, is_fit-holds}
 use Rattle.full_cost.specs.Amounts.{group_cost, reservation_cost}
 use Rattle.full_cost.proofs.GroupLaws.{uncarried_is}
-use Rattle.leg_users.specs.Users.{uses}
 use Rattle.near_dropped.specs.Owed.{uncarried, owed_by}
 
 -- ---- each passenger owes as much as another

@@ -1,14 +1,13 @@
 -- What steps that cancel legs say, and the positions that an aircraft may serve.
-use Rattle.std.proofs.Common.{◌≡◌, ℕ, ◌+◌, ◌-◌, ◌*◌, ◌<◌, ◌≤◌, inl, inr, Bool, true, false, ◌&&◌, not, cond, eqb, ltb, List, [], ◌∷◌, ◌++◌, length, get_or, take, drop, refl, sym, ap, subst, ◌∙◌, arith}
-use Rattle.std.specs.Prelude.{Option, None, Some, map, sum_by, count_by}
-use Rattle.std.specs.List.{All, Contains, list_all}
+use Rattle.std.proofs.Common.{◌≡◌, ℕ, ◌+◌, ◌*◌, ◌<◌, ◌≤◌, Bool, true, false, ◌&&◌, not, cond, eqb, ltb, List, [], ◌∷◌, ◌++◌, length, get_or, take, drop, refl, sym, ap, ◌∙◌, arith}
+use Rattle.std.specs.Prelude.{map, sum_by}
+use Rattle.std.specs.List.{All, list_all}
 use Rattle.std.proofs.Math.Nat.{mul-le-mul_left}
-use Rattle.std.proofs.lemmas.Bool.{true≢false, and_parts, not-true, eq-eqb}
+use Rattle.std.proofs.lemmas.Bool.{and_parts, eq-eqb}
 use Rattle.std.proofs.lemmas.List.{take-append-drop, drop_more, drop_all, take_more}
 use Rattle.std.proofs.lemmas.List.Elements.{All-nil, All-cons}
 use Rattle.std.proofs.lemmas.List.Sums.{sum_by-cons, sum_by-le-sum_by}
 use Rattle.desk_units.specs.declared.numbers.Leg.{Leg}
-use Rattle.desk_units.specs.declared.numbers.Plane.{Plane}
 use Rattle.desk_units.specs.declared.tariff.Term.TheVariants as term
 use Rattle.tariff_prices.specs.Prices.{position_price}
 use Rattle.desk_data.specs.declared.info.PositionInfo.{PositionInfo}

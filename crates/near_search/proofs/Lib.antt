@@ -5,3 +5,4 @@ pub mod RotationLaws
 pub mod VainLaws
 pub mod OutLaws
 pub mod TimesLaws
+pub mod DropLaws

@@ -11,6 +11,7 @@ ghost use Rattle.full_cost.specs.Amounts.{passenger_cost};
 ghost use Rattle.near_search.specs.Out.{IsRuledOut};
 ghost use Rattle.near_search.specs.Rotations.{AreRotations};
 
+use crate::drops::drop_dearly;
 use crate::exchanges::exchange_dearly;
 use crate::in_vain::are_in_vain;
 use crate::rotations::Rotations;
@@ -20,7 +21,7 @@ use full_cost::passenger_cost;
 use plan_moves::{Move, Step};
 
 /// Whether it is known without trying it that a move is not better, and why: it has one step, and that makes the plan no
-/// cheaper; or its first step is in vain; or it is a dear exchange; or nobody pays on its aircraft. Where it says no, nothing is known.
+/// cheaper; or its first step is in vain; or it is a dear exchange; or it cancels legs dearly; or nobody pays on its aircraft. Where it says no, nothing is known.
 pub(crate) fn ruled_out(eval: &Evaluator, rotations: &Rotations, m: &Move) -> bool
     requires rotations { AreRotations eval.now.inst eval.now.rows rotations.now }
     requires fits { Fits eval.now.inst m.now }
@@ -31,6 +32,7 @@ pub(crate) fn ruled_out(eval: &Evaluator, rotations: &Rotations, m: &Move) -> bo
         [first, others @ ..] => {
             are_in_vain(eval, rotations, first, others)
                 || exchange_dearly(eval, rotations, first, others)
+                || drop_dearly(eval, rotations, m)
                 || is_unpaid(eval, rotations, m)
         }
         [] => false,

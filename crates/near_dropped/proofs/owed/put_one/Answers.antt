@@ -1,4 +1,4 @@
-use Rattle.std.proofs.Common.{◌≡◌, ℕ, ◌+◌, ◌≤◌, ◌^◌, sym, ap, ◌∙◌, arith}
+use Rattle.std.proofs.Common.{ap, arith}
 use Rattle.std.specs.Prelude.{sum_by}
 use Rattle.near_dropped.specs.Owed.{owed_by}
 use Rattle.near_dropped.proofs.TableLaws.{groups-fit, owed-more, reservation-room}

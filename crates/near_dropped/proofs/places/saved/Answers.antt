@@ -1,4 +1,4 @@
-use Rattle.std.proofs.Common.{◌≡◌, ◌*◌, ap, ◌∙◌, arith}
+use Rattle.std.proofs.Common.{◌≡◌, ap, ◌∙◌, arith}
 use Rattle.desk_units.specs.declared.tariff.Term.TheVariants as term
 use Rattle.tariff_prices.specs.Prices.{position_price, weight_of}
 use Rattle.desk_rules.specs.Cost.{weight, rows_of, by_item}
