@@ -6,3 +6,4 @@ pub mod VainLaws
 pub mod OutLaws
 pub mod TimesLaws
 pub mod RestoreLaws
+pub mod DropLaws

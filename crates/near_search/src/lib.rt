@@ -11,8 +11,9 @@
 //! whether it is known not to be better, which is worth while where that takes less than to try the move: it may
 //! always say no. A run of legs that is handed on in vain (`near_chains`) is passed over before its move is made,
 //! and a path that costs a passenger nothing before the moves off it are made. A move of legs on whose aircraft nobody pays
-//! (`near_unpaid`), and an exchange of the legs of two aircraft that costs at least as much more as those pay who are on them
-//! (`near_swapped`), is told by its steps; one that costs at least as much more as those pay whom it touches (`near_priced`), or
+//! (`near_unpaid`), an exchange of the legs of two aircraft that costs at least as much more as those pay who are on them
+//! (`near_swapped`), and one that cancels legs on one of which those come to cost what it could save (`near_dropped`), is told
+//! by its steps; one that costs at least as much more as those pay whom it touches (`near_priced`), or
 //! breaks a rule of a leg, by a draft of its rows (`near_draft`). What is known is a law each. A path off which
 //! no rebooking was better is noted in the evaluator, and passed over by the next search as long as nothing is touched
 //! that those hang on (`near_notes`).
@@ -24,6 +25,7 @@
 #![tactic(auto)]
 
 mod drafted;
+mod drops;
 mod exchanges;
 mod finder;
 mod first;

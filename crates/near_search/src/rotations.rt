@@ -12,6 +12,7 @@ ghost use Rattle.near_search.specs.Rotations.{AreRotations, from_leg};
 use crate::times::times_of;
 use desk_data::{Airport, Instance, Leg, Minute, NoMem, Plane};
 use desk_eval::Evaluator;
+use near_dropped::owed_by_leg;
 use near_priced::Payments;
 use near_swapped::{PlaneTimes, calm_moments};
 use near_unpaid::{Payers, reservation_costs};
@@ -19,12 +20,13 @@ use plan_reads::departure;
 use std::alloc::Global;
 
 /// The rotations of a plan, the legs of each aircraft in their order; who pays on them and how much; when each aircraft is
-/// done; and whether the plan is feasible.
+/// done; by leg what those come to cost who are on it, if they are no longer carried; and whether the plan is feasible.
 pub(crate) struct Rotations {
     legs: Vec<Vec<Leg>>,
     pub(crate) payers: Payers,
     pub(crate) payments: Payments,
     pub(crate) times: Vec<Option<PlaneTimes>>,
+    pub(crate) owed: Vec<u128>,
     pub(crate) feasible: bool,
 }
 
@@ -36,6 +38,7 @@ impl Drop for Rotations {
             payers: _,
             payments: _,
             times: _,
+            owed: _,
             feasible: _,
         } = self;
     }
@@ -60,11 +63,13 @@ impl Rotations {
         let moments = calm_moments(alloc, inst, plan, eval)?;
         let (calm, paid) = (moments.as_slice(), payments.on());
         let times = times_of(alloc, inst, plan, calm, paid, legs.as_slice())?;
+        let owed = owed_by_leg(alloc, inst, plan)?;
         Ok(Rotations {
             legs,
             payers,
             payments,
             times,
+            owed,
             feasible,
         })
     }

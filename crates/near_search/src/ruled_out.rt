@@ -12,6 +12,7 @@ ghost use Rattle.full_cost.specs.Amounts.{passenger_cost};
 ghost use Rattle.near_search.specs.Out.{IsRuledOut};
 ghost use Rattle.near_search.specs.Rotations.{AreRotations};
 
+use crate::drops::drop_dearly;
 use crate::exchanges::exchange_dearly;
 use crate::restores::restore_dearly;
 use crate::rotations::Rotations;
@@ -21,7 +22,7 @@ use full_cost::passenger_cost;
 use plan_moves::{Move, Step};
 
 /// Whether it is known without trying it that a move is not better, and why: it has one step, and that makes the plan no
-/// cheaper; or it costs at least as much more as it saves at most; or nobody pays on its aircraft. Where it says no, nothing is known.
+/// cheaper; or it costs at least as much more as it saves at most; or it cancels legs dearly; or nobody pays on its aircraft. Where it says no, nothing is known.
 pub(crate) fn ruled_out(eval: &Evaluator, rotations: &Rotations, m: &Move) -> bool
     requires rotations { AreRotations eval.now.inst eval.now.rows rotations.now }
     requires fits { Fits eval.now.inst m.now }
@@ -30,7 +31,9 @@ pub(crate) fn ruled_out(eval: &Evaluator, rotations: &Rotations, m: &Move) -> bo
     match m.steps.as_slice() {
         [step] => is_no_cheaper(eval, step),
         [first, others @ ..] => {
-            goes_dearly(eval, rotations, first, others) || is_unpaid(eval, rotations, m)
+            goes_dearly(eval, rotations, first, others)
+                || drop_dearly(eval, rotations, m)
+                || is_unpaid(eval, rotations, m)
         }
         [] => false,
     }

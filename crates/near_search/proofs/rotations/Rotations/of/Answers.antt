@@ -23,4 +23,5 @@ returns c =
       payers = rw (c.instance-inst.ensures, c.plan-plan.ensures.rows) at c.in_ok-payers.ensures;
       payments = rw (c.instance-inst.ensures, c.plan-plan.ensures.rows) at c.in_ok-payments.ensures;
       times = rw (c.instance-inst.ensures, c.plan-plan.ensures.rows) at c.in_ok-times.ensures;
+      owed = rw (c.instance-inst.ensures, c.plan-plan.ensures.rows) at c.in_ok-owed.ensures;
     }
