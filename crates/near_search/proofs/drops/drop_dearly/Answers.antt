@@ -1,4 +1,4 @@
-use Rattle.std.proofs.Common.{◌≡◌, List, [], ◌∷◌, ◌++◌, sym, ◌∙◌}
+use Rattle.std.proofs.Common.{◌≡◌, [], ◌∷◌, ◌++◌, sym, ◌∙◌}
 use Rattle.std.specs.Prelude.{None}
 use Rattle.plan_moves.specs.declared.moves.Step.TheVariants.{Push, Tidy}
 use Rattle.near_search.proofs.DropLaws.{fitting-parts}
