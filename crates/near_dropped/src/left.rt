@@ -12,8 +12,8 @@ use full_cost::flight_cost;
 use plan_moves::Step;
 use plan_pages::Pages;
 
-/// What is left of an amount once it is taken off what it costs to fly the legs that some steps set, as they are flown;
-/// `None` where that costs more.
+/// What is left of an amount, in grains, once what it costs to fly the legs that some steps set, as they are flown, is taken
+/// off it; `None` where that costs more.
 pub(crate) fn left_by_flying(
     inst: &Instance,
     plan: &Pages,

@@ -19,8 +19,8 @@ use near_priced::Payments;
 use plan_pages::Pages;
 use plan_reads::departure;
 
-/// Whether it is known that an aircraft flies a cancelled leg again in vain, alone or with one that leads back, and is pushed
-/// from a moment on, since that costs at least as much as it saves at most. Where it says no, nothing is known. Given are
+/// Whether it is known that it is dear where an aircraft flies a cancelled leg again, alone or with one that leads back, and is
+/// pushed from a moment on: that costs at least as much as it saves at most. Where it says no, nothing is known. Given are
 /// what those pay who are on each leg, and who are booked on it (`Payments::of`), what the aircraft saves at most by ending
 /// elsewhere, in grains, and its legs.
 pub fn is_dear_restore(

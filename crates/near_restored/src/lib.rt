@@ -1,7 +1,7 @@
 //! What an aircraft costs that flies cancelled legs again, and what that saves at most, told without making the move.
 //!
 //!     let saved = payers.saved(&inst, &plan, p, p);                                    // of near_unpaid
-//!     is_dear_restore(&inst, &plan, &payments, saved, p, legs, x, None)                // of a feasible plan
+//!     is_dear_restore(&inst, &plan, &payments, saved, p, legs, at, x, None)            // of a feasible plan
 //!
 //! A move that restores a leg flies it by an aircraft, and perhaps another one that leads back; it pushes the legs of the
 //! aircraft, and lets those aboard the restored legs again who are booked on them. That costs what flying these legs costs.

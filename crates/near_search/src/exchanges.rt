@@ -72,7 +72,7 @@ pub(crate) fn is_tidy(step: &Step) -> bool
     }
 }
 
-/// Whether it is known of a feasible plan that two aircraft exchange their legs from a moment on in vain, since that is dear.
+/// Whether it is known of a feasible plan that it is dear where two aircraft exchange their legs from a moment on.
 fn is_known_dear(
     eval: &Evaluator,
     rotations: &Rotations,

@@ -6,19 +6,22 @@
 //!     let found = first_better_heard(alloc, &mut eval, &mut finder, 0, 1, &mut listener)?;   // and is told of each trial
 //!
 //! The moves of legs come first (`near_legs`), and then those of passengers (`near_pax`): together they are the
-//! shard, which is a law. A move is tried on the
-//! evaluator: applied, judged by what the plan then breaks and costs, and taken back. Before that `ruled_out` asks
-//! whether it is known not to be better, which is worth while where that takes less than to try the move: it may
-//! always say no. A run of legs that is handed on in vain (`near_chains`) is passed over before its move is made,
-//! and a path that costs a passenger nothing before the moves off it are made. A move of legs on whose aircraft nobody pays
-//! (`near_unpaid`), an exchange of the legs of two aircraft that costs at least as much more as those pay who are on them
-//! (`near_swapped`), and one that cancels legs on one of which those come to cost what it could save (`near_dropped`), is told
-//! by its steps; one that costs at least as much more as those pay whom it touches (`near_priced`), or
-//! breaks a rule of a leg, by a draft of its rows (`near_draft`). What is known is a law each. A path off which
-//! no rebooking was better is noted in the evaluator, and passed over by the next search as long as nothing is touched
-//! that those hang on (`near_notes`).
-//! So is a unit of legs of each of whose moves it is known why it is not better (`unit_notes`, and `near_later` for a later plan): each test that rules a
-//! move out says why, and a trial does where the plan that the move makes is no cheaper.
+//! shard, which is a law. A move is tried on the evaluator: applied, judged by what the plan then breaks and costs, and taken
+//! back. Before that it is asked whether it is known not to be better, which is worth while where that takes less than to try
+//! the move, and may always be answered by no.
+//!
+//! - A run of legs that is handed on in vain (`near_chains`) is passed over before its move is made, and a path that costs a
+//!   passenger nothing before the moves off it are made.
+//! - By its steps are told: a move whose first step gives legs in vain (`near_chains`); an exchange of the legs of two aircraft
+//!   (`near_swapped`), a leg that is flown again (`near_restored`) and a run that is cancelled (`near_dropped`) that cost at
+//!   least as much as they save at most; and a move on whose aircraft nobody pays (`near_unpaid`).
+//! - By a draft of its rows (`near_draft`) is told one that costs at least as much more as those pay whom it touches
+//!   (`near_priced`), or that breaks a rule of a leg.
+//!
+//! What is known is a law each. A path off which no rebooking was better is noted in the evaluator, and passed over by the next
+//! search as long as nothing is touched that those hang on (`near_notes`). So is a unit of legs of each of whose moves it is
+//! known why it is not better (`unit_notes`, and `near_later` for a later plan), apart where rows alone say so: each test that
+//! rules a move out says why, and a trial does where the plan that the move makes is no cheaper.
 //!
 //! Proved: what is found is the first of `find` over the shard, as `near_moves` defines it, and it fits; the
 //! evaluator stands where it stood, also where memory ran out.

@@ -174,8 +174,8 @@ fn refills(step: &Step, asked: Leg) -> bool
     }
 }
 
-/// Whether it is known of a feasible plan that an aircraft flies a leg again in vain, alone or with one that leads back, and its
-/// legs from a moment on are pushed, since that is dear.
+/// Whether it is known of a feasible plan that it is dear where an aircraft flies a leg again, alone or with one that leads back,
+/// and its legs from a moment on are pushed.
 fn is_known_dear(
     eval: &Evaluator,
     rotations: &Rotations,

@@ -22,7 +22,8 @@ use full_cost::passenger_cost;
 use plan_moves::{Move, Step};
 
 /// Whether it is known without trying it that a move is not better, and why: it has one step, and that makes the plan no
-/// cheaper; or it costs at least as much more as it saves at most; or it cancels legs dearly; or nobody pays on its aircraft. Where it says no, nothing is known.
+/// cheaper; or it costs at least as much more as it saves at most; or it cancels legs, and those on one of them come to cost
+/// as much as that saves at most; or nobody pays on its aircraft. Where it says no, nothing is known.
 pub(crate) fn ruled_out(eval: &Evaluator, rotations: &Rotations, m: &Move) -> bool
     requires rotations { AreRotations eval.now.inst eval.now.rows rotations.now }
     requires fits { Fits eval.now.inst m.now }

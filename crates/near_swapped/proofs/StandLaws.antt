@@ -117,3 +117,6 @@ module _ (I : Situation) (P : PlanRows) (m : Move) (p q at : ℕ) (pushes leftov
 
 pub exchange-stand : (I : Situation) (P : PlanRows) (m : Move) (p q at : ℕ) (pushes others : List Step) → IsExchange I m p q at pushes others → least I P ≡ None → KeepsC5 I (exchanged I P p q at pushes) → stand I (exchanged I P p q at pushes) p ≡ stand_then I P p q at
 exchange-stand I P m p q at pushes others is feasible will = first-stands I P m p q at pushes others is feasible will
+
+pub exchange-other-stand : (I : Situation) (P : PlanRows) (m : Move) (p q at : ℕ) (pushes others : List Step) → IsExchange I m p q at pushes others → least I P ≡ None → KeepsC5 I (exchanged I P p q at pushes) → stand I (exchanged I P p q at pushes) q ≡ stand_then I P q p at
+exchange-other-stand I P m p q at pushes others is feasible will = second-stands I P m p q at pushes others is feasible will

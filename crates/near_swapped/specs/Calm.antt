@@ -8,7 +8,7 @@ use Rattle.desk_rules.specs.Maintenance.{flies}
 use Rattle.desk_rules.specs.Rotations.{dep}
 use Rattle.desk_model.specs.Push.{rotation, departures_beside, arrivals_beside}
 
--- an hour in which so many legs are has room for so many more, if it has a cap
+-- an hour in which so many legs are has room for more than so many beside them, if it has a cap
 abbrev pub HasRoomFor : ℕ → ℕ → Option ℕ → Type 0
 HasRoomFor more taken None = Unit {0}
 HasRoomFor more taken (Some cap) = more + taken < cap
@@ -18,7 +18,7 @@ pub record IsBetween (I : Situation) (c h : ℕ) : Type 0 where
   pub from : c < 60 * h + 60
   pub to : 60 * h < I.parts.to.0
 
--- from moment c until the window's end each hour of airport a has room for so many legs beside those of the plan
+-- from moment c until the window's end each hour of airport a has room for more than so many legs beside those of the plan
 pub record IsCalmAt (most : ℕ) (I : Situation) (P : PlanRows) (a c : ℕ) : Type 0 where
   pub departures : (x h : ℕ) → IsBetween I c h → HasRoomFor most (departures_beside I P x a h) (dep_cap I a h)
   pub arrivals : (x h : ℕ) → IsBetween I c h → HasRoomFor most (arrivals_beside I P x a h) (arr_cap I a h)

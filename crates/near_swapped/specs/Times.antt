@@ -10,7 +10,7 @@ use Rattle.near_swapped.specs.Exchanged.{minutes}
 use Rattle.near_swapped.specs.Calm.{HasRoomFor, IsCalmAt, IsCalmFor, IsFreeFrom, DepartsBy}
 use Rattle.near_swapped.specs.declared.times.PlaneTimes.{PlaneTimes}
 
--- two aircraft have at most so many legs together, or nothing is known of them; so many fit into each hour beside those of the plan
+-- two aircraft have at most so many legs together, or nothing is known of them; more than so many fit into each hour beside those of the plan
 abbrev pub most_legs : ℕ
 most_legs = 16
 
@@ -49,7 +49,7 @@ pub record ArePlaneTimes (I : Situation) (P : PlanRows) (p : ℕ) (times : Plane
 abbrev pub late_block : Situation → PlanRows → ℕ → ℕ → ℕ
 late_block I P at x = if nat_lt (dep P x) at then 0 else (leg_at I x).block
 
--- an hour of airport a has room for so many legs beside those of the plan, that depart and that arrive
+-- an hour of airport a has room for more than so many legs beside those of the plan, that depart and that arrive
 pub record IsCalmHour (most : ℕ) (I : Situation) (P : PlanRows) (a h : ℕ) : Type 0 where
   pub departures : (x : ℕ) → HasRoomFor most (departures_beside I P x a h) (dep_cap I a h)
   pub arrivals : (x : ℕ) → HasRoomFor most (arrivals_beside I P x a h) (arr_cap I a h)

@@ -14,8 +14,8 @@ use plan_pages::Pages;
 use plan_reads::ReadPlan;
 use std::alloc::Global;
 
-/// By airport a moment from which on each of its hours until the window's end has room for 16 legs beside those of a plan, by
-/// what knows its hours: one walk over the hours of each airport, from the last one on. The only error is out of memory.
+/// By airport a moment from which on each of its hours until the window's end has room for more than 16 legs beside those of a plan,
+/// in minutes, by what knows its hours: one walk over the hours of each airport, from the last one on. The only error is out of memory.
 pub fn calm_moments<H: KnowsHours>(
     alloc: Global,
     inst: &Instance,
@@ -50,7 +50,7 @@ fn calm_from<H: KnowsHours>(inst: &Instance, plan: &Pages, hours: &H, airport: A
     60 * hour
 }
 
-/// Whether an hour of an airport has room for 16 legs beside those of a plan, that depart or that arrive.
+/// Whether an hour of an airport has room for more than 16 legs beside those of a plan, that depart and that arrive.
 fn is_calm_hour<H: KnowsHours>(
     inst: &Instance,
     plan: &Pages,

@@ -16,7 +16,7 @@ use crate::times::{PlaneTimes, are_done};
 use desk_data::{Instance, Leg, Minute, Plane};
 use plan_pages::Pages;
 
-/// Whether it is known that two aircraft exchange their legs from a moment on in vain, since that costs at least as much
+/// Whether it is known that it is dear where two aircraft exchange their legs from a moment on: that costs at least as much
 /// more as those pay who are on their legs. Where it says no, nothing is known. Given are the legs of both, at most 16 each,
 /// what is told of both (`PlaneTimes::of`), where they stand, and for each position how many aircraft are at hand.
 pub fn is_dear_exchange(

@@ -35,7 +35,8 @@ pub fn an_exchange_costs_what_each_pays_for_the_legs_of_the_other()
 /// In a feasible plan, and if the legs meet C5 once two aircraft have exchanged legs and are pushed, each of the two
 /// stands at the end where the other did, if both stand at one airport at the moment, and else where it did itself.
 pub fn exchanged_aircraft_end_where_their_legs_lead()
-    ensures { (I : Situation) (P : PlanRows) (m : Move) (p q at : ℕ) (pushes others : Items Step) → IsExchange I m p q at pushes others → least I P ≡ None → ((x : ℕ) → x < legs_of I → MeetsC5 I (exchanged I P p q at pushes) x) → stand I (exchanged I P p q at pushes) p ≡ stand_then I P p q at }
+    ensures first { (I : Situation) (P : PlanRows) (m : Move) (p q at : ℕ) (pushes others : Items Step) → IsExchange I m p q at pushes others → least I P ≡ None → ((x : ℕ) → x < legs_of I → MeetsC5 I (exchanged I P p q at pushes) x) → stand I (exchanged I P p q at pushes) p ≡ stand_then I P p q at }
+    ensures second { (I : Situation) (P : PlanRows) (m : Move) (p q at : ℕ) (pushes others : Items Step) → IsExchange I m p q at pushes others → least I P ≡ None → ((x : ℕ) → x < legs_of I → MeetsC5 I (exchanged I P p q at pushes) x) → stand I (exchanged I P p q at pushes) q ≡ stand_then I P q p at }
 {}
 
 /// A move that exchanges the legs of two aircraft of a feasible plan makes it no cheaper, or breaks a rule of a leg of the

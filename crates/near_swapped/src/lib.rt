@@ -10,8 +10,8 @@
 //! moment, and else each where it did itself. So it is known what the positions cost then.
 //!
 //! That all legs depart before the window's end is known where hours are calm: once all legs of the two have departed by
-//! the plan, each hour of their airports has room for all of them beside those of the plan, so a Push finds a moment as soon as
-//! the aircraft is ready, and all legs one after another would be over before the window ends.
+//! the plan, each hour of their airports has room for all of them and one more beside those of the plan, so a Push finds a moment as
+//! soon as the aircraft is ready, and all legs one after another would be over before the window ends.
 //!
 //! So a move is known to make the plan no cheaper, or to break a rule of a leg of the two, where flying and the positions cost
 //! at least as much more as those pay now who are on their legs. Proved: what the code says is so, and the laws, which
