@@ -84,16 +84,16 @@ pub(super) enum Orders {
     ToldLater,
 }
 
-/// Tells a day the one batch that there is, while its schedule is flown.
+/// Tells a day these batches, while its schedule is flown.
 fn tell(alloc: Global, inst: &mut Instance, batches: &[Batch]) -> Result<(), Fail> {
-    match batches {
-        [batch] if can_add(inst, batch) => {
-            let plan = inst.schedule(alloc)?;
-            inst.add(alloc, &plan, batch)?;
-            Ok(())
+    for batch in batches {
+        if !can_add(inst, batch) {
+            return Err(Fail::new("the day cannot take a batch"));
         }
-        _ => Err(Fail::new("the day is told no batch that it can take")),
+        let plan = inst.schedule(alloc)?;
+        inst.add(alloc, &plan, batch)?;
     }
+    Ok(())
 }
 
 /// The walks' day, once it was told these orders while its schedule was flown.

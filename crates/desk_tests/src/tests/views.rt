@@ -129,11 +129,16 @@ fn views_on<J: Naming, R: Wait + Drop>(
     views_among(alloc, &mut telling, book, viewers.as_mut_slice())
 }
 
+/// The same of the board of the book of the day.
+fn views_of_day<R: Wait + Drop>(rt: R, alloc: Global) -> Result<[View; 4], Fail> {
+    let mut book = Book::open(alloc, day_of(alloc, &[], VIEWED)?)?;
+    let opened = Opened::new(&book);
+    views_on::<Brand, R>(rt, alloc, opened, &mut book)
+}
+
 #[test]
 fn a_first_entry_is_seen_before_the_second_is_told(rt: HostRuntime) -> Result<(), Fail> {
-    let mut book = Book::open(rt.alloc(), day_of(rt.alloc(), &[], VIEWED)?)?;
-    let opened = Opened::new(&book);
-    let views = views_on::<Brand, _>(&rt, rt.alloc(), opened, &mut book)?;
+    let views = views_of_day(&rt, rt.alloc())?;
     let expected = [
         // four hours of flights
         planned(0, 252_000_000_000),
