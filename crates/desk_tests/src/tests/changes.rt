@@ -131,7 +131,7 @@ pub(super) fn on_schedule(alloc: Global, inst: Instance) -> Result<Evaluator, No
     Evaluator::open(alloc, inst, &plan)
 }
 
-/// The same, on the schedule of the day of seed 1 and size 40.
+/// Makes so many changes of an evaluator on the schedule of the day of seed 1 and size 40.
 fn changed_on_largest_day(alloc: Global, changes: u32) -> Result<(), Fail> {
     let mut eval = on_schedule(alloc, made_up(alloc, 1, 40)?)?;
     change_and_back::<Brand>(Blank::new(1), alloc, &mut eval, changes)
