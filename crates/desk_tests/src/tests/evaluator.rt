@@ -203,14 +203,7 @@ fn kept_apart<L: Ledger>(
 fn walked_apart(alloc: Global, orders: Option<Orders>, seed: u32, rows: u32) -> Result<u32, Fail> {
     let mut eval = on_schedule(alloc, day_of_walk(alloc, orders, seed)?)?;
     let mut copy = eval.copy(alloc)?;
-    kept_apart::<Brand>(
-        Blank::new(1),
-        alloc,
-        &mut eval,
-        &mut copy,
-        seed,
-        rows,
-    )
+    kept_apart::<Brand>(Blank::new(1), alloc, &mut eval, &mut copy, seed, rows)
 }
 
 #[test]

@@ -74,11 +74,7 @@ fn shows_change_and_back(alloc: Global, pages: &mut Pages) -> Result<bool, NoMem
 }
 
 /// Whether each of two versions shows its own rows alone, where the first changes leg 15, and the second one leg 17 and back.
-fn both_show_their_own(
-    alloc: Global,
-    first: &mut Pages,
-    second: &mut Pages,
-) -> Result<bool, NoMem>
+fn both_show_their_own(alloc: Global, first: &mut Pages, second: &mut Pages) -> Result<bool, NoMem>
     requires first { 15 < length first.old.rows }
     requires second { 17 < length second.old.rows }
 {
