@@ -4,11 +4,9 @@ ghost use Rattle.std.specs.Prelude.{◌≡◌, ◌<◌};
 ghost use Rattle.desk_data.specs.Situation.{legs_of, planes_of};
 ghost use Rattle.desk_data.specs.Valid.{IsRowOf};
 
-use super::days::day_in;
+use super::days::made_up;
 use desk_data::{Broken, Grains, Instance, Leg, Minute, NoMem, Row, Steps};
 use desk_eval::Evaluator;
-use desk_folder::MemFolder;
-use desk_gen::generate;
 use full_check::full_check;
 use full_cost::full_cost;
 use std::alloc::Global;
@@ -127,31 +125,25 @@ fn change_and_back<L: Ledger>(
     Ok(())
 }
 
-/// The day of seed 1 and size 40.
-fn largest_day(alloc: Global) -> Result<Instance, Fail> {
-    let inputs = generate(alloc, 1, 40)?;
-    let mut folder = MemFolder::new(inputs, Vec::new(alloc), Vec::new(alloc));
-    day_in(alloc, &mut folder)
+/// The evaluator of a day's schedule.
+pub(super) fn on_schedule(alloc: Global, inst: Instance) -> Result<Evaluator, NoMem> {
+    let plan = inst.schedule(alloc)?;
+    Evaluator::open(alloc, inst, &plan)
 }
 
-/// An evaluator on that day's schedule.
-fn on_largest_day(alloc: Global) -> Result<Evaluator, Fail> {
-    let inst = largest_day(alloc)?;
-    let plan = inst.schedule(alloc)?;
-    Ok(Evaluator::open(alloc, inst, &plan)?)
+/// Makes so many changes of an evaluator on the schedule of the day of seed 1 and size 40.
+fn changed_on_largest_day(alloc: Global, changes: u32) -> Result<(), Fail> {
+    let mut eval = on_schedule(alloc, made_up(alloc, 1, 40)?)?;
+    change_and_back::<Brand>(Blank::new(1), alloc, &mut eval, changes)
 }
 
 #[test]
 fn a_million_changes_are_answered_and_taken_back(rt: HostRuntime) -> Result<(), Fail> {
-    let alloc = rt.alloc();
-    let mut eval = on_largest_day(alloc)?;
-    change_and_back::<Brand>(Blank::new(1), alloc, &mut eval, CHANGES)
+    changed_on_largest_day(rt.alloc(), CHANGES)
 }
 
 /// What the test of a million changes does besides: `bench/changes.py` takes its time off.
 #[test]
 fn the_first_changes_are_judged_from_scratch(rt: HostRuntime) -> Result<(), Fail> {
-    let alloc = rt.alloc();
-    let mut eval = on_largest_day(alloc)?;
-    change_and_back::<Brand>(Blank::new(1), alloc, &mut eval, LEGS)
+    changed_on_largest_day(rt.alloc(), LEGS)
 }

@@ -7,14 +7,12 @@ ghost use Rattle.std.specs.Option.{ForSome};
 ghost use Rattle.desk_data.specs.Situation.{reservations_of};
 ghost use Rattle.plan_groups.specs.Made.{AreWhole};
 
-use super::changes::{said, said_anew};
-use super::days::{Orders, day_in, told};
-use super::draws::{Draws, drawn_path, drawn_row};
+use super::changes::{on_schedule, said, said_anew};
+use super::days::{Orders, made_up, told};
+use super::draws::{Draws, drawn_row};
+use super::walk::drawn_groups;
 use desk_data::{Group, Instance, Leg, NoMem, Res, Steps};
 use desk_eval::Evaluator;
-use desk_folder::MemFolder;
-use desk_gen::generate;
-use plan_groups::groups_after_rebook;
 use std::alloc::Global;
 use std::marker::Brand;
 use std::sync::ledger::{Blank, Ledger};
@@ -48,19 +46,8 @@ const WALKS: [(Option<Orders>, u32, u32); 15] = [
 fn day_of_walk(alloc: Global, orders: Option<Orders>, seed: u32) -> Result<Instance, Fail> {
     match orders {
         Some(orders) => told(alloc, orders),
-        None => {
-            let inputs = generate(alloc, seed, 1)?;
-            let mut folder = MemFolder::new(inputs, Vec::new(alloc), Vec::new(alloc));
-            day_in(alloc, &mut folder)
-        }
+        None => made_up(alloc, seed, 1),
     }
-}
-
-/// The evaluator of its schedule.
-fn start_of(alloc: Global, orders: Option<Orders>, seed: u32) -> Result<Evaluator, Fail> {
-    let inst = day_of_walk(alloc, orders, seed)?;
-    let plan = inst.schedule(alloc)?;
-    Ok(Evaluator::open(alloc, inst, &plan)?)
 }
 
 /// Gives a leg that is drawn another row.
@@ -101,7 +88,7 @@ fn put_groups<L: Ledger>(
     }
 }
 
-/// Takes passengers of a reservation that is drawn from one path to another, where there are any on it.
+/// Gives a reservation that is drawn other groups, which are drawn too, if they make any.
 fn change_groups<L: Ledger>(
     alloc: Global,
     eval: &mut Evaluator,
@@ -113,11 +100,7 @@ fn change_groups<L: Ledger>(
         return Err(Fail::new("the day has no passengers, or a walk is too long"));
     }
     let res = Res(draws.below(inst.reservations()));
-    let from = drawn_path(alloc, inst, res, draws)?;
-    let to = drawn_path(alloc, inst, res, draws)?;
-    let count = draws.below(8) + 1;
-    let (from, to) = (from.as_slice(), to.as_slice());
-    let made = groups_after_rebook(alloc, inst, eval.plan(), res, from, to, count)?;
+    let made = drawn_groups(alloc, inst, eval.plan(), res, draws)?;
     put_groups(alloc, eval, res, made, steps)
 }
 
@@ -170,12 +153,33 @@ fn leaves_the_other<L: Ledger>(
     Ok(said(other) == before && is_right(alloc, one)? && is_right(alloc, other)?)
 }
 
+/// Has an evaluator or its copy, as is drawn, go on for a step, before one of which in forty the copy is made anew. Whether it then says
+/// what is said from scratch, and the other one says what it did before.
+fn take_turn<L: Ledger>(
+    alloc: Global,
+    eval: &mut Evaluator,
+    copy: &mut Evaluator,
+    rows: u32,
+    draws: &mut Draws,
+    steps: &mut Steps<L>,
+) -> Result<bool, Fail> {
+    if draws.below(40) == 0 {
+        *copy = eval.copy(alloc)?;
+    }
+    if draws.below(2) == 0 {
+        leaves_the_other(alloc, eval, copy, rows, draws, steps)
+    } else {
+        leaves_the_other(alloc, copy, eval, rows, draws, steps)
+    }
+}
+
 /// After how many steps one of an evaluator and its copy said something else than is said from scratch, or did not leave the other as it was:
-/// `STEPS` where they never did. Before one step in forty the copy is made anew.
+/// `STEPS` where they never did.
 fn kept_apart<L: Ledger>(
     blank: Blank,
     alloc: Global,
     eval: &mut Evaluator,
+    copy: &mut Evaluator,
     seed: u32,
     rows: u32,
 ) -> Result<u32, Fail>
@@ -187,17 +191,8 @@ fn kept_apart<L: Ledger>(
     let mut draws = Draws {
         state: u64::from(seed),
     };
-    let mut copy = eval.copy(alloc)?;
     for taken in 0..STEPS {
-        if draws.below(40) == 0 {
-            copy = eval.copy(alloc)?;
-        }
-        let is_kept = if draws.below(2) == 0 {
-            leaves_the_other(alloc, eval, &copy, rows, &mut draws, &mut steps)?
-        } else {
-            leaves_the_other(alloc, &mut copy, &*eval, rows, &mut draws, &mut steps)?
-        };
-        if !is_kept {
+        if !take_turn(alloc, eval, copy, rows, &mut draws, &mut steps)? {
             return Ok(taken);
         }
     }
@@ -206,8 +201,9 @@ fn kept_apart<L: Ledger>(
 
 /// The same of the evaluator of a day's schedule.
 fn walked_apart(alloc: Global, orders: Option<Orders>, seed: u32, rows: u32) -> Result<u32, Fail> {
-    let mut eval = start_of(alloc, orders, seed)?;
-    kept_apart::<Brand>(Blank::new(1), alloc, &mut eval, seed, rows)
+    let mut eval = on_schedule(alloc, day_of_walk(alloc, orders, seed)?)?;
+    let mut copy = eval.copy(alloc)?;
+    kept_apart::<Brand>(Blank::new(1), alloc, &mut eval, &mut copy, seed, rows)
 }
 
 #[test]

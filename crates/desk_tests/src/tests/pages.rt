@@ -54,27 +54,46 @@ fn flier(rows: &[Row], leg: usize) -> u32 {
     }
 }
 
-/// What a version shows whose leg 17 was changed, and what it shows once that is taken back.
-fn changed_and_back(alloc: Global, mut pages: Pages) -> Result<[[u32; 3]; 2], NoMem>
-    requires { 17 < length pages.rows }
+/// Has an aircraft fly a leg.
+fn fly(alloc: Global, pages: &mut Pages, leg: Leg, plane: u32) -> Result<(), NoMem>
+    requires { leg.0 < length pages.old.rows }
+{
+    let _stood = pages.replace_row(alloc, leg, flown(plane))?;
+    Ok(())
+}
+
+/// Whether a version shows that leg 17 was changed, and that it was not once that is taken back.
+fn shows_change_and_back(alloc: Global, pages: &mut Pages) -> Result<bool, NoMem>
+    requires { 17 < length pages.old.rows }
 {
     let page = pages.replace_row(alloc, Leg(17), flown(2))?;
-    let changed = fliers(alloc, &pages)?;
+    let changed = fliers(alloc, pages)?;
     pages.put_back(page);
-    let back = fliers(alloc, &pages)?;
-    Ok([changed, back])
+    let back = fliers(alloc, pages)?;
+    Ok(changed == [0, 0, 2] && back == [0, 0, 0])
+}
+
+/// Whether each of two versions shows its own rows alone, where the first changes leg 15, and the second one leg 17 and back.
+fn both_show_their_own(alloc: Global, first: &mut Pages, second: &mut Pages) -> Result<bool, NoMem>
+    requires first { 15 < length first.old.rows }
+    requires second { 17 < length second.old.rows }
+{
+    fly(alloc, first, Leg(15), 1)?;
+    let is_own = shows_change_and_back(alloc, second)?;
+    Ok(is_own && fliers(alloc, first)? == [1, 0, 0])
+}
+
+/// The same of two versions that share pages.
+fn sharers_show_their_own(alloc: Global) -> Result<bool, NoMem> {
+    let mut first = cancelled(alloc)?;
+    let mut second = first.share(alloc)?;
+    both_show_their_own(alloc, &mut first, &mut second)
 }
 
 /// Of two versions that share pages one changes leg 15, and the other one leg 17 and back.
 #[test]
 fn each_version_shows_its_own_rows(rt: HostRuntime) -> Result<(), Fail> {
-    let alloc = rt.alloc();
-    let mut first = cancelled(alloc)?;
-    let second = first.share(alloc)?;
-    let _stood = first.replace_row(alloc, Leg(15), flown(1))?;
-    let [changed, back] = changed_and_back(alloc, second)?;
-    let own = fliers(alloc, &first)?;
-    if changed == [0, 0, 2] && back == [0, 0, 0] && own == [1, 0, 0] {
+    if sharers_show_their_own(rt.alloc())? {
         Ok(())
     } else {
         Err(Fail::new("a version shows another row"))
@@ -86,7 +105,7 @@ fn flown_by(alloc: Global, pages: &Pages, plane: u32) -> Result<Pages, NoMem>
     requires { 16 < length pages.now.rows }
 {
     let mut version = pages.share(alloc)?;
-    let _stood = version.replace_row(alloc, Leg(16), flown(plane))?;
+    fly(alloc, &mut version, Leg(16), plane)?;
     Ok(version)
 }
 

@@ -3,7 +3,7 @@
 use super::days::Texts;
 use desk_folder::File;
 
-/// That of the walks, with its schedule: four aircraft, one of them of another family, and a bus. The first leg departs before the window. The
+/// That of the walks: four aircraft, one of them of another family, and a bus. The first leg departs before the window. The
 /// first aircraft has a maintenance, before which it flies a minute too long. Most hours have room for one departure and one
 /// arrival, and cabins for about who booked them.
 pub(super) const WALKED: Texts<'static> = &[
@@ -36,14 +36,6 @@ pub(super) const WALKED: Texts<'static> = &[
     (
         File::Tariff,
         "surface,ROAD\nweight,delay,0.5\nweight,operating,1.5\ndelay,D,E,10\ndelay,C,E,12\ndelay,C,B,20\ndelay,I,F,40\ncancel,D,E,200\ncancel,C,E,250\ncancel,C,B,400\ncancel,I,F,900\ndowngrade,D,B,E,60\ndowngrade,C,B,E,80\ndowngrade,I,F,E,300\ndowngrade,I,F,B,150\ncare,D,120,20\ncare,C,none,30\ncompensation,D,none,250\ncompensation,C,180,300\nposition,500\n",
-    ),
-    (
-        File::SolRotations,
-        "F0 01/01/00 P0 01/01/00 05:30\nF1 01/01/00 P0 01/01/00 07:10\nF2 01/01/00 P0 01/01/00 09:00\nF3 01/01/00 P0 01/01/00 10:40\nF4 01/01/00 P1 01/01/00 08:00\nF5 01/01/00 P1 01/01/00 09:40\nF6 01/01/00 P1 01/01/00 11:20\nF7 01/01/00 P1 01/01/00 13:00\nF8 01/01/00 P2 01/01/00 08:30\nF9 01/01/00 P2 01/01/00 10:20\nG0 01/01/00 P4 01/01/00 12:30\n",
-    ),
-    (
-        File::SolItineraries,
-        "R0 A 3 F0 01/01/00 E F1 01/01/00 E\nR1 A 2 F1 01/01/00 E F2 01/01/00 E\nR2 A 2 F2 01/01/00 B F3 01/01/00 B\nR3 A 4 F4 01/01/00 E\nR4 A 3 F4 01/01/00 E F5 01/01/00 E\nR5 R 2 F6 01/01/00 E F7 01/01/00 B\nR6 A 2 F8 01/01/00 F F9 01/01/00 F\nR7 A 5 G0 01/01/00 E\nR8 A 3 F5 01/01/00 E\nR9 A 2 F3 01/01/00 E G0 01/01/00 E\n",
     ),
 ];
 

@@ -103,14 +103,14 @@ fn views_among<J: Naming, R: Wait + Drop>(
     alloc: Global,
     telling: &mut BoardTelling<J, R>,
     book: &mut Book,
-    viewers: &mut Vec<Viewer<Sight, Posted, J>>,
+    viewers: &mut [Viewer<Sight, Posted, J>],
 ) -> Result<[View; 4], Fail>
     requires told { (B : Recorded) × (B.opening ≡ book.old.opening) × HasTold B book.old.journal (told_to telling.old) }
 {
-    let (Some(mut told), Some(mut held)) = (viewers.pop(), viewers.pop()) else {
-        return Err(Fail::new("there are not two viewers"));
-    };
-    views_of(alloc, telling, book, &mut told, &mut held)
+    match viewers {
+        [held, told] => views_of(alloc, telling, book, told, held),
+        _ => Err(Fail::new("there are not two viewers")),
+    }
 }
 
 /// The same of the board that was opened on a book, with two viewers.
@@ -118,23 +118,27 @@ fn views_on<J: Naming, R: Wait + Drop>(
     rt: R,
     alloc: Global,
     opened: Opened<Sight>,
-    book: Book,
+    book: &mut Book,
 ) -> Result<[View; 4], Fail>
     requires board { board_of opened ≡ J.book }
-    requires log { opening_log opened ≡ opens book [] ∷ [] }
-    requires empty { book.journal ≡ [] }
+    requires log { opening_log opened ≡ opens book.old [] ∷ [] }
+    requires empty { book.old.journal ≡ [] }
 {
     let (teller, mut viewers) = opened.open::<Posted, J, R>(rt, alloc, 2)?;
     let mut telling = BoardTelling::new(teller);
-    let mut book = book;
-    views_among(alloc, &mut telling, &mut book, &mut viewers)
+    views_among(alloc, &mut telling, book, viewers.as_mut_slice())
+}
+
+/// The same of the board of the book of the day.
+fn views_of_day<R: Wait + Drop>(rt: R, alloc: Global) -> Result<[View; 4], Fail> {
+    let mut book = Book::open(alloc, day_of(alloc, &[], VIEWED)?)?;
+    let opened = Opened::new(&book);
+    views_on::<Brand, R>(rt, alloc, opened, &mut book)
 }
 
 #[test]
 fn a_first_entry_is_seen_before_the_second_is_told(rt: HostRuntime) -> Result<(), Fail> {
-    let book = Book::open(rt.alloc(), day_of(rt.alloc(), &[], VIEWED)?)?;
-    let opened = Opened::new(&book);
-    let views = views_on::<Brand, _>(&rt, rt.alloc(), opened, book)?;
+    let views = views_of_day(&rt, rt.alloc())?;
     let expected = [
         // four hours of flights
         planned(0, 252_000_000_000),

@@ -108,7 +108,7 @@ fn put_groups<B: Walkable, L: Ledger>(
 
 /// The groups of a reservation once some of its passengers, who are drawn, go from one path to another, or all whose path breaks a rule
 /// are carried no more; none where it keeps those that it has.
-fn drawn_groups(
+pub(super) fn drawn_groups(
     alloc: Global,
     inst: &Instance,
     pages: &Pages,

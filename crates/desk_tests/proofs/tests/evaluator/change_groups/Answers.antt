@@ -4,4 +4,4 @@ use Rattle.plan_groups.specs.Made.{AreWhole}
 use Rattle.desk_tests.proofs.tests.evaluator.change_groups.Goals as goal
 
 pub put_groups-requires-clause-whole : goal.put_groups-requires-clause-whole
-put_groups-requires-clause-whole _ c = λ groups is. subst (λ (I : Situation). AreWhole I c.below.result groups.items) c.instance-inst.ensures (c.in_ok-made.ensures.whole groups is)
+put_groups-requires-clause-whole _ c = λ groups is. subst (λ (I : Situation). AreWhole I c.below.result groups.items) c.instance-inst.ensures (c.in_ok-made.ensures groups is)

@@ -1,5 +1,5 @@
 use Rattle.live_board.specs.Words.{board_of}
-use Rattle.desk_tests.proofs.tests.views.a_first_entry_is_seen_before_the_second_is_told.Given as goal
+use Rattle.desk_tests.proofs.tests.views.views_of_day.Given as goal
 
 -- the board that was just opened
 abbrev pub ghosts-views_on : goal.ghosts-views_on

@@ -1,4 +1,0 @@
-use Rattle.desk_tests.proofs.tests.changes.a_million_changes_are_answered_and_taken_back.Given as goal
-
-abbrev pub ghosts-change_and_back : goal.ghosts-change_and_back
-ghosts-change_and_back a = record { name = a.blank.name; parts = a.blank.parts }
