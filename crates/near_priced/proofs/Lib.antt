@@ -1,4 +1,5 @@
 pub mod PricedLaws
+pub mod SavedLaws
 pub mod TableLaws
 pub mod EndLaws
 pub mod FlyingLaws

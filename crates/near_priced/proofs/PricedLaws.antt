@@ -58,37 +58,41 @@ whole-part : (b : Bool) (c : ℕ) → c ≤ part (not b) c + part b c
 whole-part true c = omega arith
 whole-part false c = omega arith
 
-module _ (I : Situation) (P : PlanRows) where
-  either-le : (one two : ℕ → Bool) → cost_of_some I P (λ r. one r || two r) ≤ cost_of_some I P one + cost_of_some I P two
-  either-le one two =
-      two-le (λ r. part (one r || two r) (reservation_cost I P r)) (λ r. part (one r) (reservation_cost I P r)) (λ r. part (two r) (reservation_cost I P r)) (reservations_of I)
-      (λ r. either-part (one r) (two r) (reservation_cost I P r))
+-- a weight for each of the first n reservations, of those that pass a test
+abbrev pub some_of : (ℕ → ℕ) → ℕ → (ℕ → Bool) → ℕ
+some_of weight n some = sum_by (λ r. cond (some r) (weight r) 0) (numbers n)
 
-  -- those who pass one of some tests pay at most what those do who pass each
-  any-le : (test : ℕ → ℕ → Bool) (xs : List ℕ) → cost_of_some I P (λ r. list_any (λ x. test x r) xs) ≤ sum_by (λ x. cost_of_some I P (test x)) xs
+module _ (weight : ℕ → ℕ) (n : ℕ) where
+  pub either-le : (one two : ℕ → Bool) → some_of weight n (λ r. one r || two r) ≤ some_of weight n one + some_of weight n two
+  either-le one two =
+      two-le (λ r. part (one r || two r) (weight r)) (λ r. part (one r) (weight r)) (λ r. part (two r) (weight r)) n
+      (λ r. either-part (one r) (two r) (weight r))
+
+  -- those that pass one of some tests come to at most what those do that pass each
+  pub any-le : {X : Type 0} → (test : X → ℕ → Bool) (xs : List X) → some_of weight n (λ r. list_any (λ x. test x r) xs) ≤ sum_by (λ x. some_of weight n (test x)) xs
   any-le test [] =
-      let none : cost_of_some I P (λ r. list_any (λ x. test x r) []) ≡ 0 = none-sum (reservations_of I) in
+      let none : some_of weight n (λ r. list_any (λ x. test x r) []) ≡ 0 = none-sum n in
       omega (arith, none)
   any-le test (x ∷ xs) =
-      let both : cost_of_some I P (λ r. list_any (λ y. test y r) (x ∷ xs)) ≤ cost_of_some I P (test x) + cost_of_some I P (λ r. list_any (λ y. test y r) xs) = either-le (test x) (λ r. list_any (λ y. test y r) xs) in
+      let both : some_of weight n (λ r. list_any (λ y. test y r) (x ∷ xs)) ≤ some_of weight n (test x) + some_of weight n (λ r. list_any (λ y. test y r) xs) = either-le (test x) (λ r. list_any (λ y. test y r) xs) in
       let rest = any-le test xs in
-      omega (arith, both, rest, sum_by-cons (λ y. cost_of_some I P (test y)) x xs)
+      omega (arith, both, rest, sum_by-cons (λ y. some_of weight n (test y)) x xs)
 
-  others-le : (touched : ℕ → Bool) → sum_by (reservation_cost I P) (numbers (reservations_of I)) ≤ cost_of_some I P (λ r. not (touched r)) + cost_of_some I P touched
+  others-le : (touched : ℕ → Bool) → sum_by weight (numbers n) ≤ some_of weight n (λ r. not (touched r)) + some_of weight n touched
   others-le touched =
-      two-le (reservation_cost I P) (λ r. part (not (touched r)) (reservation_cost I P r)) (λ r. part (touched r) (reservation_cost I P r)) (reservations_of I)
-      (λ r. whole-part (touched r) (reservation_cost I P r))
+      two-le weight (λ r. part (not (touched r)) (weight r)) (λ r. part (touched r) (weight r)) n
+      (λ r. whole-part (touched r) (weight r))
 
 -- ---- who is touched
 
-any-off : {X : Type 0} (test : X → Bool) (xs : List X) → list_any test xs ≡ false → All (λ x. test x ≡ false) xs
+pub any-off : {X : Type 0} (test : X → Bool) (xs : List X) → list_any test xs ≡ false → All (λ x. test x ≡ false) xs
 any-off test [] off = All-nil (λ x. test x ≡ false)
 any-off test (x ∷ xs) off =
     let parts = or_parts (test x) (list_any test xs) off in
     All-cons (λ y. test y ≡ false) x xs parts.0 (any-off test xs parts.1)
 
 -- whether reservation r has somebody on one of some legs, or is booked on one of some others
-abbrev touched : Situation → PlanRows → List ℕ → List ℕ → ℕ → Bool
+abbrev pub touched : Situation → PlanRows → List ℕ → List ℕ → ℕ → Bool
 touched I P legs refills r = list_any (λ x. uses P x r) legs || list_any (λ x. is_booked_on I x r) refills
 
 -- a leg of a path of the reservation is one that somebody of it is on
@@ -110,7 +114,7 @@ leaves I r (Refill leg ∷ steps) all off =
     let parts = or_parts (is_booked_on I leg.0 r) (list_any (λ x. is_booked_on I x r) (refilled steps)) off in
     and_from (not (is_booked_on I leg.0 r)) (list_all (leaves_alone I r) steps) (ap not parts.0) (leaves I r steps all parts.1)
 
-tidied-rows : (steps : List Step) → list_all tidies steps ≡ true → list_all keeps_rows steps ≡ true
+pub tidied-rows : (steps : List Step) → list_all tidies steps ≡ true → list_all keeps_rows steps ≡ true
 tidied-rows [] all = refl
 tidied-rows (Set leg was new ∷ steps) all = absurd cc
 tidied-rows (Push plane after ∷ steps) all = absurd cc
@@ -119,7 +123,7 @@ tidied-rows (Rebook res path to count ∷ steps) all = absurd cc
 tidied-rows (Tidy ∷ steps) all = tidied-rows steps all
 tidied-rows (Refill leg ∷ steps) all = tidied-rows steps all
 
-alone : (I : Situation) (P Q : PlanRows) (others : List Step) (legs : List ℕ) (r : ℕ) → list_all tidies others ≡ true → AreAllChanged P Q legs → touched I P legs (refilled others) r ≡ false → IsLeftAlone I P Q others r
+pub alone : (I : Situation) (P Q : PlanRows) (others : List Step) (legs : List ℕ) (r : ℕ) → list_all tidies others ≡ true → AreAllChanged P Q legs → touched I P legs (refilled others) r ≡ false → IsLeftAlone I P Q others r
 alone I P Q others legs r all changed off =
     let parts = or_parts (list_any (λ x. uses P x r) legs) (list_any (λ x. is_booked_on I x r) (refilled others)) off in
     record {
@@ -141,10 +145,10 @@ priced-dear I P m first others legs valid plan feasible steps same all changed l
     let Q = after_steps I P first in
     let refills = refilled others in
     let hit = touched I P legs refills in
-    let on : cost_of_some I P (λ r. list_any (λ x. uses P x r) legs) ≤ sum_by (paid_on I P) legs = any-le I P (uses P) legs in
-    let booked : cost_of_some I P (λ r. list_any (λ x. is_booked_on I x r) refills) ≤ sum_by (paid_booked I P) refills = any-le I P (is_booked_on I) refills in
-    let both : cost_of_some I P hit ≤ cost_of_some I P (λ r. list_any (λ x. uses P x r) legs) + cost_of_some I P (λ r. list_any (λ x. is_booked_on I x r) refills) = either-le I P (λ r. list_any (λ x. uses P x r) legs) (λ r. list_any (λ x. is_booked_on I x r) refills) in
-    let rest = others-le I P hit in
+    let on : cost_of_some I P (λ r. list_any (λ x. uses P x r) legs) ≤ sum_by (paid_on I P) legs = any-le (reservation_cost I P) (reservations_of I) (uses P) legs in
+    let booked : cost_of_some I P (λ r. list_any (λ x. is_booked_on I x r) refills) ≤ sum_by (paid_booked I P) refills = any-le (reservation_cost I P) (reservations_of I) (is_booked_on I) refills in
+    let both : cost_of_some I P hit ≤ cost_of_some I P (λ r. list_any (λ x. uses P x r) legs) + cost_of_some I P (λ r. list_any (λ x. is_booked_on I x r) refills) = either-le (reservation_cost I P) (reservations_of I) (λ r. list_any (λ x. uses P x r) legs) (λ r. list_any (λ x. is_booked_on I x r) refills) in
+    let rest = others-le (reservation_cost I P) (reservations_of I) hit in
     saves-dear I P m first others (λ r. not (hit r)) valid plan feasible steps same (tidied-rows others all)
     (λ r lt spared. alone I P Q others legs r all changed (not-true (hit r) spared))
     (omega (arith, less, on, booked, both, rest, cost_is I P))

@@ -22,5 +22,8 @@ mod paid;
 mod payments;
 mod rule_out;
 
-pub use laws::a_move_is_not_better_that_costs_at_least_as_much_more_as_those_pay_whom_it_touches;
+pub use laws::{
+    a_move_is_not_better_that_costs_at_least_as_much_more_as_those_can_save_whom_it_touches,
+    a_move_is_not_better_that_costs_at_least_as_much_more_as_those_pay_whom_it_touches,
+};
 pub use payments::Payments;
