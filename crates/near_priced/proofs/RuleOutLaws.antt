@@ -42,7 +42,7 @@ tidying (Refill leg ∷ steps) named keeps = tidying steps named keeps
 
 -- ---- amounts
 
-refills-are : (amounts : List ℕ) (steps : List Step) → sum_by (amount amounts) (refilled steps) ≡ sum_by (refill_amount amounts) steps
+pub refills-are : (amounts : List ℕ) (steps : List Step) → sum_by (amount amounts) (refilled steps) ≡ sum_by (refill_amount amounts) steps
 refills-are amounts [] = refl
 refills-are amounts (Set leg was new ∷ steps) = (let rest = refills-are amounts steps in omega (arith, rest, sum_by-cons (refill_amount amounts) (Set leg was new) steps))
 refills-are amounts (Push plane after ∷ steps) = (let rest = refills-are amounts steps in omega (arith, rest, sum_by-cons (refill_amount amounts) (Push plane after) steps))
@@ -51,9 +51,9 @@ refills-are amounts (Rebook res path to count ∷ steps) = (let rest = refills-a
 refills-are amounts (Tidy ∷ steps) = (let rest = refills-are amounts steps in omega (arith, rest, sum_by-cons (refill_amount amounts) Tidy steps))
 refills-are amounts (Refill leg ∷ steps) = (let rest = refills-are amounts steps in omega (arith, rest, sum_by-cons (refill_amount amounts) (Refill leg) steps, sum_by-cons (amount amounts) leg.0 (refilled steps)))
 
-legs-are : (amounts : List ℕ) (legs : List Leg) → sum_by (amount amounts) (numbers_of legs) ≡ sum_by (λ (leg : Leg). amount amounts leg.0) legs
-legs-are amounts [] = refl
-legs-are amounts (leg ∷ legs) = (let rest = legs-are amounts legs in omega (arith, rest, sum_by-cons (amount amounts) leg.0 (numbers_of legs), sum_by-cons (λ (l : Leg). amount amounts l.0) leg legs))
+pub legs-are : (amount : ℕ → ℕ) (legs : List Leg) → sum_by amount (numbers_of legs) ≡ sum_by (λ (leg : Leg). amount leg.0) legs
+legs-are amount [] = refl
+legs-are amount (leg ∷ legs) = (let rest = legs-are amount legs in omega (arith, rest, sum_by-cons amount leg.0 (numbers_of legs), sum_by-cons (λ (l : Leg). amount l.0) leg legs))
 
 -- ---- a move
 
@@ -73,4 +73,4 @@ rule-out I P payments m D legs dearer valid plan are is named changed costs paid
     let flying : operating_cost I (plan_of D) ≡ operating_cost I Q = ap (operating_cost I) made in
     let positions : position_cost I (plan_of D) ≡ position_cost I Q = ap (position_cost I) made in
     priced-dear I P m first others (numbers_of legs) valid (subst (IsPlanFor I) made plan) feasible is.steps groups (tidying others no_path is.keeps) (subst (λ (R : PlanRows). AreAllChanged P R (numbers_of legs)) made changed)
-    (omega (arith, costs, paid, on_legs, on_refills, steps, flying, positions, legs-are on legs, refills-are booked others))
+    (omega (arith, costs, paid, on_legs, on_refills, steps, flying, positions, legs-are (amount on) legs, refills-are booked others))

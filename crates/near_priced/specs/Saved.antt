@@ -54,3 +54,8 @@ tidies_once (Swap first second at ∷ steps) = tidies_once steps
 tidies_once (Rebook res path to count ∷ steps) = false
 tidies_once (Tidy ∷ steps) = list_all refills_leg steps
 tidies_once (Refill leg ∷ steps) = false
+
+-- the same of those that are left, once the Tidy was taken or before
+abbrev pub goes_on : Bool → List Step → Bool
+goes_on true steps = list_all refills_leg steps
+goes_on false steps = tidies_once steps

@@ -1,4 +1,4 @@
--- What is looked up once of a plan: what those pay who are on each leg, and where aircraft end.
+-- What is looked up once of a plan: what those pay who are on each leg, who they are, and where aircraft end.
 use Rattle.std.specs.Prelude.{◌≡◌, ℕ, ◌+◌, ◌-◌, ◌≤◌, ◌^◌, Bool, if◌then◌else◌, List, length, All, map, sum_by, slice_index_or, ◌&&◌}
 use Rattle.desk_units.specs.declared.numbers.Leg.{Leg}
 use Rattle.desk_units.specs.declared.numbers.Cabin.{Cabin}
@@ -11,7 +11,8 @@ use Rattle.desk_rules.specs.Numbers.{numbers}
 use Rattle.desk_rules.specs.Cost.{at_hand, ends_at, is_wanted}
 use Rattle.full_cost.specs.Amounts.{reservation_cost}
 use Rattle.plan_reads.specs.Last.{AreLasts}
-use Rattle.leg_users.specs.Users.{uses, is_booked_on}
+use Rattle.leg_users.specs.Users.{HasUsers, has_user, uses, is_booked_on}
+use Rattle.near_unpaid.specs.Payers.{AreCosts}
 use Rattle.near_priced.specs.declared.payments.Payments.{Payments}
 
 -- the amount of leg x
@@ -61,5 +62,8 @@ lacking I P = sum_by (λ position. position.count - at_hand I P position) I.part
 -- what is looked up of plan P. Where there are too many positions, no aircraft at hand are told
 pub record ArePayments (I : Situation) (P : PlanRows) (payments : Payments) : Type 0 where
   pub amounts : AreAmounts I P payments.on.items payments.booked.items (reservations_of I)
+  pub costs : AreCosts I P payments.costs.items (reservations_of I)
+  pub legs : length payments.users ≡ legs_of I
+  pub users : HasUsers P (has_user payments.users)
   pub lasts : AreLasts I P (λ p. I.parts.to.0) (legs_of I) payments.lasts.items
   pub hands : length payments.hands.items ≡ length I.parts.positions → payments.hands.items ≡ map (at_hand I P) I.parts.positions

@@ -54,7 +54,7 @@ fn left_after(amounts: &[u128], leg: Leg, left: u128) -> Option<u128>
 }
 
 /// The same of an amount.
-fn take_off(paid: u128, left: u128) -> Option<u128>
+pub(crate) fn take_off(paid: u128, left: u128) -> Option<u128>
     ensures { ForSome result (λ rest. paid + rest ≡ left) }
 {
     if paid <= left {

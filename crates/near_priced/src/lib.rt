@@ -18,9 +18,11 @@ mod ends;
 mod hands;
 mod laws;
 mod left;
+mod once;
 mod paid;
 mod payments;
 mod rule_out;
+mod saved;
 
 pub use laws::{
     a_move_is_not_better_that_costs_at_least_as_much_more_as_those_can_save_whom_it_touches,

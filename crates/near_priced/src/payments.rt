@@ -9,6 +9,7 @@ ghost use Rattle.near_priced.specs.Tables.{ArePayments};
 use crate::hands::hands_of;
 use crate::paid::put_paid;
 use desk_data::{Grains, Instance, Leg, NoMem};
+use leg_users::LegUsers;
 use plan_pages::Pages;
 use plan_reads::put_lasts;
 use std::alloc::Global;
@@ -20,6 +21,10 @@ pub struct Payments {
     pub(crate) on: Vec<u128>,
     /// The same of those reservations that are booked on it.
     pub(crate) booked: Vec<u128>,
+    /// What the passengers of each reservation cost, by its number.
+    pub(crate) costs: Vec<Grains>,
+    /// For each leg the reservations that have somebody on it.
+    pub(crate) users: LegUsers,
     /// For each aircraft its last leg before the window's end, if there is one.
     pub(crate) lasts: Vec<Option<Leg>>,
     /// For each position how many aircraft are at hand; empty where there are too many positions.
@@ -32,6 +37,8 @@ impl Drop for Payments {
         let Payments {
             on: _,
             booked: _,
+            costs: _,
+            users: _,
             lasts: _,
             hands: _,
         } = self;
@@ -40,8 +47,8 @@ impl Drop for Payments {
 
 impl Payments {
     /// Those at a plan, which is one for the instance, given what each reservation costs (`reservation_costs` of
-    /// near_unpaid): one walk over the reservations and the paths of those that cost something, one over the legs, and for
-    /// each position one over the aircraft. The only error is out of memory.
+    /// near_unpaid): one walk over the reservations and the paths of those that cost something, one over all paths, one over
+    /// the legs, and for each position one over the aircraft. The only error is out of memory.
     pub fn of(
         alloc: Global,
         inst: &Instance,
@@ -55,6 +62,8 @@ impl Payments {
         let mut on = zeros(alloc, inst.legs() as usize)?;
         let mut booked = zeros(alloc, inst.legs() as usize)?;
         put_paid(inst, plan, costs, &mut on, &mut booked);
+        let users = LegUsers::open(alloc, inst, plan)?;
+        let costs = Vec::from_slice(alloc, costs)?;
         let mut lasts = vec![in alloc; None; inst.planes() as usize]?;
         let end = inst.window().1;
         put_lasts(&end, inst, plan, lasts.as_mut_slice());
@@ -62,6 +71,8 @@ impl Payments {
         Ok(Payments {
             on,
             booked,
+            costs,
+            users,
             lasts,
             hands,
         })

@@ -3,20 +3,23 @@
 ghost use Rattle.std.specs.Prelude.{◌≡◌, ◌+◌, ◌<◌, ◌≤◌, length, All, IfOk, None, true, false, sum_by};
 ghost use Rattle.std.specs.List.{list_all};
 ghost use Rattle.std.specs.Option.{ForSome};
-ghost use Rattle.desk_data.specs.Situation.{planes_of};
+ghost use Rattle.desk_data.specs.Situation.{legs_of, planes_of};
 ghost use Rattle.desk_data.specs.Valid.{IsPlanFor};
 ghost use Rattle.desk_rules.specs.Cost.{cost};
 ghost use Rattle.desk_rules.specs.Least.{least};
 ghost use Rattle.desk_model.specs.Steps.{after_move};
 ghost use Rattle.plan_moves.specs.Fits.{Fits, StepFits};
-ghost use Rattle.near_draft.specs.Drafts.{IsDraftOf};
+ghost use Rattle.near_draft.specs.Drafts.{IsDraftOf, plan_of};
 ghost use Rattle.near_priced.specs.Priced.{names_no_path};
+ghost use Rattle.near_priced.specs.Saved.{saved_on, tidies_once};
 ghost use Rattle.near_priced.specs.Tables.{ArePayments, amount, refill_amount};
 
 use crate::balance::dearer_by;
 use crate::ends::ends_of;
 use crate::left::{left_by_legs, left_by_steps};
+use crate::once::tidies_once;
 use crate::payments::Payments;
+use crate::saved::left_by_savings;
 use desk_data::{Instance, Leg, NoMem, Plane};
 use near_draft::{Draft, changed_legs};
 use plan_moves::{Move, Step};
@@ -65,7 +68,10 @@ impl Payments {
             return Ok(false);
         };
         let legs = changed_legs(alloc, draft)?;
-        Ok(self.pay_at_most(legs.as_slice(), steps, dearer))
+        if self.pay_at_most(legs.as_slice(), steps, dearer) {
+            return Ok(true);
+        }
+        Ok(self.save_at_most(inst, plan, draft, legs.as_slice(), steps, dearer))
     }
 
     /// Whether there are too many positions on the day, or too many changes in a draft, for it to be held against payments.
@@ -85,6 +91,33 @@ impl Payments {
     {
         match left_by_legs(self.on.as_slice(), legs, limit) {
             Some(left) => left_by_steps(self.booked.as_slice(), steps, left).is_some(),
+            None => false,
+        }
+    }
+
+    /// Whether one Tidy is taken and then Refills alone, and what those save at most who are on some legs, with what those
+    /// pay who are booked on a leg that the steps refill, comes to at most a limit.
+    fn save_at_most(
+        &self,
+        inst: &Instance,
+        plan: &Pages,
+        draft: &Draft,
+        legs: &[Leg],
+        steps: &[Step],
+        limit: u128,
+    ) -> bool
+        requires plan { IsPlanFor inst.now plan.now }
+        requires payments { ArePayments inst.now plan.now self.now }
+        requires day { draft.now.inst ≡ inst.now }
+        requires legs { All (λ leg. leg.0 < legs_of inst.now) legs.now }
+        ensures once { result ≡ true → tidies_once steps.now ≡ true }
+        ensures less { result ≡ true → sum_by (λ leg. saved_on inst.now plan.now (plan_of draft.now) leg.0) legs.now + sum_by (refill_amount self.now.booked.items) steps.now ≤ limit }
+    {
+        if !tidies_once(steps) {
+            return false;
+        }
+        match left_by_steps(self.booked.as_slice(), steps, limit) {
+            Some(left) => left_by_savings(self, inst, plan, draft, legs, left).is_some(),
             None => false,
         }
     }
