@@ -1,5 +1,5 @@
 -- A move that takes one Tidy, and then Refills alone.
-use Rattle.std.proofs.Common.{◌≡◌, ℕ, ◌+◌, ◌≤◌, inl, inr, Bool, true, false, cond, List, [], ◌∷◌, ◌++◌, refl, sym, ap, subst, ◌∙◌, arith}
+use Rattle.std.proofs.Common.{◌≡◌, ℕ, ◌+◌, ◌≤◌, inl, inr, Bool, true, List, [], ◌∷◌, ◌++◌, refl, sym, ap, subst, ◌∙◌, arith}
 use Rattle.std.specs.Prelude.{None, sum_by}
 use Rattle.std.specs.List.{list_all}
 use Rattle.std.proofs.lemmas.Bool.{cases_Bool, and_from, and_parts}
@@ -16,7 +16,6 @@ use Rattle.plan_moves.specs.declared.moves.Step.TheVariants.{Set, Push, Swap, Re
 use Rattle.desk_rules.specs.Least.{least}
 use Rattle.desk_rules.specs.Cost.{cost, operating_cost, position_cost}
 use Rattle.desk_rules.specs.Rows.{is_row}
-use Rattle.desk_model.specs.Tidy.{after_tidy}
 use Rattle.desk_model.specs.Push.{after_push}
 use Rattle.desk_model.specs.Swap.{after_swap}
 use Rattle.desk_model.specs.Steps.{after_set, after_step, after_steps, after_move}

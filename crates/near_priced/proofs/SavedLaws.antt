@@ -1,9 +1,9 @@
 -- A move that costs at least as much more as those can save who are on a leg that gets another row is not better.
-use Rattle.std.proofs.Common.{◌≡◌, ℕ, zero, suc, ◌+◌, ◌*◌, ◌-◌, ◌<◌, ◌≤◌, inl, inr, Bool, true, false, ◌&&◌, ◌||◌, not, cond, eqb, leb, List, [], ◌∷◌, ◌++◌, length, refl, sym, ap, subst, ◌∙◌, arith}
+use Rattle.std.proofs.Common.{◌≡◌, ℕ, zero, suc, ◌+◌, ◌*◌, ◌<◌, ◌≤◌, inl, inr, Bool, true, false, ◌&&◌, ◌||◌, not, cond, eqb, leb, List, [], ◌∷◌, ◌++◌, refl, sym, ap, subst, ◌∙◌, arith}
 use Rattle.std.specs.Prelude.{None, filter, min, sum_by}
 use Rattle.std.specs.List.{list_all, list_any}
 use Rattle.std.proofs.Math.Nat.{mul-add}
-use Rattle.std.proofs.lemmas.Bool.{cases_Bool, cases_eq, and_parts, and_from, or_parts, or_from, eq-eqb, ne_eqb}
+use Rattle.std.proofs.lemmas.Bool.{cases_Bool, cases_eq, and_parts, and_from, or_parts, ne_eqb}
 use Rattle.std.proofs.lemmas.List.Sums.{sum_by-cons, sum_by-append, sum_by_push}
 use Rattle.desk_units.specs.declared.numbers.Leg.{Leg}
 use Rattle.desk_units.specs.declared.numbers.Cabin.{Cabin}
@@ -42,7 +42,7 @@ use Rattle.near_unpaid.proofs.DearLaws.{dear-worse}
 use Rattle.near_draft.specs.Drafts.{AreAllChanged}
 use Rattle.near_priced.specs.Priced.{paid_booked, tidies, refilled}
 use Rattle.near_priced.specs.Saved.{uncarried_cost, least_of, least_after, saved_by, saved_on, refills_leg}
-use Rattle.near_priced.proofs.PricedLaws.{some_of, any-le, alone, tidied-rows}
+use Rattle.near_priced.proofs.PricedLaws.{any-le, alone, tidied-rows}
 
 -- ---- passengers who are not carried
 

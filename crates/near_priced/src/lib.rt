@@ -1,4 +1,4 @@
-//! Moves that cost at least as much more as those pay whom they touch.
+//! Moves that cost at least as much more as those can save whom they touch.
 //!
 //!     let costs = reservation_costs(alloc, &inst, &plan)?;                   // of near_unpaid: what each reservation costs
 //!     let payments = Payments::of(alloc, &inst, &plan, costs.as_slice())?;
@@ -6,11 +6,19 @@
 //!
 //! A move of legs can save at most what flying, the positions and the passengers whom it touches cost. Once its rows are
 //! drafted (near_draft) it is known what flying costs then, and where its aircraft end, so what the positions cost. Where
-//! both together cost at least as much more than before as those pay who are on a leg that gets another row, or are booked
-//! on one that is refilled, the move is not better, whatever becomes of its passengers.
+//! both together cost at least as much more than before as those whom it touches can save, the move is not better, whatever
+//! becomes of its passengers. What these can save is bounded twice, and the second bound is asked where the first one does
+//! not say so:
 //!
-//! How much is paid on each leg, where aircraft end and how many are at hand is looked up once for a plan. Proved: what is
-//! ruled out is not better, and the law that says so, a public function with an empty body.
+//! - by what they pay: all those who are on a leg that gets another row, or are booked on one that is refilled. That is two
+//!   look-ups a leg.
+//! - by what they cost at least by the rows of the draft, where one Tidy is taken and then Refills alone. Passengers whose
+//!   path arrives then stay on it or are no longer carried, whichever costs less; those of another path are not carried, as
+//!   those are who were not before. What a reservation that has somebody on a leg with another row pays beyond that is what
+//!   it can save. Of those who are booked on a leg that is refilled all counts that they pay.
+//!
+//! How much is paid on each leg and who is on it, where aircraft end and how many are at hand is looked up once for a plan.
+//! Proved: what is ruled out is not better, and for each bound the law that says so, a public function with an empty body.
 #![tactic(auto)]
 
 mod balance;

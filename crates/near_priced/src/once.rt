@@ -27,26 +27,10 @@ fn after_step(tidied: bool, step: &Step) -> Option<bool>
 {
     match step {
         Step::Set { .. } | Step::Push { .. } | Step::Swap { .. } => {
-            if tidied {
-                None
-            } else {
-                Some(false)
-            }
+            if tidied { None } else { Some(false) }
         }
-        Step::Tidy => {
-            if tidied {
-                None
-            } else {
-                Some(true)
-            }
-        }
-        Step::Refill { .. } => {
-            if tidied {
-                Some(true)
-            } else {
-                None
-            }
-        }
+        Step::Tidy => { if tidied { None } else { Some(true) } }
+        Step::Refill { .. } => { if tidied { Some(true) } else { None } }
         Step::Rebook { .. } => None,
     }
 }

@@ -1,4 +1,4 @@
-//! What those pay who are on each leg of a plan, and where its aircraft end.
+//! What those pay who are on each leg of a plan, who they are, and where its aircraft end.
 
 ghost use Rattle.std.specs.Prelude.{◌≡◌, IfOk, replicate};
 ghost use Rattle.desk_data.specs.Situation.{reservations_of};

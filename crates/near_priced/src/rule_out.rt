@@ -1,4 +1,4 @@
-//! Moves that cost at least as much more as those pay whom they touch.
+//! Moves that cost at least as much more as those can save whom they touch.
 
 ghost use Rattle.std.specs.Prelude.{◌≡◌, ◌+◌, ◌<◌, ◌≤◌, length, All, IfOk, None, true, false, sum_by};
 ghost use Rattle.std.specs.List.{list_all};
@@ -26,13 +26,13 @@ use plan_moves::{Move, Step};
 use plan_pages::Pages;
 use std::alloc::Global;
 
-/// A draft with more changes is not held against what those pay whom it touches.
+/// A draft with more changes is not held against what those can save whom it touches.
 const MOST_CHANGES: usize = 1_000;
 
 impl Payments {
     /// Whether it is known that a move makes a feasible plan no cheaper, since it costs at least as much more as those pay
-    /// whom it touches. The payments are those at the plan, and the draft is of the move. Where it says no, nothing is
-    /// known. The only error is out of memory.
+    /// whom it touches, or as they can save. The payments are those at the plan, and the draft is of the move. Where it
+    /// says no, nothing is known. The only error is out of memory.
     pub fn rule_out(
         &self,
         alloc: Global,

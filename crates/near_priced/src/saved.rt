@@ -108,6 +108,9 @@ fn least_of(inst: &Instance, draft: &Draft, res: Res, path: &[(Leg, Cabin)], cou
         return uncarried(inst, res, count);
     }
     let there = path_cost(inst, res, path, count, end);
+    if there.0 == 0 {
+        return 0;
+    }
     there.0.min(uncarried(inst, res, count))
 }
 

@@ -1,6 +1,6 @@
 use Rattle.std.proofs.Common.{◌≡◌, ◌<◌, ◌≤◌, true, false, refl, sym, subst, ◌∙◌, arith}
 use Rattle.std.specs.Prelude.{Some}
-use Rattle.desk_rules.specs.Rotations.{dep, is_earlier, precedes}
+use Rattle.desk_rules.specs.Rotations.{dep, precedes}
 use Rattle.plan_reads.specs.AfterLeg.{leg_in}
 use Rattle.near_draft.specs.Drafts.{plan_of}
 use Rattle.near_priced.specs.Ends.{IsLastAmong}

@@ -1,4 +1,4 @@
-use Rattle.std.proofs.Common.{◌≡◌, ◌+◌, ◌≤◌, length, take, ap, arith}
+use Rattle.std.proofs.Common.{◌+◌, ◌≤◌, length, ap, arith}
 use Rattle.std.specs.Prelude.{sum_by}
 use Rattle.std.proofs.lemmas.List.{take_all}
 use Rattle.desk_units.specs.declared.numbers.Res.{Res}
