@@ -85,7 +85,7 @@ module _ (weight : ℕ → ℕ) (n : ℕ) where
 
 -- ---- who is touched
 
-pub any-off : {X : Type 0} (test : X → Bool) (xs : List X) → list_any test xs ≡ false → All (λ x. test x ≡ false) xs
+any-off : {X : Type 0} (test : X → Bool) (xs : List X) → list_any test xs ≡ false → All (λ x. test x ≡ false) xs
 any-off test [] off = All-nil (λ x. test x ≡ false)
 any-off test (x ∷ xs) off =
     let parts = or_parts (test x) (list_any test xs) off in

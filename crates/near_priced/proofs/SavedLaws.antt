@@ -186,6 +186,14 @@ refills-tidy (Refill leg ∷ steps) all = refills-tidy steps all
 
 -- ---- a reservation
 
+-- terms that are at most what three others come to: so are the sums
+three-le : (f g h k : ℕ → ℕ) (n : ℕ) → ((y : ℕ) → y < n → f y ≤ g y + h y + k y) → sum_by f (numbers n) ≤ sum_by g (numbers n) + sum_by h (numbers n) + sum_by k (numbers n)
+three-le f g h k zero less = omega arith
+three-le f g h k (suc n) less =
+    let rest = three-le f g h k n (λ y lt. less y (omega (arith, lt))) in
+    let here = less n (omega arith) in
+    omega (arith, sum_by_push f (numbers n) n, sum_by_push g (numbers n) n, sum_by_push h (numbers n) n, sum_by_push k (numbers n) n, rest, here)
+
 module _ (I : Situation) (P S : PlanRows) (refills : List Step) (valid : IsValid I) (plan : IsPlanFor I S) (all : list_all refills_leg refills ≡ true) where
   abbrev last : PlanRows
   last = after_steps I S (Tidy ∷ refills)
@@ -230,13 +238,6 @@ module _ (I : Situation) (P S : PlanRows) (refills : List Step) (valid : IsValid
         ]
       ]
 
-  three-le : (f g h k : ℕ → ℕ) (n : ℕ) → ((y : ℕ) → y < n → f y ≤ g y + h y + k y) → sum_by f (numbers n) ≤ sum_by g (numbers n) + sum_by h (numbers n) + sum_by k (numbers n)
-  three-le f g h k zero less = omega arith
-  three-le f g h k (suc n) less =
-      let rest = three-le f g h k n (λ y lt. less y (omega (arith, lt))) in
-      let here = less n (omega arith) in
-      omega (arith, sum_by_push f (numbers n) n, sum_by_push g (numbers n) n, sum_by_push h (numbers n) n, sum_by_push k (numbers n) n, rest, here)
-
   -- ---- a whole move
 
   pub saved-costs : (legs : List ℕ) → least I P ≡ None → S.groups ≡ P.groups → AreAllChanged P S legs → operating_cost I P + position_cost I P + sum_by (saved_on I P S) legs + sum_by (paid_booked I P) (refilled refills) ≤ operating_cost I S + position_cost I S → cost I P ≤ cost I last
@@ -247,7 +248,7 @@ module _ (I : Situation) (P S : PlanRows) (refills : List Step) (valid : IsValid
       let paid : sum_by pays (numbers n) ≤ sum_by (paid_booked I P) (refilled refills) = any-le (reservation_cost I P) n (is_booked_on I) (refilled refills) in
       omega (arith, less, each, saved, paid, cost_is I P, cost_is I last, flying-same I S last last-rows, positions-same I S last last-rows)
 
-pub steps-append : (I : Situation) (P : PlanRows) (first others : List Step) → after_steps I P (first ++ others) ≡ after_steps I (after_steps I P first) others
+steps-append : (I : Situation) (P : PlanRows) (first others : List Step) → after_steps I P (first ++ others) ≡ after_steps I (after_steps I P first) others
 steps-append I P [] others = refl
 steps-append I P (step ∷ first) others = steps-append I (after_step I P step) first others
 

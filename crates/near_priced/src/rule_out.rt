@@ -60,8 +60,7 @@ impl Payments {
         let Some(planes) = pushed(inst, steps) else {
             return Ok(false);
         };
-        let found = ends_of(alloc, self, inst, plan, draft, planes)?;
-        let Some(ends) = found else {
+        let Some(ends) = ends_of(alloc, self, inst, plan, draft, planes)? else {
             return Ok(false);
         };
         let Some(dearer) = dearer_by(self, inst, plan, draft, ends) else {
