@@ -1,6 +1,6 @@
--- Steps of some aircraft make the same rows of two plans that agree on them, where hours have the same room.
-use Rattle.std.proofs.Common.{◌≡◌, ℕ, ◌+◌, ◌<◌, ◌≤◌, max, inl, inr, Bool, true, false, ◌&&◌, ◌||◌, cond, eqb, leb, ltb, not, List, [], ◌∷◌, ◌++◌, length, get_or, refl, sym, ap, subst, ◌∙◌, arith}
-use Rattle.std.specs.Prelude.{Option, None, Some, filter, find, fold, count_by}
+-- Steps of some aircraft make the same rows of two plans that agree on them, where hours have the same room, or what is asked of them has the same answer.
+use Rattle.std.proofs.Common.{◌≡◌, ℕ, ◌+◌, ◌<◌, ◌≤◌, max, inl, inr, Bool, true, false, ◌&&◌, ◌||◌, cond, eqb, leb, ltb, not, List, [], ◌∷◌, length, get_or, refl, sym, ap, subst, ◌∙◌, arith}
+use Rattle.std.specs.Prelude.{Option, None, Some, filter, fold, count_by, unwrap_or}
 use Rattle.std.specs.List.{All, list_all}
 use Rattle.std.proofs.Math.Path.{fun_ext}
 use Rattle.std.proofs.lemmas.Bool.{true≢false, cases_Bool, cases_eq, cases_lt, and_parts, and_from, ne_eqb, lt-ltb, eqb-true}
@@ -19,22 +19,24 @@ use Rattle.plan_moves.specs.declared.moves.Step.{Step}
 use Rattle.plan_moves.specs.declared.moves.Step.TheVariants.{Set, Push, Swap, Rebook, Tidy, Refill}
 use Rattle.desk_rules.specs.Numbers.{numbers, none_below}
 use Rattle.desk_rules.specs.Rows.{is_row}
-use Rattle.desk_rules.specs.Rotations.{departure, dep, arr, precedes, follows, ground_time}
+use Rattle.desk_rules.specs.Rotations.{departure, dep, precedes, follows, ground_time}
 use Rattle.desk_rules.specs.Maintenance.{is_flown_by, flies}
 use Rattle.desk_rules.specs.Slots.{hour_of}
 use Rattle.desk_rules.specs.Passengers.{is_flown}
 use Rattle.desk_model.specs.Choices.{first_within}
-use Rattle.desk_model.specs.Push.{rotation, comes_after, pushed_legs, leg_before, ready_moment, is_free, is_beside, departs_beside, arrives_beside, departures_beside, arrivals_beside, is_below, has_slots, can_depart, first_departure, with_departure, after_placing, after_push}
+use Rattle.desk_model.specs.Push.{rotation, comes_after, pushed_legs, leg_before, ready_moment, is_free, departures_beside, arrivals_beside, is_below, has_slots, can_depart, first_departure, with_departure, after_placing, after_push}
 use Rattle.desk_model.specs.Swap.{other_plane, row_after_swap, after_swap}
 use Rattle.desk_model.specs.Steps.{after_set, after_step, after_steps}
+use Rattle.desk_model.proofs.ChoiceLaws.{first_within-holds, first_within-from, first_within-none, none-first_within}
 use Rattle.desk_model.proofs.RotationOrder.{rotation-flown}
 use Rattle.desk_model.proofs.SetLaws.{with_row-same, with_row-other}
 use Rattle.desk_model.proofs.SwapLaws.{after_swap-row, after_swap-groups}
 use Rattle.near_moves.proofs.DescentLaws.{find-passes}
 use Rattle.near_units.specs.Same.{FliesSame, is_of, IsOwn, AgreeOn}
 use Rattle.near_units.specs.Steps.{is_among}
-use Rattle.near_units.specs.Room.{departures_outside, arrivals_outside, count_from, count_to, IsSameRoom, HaveSameRoom, AreMadeAlike}
-use Rattle.near_units.proofs.PlaneLaws.{filter-same, row-same, precedes-to, flies-first, leg_before-same, rotation-same}
+use Rattle.near_units.specs.Room.{IsSameRoom, HaveSameRoom, AreMadeAlike}
+use Rattle.near_units.specs.Asked.{PlacingAsks, PlacingsAsk, StepAsks, StepsAsk}
+use Rattle.near_units.proofs.PlaneLaws.{filter-same, precedes-to, flies-first, leg_before-same, rotation-same}
 
 -- ---- rows of some aircraft
 
@@ -163,94 +165,98 @@ below-some m n before (Some cap) few now (inr both) =
     let two = both.1 in
     lt-ltb (m + before) cap (omega (arith, few, one)) ∙ sym (lt-ltb (m + now) cap (omega (arith, few, two)))
 
--- the counts beside a leg, in the plans that are made: those among the legs are the same, and those outside are as before
-module _ (planes legs : ℕ → Bool) (I : Situation) (P Q S T : PlanRows) (alike : AreMadeAlike planes legs P Q S T) (x : ℕ) where
-  pub own-departs : (a h y : ℕ) → (legs y && departs_beside I S x a h y) ≡ (legs y && departs_beside I T x a h y)
-  own-departs a h y =
-      elim (cases_Bool (legs y)) [
-        | inl here ↦ ap (λ (row : Row). legs y && ((not (eqb y x) && is_flown row && not (plane_at I (leg_at I y).plane.0).surface) && (eqb (leg_at I y).origin.0 a) && (eqb (hour_of (departure row)) h))) (alike.agree.same y here)
-        | inr off ↦ ap (λ (b : Bool). b && departs_beside I S x a h y) off ∙ sym (ap (λ (b : Bool). b && departs_beside I T x a h y) off)
-      ]
+-- legs that are counted by their rows: those among some legs, and all others, of the first n
+abbrev inside : (ℕ → Bool) → (ℕ → Row → Bool) → PlanRows → ℕ → ℕ
+inside legs counts R n = count_by (λ y. legs y && counts y (row_at R y)) (numbers n)
 
-  pub own-arrives : (a h y : ℕ) → (legs y && arrives_beside I S x a h y) ≡ (legs y && arrives_beside I T x a h y)
-  own-arrives a h y =
-      elim (cases_Bool (legs y)) [
-        | inl here ↦ ap (λ (row : Row). legs y && ((not (eqb y x) && is_flown row && not (plane_at I (leg_at I y).plane.0).surface) && (eqb (leg_at I y).dest.0 a) && (eqb (hour_of (departure row + (leg_at I y).block)) h))) (alike.agree.same y here)
-        | inr off ↦ ap (λ (b : Bool). b && arrives_beside I S x a h y) off ∙ sym (ap (λ (b : Bool). b && arrives_beside I T x a h y) off)
-      ]
+abbrev pub outside : (ℕ → Bool) → (ℕ → Row → Bool) → PlanRows → ℕ → ℕ
+outside legs counts R n = count_by (λ y. not (legs y) && counts y (row_at R y)) (numbers n)
+
+pub inside-same : (legs : ℕ → Bool) (counts : ℕ → Row → Bool) (S T : PlanRows) (n : ℕ) → ((y : ℕ) → legs y ≡ true → row_at S y ≡ row_at T y) → inside legs counts S n ≡ inside legs counts T n
+inside-same legs counts S T n same =
+    ap (λ (test : ℕ → Bool). count_by test (numbers n))
+    (fun_ext (λ (y : ℕ). elim (cases_Bool (legs y)) [
+      | inl here ↦ ap (λ (row : Row). legs y && counts y row) (same y here)
+      | inr off ↦ ap (λ (b : Bool). b && counts y (row_at S y)) off ∙ sym (ap (λ (b : Bool). b && counts y (row_at T y)) off)
+    ]))
 
 -- legs outside have the rows that they had
-outside-departs : (legs : ℕ → Bool) (I : Situation) (P S : PlanRows) → ((y : ℕ) → legs y ≡ false → row_at S y ≡ row_at P y) → (x a h y : ℕ) → (not (legs y) && departs_beside I S x a h y) ≡ (not (legs y) && departs_beside I P x a h y)
-outside-departs legs I P S same x a h y =
-    elim (cases_Bool (legs y)) [
-      | inl here ↦ ap (λ (b : Bool). not b && departs_beside I S x a h y) here ∙ sym (ap (λ (b : Bool). not b && departs_beside I P x a h y) here)
-      | inr off ↦ ap (λ (row : Row). not (legs y) && ((not (eqb y x) && is_flown row && not (plane_at I (leg_at I y).plane.0).surface) && (eqb (leg_at I y).origin.0 a) && (eqb (hour_of (departure row)) h))) (same y off)
-    ]
+outside-same : (legs : ℕ → Bool) (counts : ℕ → Row → Bool) (P S : PlanRows) (n : ℕ) → ((y : ℕ) → legs y ≡ false → row_at S y ≡ row_at P y) → outside legs counts S n ≡ outside legs counts P n
+outside-same legs counts P S n same =
+    ap (λ (test : ℕ → Bool). count_by test (numbers n))
+    (fun_ext (λ (y : ℕ). elim (cases_Bool (legs y)) [
+      | inl here ↦ ap (λ (b : Bool). not b && counts y (row_at S y)) here ∙ sym (ap (λ (b : Bool). not b && counts y (row_at P y)) here)
+      | inr off ↦ ap (λ (row : Row). not (legs y) && counts y row) (same y off)
+    ]))
 
-outside-arrives : (legs : ℕ → Bool) (I : Situation) (P S : PlanRows) → ((y : ℕ) → legs y ≡ false → row_at S y ≡ row_at P y) → (x a h y : ℕ) → (not (legs y) && arrives_beside I S x a h y) ≡ (not (legs y) && arrives_beside I P x a h y)
-outside-arrives legs I P S same x a h y =
-    elim (cases_Bool (legs y)) [
-      | inl here ↦ ap (λ (b : Bool). not b && arrives_beside I S x a h y) here ∙ sym (ap (λ (b : Bool). not b && arrives_beside I P x a h y) here)
-      | inr off ↦ ap (λ (row : Row). not (legs y) && ((not (eqb y x) && is_flown row && not (plane_at I (leg_at I y).plane.0).surface) && (eqb (leg_at I y).dest.0 a) && (eqb (hour_of (departure row + (leg_at I y).block)) h))) (same y off)
-    ]
+-- whether leg y is counted by a row as one that departs from airport a in hour h beside leg x, or that arrives there then
+abbrev pub leaves_by : Situation → ℕ → ℕ → ℕ → ℕ → Row → Bool
+leaves_by I x a h y row = (not (eqb y x) && is_flown row && not (plane_at I (leg_at I y).plane.0).surface) && (eqb (leg_at I y).origin.0 a) && (eqb (hour_of (departure row)) h)
 
-module _ (planes legs : ℕ → Bool) (I : Situation) (P Q S T : PlanRows) (alike : AreMadeAlike planes legs P Q S T) (room : HaveSameRoom legs I P Q) where
-  departs-from : (S : PlanRows) (x a h y : ℕ) → (legs y && departs_beside I S x a h y) ≡ true → (legs y && (eqb (leg_at I y).origin.0 a)) ≡ true
-  departs-from S x a h y is =
-      let parts = and_parts (legs y) (departs_beside I S x a h y) is in
-      let outer = and_parts (is_beside I S x y && eqb (leg_at I y).origin.0 a) (eqb (hour_of (dep S y)) h) parts.1 in
-      and_from (legs y) (eqb (leg_at I y).origin.0 a) parts.0 (and_parts (is_beside I S x y) (eqb (leg_at I y).origin.0 a) outer.0).1
+abbrev pub reaches_by : Situation → ℕ → ℕ → ℕ → ℕ → Row → Bool
+reaches_by I x a h y row = (not (eqb y x) && is_flown row && not (plane_at I (leg_at I y).plane.0).surface) && (eqb (leg_at I y).dest.0 a) && (eqb (hour_of (departure row + (leg_at I y).block)) h)
 
-  arrives-to : (S : PlanRows) (x a h y : ℕ) → (legs y && arrives_beside I S x a h y) ≡ true → (legs y && (eqb (leg_at I y).dest.0 a)) ≡ true
-  arrives-to S x a h y is =
-      let parts = and_parts (legs y) (arrives_beside I S x a h y) is in
-      let outer = and_parts (is_beside I S x y && eqb (leg_at I y).dest.0 a) (eqb (hour_of (arr I S y)) h) parts.1 in
-      and_from (legs y) (eqb (leg_at I y).dest.0 a) parts.0 (and_parts (is_beside I S x y) (eqb (leg_at I y).dest.0 a) outer.0).1
+leaves-from : (I : Situation) (x a h y : ℕ) (row : Row) → leaves_by I x a h y row ≡ true → eqb (leg_at I y).origin.0 a ≡ true
+leaves-from I x a h y row is =
+    let beside = not (eqb y x) && is_flown row && not (plane_at I (leg_at I y).plane.0).surface in
+    let outer = and_parts (beside && eqb (leg_at I y).origin.0 a) (eqb (hour_of (departure row)) h) is in
+    (and_parts beside (eqb (leg_at I y).origin.0 a) outer.0).1
 
-  departs-room : (x h : ℕ) → legs x ≡ true → is_below (departures_beside I S x (leg_at I x).origin.0 h) (dep_cap I (leg_at I x).origin.0 h) ≡ is_below (departures_beside I T x (leg_at I x).origin.0 h) (dep_cap I (leg_at I x).origin.0 h)
-  departs-room x h here =
-      let a = (leg_at I x).origin.0 in
-      let cap = dep_cap I a h in
-      let all = numbers (legs_of I) in
-      let inside = count_by (λ y. legs y && departs_beside I S x a h y) all in
-      let same : inside ≡ count_by (λ y. legs y && departs_beside I T x a h y) all = ap (λ (test : ℕ → Bool). count_by test all) (fun_ext (λ (y : ℕ). own-departs planes legs I P Q S T alike x a h y)) in
-      let first : departures_beside I S x a h ≡ inside + departures_outside legs I P x a h =
-      count-split legs (departs_beside I S x a h) all ∙ ap (λ (test : ℕ → Bool). inside + count_by test all) (fun_ext (λ (y : ℕ). outside-departs legs I P S alike.first x a h y)) in
-      let second : departures_beside I T x a h ≡ inside + departures_outside legs I Q x a h =
-      count-split legs (departs_beside I T x a h) all
-      ∙ ap (λ (n : ℕ). n + count_by (λ y. not (legs y) && departs_beside I T x a h y) all) (sym same)
-      ∙ ap (λ (test : ℕ → Bool). inside + count_by test all) (fun_ext (λ (y : ℕ). outside-departs legs I Q T alike.second x a h y)) in
-      ap (λ (n : ℕ). is_below n cap) first
-      ∙ below-some inside (count_from legs I a) (departures_outside legs I P x a h) cap (count-weaker (λ y. legs y && departs_beside I S x a h y) (λ y. legs y && (eqb (leg_at I y).origin.0 a)) all (departs-from S x a h)) (departures_outside legs I Q x a h) (room.departures x h here)
-      ∙ sym (ap (λ (n : ℕ). is_below n cap) second)
+reaches-to : (I : Situation) (x a h y : ℕ) (row : Row) → reaches_by I x a h y row ≡ true → eqb (leg_at I y).dest.0 a ≡ true
+reaches-to I x a h y row is =
+    let beside = not (eqb y x) && is_flown row && not (plane_at I (leg_at I y).plane.0).surface in
+    let outer = and_parts (beside && eqb (leg_at I y).dest.0 a) (eqb (hour_of (departure row + (leg_at I y).block)) h) is in
+    (and_parts beside (eqb (leg_at I y).dest.0 a) outer.0).1
 
-  arrives-room : (x h : ℕ) → legs x ≡ true → is_below (arrivals_beside I S x (leg_at I x).dest.0 h) (arr_cap I (leg_at I x).dest.0 h) ≡ is_below (arrivals_beside I T x (leg_at I x).dest.0 h) (arr_cap I (leg_at I x).dest.0 h)
-  arrives-room x h here =
-      let a = (leg_at I x).dest.0 in
-      let cap = arr_cap I a h in
-      let all = numbers (legs_of I) in
-      let inside = count_by (λ y. legs y && arrives_beside I S x a h y) all in
-      let same : inside ≡ count_by (λ y. legs y && arrives_beside I T x a h y) all = ap (λ (test : ℕ → Bool). count_by test all) (fun_ext (λ (y : ℕ). own-arrives planes legs I P Q S T alike x a h y)) in
-      let first : arrivals_beside I S x a h ≡ inside + arrivals_outside legs I P x a h =
-      count-split legs (arrives_beside I S x a h) all ∙ ap (λ (test : ℕ → Bool). inside + count_by test all) (fun_ext (λ (y : ℕ). outside-arrives legs I P S alike.first x a h y)) in
-      let second : arrivals_beside I T x a h ≡ inside + arrivals_outside legs I Q x a h =
-      count-split legs (arrives_beside I T x a h) all
-      ∙ ap (λ (n : ℕ). n + count_by (λ y. not (legs y) && arrives_beside I T x a h y) all) (sym same)
-      ∙ ap (λ (test : ℕ → Bool). inside + count_by test all) (fun_ext (λ (y : ℕ). outside-arrives legs I Q T alike.second x a h y)) in
-      ap (λ (n : ℕ). is_below n cap) first
-      ∙ below-some inside (count_to legs I a) (arrivals_outside legs I P x a h) cap (count-weaker (λ y. legs y && arrives_beside I S x a h y) (λ y. legs y && (eqb (leg_at I y).dest.0 a)) all (arrives-to S x a h)) (arrivals_outside legs I Q x a h) (room.arrivals x h here)
-      ∙ sym (ap (λ (n : ℕ). is_below n cap) second)
+-- counts in the plans that are made: those among the legs are the same, and those outside are as before
+module _ (planes legs : ℕ → Bool) (P Q S T : PlanRows) (alike : AreMadeAlike planes legs P Q S T) (counts : ℕ → Row → Bool) (n : ℕ) where
+  pub count-first : count_by (λ y. counts y (row_at S y)) (numbers n) ≡ inside legs counts S n + outside legs counts P n
+  count-first =
+      count-split legs (λ y. counts y (row_at S y)) (numbers n)
+      ∙ ap (λ (k : ℕ). inside legs counts S n + k) (outside-same legs counts P S n alike.first)
 
-  slots-same : (x t : ℕ) → legs x ≡ true → has_slots I S x t ≡ has_slots I T x t
-  unfolding has_slots
-  slots-same x t here =
-      let lands = hour_of (t + (leg_at I x).block) in
-      ap (λ (b : Bool). b && is_below (arrivals_beside I S x (leg_at I x).dest.0 lands) (arr_cap I (leg_at I x).dest.0 lands)) (departs-room x (hour_of t) here)
-      ∙ ap (λ (b : Bool). is_below (departures_beside I T x (leg_at I x).origin.0 (hour_of t)) (dep_cap I (leg_at I x).origin.0 (hour_of t)) && b) (arrives-room x lands here)
+  pub count-second : count_by (λ y. counts y (row_at T y)) (numbers n) ≡ inside legs counts S n + outside legs counts Q n
+  count-second =
+      count-split legs (λ y. counts y (row_at T y)) (numbers n)
+      ∙ ap (λ (k : ℕ). k + outside legs counts T n) (sym (inside-same legs counts S T n alike.agree.same))
+      ∙ ap (λ (k : ℕ). inside legs counts S n + k) (outside-same legs counts Q T n alike.second)
+
+  -- what is counted is at some place
+  count-room : (place : ℕ → Bool) (cap : Option ℕ) → ((y : ℕ) (row : Row) → counts y row ≡ true → place y ≡ true) → IsSameRoom (count_by (λ y. legs y && place y) (numbers n)) (outside legs counts P n) (outside legs counts Q n) cap → is_below (count_by (λ y. counts y (row_at S y)) (numbers n)) cap ≡ is_below (count_by (λ y. counts y (row_at T y)) (numbers n)) cap
+  count-room place cap there room =
+      let few = count-weaker (λ y. legs y && counts y (row_at S y)) (λ y. legs y && place y) (numbers n)
+      (λ y is. (
+      let parts = and_parts (legs y) (counts y (row_at S y)) is in
+      and_from (legs y) (place y) parts.0 (there y (row_at S y) parts.1))) in
+      ap (λ (k : ℕ). is_below k cap) count-first
+      ∙ below-some (inside legs counts S n) (count_by (λ y. legs y && place y) (numbers n)) (outside legs counts P n) cap few (outside legs counts Q n) room
+      ∙ sym (ap (λ (k : ℕ). is_below k cap) count-second)
 
 -- ---- a Push
 
-module _ (planes legs : ℕ → Bool) (I : Situation) (P Q U V : PlanRows) (start : AgreeOn planes legs U V) (room : HaveSameRoom legs I P Q) (p : ℕ) (own : planes p ≡ true) where
+-- where enough is asked of a leg and a moment, as a plan stands, its airports have room then in both plans or in neither, and enough is asked of the second one
+abbrev pub KeepSlots : (ℕ → Bool) → (ℕ → Bool) → Situation → PlanRows → PlanRows → (PlanRows → ℕ → ℕ → Type 0) → (PlanRows → ℕ → ℕ → Type 0) → Type 0
+KeepSlots planes legs I P Q Asks Later = (S T : PlanRows) (x t : ℕ) → AreMadeAlike planes legs P Q S T → legs x ≡ true → Asks S x t → (has_slots I S x t ≡ has_slots I T x t) × Later T x t
+
+-- a first number is the same by two tests that agree on all numbers up to it
+within-at : (low high : ℕ) (f g : ℕ → Bool) (o : Option ℕ) → first_within low high f ≡ o → ((t : ℕ) → low ≤ t → t ≤ unwrap_or o high → f t ≡ g t) → o ≡ first_within low high g
+within-at low high f g None is same =
+    let none = first_within-none low high f is in
+    sym (none-first_within low high g (λ t from to. sym (same t from to) ∙ none t from to))
+within-at low high f g (Some s) is same =
+    let first = first_within-holds low high f s is in
+    let to = first.to in
+    sym (first_within-from low high g s (record {
+      from = first.from;
+      to = first.to;
+      holds = sym (same s first.from (omega arith)) ∙ first.holds;
+      first = λ t from before. sym (same t from (omega (arith, before))) ∙ first.first t from before;
+    }))
+
+within-same : (low high : ℕ) (f g : ℕ → Bool) → ((t : ℕ) → low ≤ t → t ≤ unwrap_or (first_within low high f) high → f t ≡ g t) → first_within low high f ≡ first_within low high g
+within-same low high f g same = within-at low high f g (first_within low high f) refl same
+
+module _ (planes legs : ℕ → Bool) (I : Situation) (P Q U V : PlanRows) (start : AgreeOn planes legs U V) (Asks Later : PlanRows → ℕ → ℕ → Type 0) (slots : KeepSlots planes legs I P Q Asks Later) (p : ℕ) (own : planes p ≡ true) where
   pushes : FliesSame U V p
   pushes = agree-flies planes legs U V p start own
 
@@ -258,34 +264,54 @@ module _ (planes legs : ℕ → Bool) (I : Situation) (P Q U V : PlanRows) (star
   ready-same S T x None rows = refl
   ready-same S T x (Some w) rows = ap (λ (row : Row). departure row + (leg_at I w).block + ground_time I p w x) (rows w refl)
 
-  first-same : (S T : PlanRows) → AreMadeAlike planes legs P Q S T → (x : ℕ) → flies U p x ≡ true → first_departure I U S p x ≡ first_departure I V T p x
-  unfolding first_departure
-  first-same S T alike x on =
+  -- from when on leg x may depart
+  abbrev from_of : PlanRows → PlanRows → ℕ → ℕ
+  from_of R S x = max (ready_moment I S p x (leg_before I R x)) (earliest I x)
+
+  from-same : (S T : PlanRows) → AreMadeAlike planes legs P Q S T → (x : ℕ) → flies U p x ≡ true → from_of U S x ≡ from_of V T x
+  from-same S T alike x on =
       let before = leg_before I U x in
       let rows : (w : ℕ) → before ≡ Some w → row_at S w ≡ row_at T w = λ w is.
       let next : follows I U w x ≡ true = find-passes (λ v. follows I U v x) (numbers (legs_of I)) w is in
       let comes : precedes U w x ≡ true = (and_parts (precedes U w x) (none_below (legs_of I) (λ z. precedes U w z && precedes U z x)) next).0 in
       alike.agree.same w (own-leg planes legs U V p w start own (flies-first U p w x comes on)) in
+      ap (λ (n : ℕ). max n (earliest I x)) (ready-same S T x before rows)
+      ∙ ap (λ (o : Option ℕ). max (ready_moment I T p x o) (earliest I x)) (leg_before-same I U V p pushes x on)
+
+  first-same : (S T : PlanRows) → AreMadeAlike planes legs P Q S T → (x : ℕ) → flies U p x ≡ true → PlacingAsks Asks I U p S x → (first_departure I U S p x ≡ first_departure I V T p x) × PlacingAsks Later I V p T x
+  unfolding first_departure
+  first-same S T alike x on asks =
+      let low = from_of U S x in
+      let high = latest I x in
+      let from : low ≡ from_of V T x = from-same S T alike x on in
       let here = own-leg planes legs U V p x start own on in
-      ap (λ (n : ℕ). first_within (max n (earliest I x)) (latest I x) (can_depart I S p x)) (ready-same S T x before rows)
-      ∙ ap (λ (o : Option ℕ). first_within (max (ready_moment I T p x o) (earliest I x)) (latest I x) (can_depart I S p x)) (leg_before-same I U V p pushes x on)
-      ∙ ap (λ (test : ℕ → Bool). first_within (max (ready_moment I T p x (leg_before I V x)) (earliest I x)) (latest I x) test)
-      (fun_ext (λ (t : ℕ). ap (λ (b : Bool). is_free I p x t && b) (slots-same planes legs I P Q S T alike room x t here)))
+      let tests : (t : ℕ) → low ≤ t → t ≤ unwrap_or (first_within low high (can_depart I S p x)) high → can_depart I S p x t ≡ can_depart I T p x t = λ t after before.
+      elim (cases_Bool (is_free I p x t)) [
+        | inl free ↦ ap (λ (b : Bool). is_free I p x t && b) (slots S T x t alike here (asks t after before free)).0
+        | inr busy ↦ ap (λ (b : Bool). b && has_slots I S x t) busy ∙ sym (ap (λ (b : Bool). b && has_slots I T x t) busy)
+      ] in
+      let found : first_within low high (can_depart I S p x) ≡ first_within (from_of V T x) high (can_depart I T p x) =
+      within-same low high (can_depart I S p x) (can_depart I T p x) tests ∙ ap (λ (n : ℕ). first_within n high (can_depart I T p x)) from in (
+        found,
+        λ t after before free. (slots S T x t alike here (asks t (subst (λ (n : ℕ). n ≤ t) (sym from) after) (subst (λ (o : Option ℕ). t ≤ unwrap_or o high) (sym found) before) free)).1,
+      )
 
   departure-alike : (S T : PlanRows) (x : ℕ) (o : Option ℕ) → legs x ≡ true → AreMadeAlike planes legs P Q S T → AreMadeAlike planes legs P Q (with_departure S p x o) (with_departure T p x o)
   departure-alike S T x None here alike = alike
   departure-alike S T x (Some t) here alike = made-set planes legs P Q S T x (Flown (record { 0 = p }) (record { 0 = t })) here (inl own) alike
 
-  placed-alike : (S T : PlanRows) (xs : List ℕ) → All (λ x. flies U p x ≡ true) xs → AreMadeAlike planes legs P Q S T → AreMadeAlike planes legs P Q (fold (after_placing I U p) S xs) (fold (after_placing I V p) T xs)
-  placed-alike S T [] on alike = alike
-  placed-alike S T (x ∷ xs) on alike =
+  placed-alike : (S T : PlanRows) (xs : List ℕ) → All (λ x. flies U p x ≡ true) xs → AreMadeAlike planes legs P Q S T → PlacingsAsk Asks I U p S xs → AreMadeAlike planes legs P Q (fold (after_placing I U p) S xs) (fold (after_placing I V p) T xs) × PlacingsAsk Later I V p T xs
+  placed-alike S T [] on alike asks = (alike, tt)
+  placed-alike S T (x ∷ xs) on alike asks =
       let Own : ℕ → Type 0 = λ y. flies U p y ≡ true in
       let here = All-head Own x xs on in
       let o = first_departure I V T p x in
-      let same : after_placing I U p S x ≡ with_departure S p x o = ap (with_departure S p x) (first-same S T alike x here) in
+      let first = first-same S T alike x here asks.0 in
+      let same : after_placing I U p S x ≡ with_departure S p x o = ap (with_departure S p x) first.0 in
       let next : AreMadeAlike planes legs P Q (with_departure S p x o) (with_departure T p x o) = departure-alike S T x o (own-leg planes legs U V p x start own here) alike in
-      placed-alike (after_placing I U p S x) (after_placing I V p T x) xs (All-tail Own x xs on)
-      (subst (λ (R : PlanRows). AreMadeAlike planes legs P Q R (with_departure T p x o)) (sym same) next)
+      let rest = placed-alike (after_placing I U p S x) (after_placing I V p T x) xs (All-tail Own x xs on)
+      (subst (λ (R : PlanRows). AreMadeAlike planes legs P Q R (with_departure T p x o)) (sym same) next) asks.1 in
+      (rest.0, (first.1, rest.1))
 
   after-same : (after : Option Leg) (x : ℕ) → flies U p x ≡ true → comes_after U after x ≡ comes_after V after x
   after-same None x on = refl
@@ -305,11 +331,13 @@ module _ (planes legs : ℕ → Bool) (I : Situation) (P Q U V : PlanRows) (star
   unfolding pushed_legs
   pushed-flown after = All-filter (λ x. not (fixed I x) && comes_after U after x) (λ x. flies U p x ≡ true) (rotation I U p) pushed-own
 
-  pub push-alike : (after : Option Leg) → AreMadeAlike planes legs P Q U V → AreMadeAlike planes legs P Q (after_push I U p after) (after_push I V p after)
+  pub push-alike : (after : Option Leg) → AreMadeAlike planes legs P Q U V → PlacingsAsk Asks I U p U (pushed_legs I U p after) → AreMadeAlike planes legs P Q (after_push I U p after) (after_push I V p after) × PlacingsAsk Later I V p V (pushed_legs I V p after)
   unfolding after_push
-  push-alike after alike =
-      subst (λ (xs : List ℕ). AreMadeAlike planes legs P Q (fold (after_placing I U p) U (pushed_legs I U p after)) (fold (after_placing I V p) V xs)) (pushed-same after)
-      (placed-alike U V (pushed_legs I U p after) (pushed-flown after) alike)
+  push-alike after alike asks =
+      let placed = placed-alike U V (pushed_legs I U p after) (pushed-flown after) alike asks in (
+        subst (λ (xs : List ℕ). AreMadeAlike planes legs P Q (fold (after_placing I U p) U (pushed_legs I U p after)) (fold (after_placing I V p) V xs)) (pushed-same after) placed.0,
+        subst (λ (xs : List ℕ). PlacingsAsk Later I V p V xs) (pushed-same after) placed.1,
+      )
 
 -- ---- a Swap
 
@@ -398,24 +426,66 @@ set-alike planes legs P Q S T x was new here own alike =
 
 -- ---- all steps
 
-step-alike : (planes legs : ℕ → Bool) (I : Situation) (P Q S T : PlanRows) (step : Step) → HaveSameRoom legs I P Q → is_among planes legs step ≡ true → AreMadeAlike planes legs P Q S T → AreMadeAlike planes legs P Q (after_step I S step) (after_step I T step)
-unfolding after_step
-step-alike planes legs I P Q S T (Set leg was new) room among alike =
-    let parts = and_parts (legs leg.0) (is_of planes new || not (is_flown new)) among in
-    set-alike planes legs P Q S T leg.0 was new parts.0 (set-own planes new parts.1) alike
-step-alike planes legs I P Q S T (Push plane after) room among alike = push-alike planes legs I P Q S T alike.agree room plane.0 among after alike
-step-alike planes legs I P Q S T (Swap first second at) room among alike =
-    let parts = and_parts (planes first.0) (planes second.0) among in
-    swap-alike planes legs P Q S T first.0 second.0 at.0 parts.0 parts.1 alike
-step-alike planes legs I P Q S T (Rebook res path to count) room among alike = absurd cc
-step-alike planes legs I P Q S T Tidy room among alike = absurd cc
-step-alike planes legs I P Q S T (Refill leg) room among alike = absurd cc
+module _ (planes legs : ℕ → Bool) (I : Situation) (P Q : PlanRows) (Asks Later : PlanRows → ℕ → ℕ → Type 0) (slots : KeepSlots planes legs I P Q Asks Later) where
+  step-alike : (S T : PlanRows) (step : Step) → is_among planes legs step ≡ true → AreMadeAlike planes legs P Q S T → StepAsks Asks I S step → AreMadeAlike planes legs P Q (after_step I S step) (after_step I T step) × StepAsks Later I T step
+  unfolding after_step
+  step-alike S T (Set leg was new) among alike asks =
+      let parts = and_parts (legs leg.0) (is_of planes new || not (is_flown new)) among in
+      (set-alike planes legs P Q S T leg.0 was new parts.0 (set-own planes new parts.1) alike, tt)
+  step-alike S T (Push plane after) among alike asks = push-alike planes legs I P Q S T alike.agree Asks Later slots plane.0 among after alike asks
+  step-alike S T (Swap first second at) among alike asks =
+      let parts = and_parts (planes first.0) (planes second.0) among in
+      (swap-alike planes legs P Q S T first.0 second.0 at.0 parts.0 parts.1 alike, tt)
+  step-alike S T (Rebook res path to count) among alike asks = absurd cc
+  step-alike S T Tidy among alike asks = absurd cc
+  step-alike S T (Refill leg) among alike asks = absurd cc
+
+  pub asking-alike : (S T : PlanRows) (steps : List Step) → list_all (is_among planes legs) steps ≡ true → AreMadeAlike planes legs P Q S T → StepsAsk Asks I S steps → AreMadeAlike planes legs P Q (after_steps I S steps) (after_steps I T steps) × StepsAsk Later I T steps
+  asking-alike S T [] among alike asks = (alike, tt)
+  asking-alike S T (step ∷ steps) among alike asks =
+      let parts = and_parts (is_among planes legs step) (list_all (is_among planes legs) steps) among in
+      let first = step-alike S T step parts.0 alike asks.0 in
+      let rest = asking-alike (after_step I S step) (after_step I T step) steps parts.1 first.0 asks.1 in
+      (rest.0, (first.1, rest.1))
+
+-- ---- all steps, where hours have the same room and nothing need be asked
+
+abbrev Nothing : PlanRows → ℕ → ℕ → Type 0
+Nothing S x t = Unit {0}
+
+nothing-placed : (I : Situation) (U : PlanRows) (p : ℕ) (S : PlanRows) (xs : List ℕ) → PlacingsAsk Nothing I U p S xs
+nothing-placed I U p S [] = tt
+nothing-placed I U p S (x ∷ xs) = (λ t from to free. tt, nothing-placed I U p (after_placing I U p S x) xs)
+
+nothing-step : (I : Situation) (S : PlanRows) (step : Step) → StepAsks Nothing I S step
+nothing-step I S (Set leg was new) = tt
+nothing-step I S (Push plane after) = nothing-placed I S plane.0 S (pushed_legs I S plane.0 after)
+nothing-step I S (Swap first second at) = tt
+nothing-step I S (Rebook res path to count) = tt
+nothing-step I S Tidy = tt
+nothing-step I S (Refill leg) = tt
+
+nothing-asked : (I : Situation) (S : PlanRows) (steps : List Step) → StepsAsk Nothing I S steps
+nothing-asked I S [] = tt
+nothing-asked I S (step ∷ steps) = (nothing-step I S step, nothing-asked I (after_step I S step) steps)
+
+room-slots : (planes legs : ℕ → Bool) (I : Situation) (P Q : PlanRows) → HaveSameRoom legs I P Q → KeepSlots planes legs I P Q Nothing Nothing
+unfolding has_slots
+room-slots planes legs I P Q room S T x t alike here asks =
+    let leaves = hour_of t in
+    let lands = hour_of (t + (leg_at I x).block) in
+    let a = (leg_at I x).origin.0 in
+    let b = (leg_at I x).dest.0 in
+    let departs = count-room planes legs P Q S T alike (leaves_by I x a leaves) (legs_of I) (λ y. eqb (leg_at I y).origin.0 a) (dep_cap I a leaves) (leaves-from I x a leaves) (room.departures x leaves here) in
+    let arrives = count-room planes legs P Q S T alike (reaches_by I x b lands) (legs_of I) (λ y. eqb (leg_at I y).dest.0 b) (arr_cap I b lands) (reaches-to I x b lands) (room.arrivals x lands here) in (
+      ap (λ (k : Bool). k && is_below (arrivals_beside I S x b lands) (arr_cap I b lands)) departs
+          ∙ ap (λ (k : Bool). is_below (departures_beside I T x a leaves) (dep_cap I a leaves) && k) arrives,
+      tt,
+    )
 
 pub steps-alike : (planes legs : ℕ → Bool) (I : Situation) (P Q S T : PlanRows) (steps : List Step) → HaveSameRoom legs I P Q → list_all (is_among planes legs) steps ≡ true → AreMadeAlike planes legs P Q S T → AreMadeAlike planes legs P Q (after_steps I S steps) (after_steps I T steps)
-steps-alike planes legs I P Q S T [] room among alike = alike
-steps-alike planes legs I P Q S T (step ∷ steps) room among alike =
-    let parts = and_parts (is_among planes legs step) (list_all (is_among planes legs) steps) among in
-    steps-alike planes legs I P Q (after_step I S step) (after_step I T step) steps room parts.1 (step-alike planes legs I P Q S T step room parts.0 alike)
+steps-alike planes legs I P Q S T steps room among alike =
+    (asking-alike planes legs I P Q Nothing Nothing (room-slots planes legs I P Q room) S T steps among alike (nothing-asked I S steps)).0
 
 -- the plans themselves are alike at the start
 pub start-alike : (planes legs : ℕ → Bool) (P Q : PlanRows) → AgreeOn planes legs P Q → AreMadeAlike planes legs P Q P Q

@@ -5,4 +5,5 @@ pub mod MoveLaws
 pub mod FrameLaws
 pub mod SplitLaws
 pub mod OwnLaws
+pub mod AskedLaws
 pub mod OutLaws

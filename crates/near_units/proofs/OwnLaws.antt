@@ -1,18 +1,15 @@
 -- A rule of a leg of its own aircraft that a move breaks at a plan is broken at each plan that agrees on them.
-use Rattle.std.proofs.Common.{◌≡◌, ℕ, ◌<◌, ◌⊎◌, inl, inr, Bool, true, false, ◌&&◌, List, [], ◌∷◌, ◌++◌, length, get_or, refl, sym, ap, subst, ◌∙◌}
-use Rattle.std.specs.Prelude.{None}
+use Rattle.std.proofs.Common.{◌≡◌, ℕ, Bool, true, false, List, [], ◌∷◌, length, get_or, refl, sym, ap, subst, ◌∙◌}
 use Rattle.std.specs.List.{list_all}
-use Rattle.std.proofs.lemmas.Bool.{true≢false, and_parts, and_cases, and_from, eq-eqb}
+use Rattle.std.proofs.lemmas.Bool.{true≢false, and_parts, eq-eqb}
 use Rattle.desk_data.specs.declared.row.Row.{Row}
 use Rattle.desk_data.specs.declared.row.Row.TheVariants.{Flown, Cancelled}
-use Rattle.desk_data.specs.Situation.{Situation, legs_of}
+use Rattle.desk_data.specs.Situation.{Situation}
 use Rattle.desk_data.specs.PlanRows.{PlanRows, row_at}
 use Rattle.plan_moves.specs.declared.moves.Move.{Move}
 use Rattle.plan_moves.specs.declared.moves.Step.{Step}
 use Rattle.plan_moves.specs.declared.moves.Step.TheVariants.{Set, Push, Swap, Rebook, Tidy, Refill}
 use Rattle.desk_rules.specs.Maintenance.{is_flown_by, flies}
-use Rattle.desk_rules.specs.Rules.{keeps_c2, keeps_c4, keeps_c5, keeps_c6, keeps_c7}
-use Rattle.desk_rules.specs.Least.{least}
 use Rattle.desk_rules.proofs.LeastLaws.{feasible-holds}
 use Rattle.desk_rules.proofs.RotationLaws.{keeps_c5-from, keeps_c6-from}
 use Rattle.desk_rules.proofs.LegLaws.{keeps_c2-from, keeps_c4-from, keeps_c7-from}
@@ -23,10 +20,9 @@ use Rattle.near_chains.proofs.KeptLaws.{steps-append, broken-worse}
 use Rattle.near_trial.specs.RowRules.{keeps_rows}
 use Rattle.near_trial.proofs.RowLaws.{steps-rows}
 use Rattle.near_units.specs.Same.{FliesSame, is_of, IsOwn, AgreeOn}
-use Rattle.near_units.specs.Steps.{is_among, is_tidying, IsSplit}
-use Rattle.near_units.specs.Room.{HaveSameRoom, AreMadeAlike}
+use Rattle.near_units.specs.Steps.{is_tidying, IsSplit}
+use Rattle.near_units.specs.Room.{HaveSameRoom}
 use Rattle.near_units.specs.Own.{keeps_own_rules, BreaksOwn}
-use Rattle.near_units.proofs.PlaneLaws.{flies-same}
 use Rattle.near_units.proofs.RuleLaws.{c2-same, c4-same, c5-same, c6-same, c7-same}
 use Rattle.near_units.proofs.FrameLaws.{agree-flies, own-leg, steps-alike, start-alike}
 
@@ -73,17 +69,16 @@ made-rows planes legs refilled I P m split =
     ∙ ap (λ (R : PlanRows). R.rows) (steps-append I P split.first split.others)
     ∙ steps-rows I (after_steps I P split.first) split.others (tidying-keeps refilled split.others split.tidying)
 
-pub move-agree : (planes legs refilled : ℕ → Bool) (I : Situation) (P Q : PlanRows) (m : Move) → AgreeOn planes legs P Q → HaveSameRoom legs I P Q → IsSplit planes legs refilled m → AgreeOn planes legs (after_move I P m) (after_move I Q m)
-move-agree planes legs refilled I P Q m agree room split =
+-- plans agree after a move that agree after its first steps
+pub move-agree : (planes legs refilled : ℕ → Bool) (I : Situation) (P Q : PlanRows) (m : Move) (split : IsSplit planes legs refilled m) → AgreeOn planes legs (after_steps I P split.first) (after_steps I Q split.first) → AgreeOn planes legs (after_move I P m) (after_move I Q m)
+move-agree planes legs refilled I P Q m split agree =
     agree-rows planes legs (after_move I P m) (after_move I Q m) (after_steps I P split.first) (after_steps I Q split.first)
-    (made-rows planes legs refilled I P m split) (made-rows planes legs refilled I Q m split)
-    (steps-alike planes legs I P Q P Q split.first room split.among (start-alike planes legs P Q agree)).agree
+    (made-rows planes legs refilled I P m split) (made-rows planes legs refilled I Q m split) agree
 
-pub breaks-stays : (planes legs refilled : ℕ → Bool) (I : Situation) (P Q : PlanRows) (m : Move) → AgreeOn planes legs P Q → HaveSameRoom legs I P Q → IsSplit planes legs refilled m → BreaksOwn planes I P m → BreaksOwn planes I Q m
-breaks-stays planes legs refilled I P Q m agree room split breaks =
+pub breaks-again : (planes legs : ℕ → Bool) (I : Situation) (P Q : PlanRows) (m : Move) → AgreeOn planes legs (after_move I P m) (after_move I Q m) → BreaksOwn planes I P m → BreaksOwn planes I Q m
+breaks-again planes legs I P Q m made breaks =
     let F = after_move I P m in
     let G = after_move I Q m in
-    let made = move-agree planes legs refilled I P Q m agree room split in
     let x = breaks.leg in
     let p = flier (row_at F x) in
     let by = own-flier planes (row_at F x) breaks.own in
@@ -95,6 +90,11 @@ breaks-stays planes legs refilled I P Q m agree room split breaks =
       own = ap (is_of planes) (sym (made.same x here)) ∙ breaks.own;
       broken = sym (rules-same I F G p x same by.1) ∙ breaks.broken;
     }
+
+pub breaks-stays : (planes legs refilled : ℕ → Bool) (I : Situation) (P Q : PlanRows) (m : Move) → AgreeOn planes legs P Q → HaveSameRoom legs I P Q → IsSplit planes legs refilled m → BreaksOwn planes I P m → BreaksOwn planes I Q m
+breaks-stays planes legs refilled I P Q m agree room split =
+    breaks-again planes legs I P Q m
+    (move-agree planes legs refilled I P Q m split (steps-alike planes legs I P Q P Q split.first room split.among (start-alike planes legs P Q agree)).agree)
 
 -- and the move is not better
 pub breaks-worse : (planes : ℕ → Bool) (I : Situation) (P : PlanRows) (m : Move) → BreaksOwn planes I P m → is_better I P m ≡ false

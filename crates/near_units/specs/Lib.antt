@@ -1,5 +1,6 @@
 pub mod Same
 pub mod Steps
 pub mod Room
+pub mod Asked
 pub mod Own
 pub mod Out

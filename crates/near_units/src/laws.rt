@@ -17,6 +17,7 @@ ghost use Rattle.near_chains.specs.Chains.{IsHandedInVain, IsRestoredInVain, IsS
 ghost use Rattle.near_units.specs.Same.{AgreeOn, FliesSame, FlyUnitSame};
 ghost use Rattle.near_units.specs.Steps.{BeginsFlown, IsSplit, is_among, unit_legs, unit_planes, unit_refills};
 ghost use Rattle.near_units.specs.Room.{AreMadeAlike, HaveSameRoom};
+ghost use Rattle.near_units.specs.Asked.{AnswerAlike, AskMore, AskWithin, MoveAsksWithin, NoneFlips, Questions};
 ghost use Rattle.near_units.specs.Own.{BreaksOwn};
 ghost use Rattle.near_units.specs.Out.{IsOut};
 
@@ -62,6 +63,34 @@ pub fn steps_of_aircraft_on_which_plans_agree_make_the_same_of_them()
 pub fn a_move_that_breaks_a_rule_of_its_own_legs_does_so_again()
     ensures again { (planes legs refilled : ℕ → Bool) (I : Situation) (P Q : PlanRows) (m : Move) → AgreeOn planes legs P Q → HaveSameRoom legs I P Q → IsSplit planes legs refilled m → BreaksOwn planes I P m → BreaksOwn planes I Q m }
     ensures worse { (planes : ℕ → Bool) (I : Situation) (P : PlanRows) (m : Move) → BreaksOwn planes I P m → is_better I P m ≡ false }
+{}
+
+/// Steps that change rows of some legs and aircraft alone make the same rows of these legs in two plans that agree on
+/// them, if what the steps ask of hours is within some questions, each of which has the same answer in both plans. And from
+/// the second plan they ask within the same questions again: so what is known of them goes on from plan to plan.
+pub fn steps_that_ask_what_has_the_same_answer_make_the_same()
+    ensures rows { (planes legs : ℕ → Bool) (asked : Questions) (I : Situation) (P Q S T : PlanRows) (steps : Items Step) → AgreeOn planes legs P Q → AnswerAlike asked I P Q → list_all (is_among planes legs) steps ≡ true → AreMadeAlike planes legs P Q S T → AskWithin asked I P S steps → AreMadeAlike planes legs P Q (after_steps I S steps) (after_steps I T steps) }
+    ensures asks { (planes legs : ℕ → Bool) (asked : Questions) (I : Situation) (P Q S T : PlanRows) (steps : Items Step) → AgreeOn planes legs P Q → AnswerAlike asked I P Q → list_all (is_among planes legs) steps ≡ true → AreMadeAlike planes legs P Q S T → AskWithin asked I P S steps → AskWithin asked I Q T steps }
+{}
+
+/// Where a move breaks C2 or one of C4 to C7 of a leg of its own aircraft, it does so at each plan that agrees on its
+/// legs and aircraft, if what it asks of hours has the same answer there. Each such move asks within the same questions
+/// there, whether it breaks a rule or not.
+pub fn a_move_that_asks_what_has_the_same_answer_breaks_its_rule_again()
+    ensures again { (planes legs refilled : ℕ → Bool) (asked : Questions) (I : Situation) (P Q : PlanRows) (m : Move) → AgreeOn planes legs P Q → AnswerAlike asked I P Q → IsSplit planes legs refilled m → MoveAsksWithin asked I P m → BreaksOwn planes I P m → BreaksOwn planes I Q m }
+    ensures asks { (planes legs refilled : ℕ → Bool) (asked : Questions) (I : Situation) (P Q : PlanRows) (m : Move) → AgreeOn planes legs P Q → AnswerAlike asked I P Q → IsSplit planes legs refilled m → MoveAsksWithin asked I P m → MoveAsksWithin asked I Q m }
+{}
+
+/// What asks within some questions asks within more: so the questions of all moves of a unit may be kept as one, and more
+/// than they are.
+pub fn what_asks_within_some_questions_asks_within_more()
+    ensures { (asked more : Questions) (I : Situation) (P S : PlanRows) (steps : Items Step) → AskMore asked more → AskWithin asked I P S steps → AskWithin more I P S steps }
+{}
+
+/// A question has the same answer in two plans unless its limit is above the lesser of the hour's two counts, and not above
+/// the greater: where the count stays, no answer flips.
+pub fn questions_that_do_not_flip_have_the_same_answer()
+    ensures { (asked : Questions) (I : Situation) (P Q : PlanRows) → NoneFlips asked I P Q → AnswerAlike asked I P Q }
 {}
 
 /// Where it is known of each move of a unit of legs why it is not better, none is: it makes the plan no cheaper, it breaks

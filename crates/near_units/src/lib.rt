@@ -3,8 +3,9 @@
 //! Of the moves near a plan most are not better, and an accepted move touches a few aircraft. So the moves of a unit, which
 //! retime a leg, exchange, drop, restore or hand on legs of one or two aircraft, are the same moves in the next plan, and
 //! what their first steps make of those legs is the same, if these aircraft fly the same legs with the same rows, and the
-//! hours of their airports have the same room. Then a leg that broke a rule of its aircraft breaks it again, and legs that
-//! were given to an aircraft in vain are given in vain.
+//! hours of their airports have the same room. Less is enough: that what the steps ask of these hours has the same answer.
+//! Then a leg that broke a rule of its aircraft breaks it again, and legs that were given to an aircraft in vain are given
+//! in vain.
 //! Of a move of a unit it is known why it is not better: it makes the plan no cheaper, it breaks such a rule, or it gives
 //! legs in vain.
 //!
@@ -15,9 +16,12 @@ mod laws;
 
 pub use laws::{
     a_leg_that_is_restored_in_vain_stays_so, a_move_begins_with_steps_of_its_own_legs,
+    a_move_that_asks_what_has_the_same_answer_breaks_its_rule_again,
     a_move_that_breaks_a_rule_of_its_own_legs_does_so_again,
     a_run_that_is_handed_on_in_vain_stays_so, a_unit_that_is_out_has_no_better_move,
     a_unit_whose_aircraft_fly_the_same_has_the_same_moves,
-    aircraft_that_exchange_legs_in_vain_stay_so,
+    aircraft_that_exchange_legs_in_vain_stay_so, questions_that_do_not_flip_have_the_same_answer,
     steps_of_aircraft_on_which_plans_agree_make_the_same_of_them,
+    steps_that_ask_what_has_the_same_answer_make_the_same,
+    what_asks_within_some_questions_asks_within_more,
 };
