@@ -1,7 +1,7 @@
 -- A move that was no cheaper at a plan is no cheaper at a later one, where what it hangs on is the same.
-use Rattle.std.proofs.Common.{◌≡◌, ℕ, ◌+◌, ◌<◌, ◌≤◌, min, inl, inr, Bool, true, false, ◌&&◌, cond, eqb, leb, List, [], ◌∷◌, ◌++◌, length, get_or, refl, sym, ap, subst, ◌∙◌, arith}
+use Rattle.std.proofs.Common.{◌≡◌, ℕ, ◌+◌, ◌<◌, min, inl, inr, Bool, true, false, ◌&&◌, eqb, leb, List, [], ◌∷◌, ◌++◌, length, get_or, refl, sym, ap, subst, ◌∙◌, arith}
 use Rattle.std.specs.Prelude.{None, fold, sum_by}
-use Rattle.std.specs.List.{All, Contains, list_all, list_any}
+use Rattle.std.specs.List.{All, list_all, list_any}
 use Rattle.std.proofs.Math.Path.{fun_ext}
 use Rattle.std.proofs.lemmas.Bool.{true≢false, cases_Bool, cases_eq, eqb-true, and_parts}
 use Rattle.std.proofs.lemmas.List.{length-set}
@@ -11,7 +11,6 @@ use Rattle.desk_units.specs.declared.numbers.Cabin.{Cabin}
 use Rattle.desk_data.specs.declared.row.Row.{Row}
 use Rattle.desk_data.specs.declared.row.Group.{Group}
 use Rattle.desk_data.specs.Booked.{booked_path}
-use Rattle.desk_data.specs.Paths.{is_carried}
 use Rattle.desk_data.specs.Situation.{Situation, reservations_of, bound}
 use Rattle.desk_data.specs.PlanRows.{PlanRows, row_at, groups_at, with_groups}
 use Rattle.desk_data.specs.Valid.{IsPlanFor, IsValid}
@@ -20,13 +19,13 @@ use Rattle.plan_moves.specs.declared.moves.Step.{Step}
 use Rattle.plan_moves.specs.declared.moves.Step.TheVariants.{Set, Push, Swap, Rebook, Tidy, Refill}
 use Rattle.desk_rules.specs.Numbers.{numbers}
 use Rattle.desk_rules.specs.Least.{least}
-use Rattle.desk_rules.specs.Cost.{cost, operating_cost, position_cost}
+use Rattle.desk_rules.specs.Cost.{cost}
 use Rattle.desk_rules.specs.Passengers.{aboard, aboard_of}
 use Rattle.desk_rules.specs.Words.{IsFeasible}
 use Rattle.desk_rules.proofs.LeastLaws.{feasible-holds}
 use Rattle.desk_model.specs.Choices.{greatest_within}
 use Rattle.desk_model.specs.Rebook.{count_on, groups_after_rebook, after_rebook}
-use Rattle.desk_model.specs.Tidy.{is_fit_path, groups_after_tidy, after_tidy}
+use Rattle.desk_model.specs.Tidy.{is_fit_path, after_tidy}
 use Rattle.desk_model.specs.Refill.{seats_of, has_seats_for, has_leg, may_refill, refill_count, is_refilled, after_refilling, after_refill}
 use Rattle.desk_model.specs.Steps.{after_step, after_steps, after_move}
 use Rattle.desk_model.proofs.GroupPlans.{with_groups-same, with_groups-other}
@@ -43,9 +42,11 @@ use Rattle.near_alone.proofs.AloneLaws.{tidy-same, flying-same, positions-same}
 use Rattle.near_units.specs.Same.{AgreeOn}
 use Rattle.near_units.specs.Steps.{is_among, is_tidying}
 use Rattle.near_units.specs.Room.{HaveSameRoom, AreMadeAlike}
+use Rattle.near_units.specs.Asked.{Questions, AnswerAlike, StepsAskWithin}
 use Rattle.near_units.proofs.FrameLaws.{steps-alike, start-alike}
+use Rattle.near_units.proofs.AskedLaws.{steps-asked}
 use Rattle.near_units.proofs.OwnLaws.{agree-rows}
-use Rattle.near_dearer.specs.Dearer.{IsSameReservation, IsOffLegs, is_booked_on, HasSameSeats, HaveSamePassengers, HaveSamePositions}
+use Rattle.near_dearer.specs.Dearer.{IsOffLegs, is_booked_on, HaveSamePassengers, HaveSamePositions}
 use Rattle.near_dearer.proofs.SameLaws.{sum-balance, two-balance, flying-balance, positions-balance, fit-same, tidied-same, tidied-rows}
 
 -- a plan with the groups of another one
@@ -322,16 +323,27 @@ module _ (planes legs refilled touched : ℕ → Bool) (I : Situation) (P Q : Pl
           positions-same I G (with_passengers G Q) refl,
         )
 
-    move-balance : (m : Move) (first others : List Step) → HaveSameRoom legs I P Q → HaveSamePositions planes I P Q → m.steps ≡ first ++ others → list_all (is_among planes legs) first ≡ true → list_all (is_tidying refilled) others ≡ true → IsPlanFor I (after_steps I P first) → IsPlanFor I (after_steps I Q first) → cost I (after_move I P m) + cost I Q ≡ cost I (after_move I Q m) + cost I P
+    -- a move that makes both plans alike
+    move-balance : (m : Move) (first others : List Step) → AreMadeAlike planes legs P Q (after_steps I P first) (after_steps I Q first) → HaveSamePositions planes I P Q → m.steps ≡ first ++ others → list_all (is_tidying refilled) others ≡ true → IsPlanFor I (after_steps I P first) → IsPlanFor I (after_steps I Q first) → cost I (after_move I P m) + cost I Q ≡ cost I (after_move I Q m) + cost I P
     unfolding after_move
-    move-balance m first others room positions steps among tidying is later =
-        let alike = steps-alike planes legs I P Q P Q first room among (start-alike planes legs P Q start) in
+    move-balance m first others alike positions steps tidying is later =
         let one : after_steps I P m.steps ≡ after_steps I (after_steps I P first) others = ap (after_steps I P) steps ∙ steps-append I P first others in
         let two : after_steps I Q m.steps ≡ after_steps I (after_steps I Q first) others = ap (after_steps I Q) steps ∙ steps-append I Q first others in
         ap (λ (R : PlanRows). cost I R + cost I Q) one
         ∙ made-balance (after_steps I P first) (after_steps I Q first) others positions tidying is later alike
         ∙ sym (ap (λ (R : PlanRows). cost I R + cost I P) two)
 
+-- the steps that change rows make both plans alike: so the move changes both costs by as much
+pub made-stays : (planes legs refilled touched : ℕ → Bool) (I : Situation) (P Q : PlanRows) (m : Move) (first others : List Step) → IsValid I → IsPlanFor I P → IsPlanFor I Q → least I P ≡ None → least I Q ≡ None → AgreeOn planes legs P Q → AreMadeAlike planes legs P Q (after_steps I P first) (after_steps I Q first) → HaveSamePassengers legs refilled touched I P Q → HaveSamePositions planes I P Q → m.steps ≡ first ++ others → list_all (is_tidying refilled) others ≡ true → IsPlanFor I (after_steps I P first) → IsPlanFor I (after_steps I Q first) → cost I (after_move I P m) + cost I Q ≡ cost I (after_move I Q m) + cost I P
+made-stays planes legs refilled touched I P Q m first others valid plan later feasible feasible_later start alike passengers positions steps tidying is is_later =
+    move-balance planes legs refilled touched I P Q start passengers valid plan later (feasible-holds I P feasible) (feasible-holds I Q feasible_later) m first others alike positions steps tidying is is_later
+
 pub dearer-stays : (planes legs refilled touched : ℕ → Bool) (I : Situation) (P Q : PlanRows) (m : Move) (first others : List Step) → IsValid I → IsPlanFor I P → IsPlanFor I Q → least I P ≡ None → least I Q ≡ None → AgreeOn planes legs P Q → HaveSameRoom legs I P Q → HaveSamePassengers legs refilled touched I P Q → HaveSamePositions planes I P Q → m.steps ≡ first ++ others → list_all (is_among planes legs) first ≡ true → list_all (is_tidying refilled) others ≡ true → IsPlanFor I (after_steps I P first) → IsPlanFor I (after_steps I Q first) → cost I (after_move I P m) + cost I Q ≡ cost I (after_move I Q m) + cost I P
 dearer-stays planes legs refilled touched I P Q m first others valid plan later feasible feasible_later start room passengers positions steps among tidying is is_later =
-    move-balance planes legs refilled touched I P Q start passengers valid plan later (feasible-holds I P feasible) (feasible-holds I Q feasible_later) m first others room positions steps among tidying is is_later
+    made-stays planes legs refilled touched I P Q m first others valid plan later feasible feasible_later start
+    (steps-alike planes legs I P Q P Q first room among (start-alike planes legs P Q start)) passengers positions steps tidying is is_later
+
+pub dearer-asked : (planes legs refilled touched : ℕ → Bool) (asked : Questions) (I : Situation) (P Q : PlanRows) (m : Move) (first others : List Step) → IsValid I → IsPlanFor I P → IsPlanFor I Q → least I P ≡ None → least I Q ≡ None → AgreeOn planes legs P Q → AnswerAlike asked I P Q → StepsAskWithin asked I P P first → HaveSamePassengers legs refilled touched I P Q → HaveSamePositions planes I P Q → m.steps ≡ first ++ others → list_all (is_among planes legs) first ≡ true → list_all (is_tidying refilled) others ≡ true → IsPlanFor I (after_steps I P first) → IsPlanFor I (after_steps I Q first) → cost I (after_move I P m) + cost I Q ≡ cost I (after_move I Q m) + cost I P
+dearer-asked planes legs refilled touched asked I P Q m first others valid plan later feasible feasible_later start answers asks passengers positions steps among tidying is is_later =
+    made-stays planes legs refilled touched I P Q m first others valid plan later feasible feasible_later start
+    (steps-asked planes legs asked I P Q start answers P Q first among (start-alike planes legs P Q start) asks).0 passengers positions steps tidying is is_later

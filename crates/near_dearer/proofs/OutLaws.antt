@@ -1,11 +1,10 @@
 -- A unit of legs that is untouched stays out.
-use Rattle.std.proofs.Common.{◌≡◌, ℕ, ◌+◌, ◌≤◌, inl, inr, Bool, true, false, ◌||◌, eqb, List, [], ◌∷◌, ◌++◌, length, get_or, refl, sym, ap, subst, ◌∙◌, arith}
+use Rattle.std.proofs.Common.{◌≡◌, ℕ, ◌≤◌, Bool, true, ◌||◌, eqb, List, [], ◌∷◌, ◌++◌, refl, sym, ap, subst, ◌∙◌, arith}
 use Rattle.std.specs.Prelude.{None}
 use Rattle.std.specs.List.{All, Contains, AllByRecursion}
 use Rattle.std.proofs.lemmas.Bool.{eq-eqb, or_left, or_right}
 use Rattle.std.proofs.lemmas.List.Elements.{All-contains, recursion_from_All}
 use Rattle.desk_data.specs.declared.row.Row.{Row}
-use Rattle.desk_data.specs.declared.row.Row.TheVariants.{Cancelled}
 use Rattle.desk_data.specs.Situation.{Situation}
 use Rattle.desk_data.specs.PlanRows.{PlanRows, row_at}
 use Rattle.desk_data.specs.Valid.{IsPlanFor, IsValid}
@@ -24,16 +23,19 @@ use Rattle.near_moves.proofs.ListLaws.{All_from_contains}
 use Rattle.near_chains.specs.Chains.{IsHandedInVain}
 use Rattle.near_units.specs.Same.{FliesSame, is_of, FlyUnitSame, AgreeOn}
 use Rattle.near_units.specs.Steps.{IsSplit, unit_planes, unit_restores, unit_legs, unit_refills, BeginsFlown}
+use Rattle.near_units.specs.Room.{AreMadeAlike}
+use Rattle.near_units.specs.Asked.{Questions, AnswerAlike}
 use Rattle.near_units.specs.Own.{BreaksOwn}
-use Rattle.near_units.specs.Out.{SwapsInVain, RestoresInVain, HandsInVain, IsOut, dear, breaks, swaps, restores, hands}
+use Rattle.near_units.specs.Out.{SwapsInVain, RestoresInVain, HandsInVain, IsOut, dear, breaks, swaps, restores, hands, HangsOnlyOn, asks_within, swaps_whatever, restores_whatever, hands_whatever}
 use Rattle.near_units.proofs.PlaneLaws.{row-same}
-use Rattle.near_units.proofs.FrameLaws.{agree-flies}
+use Rattle.near_units.proofs.FrameLaws.{agree-flies, steps-alike, start-alike}
 use Rattle.near_units.proofs.MoveLaws.{moves-same, flier-flies}
 use Rattle.near_units.proofs.VainLaws.{handed-stays, swapped-stays, restored-stays}
 use Rattle.near_units.proofs.SplitLaws.{moves-split}
-use Rattle.near_units.proofs.OwnLaws.{breaks-stays}
-use Rattle.near_dearer.specs.Untouched.{HasSameBacks, IsUntouchedUnit}
-use Rattle.near_dearer.proofs.DearerLaws.{dearer-stays}
+use Rattle.near_units.proofs.OwnLaws.{move-agree, breaks-again}
+use Rattle.near_units.proofs.AskedLaws.{split-alike, move-asks}
+use Rattle.near_dearer.specs.Untouched.{HasSameBacks, IsUntouchedUnit, IsUnchangedUnit}
+use Rattle.near_dearer.proofs.DearerLaws.{made-stays}
 
 -- ---- the aircraft of an untouched unit
 
@@ -91,7 +93,7 @@ first-valid I P m first others valid fits steps plan =
 
 -- ---- one move
 
-module _ (I : Situation) (P Q : PlanRows) (u : MoveUnit) (valid : IsValid I) (plan : IsPlanFor I P) (later : IsPlanFor I Q) (feasible : least I P ≡ None) (feasible_later : least I Q ≡ None) (on : BeginsFlown P u) (still : IsUntouchedUnit I P Q u) where
+module _ (I : Situation) (P Q : PlanRows) (u : MoveUnit) (valid : IsValid I) (plan : IsPlanFor I P) (later : IsPlanFor I Q) (feasible : least I P ≡ None) (feasible_later : least I Q ≡ None) (on : BeginsFlown P u) (still : IsUnchangedUnit I P Q u) where
   abbrev planes : ℕ → Bool
   planes = unit_planes P u
 
@@ -114,26 +116,10 @@ module _ (I : Situation) (P Q : PlanRows) (u : MoveUnit) (valid : IsValid I) (pl
       ∙ ap (λ (b : Bool). is_of (unit_planes Q u) (row_at Q x) || b) (restores-same I P Q u still.backs x))
       ∙ own
 
-  dear-stays : (m : Move) → Fits I m → IsSplit planes legs (unit_refills I P u) m → cost I P ≤ cost I (after_move I P m) → cost I Q ≤ cost I (after_move I Q m)
-  dear-stays m fits split less =
-      let balance = dearer-stays planes legs (unit_refills I P u) still.touched I P Q m split.first split.others valid plan later feasible feasible_later still.agree still.room still.passengers still.positions split.steps split.among split.tidying
-      (first-valid I P m split.first split.others valid fits split.steps plan) (first-valid I Q m split.first split.others valid fits split.steps later) in
-      omega (arith, balance, less)
+  -- ---- in vain
 
-  hands-stays : (h : HandsInVain I P u) → HandsInVain I Q u
-  hands-stays h =
-      let vain : IsHandedInVain I P h.leg h.count h.plane = h.vain in
-      let p = vain.plane in
-      let by : flier (row_at P h.leg) ≡ p = ap flier vain.flown in
-      let own : planes p ≡ true = subst (λ (v : MoveUnit). unit_planes P v p ≡ true) (sym h.is) (or_left (eqb p (flier (row_at P h.leg))) (eqb p h.plane) (eq-eqb p (flier (row_at P h.leg)) (sym by))) in
-      let other : planes h.plane ≡ true = subst (λ (v : MoveUnit). unit_planes P v h.plane ≡ true) (sym h.is) (or_right (eqb h.plane (flier (row_at P h.leg))) (eqb h.plane h.plane) (itself h.plane)) in
-      record { leg = h.leg; count = h.count; plane = h.plane; is = h.is; vain = handed-stays I P Q h.leg h.count h.plane vain feasible_later (flies p own) (flies h.plane other) }
-
-  out-stays : (m : Move) → Fits I m → Contains (unit_moves I P u) m → IsOut I P u m → IsOut I Q u m
-  out-stays m fits has (dear less) = dear (dear-stays m fits (moves-split I P u m on has) less)
-  out-stays m fits has (breaks h) =
-      breaks (subst (λ (test : ℕ → Bool). BreaksOwn test I Q m) (planes-same I P Q u unit-same) (breaks-stays planes legs (unit_refills I P u) I P Q m still.agree still.room (moves-split I P u m on has) h))
-  out-stays m fits has (swaps h) = swaps (record {
+  swaps-stay : (m : Move) → SwapsInVain I P u m → SwapsInVain I Q u m
+  swaps-stay m h = record {
     first = h.first;
     second = h.second;
     at = h.at;
@@ -143,8 +129,10 @@ module _ (I : Situation) (P Q : PlanRows) (u : MoveUnit) (valid : IsValid I) (pl
     own = own-later h.first h.own;
     other_own = own-later h.second h.other_own;
     vain = swapped-stays I P Q h.first h.second h.at h.vain feasible_later (flies h.first h.own) (flies h.second h.other_own);
-  })
-  out-stays m fits has (restores h) = restores (record {
+  }
+
+  restores-stay : (m : Move) → RestoresInVain I P u m → RestoresInVain I Q u m
+  restores-stay m h = record {
     leg = h.leg;
     plane = h.plane;
     at = h.at;
@@ -154,14 +142,85 @@ module _ (I : Situation) (P Q : PlanRows) (u : MoveUnit) (valid : IsValid I) (pl
     own = own-later h.plane h.own;
     own_leg = own-leg-later h.leg h.own_leg;
     vain = restored-stays I P Q h.leg h.plane h.vain later feasible_later (sym (still.agree.same h.leg h.own_leg) ∙ h.vain.cancelled) (flies h.plane h.own);
-  })
-  out-stays m fits has (hands h) = hands (hands-stays h)
+  }
 
-  untouched-out : All (Fits I) (unit_moves I P u) → All (IsOut I P u) (unit_moves I P u) → All (IsOut I Q u) (unit_moves I Q u)
-  untouched-out fits out =
-      subst (All (IsOut I Q u)) (moves-same I P Q u unit-same)
-      (All_from_contains (IsOut I Q u) (unit_moves I P u)
-      (λ m has. out-stays m (All-contains (Fits I) (unit_moves I P u) m fits has) has (All-contains (IsOut I P u) (unit_moves I P u) m out has)))
+  hands-stay : HandsInVain I P u → HandsInVain I Q u
+  hands-stay h =
+      let vain : IsHandedInVain I P h.leg h.count h.plane = h.vain in
+      let p = vain.plane in
+      let by : flier (row_at P h.leg) ≡ p = ap flier vain.flown in
+      let own : planes p ≡ true = subst (λ (v : MoveUnit). unit_planes P v p ≡ true) (sym h.is) (or_left (eqb p (flier (row_at P h.leg))) (eqb p h.plane) (eq-eqb p (flier (row_at P h.leg)) (sym by))) in
+      let other : planes h.plane ≡ true = subst (λ (v : MoveUnit). unit_planes P v h.plane ≡ true) (sym h.is) (or_right (eqb h.plane (flier (row_at P h.leg))) (eqb h.plane h.plane) (itself h.plane)) in
+      record { leg = h.leg; count = h.count; plane = h.plane; is = h.is; vain = handed-stays I P Q h.leg h.count h.plane vain feasible_later (flies p own) (flies h.plane other) }
+
+  -- ---- where the first steps of a move make both plans alike
+
+  dear-stays : (m : Move) → Fits I m → (split : IsSplit planes legs (unit_refills I P u) m) → AreMadeAlike planes legs P Q (after_steps I P split.first) (after_steps I Q split.first) → cost I P ≤ cost I (after_move I P m) → cost I Q ≤ cost I (after_move I Q m)
+  dear-stays m fits split alike less =
+      let balance = made-stays planes legs (unit_refills I P u) still.touched I P Q m split.first split.others valid plan later feasible feasible_later still.agree alike still.passengers still.positions split.steps split.tidying
+      (first-valid I P m split.first split.others valid fits split.steps plan) (first-valid I Q m split.first split.others valid fits split.steps later) in
+      omega (arith, balance, less)
+
+  rule-stays : (m : Move) (split : IsSplit planes legs (unit_refills I P u) m) → AreMadeAlike planes legs P Q (after_steps I P split.first) (after_steps I Q split.first) → BreaksOwn planes I P m → BreaksOwn (unit_planes Q u) I Q m
+  rule-stays m split alike h =
+      subst (λ (test : ℕ → Bool). BreaksOwn test I Q m) (planes-same I P Q u unit-same)
+      (breaks-again planes legs I P Q m (move-agree planes legs (unit_refills I P u) I P Q m split alike.agree) h)
+
+  out-stays : (m : Move) → Fits I m → (split : IsSplit planes legs (unit_refills I P u) m) → AreMadeAlike planes legs P Q (after_steps I P split.first) (after_steps I Q split.first) → IsOut I P u m → IsOut I Q u m
+  out-stays m fits split alike (dear less) = dear (dear-stays m fits split alike less)
+  out-stays m fits split alike (breaks h) = breaks (rule-stays m split alike h)
+  out-stays m fits split alike (swaps h) = swaps (swaps-stay m h)
+  out-stays m fits split alike (restores h) = restores (restores-stay m h)
+  out-stays m fits split alike (hands h) = hands (hands-stay h)
+
+  -- ---- where each question that is asked has the same answer
+
+  module _ (asked : Questions) (answers : AnswerAlike asked I P Q) where
+    asked-stays : (m : Move) → Fits I m → Contains (unit_moves I P u) m → IsOut I P u m → HangsOnlyOn asked I P u m → IsOut I Q u m × HangsOnlyOn asked I Q u m
+    asked-stays m fits has out (asks_within asks) =
+        let split = moves-split I P u m on has in
+        let alike = split-alike planes legs (unit_refills I P u) asked I P Q m still.agree answers split asks in
+        (out-stays m fits split alike out, asks_within (move-asks planes legs (unit_refills I P u) asked I P Q m still.agree answers split asks))
+    asked-stays m fits has out (swaps_whatever h) =
+        let vain = swaps-stay m h in
+        (swaps vain, swaps_whatever vain)
+    asked-stays m fits has out (restores_whatever h) =
+        let vain = restores-stay m h in
+        (restores vain, restores_whatever vain)
+    asked-stays m fits has out (hands_whatever h) =
+        let vain = hands-stay h in
+        (hands vain, hands_whatever vain)
+
+  -- ---- all moves of the unit
+
+  all-moves : (Known : Move → Type 0) → ((m : Move) → Contains (unit_moves I P u) m → Known m) → All Known (unit_moves I Q u)
+  all-moves Known each = subst (All Known) (moves-same I P Q u unit-same) (All_from_contains Known (unit_moves I P u) each)
+
+  pub unchanged-out : ((m : Move) (split : IsSplit planes legs (unit_refills I P u) m) → AreMadeAlike planes legs P Q (after_steps I P split.first) (after_steps I Q split.first)) → All (Fits I) (unit_moves I P u) → All (IsOut I P u) (unit_moves I P u) → All (IsOut I Q u) (unit_moves I Q u)
+  unchanged-out alike fits out =
+      all-moves (IsOut I Q u)
+      (λ m has.
+      let split = moves-split I P u m on has in
+      out-stays m (All-contains (Fits I) (unit_moves I P u) m fits has) split (alike m split) (All-contains (IsOut I P u) (unit_moves I P u) m out has))
+
+  pub asked-out : (asked : Questions) → AnswerAlike asked I P Q → All (Fits I) (unit_moves I P u) → All (IsOut I P u) (unit_moves I P u) → All (HangsOnlyOn asked I P u) (unit_moves I P u) → All (IsOut I Q u) (unit_moves I Q u) × All (HangsOnlyOn asked I Q u) (unit_moves I Q u)
+  asked-out asked answers fits out hangs =
+      let each : (m : Move) → Contains (unit_moves I P u) m → IsOut I Q u m × HangsOnlyOn asked I Q u m = λ m has.
+      asked-stays asked answers m (All-contains (Fits I) (unit_moves I P u) m fits has) has (All-contains (IsOut I P u) (unit_moves I P u) m out has) (All-contains (HangsOnlyOn asked I P u) (unit_moves I P u) m hangs has) in
+      (all-moves (IsOut I Q u) (λ m has. (each m has).0), all-moves (HangsOnlyOn asked I Q u) (λ m has. (each m has).1))
+
+-- a unit that is untouched is unchanged
+unchanged-of : (I : Situation) (P Q : PlanRows) (u : MoveUnit) → IsUntouchedUnit I P Q u → IsUnchangedUnit I P Q u
+unchanged-of I P Q u still = record {
+  agree = still.agree;
+  backs = still.backs;
+  touched = still.touched;
+  passengers = still.passengers;
+  positions = still.positions;
+}
 
 pub unit-out : (I : Situation) (P Q : PlanRows) (u : MoveUnit) → IsValid I → IsPlanFor I P → IsPlanFor I Q → least I P ≡ None → least I Q ≡ None → BeginsFlown P u → All (Fits I) (unit_moves I P u) → IsUntouchedUnit I P Q u → All (IsOut I P u) (unit_moves I P u) → All (IsOut I Q u) (unit_moves I Q u)
-unit-out I P Q u valid plan later feasible feasible_later on fits still out = untouched-out I P Q u valid plan later feasible feasible_later on still fits out
+unit-out I P Q u valid plan later feasible feasible_later on fits still out =
+    unchanged-out I P Q u valid plan later feasible feasible_later on (unchanged-of I P Q u still)
+    (λ m split. steps-alike (unit_planes P u) (unit_legs I P u) I P Q P Q split.first still.room split.among (start-alike (unit_planes P u) (unit_legs I P u) P Q still.agree))
+    fits out

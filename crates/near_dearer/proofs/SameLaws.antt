@@ -1,9 +1,9 @@
 -- What flying, positions and passengers cost in plans that are made alike.
-use Rattle.std.proofs.Common.{◌≡◌, ℕ, zero, suc, ◌+◌, ◌-◌, ◌*◌, ◌<◌, ◌≤◌, ◌⊎◌, inl, inr, Bool, true, false, ◌&&◌, cond, eqb, not, List, [], ◌∷◌, ◌++◌, length, get_or, refl, sym, ap, subst, ◌∙◌, arith}
-use Rattle.std.specs.Prelude.{filter, sum_by, count_by}
-use Rattle.std.specs.List.{All, Contains}
+use Rattle.std.proofs.Common.{◌≡◌, ℕ, zero, suc, ◌+◌, ◌-◌, ◌<◌, ◌≤◌, ◌⊎◌, inl, inr, Bool, true, false, ◌&&◌, cond, eqb, not, List, [], ◌∷◌, ◌++◌, length, get_or, refl, sym, ap, subst, ◌∙◌, arith}
+use Rattle.std.specs.Prelude.{filter, sum_by}
+use Rattle.std.specs.List.{All}
 use Rattle.std.proofs.lemmas.Bool.{true≢false, cases_Bool, eqb-true}
-use Rattle.std.proofs.lemmas.List.Elements.{All-head, All-tail, All-filter, All-append, All-nil, All-cons}
+use Rattle.std.proofs.lemmas.List.Elements.{All-head, All-tail, All-filter, All-append, All-nil}
 use Rattle.std.proofs.lemmas.List.Sums.{sum_by-cons, sum_by_push, length-filter}
 use Rattle.desk_units.specs.declared.numbers.Leg.{Leg}
 use Rattle.desk_units.specs.declared.numbers.Cabin.{Cabin}
@@ -17,20 +17,19 @@ use Rattle.desk_data.specs.Paths.{is_carried}
 use Rattle.desk_data.specs.Situation.{Situation, legs_of, planes_of, plane_at, bound}
 use Rattle.desk_data.specs.PlanRows.{PlanRows, row_at, groups_at}
 use Rattle.desk_rules.specs.Numbers.{numbers}
-use Rattle.desk_rules.specs.Maintenance.{is_flown_by, flies, is_left_at}
+use Rattle.desk_rules.specs.Maintenance.{is_flown_by}
 use Rattle.desk_rules.specs.Carriage.{is_good_path, is_in_time_path}
 use Rattle.desk_rules.specs.Cost.{weight, rows_of, by_item, operating_of, operating, operating_cost, is_wanted, ends_at, at_hand, missing_aircraft, position_cost}
-use Rattle.desk_rules.specs.Words.{IsFlown, TakesThere, ArrivesInTime}
 use Rattle.desk_rules.proofs.CarriageLaws.{is_good_path-holds, is_good_path-from, is_in_time-holds, is_in_time-from}
 use Rattle.desk_model.specs.Rebook.{passengers_on, group_of}
 use Rattle.desk_model.specs.Tidy.{is_fit_path, stays_carried, groups_after_tidy}
 use Rattle.near_memory.specs.Untouched.{HasSameRows}
 use Rattle.near_memory.proofs.SameRows.{HaveSameRows, all_flown-to, there-same, late-same}
-use Rattle.near_units.specs.Same.{FliesSame, is_of, IsOwn, AgreeOn}
+use Rattle.near_units.specs.Same.{FliesSame, IsOwn, AgreeOn}
 use Rattle.near_units.specs.Room.{AreMadeAlike}
 use Rattle.near_units.proofs.PlaneLaws.{and-same_left, filter-same}
 use Rattle.near_units.proofs.RuleLaws.{left_at-same}
-use Rattle.near_units.proofs.FrameLaws.{is_of-by, agree-flies}
+use Rattle.near_units.proofs.FrameLaws.{agree-flies}
 
 -- ---- sums
 

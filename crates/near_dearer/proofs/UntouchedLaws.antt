@@ -1,16 +1,14 @@
--- A unit of untouched aircraft is untouched.
-use Rattle.std.proofs.Common.{◌≡◌, ℕ, zero, suc, ◌+◌, ◌<◌, ◌≤◌, ◌⊎◌, inl, inr, Bool, true, false, ◌&&◌, ◌||◌, cond, eqb, not, List, [], ◌∷◌, ◌++◌, length, get_or, refl, sym, ap, subst, ◌∙◌, arith}
+-- A unit of untouched aircraft is untouched, and one of unchanged aircraft unchanged.
+use Rattle.std.proofs.Common.{◌≡◌, ℕ, ◌+◌, ◌<◌, ◌≤◌, ◌⊎◌, inl, inr, Bool, true, false, ◌&&◌, ◌||◌, cond, eqb, List, [], ◌∷◌, length, get_or, refl, sym, ap, subst, ◌∙◌, arith}
 use Rattle.std.specs.Prelude.{Option, None, Some, count_by}
-use Rattle.std.specs.List.{All, Contains, list_any}
-use Rattle.std.proofs.Math.Path.{fun_ext}
+use Rattle.std.specs.List.{All, list_any}
 use Rattle.std.proofs.lemmas.Bool.{true≢false, cases_Bool, and_parts, and_from, or_parts, or_left, or_right, eqb-true, eq-eqb, false_from_ne_true}
 use Rattle.std.proofs.lemmas.List.Sums.{sum_by-cons}
 use Rattle.std.proofs.lemmas.List.Elements.{Contains-get_or}
 use Rattle.desk_units.specs.declared.numbers.Leg.{Leg}
 use Rattle.desk_units.specs.declared.numbers.Cabin.{Cabin}
 use Rattle.desk_data.specs.Booked.{booked_path}
-use Rattle.desk_data.specs.declared.row.Row.{Row}
-use Rattle.desk_data.specs.declared.row.Row.TheVariants.{Flown, Cancelled}
+use Rattle.desk_data.specs.declared.row.Row.TheVariants.{Cancelled}
 use Rattle.desk_data.specs.declared.row.Group.{Group}
 use Rattle.desk_data.specs.Hours.{dep_cap, arr_cap}
 use Rattle.desk_data.specs.Situation.{Situation, legs_of, leg_at, plane_at, reservations_of}
@@ -22,18 +20,19 @@ use Rattle.desk_rules.specs.Passengers.{is_flown}
 use Rattle.desk_model.specs.Push.{departs_beside, arrives_beside, departures_beside, arrivals_beside}
 use Rattle.near_moves.specs.MoveParts.{flier}
 use Rattle.near_moves.specs.Units.{MoveUnit, retimed, swapped, dropped, restored, handed, rebooked}
+use Rattle.near_moves.specs.LegMoves.{brings_back}
 use Rattle.near_moves.proofs.ListLaws.{any_holds, any_from}
 use Rattle.near_moves.proofs.FromLaws.{or_cases}
 use Rattle.near_units.specs.Same.{FliesSame, is_of, IsOwn, AgreeOn}
 use Rattle.near_units.specs.Steps.{unit_planes, unit_restores, unit_legs, unit_refills, BeginsFlown}
 use Rattle.near_units.specs.Room.{departures_outside, arrivals_outside, count_from, count_to, IsSameRoom, HaveSameRoom}
 use Rattle.near_units.proofs.PlaneLaws.{flies-same, row-same}
-use Rattle.near_units.proofs.FrameLaws.{is_of-by, count-split, count-weaker, start-alike, own-departs, own-arrives}
+use Rattle.near_units.proofs.FrameLaws.{is_of-by, count-split, inside-same, leaves_by, reaches_by}
 use Rattle.near_units.proofs.MoveLaws.{flier-flies}
 use Rattle.near_units.proofs.OwnLaws.{own-flier}
-use Rattle.near_dearer.specs.Dearer.{IsSameReservation, IsOffLegs, is_booked_on, HasSameSeats, HaveSamePassengers, HaveSamePositions}
-use Rattle.near_dearer.specs.Untouched.{HasSameBacks, IsUntouchedUnit}
-use Rattle.near_dearer.specs.Planes.{is_on, AreUntouchedLegs, IsUntouchedPlane, IsUntouchedAgain, AreUntouchedBeside}
+use Rattle.near_dearer.specs.Dearer.{IsSameReservation, IsOffLegs, is_booked_on, HaveSamePassengers, HaveSamePositions}
+use Rattle.near_dearer.specs.Untouched.{HasSameBacks, IsUntouchedUnit, IsUnchangedUnit}
+use Rattle.near_dearer.specs.Planes.{is_on, AreUntouchedLegs, IsUntouchedPlane, IsUntouchedAgain, AreUntouchedBeside, AreUnchangedLegs, IsUnchangedPlane, IsUnchangedAgain, AreUnchangedBeside}
 
 -- ---- tests of paths
 
@@ -91,7 +90,7 @@ count-two f g h (x ∷ xs) either =
           ]
     ]
 
--- ---- legs of two untouched parts
+-- ---- room beside legs of two untouched parts
 
 module _ (most : ℕ) (planes legs one two : ℕ → Bool) (I : Situation) (P Q : PlanRows) (agree : AgreeOn planes legs P Q) (cover : (y : ℕ) → legs y ≡ true → (one y ≡ true) ⊎ (two y ≡ true)) (first : AreUntouchedLegs most one I P Q) (second : AreUntouchedLegs most two I P Q) where
   few-from : (a : ℕ) → count_from legs I a ≤ most
@@ -139,7 +138,7 @@ module _ (most : ℕ) (planes legs one two : ℕ → Bool) (I : Situation) (P Q 
       let was = count-split legs (departs_beside I P x a h) all in
       let is = count-split legs (departs_beside I Q x a h) all in
       let inside : count_by (λ y. legs y && departs_beside I P x a h y) all ≡ count_by (λ y. legs y && departs_beside I Q x a h y) all =
-      ap (λ (test : ℕ → Bool). count_by test all) (fun_ext (λ (y : ℕ). own-departs planes legs I P Q P Q (start-alike planes legs P Q agree) x a h y)) in
+      inside-same legs (leaves_by I x a h) P Q (legs_of I) agree.same in
       room-some (count_from legs I a) most (departures_beside I P x a h) (departures_beside I Q x a h) (departures_outside legs I P x a h) (departures_outside legs I Q x a h) (dep_cap I a h)
       (few-from a) (omega (arith, was)) (omega (arith, is)) (λ same. omega (arith, was, is, inside, same))
       (departs-either x h here)
@@ -151,7 +150,7 @@ module _ (most : ℕ) (planes legs one two : ℕ → Bool) (I : Situation) (P Q 
       let was = count-split legs (arrives_beside I P x a h) all in
       let is = count-split legs (arrives_beside I Q x a h) all in
       let inside : count_by (λ y. legs y && arrives_beside I P x a h y) all ≡ count_by (λ y. legs y && arrives_beside I Q x a h y) all =
-      ap (λ (test : ℕ → Bool). count_by test all) (fun_ext (λ (y : ℕ). own-arrives planes legs I P Q P Q (start-alike planes legs P Q agree) x a h y)) in
+      inside-same legs (reaches_by I x a h) P Q (legs_of I) agree.same in
       room-some (count_to legs I a) most (arrivals_beside I P x a h) (arrivals_beside I Q x a h) (arrivals_outside legs I P x a h) (arrivals_outside legs I Q x a h) (arr_cap I a h)
       (few-to a) (omega (arith, was)) (omega (arith, is)) (λ same. omega (arith, was, is, inside, same))
       (arrives-either x h here)
@@ -159,8 +158,9 @@ module _ (most : ℕ) (planes legs one two : ℕ → Bool) (I : Situation) (P Q 
   parts-room : HaveSameRoom legs I P Q
   parts-room = record { departures = departs-room; arrivals = arrives-room }
 
-  -- ---- passengers
+-- ---- passengers of two unchanged parts
 
+module _ (legs one two : ℕ → Bool) (I : Situation) (P Q : PlanRows) (cover : (y : ℕ) → legs y ≡ true → (one y ≡ true) ⊎ (two y ≡ true)) (first : AreUnchangedLegs one I P Q) (second : AreUnchangedLegs two I P Q) where
   any-by : (path : List (Leg × Cabin)) → list_any (λ pair. legs pair.0.0) path ≡ true → (list_any (λ pair. one pair.0.0) path ≡ true) ⊎ (list_any (λ pair. two pair.0.0) path ≡ true)
   any-by path has =
       let at = any_holds (λ (pair : Leg × Cabin). legs pair.0.0) path has in
@@ -276,12 +276,49 @@ module _ (I : Situation) (P Q : PlanRows) (u : MoveUnit) (p q : ℕ) (all : (k :
         | inr is ↦ inr (subst (λ (k : ℕ). is_flown_by k (row_at P y) ≡ true) is by.1)
       ]
 
-positions-of : (most : ℕ) (planes : ℕ → Bool) (I : Situation) (P Q : PlanRows) (p q : ℕ) → ((k : ℕ) → planes k ≡ true → (k ≡ p) ⊎ (k ≡ q)) → IsUntouchedPlane most I P Q p → IsUntouchedPlane most I P Q q → HaveSamePositions planes I P Q
-positions-of most planes I P Q p q all first second k d lt =
+-- ---- what is known of an aircraft and of legs that may be flown again, where Legs tells what is known of legs
+
+-- each position that wants aircraft p has as many at hand
+abbrev HasSameHand : Situation → PlanRows → PlanRows → ℕ → Type 0
+HasSameHand I P Q p = All (λ position. (at_hand I P position ≡ at_hand I Q position) ⊎ (is_wanted position (plane_at I p) ≡ false)) I.parts.positions
+
+record IsPlanePart (Legs : (ℕ → Bool) → Type 0) (I : Situation) (P Q : PlanRows) (p : ℕ) : Type 0 where
+  flown : FliesSame P Q p
+  legs : Legs (λ y. is_flown_by p (row_at P y))
+  positions : HasSameHand I P Q p
+
+record IsAgainPart (Legs : (ℕ → Bool) → Type 0) (I : Situation) (P Q : PlanRows) (x p : ℕ) : Type 0 where
+  cancelled : (y : ℕ) → unit_restores I P (restored x p) y ≡ true → row_at P y ≡ Cancelled
+  later : (y : ℕ) → unit_restores I P (restored x p) y ≡ true → row_at Q y ≡ Cancelled
+  backs : (y : ℕ) → brings_back I P x y ≡ brings_back I Q x y
+  legs : Legs (unit_restores I P (restored x p))
+
+abbrev IsBesidePart : ((ℕ → Bool) → Type 0) → Situation → PlanRows → PlanRows → MoveUnit → Type 0
+IsBesidePart Legs I P Q (retimed x) = Unit {0}
+IsBesidePart Legs I P Q (swapped p q) = Unit {0}
+IsBesidePart Legs I P Q (dropped x) = Unit {0}
+IsBesidePart Legs I P Q (restored x p) = IsAgainPart Legs I P Q x p
+IsBesidePart Legs I P Q (handed x k q) = Unit {0}
+IsBesidePart Legs I P Q (rebooked r path) = ⊥
+
+-- the legs of a unit are in two parts, of each of which that is known
+record HasTwoParts (Legs : (ℕ → Bool) → Type 0) (I : Situation) (P Q : PlanRows) (u : MoveUnit) : Type 0 where
+  agree : AgreeOn (unit_planes P u) (unit_legs I P u) P Q
+  backs : HasSameBacks I P Q u
+  one : ℕ → Bool
+  two : ℕ → Bool
+  cover : (y : ℕ) → unit_legs I P u y ≡ true → (one y ≡ true) ⊎ (two y ≡ true)
+  first : Legs one
+  second : Legs two
+  refills : (y : ℕ) → unit_refills I P u y ≡ true → unit_legs I P u y ≡ true
+  positions : HaveSamePositions (unit_planes P u) I P Q
+
+positions-of : (planes : ℕ → Bool) (I : Situation) (P Q : PlanRows) (p q : ℕ) → ((k : ℕ) → planes k ≡ true → (k ≡ p) ⊎ (k ≡ q)) → HasSameHand I P Q p → HasSameHand I P Q q → HaveSamePositions planes I P Q
+positions-of planes I P Q p q all first second k d lt =
     let position = get_or I.parts.positions k d in
-    elim (first.positions k d lt) [
+    elim (first k d lt) [
       | inl same ↦ inl same
-      | inr none ↦ elim (second.positions k d lt) [
+      | inr none ↦ elim (second k d lt) [
         | inl same ↦ inl same
         | inr other ↦ inr (λ n own. elim (all n own) [
           | inl is ↦ subst (λ (m : ℕ). is_wanted position (plane_at I m) ≡ false) (sym is) none
@@ -292,19 +329,6 @@ positions-of most planes I P Q p q all first second k d lt =
 
 -- ---- units
 
-untouched-of : (most : ℕ) (I : Situation) (P Q : PlanRows) (u : MoveUnit) (one two : ℕ → Bool) → AgreeOn (unit_planes P u) (unit_legs I P u) P Q → HasSameBacks I P Q u → ((y : ℕ) → unit_legs I P u y ≡ true → (one y ≡ true) ⊎ (two y ≡ true)) → AreUntouchedLegs most one I P Q → AreUntouchedLegs most two I P Q → ((y : ℕ) → unit_refills I P u y ≡ true → unit_legs I P u y ≡ true) → HaveSamePositions (unit_planes P u) I P Q → IsUntouchedUnit I P Q u
-untouched-of most I P Q u one two agree backs cover first second refills positions =
-    let planes = unit_planes P u in
-    let legs = unit_legs I P u in
-    record {
-      agree = agree;
-      backs = backs;
-      room = parts-room most planes legs one two I P Q agree cover first second;
-      touched = is_touched most planes legs one two I P Q agree cover first second (unit_refills I P u) refills;
-      passengers = parts-passengers most planes legs one two I P Q agree cover first second (unit_refills I P u) refills;
-      positions = positions;
-    }
-
 itself : (p : ℕ) → eqb p p ≡ true
 itself p = eq-eqb p p refl
 
@@ -312,17 +336,23 @@ none-again : (P Q : PlanRows) (y : ℕ) (b : Bool) → b ≡ false → b ≡ tru
 none-again P Q y b off on = absurd (true≢false (sym on ∙ off))
 
 -- a unit that flies nothing again, of the aircraft p and q, which may be one
-flown-unit : (most : ℕ) (I : Situation) (P Q : PlanRows) (u : MoveUnit) (p q : ℕ) → length P.rows ≡ length Q.rows → ((y : ℕ) → unit_restores I P u y ≡ false) → HasSameBacks I P Q u → ((y : ℕ) → unit_refills I P u y ≡ true → unit_legs I P u y ≡ true) → ((k : ℕ) → unit_planes P u k ≡ true → (k ≡ p) ⊎ (k ≡ q)) → IsUntouchedPlane most I P Q p → IsUntouchedPlane most I P Q q → IsUntouchedUnit I P Q u
-flown-unit most I P Q u p q many none backs refills all first second =
+flown-parts : (Legs : (ℕ → Bool) → Type 0) (I : Situation) (P Q : PlanRows) (u : MoveUnit) (p q : ℕ) → length P.rows ≡ length Q.rows → ((y : ℕ) → unit_restores I P u y ≡ false) → HasSameBacks I P Q u → ((y : ℕ) → unit_refills I P u y ≡ true → unit_legs I P u y ≡ true) → ((k : ℕ) → unit_planes P u k ≡ true → (k ≡ p) ⊎ (k ≡ q)) → IsPlanePart Legs I P Q p → IsPlanePart Legs I P Q q → HasTwoParts Legs I P Q u
+flown-parts Legs I P Q u p q many none backs refills all first second =
     let again : (R : PlanRows) (y : ℕ) → unit_restores I P u y ≡ true → row_at R y ≡ Cancelled = λ R y on. none-again P R y (unit_restores I P u y) (none y) on in
-    let agree = unit-agree I P Q u p q all first.flown second.flown (again P) (again Q) many in
-    untouched-of most I P Q u (λ y. is_flown_by p (row_at P y)) (λ y. is_flown_by q (row_at P y)) agree backs
-    (λ y here. elim (or_cases (is_of (unit_planes P u) (row_at P y)) (unit_restores I P u y) here) [
-      | inl on ↦ by-two I P Q u p q all first.flown second.flown (again P) (again Q) y on
-      | inr restores ↦ absurd (true≢false (sym restores ∙ none y))
-    ])
-    first.legs second.legs refills
-    (positions-of most (unit_planes P u) I P Q p q all first second)
+    record {
+      agree = unit-agree I P Q u p q all first.flown second.flown (again P) (again Q) many;
+      backs = backs;
+      one = λ y. is_flown_by p (row_at P y);
+      two = λ y. is_flown_by q (row_at P y);
+      cover = λ y here. elim (or_cases (is_of (unit_planes P u) (row_at P y)) (unit_restores I P u y) here) [
+        | inl on ↦ by-two I P Q u p q all first.flown second.flown (again P) (again Q) y on
+        | inr restores ↦ absurd (true≢false (sym restores ∙ none y))
+      ];
+      first = first.legs;
+      second = second.legs;
+      refills = refills;
+      positions = positions-of (unit_planes P u) I P Q p q all first.positions second.positions;
+    }
 
 refills-own : (I : Situation) (P : PlanRows) (x y : ℕ) → is_flown (row_at P x) ≡ true → eqb y x ≡ true → unit_legs I P (retimed x) y ≡ true
 refills-own I P x y on is =
@@ -341,34 +371,95 @@ two-all p q k own =
       | inr is ↦ inr (eqb-true k q is)
     ]
 
-pub planes-untouched : (most : ℕ) (I : Situation) (P Q : PlanRows) (u : MoveUnit) → length P.rows ≡ length Q.rows → BeginsFlown P u → ((p : ℕ) → unit_planes P u p ≡ true → IsUntouchedPlane most I P Q p) → AreUntouchedBeside most I P Q u → IsUntouchedUnit I P Q u
-planes-untouched most I P Q (retimed x) many on still beside =
+unit-parts : (Legs : (ℕ → Bool) → Type 0) (I : Situation) (P Q : PlanRows) (u : MoveUnit) → length P.rows ≡ length Q.rows → BeginsFlown P u → ((p : ℕ) → unit_planes P u p ≡ true → IsPlanePart Legs I P Q p) → IsBesidePart Legs I P Q u → HasTwoParts Legs I P Q u
+unit-parts Legs I P Q (retimed x) many on still beside =
     let p = flier (row_at P x) in
-    flown-unit most I P Q (retimed x) p p many (λ y. refl) tt (λ y is. refills-own I P x y on is) (one-all p) (still p (itself p)) (still p (itself p))
-planes-untouched most I P Q (swapped p q) many on still beside =
-    flown-unit most I P Q (swapped p q) p q many (λ y. refl) tt (λ y is. absurd (true≢false (sym is))) (two-all p q)
+    flown-parts Legs I P Q (retimed x) p p many (λ y. refl) tt (λ y is. refills-own I P x y on is) (one-all p) (still p (itself p)) (still p (itself p))
+unit-parts Legs I P Q (swapped p q) many on still beside =
+    flown-parts Legs I P Q (swapped p q) p q many (λ y. refl) tt (λ y is. absurd (true≢false (sym is))) (two-all p q)
     (still p (or_left (eqb p p) (eqb p q) (itself p))) (still q (or_right (eqb q p) (eqb q q) (itself q)))
-planes-untouched most I P Q (dropped x) many on still beside =
+unit-parts Legs I P Q (dropped x) many on still beside =
     let p = flier (row_at P x) in
-    flown-unit most I P Q (dropped x) p p many (λ y. refl) tt (λ y is. absurd (true≢false (sym is))) (one-all p) (still p (itself p)) (still p (itself p))
-planes-untouched most I P Q (restored x p) many on still beside =
+    flown-parts Legs I P Q (dropped x) p p many (λ y. refl) tt (λ y is. absurd (true≢false (sym is))) (one-all p) (still p (itself p)) (still p (itself p))
+unit-parts Legs I P Q (restored x p) many on still beside =
     let u = restored x p in
-    let again : IsUntouchedAgain most I P Q x p = beside in
+    let again : IsAgainPart Legs I P Q x p = beside in
     let own = still p (itself p) in
-    let agree = unit-agree I P Q u p p (one-all p) own.flown own.flown again.cancelled again.later many in
-    untouched-of most I P Q u (λ y. is_flown_by p (row_at P y)) (unit_restores I P u) agree again.backs
-    (λ y here. elim (or_cases (is_of (unit_planes P u) (row_at P y)) (unit_restores I P u y) here) [
-      | inr restores ↦ inr restores
-      | inl on ↦ elim (by-two I P Q u p p (one-all p) own.flown own.flown again.cancelled again.later y on) [
-        | inl flown ↦ inl flown
-        | inr flown ↦ inl flown
-      ]
-    ])
-    own.legs again.legs
-    (λ y is. or_right (is_of (unit_planes P u) (row_at P y)) (unit_restores I P u y) is)
-    (positions-of most (unit_planes P u) I P Q p p (one-all p) own own)
-planes-untouched most I P Q (handed x k q) many on still beside =
+    record {
+      agree = unit-agree I P Q u p p (one-all p) own.flown own.flown again.cancelled again.later many;
+      backs = again.backs;
+      one = λ y. is_flown_by p (row_at P y);
+      two = unit_restores I P u;
+      cover = λ y here. elim (or_cases (is_of (unit_planes P u) (row_at P y)) (unit_restores I P u y) here) [
+        | inr restores ↦ inr restores
+        | inl on ↦ elim (by-two I P Q u p p (one-all p) own.flown own.flown again.cancelled again.later y on) [
+          | inl flown ↦ inl flown
+          | inr flown ↦ inl flown
+        ]
+      ];
+      first = own.legs;
+      second = again.legs;
+      refills = λ y is. or_right (is_of (unit_planes P u) (row_at P y)) (unit_restores I P u y) is;
+      positions = positions-of (unit_planes P u) I P Q p p (one-all p) own.positions own.positions;
+    }
+unit-parts Legs I P Q (handed x k q) many on still beside =
     let p = flier (row_at P x) in
-    flown-unit most I P Q (handed x k q) p q many (λ y. refl) tt (λ y is. absurd (true≢false (sym is))) (two-all p q)
+    flown-parts Legs I P Q (handed x k q) p q many (λ y. refl) tt (λ y is. absurd (true≢false (sym is))) (two-all p q)
     (still p (or_left (eqb p p) (eqb p q) (itself p))) (still q (or_right (eqb q p) (eqb q q) (itself q)))
-planes-untouched most I P Q (rebooked r path) many on still beside = absurd beside
+unit-parts Legs I P Q (rebooked r path) many on still beside = absurd beside
+
+-- ---- a unit of unchanged aircraft
+
+unchanged-beside : (I : Situation) (P Q : PlanRows) (u : MoveUnit) → AreUnchangedBeside I P Q u → IsBesidePart (λ legs. AreUnchangedLegs legs I P Q) I P Q u
+unchanged-beside I P Q (retimed x) beside = tt
+unchanged-beside I P Q (swapped p q) beside = tt
+unchanged-beside I P Q (dropped x) beside = tt
+unchanged-beside I P Q (restored x p) beside =
+    let again : IsUnchangedAgain I P Q x p = beside in
+    record { cancelled = again.cancelled; later = again.later; backs = again.backs; legs = again.legs }
+unchanged-beside I P Q (handed x k q) beside = tt
+unchanged-beside I P Q (rebooked r path) beside = absurd beside
+
+pub planes-unchanged : (I : Situation) (P Q : PlanRows) (u : MoveUnit) → length P.rows ≡ length Q.rows → BeginsFlown P u → ((p : ℕ) → unit_planes P u p ≡ true → IsUnchangedPlane I P Q p) → AreUnchangedBeside I P Q u → IsUnchangedUnit I P Q u
+planes-unchanged I P Q u many on still beside =
+    let legs = unit_legs I P u in
+    let parts = unit-parts (λ some. AreUnchangedLegs some I P Q) I P Q u many on
+    (λ p own. (let plane = still p own in record { flown = plane.flown; legs = plane.legs; positions = plane.positions })) (unchanged-beside I P Q u beside) in
+    record {
+      agree = parts.agree;
+      backs = parts.backs;
+      touched = is_touched legs parts.one parts.two I P Q parts.cover parts.first parts.second (unit_refills I P u) parts.refills;
+      passengers = parts-passengers legs parts.one parts.two I P Q parts.cover parts.first parts.second (unit_refills I P u) parts.refills;
+      positions = parts.positions;
+    }
+
+-- ---- a unit of untouched aircraft
+
+untouched-beside : (most : ℕ) (I : Situation) (P Q : PlanRows) (u : MoveUnit) → AreUntouchedBeside most I P Q u → IsBesidePart (λ legs. AreUntouchedLegs most legs I P Q) I P Q u
+untouched-beside most I P Q (retimed x) beside = tt
+untouched-beside most I P Q (swapped p q) beside = tt
+untouched-beside most I P Q (dropped x) beside = tt
+untouched-beside most I P Q (restored x p) beside =
+    let again : IsUntouchedAgain most I P Q x p = beside in
+    record { cancelled = again.cancelled; later = again.later; backs = again.backs; legs = again.legs }
+untouched-beside most I P Q (handed x k q) beside = tt
+untouched-beside most I P Q (rebooked r path) beside = absurd beside
+
+unchanged-legs : (most : ℕ) (legs : ℕ → Bool) (I : Situation) (P Q : PlanRows) → AreUntouchedLegs most legs I P Q → AreUnchangedLegs legs I P Q
+unchanged-legs most legs I P Q still = record { on = still.on; on_later = still.on_later; booked = still.booked; seats = still.seats }
+
+pub planes-untouched : (most : ℕ) (I : Situation) (P Q : PlanRows) (u : MoveUnit) → length P.rows ≡ length Q.rows → BeginsFlown P u → ((p : ℕ) → unit_planes P u p ≡ true → IsUntouchedPlane most I P Q p) → AreUntouchedBeside most I P Q u → IsUntouchedUnit I P Q u
+planes-untouched most I P Q u many on still beside =
+    let legs = unit_legs I P u in
+    let parts = unit-parts (λ some. AreUntouchedLegs most some I P Q) I P Q u many on
+    (λ p own. (let plane = still p own in record { flown = plane.flown; legs = plane.legs; positions = plane.positions })) (untouched-beside most I P Q u beside) in
+    let first = unchanged-legs most parts.one I P Q parts.first in
+    let second = unchanged-legs most parts.two I P Q parts.second in
+    record {
+      agree = parts.agree;
+      backs = parts.backs;
+      room = parts-room most (unit_planes P u) legs parts.one parts.two I P Q parts.agree parts.cover parts.first parts.second;
+      touched = is_touched legs parts.one parts.two I P Q parts.cover first second (unit_refills I P u) parts.refills;
+      passengers = parts-passengers legs parts.one parts.two I P Q parts.cover first second (unit_refills I P u) parts.refills;
+      positions = parts.positions;
+    }

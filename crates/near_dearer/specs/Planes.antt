@@ -57,3 +57,34 @@ AreUntouchedBeside most I P Q (dropped x) = Unit {0}
 AreUntouchedBeside most I P Q (restored x p) = IsUntouchedAgain most I P Q x p
 AreUntouchedBeside most I P Q (handed x k q) = Unit {0}
 AreUntouchedBeside most I P Q (rebooked r path) = ⊥
+
+-- ---- the same beside hours: what moves ask of hours is told apart
+
+-- the same passengers are on some legs in both plans: each reservation on them in either plan, or booked on one of them, has the same groups on legs with the same rows, and the legs of the scheduled path of one that is booked have the same seats
+pub record AreUnchangedLegs (legs : ℕ → Bool) (I : Situation) (P Q : PlanRows) : Type 0 where
+  pub on : (r : ℕ) → r < reservations_of I → is_on legs P r ≡ true → IsSameReservation P Q r
+  pub on_later : (r : ℕ) → r < reservations_of I → is_on legs Q r ≡ true → IsSameReservation P Q r
+  pub booked : (r : ℕ) → r < reservations_of I → is_booked_on legs I r ≡ true → IsSameReservation P Q r
+  pub seats : (r : ℕ) → r < reservations_of I → is_booked_on legs I r ≡ true → HasSameSeats P Q (booked_path I r)
+
+-- aircraft p is unchanged: it flies the same legs with the same rows, which are unchanged, and each position that wants it has as many aircraft at hand
+pub record IsUnchangedPlane (I : Situation) (P Q : PlanRows) (p : ℕ) : Type 0 where
+  pub flown : FliesSame P Q p
+  pub legs : AreUnchangedLegs (flies P p) I P Q
+  pub positions : All (λ position. (at_hand I P position ≡ at_hand I Q position) ⊎ (is_wanted position (plane_at I p) ≡ false)) I.parts.positions
+
+-- the legs that aircraft p may fly again with leg x are unchanged: they are cancelled in both plans, and the same ones lead back
+pub record IsUnchangedAgain (I : Situation) (P Q : PlanRows) (x p : ℕ) : Type 0 where
+  pub cancelled : (y : ℕ) → unit_restores I P (restored x p) y ≡ true → row_at P y ≡ Cancelled
+  pub later : (y : ℕ) → unit_restores I P (restored x p) y ≡ true → row_at Q y ≡ Cancelled
+  pub backs : (y : ℕ) → brings_back I P x y ≡ brings_back I Q x y
+  pub legs : AreUnchangedLegs (unit_restores I P (restored x p)) I P Q
+
+-- what is unchanged of a unit beside its aircraft: the legs that it may fly again. A rebooking is no unit of legs
+abbrev pub AreUnchangedBeside : Situation → PlanRows → PlanRows → MoveUnit → Type 0
+AreUnchangedBeside I P Q (retimed x) = Unit {0}
+AreUnchangedBeside I P Q (swapped p q) = Unit {0}
+AreUnchangedBeside I P Q (dropped x) = Unit {0}
+AreUnchangedBeside I P Q (restored x p) = IsUnchangedAgain I P Q x p
+AreUnchangedBeside I P Q (handed x k q) = Unit {0}
+AreUnchangedBeside I P Q (rebooked r path) = ⊥

@@ -28,3 +28,11 @@ pub record IsUntouchedUnit (I : Situation) (P Q : PlanRows) (u : MoveUnit) : Typ
   pub touched : ℕ → Bool
   pub passengers : HaveSamePassengers (unit_legs I P u) (unit_refills I P u) touched I P Q
   pub positions : HaveSamePositions (unit_planes P u) I P Q
+
+-- the same beside hours: what the moves ask of hours is told apart. A unit is unchanged where its aircraft fly the same legs with the same rows, and the legs that it may fly again are cancelled as before; each reservation that is on them, or is booked on one that may be refilled, has the same groups on legs with the same rows; and positions have the same at hand of its aircraft
+pub record IsUnchangedUnit (I : Situation) (P Q : PlanRows) (u : MoveUnit) : Type 0 where
+  pub agree : AgreeOn (unit_planes P u) (unit_legs I P u) P Q
+  pub backs : HasSameBacks I P Q u
+  pub touched : ℕ → Bool
+  pub passengers : HaveSamePassengers (unit_legs I P u) (unit_refills I P u) touched I P Q
+  pub positions : HaveSamePositions (unit_planes P u) I P Q

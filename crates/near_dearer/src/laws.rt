@@ -15,16 +15,23 @@ ghost use Rattle.near_moves.specs.Near.{unit_moves};
 ghost use Rattle.near_moves.specs.Units.{MoveUnit};
 ghost use Rattle.near_units.specs.Same.{AgreeOn};
 ghost use Rattle.near_units.specs.Steps.{BeginsFlown, is_among, is_tidying, unit_planes};
-ghost use Rattle.near_units.specs.Out.{IsOut};
+ghost use Rattle.near_units.specs.Asked.{AnswerAlike, Questions, StepsAskWithin};
+ghost use Rattle.near_units.specs.Out.{HangsOnlyOn, IsOut};
 ghost use Rattle.near_units.specs.Room.{HaveSameRoom};
 ghost use Rattle.near_dearer.specs.Dearer.{HaveSamePassengers, HaveSamePositions};
-ghost use Rattle.near_dearer.specs.Untouched.{IsUntouchedUnit};
-ghost use Rattle.near_dearer.specs.Planes.{AreUntouchedBeside, IsUntouchedPlane};
+ghost use Rattle.near_dearer.specs.Untouched.{IsUnchangedUnit, IsUntouchedUnit};
+ghost use Rattle.near_dearer.specs.Planes.{AreUnchangedBeside, AreUntouchedBeside, IsUnchangedPlane, IsUntouchedPlane};
 
 /// A move of some legs and aircraft changes the cost of two feasible plans by as much, where both agree on these, the
 /// hours of their airports have the same room, and reservations and positions are the same as far as it touches them.
 pub fn a_move_changes_the_cost_of_both_plans_by_as_much()
     ensures { (planes legs refilled touched : ℕ → Bool) (I : Situation) (P Q : PlanRows) (m : Move) (first others : Items Step) → IsValid I → IsPlanFor I P → IsPlanFor I Q → least I P ≡ None → least I Q ≡ None → AgreeOn planes legs P Q → HaveSameRoom legs I P Q → HaveSamePassengers legs refilled touched I P Q → HaveSamePositions planes I P Q → m.steps ≡ first ++ others → list_all (is_among planes legs) first ≡ true → list_all (is_tidying refilled) others ≡ true → IsPlanFor I (after_steps I P first) → IsPlanFor I (after_steps I Q first) → cost I (after_move I P m) + cost I Q ≡ cost I (after_move I Q m) + cost I P }
+{}
+
+/// The same where what the steps that change rows ask of hours is within some questions, each of which has the same answer
+/// in both plans.
+pub fn a_move_that_asks_what_has_the_same_answer_changes_both_costs_by_as_much()
+    ensures { (planes legs refilled touched : ℕ → Bool) (asked : Questions) (I : Situation) (P Q : PlanRows) (m : Move) (first others : Items Step) → IsValid I → IsPlanFor I P → IsPlanFor I Q → least I P ≡ None → least I Q ≡ None → AgreeOn planes legs P Q → AnswerAlike asked I P Q → StepsAskWithin asked I P P first → HaveSamePassengers legs refilled touched I P Q → HaveSamePositions planes I P Q → m.steps ≡ first ++ others → list_all (is_among planes legs) first ≡ true → list_all (is_tidying refilled) others ≡ true → IsPlanFor I (after_steps I P first) → IsPlanFor I (after_steps I Q first) → cost I (after_move I P m) + cost I Q ≡ cost I (after_move I Q m) + cost I P }
 {}
 
 /// Where it is known of each move of a unit of legs why it is not better at a feasible plan, the same is so at a later
@@ -33,8 +40,21 @@ pub fn a_unit_that_is_untouched_stays_out()
     ensures { (I : Situation) (P Q : PlanRows) (u : MoveUnit) → IsValid I → IsPlanFor I P → IsPlanFor I Q → least I P ≡ None → least I Q ≡ None → BeginsFlown P u → All (Fits I) (unit_moves I P u) → IsUntouchedUnit I P Q u → All (IsOut I P u) (unit_moves I P u) → All (IsOut I Q u) (unit_moves I Q u) }
 {}
 
+/// The same of a unit that is unchanged, where what is known of its moves hangs on no other questions of hours than some,
+/// each of which has the same answer in both plans. At the later plan it hangs on the same questions again, so that a unit
+/// stays out from plan to plan as long as none of them flips.
+pub fn a_unit_that_asks_what_has_the_same_answer_stays_out()
+    ensures out { (asked : Questions) (I : Situation) (P Q : PlanRows) (u : MoveUnit) → IsValid I → IsPlanFor I P → IsPlanFor I Q → least I P ≡ None → least I Q ≡ None → BeginsFlown P u → All (Fits I) (unit_moves I P u) → IsUnchangedUnit I P Q u → AnswerAlike asked I P Q → All (IsOut I P u) (unit_moves I P u) → All (HangsOnlyOn asked I P u) (unit_moves I P u) → All (IsOut I Q u) (unit_moves I Q u) }
+    ensures hangs { (asked : Questions) (I : Situation) (P Q : PlanRows) (u : MoveUnit) → IsValid I → IsPlanFor I P → IsPlanFor I Q → least I P ≡ None → least I Q ≡ None → BeginsFlown P u → All (Fits I) (unit_moves I P u) → IsUnchangedUnit I P Q u → AnswerAlike asked I P Q → All (IsOut I P u) (unit_moves I P u) → All (HangsOnlyOn asked I P u) (unit_moves I P u) → All (HangsOnlyOn asked I Q u) (unit_moves I Q u) }
+{}
+
 /// A unit is untouched where its aircraft are, and the legs that it may fly again. What is said of an aircraft says
 /// nothing of other aircraft: so a search need know of each alone whether it was touched.
 pub fn a_unit_of_untouched_aircraft_is_untouched()
     ensures { (most : ℕ) (I : Situation) (P Q : PlanRows) (u : MoveUnit) → length P.rows ≡ length Q.rows → BeginsFlown P u → ((p : ℕ) → unit_planes P u p ≡ true → IsUntouchedPlane most I P Q p) → AreUntouchedBeside most I P Q u → IsUntouchedUnit I P Q u }
+{}
+
+/// A unit is unchanged where its aircraft are, and the legs that it may fly again: hours have no part in it.
+pub fn a_unit_of_unchanged_aircraft_is_unchanged()
+    ensures { (I : Situation) (P Q : PlanRows) (u : MoveUnit) → length P.rows ≡ length Q.rows → BeginsFlown P u → ((p : ℕ) → unit_planes P u p ≡ true → IsUnchangedPlane I P Q p) → AreUnchangedBeside I P Q u → IsUnchangedUnit I P Q u }
 {}

@@ -17,11 +17,13 @@ use Rattle.desk_rules.specs.Slots.{hour_of}
 use Rattle.desk_rules.specs.Passengers.{is_flown}
 use Rattle.desk_model.specs.Push.{pushed_legs, departures_beside, arrivals_beside, is_below, has_slots, after_placing}
 use Rattle.desk_model.specs.Steps.{after_step, after_steps}
+use Rattle.near_moves.specs.Units.{MoveUnit}
 use Rattle.near_units.specs.Same.{AgreeOn}
 use Rattle.near_units.specs.Steps.{is_among, is_tidying, IsSplit}
 use Rattle.near_units.specs.Room.{AreMadeAlike}
 use Rattle.near_units.specs.Own.{BreaksOwn}
-use Rattle.near_units.specs.Asked.{all_departures, all_arrivals, Questions, AnswerAlike, flips, NoneFlips, AskMore, AsksRoom, may_leave, may_reach, AsksToLeave, AsksToReach, AsksMoment, origin_full, dest_full, both, PlacingsAsk, StepAsks, StepsAsk, AskWithin, MoveAsksWithin}
+use Rattle.near_units.specs.Out.{HangsOnlyOn, asks_within, swaps_whatever, restores_whatever, hands_whatever}
+use Rattle.near_units.specs.Asked.{all_departures, all_arrivals, Questions, AnswerAlike, flips, NoneFlips, AskMore, AsksRoom, may_leave, may_reach, AsksToLeave, AsksToReach, AsksMoment, origin_full, dest_full, both, PlacingsAsk, StepAsks, StepsAsk, StepsAskWithin, MoveAsksWithin}
 use Rattle.near_units.proofs.OwnLaws.{move-agree, breaks-again}
 use Rattle.near_units.proofs.FrameLaws.{outside, leaves_by, reaches_by, count-first, count-second, KeepSlots, asking-alike, start-alike}
 
@@ -120,7 +122,7 @@ module _ (planes legs : ℕ → Bool) (asked : Questions) (I : Situation) (P Q :
         both leaving.1 reaching.1,
       )
 
-  pub steps-asked : (S T : PlanRows) (steps : List Step) → list_all (is_among planes legs) steps ≡ true → AreMadeAlike planes legs P Q S T → AskWithin asked I P S steps → AreMadeAlike planes legs P Q (after_steps I S steps) (after_steps I T steps) × AskWithin asked I Q T steps
+  pub steps-asked : (S T : PlanRows) (steps : List Step) → list_all (is_among planes legs) steps ≡ true → AreMadeAlike planes legs P Q S T → StepsAskWithin asked I P S steps → AreMadeAlike planes legs P Q (after_steps I S steps) (after_steps I T steps) × StepsAskWithin asked I Q T steps
   steps-asked S T steps among alike asks = asking-alike planes legs I P Q (AsksMoment asked I P) (AsksMoment asked I Q) asked-slots S T steps among alike asks
 
 -- ---- the steps of a move
@@ -179,17 +181,23 @@ module _ (asked more : Questions) (within : AskMore asked more) (I : Situation) 
   step-more S Tidy asks = tt
   step-more S (Refill leg) asks = tt
 
-  pub steps-more : (S : PlanRows) (steps : List Step) → AskWithin asked I P S steps → AskWithin more I P S steps
+  pub steps-more : (S : PlanRows) (steps : List Step) → StepsAskWithin asked I P S steps → StepsAskWithin more I P S steps
   steps-more S [] asks = tt
   steps-more S (step ∷ steps) asks = (step-more S step asks.0, steps-more (after_step I S step) steps asks.1)
+
+pub hangs-more : (asked more : Questions) (within : AskMore asked more) (I : Situation) (P : PlanRows) (u : MoveUnit) (m : Move) → HangsOnlyOn asked I P u m → HangsOnlyOn more I P u m
+hangs-more asked more within I P u m (asks_within asks) = asks_within (steps-more asked more within I P P m.steps asks)
+hangs-more asked more within I P u m (swaps_whatever vain) = swaps_whatever vain
+hangs-more asked more within I P u m (restores_whatever vain) = restores_whatever vain
+hangs-more asked more within I P u m (hands_whatever vain) = hands_whatever vain
 
 -- ---- a move
 
 module _ (planes legs refilled : ℕ → Bool) (asked : Questions) (I : Situation) (P Q : PlanRows) (m : Move) (start : AgreeOn planes legs P Q) (answers : AnswerAlike asked I P Q) (split : IsSplit planes legs refilled m) (asks : MoveAsksWithin asked I P m) where
-  pub split-ask : AskWithin asked I P P split.first
-  split-ask = first-ask (AsksMoment asked I P) I P split.first split.others (subst (AskWithin asked I P P) split.steps asks)
+  pub split-ask : StepsAskWithin asked I P P split.first
+  split-ask = first-ask (AsksMoment asked I P) I P split.first split.others (subst (StepsAskWithin asked I P P) split.steps asks)
 
-  made-asked : AreMadeAlike planes legs P Q (after_steps I P split.first) (after_steps I Q split.first) × AskWithin asked I Q Q split.first
+  made-asked : AreMadeAlike planes legs P Q (after_steps I P split.first) (after_steps I Q split.first) × StepsAskWithin asked I Q Q split.first
   made-asked = steps-asked planes legs asked I P Q start answers P Q split.first split.among (start-alike planes legs P Q start) split-ask
 
   pub split-alike : AreMadeAlike planes legs P Q (after_steps I P split.first) (after_steps I Q split.first)
@@ -197,7 +205,7 @@ module _ (planes legs refilled : ℕ → Bool) (asked : Questions) (I : Situatio
 
   -- it asks the same again
   pub move-asks : MoveAsksWithin asked I Q m
-  move-asks = subst (AskWithin asked I Q Q) (sym split.steps) (all-ask (AsksMoment asked I Q) refilled I Q split.first split.others made-asked.1 split.tidying)
+  move-asks = subst (StepsAskWithin asked I Q Q) (sym split.steps) (all-ask (AsksMoment asked I Q) refilled I Q split.first split.others made-asked.1 split.tidying)
 
   -- and breaks the rule of its own legs again
   pub breaks-asked : BreaksOwn planes I P m → BreaksOwn planes I Q m

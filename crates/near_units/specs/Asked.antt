@@ -115,8 +115,8 @@ StepsAsk Asks I S [] = Unit {0}
 StepsAsk Asks I S (step ∷ steps) = StepAsks Asks I S step × StepsAsk Asks I (after_step I S step) steps
 
 -- steps from plan S on ask nothing else than what is asked, and a move from plan P on does so
-abbrev pub AskWithin : Questions → Situation → PlanRows → PlanRows → List Step → Type 0
-AskWithin asked I P S steps = StepsAsk (AsksMoment asked I P) I S steps
+abbrev pub StepsAskWithin : Questions → Situation → PlanRows → PlanRows → List Step → Type 0
+StepsAskWithin asked I P S steps = StepsAsk (AsksMoment asked I P) I S steps
 
 abbrev pub MoveAsksWithin : Questions → Situation → PlanRows → Move → Type 0
-MoveAsksWithin asked I P m = AskWithin asked I P P m.steps
+MoveAsksWithin asked I P m = StepsAskWithin asked I P P m.steps

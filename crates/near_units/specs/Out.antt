@@ -14,6 +14,7 @@ use Rattle.near_moves.specs.Units.{MoveUnit, handed}
 use Rattle.near_chains.specs.Chains.{keeps_aircraft, IsHandedInVain, IsSwappedInVain, IsRestoredInVain}
 use Rattle.near_units.specs.Steps.{unit_planes, unit_legs}
 use Rattle.near_units.specs.Own.{BreaksOwn}
+use Rattle.near_units.specs.Asked.{Questions, MoveAsksWithin}
 
 -- a move begins with the exchange of legs of two aircraft of a unit, in vain
 pub record SwapsInVain (I : Situation) (P : PlanRows) (u : MoveUnit) (m : Move) : Type 0 where
@@ -57,3 +58,12 @@ pub data IsOut (I : Situation) (P : PlanRows) (u : MoveUnit) (m : Move) : Type 0
   swaps : SwapsInVain I P u m → IsOut I P u m
   restores : RestoresInVain I P u m → IsOut I P u m
   hands : HandsInVain I P u → IsOut I P u m
+
+-- what is known of a move of a unit hangs on no other questions of hours than some
+pub data HangsOnlyOn (asked : Questions) (I : Situation) (P : PlanRows) (u : MoveUnit) (m : Move) : Type 0 where
+  -- it asks nothing else
+  asks_within : MoveAsksWithin asked I P m → HangsOnlyOn asked I P u m
+  -- it gives legs in vain, whatever it asks
+  swaps_whatever : SwapsInVain I P u m → HangsOnlyOn asked I P u m
+  restores_whatever : RestoresInVain I P u m → HangsOnlyOn asked I P u m
+  hands_whatever : HandsInVain I P u → HangsOnlyOn asked I P u m

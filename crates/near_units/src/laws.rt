@@ -17,9 +17,9 @@ ghost use Rattle.near_chains.specs.Chains.{IsHandedInVain, IsRestoredInVain, IsS
 ghost use Rattle.near_units.specs.Same.{AgreeOn, FliesSame, FlyUnitSame};
 ghost use Rattle.near_units.specs.Steps.{BeginsFlown, IsSplit, is_among, unit_legs, unit_planes, unit_refills};
 ghost use Rattle.near_units.specs.Room.{AreMadeAlike, HaveSameRoom};
-ghost use Rattle.near_units.specs.Asked.{AnswerAlike, AskMore, AskWithin, MoveAsksWithin, NoneFlips, Questions};
+ghost use Rattle.near_units.specs.Asked.{AnswerAlike, AskMore, StepsAskWithin, MoveAsksWithin, NoneFlips, Questions};
 ghost use Rattle.near_units.specs.Own.{BreaksOwn};
-ghost use Rattle.near_units.specs.Out.{IsOut};
+ghost use Rattle.near_units.specs.Out.{HangsOnlyOn, IsOut};
 
 /// A unit of legs has the same moves at two plans in which its aircraft fly the same legs with the same rows, and the
 /// same cancelled legs lead back from a leg that is flown again.
@@ -69,8 +69,8 @@ pub fn a_move_that_breaks_a_rule_of_its_own_legs_does_so_again()
 /// them, if what the steps ask of hours is within some questions, each of which has the same answer in both plans. And from
 /// the second plan they ask within the same questions again: so what is known of them goes on from plan to plan.
 pub fn steps_that_ask_what_has_the_same_answer_make_the_same()
-    ensures rows { (planes legs : ℕ → Bool) (asked : Questions) (I : Situation) (P Q S T : PlanRows) (steps : Items Step) → AgreeOn planes legs P Q → AnswerAlike asked I P Q → list_all (is_among planes legs) steps ≡ true → AreMadeAlike planes legs P Q S T → AskWithin asked I P S steps → AreMadeAlike planes legs P Q (after_steps I S steps) (after_steps I T steps) }
-    ensures asks { (planes legs : ℕ → Bool) (asked : Questions) (I : Situation) (P Q S T : PlanRows) (steps : Items Step) → AgreeOn planes legs P Q → AnswerAlike asked I P Q → list_all (is_among planes legs) steps ≡ true → AreMadeAlike planes legs P Q S T → AskWithin asked I P S steps → AskWithin asked I Q T steps }
+    ensures rows { (planes legs : ℕ → Bool) (asked : Questions) (I : Situation) (P Q S T : PlanRows) (steps : Items Step) → AgreeOn planes legs P Q → AnswerAlike asked I P Q → list_all (is_among planes legs) steps ≡ true → AreMadeAlike planes legs P Q S T → StepsAskWithin asked I P S steps → AreMadeAlike planes legs P Q (after_steps I S steps) (after_steps I T steps) }
+    ensures asks { (planes legs : ℕ → Bool) (asked : Questions) (I : Situation) (P Q S T : PlanRows) (steps : Items Step) → AgreeOn planes legs P Q → AnswerAlike asked I P Q → list_all (is_among planes legs) steps ≡ true → AreMadeAlike planes legs P Q S T → StepsAskWithin asked I P S steps → StepsAskWithin asked I Q T steps }
 {}
 
 /// Where a move breaks C2 or one of C4 to C7 of a leg of its own aircraft, it does so at each plan that agrees on its
@@ -84,7 +84,8 @@ pub fn a_move_that_asks_what_has_the_same_answer_breaks_its_rule_again()
 /// What asks within some questions asks within more: so the questions of all moves of a unit may be kept as one, and more
 /// than they are.
 pub fn what_asks_within_some_questions_asks_within_more()
-    ensures { (asked more : Questions) (I : Situation) (P S : PlanRows) (steps : Items Step) → AskMore asked more → AskWithin asked I P S steps → AskWithin more I P S steps }
+    ensures steps { (asked more : Questions) (I : Situation) (P S : PlanRows) (steps : Items Step) → AskMore asked more → StepsAskWithin asked I P S steps → StepsAskWithin more I P S steps }
+    ensures moves { (asked more : Questions) (I : Situation) (P : PlanRows) (u : MoveUnit) (m : Move) → AskMore asked more → HangsOnlyOn asked I P u m → HangsOnlyOn more I P u m }
 {}
 
 /// A question has the same answer in two plans unless its limit is above the lesser of the hour's two counts, and not above
