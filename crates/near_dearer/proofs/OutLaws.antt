@@ -209,6 +209,11 @@ module _ (I : Situation) (P Q : PlanRows) (u : MoveUnit) (valid : IsValid I) (pl
       asked-stays asked answers m (All-contains (Fits I) (unit_moves I P u) m fits has) has (All-contains (IsOut I P u) (unit_moves I P u) m out has) (All-contains (HangsOnlyOn asked I P u) (unit_moves I P u) m hangs has) in
       (all-moves (IsOut I Q u) (λ m has. (each m has).0), all-moves (HangsOnlyOn asked I Q u) (λ m has. (each m has).1))
 
+-- of one move alone
+pub move-out : (asked : Questions) (I : Situation) (P Q : PlanRows) (u : MoveUnit) (m : Move) → IsValid I → IsPlanFor I P → IsPlanFor I Q → least I P ≡ None → least I Q ≡ None → BeginsFlown P u → IsUnchangedUnit I P Q u → AnswerAlike asked I P Q → Contains (unit_moves I P u) m → Fits I m → IsOut I P u m → HangsOnlyOn asked I P u m → IsOut I Q u m × HangsOnlyOn asked I Q u m
+move-out asked I P Q u m valid plan later feasible feasible_later on still answers has fits out hangs =
+    asked-stays I P Q u valid plan later feasible feasible_later on still asked answers m fits has out hangs
+
 -- a unit that is untouched is unchanged
 unchanged-of : (I : Situation) (P Q : PlanRows) (u : MoveUnit) → IsUntouchedUnit I P Q u → IsUnchangedUnit I P Q u
 unchanged-of I P Q u still = record {

@@ -1,7 +1,7 @@
 //! What holds of moves of legs that were not better.
 
 ghost use Rattle.std.specs.Prelude.{◌≡◌, ℕ, ◌+◌, ◌++◌, Bool, List as Items, All, None, length, true};
-ghost use Rattle.std.specs.List.{list_all};
+ghost use Rattle.std.specs.List.{Contains, list_all};
 ghost use Rattle.desk_data.specs.Situation.{Situation};
 ghost use Rattle.desk_data.specs.PlanRows.{PlanRows};
 ghost use Rattle.desk_data.specs.Valid.{IsPlanFor, IsValid};
@@ -38,6 +38,13 @@ pub fn a_move_that_asks_what_has_the_same_answer_changes_both_costs_by_as_much()
 /// feasible plan between which and the first one nothing was touched that the unit hangs on.
 pub fn a_unit_that_is_untouched_stays_out()
     ensures { (I : Situation) (P Q : PlanRows) (u : MoveUnit) → IsValid I → IsPlanFor I P → IsPlanFor I Q → least I P ≡ None → least I Q ≡ None → BeginsFlown P u → All (Fits I) (unit_moves I P u) → IsUntouchedUnit I P Q u → All (IsOut I P u) (unit_moves I P u) → All (IsOut I Q u) (unit_moves I Q u) }
+{}
+
+/// The same of one move of a unit that is unchanged, where what is known of it hangs on no other questions of hours than some,
+/// each of which has the same answer in both plans. What of the other moves is known hangs on may be told otherwise.
+pub fn a_move_that_asks_what_has_the_same_answer_stays_out()
+    ensures out { (asked : Questions) (I : Situation) (P Q : PlanRows) (u : MoveUnit) (m : Move) → IsValid I → IsPlanFor I P → IsPlanFor I Q → least I P ≡ None → least I Q ≡ None → BeginsFlown P u → IsUnchangedUnit I P Q u → AnswerAlike asked I P Q → Contains (unit_moves I P u) m → Fits I m → IsOut I P u m → HangsOnlyOn asked I P u m → IsOut I Q u m }
+    ensures hangs { (asked : Questions) (I : Situation) (P Q : PlanRows) (u : MoveUnit) (m : Move) → IsValid I → IsPlanFor I P → IsPlanFor I Q → least I P ≡ None → least I Q ≡ None → BeginsFlown P u → IsUnchangedUnit I P Q u → AnswerAlike asked I P Q → Contains (unit_moves I P u) m → Fits I m → IsOut I P u m → HangsOnlyOn asked I P u m → HangsOnlyOn asked I Q u m }
 {}
 
 /// The same of a unit that is unchanged, where what is known of its moves hangs on no other questions of hours than some,

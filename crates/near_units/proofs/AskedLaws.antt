@@ -53,14 +53,14 @@ room-asked asks i j m n (Some cap) same asked =
 -- ---- how many legs an hour has in all
 
 -- whether leg y is counted by a row as one that departs from airport a in hour h, or arrives there then
-abbrev leaves : Situation → ℕ → ℕ → ℕ → Row → Bool
+abbrev pub leaves : Situation → ℕ → ℕ → ℕ → Row → Bool
 leaves I a h y row = (is_flown row && not (plane_at I (leg_at I y).plane.0).surface) && (eqb (leg_at I y).origin.0 a) && (eqb (hour_of (departure row)) h)
 
-abbrev reaches : Situation → ℕ → ℕ → ℕ → Row → Bool
+abbrev pub reaches : Situation → ℕ → ℕ → ℕ → Row → Bool
 reaches I a h y row = (is_flown row && not (plane_at I (leg_at I y).plane.0).surface) && (eqb (leg_at I y).dest.0 a) && (eqb (hour_of (departure row + (leg_at I y).block)) h)
 
 -- legs outside are counted whichever leg among the others is left out
-outside-all : (legs : ℕ → Bool) (all beside : ℕ → Row → Bool) (x : ℕ) (R : PlanRows) (n : ℕ) → legs x ≡ true → ((y : ℕ) (row : Row) → eqb y x ≡ false → all y row ≡ beside y row) → outside legs all R n ≡ outside legs beside R n
+pub outside-all : (legs : ℕ → Bool) (all beside : ℕ → Row → Bool) (x : ℕ) (R : PlanRows) (n : ℕ) → legs x ≡ true → ((y : ℕ) (row : Row) → eqb y x ≡ false → all y row ≡ beside y row) → outside legs all R n ≡ outside legs beside R n
 outside-all legs all beside x R n here same =
     ap (λ (test : ℕ → Bool). count_by test (numbers n))
     (fun_ext (λ (y : ℕ). elim (cases_Bool (legs y)) [
@@ -69,7 +69,7 @@ outside-all legs all beside x R n here same =
     ]))
 
 -- how many of the first n legs are counted by their rows
-abbrev counted : (ℕ → Row → Bool) → PlanRows → ℕ → ℕ
+abbrev pub counted : (ℕ → Row → Bool) → PlanRows → ℕ → ℕ
 counted counts R n = count_by (λ y. counts y (row_at R y)) (numbers n)
 
 module _ (planes legs : ℕ → Bool) (asked : Questions) (I : Situation) (P Q : PlanRows) (start : AgreeOn planes legs P Q) (answers : AnswerAlike asked I P Q) where
@@ -102,7 +102,7 @@ module _ (planes legs : ℕ → Bool) (asked : Questions) (I : Situation) (P Q :
       hour-asked S T alike (reaches I a h) (reaches_by I x a h) x (legs_of I) here (λ y row other. rw other refl) (asked.arrivals a h) (arr_cap I a h) (answers.arrivals a h) asking
 
   -- enough is asked of a moment: airports have room in both plans or in neither
-  asked-slots : KeepSlots planes legs I P Q (AsksMoment asked I P) (AsksMoment asked I Q)
+  pub asked-slots : KeepSlots planes legs I P Q (AsksMoment asked I P) (AsksMoment asked I Q)
   unfolding has_slots
   asked-slots S T x t alike here (origin_full full asks) =
       let leaving = leave-asked S T alike x (hour_of t) here asks in
@@ -193,19 +193,23 @@ hangs-more asked more within I P u m (hands_whatever vain) = hands_whatever vain
 
 -- ---- a move
 
-module _ (planes legs refilled : ℕ → Bool) (asked : Questions) (I : Situation) (P Q : PlanRows) (m : Move) (start : AgreeOn planes legs P Q) (answers : AnswerAlike asked I P Q) (split : IsSplit planes legs refilled m) (asks : MoveAsksWithin asked I P m) where
-  pub split-ask : StepsAskWithin asked I P P split.first
-  split-ask = first-ask (AsksMoment asked I P) I P split.first split.others (subst (StepsAskWithin asked I P P) split.steps asks)
+-- the steps of a move make the same of both plans, and what is asked of the first one is asked of the second
+pub move-alike : (planes legs refilled : ℕ → Bool) (I : Situation) (P Q : PlanRows) (m : Move) (Asks Later : PlanRows → ℕ → ℕ → Type 0) → KeepSlots planes legs I P Q Asks Later → AgreeOn planes legs P Q → (split : IsSplit planes legs refilled m) → StepsAsk Asks I P m.steps → AreMadeAlike planes legs P Q (after_steps I P split.first) (after_steps I Q split.first) × StepsAsk Later I Q m.steps
+move-alike planes legs refilled I P Q m Asks Later slots start split asks =
+    let own = first-ask Asks I P split.first split.others (subst (StepsAsk Asks I P) split.steps asks) in
+    let made = asking-alike planes legs I P Q Asks Later slots P Q split.first split.among (start-alike planes legs P Q start) own in
+    (made.0, subst (StepsAsk Later I Q) (sym split.steps) (all-ask Later refilled I Q split.first split.others made.1 split.tidying))
 
-  made-asked : AreMadeAlike planes legs P Q (after_steps I P split.first) (after_steps I Q split.first) × StepsAskWithin asked I Q Q split.first
-  made-asked = steps-asked planes legs asked I P Q start answers P Q split.first split.among (start-alike planes legs P Q start) split-ask
+module _ (planes legs refilled : ℕ → Bool) (asked : Questions) (I : Situation) (P Q : PlanRows) (m : Move) (start : AgreeOn planes legs P Q) (answers : AnswerAlike asked I P Q) (split : IsSplit planes legs refilled m) (asks : MoveAsksWithin asked I P m) where
+  made-asked : AreMadeAlike planes legs P Q (after_steps I P split.first) (after_steps I Q split.first) × MoveAsksWithin asked I Q m
+  made-asked = move-alike planes legs refilled I P Q m (AsksMoment asked I P) (AsksMoment asked I Q) (asked-slots planes legs asked I P Q start answers) start split asks
 
   pub split-alike : AreMadeAlike planes legs P Q (after_steps I P split.first) (after_steps I Q split.first)
   split-alike = made-asked.0
 
   -- it asks the same again
   pub move-asks : MoveAsksWithin asked I Q m
-  move-asks = subst (StepsAskWithin asked I Q Q) (sym split.steps) (all-ask (AsksMoment asked I Q) refilled I Q split.first split.others made-asked.1 split.tidying)
+  move-asks = made-asked.1
 
   -- and breaks the rule of its own legs again
   pub breaks-asked : BreaksOwn planes I P m → BreaksOwn planes I Q m
@@ -213,7 +217,7 @@ module _ (planes legs refilled : ℕ → Bool) (asked : Questions) (I : Situatio
 
 -- ---- which answers flip
 
-flips-none : (m n limit : ℕ) → flips m n limit ≡ false → ltb m limit ≡ ltb n limit
+pub flips-none : (m n limit : ℕ) → flips m n limit ≡ false → ltb m limit ≡ ltb n limit
 flips-none m n limit none =
     elim (cases_lt m limit) [
       | inl below ↦ elim (cases_lt n limit) [

@@ -166,7 +166,7 @@ below-some m n before (Some cap) few now (inr both) =
     lt-ltb (m + before) cap (omega (arith, few, one)) ∙ sym (lt-ltb (m + now) cap (omega (arith, few, two)))
 
 -- legs that are counted by their rows: those among some legs, and all others, of the first n
-abbrev inside : (ℕ → Bool) → (ℕ → Row → Bool) → PlanRows → ℕ → ℕ
+abbrev pub inside : (ℕ → Bool) → (ℕ → Row → Bool) → PlanRows → ℕ → ℕ
 inside legs counts R n = count_by (λ y. legs y && counts y (row_at R y)) (numbers n)
 
 abbrev pub outside : (ℕ → Bool) → (ℕ → Row → Bool) → PlanRows → ℕ → ℕ
@@ -196,13 +196,13 @@ leaves_by I x a h y row = (not (eqb y x) && is_flown row && not (plane_at I (leg
 abbrev pub reaches_by : Situation → ℕ → ℕ → ℕ → ℕ → Row → Bool
 reaches_by I x a h y row = (not (eqb y x) && is_flown row && not (plane_at I (leg_at I y).plane.0).surface) && (eqb (leg_at I y).dest.0 a) && (eqb (hour_of (departure row + (leg_at I y).block)) h)
 
-leaves-from : (I : Situation) (x a h y : ℕ) (row : Row) → leaves_by I x a h y row ≡ true → eqb (leg_at I y).origin.0 a ≡ true
+pub leaves-from : (I : Situation) (x a h y : ℕ) (row : Row) → leaves_by I x a h y row ≡ true → eqb (leg_at I y).origin.0 a ≡ true
 leaves-from I x a h y row is =
     let beside = not (eqb y x) && is_flown row && not (plane_at I (leg_at I y).plane.0).surface in
     let outer = and_parts (beside && eqb (leg_at I y).origin.0 a) (eqb (hour_of (departure row)) h) is in
     (and_parts beside (eqb (leg_at I y).origin.0 a) outer.0).1
 
-reaches-to : (I : Situation) (x a h y : ℕ) (row : Row) → reaches_by I x a h y row ≡ true → eqb (leg_at I y).dest.0 a ≡ true
+pub reaches-to : (I : Situation) (x a h y : ℕ) (row : Row) → reaches_by I x a h y row ≡ true → eqb (leg_at I y).dest.0 a ≡ true
 reaches-to I x a h y row is =
     let beside = not (eqb y x) && is_flown row && not (plane_at I (leg_at I y).plane.0).surface in
     let outer = and_parts (beside && eqb (leg_at I y).dest.0 a) (eqb (hour_of (departure row + (leg_at I y).block)) h) is in
@@ -448,26 +448,32 @@ module _ (planes legs : ℕ → Bool) (I : Situation) (P Q : PlanRows) (Asks Lat
       let rest = asking-alike (after_step I S step) (after_step I T step) steps parts.1 first.0 asks.1 in
       (rest.0, (first.1, rest.1))
 
+-- ---- what is known of each leg and moment is known of all that steps ask
+
+module _ (Asks : PlanRows → ℕ → ℕ → Type 0) (known : (S : PlanRows) (x t : ℕ) → Asks S x t) (I : Situation) where
+  known-placed : (U : PlanRows) (p : ℕ) (S : PlanRows) (xs : List ℕ) → PlacingsAsk Asks I U p S xs
+  known-placed U p S [] = tt
+  known-placed U p S (x ∷ xs) = (λ t from to free. known S x t, known-placed U p (after_placing I U p S x) xs)
+
+  known-step : (S : PlanRows) (step : Step) → StepAsks Asks I S step
+  known-step S (Set leg was new) = tt
+  known-step S (Push plane after) = known-placed S plane.0 S (pushed_legs I S plane.0 after)
+  known-step S (Swap first second at) = tt
+  known-step S (Rebook res path to count) = tt
+  known-step S Tidy = tt
+  known-step S (Refill leg) = tt
+
+  pub known-steps : (S : PlanRows) (steps : List Step) → StepsAsk Asks I S steps
+  known-steps S [] = tt
+  known-steps S (step ∷ steps) = (known-step S step, known-steps (after_step I S step) steps)
+
 -- ---- all steps, where hours have the same room and nothing need be asked
 
-abbrev Nothing : PlanRows → ℕ → ℕ → Type 0
+abbrev pub Nothing : PlanRows → ℕ → ℕ → Type 0
 Nothing S x t = Unit {0}
 
-nothing-placed : (I : Situation) (U : PlanRows) (p : ℕ) (S : PlanRows) (xs : List ℕ) → PlacingsAsk Nothing I U p S xs
-nothing-placed I U p S [] = tt
-nothing-placed I U p S (x ∷ xs) = (λ t from to free. tt, nothing-placed I U p (after_placing I U p S x) xs)
-
-nothing-step : (I : Situation) (S : PlanRows) (step : Step) → StepAsks Nothing I S step
-nothing-step I S (Set leg was new) = tt
-nothing-step I S (Push plane after) = nothing-placed I S plane.0 S (pushed_legs I S plane.0 after)
-nothing-step I S (Swap first second at) = tt
-nothing-step I S (Rebook res path to count) = tt
-nothing-step I S Tidy = tt
-nothing-step I S (Refill leg) = tt
-
-nothing-asked : (I : Situation) (S : PlanRows) (steps : List Step) → StepsAsk Nothing I S steps
-nothing-asked I S [] = tt
-nothing-asked I S (step ∷ steps) = (nothing-step I S step, nothing-asked I (after_step I S step) steps)
+pub nothing-asked : (I : Situation) (S : PlanRows) (steps : List Step) → StepsAsk Nothing I S steps
+nothing-asked I S steps = known-steps Nothing (λ R x t. tt) I S steps
 
 room-slots : (planes legs : ℕ → Bool) (I : Situation) (P Q : PlanRows) → HaveSameRoom legs I P Q → KeepSlots planes legs I P Q Nothing Nothing
 unfolding has_slots

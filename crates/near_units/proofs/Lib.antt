@@ -6,4 +6,5 @@ pub mod FrameLaws
 pub mod SplitLaws
 pub mod OwnLaws
 pub mod AskedLaws
+pub mod NearLaws
 pub mod OutLaws

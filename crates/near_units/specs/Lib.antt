@@ -2,5 +2,6 @@ pub mod Same
 pub mod Steps
 pub mod Room
 pub mod Asked
+pub mod Near
 pub mod Own
 pub mod Out

@@ -1,6 +1,6 @@
 //! What holds of a unit of legs at two plans.
 
-ghost use Rattle.std.specs.Prelude.{◌≡◌, ℕ, Bool, List as Items, All, None, true, false};
+ghost use Rattle.std.specs.Prelude.{◌≡◌, ℕ, ◌||◌, Bool, List as Items, All, None, true, false};
 ghost use Rattle.std.specs.List.{Contains, list_all};
 ghost use Rattle.desk_data.specs.declared.row.Row.TheVariants.{Cancelled};
 ghost use Rattle.desk_data.specs.Situation.{Situation};
@@ -18,6 +18,7 @@ ghost use Rattle.near_units.specs.Same.{AgreeOn, FliesSame, FlyUnitSame};
 ghost use Rattle.near_units.specs.Steps.{BeginsFlown, IsSplit, is_among, unit_legs, unit_planes, unit_refills};
 ghost use Rattle.near_units.specs.Room.{AreMadeAlike, HaveSameRoom};
 ghost use Rattle.near_units.specs.Asked.{AnswerAlike, AskMore, StepsAskWithin, MoveAsksWithin, NoneFlips, Questions};
+ghost use Rattle.near_units.specs.Near.{AreAtAirports, FlipsAreMarked, either, marked, near_caps, of_both};
 ghost use Rattle.near_units.specs.Own.{BreaksOwn};
 ghost use Rattle.near_units.specs.Out.{HangsOnlyOn, IsOut};
 
@@ -89,9 +90,27 @@ pub fn what_asks_within_some_questions_asks_within_more()
 {}
 
 /// A question has the same answer in two plans unless its limit is above the lesser of the hour's two counts, and not above
-/// the greater: where the count stays, no answer flips.
+/// the greater: where the count stays, no answer flips. So have the questions of either of two, and those that have the same
+/// answer from a first plan to a second and from there to a third.
 pub fn questions_that_do_not_flip_have_the_same_answer()
-    ensures { (asked : Questions) (I : Situation) (P Q : PlanRows) → NoneFlips asked I P Q → AnswerAlike asked I P Q }
+    ensures none { (asked : Questions) (I : Situation) (P Q : PlanRows) → NoneFlips asked I P Q → AnswerAlike asked I P Q }
+    ensures both { (one two : Questions) (I : Situation) (P Q : PlanRows) → AnswerAlike one I P Q → AnswerAlike two I P Q → AnswerAlike (either one two) I P Q }
+    ensures after { (asked : Questions) (I : Situation) (P Q R : PlanRows) → AnswerAlike asked I P Q → AnswerAlike asked I Q R → AnswerAlike asked I P R }
+{}
+
+/// Questions have the same answer whose marks are none of those that flipped. What flipped from a first plan to a third has
+/// a mark that flipped from the first to the second, or from there to the third.
+pub fn questions_of_which_no_mark_flips_have_the_same_answer()
+    ensures alike { (mark_of : ℕ → ℕ → ℕ → ℕ → ℕ) (asked flipped : ℕ → Bool) (some : Questions) (I : Situation) (P Q : PlanRows) → ((k : ℕ) → asked k ≡ true → flipped k ≡ false) → FlipsAreMarked mark_of flipped some I P Q → AnswerAlike (of_both (marked mark_of asked) some) I P Q }
+    ensures after { (mark_of : ℕ → ℕ → ℕ → ℕ → ℕ) (before now : ℕ → Bool) (some : Questions) (I : Situation) (P Q R : PlanRows) → FlipsAreMarked mark_of before some I P Q → FlipsAreMarked mark_of now some I Q R → FlipsAreMarked mark_of (λ k. before k || now k) some I P R }
+{}
+
+/// Whatever a move of some legs asks is of the airports that these leave or reach, with limits no farther from the cap than
+/// so many of the legs are at one of them: so it is known without a look at its steps, and answers that flip at other limits
+/// do not matter. What is known of a move to ask no more than some questions asks no more than those of them.
+pub fn what_a_move_asks_is_near_the_caps_of_its_airports()
+    ensures near { (planes legs refilled : ℕ → Bool) (n : ℕ) (left reached : ℕ → Bool) (I : Situation) (P : PlanRows) (m : Move) → AgreeOn planes legs P P → AreAtAirports n left reached legs I → IsSplit planes legs refilled m → MoveAsksWithin (near_caps n left reached I) I P m }
+    ensures both { (planes legs refilled : ℕ → Bool) (n : ℕ) (left reached : ℕ → Bool) (asked : Questions) (I : Situation) (P : PlanRows) (m : Move) → AgreeOn planes legs P P → AreAtAirports n left reached legs I → IsSplit planes legs refilled m → MoveAsksWithin asked I P m → MoveAsksWithin (of_both asked (near_caps n left reached I)) I P m }
 {}
 
 /// Where it is known of each move of a unit of legs why it is not better, none is: it makes the plan no cheaper, it breaks

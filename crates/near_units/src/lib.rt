@@ -20,8 +20,11 @@ pub use laws::{
     a_move_that_breaks_a_rule_of_its_own_legs_does_so_again,
     a_run_that_is_handed_on_in_vain_stays_so, a_unit_that_is_out_has_no_better_move,
     a_unit_whose_aircraft_fly_the_same_has_the_same_moves,
-    aircraft_that_exchange_legs_in_vain_stay_so, questions_that_do_not_flip_have_the_same_answer,
+    aircraft_that_exchange_legs_in_vain_stay_so,
+    questions_of_which_no_mark_flips_have_the_same_answer,
+    questions_that_do_not_flip_have_the_same_answer,
     steps_of_aircraft_on_which_plans_agree_make_the_same_of_them,
     steps_that_ask_what_has_the_same_answer_make_the_same,
+    what_a_move_asks_is_near_the_caps_of_its_airports,
     what_asks_within_some_questions_asks_within_more,
 };
