@@ -299,7 +299,7 @@ module _ (planes legs refilled touched : ℕ → Bool) (I : Situation) (P Q : Pl
         own_later : (r : ℕ) → groups_at T r ≡ groups_at Q r
         own_later r = ap (λ (groups : List (List Group)). get_or groups r []) alike.later_groups
 
-    made-balance : (S T : PlanRows) (others : List Step) → HaveSamePositions planes I P Q → list_all (is_tidying refilled) others ≡ true → IsPlanFor I S → IsPlanFor I T → AreMadeAlike planes legs P Q S T → cost I (after_steps I S others) + cost I Q ≡ cost I (after_steps I T others) + cost I P
+    pub made-balance : (S T : PlanRows) (others : List Step) → HaveSamePositions planes I P Q → list_all (is_tidying refilled) others ≡ true → IsPlanFor I S → IsPlanFor I T → AreMadeAlike planes legs P Q S T → cost I (after_steps I S others) + cost I Q ≡ cost I (after_steps I T others) + cost I P
     made-balance S T others positions tidying is later alike =
         let F = after_steps I S others in
         let G = after_steps I T others in

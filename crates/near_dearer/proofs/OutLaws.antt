@@ -1,8 +1,9 @@
 -- A unit of legs that is untouched stays out.
-use Rattle.std.proofs.Common.{◌≡◌, ℕ, ◌≤◌, Bool, true, ◌||◌, eqb, List, [], ◌∷◌, ◌++◌, refl, sym, ap, subst, ◌∙◌, arith}
+use Rattle.std.proofs.Common.{◌≡◌, ℕ, ◌≤◌, ◌⊎◌, inl, inr, Bool, true, false, ◌||◌, eqb, List, ◌++◌, refl, sym, ap, subst, ◌∙◌, arith}
 use Rattle.std.specs.Prelude.{None}
-use Rattle.std.specs.List.{All, Contains, AllByRecursion}
-use Rattle.std.proofs.lemmas.Bool.{eq-eqb, or_left, or_right}
+use Rattle.std.specs.List.{All, Contains, AllByRecursion, list_all}
+use Rattle.std.proofs.Math.Path.{fun_ext}
+use Rattle.std.proofs.lemmas.Bool.{cases_Bool, eq-eqb, or_from, or_left, or_parts, or_right}
 use Rattle.std.proofs.lemmas.List.Elements.{All-contains, recursion_from_All}
 use Rattle.desk_data.specs.declared.row.Row.{Row}
 use Rattle.desk_data.specs.Situation.{Situation}
@@ -13,6 +14,7 @@ use Rattle.plan_moves.specs.declared.moves.Move.{Move}
 use Rattle.plan_moves.specs.declared.moves.Step.{Step}
 use Rattle.desk_rules.specs.Least.{least}
 use Rattle.desk_rules.specs.Cost.{cost}
+use Rattle.desk_rules.proofs.LeastLaws.{feasible-holds}
 use Rattle.desk_rules.specs.Passengers.{is_flown}
 use Rattle.desk_model.specs.Steps.{after_steps, after_move}
 use Rattle.desk_model.proofs.MoveLaws.{after_steps-valid}
@@ -22,11 +24,12 @@ use Rattle.near_moves.specs.Near.{unit_moves}
 use Rattle.near_moves.proofs.ListLaws.{All_from_contains}
 use Rattle.near_chains.specs.Chains.{IsHandedInVain}
 use Rattle.near_units.specs.Same.{FliesSame, is_of, FlyUnitSame, AgreeOn}
-use Rattle.near_units.specs.Steps.{IsSplit, unit_planes, unit_restores, unit_legs, unit_refills, BeginsFlown}
+use Rattle.near_units.specs.Steps.{is_among, is_tidying, IsSplit, unit_planes, unit_restores, unit_legs, unit_refills, BeginsFlown}
 use Rattle.near_units.specs.Room.{AreMadeAlike}
 use Rattle.near_units.specs.Asked.{Questions, AnswerAlike}
+use Rattle.near_units.specs.Whatever.{MaySteps, IsBroken, IsDearWhatever}
 use Rattle.near_units.specs.Own.{BreaksOwn}
-use Rattle.near_units.specs.Out.{SwapsInVain, RestoresInVain, HandsInVain, IsOut, dear, breaks, swaps, restores, hands, HangsOnlyOn, asks_within, swaps_whatever, restores_whatever, hands_whatever}
+use Rattle.near_units.specs.Out.{SwapsInVain, RestoresInVain, HandsInVain, IsOut, dear, breaks, swaps, restores, hands, HangsOnlyOn, asks_within, dear_whatever, swaps_whatever, restores_whatever, hands_whatever}
 use Rattle.near_units.proofs.PlaneLaws.{row-same}
 use Rattle.near_units.proofs.FrameLaws.{agree-flies, steps-alike, start-alike}
 use Rattle.near_units.proofs.MoveLaws.{moves-same, flier-flies}
@@ -34,8 +37,9 @@ use Rattle.near_units.proofs.VainLaws.{handed-stays, swapped-stays, restored-sta
 use Rattle.near_units.proofs.SplitLaws.{moves-split}
 use Rattle.near_units.proofs.OwnLaws.{move-agree, breaks-again}
 use Rattle.near_units.proofs.AskedLaws.{split-alike, move-asks}
+use Rattle.near_units.proofs.MayLaws.{may-alike, may-valid, first-fit, split-fit, whatever-out, broken-again}
 use Rattle.near_dearer.specs.Untouched.{HasSameBacks, IsUntouchedUnit, IsUnchangedUnit}
-use Rattle.near_dearer.proofs.DearerLaws.{made-stays}
+use Rattle.near_dearer.proofs.DearerLaws.{made-balance, made-stays}
 
 -- ---- the aircraft of an untouched unit
 
@@ -81,11 +85,15 @@ restores-same I P Q (restored x p) backs y = ap (λ (b : Bool). (eqb y x) || b) 
 restores-same I P Q (handed x k q) backs y = refl
 restores-same I P Q (rebooked r path) backs y = refl
 
--- ---- steps that fit
+refills-same : (I : Situation) (P Q : PlanRows) (u : MoveUnit) → HasSameBacks I P Q u → (y : ℕ) → unit_refills I P u y ≡ unit_refills I Q u y
+refills-same I P Q (retimed x) backs y = refl
+refills-same I P Q (swapped p q) backs y = refl
+refills-same I P Q (dropped x) backs y = refl
+refills-same I P Q (restored x p) backs y = ap (λ (b : Bool). (eqb y x) || b) (backs y)
+refills-same I P Q (handed x k q) backs y = refl
+refills-same I P Q (rebooked r path) backs y = refl
 
-first-fit : (I : Situation) (first others : List Step) → AllByRecursion (StepFits I) (first ++ others) → AllByRecursion (StepFits I) first
-first-fit I [] others fits = tt
-first-fit I (step ∷ first) others fits = (fits.0, first-fit I first others fits.1)
+-- ---- steps that fit
 
 first-valid : (I : Situation) (P : PlanRows) (m : Move) (first others : List Step) → IsValid I → Fits I m → m.steps ≡ first ++ others → IsPlanFor I P → IsPlanFor I (after_steps I P first)
 first-valid I P m first others valid fits steps plan =
@@ -173,6 +181,50 @@ module _ (I : Situation) (P Q : PlanRows) (u : MoveUnit) (valid : IsValid I) (pl
   out-stays m fits split alike (restores h) = restores (restores-stay m h)
   out-stays m fits split alike (hands h) = hands (hands-stay h)
 
+  -- ---- whatever hours answer
+
+  off-leg-later : (x : ℕ) → legs x ≡ false → unit_legs I Q u x ≡ false
+  off-leg-later x off =
+      let parts = or_parts (is_of planes (row_at P x)) (unit_restores I P u x) off in
+      or_from (is_of (unit_planes Q u) (row_at Q x)) (unit_restores I Q u x)
+      (ap (λ (test : ℕ → Bool). is_of test (row_at Q x)) (sym (planes-same I P Q u unit-same)) ∙ still.agree.now x off)
+      (sym (restores-same I P Q u still.backs x) ∙ parts.1)
+
+  legs-same : legs ≡ unit_legs I Q u
+  legs-same =
+      fun_ext (λ (x : ℕ). elim (cases_Bool (legs x)) [
+        | inl own ↦ own ∙ sym (own-leg-later x own)
+        | inr off ↦ off ∙ sym (off-leg-later x off)
+      ])
+
+  -- the move begins with steps of the same legs and aircraft in the later plan
+  split-later : (m : Move) (split : IsSplit planes legs (unit_refills I P u) m) → IsSplit (unit_planes Q u) (unit_legs I Q u) (unit_refills I Q u) m
+  split-later m split = record {
+    first = split.first;
+    others = split.others;
+    steps = split.steps;
+    among = subst (λ (test : ℕ → Bool). list_all (is_among test (unit_legs I Q u)) split.first ≡ true) (planes-same I P Q u unit-same) (subst (λ (test : ℕ → Bool). list_all (is_among planes test) split.first ≡ true) legs-same split.among);
+    tidying = subst (λ (test : ℕ → Bool). list_all (is_tidying test) split.others ≡ true) (fun_ext (λ (y : ℕ). refills-same I P Q u still.backs y)) split.tidying;
+  }
+
+  pub whatever-stays : (m : Move) → Fits I m → IsDearWhatever I P u m → IsDearWhatever I Q u m
+  unfolding split-later
+  whatever-stays m fits h =
+      let split = h.split in
+      let refills = unit_refills I P u in
+      let fit = split-fit planes legs refills I m split fits in
+      let known : (T : PlanRows) → IsPlanFor I T → MaySteps I Q split.first T → (cost I Q ≤ cost I (after_steps I T split.others)) ⊎ IsBroken (unit_planes Q u) I T = λ T is may.
+      let come = may-alike planes legs I P Q P Q split.first T split.among (start-alike planes legs P Q still.agree) may in
+      let S = come.plan in
+      let valid_then = may-valid I P split.first S valid fit plan come.comes in
+      elim (h.known S valid_then come.comes) [
+        | inl less ↦
+            let balance = made-balance planes legs refills still.touched I P Q still.agree still.passengers valid plan later (feasible-holds I P feasible) (feasible-holds I Q feasible_later) S T split.others still.positions split.tidying valid_then is come.alike in
+            inl (omega (arith, balance, less))
+        | inr broken ↦ inr (subst (λ (test : ℕ → Bool). IsBroken test I T) (planes-same I P Q u unit-same) (broken-again planes legs I S T come.alike.agree broken))
+      ] in
+      record { split = split-later m split; known = known }
+
   -- ---- where each question that is asked has the same answer
 
   module _ (asked : Questions) (answers : AnswerAlike asked I P Q) where
@@ -181,6 +233,9 @@ module _ (I : Situation) (P Q : PlanRows) (u : MoveUnit) (valid : IsValid I) (pl
         let split = moves-split I P u m on has in
         let alike = split-alike planes legs (unit_refills I P u) asked I P Q m still.agree answers split asks in
         (out-stays m fits split alike out, asks_within (move-asks planes legs (unit_refills I P u) asked I P Q m still.agree answers split asks))
+    asked-stays m fits has out (dear_whatever h) =
+        let known = whatever-stays m fits h in
+        (whatever-out I Q u m valid later fits known, dear_whatever known)
     asked-stays m fits has out (swaps_whatever h) =
         let vain = swaps-stay m h in
         (swaps vain, swaps_whatever vain)

@@ -17,6 +17,7 @@ ghost use Rattle.near_units.specs.Same.{AgreeOn};
 ghost use Rattle.near_units.specs.Steps.{BeginsFlown, is_among, is_tidying, unit_planes};
 ghost use Rattle.near_units.specs.Asked.{AnswerAlike, Questions, StepsAskWithin};
 ghost use Rattle.near_units.specs.Out.{HangsOnlyOn, IsOut};
+ghost use Rattle.near_units.specs.Whatever.{IsDearWhatever};
 ghost use Rattle.near_units.specs.Room.{HaveSameRoom};
 ghost use Rattle.near_dearer.specs.Dearer.{HaveSamePassengers, HaveSamePositions};
 ghost use Rattle.near_dearer.specs.Untouched.{IsUnchangedUnit, IsUntouchedUnit};
@@ -47,7 +48,13 @@ pub fn a_move_that_asks_what_has_the_same_answer_stays_out()
     ensures hangs { (asked : Questions) (I : Situation) (P Q : PlanRows) (u : MoveUnit) (m : Move) → IsValid I → IsPlanFor I P → IsPlanFor I Q → least I P ≡ None → least I Q ≡ None → BeginsFlown P u → IsUnchangedUnit I P Q u → AnswerAlike asked I P Q → Contains (unit_moves I P u) m → Fits I m → IsOut I P u m → HangsOnlyOn asked I P u m → HangsOnlyOn asked I Q u m }
 {}
 
-/// The same of a unit that is unchanged, where what is known of its moves hangs on no other questions of hours than some,
+/// A move of a unit that is unchanged is not better at a feasible later plan, whatever hours answer there, where it was not
+/// better at the first one, whatever hours answered: nothing need be known of hours.
+pub fn a_move_that_is_dear_whatever_hours_answer_stays_so()
+    ensures { (I : Situation) (P Q : PlanRows) (u : MoveUnit) (m : Move) → IsValid I → IsPlanFor I P → IsPlanFor I Q → least I P ≡ None → least I Q ≡ None → BeginsFlown P u → IsUnchangedUnit I P Q u → Fits I m → IsDearWhatever I P u m → IsDearWhatever I Q u m }
+{}
+
+/// A unit that is unchanged stays out where what is known of its moves hangs on no other questions of hours than some,
 /// each of which has the same answer in both plans. At the later plan it hangs on the same questions again, so that a unit
 /// stays out from plan to plan as long as none of them flips.
 pub fn a_unit_that_asks_what_has_the_same_answer_stays_out()

@@ -15,7 +15,8 @@ mod laws;
 pub use laws::{
     a_move_changes_the_cost_of_both_plans_by_as_much,
     a_move_that_asks_what_has_the_same_answer_changes_both_costs_by_as_much,
-    a_move_that_asks_what_has_the_same_answer_stays_out, a_unit_of_unchanged_aircraft_is_unchanged,
+    a_move_that_asks_what_has_the_same_answer_stays_out,
+    a_move_that_is_dear_whatever_hours_answer_stays_so, a_unit_of_unchanged_aircraft_is_unchanged,
     a_unit_of_untouched_aircraft_is_untouched, a_unit_that_asks_what_has_the_same_answer_stays_out,
     a_unit_that_is_untouched_stays_out,
 };

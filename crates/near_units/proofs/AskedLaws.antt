@@ -22,7 +22,7 @@ use Rattle.near_units.specs.Same.{AgreeOn}
 use Rattle.near_units.specs.Steps.{is_among, is_tidying, IsSplit}
 use Rattle.near_units.specs.Room.{AreMadeAlike}
 use Rattle.near_units.specs.Own.{BreaksOwn}
-use Rattle.near_units.specs.Out.{HangsOnlyOn, asks_within, swaps_whatever, restores_whatever, hands_whatever}
+use Rattle.near_units.specs.Out.{HangsOnlyOn, asks_within, dear_whatever, swaps_whatever, restores_whatever, hands_whatever}
 use Rattle.near_units.specs.Asked.{all_departures, all_arrivals, Questions, AnswerAlike, flips, NoneFlips, AskMore, AsksRoom, may_leave, may_reach, AsksToLeave, AsksToReach, AsksMoment, origin_full, dest_full, both, PlacingsAsk, StepAsks, StepsAsk, StepsAskWithin, MoveAsksWithin}
 use Rattle.near_units.proofs.OwnLaws.{move-agree, breaks-again}
 use Rattle.near_units.proofs.FrameLaws.{outside, leaves_by, reaches_by, count-first, count-second, KeepSlots, asking-alike, start-alike}
@@ -187,6 +187,7 @@ module _ (asked more : Questions) (within : AskMore asked more) (I : Situation) 
 
 pub hangs-more : (asked more : Questions) (within : AskMore asked more) (I : Situation) (P : PlanRows) (u : MoveUnit) (m : Move) → HangsOnlyOn asked I P u m → HangsOnlyOn more I P u m
 hangs-more asked more within I P u m (asks_within asks) = asks_within (steps-more asked more within I P P m.steps asks)
+hangs-more asked more within I P u m (dear_whatever h) = dear_whatever h
 hangs-more asked more within I P u m (swaps_whatever vain) = swaps_whatever vain
 hangs-more asked more within I P u m (restores_whatever vain) = restores_whatever vain
 hangs-more asked more within I P u m (hands_whatever vain) = hands_whatever vain

@@ -256,10 +256,35 @@ within-at low high f g (Some s) is same =
 within-same : (low high : ℕ) (f g : ℕ → Bool) → ((t : ℕ) → low ≤ t → t ≤ unwrap_or (first_within low high f) high → f t ≡ g t) → first_within low high f ≡ first_within low high g
 within-same low high f g same = within-at low high f g (first_within low high f) refl same
 
-module _ (planes legs : ℕ → Bool) (I : Situation) (P Q U V : PlanRows) (start : AgreeOn planes legs U V) (Asks Later : PlanRows → ℕ → ℕ → Type 0) (slots : KeepSlots planes legs I P Q Asks Later) (p : ℕ) (own : planes p ≡ true) where
+-- the legs of an aircraft that is pushed are the same in plans that agree on it
+module _ (planes legs : ℕ → Bool) (I : Situation) (U V : PlanRows) (start : AgreeOn planes legs U V) (p : ℕ) (own : planes p ≡ true) where
   pushes : FliesSame U V p
   pushes = agree-flies planes legs U V p start own
 
+  after-same : (after : Option Leg) (x : ℕ) → flies U p x ≡ true → comes_after U after x ≡ comes_after V after x
+  after-same None x on = refl
+  after-same (Some leg) x on = precedes-to I U V p pushes leg.0 x on
+
+  pushed-own : All (λ x. flies U p x ≡ true) (rotation I U p)
+  pushed-own = All-weaker (λ x. (x < legs_of I) × (flies U p x ≡ true)) (λ x. flies U p x ≡ true) (λ x both. both.1) (rotation I U p) (rotation-flown I U p)
+
+  pub pushed-same : (after : Option Leg) → pushed_legs I U p after ≡ pushed_legs I V p after
+  unfolding pushed_legs
+  pushed-same after =
+      filter-same (λ x. not (fixed I x) && comes_after U after x) (λ x. not (fixed I x) && comes_after V after x) (rotation I U p)
+      (λ k d lt. ap (λ (b : Bool). not (fixed I (get_or (rotation I U p) k d)) && b) (after-same after (get_or (rotation I U p) k d) (pushed-own k d lt)))
+      ∙ ap (filter (λ x. not (fixed I x) && comes_after V after x)) (rotation-same I U V p pushes)
+
+  pub pushed-flown : (after : Option Leg) → All (λ x. flies U p x ≡ true) (pushed_legs I U p after)
+  unfolding pushed_legs
+  pushed-flown after = All-filter (λ x. not (fixed I x) && comes_after U after x) (λ x. flies U p x ≡ true) (rotation I U p) pushed-own
+
+-- a leg of one of the aircraft departs at a moment in both plans, or keeps its row in both
+pub departure-alike : (planes legs : ℕ → Bool) (P Q : PlanRows) (p : ℕ) (own : planes p ≡ true) (S T : PlanRows) (x : ℕ) (o : Option ℕ) → legs x ≡ true → AreMadeAlike planes legs P Q S T → AreMadeAlike planes legs P Q (with_departure S p x o) (with_departure T p x o)
+departure-alike planes legs P Q p own S T x None here alike = alike
+departure-alike planes legs P Q p own S T x (Some t) here alike = made-set planes legs P Q S T x (Flown (record { 0 = p }) (record { 0 = t })) here (inl own) alike
+
+module _ (planes legs : ℕ → Bool) (I : Situation) (P Q U V : PlanRows) (start : AgreeOn planes legs U V) (Asks Later : PlanRows → ℕ → ℕ → Type 0) (slots : KeepSlots planes legs I P Q Asks Later) (p : ℕ) (own : planes p ≡ true) where
   ready-same : (S T : PlanRows) (x : ℕ) (o : Option ℕ) → ((w : ℕ) → o ≡ Some w → row_at S w ≡ row_at T w) → ready_moment I S p x o ≡ ready_moment I T p x o
   ready-same S T x None rows = refl
   ready-same S T x (Some w) rows = ap (λ (row : Row). departure row + (leg_at I w).block + ground_time I p w x) (rows w refl)
@@ -276,7 +301,7 @@ module _ (planes legs : ℕ → Bool) (I : Situation) (P Q U V : PlanRows) (star
       let comes : precedes U w x ≡ true = (and_parts (precedes U w x) (none_below (legs_of I) (λ z. precedes U w z && precedes U z x)) next).0 in
       alike.agree.same w (own-leg planes legs U V p w start own (flies-first U p w x comes on)) in
       ap (λ (n : ℕ). max n (earliest I x)) (ready-same S T x before rows)
-      ∙ ap (λ (o : Option ℕ). max (ready_moment I T p x o) (earliest I x)) (leg_before-same I U V p pushes x on)
+      ∙ ap (λ (o : Option ℕ). max (ready_moment I T p x o) (earliest I x)) (leg_before-same I U V p (pushes planes legs I U V start p own) x on)
 
   first-same : (S T : PlanRows) → AreMadeAlike planes legs P Q S T → (x : ℕ) → flies U p x ≡ true → PlacingAsks Asks I U p S x → (first_departure I U S p x ≡ first_departure I V T p x) × PlacingAsks Later I V p T x
   unfolding first_departure
@@ -296,10 +321,6 @@ module _ (planes legs : ℕ → Bool) (I : Situation) (P Q U V : PlanRows) (star
         λ t after before free. (slots S T x t alike here (asks t (subst (λ (n : ℕ). n ≤ t) (sym from) after) (subst (λ (o : Option ℕ). t ≤ unwrap_or o high) (sym found) before) free)).1,
       )
 
-  departure-alike : (S T : PlanRows) (x : ℕ) (o : Option ℕ) → legs x ≡ true → AreMadeAlike planes legs P Q S T → AreMadeAlike planes legs P Q (with_departure S p x o) (with_departure T p x o)
-  departure-alike S T x None here alike = alike
-  departure-alike S T x (Some t) here alike = made-set planes legs P Q S T x (Flown (record { 0 = p }) (record { 0 = t })) here (inl own) alike
-
   placed-alike : (S T : PlanRows) (xs : List ℕ) → All (λ x. flies U p x ≡ true) xs → AreMadeAlike planes legs P Q S T → PlacingsAsk Asks I U p S xs → AreMadeAlike planes legs P Q (fold (after_placing I U p) S xs) (fold (after_placing I V p) T xs) × PlacingsAsk Later I V p T xs
   placed-alike S T [] on alike asks = (alike, tt)
   placed-alike S T (x ∷ xs) on alike asks =
@@ -308,35 +329,17 @@ module _ (planes legs : ℕ → Bool) (I : Situation) (P Q U V : PlanRows) (star
       let o = first_departure I V T p x in
       let first = first-same S T alike x here asks.0 in
       let same : after_placing I U p S x ≡ with_departure S p x o = ap (with_departure S p x) first.0 in
-      let next : AreMadeAlike planes legs P Q (with_departure S p x o) (with_departure T p x o) = departure-alike S T x o (own-leg planes legs U V p x start own here) alike in
+      let next : AreMadeAlike planes legs P Q (with_departure S p x o) (with_departure T p x o) = departure-alike planes legs P Q p own S T x o (own-leg planes legs U V p x start own here) alike in
       let rest = placed-alike (after_placing I U p S x) (after_placing I V p T x) xs (All-tail Own x xs on)
       (subst (λ (R : PlanRows). AreMadeAlike planes legs P Q R (with_departure T p x o)) (sym same) next) asks.1 in
       (rest.0, (first.1, rest.1))
 
-  after-same : (after : Option Leg) (x : ℕ) → flies U p x ≡ true → comes_after U after x ≡ comes_after V after x
-  after-same None x on = refl
-  after-same (Some leg) x on = precedes-to I U V p pushes leg.0 x on
-
-  pushed-own : All (λ x. flies U p x ≡ true) (rotation I U p)
-  pushed-own = All-weaker (λ x. (x < legs_of I) × (flies U p x ≡ true)) (λ x. flies U p x ≡ true) (λ x both. both.1) (rotation I U p) (rotation-flown I U p)
-
-  pushed-same : (after : Option Leg) → pushed_legs I U p after ≡ pushed_legs I V p after
-  unfolding pushed_legs
-  pushed-same after =
-      filter-same (λ x. not (fixed I x) && comes_after U after x) (λ x. not (fixed I x) && comes_after V after x) (rotation I U p)
-      (λ k d lt. ap (λ (b : Bool). not (fixed I (get_or (rotation I U p) k d)) && b) (after-same after (get_or (rotation I U p) k d) (pushed-own k d lt)))
-      ∙ ap (filter (λ x. not (fixed I x) && comes_after V after x)) (rotation-same I U V p pushes)
-
-  pushed-flown : (after : Option Leg) → All (λ x. flies U p x ≡ true) (pushed_legs I U p after)
-  unfolding pushed_legs
-  pushed-flown after = All-filter (λ x. not (fixed I x) && comes_after U after x) (λ x. flies U p x ≡ true) (rotation I U p) pushed-own
-
   pub push-alike : (after : Option Leg) → AreMadeAlike planes legs P Q U V → PlacingsAsk Asks I U p U (pushed_legs I U p after) → AreMadeAlike planes legs P Q (after_push I U p after) (after_push I V p after) × PlacingsAsk Later I V p V (pushed_legs I V p after)
   unfolding after_push
   push-alike after alike asks =
-      let placed = placed-alike U V (pushed_legs I U p after) (pushed-flown after) alike asks in (
-        subst (λ (xs : List ℕ). AreMadeAlike planes legs P Q (fold (after_placing I U p) U (pushed_legs I U p after)) (fold (after_placing I V p) V xs)) (pushed-same after) placed.0,
-        subst (λ (xs : List ℕ). PlacingsAsk Later I V p V xs) (pushed-same after) placed.1,
+      let placed = placed-alike U V (pushed_legs I U p after) (pushed-flown planes legs I U V start p own after) alike asks in (
+        subst (λ (xs : List ℕ). AreMadeAlike planes legs P Q (fold (after_placing I U p) U (pushed_legs I U p after)) (fold (after_placing I V p) V xs)) (pushed-same planes legs I U V start p own after) placed.0,
+        subst (λ (xs : List ℕ). PlacingsAsk Later I V p V xs) (pushed-same planes legs I U V start p own after) placed.1,
       )
 
 -- ---- a Swap
@@ -389,7 +392,7 @@ swapped-length : (P : PlanRows) (p q at : ℕ) → length (after_swap P p q at).
 unfolding after_swap
 swapped-length P p q at = length-map P.rows (row_after_swap p q at)
 
-swap-alike : (planes legs : ℕ → Bool) (P Q S T : PlanRows) (p q at : ℕ) → planes p ≡ true → planes q ≡ true → AreMadeAlike planes legs P Q S T → AreMadeAlike planes legs P Q (after_swap S p q at) (after_swap T p q at)
+pub swap-alike : (planes legs : ℕ → Bool) (P Q S T : PlanRows) (p q at : ℕ) → planes p ≡ true → planes q ≡ true → AreMadeAlike planes legs P Q S T → AreMadeAlike planes legs P Q (after_swap S p q at) (after_swap T p q at)
 swap-alike planes legs P Q S T p q at one two alike =
     let agree = alike.agree in
     record {
@@ -408,7 +411,7 @@ swap-alike planes legs P Q S T p q at one two alike =
 
 -- ---- a Set
 
-set-own : (planes : ℕ → Bool) (row : Row) → (is_of planes row || not (is_flown row)) ≡ true → IsOwn planes row
+pub set-own : (planes : ℕ → Bool) (row : Row) → (is_of planes row || not (is_flown row)) ≡ true → IsOwn planes row
 set-own planes (Flown plane dep) new =
     elim (cases_Bool (planes plane.0)) [
       | inl own ↦ inl own
@@ -416,7 +419,7 @@ set-own planes (Flown plane dep) new =
     ]
 set-own planes Cancelled new = inr refl
 
-set-alike : (planes legs : ℕ → Bool) (P Q S T : PlanRows) (x : ℕ) (was new : Row) → legs x ≡ true → IsOwn planes new → AreMadeAlike planes legs P Q S T → AreMadeAlike planes legs P Q (after_set S x was new) (after_set T x was new)
+pub set-alike : (planes legs : ℕ → Bool) (P Q S T : PlanRows) (x : ℕ) (was new : Row) → legs x ≡ true → IsOwn planes new → AreMadeAlike planes legs P Q S T → AreMadeAlike planes legs P Q (after_set S x was new) (after_set T x was new)
 set-alike planes legs P Q S T x was new here own alike =
     let both : is_row (row_at S x) was ≡ is_row (row_at T x) was = ap (λ (row : Row). is_row row was) (alike.agree.same x here) in
     elim (cases_Bool (is_row (row_at T x) was)) [

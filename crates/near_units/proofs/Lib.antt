@@ -7,4 +7,5 @@ pub mod SplitLaws
 pub mod OwnLaws
 pub mod AskedLaws
 pub mod NearLaws
+pub mod MayLaws
 pub mod OutLaws

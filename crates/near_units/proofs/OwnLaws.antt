@@ -46,7 +46,7 @@ pub own-flier : (planes : ℕ → Bool) (row : Row) → is_of planes row ≡ tru
 own-flier planes (Flown plane dep) own = (own, eq-eqb plane.0 plane.0 refl)
 own-flier planes Cancelled own = absurd cc
 
-rules-same : (I : Situation) (F G : PlanRows) (p y : ℕ) → FliesSame F G p → flies F p y ≡ true → keeps_own_rules I F y ≡ keeps_own_rules I G y
+pub rules-same : (I : Situation) (F G : PlanRows) (p y : ℕ) → FliesSame F G p → flies F p y ≡ true → keeps_own_rules I F y ≡ keeps_own_rules I G y
 rules-same I F G p y same on =
     rw (c5-same I F G p same y on, c6-same I F G p same y on, c2-same I F G p same y on, c4-same I F G p same y on, c7-same I F G p same y on) refl
 
@@ -62,7 +62,7 @@ tidying-keeps refilled (Tidy ∷ steps) all = tidying-keeps refilled steps all
 tidying-keeps refilled (Refill leg ∷ steps) all = tidying-keeps refilled steps (and_parts (refilled leg.0) (list_all (is_tidying refilled) steps) all).1
 
 -- the rows that a move makes are those that its first steps make
-made-rows : (planes legs refilled : ℕ → Bool) (I : Situation) (P : PlanRows) (m : Move) (split : IsSplit planes legs refilled m) → (after_move I P m).rows ≡ (after_steps I P split.first).rows
+pub made-rows : (planes legs refilled : ℕ → Bool) (I : Situation) (P : PlanRows) (m : Move) (split : IsSplit planes legs refilled m) → (after_move I P m).rows ≡ (after_steps I P split.first).rows
 unfolding after_move
 made-rows planes legs refilled I P m split =
     ap (λ (steps : List Step). (after_steps I P steps).rows) split.steps

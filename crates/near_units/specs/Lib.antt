@@ -4,4 +4,5 @@ pub mod Room
 pub mod Asked
 pub mod Near
 pub mod Own
+pub mod Whatever
 pub mod Out

@@ -15,6 +15,7 @@ use Rattle.near_chains.specs.Chains.{keeps_aircraft, IsHandedInVain, IsSwappedIn
 use Rattle.near_units.specs.Steps.{unit_planes, unit_legs}
 use Rattle.near_units.specs.Own.{BreaksOwn}
 use Rattle.near_units.specs.Asked.{Questions, MoveAsksWithin}
+use Rattle.near_units.specs.Whatever.{IsDearWhatever}
 
 -- a move begins with the exchange of legs of two aircraft of a unit, in vain
 pub record SwapsInVain (I : Situation) (P : PlanRows) (u : MoveUnit) (m : Move) : Type 0 where
@@ -63,6 +64,8 @@ pub data IsOut (I : Situation) (P : PlanRows) (u : MoveUnit) (m : Move) : Type 0
 pub data HangsOnlyOn (asked : Questions) (I : Situation) (P : PlanRows) (u : MoveUnit) (m : Move) : Type 0 where
   -- it asks nothing else
   asks_within : MoveAsksWithin asked I P m → HangsOnlyOn asked I P u m
+  -- it makes the plan no cheaper, or breaks a rule of a leg of the unit's aircraft, whatever hours answer
+  dear_whatever : IsDearWhatever I P u m → HangsOnlyOn asked I P u m
   -- it gives legs in vain, whatever it asks
   swaps_whatever : SwapsInVain I P u m → HangsOnlyOn asked I P u m
   restores_whatever : RestoresInVain I P u m → HangsOnlyOn asked I P u m

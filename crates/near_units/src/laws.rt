@@ -5,7 +5,8 @@ ghost use Rattle.std.specs.List.{Contains, list_all};
 ghost use Rattle.desk_data.specs.declared.row.Row.TheVariants.{Cancelled};
 ghost use Rattle.desk_data.specs.Situation.{Situation};
 ghost use Rattle.desk_data.specs.PlanRows.{PlanRows, row_at};
-ghost use Rattle.desk_data.specs.Valid.{IsPlanFor};
+ghost use Rattle.desk_data.specs.Valid.{IsPlanFor, IsValid};
+ghost use Rattle.plan_moves.specs.Fits.{Fits};
 ghost use Rattle.plan_moves.specs.declared.moves.Move.{Move};
 ghost use Rattle.plan_moves.specs.declared.moves.Step.{Step};
 ghost use Rattle.desk_rules.specs.Least.{least};
@@ -21,6 +22,7 @@ ghost use Rattle.near_units.specs.Asked.{AnswerAlike, AskMore, StepsAskWithin, M
 ghost use Rattle.near_units.specs.Near.{AreAtAirports, FlipsAreMarked, either, marked, near_caps, of_both};
 ghost use Rattle.near_units.specs.Own.{BreaksOwn};
 ghost use Rattle.near_units.specs.Out.{HangsOnlyOn, IsOut};
+ghost use Rattle.near_units.specs.Whatever.{IsDearWhatever, MaySteps};
 
 /// A unit of legs has the same moves at two plans in which its aircraft fly the same legs with the same rows, and the
 /// same cancelled legs lead back from a leg that is flown again.
@@ -111,6 +113,13 @@ pub fn questions_of_which_no_mark_flips_have_the_same_answer()
 pub fn what_a_move_asks_is_near_the_caps_of_its_airports()
     ensures near { (planes legs refilled : ℕ → Bool) (n : ℕ) (left reached : ℕ → Bool) (I : Situation) (P : PlanRows) (m : Move) → AgreeOn planes legs P P → AreAtAirports n left reached legs I → IsSplit planes legs refilled m → MoveAsksWithin (near_caps n left reached I) I P m }
     ensures both { (planes legs refilled : ℕ → Bool) (n : ℕ) (left reached : ℕ → Bool) (asked : Questions) (I : Situation) (P : PlanRows) (m : Move) → AgreeOn planes legs P P → AreAtAirports n left reached legs I → IsSplit planes legs refilled m → MoveAsksWithin asked I P m → MoveAsksWithin (of_both asked (near_caps n left reached I)) I P m }
+{}
+
+/// What is not better whatever hours answer to the steps of a move is out. The plan that the steps make is one of those that
+/// they may make.
+pub fn a_move_that_is_dear_whatever_hours_answer_is_out()
+    ensures out { (I : Situation) (P : PlanRows) (u : MoveUnit) (m : Move) → IsValid I → IsPlanFor I P → Fits I m → IsDearWhatever I P u m → IsOut I P u m }
+    ensures does { (I : Situation) (P : PlanRows) (steps : Items Step) → MaySteps I P steps (after_steps I P steps) }
 {}
 
 /// Where it is known of each move of a unit of legs why it is not better, none is: it makes the plan no cheaper, it breaks
