@@ -256,6 +256,14 @@ within-at low high f g (Some s) is same =
 within-same : (low high : ℕ) (f g : ℕ → Bool) → ((t : ℕ) → low ≤ t → t ≤ unwrap_or (first_within low high f) high → f t ≡ g t) → first_within low high f ≡ first_within low high g
 within-same low high f g same = within-at low high f g (first_within low high f) refl same
 
+-- an aircraft that is pushed flies the legs that are placed
+rotation-own : (I : Situation) (U : PlanRows) (p : ℕ) → All (λ x. flies U p x ≡ true) (rotation I U p)
+rotation-own I U p = All-weaker (λ x. (x < legs_of I) × (flies U p x ≡ true)) (λ x. flies U p x ≡ true) (λ x both. both.1) (rotation I U p) (rotation-flown I U p)
+
+pub pushed-flown : (I : Situation) (U : PlanRows) (p : ℕ) (after : Option Leg) → All (λ x. flies U p x ≡ true) (pushed_legs I U p after)
+unfolding pushed_legs
+pushed-flown I U p after = All-filter (λ x. not (fixed I x) && comes_after U after x) (λ x. flies U p x ≡ true) (rotation I U p) (rotation-own I U p)
+
 -- the legs of an aircraft that is pushed are the same in plans that agree on it
 module _ (planes legs : ℕ → Bool) (I : Situation) (U V : PlanRows) (start : AgreeOn planes legs U V) (p : ℕ) (own : planes p ≡ true) where
   pushes : FliesSame U V p
@@ -265,19 +273,12 @@ module _ (planes legs : ℕ → Bool) (I : Situation) (U V : PlanRows) (start : 
   after-same None x on = refl
   after-same (Some leg) x on = precedes-to I U V p pushes leg.0 x on
 
-  pushed-own : All (λ x. flies U p x ≡ true) (rotation I U p)
-  pushed-own = All-weaker (λ x. (x < legs_of I) × (flies U p x ≡ true)) (λ x. flies U p x ≡ true) (λ x both. both.1) (rotation I U p) (rotation-flown I U p)
-
   pub pushed-same : (after : Option Leg) → pushed_legs I U p after ≡ pushed_legs I V p after
   unfolding pushed_legs
   pushed-same after =
       filter-same (λ x. not (fixed I x) && comes_after U after x) (λ x. not (fixed I x) && comes_after V after x) (rotation I U p)
-      (λ k d lt. ap (λ (b : Bool). not (fixed I (get_or (rotation I U p) k d)) && b) (after-same after (get_or (rotation I U p) k d) (pushed-own k d lt)))
+      (λ k d lt. ap (λ (b : Bool). not (fixed I (get_or (rotation I U p) k d)) && b) (after-same after (get_or (rotation I U p) k d) (rotation-own I U p k d lt)))
       ∙ ap (filter (λ x. not (fixed I x) && comes_after V after x)) (rotation-same I U V p pushes)
-
-  pub pushed-flown : (after : Option Leg) → All (λ x. flies U p x ≡ true) (pushed_legs I U p after)
-  unfolding pushed_legs
-  pushed-flown after = All-filter (λ x. not (fixed I x) && comes_after U after x) (λ x. flies U p x ≡ true) (rotation I U p) pushed-own
 
 -- a leg of one of the aircraft departs at a moment in both plans, or keeps its row in both
 pub departure-alike : (planes legs : ℕ → Bool) (P Q : PlanRows) (p : ℕ) (own : planes p ≡ true) (S T : PlanRows) (x : ℕ) (o : Option ℕ) → legs x ≡ true → AreMadeAlike planes legs P Q S T → AreMadeAlike planes legs P Q (with_departure S p x o) (with_departure T p x o)
@@ -337,7 +338,7 @@ module _ (planes legs : ℕ → Bool) (I : Situation) (P Q U V : PlanRows) (star
   pub push-alike : (after : Option Leg) → AreMadeAlike planes legs P Q U V → PlacingsAsk Asks I U p U (pushed_legs I U p after) → AreMadeAlike planes legs P Q (after_push I U p after) (after_push I V p after) × PlacingsAsk Later I V p V (pushed_legs I V p after)
   unfolding after_push
   push-alike after alike asks =
-      let placed = placed-alike U V (pushed_legs I U p after) (pushed-flown planes legs I U V start p own after) alike asks in (
+      let placed = placed-alike U V (pushed_legs I U p after) (pushed-flown I U p after) alike asks in (
         subst (λ (xs : List ℕ). AreMadeAlike planes legs P Q (fold (after_placing I U p) U (pushed_legs I U p after)) (fold (after_placing I V p) V xs)) (pushed-same planes legs I U V start p own after) placed.0,
         subst (λ (xs : List ℕ). PlacingsAsk Later I V p V xs) (pushed-same planes legs I U V start p own after) placed.1,
       )

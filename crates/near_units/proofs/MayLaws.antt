@@ -1,13 +1,14 @@
 -- What steps may make of two plans that agree is alike, whatever hours answer.
-use Rattle.std.proofs.Common.{◌≡◌, ℕ, ◌<◌, ◌≤◌, max, inl, inr, Bool, true, ◌||◌, not, List, [], ◌∷◌, ◌++◌, get_or, refl, sym, ap, subst, ◌∙◌, arith}
+use Rattle.std.proofs.Common.{◌≡◌, ℕ, ◌<◌, ◌≤◌, max, inl, inr, Bool, true, ◌||◌, not, eqb, length, List, [], ◌∷◌, ◌++◌, get_or, refl, sym, ap, subst, ◌∙◌, arith}
 use Rattle.std.specs.Prelude.{Option, None, Some, fold}
 use Rattle.std.specs.List.{All, AllByRecursion, list_all}
-use Rattle.std.proofs.lemmas.Bool.{and_parts}
-use Rattle.std.proofs.lemmas.List.Elements.{All-head, All-tail, recursion_from_All}
+use Rattle.std.proofs.lemmas.Bool.{and_parts, cases_eq, cases_lt, eqb-true}
+use Rattle.std.proofs.lemmas.List.{set_past}
+use Rattle.std.proofs.lemmas.List.Elements.{All-head, All-tail, All-weaker, recursion_from_All}
 use Rattle.desk_data.specs.declared.row.Row.{Row}
 use Rattle.desk_data.specs.declared.row.Row.TheVariants.{Flown, Cancelled}
 use Rattle.desk_data.specs.Situation.{Situation, earliest, latest, planes_of}
-use Rattle.desk_data.specs.PlanRows.{PlanRows, row_at}
+use Rattle.desk_data.specs.PlanRows.{PlanRows, row_at, with_row}
 use Rattle.desk_data.specs.Valid.{IsPlanFor, IsValid}
 use Rattle.desk_data.proofs.DepartureLaws.{latest-lt}
 use Rattle.plan_moves.specs.Fits.{StepFits, Fits}
@@ -15,16 +16,18 @@ use Rattle.plan_moves.specs.declared.moves.Move.{Move}
 use Rattle.plan_moves.specs.declared.moves.Step.{Step}
 use Rattle.plan_moves.specs.declared.moves.Step.TheVariants.{Set, Push, Swap, Rebook, Tidy, Refill}
 use Rattle.desk_rules.specs.Cost.{cost}
-use Rattle.desk_rules.specs.Maintenance.{flies}
+use Rattle.desk_rules.specs.Maintenance.{is_flown_by, flies}
 use Rattle.desk_rules.specs.Passengers.{is_flown}
 use Rattle.desk_model.specs.Push.{pushed_legs, leg_before, ready_moment, can_depart, first_departure, with_departure, after_placing, after_push}
 use Rattle.desk_model.specs.Steps.{after_step, after_steps, after_move}
 use Rattle.desk_model.proofs.ChoiceLaws.{first_within-holds}
+use Rattle.desk_model.proofs.SetLaws.{with_row-same, with_row-other}
 use Rattle.desk_model.proofs.ValidLaws.{with_row-valid}
 use Rattle.desk_model.proofs.MoveLaws.{after_step-valid, after_steps-valid}
 use Rattle.near_moves.specs.MoveParts.{flier}
 use Rattle.near_moves.specs.Units.{MoveUnit}
-use Rattle.near_chains.proofs.KeptLaws.{steps-append}
+use Rattle.near_chains.specs.Chains.{keeps_aircraft}
+use Rattle.near_chains.proofs.KeptLaws.{kept-flies, steps-append}
 use Rattle.near_units.specs.Same.{is_of, AgreeOn}
 use Rattle.near_units.specs.Steps.{is_among, IsSplit, unit_planes, unit_legs, unit_refills}
 use Rattle.near_units.specs.Room.{AreMadeAlike}
@@ -86,6 +89,57 @@ pub may-valid : (I : Situation) (S : PlanRows) (steps : List Step) (R : PlanRows
 may-valid I S [] R valid fits plan may = subst (IsPlanFor I) (sym may) plan
 may-valid I S (step ∷ steps) R valid fits plan may = may-valid I may.0 steps R valid fits.1 (step-valid I S step may.0 valid fits.0 plan may.1) may.2
 
+-- ---- aircraft keep their legs
+
+by-one : (p q : ℕ) (row : Row) → is_flown_by p row ≡ true → is_flown_by q row ≡ eqb p q
+by-one p q (Flown plane dep) on = ap (λ (k : ℕ). eqb k q) (eqb-true plane.0 p on)
+by-one p q Cancelled on = absurd cc
+
+departure-flies : (S : PlanRows) (p x : ℕ) (o : Option ℕ) → flies S p x ≡ true → (q y : ℕ) → flies (with_departure S p x o) q y ≡ flies S q y
+departure-flies S p x None on q y = refl
+departure-flies S p x (Some t) on q y =
+    let row : Row = Flown (record { 0 = p }) (record { 0 = t }) in
+    elim (cases_eq y x) [
+      | inr other ↦ ap (is_flown_by q) (with_row-other S x y row other)
+      | inl is ↦ elim (cases_lt x (length S.rows)) [
+        | inl within ↦ subst (λ (k : ℕ). flies (with_row S x row) q k ≡ flies S q k) (sym is) (ap (is_flown_by q) (with_row-same S x row within) ∙ sym (by-one p q (row_at S x) on))
+        | inr past ↦ ap (λ (rows : List Row). flies (record S { rows = rows }) q y) (set_past S.rows x row past)
+      ]
+    ]
+
+place-flies : (I : Situation) (p : ℕ) (S : PlanRows) (xs : List ℕ) (R : PlanRows) → All (λ x. flies S p x ≡ true) xs → MayPlace I p S xs R → (q y : ℕ) → flies R q y ≡ flies S q y
+place-flies I p S [] R on may q y = ap (λ (T : PlanRows). flies T q y) may
+place-flies I p S (x ∷ xs) R on may q y =
+    let Own : ℕ → Type 0 = λ z. flies S p z ≡ true in
+    let next = with_departure S p x may.0 in
+    let one : (k z : ℕ) → flies next k z ≡ flies S k z = departure-flies S p x may.0 (All-head Own x xs on) in
+    place-flies I p next xs R (All-weaker Own (λ z. flies next p z ≡ true) (λ z own. one p z ∙ own) xs (All-tail Own x xs on)) may.2 q y ∙ one q y
+
+step-flies : (I : Situation) (S : PlanRows) (step : Step) (R : PlanRows) → keeps_aircraft step ≡ true → MayStep I S step R → (q y : ℕ) → flies R q y ≡ flies S q y
+step-flies I S (Set leg was new) R keeps may q y = absurd cc
+step-flies I S (Push plane after) R keeps may q y = place-flies I plane.0 S (pushed_legs I S plane.0 after) R (pushed-flown I S plane.0 after) may q y
+step-flies I S (Swap first second at) R keeps may q y = absurd cc
+step-flies I S (Rebook res path to count) R keeps may q y = ap (λ (T : PlanRows). flies T q y) may ∙ kept-flies I S (Rebook res path to count ∷ []) q y refl
+step-flies I S Tidy R keeps may q y = ap (λ (T : PlanRows). flies T q y) may ∙ kept-flies I S (Tidy ∷ []) q y refl
+step-flies I S (Refill leg) R keeps may q y = ap (λ (T : PlanRows). flies T q y) may ∙ kept-flies I S (Refill leg ∷ []) q y refl
+
+pub may-flies : (I : Situation) (S : PlanRows) (steps : List Step) (R : PlanRows) (q y : ℕ) → list_all keeps_aircraft steps ≡ true → MaySteps I S steps R → flies R q y ≡ flies S q y
+may-flies I S [] R q y keeps may = ap (λ (T : PlanRows). flies T q y) may
+may-flies I S (step ∷ steps) R q y keeps may =
+    let parts = and_parts (keeps_aircraft step) (list_all keeps_aircraft steps) keeps in
+    may-flies I may.0 steps R q y parts.1 may.2 ∙ step-flies I S step may.0 parts.0 may.1 q y
+
+departure-row : (S : PlanRows) (p x y : ℕ) (o : Option ℕ) → (y ≡ x → ⊥) → row_at (with_departure S p x o) y ≡ row_at S y
+departure-row S p x y None other = refl
+departure-row S p x y (Some t) other = with_row-other S x y (Flown (record { 0 = p }) (record { 0 = t })) other
+
+-- a leg that is not placed keeps its row
+pub place-rows : (I : Situation) (p : ℕ) (S : PlanRows) (xs : List ℕ) (R : PlanRows) (y : ℕ) → MayPlace I p S xs R → All (λ x. y ≡ x → ⊥) xs → row_at R y ≡ row_at S y
+place-rows I p S [] R y may apart = ap (λ (T : PlanRows). row_at T y) may
+place-rows I p S (x ∷ xs) R y may apart =
+    let Apart : ℕ → Type 0 = λ z. y ≡ z → ⊥ in
+    place-rows I p (with_departure S p x may.0) xs R y may.2 (All-tail Apart x xs apart) ∙ departure-row S p x y may.0 (All-head Apart x xs apart)
+
 -- ---- in both plans
 
 module _ (planes legs : ℕ → Bool) (I : Situation) (P Q : PlanRows) where
@@ -111,7 +165,7 @@ module _ (planes legs : ℕ → Bool) (I : Situation) (P Q : PlanRows) where
       record { plan = after_step I S (Set leg was new); comes = refl; alike = subst (AreMadeAlike planes legs P Q (after_step I S (Set leg was new))) (sym may) (set-alike planes legs P Q S T leg.0 was new parts.0 (set-own planes new parts.1) alike) }
   may-step S T (Push plane after) G among alike may =
       let same = pushed-same planes legs I S T alike.agree plane.0 among after in
-      let placed = place-alike S T alike.agree plane.0 among S T (pushed_legs I S plane.0 after) G (pushed-flown planes legs I S T alike.agree plane.0 among after) alike (subst (λ (xs : List ℕ). MayPlace I plane.0 T xs G) (sym same) may) in
+      let placed = place-alike S T alike.agree plane.0 among S T (pushed_legs I S plane.0 after) G (pushed-flown I S plane.0 after) alike (subst (λ (xs : List ℕ). MayPlace I plane.0 T xs G) (sym same) may) in
       record { plan = placed.plan; comes = placed.comes; alike = placed.alike }
   may-step S T (Swap first second at) G among alike may =
       let parts = and_parts (planes first.0) (planes second.0) among in

@@ -1,8 +1,10 @@
 -- What a move asks is near the caps of the airports of its legs, and marks that keep questions apart.
-use Rattle.std.proofs.Common.{◌≡◌, ℕ, ◌+◌, ◌-◌, ◌≤◌, ◌⊎◌, inl, inr, Bool, true, false, ◌&&◌, ◌||◌, eqb, leb, ltb, not, refl, sym, ◌∙◌, arith}
+use Rattle.std.proofs.Common.{◌≡◌, ℕ, ◌+◌, ◌-◌, ◌<◌, ◌≤◌, ◌⊎◌, inl, inr, Bool, true, false, ◌&&◌, ◌||◌, eqb, leb, ltb, not, refl, sym, ◌∙◌, arith}
 use Rattle.std.specs.Prelude.{Option, None, Some, count_by}
-use Rattle.std.proofs.lemmas.Bool.{cases_Bool, true≢false, and_parts, and_from, or_left, or_right, le-leb, le-ltb, leb-true, false_from_ne_true}
+use Rattle.std.specs.List.{Contains}
+use Rattle.std.proofs.lemmas.Bool.{cases_Bool, true≢false, and_parts, and_from, or_left, or_parts, or_right, le-leb, le-ltb, leb-true, false_from_ne_true}
 use Rattle.desk_data.specs.declared.row.Row.{Row}
+use Rattle.desk_data.specs.declared.row.Row.TheVariants.{Cancelled}
 use Rattle.desk_data.specs.Situation.{Situation, legs_of, leg_at, plane_at}
 use Rattle.desk_data.specs.Hours.{dep_cap, arr_cap}
 use Rattle.desk_data.specs.PlanRows.{PlanRows, row_at}
@@ -13,12 +15,16 @@ use Rattle.desk_rules.specs.Slots.{hour_of}
 use Rattle.desk_rules.specs.Passengers.{is_flown}
 use Rattle.desk_model.specs.Push.{departures_beside, arrivals_beside}
 use Rattle.near_moves.proofs.FromLaws.{or_cases}
-use Rattle.near_units.specs.Same.{AgreeOn}
-use Rattle.near_units.specs.Steps.{IsSplit}
+use Rattle.near_moves.specs.Near.{unit_moves}
+use Rattle.near_moves.specs.Units.{MoveUnit}
+use Rattle.near_units.specs.Same.{is_of, AgreeOn}
+use Rattle.near_units.specs.Steps.{IsSplit, unit_planes, unit_restores, unit_legs, unit_refills, BeginsFlown}
 use Rattle.near_units.specs.Room.{AreMadeAlike}
-use Rattle.near_units.specs.Asked.{all_departures, all_arrivals, Questions, AnswerAlike, flips, AsksRoom, AsksToLeave, AsksToReach, AsksMoment, origin_full, dest_full, both, MoveAsksWithin}
+use Rattle.near_units.specs.Asked.{all_departures, all_arrivals, Questions, AnswerAlike, flips, AskMore, AsksRoom, AsksToLeave, AsksToReach, AsksMoment, origin_full, dest_full, both, MoveAsksWithin}
+use Rattle.near_units.specs.Out.{HangsOnlyOn, asks_within}
 use Rattle.near_units.specs.Near.{is_near, everything, near_caps, AreAtAirports, either, of_both, marked, FlipsAreMarked}
 use Rattle.near_units.proofs.FrameLaws.{count-weaker, inside, leaves_by, reaches_by, leaves-from, reaches-to, count-first, count-second, KeepSlots, start-alike, known-steps}
+use Rattle.near_units.proofs.SplitLaws.{moves-split}
 use Rattle.near_units.proofs.AskedLaws.{leaves, reaches, counted, outside-all, asked-slots, steps-more, move-alike, flips-none}
 
 -- ---- limits
@@ -120,6 +126,31 @@ move-near_caps planes legs refilled n left reached I P m start airports split =
     (record { departures = λ a h limit on. on; arrivals = λ a h limit on. on }) I P P m.steps
     (move-near planes legs n left reached everything I P start airports refilled m split (any-move I P m))
 
+-- ---- the moves of a unit
+
+-- a plan agrees with itself on the legs of a unit, where those that it may fly again are cancelled
+unit-agrees : (I : Situation) (P : PlanRows) (u : MoveUnit) → ((y : ℕ) → unit_restores I P u y ≡ true → row_at P y ≡ Cancelled) → AgreeOn (unit_planes P u) (unit_legs I P u) P P
+unit-agrees I P u gone =
+    let off : (y : ℕ) → unit_legs I P u y ≡ false → is_of (unit_planes P u) (row_at P y) ≡ false = λ y none. (or_parts (is_of (unit_planes P u) (row_at P y)) (unit_restores I P u y) none).0 in
+    record {
+      many = refl;
+      same = λ y own. refl;
+      own = λ y own. elim (or_cases (is_of (unit_planes P u) (row_at P y)) (unit_restores I P u y) own) [
+        | inl flown ↦ inl flown
+        | inr restores ↦ inr (gone y restores)
+      ];
+      before = off;
+      now = off;
+    }
+
+pub unit-near : (n : ℕ) (left reached : ℕ → Bool) (I : Situation) (P : PlanRows) (u : MoveUnit) (m : Move) → BeginsFlown P u → ((y : ℕ) → unit_restores I P u y ≡ true → row_at P y ≡ Cancelled) → AreAtAirports n left reached (unit_legs I P u) I → Contains (unit_moves I P u) m → HangsOnlyOn (near_caps n left reached I) I P u m
+unit-near n left reached I P u m on gone airports has =
+    asks_within (move-near_caps (unit_planes P u) (unit_legs I P u) (unit_refills I P u) n left reached I P m (unit-agrees I P u gone) airports (moves-split I P u m on has))
+
+pub unit-both : (n : ℕ) (left reached : ℕ → Bool) (asked : Questions) (I : Situation) (P : PlanRows) (u : MoveUnit) (m : Move) → BeginsFlown P u → ((y : ℕ) → unit_restores I P u y ≡ true → row_at P y ≡ Cancelled) → AreAtAirports n left reached (unit_legs I P u) I → Contains (unit_moves I P u) m → MoveAsksWithin asked I P m → HangsOnlyOn (of_both asked (near_caps n left reached I)) I P u m
+unit-both n left reached asked I P u m on gone airports has asks =
+    asks_within (move-near (unit_planes P u) (unit_legs I P u) n left reached asked I P (unit-agrees I P u gone) airports (unit_refills I P u) m (moves-split I P u m on has) asks)
+
 -- ---- answers of several questions
 
 pub either-alike : (one two : Questions) (I : Situation) (P Q : PlanRows) → AnswerAlike one I P Q → AnswerAlike two I P Q → AnswerAlike (either one two) I P Q
@@ -139,6 +170,16 @@ alike-after asked I P Q R first second = record {
   departures = λ a h limit on. first.departures a h limit on ∙ second.departures a h limit on;
   arrivals = λ a h limit on. first.arrivals a h limit on ∙ second.arrivals a h limit on;
 }
+
+-- an hour with room for more than n legs flips nothing near its cap
+pub roomy-flips : (n before now limit cap : ℕ) → n + before < cap → n + now < cap → is_near n limit (Some cap) ≡ true → flips before now limit ≡ false
+roomy-flips n before now limit cap one two near =
+    let far = leb-true cap (limit + n) (and_parts (leb cap (limit + n)) (leb limit (cap + n)) near).0 in
+    false_from_ne_true (flips before now limit)
+    (λ on. elim (or_cases (ltb before limit && leb limit now) (ltb now limit && leb limit before) on) [
+      | inl up ↦ (let most = leb-true limit now (and_parts (ltb before limit) (leb limit now) up).1 in absurd (omega (arith, far, most, two)))
+      | inr down ↦ (let most = leb-true limit before (and_parts (ltb now limit) (leb limit before) down).1 in absurd (omega (arith, far, most, one)))
+    ])
 
 -- ---- marks
 
@@ -192,4 +233,15 @@ marks-after mark_of before now some I P Q R first second = record {
         | inl one ↦ or_left (before k) (now k) (first.arrivals a h limit is one)
         | inr two ↦ or_right (before k) (now k) (second.arrivals a h limit is two)
       ];
+}
+
+-- more marks are those of more questions
+pub marks-more : (mark_of : ℕ → ℕ → ℕ → ℕ → ℕ) (marks more : ℕ → Bool) (some : Questions) → ((k : ℕ) → marks k ≡ true → more k ≡ true) → AskMore (of_both (marked mark_of marks) some) (of_both (marked mark_of more) some)
+marks-more mark_of marks more some within = record {
+  departures = λ a h limit on.
+      let parts = and_parts (marks (mark_of 0 a h limit)) (some.departures a h limit) on in
+      and_from (more (mark_of 0 a h limit)) (some.departures a h limit) (within (mark_of 0 a h limit) parts.0) parts.1;
+  arrivals = λ a h limit on.
+      let parts = and_parts (marks (mark_of 1 a h limit)) (some.arrivals a h limit) on in
+      and_from (more (mark_of 1 a h limit)) (some.arrivals a h limit) (within (mark_of 1 a h limit) parts.0) parts.1;
 }

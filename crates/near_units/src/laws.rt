@@ -1,6 +1,6 @@
 //! What holds of a unit of legs at two plans.
 
-ghost use Rattle.std.specs.Prelude.{◌≡◌, ℕ, ◌||◌, Bool, List as Items, All, None, true, false};
+ghost use Rattle.std.specs.Prelude.{◌≡◌, ◌≢◌, ℕ, ◌+◌, ◌<◌, ◌||◌, Bool, List as Items, All, None, Some, true, false};
 ghost use Rattle.std.specs.List.{Contains, list_all};
 ghost use Rattle.desk_data.specs.declared.row.Row.TheVariants.{Cancelled};
 ghost use Rattle.desk_data.specs.Situation.{Situation};
@@ -10,19 +10,20 @@ ghost use Rattle.plan_moves.specs.Fits.{Fits};
 ghost use Rattle.plan_moves.specs.declared.moves.Move.{Move};
 ghost use Rattle.plan_moves.specs.declared.moves.Step.{Step};
 ghost use Rattle.desk_rules.specs.Least.{least};
+ghost use Rattle.desk_rules.specs.Maintenance.{flies};
 ghost use Rattle.desk_model.specs.Steps.{after_steps};
 ghost use Rattle.near_moves.specs.Descent.{is_better};
 ghost use Rattle.near_moves.specs.Near.{unit_moves};
 ghost use Rattle.near_moves.specs.Units.{MoveUnit};
-ghost use Rattle.near_chains.specs.Chains.{IsHandedInVain, IsRestoredInVain, IsSwappedInVain};
+ghost use Rattle.near_chains.specs.Chains.{IsHandedInVain, IsRestoredInVain, IsSwappedInVain, keeps_aircraft};
 ghost use Rattle.near_units.specs.Same.{AgreeOn, FliesSame, FlyUnitSame};
-ghost use Rattle.near_units.specs.Steps.{BeginsFlown, IsSplit, is_among, unit_legs, unit_planes, unit_refills};
+ghost use Rattle.near_units.specs.Steps.{BeginsFlown, IsSplit, is_among, unit_legs, unit_planes, unit_refills, unit_restores};
 ghost use Rattle.near_units.specs.Room.{AreMadeAlike, HaveSameRoom};
-ghost use Rattle.near_units.specs.Asked.{AnswerAlike, AskMore, StepsAskWithin, MoveAsksWithin, NoneFlips, Questions};
-ghost use Rattle.near_units.specs.Near.{AreAtAirports, FlipsAreMarked, either, marked, near_caps, of_both};
+ghost use Rattle.near_units.specs.Asked.{AnswerAlike, AskMore, MoveAsksWithin, NoneFlips, Questions, StepsAskWithin, flips};
+ghost use Rattle.near_units.specs.Near.{AreAtAirports, FlipsAreMarked, either, is_near, marked, near_caps, of_both};
 ghost use Rattle.near_units.specs.Own.{BreaksOwn};
 ghost use Rattle.near_units.specs.Out.{HangsOnlyOn, IsOut};
-ghost use Rattle.near_units.specs.Whatever.{IsDearWhatever, MaySteps};
+ghost use Rattle.near_units.specs.Whatever.{IsDearWhatever, MayPlace, MaySteps};
 
 /// A unit of legs has the same moves at two plans in which its aircraft fly the same legs with the same rows, and the
 /// same cancelled legs lead back from a leg that is flown again.
@@ -92,19 +93,23 @@ pub fn what_asks_within_some_questions_asks_within_more()
 {}
 
 /// A question has the same answer in two plans unless its limit is above the lesser of the hour's two counts, and not above
-/// the greater: where the count stays, no answer flips. So have the questions of either of two, and those that have the same
-/// answer from a first plan to a second and from there to a third.
+/// the greater: where the count stays, no answer flips, and none near the cap where there is room for more legs in both plans.
+/// So have the questions of either of two, and those that have the same answer from a first plan to a second and from there
+/// to a third.
 pub fn questions_that_do_not_flip_have_the_same_answer()
     ensures none { (asked : Questions) (I : Situation) (P Q : PlanRows) → NoneFlips asked I P Q → AnswerAlike asked I P Q }
+    ensures roomy { (n before now limit cap : ℕ) → n + before < cap → n + now < cap → is_near n limit (Some cap) ≡ true → flips before now limit ≡ false }
     ensures both { (one two : Questions) (I : Situation) (P Q : PlanRows) → AnswerAlike one I P Q → AnswerAlike two I P Q → AnswerAlike (either one two) I P Q }
     ensures after { (asked : Questions) (I : Situation) (P Q R : PlanRows) → AnswerAlike asked I P Q → AnswerAlike asked I Q R → AnswerAlike asked I P R }
 {}
 
 /// Questions have the same answer whose marks are none of those that flipped. What flipped from a first plan to a third has
-/// a mark that flipped from the first to the second, or from there to the third.
+/// a mark that flipped from the first to the second, or from there to the third. And more marks are those of more questions,
+/// so that the marks of several moves may be kept as one.
 pub fn questions_of_which_no_mark_flips_have_the_same_answer()
     ensures alike { (mark_of : ℕ → ℕ → ℕ → ℕ → ℕ) (asked flipped : ℕ → Bool) (some : Questions) (I : Situation) (P Q : PlanRows) → ((k : ℕ) → asked k ≡ true → flipped k ≡ false) → FlipsAreMarked mark_of flipped some I P Q → AnswerAlike (of_both (marked mark_of asked) some) I P Q }
     ensures after { (mark_of : ℕ → ℕ → ℕ → ℕ → ℕ) (before now : ℕ → Bool) (some : Questions) (I : Situation) (P Q R : PlanRows) → FlipsAreMarked mark_of before some I P Q → FlipsAreMarked mark_of now some I Q R → FlipsAreMarked mark_of (λ k. before k || now k) some I P R }
+    ensures more { (mark_of : ℕ → ℕ → ℕ → ℕ → ℕ) (marks more : ℕ → Bool) (some : Questions) → ((k : ℕ) → marks k ≡ true → more k ≡ true) → AskMore (of_both (marked mark_of marks) some) (of_both (marked mark_of more) some) }
 {}
 
 /// Whatever a move of some legs asks is of the airports that these leave or reach, with limits no farther from the cap than
@@ -115,11 +120,25 @@ pub fn what_a_move_asks_is_near_the_caps_of_its_airports()
     ensures both { (planes legs refilled : ℕ → Bool) (n : ℕ) (left reached : ℕ → Bool) (asked : Questions) (I : Situation) (P : PlanRows) (m : Move) → AgreeOn planes legs P P → AreAtAirports n left reached legs I → IsSplit planes legs refilled m → MoveAsksWithin asked I P m → MoveAsksWithin (of_both asked (near_caps n left reached I)) I P m }
 {}
 
+/// So what is known of a move of a unit hangs on no other questions than those near the caps of the airports of its legs; and
+/// where it is known of the move to ask within some questions, on no others than those of them. The legs that the unit may
+/// fly again are cancelled.
+pub fn what_is_known_of_a_move_hangs_on_the_airports_of_its_unit()
+    ensures near { (n : ℕ) (left reached : ℕ → Bool) (I : Situation) (P : PlanRows) (u : MoveUnit) (m : Move) → BeginsFlown P u → ((y : ℕ) → unit_restores I P u y ≡ true → row_at P y ≡ Cancelled) → AreAtAirports n left reached (unit_legs I P u) I → Contains (unit_moves I P u) m → HangsOnlyOn (near_caps n left reached I) I P u m }
+    ensures both { (n : ℕ) (left reached : ℕ → Bool) (asked : Questions) (I : Situation) (P : PlanRows) (u : MoveUnit) (m : Move) → BeginsFlown P u → ((y : ℕ) → unit_restores I P u y ≡ true → row_at P y ≡ Cancelled) → AreAtAirports n left reached (unit_legs I P u) I → Contains (unit_moves I P u) m → MoveAsksWithin asked I P m → HangsOnlyOn (of_both asked (near_caps n left reached I)) I P u m }
+{}
+
 /// What is not better whatever hours answer to the steps of a move is out. The plan that the steps make is one of those that
 /// they may make.
 pub fn a_move_that_is_dear_whatever_hours_answer_is_out()
     ensures out { (I : Situation) (P : PlanRows) (u : MoveUnit) (m : Move) → IsValid I → IsPlanFor I P → Fits I m → IsDearWhatever I P u m → IsOut I P u m }
     ensures does { (I : Situation) (P : PlanRows) (steps : Items Step) → MaySteps I P steps (after_steps I P steps) }
+{}
+
+/// Whatever hours answer, a Push leaves each leg to the aircraft that flies it, and each leg that it does not place its row.
+pub fn whatever_hours_answer_aircraft_keep_their_legs()
+    ensures aircraft { (I : Situation) (S : PlanRows) (steps : Items Step) (R : PlanRows) (p x : ℕ) → list_all keeps_aircraft steps ≡ true → MaySteps I S steps R → flies R p x ≡ flies S p x }
+    ensures rows { (I : Situation) (p : ℕ) (S : PlanRows) (legs : Items ℕ) (R : PlanRows) (x : ℕ) → MayPlace I p S legs R → All (λ y. x ≢ y) legs → row_at R x ≡ row_at S x }
 {}
 
 /// Where it is known of each move of a unit of legs why it is not better, none is: it makes the plan no cheaper, it breaks

@@ -9,6 +9,12 @@
 //! Of a move of a unit it is known why it is not better: it makes the plan no cheaper, it breaks such a rule, or it gives
 //! legs in vain.
 //!
+//! What steps ask of hours is said in `specs/Asked`: a Push asks whether fewer legs than a limit depart from an airport in an
+//! hour, or arrive there, of all legs of the plan, so that one question may be asked by many units. Where no answer flips that
+//! a move hangs on, it makes the same of its legs again, and asks the same again. `specs/Near` says which questions there can
+//! be at all, and keeps them by marks; and `specs/Whatever` which moves hang on none, since they are not better whatever hours
+//! answer.
+//!
 //! The code here is laws: each is a public function with an empty body, whose contract is the law.
 #![tactic(auto)]
 
@@ -27,4 +33,6 @@ pub use laws::{
     steps_that_ask_what_has_the_same_answer_make_the_same,
     what_a_move_asks_is_near_the_caps_of_its_airports,
     what_asks_within_some_questions_asks_within_more,
+    what_is_known_of_a_move_hangs_on_the_airports_of_its_unit,
+    whatever_hours_answer_aircraft_keep_their_legs,
 };
