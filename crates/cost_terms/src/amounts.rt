@@ -5,13 +5,13 @@ ghost use Rattle.desk_data.specs.Situation.{legs_of, reservations_of};
 ghost use Rattle.desk_data.specs.Valid.{IsPathOf, IsPlanFor};
 ghost use Rattle.desk_rules.specs.Cost.{cancellation, delay, downgrade, legal};
 ghost use Rattle.desk_rules.specs.Passengers.{minutes_late};
-ghost use Rattle.full_cost.specs.Amounts.{IsEnd, group_cost, path_end};
+ghost use Rattle.full_cost.specs.Amounts.{group_cost};
 ghost use Rattle.full_cost.specs.Counted.{IsGroupOf, group_on};
 ghost use Rattle.cost_terms.specs.Amounts.{amount};
 
-use desk_data::{Cabin, Grains, Instance, Leg, Minute, Res, Term};
+use desk_data::{Cabin, Grains, Instance, Leg, Res, Term};
 use desk_units::{per_hour, per_item};
-use full_cost::path_cost;
+use full_cost::{path_cost, path_end};
 use plan_reads::{ReadPlan, all_flown, arrival, is_carried};
 
 /// The terms that passengers cost.
@@ -21,21 +21,6 @@ pub(crate) enum PassengerTerm {
     Cancellation,
     Downgrade,
     Legal,
-}
-
-// When passengers arrive on a path, if they do.
-#[tactic(auto, unfolding(full_cost::specs::Amounts::path_end))]
-fn path_end<P: ReadPlan>(inst: &Instance, plan: &P, path: &[(Leg, Cabin)]) -> Option<Minute>
-    requires plan { IsPlanFor inst.now (P.plan_of plan.now) }
-    requires path { IsPathOf (legs_of inst.now) path.now }
-    ensures end { result ≡ path_end inst.now (P.plan_of plan.now) path.now }
-    ensures limit { IsEnd result }
-{
-    if !is_carried(path) || !all_flown(plan, path) {
-        return None;
-    }
-    let last = path[path.len() - 1].0;
-    Some(Minute(arrival(inst, plan, last)))
 }
 
 // How many minutes after the booked arrival a path arrives whose legs are flown, 0 if not later.

@@ -1,6 +1,6 @@
 //! Judging a plan: what it breaks first, and what it costs.
 //!
-//! `judge_plan` checks a plan against the rules in four threads, sums up its cost, and writes the report of both: `feasible`
+//! `judge_plan` checks a plan against the rules, of a large day in four threads, sums up its cost, and writes the report of both: `feasible`
 //! or `broken ITEM`, and `cost COST`. `judge_crews` reports what the crews break first besides. They write no file. `judged` and
 //! `verdict_report` are their steps, for whoever goes on with a plan that breaks no rule.
 //!

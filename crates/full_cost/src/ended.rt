@@ -97,9 +97,10 @@ fn minutes_late(inst: &Instance, res: Res, at: Minute) -> u32
     at.0.saturating_sub(inst.booked(res).arrival.0)
 }
 
-/// When passengers arrive on a path, if they do.
+/// When passengers arrive on a path by a plan: with its last leg, a moment below 52,502,880. `None` where the path is empty or
+/// one of its legs is not flown.
 #[tactic(auto, unfolding(crate::specs::Amounts::path_end))]
-pub(crate) fn path_end<P: ReadPlan>(
+pub fn path_end<P: ReadPlan>(
     inst: &Instance,
     plan: &P,
     path: &[(Leg, Cabin)],

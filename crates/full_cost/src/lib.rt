@@ -23,6 +23,6 @@ mod stands;
 mod weights;
 
 pub use cost::full_cost;
-pub use ended::path_cost;
+pub use ended::{path_cost, path_end};
 pub use operating::flight_cost;
 pub use passenger::passenger_cost;

@@ -10,8 +10,8 @@
 //! becomes of its passengers. What these can save is bounded twice, and the second bound is asked where the first one does
 //! not say so:
 //!
-//! - by what they pay: all those who are on a leg that gets another row, or are booked on one that is refilled. That is two
-//!   look-ups a leg.
+//! - by what they pay: all those who are on a leg that gets another row, or are booked on one that is refilled. That is one
+//!   look-up for each such leg.
 //! - by what they cost at least by the rows of the draft, where one Tidy is taken and then Refills alone. Passengers whose
 //!   path arrives then stay on it or are no longer carried, whichever costs less; those of another path are not carried, as
 //!   those are who were not before. What a reservation that has somebody on a leg with another row pays beyond that is what

@@ -3,8 +3,7 @@
 ghost use Rattle.std.specs.Prelude.{◌≡◌, ◌+◌, ◌-◌, ◌<◌, ◌≤◌, All, sum_by};
 ghost use Rattle.std.specs.Option.{ForSome};
 ghost use Rattle.desk_data.specs.Situation.{Situation, legs_of, reservations_of};
-ghost use Rattle.desk_data.specs.Valid.{IsPathOf, IsPlanFor};
-ghost use Rattle.full_cost.specs.Amounts.{IsEnd, path_end};
+ghost use Rattle.desk_data.specs.Valid.{IsPlanFor};
 ghost use Rattle.full_cost.specs.Counted.{IsGroupOf, group_on};
 ghost use Rattle.near_draft.specs.Drafts.{plan_of};
 ghost use Rattle.near_priced.specs.Saved.{least_after, least_of, saved_by, saved_on, uncarried_cost};
@@ -12,12 +11,11 @@ ghost use Rattle.near_priced.specs.Tables.{ArePayments};
 
 use crate::left::take_off;
 use crate::payments::Payments;
-use desk_data::{Cabin, Instance, Leg, Minute, Res};
-use full_cost::path_cost;
+use desk_data::{Cabin, Instance, Leg, Res};
+use full_cost::{path_cost, path_end};
 use near_draft::Draft;
 use near_unpaid::cost_of;
 use plan_pages::Pages;
-use plan_reads::{ReadPlan, all_flown, arrival, is_carried};
 
 /// What is left of a limit once that is taken off which those save at most who are on some legs, leg by leg; `None` where
 /// they may save more.
@@ -122,19 +120,4 @@ fn uncarried(inst: &Instance, res: Res, count: u32) -> u128
     ensures { result ≡ uncarried_cost inst.now res.0 count }
 {
     path_cost(inst, res, &[], count, None).0
-}
-
-/// When passengers arrive on a path in a draft, if they do.
-#[tactic(auto, unfolding(full_cost::specs::Amounts::path_end))]
-fn path_end(inst: &Instance, draft: &Draft, path: &[(Leg, Cabin)]) -> Option<Minute>
-    requires plan { IsPlanFor inst.now (plan_of draft.now) }
-    requires path { IsPathOf (legs_of inst.now) path.now }
-    ensures end { result ≡ path_end inst.now (plan_of draft.now) path.now }
-    ensures limit { IsEnd result }
-{
-    if !is_carried(path) || !all_flown(draft, path) {
-        return None;
-    }
-    let last = path[path.len() - 1].0;
-    Some(Minute(arrival(inst, draft, last)))
 }

@@ -1,4 +1,4 @@
-//! The check of a plan against the rules C1 to C15 in four threads, each with a part of it.
+//! The check of a plan against the rules C1 to C15, of a large day in four threads, each with a part of it.
 //!
 //!     match par_check(rt, alloc, &inst, &plan)? {
 //!         None => ..,                 // the plan breaks no rule
