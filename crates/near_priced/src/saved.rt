@@ -16,6 +16,7 @@ use full_cost::{path_cost, path_end};
 use near_draft::Draft;
 use near_unpaid::cost_of;
 use plan_pages::Pages;
+use plan_reads::ReadPlan;
 
 /// What is left of a limit once that is taken off which those save at most who are on some legs, leg by leg; `None` where
 /// they may save more.
