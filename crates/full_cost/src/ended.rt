@@ -100,11 +100,7 @@ fn minutes_late(inst: &Instance, res: Res, at: Minute) -> u32
 /// When passengers arrive on a path by a plan: with its last leg, a moment below 52,502,880. `None` where the path is empty or
 /// one of its legs is not flown.
 #[tactic(auto, unfolding(crate::specs::Amounts::path_end))]
-pub fn path_end<P: ReadPlan>(
-    inst: &Instance,
-    plan: &P,
-    path: &[(Leg, Cabin)],
-) -> Option<Minute>
+pub fn path_end<P: ReadPlan>(inst: &Instance, plan: &P, path: &[(Leg, Cabin)]) -> Option<Minute>
     requires plan { IsPlanFor inst.now (P.plan_of plan.now) }
     requires path { IsPathOf (legs_of inst.now) path.now }
     ensures end { result ≡ path_end inst.now (P.plan_of plan.now) path.now }
