@@ -24,10 +24,10 @@ use Rattle.plan_reads.specs.Before.{IsLegBefore}
 use Rattle.plan_reads.specs.AfterLeg.{IsRotationLegBefore, leg_in, with_departure, c5_location_after, has_ground_time_after, c6_ground_time_after}
 use Rattle.plan_reads.proofs.AfterLegLaws.{keeps_c5-after, keeps_c6-after, before-within}
 use Rattle.plan_reads.proofs.LastLaws.{last_in}
-use Rattle.added_rules.specs.declared.added.Added.{Added}
-use Rattle.added_rules.specs.Merged.{added_for, leg_for, row_for, merged_day, merged_plan}
-use Rattle.added_rules.proofs.MergedLaws.{old_leg, new_leg, new_row, merged_legs}
-use Rattle.added_rules.proofs.NoneLaws.{same_spans}
+use Rattle.added_legs.specs.declared.added.Added.{Added}
+use Rattle.added_legs.specs.Merged.{added_for, leg_for, row_for, merged_day, merged_plan}
+use Rattle.added_legs.proofs.MergedLaws.{old_leg, new_leg, new_row, merged_legs}
+use Rattle.added_legs.proofs.NoneLaws.{same_spans}
 use Rattle.added_legs.specs.declared.flight.Flight.{Flight}
 use Rattle.added_legs.specs.Flights.{flight_of, AreFlights}
 use Rattle.added_legs.specs.Stands.{is_after, stand_with}

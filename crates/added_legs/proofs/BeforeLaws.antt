@@ -15,9 +15,9 @@ use Rattle.desk_rules.specs.Maintenance.{is_flown_by, departs_before}
 use Rattle.desk_rules.specs.Least.{leg, plane}
 use Rattle.plan_reads.specs.Last.{IsLastOf}
 use Rattle.plan_reads.specs.Before.{IsLegBefore}
-use Rattle.added_rules.specs.declared.added.Added.{Added}
-use Rattle.added_rules.specs.Merged.{added_for, row_for, merged_plan}
-use Rattle.added_rules.proofs.MergedLaws.{new_row}
+use Rattle.added_legs.specs.declared.added.Added.{Added}
+use Rattle.added_legs.specs.Merged.{added_for, row_for, merged_plan}
+use Rattle.added_legs.proofs.MergedLaws.{new_row}
 use Rattle.added_legs.specs.Stands.{is_after}
 use Rattle.added_legs.proofs.LastLaws.{IsLastIn, with_added, last_with, later, row_old}
 

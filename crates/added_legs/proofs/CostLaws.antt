@@ -13,10 +13,10 @@ use Rattle.desk_data.specs.Valid.{IsValid, IsPlanFor}
 use Rattle.desk_rules.specs.Numbers.{numbers}
 use Rattle.desk_rules.specs.Cost.{weight, by_hour, operating_of, operating, operating_cost, delay, delay_cost, cancellation, cancellation_cost, downgrade, downgrade_cost, legal, legal_cost, position_cost, cost}
 use Rattle.desk_rules.proofs.CostLaws.{operating_most, item_most, delay_most, downgrade_most, legal_most, missing_most, operating-sum-le, reservations-le, delay-le, cancellation-le, downgrade-le, legal-le, missing-sum-le}
-use Rattle.added_rules.specs.declared.added.Added.{Added}
-use Rattle.added_rules.specs.Merged.{added_for, leg_for, row_for, merged_day, merged_plan}
-use Rattle.added_rules.specs.Added.{cost_added}
-use Rattle.added_rules.proofs.MergedLaws.{old_leg, new_leg, old_row, new_row, merged_legs}
+use Rattle.added_legs.specs.declared.added.Added.{Added}
+use Rattle.added_legs.specs.Merged.{added_for, leg_for, row_for, merged_day, merged_plan}
+use Rattle.added_legs.specs.Added.{cost_added}
+use Rattle.added_legs.proofs.MergedLaws.{old_leg, new_leg, old_row, new_row, merged_legs}
 use Rattle.added_legs.specs.declared.flight.Flight.{Flight}
 use Rattle.added_legs.specs.Flights.{flight_of, AreFlights}
 use Rattle.added_legs.specs.Stands.{flight_cost, flights_cost, position_by}

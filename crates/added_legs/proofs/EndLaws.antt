@@ -18,9 +18,9 @@ use Rattle.desk_rules.specs.Cost.{rows_of, weight, by_item, is_wanted, ends_at, 
 use Rattle.plan_reads.specs.Last.{AreLasts, IsLastOf, stand}
 use Rattle.plan_reads.proofs.LastLaws.{last_in, left_asked}
 use Rattle.full_cost.specs.Stands.{is_there, AreStands}
-use Rattle.added_rules.specs.declared.added.Added.{Added}
-use Rattle.added_rules.specs.Merged.{added_for, leg_for, merged_day, merged_plan}
-use Rattle.added_rules.proofs.MergedLaws.{old_leg, new_leg, merged_legs}
+use Rattle.added_legs.specs.declared.added.Added.{Added}
+use Rattle.added_legs.specs.Merged.{added_for, leg_for, merged_day, merged_plan}
+use Rattle.added_legs.proofs.MergedLaws.{old_leg, new_leg, merged_legs}
 use Rattle.added_legs.specs.declared.flight.Flight.{Flight}
 use Rattle.added_legs.specs.Flights.{flight_of, AreFlights}
 use Rattle.added_legs.specs.Stands.{is_after, stand_with, end_with, hand_by, missing_by, position_by, AreEnds}

@@ -22,9 +22,9 @@ use Rattle.desk_rules.proofs.MaintenanceLaws.{flies-holds, dep-is, departs_befor
 use Rattle.plan_reads.specs.Last.{IsLastOf, AreLasts}
 use Rattle.plan_reads.proofs.LastLaws.{last_in}
 use Rattle.plan_reads.proofs.OrderLaws.{not_both}
-use Rattle.added_rules.specs.declared.added.Added.{Added}
-use Rattle.added_rules.specs.Merged.{last_leg, added_for, IsAdded, AreAdded}
-use Rattle.added_rules.proofs.EndLaws.{last_found, none_found}
+use Rattle.added_legs.specs.declared.added.Added.{Added}
+use Rattle.added_legs.specs.Merged.{last_leg, added_for, IsAdded, AreAdded}
+use Rattle.added_legs.proofs.AddedEndLaws.{last_found, none_found}
 use Rattle.added_legs.specs.declared.flight.Flight.{Flight}
 use Rattle.added_legs.specs.Flights.{AreLastLegs, flight_of, IsFlight, departure_end, AreRanges, AreFlights}
 

@@ -30,10 +30,10 @@ use Rattle.hour_counts.specs.Slots.{rank, slot_cmp, item, cap}
 use Rattle.rule_slots.specs.Taken.{slot_for, item_of, slot_of, slots, is_at, is_overfull, IsLeastOver, IsLeastOverfull}
 use Rattle.rule_slots.proofs.PlaceLaws.{passed}
 use Rattle.rule_slots.proofs.TakenLaws.{overfull-breaks}
-use Rattle.added_rules.specs.declared.added.Added.{Added}
-use Rattle.added_rules.specs.Merged.{added_for, leg_for, row_for, merged_day, merged_plan}
-use Rattle.added_rules.proofs.MergedLaws.{old_leg, new_leg, new_row, merged_legs}
-use Rattle.added_rules.proofs.NoneLaws.{same_dep_cap, same_arr_cap}
+use Rattle.added_legs.specs.declared.added.Added.{Added}
+use Rattle.added_legs.specs.Merged.{added_for, leg_for, row_for, merged_day, merged_plan}
+use Rattle.added_legs.proofs.MergedLaws.{old_leg, new_leg, new_row, merged_legs}
+use Rattle.added_legs.proofs.NoneLaws.{same_dep_cap, same_arr_cap}
 use Rattle.added_legs.specs.declared.flight.Flight.{Flight}
 use Rattle.added_legs.specs.Flights.{flight_of, AreFlights}
 use Rattle.added_legs.specs.Hours.{extra_airport, extra_moment, extra_slot, extra_slots}

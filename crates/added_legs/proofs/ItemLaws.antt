@@ -12,13 +12,13 @@ use Rattle.desk_data.specs.Situation.{Situation, legs_of, planes_of, airports_of
 use Rattle.desk_data.specs.PlanRows.{PlanRows}
 use Rattle.desk_rules.specs.Numbers.{numbers}
 use Rattle.desk_rules.specs.Least.{breaks, each_leg, each_plane, each_hour, all_hours, slot_items, leg, plane, airport}
-use Rattle.added_rules.specs.declared.added.Added.{Added}
-use Rattle.added_rules.specs.declared.added.AddBroken.{AddBroken}
-use Rattle.added_rules.specs.declared.added.AddBroken.TheVariants as add
-use Rattle.added_rules.specs.Added.{items_from_c4, named, least_added}
-use Rattle.added_rules.specs.Merged.{merged_day, merged_plan}
-use Rattle.added_rules.proofs.MergedLaws.{merged_legs}
-use Rattle.added_rules.proofs.FerriedLaws.{found_passes, all_joined}
+use Rattle.added_legs.specs.declared.added.Added.{Added}
+use Rattle.added_legs.specs.declared.added.AddBroken.{AddBroken}
+use Rattle.added_legs.specs.declared.added.AddBroken.TheVariants as add
+use Rattle.added_legs.specs.Added.{items_from_c4, named, least_added}
+use Rattle.added_legs.specs.Merged.{merged_day, merged_plan}
+use Rattle.added_legs.proofs.MergedLaws.{merged_legs}
+use Rattle.added_legs.proofs.FerriedLaws.{found_passes, all_joined}
 use Rattle.added_legs.specs.declared.rule.Rule.{Rule}
 use Rattle.added_legs.specs.declared.rule.Rule.TheVariants.{C4Range, C5Location, C6GroundTime, C7Service, C8Maintenance, C9Minutes}
 use Rattle.added_legs.specs.Items.{is_of_planes, leg_keeps, plane_keeps, keeps, item_of, items_of, six_rules}

@@ -17,9 +17,9 @@ use Rattle.desk_rules.specs.Least.{leg, plane}
 use Rattle.plan_reads.specs.Last.{IsLast, IsLastOf}
 use Rattle.plan_reads.specs.Before.{IsNearest, IsLegBefore}
 use Rattle.plan_reads.proofs.OrderLaws.{not_both}
-use Rattle.added_rules.specs.declared.added.Added.{Added}
-use Rattle.added_rules.specs.Merged.{added_for, row_for, merged_day, merged_plan}
-use Rattle.added_rules.proofs.MergedLaws.{old_row, new_row, merged_legs}
+use Rattle.added_legs.specs.declared.added.Added.{Added}
+use Rattle.added_legs.specs.Merged.{added_for, row_for, merged_day, merged_plan}
+use Rattle.added_legs.proofs.MergedLaws.{old_row, new_row, merged_legs}
 use Rattle.added_legs.specs.Stands.{is_after}
 
 -- ---- rows of one aircraft

@@ -1,3 +1,8 @@
+pub mod MergedLaws
+pub mod AddedEndLaws
+pub mod FerriedLaws
+pub mod NoneLaws
+pub mod EmptyLaws
 pub mod FlightLaws
 pub mod LastLaws
 pub mod EndLaws

@@ -21,9 +21,9 @@ use Rattle.desk_rules.specs.Least.{leg, plane}
 use Rattle.plan_reads.specs.Last.{IsLastOf, AreLasts, stand}
 use Rattle.plan_reads.proofs.LastLaws.{last_in, left_asked}
 use Rattle.plan_reads.proofs.OrderLaws.{and_true}
-use Rattle.added_rules.specs.declared.added.Added.{Added}
-use Rattle.added_rules.specs.Merged.{added_for, leg_for, row_for, merged_day, merged_plan}
-use Rattle.added_rules.proofs.MergedLaws.{old_leg, new_leg, new_row, merged_legs}
+use Rattle.added_legs.specs.declared.added.Added.{Added}
+use Rattle.added_legs.specs.Merged.{added_for, leg_for, row_for, merged_day, merged_plan}
+use Rattle.added_legs.proofs.MergedLaws.{old_leg, new_leg, new_row, merged_legs}
 use Rattle.added_legs.specs.declared.flight.Flight.{Flight}
 use Rattle.added_legs.specs.declared.upkeep.Upkeep.{Upkeep}
 use Rattle.added_legs.specs.Flights.{flight_of, AreFlights}

@@ -4,8 +4,8 @@ use Rattle.std.specs.Option.{ForSome, option_map}
 use Rattle.desk_units.specs.declared.numbers.Leg.{Leg}
 use Rattle.desk_data.specs.Situation.{Situation, legs_of, planes_of, airports_of}
 use Rattle.desk_data.specs.PlanRows.{PlanRows}
-use Rattle.added_rules.specs.declared.added.Added.{Added}
-use Rattle.added_rules.specs.Merged.{last_leg, plane_end, minutes_to, added_for}
+use Rattle.added_legs.specs.declared.added.Added.{Added}
+use Rattle.added_legs.specs.Merged.{last_leg, plane_end, minutes_to, added_for}
 use Rattle.added_legs.specs.declared.flight.Flight.{Flight}
 
 -- the last leg of each aircraft

@@ -1,3 +1,7 @@
+pub mod Merged
+pub mod Added
+pub mod Ferried
+pub mod Words
 pub mod Flights
 pub mod Stands
 pub mod Asked

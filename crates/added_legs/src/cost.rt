@@ -4,14 +4,14 @@ ghost use Rattle.std.specs.Prelude.{◌≡◌, ◌<◌, ◌^◌, length};
 ghost use Rattle.desk_data.specs.Situation.{planes_of};
 ghost use Rattle.desk_data.specs.Valid.{IsPlanFor};
 ghost use Rattle.desk_rules.specs.Cost.{grains};
-ghost use Rattle.added_rules.specs.Merged.{AreAdded};
-ghost use Rattle.added_rules.specs.Added.{cost_added};
+ghost use Rattle.added_legs.specs.Merged.{AreAdded};
+ghost use Rattle.added_legs.specs.Added.{cost_added};
 
+use crate::Added;
 use crate::flight::{Flight, clear, put_flights};
 use crate::operating::flights_cost;
 use crate::position::position_cost;
 use crate::stands::put_ends;
-use added_rules::Added;
 use desk_data::{Airport, Grains, Instance, Leg, Plan};
 use full_cost::full_cost;
 use plan_reads::put_lasts;

@@ -5,10 +5,10 @@ ghost use Rattle.std.specs.Option.{ForSome};
 ghost use Rattle.desk_data.specs.Situation.{legs_of, planes_of};
 ghost use Rattle.desk_data.specs.Valid.{IsPlanFor};
 ghost use Rattle.plan_reads.specs.Last.{stand};
-ghost use Rattle.added_rules.specs.Merged.{AreAdded, IsAdded, plane_end};
+ghost use Rattle.added_legs.specs.Merged.{AreAdded, IsAdded, plane_end};
 ghost use Rattle.added_legs.specs.Flights.{AreFlights, AreLastLegs, IsFlight, flight_of};
 
-use added_rules::Added;
+use crate::Added;
 use desk_data::{Airport, DEPARTURES_END, Instance, Leg, Minute, Plan, Plane};
 use plan_reads::{put_lasts, stand_of};
 
@@ -97,7 +97,7 @@ fn flight_of(inst: &Instance, plan: &Plan, lasts: &[Option<Leg>], leg: Added) ->
 }
 
 /// Where an aircraft ends: where its last leg arrives, or where it stands at first if it flies none.
-#[tactic(auto, unfolding(added_rules::specs::Merged::plane_end))]
+#[tactic(auto, unfolding(crate::specs::Merged::plane_end))]
 pub(crate) fn plane_end(
     inst: &Instance,
     plan: &Plan,

@@ -5,15 +5,15 @@ ghost use Rattle.std.specs.Option.{option_map};
 ghost use Rattle.desk_data.specs.Situation.{legs_of, planes_of};
 ghost use Rattle.desk_data.specs.Valid.{IsPlanFor};
 ghost use Rattle.desk_rules.specs.Least.{breaks};
-ghost use Rattle.added_rules.specs.Added.{named};
-ghost use Rattle.added_rules.specs.Merged.{merged_day, merged_plan};
+ghost use Rattle.added_legs.specs.Added.{named};
+ghost use Rattle.added_legs.specs.Merged.{merged_day, merged_plan};
 ghost use Rattle.added_legs.specs.Items.{AreKnown, count, is_of_planes, item_of, items_of, keeps, leg_keeps, plane_keeps};
 
 use crate::extra_leg::{c4_added, c5_added, c6_added, c7_added};
 use crate::flight::Flight;
 use crate::plan_leg::{c5_with, c6_with};
 use crate::upkeep::{Upkeep, c8_maintenance, c9_minutes};
-use added_rules::{AddBroken, Added};
+use crate::{AddBroken, Added};
 use desk_data::{Broken, Instance, Leg, Plan, Plane};
 use plan_reads::{c4_range, c7_service};
 

@@ -8,12 +8,12 @@ ghost use Rattle.desk_data.specs.Valid.{IsPlanFor};
 ghost use Rattle.desk_rules.specs.Least.{breaks, each_hour};
 ghost use Rattle.hour_counts.specs.Slots.{is_slot, slot_cmp};
 ghost use Rattle.rule_slots.specs.Taken.{IsLeastOverfull, is_one_too_many, item_of, slot_of, slots};
-ghost use Rattle.added_rules.specs.Merged.{merged_day, merged_plan};
+ghost use Rattle.added_legs.specs.Merged.{merged_day, merged_plan};
 ghost use Rattle.added_legs.specs.Flights.{AreFlights, AreRanges, IsFlight};
 ghost use Rattle.added_legs.specs.Hours.{IsTaken, extra_slot, extra_slots};
 
+use crate::Added;
 use crate::flight::Flight;
-use added_rules::Added;
 use desk_data::{Broken, Instance, Leg, NoMem, Plan, Plane, Row};
 use hour_counts::{Movement, Slot};
 use std::alloc::Global;

@@ -11,7 +11,7 @@ use Rattle.desk_rules.specs.Numbers.{numbers}
 use Rattle.desk_rules.proofs.HourLaws.{length-numbers}
 use Rattle.desk_model.specs.declared.answer.Entry.{Entry}
 use Rattle.desk_model.specs.Histories.{is_batch}
-use Rattle.journal_text.proofs.PartsLaws.{answer-same}
+use Rattle.output_texts.proofs.PartsLaws.{answer-same}
 use Rattle.desk_runs.specs.Outcome.{line}
 use Rattle.desk_tasks.specs.Play.{batch_entries, batch_line, batch_lines}
 

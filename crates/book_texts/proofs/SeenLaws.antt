@@ -15,10 +15,10 @@ use Rattle.desk_model.proofs.StateLaws.{KnowsBroken, opening-inst, opening-known
 use Rattle.desk_model.proofs.HistoryLaws.{state-known, state-parts}
 use Rattle.desk_view.specs.declared.view.View.{View}
 use Rattle.desk_view.specs.Views.{shown, IsSightOf}
-use Rattle.journal_text.specs.Lines.{answer_text}
-use Rattle.journal_text.specs.Writable.{Names}
-use Rattle.journal_text.proofs.PartsLaws.{answer-same}
-use Rattle.journal_text.proofs.WritableLaws.{least-names}
+use Rattle.output_texts.specs.Lines.{answer_text}
+use Rattle.output_texts.specs.Writable.{Names}
+use Rattle.output_texts.proofs.PartsLaws.{answer-same}
+use Rattle.output_texts.proofs.WritableLaws.{least-names}
 use Rattle.desk_runs.specs.Outcome.{line}
 use Rattle.desk_tasks.specs.Play.{seen_end, seen_line, seen_lines}
 

@@ -2,8 +2,8 @@
 
 ghost use Rattle.std.specs.Prelude.{◌≡◌, ◌++◌, All, IfOk, IfSome, OnOk, Option, None};
 ghost use Rattle.desk_core.specs.Recorded.{state_of};
-ghost use Rattle.journal_text.specs.Lines.{journal_text};
-ghost use Rattle.journal_text.specs.Writable.{AnswerNames, CanBeWritten, Names};
+ghost use Rattle.output_texts.specs.Lines.{journal_text};
+ghost use Rattle.output_texts.specs.Writable.{AnswerNames, CanBeWritten, Names};
 ghost use Rattle.desk_tasks.specs.Play.{planned_rotations, planned_itineraries, batch_line, batch_lines, search_line, end_lines, seen_line, seen_lines, search_remarks, remarks_with, report_text, history_outcome};
 ghost use Rattle.desk_tasks.specs.Recover.{reported_alone};
 ghost use Rattle.desk_tasks.specs.Keep.{opened_line, opened_first};
@@ -18,8 +18,10 @@ use desk_model::{Answer, Entry};
 use desk_runs::OutputTexts;
 use desk_tasks::SearchEnd;
 use desk_view::View;
-use journal_text::{journal_text, legal_entries_can_be_written, push_answer, push_broken};
-use sol_text::{itineraries_text, rotations_text};
+use output_texts::{
+    itineraries_text, journal_text, legal_entries_can_be_written, push_answer, push_broken,
+    rotations_text,
+};
 use std::alloc::Global;
 
 // The rotations of the book's plan, or nothing where it has none.

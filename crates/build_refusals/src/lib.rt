@@ -6,7 +6,7 @@
 //! the first row that has one is proved once for all files (`first.rt`).
 //!
 //! Proved: the answer is `refusal_of` of its `specs/`, and where there is none the rows fit together
-//! (`fit`), which is all that `build_day` asks of them. It depends on `build_tables`, and on `desk_folder`
+//! (`fit`), which is all that `desk_build` asks of them. It depends on `build_tables`, and on `desk_folder`
 //! for the names of files.
 #![tactic(auto)]
 

@@ -13,7 +13,7 @@
 //! `tables.leg_places()` has their places in the order of the lines.
 //!
 //! Proved: each look-up gives the first row that has the name, or none where there is none. It depends on
-//! `file_rows` and `tariff_prices`; `build_refusals` and `build_day` depend on it, side by side.
+//! `file_rows` and `tariff_prices`; `build_refusals` and `desk_build` depend on it, side by side.
 #![tactic(auto)]
 
 mod files;

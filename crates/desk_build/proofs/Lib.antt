@@ -1,1 +1,10 @@
+mod BeforeLemmas
+mod FlightLemmas
+mod FoundLemmas
+mod ValidPlanes
+mod ValidLegs
+mod ValidPax
+mod ValidParts
+mod OrderLemmas
+mod FilledLemmas
 mod JoinLemmas

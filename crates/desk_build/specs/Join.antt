@@ -2,8 +2,8 @@
 use Rattle.std.specs.Prelude.{◌≡◌, Option, Some, None, Result, Ok, Err}
 use Rattle.build_tables.specs.declared.files.Files.{Files}
 use Rattle.build_refusals.specs.Refusals.{Refusal, refusal_of}
-use Rattle.build_day.specs.Day.{day_of}
-use Rattle.build_day.specs.Batches.{batches_of}
+use Rattle.desk_build.specs.Day.{day_of}
+use Rattle.desk_build.specs.Batches.{batches_of}
 use Rattle.desk_build.specs.declared.joining.Built.{Built}
 use Rattle.desk_build.specs.declared.fault.BuildFault.{BuildFault}
 use Rattle.desk_build.specs.declared.fault.BuildFault.TheVariants.{Refused, Memory}

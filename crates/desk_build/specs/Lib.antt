@@ -1,3 +1,6 @@
+pub mod Legs
+pub mod Day
+pub mod Batches
 pub mod Join
 pub mod FaultText
 pub use Rattle.build_tables.specs.Facts

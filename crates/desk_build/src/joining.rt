@@ -8,7 +8,7 @@ ghost use Rattle.build_tables.specs.Facts.{AreFileRows};
 ghost use Rattle.desk_build.specs.Join.{built_of, JoinGives};
 
 use crate::fault::BuildFault;
-use build_day::{batches_of, day_of};
+use crate::{batches_of, day_of};
 use build_refusals::first_refusal;
 use build_tables::{Files, NameTables};
 use desk_data::{Batch, Instance};

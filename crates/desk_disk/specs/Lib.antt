@@ -3,3 +3,7 @@ pub mod Calls
 pub mod Crashes
 pub mod Memory
 pub mod Host
+pub mod Faults
+pub mod Records
+pub mod Files
+pub mod Stored

@@ -8,8 +8,8 @@ use Rattle.desk_data.specs.Situation.{Situation}
 use Rattle.desk_data.specs.PlanRows.{PlanRows}
 use Rattle.desk_rules.specs.Least.{least}
 use Rattle.desk_rules.specs.Cost.{cost, grains}
-use Rattle.journal_text.specs.Writable.{Names}
-use Rattle.journal_text.proofs.WritableLaws.{least-names}
+use Rattle.output_texts.specs.Writable.{Names}
+use Rattle.output_texts.proofs.WritableLaws.{least-names}
 use Rattle.desk_runs.specs.declared.ending.Ending.{Ending}
 use Rattle.desk_runs.specs.Outcome.{Texts}
 use Rattle.desk_runs.specs.Runs.{World}

@@ -4,7 +4,7 @@ ghost use Rattle.std.specs.Prelude.{◌≡◌, ◌++◌, [], IfOk, IfSome, OnOk}
 ghost use Rattle.desk_data.specs.Valid.{IsPlanFor};
 ghost use Rattle.desk_rules.specs.Least.{least};
 ghost use Rattle.desk_rules.specs.Cost.{cost, grains};
-ghost use Rattle.journal_text.specs.Writable.{Names};
+ghost use Rattle.output_texts.specs.Writable.{Names};
 ghost use Rattle.crew_rules.specs.Valid.{AreCrews};
 ghost use Rattle.desk_tasks.specs.Judge.{verdict_text, verdict_report, verdict_end, verdict};
 ghost use Rattle.desk_tasks.specs.Crew.{crewed_report, crewed_end, crewed_verdict};
@@ -13,12 +13,11 @@ ghost use Rattle.desk_runs.specs.Finishing.{Completes};
 
 use crew_duty::crew_least;
 use crew_rules::{CrewBroken, CrewInfo};
-use crew_text::push_crews;
 use desk_data::{Broken, Grains, Instance, NoMem, Plan};
 use desk_folder::{Folder, Sink};
 use desk_runs::{Ending, OutputTexts, put_outputs};
 use full_cost::full_cost;
-use journal_text::push_broken;
+use output_texts::{push_broken, push_crews};
 use par_check::{is_large, par_check};
 use std::alloc::Global;
 use std::thread::{Threads, join};

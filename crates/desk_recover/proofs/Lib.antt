@@ -1,1 +1,2 @@
+mod DescendLaws
 pub mod RecoverLaws

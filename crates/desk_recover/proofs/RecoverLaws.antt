@@ -17,7 +17,7 @@ use Rattle.near_moves.specs.Descent.{descent, recovery_after, recovery}
 use Rattle.near_moves.specs.Descents.{batch_in, batches_in}
 use Rattle.near_moves.proofs.DescentLaws.{descent-length}
 use Rattle.near_moves.proofs.RecoveryLaws.{recovery-batches}
-use Rattle.desk_descent.specs.Ending.{ending, after_descent}
+use Rattle.desk_recover.specs.Ending.{ending, after_descent}
 use Rattle.near_moves.specs.declared.ended.SearchEnd.{SearchEnd}
 use Rattle.desk_runs.specs.declared.ending.Ending.{Ending}
 use Rattle.desk_runs.specs.Commands.{history_files}

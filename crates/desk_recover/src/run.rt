@@ -7,9 +7,9 @@ ghost use Rattle.desk_tasks.specs.Recover.{search_end};
 ghost use Rattle.desk_recover.specs.Recovered.{IsRecoveredBook};
 ghost use Rattle.desk_core.specs.Recorded.{state_of};
 
+use crate::{SearchEnd, descend};
 use desk_core::Book;
 use desk_data::{Batch, Instance, NoMem};
-use desk_descent::{SearchEnd, descend};
 use desk_headway::Listener;
 use std::alloc::Global;
 

@@ -20,12 +20,12 @@ use crate::run::take_event;
 use book_texts::write_with;
 use crew_duty::CrewBoard;
 use crew_rules::{CrewBroken, CrewInfo};
-use crew_text::push_crews;
 use desk_core::Book;
 use desk_data::{Instance, Leg, NoMem, Row};
 use desk_folder::{Folder, Sink};
 use desk_model::Event;
 use desk_runs::Ending;
+use output_texts::push_crews;
 use plan_pages::Pages;
 use std::alloc::Global;
 

@@ -7,7 +7,7 @@ use Rattle.file_rows.specs.declared.cause.Cause.{Cause}
 use Rattle.desk_text.specs.declared.fault.ReadFault.{ReadFault}
 use Rattle.desk_text.specs.declared.fault.ReadFault.TheVariants as read
 use Rattle.desk_text.specs.Rows.{◌>>=◌, Gives}
-use Rattle.sol_rows.specs.Grammar.{Tries}
+use Rattle.file_readers.specs.Grammar.{Tries}
 use Rattle.desk_story.specs.Story.{Rows, unless_refused}
 use Rattle.desk_story.specs.Faults.{GivesRows, IsPut}
 

@@ -10,7 +10,7 @@ use Rattle.desk_folder.specs.Entries.{named_texts}
 use Rattle.folder_io.specs.Outputs.{FileText}
 use Rattle.build_tables.specs.declared.files.Files.{Files}
 use Rattle.build_refusals.specs.Refusals.{Refusal as Refused, refusal_of}
-use Rattle.build_day.specs.Batches.{batches_of}
+use Rattle.desk_build.specs.Batches.{batches_of}
 use Rattle.desk_build.specs.declared.joining.Built.{Built}
 use Rattle.desk_build.specs.Join.{made_of, unless_refused, built_of}
 use Rattle.desk_folder.specs.Files.{day_files}

@@ -18,7 +18,7 @@ use Rattle.desk_story.specs.declared.keep.InputKept.{InputKept}
 use Rattle.desk_story.specs.Story.{Rows, rows_of, story_of_rows, task_of_rows, task_of, kept_of_rows, kept_of, or_refused, not_joined, in_file}
 use Rattle.desk_folder.specs.declared.files.File.TheVariants as file
 use Rattle.desk_build.specs.Join.{built_of}
-use Rattle.journal_join.specs.Join.{events_of}
+use Rattle.file_joins.specs.Join.{events_of}
 use Rattle.desk_story.specs.Facts.{as_rows, as_task, as_kept}
 use Rattle.desk_story.specs.Reading.{GivesRead, GivesTask, NeedsNoFault}
 

@@ -1,9 +1,9 @@
 -- What holds of the rows that were read, and of the task.
 use Rattle.std.specs.Prelude.{◌≡◌, ◌≤◌, All}
 use Rattle.build_tables.specs.Facts.{AreFileRows}
-use Rattle.crew_rows.specs.Facts.{IsCrewRow}
+use Rattle.file_readers.specs.CrewFacts.{IsCrewRow}
 use Rattle.crew_rules.specs.Valid.{AreCrews}
-use Rattle.journal_rows.specs.Facts.{AreRows}
+use Rattle.journal_file.specs.Facts.{AreRows}
 use Rattle.desk_model.specs.Histories.{AreAskable}
 use Rattle.desk_story.specs.declared.rows.InputRows.{InputRows}
 use Rattle.desk_data.specs.Situation.{fresh_day}

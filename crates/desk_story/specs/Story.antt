@@ -7,27 +7,27 @@ use Rattle.file_rows.specs.declared.cause.Cause.{Cause}
 use Rattle.file_rows.specs.declared.cause.Cause.TheVariants.{Size}
 use Rattle.file_rows.specs.Limits.{most_bytes, most_journal_bytes}
 use Rattle.desk_text.specs.Rows.{◌>>=◌, text_rows}
-use Rattle.read_net.specs.Config.{config_of}
-use Rattle.read_net.specs.Airports.{airport_row}
-use Rattle.read_net.specs.Dist.{dist_row}
-use Rattle.read_pax.specs.Itineraries.{itinerary_row}
-use Rattle.read_tariff.specs.Tariff.{tariff_rows}
-use Rattle.read_alt.specs.Orders as orders
-use Rattle.read_alt.specs.Feed.{feed_rows}
-use Rattle.read_legs.specs.Flights.{flight_row}
-use Rattle.read_legs.specs.Rotations.{rotation_row}
-use Rattle.read_fleet.specs.Aircraft.{aircraft_row}
-use Rattle.read_fleet.specs.Position.{position_row}
-use Rattle.crew_rows.specs.declared.rows.CrewRow.{CrewRow}
-use Rattle.crew_rows.specs.Crews.{crew_row}
-use Rattle.crew_join.specs.Join.{crews_after}
+use Rattle.file_readers.specs.Config.{config_of}
+use Rattle.file_readers.specs.Airports.{airport_row}
+use Rattle.file_readers.specs.Dist.{dist_row}
+use Rattle.file_readers.specs.Itineraries.{itinerary_row}
+use Rattle.file_readers.specs.Tariff.{tariff_rows}
+use Rattle.file_readers.specs.Orders as orders
+use Rattle.file_readers.specs.Feed.{feed_rows}
+use Rattle.file_readers.specs.Flights.{flight_row}
+use Rattle.file_readers.specs.Rotations.{rotation_row}
+use Rattle.file_readers.specs.Aircraft.{aircraft_row}
+use Rattle.file_readers.specs.Position.{position_row}
+use Rattle.file_readers.specs.declared.crew_row.CrewRow.{CrewRow}
+use Rattle.file_readers.specs.Crews.{crew_row}
+use Rattle.file_joins.specs.CrewJoin.{crews_after}
 use Rattle.build_tables.specs.declared.files.Files.{Files}
 use Rattle.desk_build.specs.Join.{built_of}
-use Rattle.journal_rows.specs.declared.rows.JournalRow.{JournalRow}
+use Rattle.journal_file.specs.declared.rows.JournalRow.{JournalRow}
 use Rattle.journal_file.specs.Journal.{journal_rows_of}
-use Rattle.journal_join.specs.Join.{events_of}
-use Rattle.sol_rows.specs.Grammar.{refusal_in}
-use Rattle.sol_join.specs.Solution.{solution_of}
+use Rattle.file_joins.specs.Join.{events_of}
+use Rattle.file_readers.specs.Grammar.{refusal_in}
+use Rattle.file_joins.specs.Solution.{solution_of}
 use Rattle.desk_runs.specs.declared.refusal.Refusal.{Refusal}
 use Rattle.desk_words.specs.declared.asked.Command.{Command}
 use Rattle.desk_words.specs.declared.asked.Command.TheVariants as command_is

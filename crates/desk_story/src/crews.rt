@@ -2,7 +2,7 @@
 
 ghost use Rattle.std.specs.Prelude.{[], IfOk, IfErr};
 ghost use Rattle.crew_rules.specs.Valid.{AreCrews};
-ghost use Rattle.crew_join.specs.Join.{crews_after};
+ghost use Rattle.file_joins.specs.CrewJoin.{crews_after};
 ghost use Rattle.desk_folder.specs.declared.files.File.TheVariants as file;
 ghost use Rattle.desk_story.specs.Story.{or_refused, in_file, crewed_of_rows, judged_crews_of_rows};
 ghost use Rattle.desk_story.specs.Reading.{GivesRead, NeedsNoFault};
@@ -12,13 +12,11 @@ use crate::fault::StoryFault;
 use crate::plan::{InputPlan, with_batches};
 use crate::rows::InputRows;
 use crate::story::InputStory;
-use crew_join::join_crew;
 use crew_rules::CrewInfo;
 use desk_build::{Built, build};
 use desk_data::Instance;
 use desk_folder::File;
-use journal_join::join_journal;
-use sol_join::read_solution;
+use file_joins::{join_crew, join_journal, read_solution};
 use std::alloc::Global;
 
 /// A story, and the crews of its day.

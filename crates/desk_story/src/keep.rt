@@ -20,7 +20,7 @@ use desk_data::Batch;
 use desk_folder::Folder;
 use desk_units::List;
 use desk_words::Command;
-use journal_join::join_journal;
+use file_joins::join_journal;
 use std::alloc::Global;
 
 /// A story, and the batches of its day, at most 1,001, by whose numbers a journal on a disk has them.

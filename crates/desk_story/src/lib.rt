@@ -4,7 +4,7 @@
 //! `read_task(alloc, &command, &mut folder)` goes through the files of the command: each is read to its
 //! end, and its reader makes rows of its bytes or refuses it, before the next one is opened. Then `build` of
 //! desk_build makes numbers of names and gives the batches of a recovery, and the journal becomes a story, by
-//! `join_journal` of journal_join, or the files of a plan become a plan, by `read_solution` of sol_join; before these the crews become those of the day, by `join_crew` of crew_join. The
+//! `join_journal` of file_joins, or the files of a plan become a plan, by `read_solution` of file_joins; before these the crews become those of the day, by `join_crew` of file_joins. The
 //! texts of a day that is made up to be tried are read in the same way, without a folder. A file more is a line
 //! in the command's list and a reader; the reading itself is proved once for any list.
 //!

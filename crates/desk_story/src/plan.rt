@@ -11,7 +11,7 @@ use crate::fault::StoryFault;
 use crate::rows::InputRows;
 use desk_build::{Built, build};
 use desk_data::{Batch, Instance, NoMem, Plan};
-use sol_join::read_solution;
+use file_joins::read_solution;
 use std::alloc::Global;
 
 /// A day, and a plan on it that is to be judged, and to which legs may be added.

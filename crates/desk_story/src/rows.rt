@@ -5,20 +5,16 @@ ghost use Rattle.desk_story.specs.Story.{no_rows, with_rows};
 ghost use Rattle.desk_story.specs.Facts.{as_rows, AreInputRows};
 ghost use Rattle.desk_story.specs.Faults.{GivesRows, IsPut};
 
-use crew_rows::{CrewRow, read_crew};
 use desk_build::Files;
 use desk_folder::File;
 use desk_text::ReadFault;
 use desk_units::{List, Minute, Tariff};
-use journal_file::read_journal;
-use journal_rows::JournalRow;
-use read_alt::{read_alt_aircraft, read_alt_airports, read_alt_flights, read_feed};
-use read_fleet::{read_aircraft, read_position};
-use read_legs::{read_flights, read_rotations};
-use read_net::{Window, read_airports, read_config, read_dist};
-use read_pax::read_itineraries;
-use read_tariff::read_tariff;
-use sol_rows::solution_grammar;
+use file_readers::{
+    CrewRow, Window, read_aircraft, read_airports, read_alt_aircraft, read_alt_airports,
+    read_alt_flights, read_config, read_crew, read_dist, read_feed, read_flights, read_itineraries,
+    read_position, read_rotations, read_tariff, solution_grammar,
+};
+use journal_file::{JournalRow, read_journal};
 use std::alloc::Global;
 
 /// The rows of the input files that were read so far.

@@ -10,7 +10,7 @@ use crate::rows::InputRows;
 use desk_build::{Built, build};
 use desk_data::Instance;
 use desk_model::Event;
-use journal_join::join_journal;
+use file_joins::join_journal;
 use std::alloc::Global;
 
 /// A day, and the events that are taken on it, each with its caller.

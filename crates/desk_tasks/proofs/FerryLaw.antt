@@ -14,12 +14,12 @@ use Rattle.desk_data.specs.PlanRows.{PlanRows}
 use Rattle.desk_data.specs.Valid.{IsPlanFor}
 use Rattle.desk_rules.specs.Least.{least}
 use Rattle.desk_rules.specs.Cost.{cost}
-use Rattle.added_rules.specs.declared.added.Added.{Added}
-use Rattle.added_rules.specs.Added.{cost_added}
-use Rattle.added_rules.specs.Ferried.{with_added, next_added, IsFerried}
-use Rattle.added_rules.proofs.FerriedLaws.{next_passes, each_pays}
-use Rattle.added_rules.proofs.MergedLaws.{is_untouched}
-use Rattle.ferry_text.specs.Text.{added_text}
+use Rattle.added_legs.specs.declared.added.Added.{Added}
+use Rattle.added_legs.specs.Added.{cost_added}
+use Rattle.added_legs.specs.Ferried.{with_added, next_added, IsFerried}
+use Rattle.added_legs.proofs.FerriedLaws.{next_passes, each_pays}
+use Rattle.added_legs.proofs.MergedLaws.{is_untouched}
+use Rattle.output_texts.specs.FerryText.{added_text}
 use Rattle.desk_runs.specs.Outcome.{Texts}
 use Rattle.desk_runs.specs.Runs.{World, IsWritten}
 use Rattle.desk_tasks.specs.Judge.{Judged, verdict_report}

@@ -14,7 +14,7 @@ use Rattle.desk_model.specs.declared.answer.Entry.{Entry}
 use Rattle.desk_model.specs.Histories.{AreAskable, IsLegal, run, state}
 use Rattle.desk_model.proofs.StateLaws.{opening-inst}
 use Rattle.desk_model.proofs.HistoryLaws.{promises, run-legal}
-use Rattle.journal_text.specs.Lines.{journal_text}
+use Rattle.output_texts.specs.Lines.{journal_text}
 use Rattle.desk_runs.specs.Outcome.{Texts}
 use Rattle.desk_runs.specs.Runs.{World, IsWritten}
 use Rattle.near_moves.specs.Descent.{recovery}

@@ -11,7 +11,7 @@ use Rattle.desk_model.specs.Histories.{state, changes, is_change}
 use Rattle.crew_rules.specs.declared.crew.CrewInfo.{CrewInfo}
 use Rattle.crew_rules.specs.declared.crew.CrewBroken.{CrewBroken}
 use Rattle.crew_rules.specs.Crews as crews
-use Rattle.crew_text.specs.Text.{crew_text}
+use Rattle.output_texts.specs.CrewText.{crew_text}
 use Rattle.desk_runs.specs.declared.ending.Ending.{Ending}
 use Rattle.desk_runs.specs.declared.ending.Ending.TheVariants as ending
 use Rattle.desk_runs.specs.Outcome.{line, Outcome}

@@ -7,10 +7,10 @@ use Rattle.desk_data.specs.declared.broken.Broken.{Broken}
 use Rattle.desk_folder.specs.declared.files.File.TheVariants as file
 use Rattle.desk_rules.specs.Least.{least}
 use Rattle.desk_rules.specs.Cost.{cost}
-use Rattle.added_rules.specs.declared.added.Added.{Added}
-use Rattle.added_rules.specs.Added.{cost_added}
-use Rattle.added_rules.specs.Ferried.{with_added, next_added}
-use Rattle.ferry_text.specs.Text.{added_text, reported_line}
+use Rattle.added_legs.specs.declared.added.Added.{Added}
+use Rattle.added_legs.specs.Added.{cost_added}
+use Rattle.added_legs.specs.Ferried.{with_added, next_added}
+use Rattle.output_texts.specs.FerryText.{added_text, reported_line}
 use Rattle.desk_runs.specs.Outcome.{line, Outcome}
 use Rattle.desk_tasks.specs.Judge.{Judged, verdict_report, rule_status}
 

@@ -7,10 +7,10 @@ use Rattle.desk_data.specs.PlanRows.{PlanRows}
 use Rattle.desk_data.specs.declared.broken.Broken.{Broken}
 use Rattle.desk_rules.specs.Least.{least}
 use Rattle.desk_rules.specs.Cost.{cost}
-use Rattle.added_rules.specs.declared.added.Added.{Added}
-use Rattle.added_rules.specs.Ferried.{IsFerried}
-use Rattle.added_rules.specs.Words.{EachPays, IsUntouched}
-use Rattle.ferry_text.specs.Text.{added_text}
+use Rattle.added_legs.specs.declared.added.Added.{Added}
+use Rattle.added_legs.specs.Ferried.{IsFerried}
+use Rattle.added_legs.specs.Words.{EachPays, IsUntouched}
+use Rattle.output_texts.specs.FerryText.{added_text}
 use Rattle.desk_model.specs.declared.answer.Entry.{Entry}
 use Rattle.desk_model.specs.States.{opening}
 use Rattle.desk_model.specs.Histories.{IsLegal, run, state, is_accepted}
@@ -19,9 +19,9 @@ use Rattle.near_moves.specs.Descent.{recovery}
 use Rattle.near_moves.specs.Descents.{AllAlong, IsRecoveryEntry, BatchesWait, batches_in}
 use Rattle.near_moves.specs.declared.ended.SearchEnd.{SearchEnd}
 use Rattle.desk_teams.specs.Teams.{IsTeamwork, IsProposal, ChangesBetween}
-use Rattle.journal_text.specs.Lines.{journal_text}
-use Rattle.sol_text.specs.Rotations.{rotations_text}
-use Rattle.sol_text.specs.Itineraries.{itineraries_text}
+use Rattle.output_texts.specs.Lines.{journal_text}
+use Rattle.output_texts.specs.Rotations.{rotations_text}
+use Rattle.output_texts.specs.Itineraries.{itineraries_text}
 use Rattle.desk_runs.specs.Runs.{World}
 use Rattle.desk_tasks.specs.Play.{Story, Remarks, search_remarks, watch_remarks, report_text}
 use Rattle.desk_tasks.specs.Keep.{opened_remarks}

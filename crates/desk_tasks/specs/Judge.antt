@@ -7,7 +7,7 @@ use Rattle.desk_data.specs.declared.broken.Broken.{Broken}
 use Rattle.day_orders.specs.declared.orders.Batch.{Batch}
 use Rattle.desk_rules.specs.Least.{least}
 use Rattle.desk_rules.specs.Cost.{cost}
-use Rattle.journal_text.specs.Items.{broken_text}
+use Rattle.output_texts.specs.Items.{broken_text}
 use Rattle.desk_runs.specs.declared.ending.Ending.{Ending}
 use Rattle.desk_runs.specs.declared.ending.Ending.TheVariants as ending
 use Rattle.desk_runs.specs.Outcome.{line, Outcome}

@@ -13,10 +13,10 @@ use Rattle.desk_model.specs.States.{State, opening}
 use Rattle.desk_model.specs.Histories.{state, changes, is_batch, run}
 use Rattle.desk_model.specs.Promises.{cost_of}
 use Rattle.desk_view.specs.declared.view.View.{View}
-use Rattle.journal_text.specs.Items.{broken_text}
-use Rattle.journal_text.specs.Lines.{answer_text, journal_text}
-use Rattle.sol_text.specs.Rotations.{rotations_text}
-use Rattle.sol_text.specs.Itineraries.{itineraries_text}
+use Rattle.output_texts.specs.Items.{broken_text}
+use Rattle.output_texts.specs.Lines.{answer_text, journal_text}
+use Rattle.output_texts.specs.Rotations.{rotations_text}
+use Rattle.output_texts.specs.Itineraries.{itineraries_text}
 use Rattle.desk_runs.specs.declared.ending.Ending.{Ending}
 use Rattle.desk_runs.specs.declared.ending.Ending.TheVariants as ending
 use Rattle.desk_runs.specs.Outcome.{line, Outcome}

@@ -12,7 +12,7 @@ ghost use Rattle.desk_tasks.specs.Headline.{HasHeadline, HasKept, HasCrewed, Has
 ghost use Rattle.desk_data.specs.Situation.{Situation};
 ghost use Rattle.desk_data.specs.PlanRows.{PlanRows};
 ghost use Rattle.desk_data.specs.Valid.{IsPlanFor};
-ghost use Rattle.added_rules.specs.Ferried.{IsFerried};
+ghost use Rattle.added_legs.specs.Ferried.{IsFerried};
 ghost use Rattle.desk_tasks.specs.Judge.{Judged};
 ghost use Rattle.desk_tasks.specs.Ferry.{ferried, ferried_plan};
 

@@ -12,14 +12,14 @@ use Rattle.desk_runs.specs.Inputs.{Inputs}
 use Rattle.desk_runs.specs.Runs.{World, world}
 use Rattle.desk_tasks.specs.Keep.{KeptStory}
 use Rattle.desk_story.specs.Story.{kept_of}
-use Rattle.desk_store.specs.Held.{entered, story_payloads}
-use Rattle.desk_store.specs.Own.{Extends, IsOwn, OpensFor}
-use Rattle.desk_store.specs.Journal.{LeavesJournal, OnlyOpens, PassesComparison}
-use Rattle.desk_store.proofs.Exact.{undamaged, no_others}
-use Rattle.desk_store.proofs.Owned.{own_begins, own_goes_on, own_kept, own_opens}
-use Rattle.desk_store.proofs.Continued.{own_grows, passed_moments, passed_whole}
-use Rattle.kept_laws.proofs.Few.{kept_few}
-use Rattle.kept_laws.proofs.Kept.{kept_stored}
+use Rattle.desk_replay.specs.Held.{entered, story_payloads}
+use Rattle.desk_replay.specs.Own.{Extends, IsOwn, OpensFor}
+use Rattle.desk_replay.specs.Journal.{LeavesJournal, OnlyOpens, PassesComparison}
+use Rattle.desk_replay.proofs.Exact.{undamaged, no_others}
+use Rattle.desk_replay.proofs.Owned.{own_begins, own_goes_on, own_kept, own_opens}
+use Rattle.desk_replay.proofs.Continued.{own_grows, passed_moments, passed_whole}
+use Rattle.file_laws.proofs.Few.{kept_few}
+use Rattle.file_laws.proofs.Kept.{kept_stored}
 use Rattle.desk_top.specs.Store.{HoldsAll, IsOpenedNext, JournalSays, Keeps, StandsAlways}
 
 -- such a file is opened

@@ -8,7 +8,7 @@ use Rattle.desk_folder.specs.Calls.{Rose}
 use Rattle.desk_disk.specs.FileStates.{DiskSide, HasNothingPending}
 use Rattle.desk_disk.proofs.Runs.{starts}
 use Rattle.desk_disk.proofs.Torn.{nothing_pending_is}
-use Rattle.disk_records.specs.Files.{IsOpening}
+use Rattle.desk_disk.specs.Files.{IsOpening}
 use Rattle.desk_words.specs.declared.asked.Command.TheVariants as command_is
 use Rattle.desk_runs.specs.declared.ending.DiskEnd.{DiskEnd}
 use Rattle.desk_runs.specs.declared.ending.DiskEnd.TheVariants as disk_end
@@ -23,10 +23,10 @@ use Rattle.desk_runs.proofs.CausesLaw.{status_cases}
 use Rattle.desk_runs.proofs.Composed.{Prepares, obeys-done, obeys-memory, runs-tells_end}
 use Rattle.desk_runs.proofs.PromisedLaw.{promised}
 use Rattle.desk_tasks.specs.Keep.{KeptStory, kept}
-use Rattle.desk_store.specs.Journal.{EndsEarly, EndsWritten, IsEarly, KeepsStory, LeavesJournal, OnlyOpens, PassesComparison, WhereShown}
-use Rattle.desk_store.proofs.Opening.{read_opens}
+use Rattle.desk_replay.specs.Journal.{EndsEarly, EndsWritten, IsEarly, KeepsStory, LeavesJournal, OnlyOpens, PassesComparison, WhereShown}
+use Rattle.desk_replay.proofs.Opening.{read_opens}
 use Rattle.desk_story.specs.Story.{kept_of}
-use Rattle.kept_laws.proofs.Kept.{kept_stored}
+use Rattle.file_laws.proofs.Kept.{kept_stored}
 use Rattle.desk_top.specs.Store.{kept_meaning, RunsKept, StandsAlways, HoldsAll, HoldsSince, HasBegun, IsWrittenAt, WritesNothing}
 use Rattle.desk_top.specs.Obeyed.{SetsNoStory, SetsNone, SetsStory, ObeysStore}
 use Rattle.desk_top.proofs.Placed.{unbegun-tells_end}

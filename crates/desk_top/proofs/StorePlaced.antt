@@ -13,7 +13,7 @@ use Rattle.desk_disk.specs.Calls.{Stays}
 use Rattle.desk_disk.specs.Crashes.{Leaves, LeavesOnly}
 use Rattle.desk_disk.proofs.Runs.{starts, goes_on, joins}
 use Rattle.desk_disk.proofs.Torn.{nothing_pending_is}
-use Rattle.disk_records.specs.Files.{IsOpening}
+use Rattle.desk_disk.specs.Files.{IsOpening}
 use Rattle.desk_words.specs.declared.asked.Command.{Command}
 use Rattle.desk_words.specs.declared.asked.Command.TheVariants as command_is
 use Rattle.desk_words.specs.Commands.{Asking}
@@ -30,7 +30,7 @@ use Rattle.desk_runs.specs.Runs.{World, world, TellsEnd, status_after}
 use Rattle.desk_runs.proofs.Composed.{here, at, Tries, obeys-memory, runs-placed, runs-tells_end}
 use Rattle.desk_runs.proofs.PromisedLaw.{promised}
 use Rattle.desk_tasks.specs.Keep.{KeptStory}
-use Rattle.desk_store.specs.Journal.{IsOnlyRead, IsOpened, LeavesJournal, OnlyOpens, PassesComparison, WhereShown}
+use Rattle.desk_replay.specs.Journal.{IsOnlyRead, IsOpened, LeavesJournal, OnlyOpens, PassesComparison, WhereShown}
 use Rattle.desk_top.specs.Store.{kept_directories, kept_meaning, AreCounted, EndsAtDisk, FailsToName, JournalSays, RunsKept, RunsOnDisk, Keeps, StandsAlways, HoldsAll, HoldsSince, HasBegun, IsPlacedAt, IsWrittenAt, UnlessNamed, WritesNothing}
 use Rattle.desk_top.proofs.Placed.{obeys-unplaced, obeys-unnamed, unbegun-tells_end}
 use Rattle.desk_top.proofs.StoreLaws.{only_opens, shown_is}

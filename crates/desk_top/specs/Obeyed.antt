@@ -8,7 +8,7 @@ use Rattle.desk_runs.specs.declared.ending.Ending.TheVariants as ending
 use Rattle.desk_runs.specs.Runs.{World, world, IsUnreported, Obeys}
 use Rattle.desk_runs.proofs.Composed.{here, Prepares}
 use Rattle.desk_tasks.specs.Keep.{KeptStory}
-use Rattle.desk_store.specs.Journal.{KeepsStory}
+use Rattle.desk_replay.specs.Journal.{KeepsStory}
 use Rattle.desk_top.specs.Store.{kept_meaning}
 
 -- how a run ends whose input sets no story

@@ -28,9 +28,9 @@ use Rattle.desk_tasks.specs.Keep.{KeptStory, kept}
 use Rattle.desk_tasks.specs.Tasks.{play, IsRunnable}
 use Rattle.desk_tasks.specs.Headline.{HasKept}
 use Rattle.desk_story.specs.Story.{Rows, rows_of, task_of, kept_of}
-use Rattle.desk_store.specs.Held.{entered}
-use Rattle.desk_store.specs.Journal.{IsKept, LeavesJournal, OnlyOpens, PassesComparison, WhereShown}
-use Rattle.desk_store.specs.Own.{CanBeStored, IsOwn, OpensFor}
+use Rattle.desk_replay.specs.Held.{entered}
+use Rattle.desk_replay.specs.Journal.{IsKept, LeavesJournal, OnlyOpens, PassesComparison, WhereShown}
+use Rattle.desk_replay.specs.Own.{CanBeStored, IsOwn, OpensFor}
 
 -- the directories of words that ask for a journal on a disk
 abbrev pub kept_directories : Option Asking → Option Directories

@@ -18,7 +18,7 @@ ghost use Rattle.desk_runs.specs.Runs.{Between};
 ghost use Rattle.desk_runs.specs.Causes.{IsDoneAt};
 ghost use Rattle.desk_runs.proofs.Composed.{at};
 ghost use Rattle.desk_story.specs.Story.{kept_of};
-ghost use Rattle.desk_store.specs.Journal.{OnlyOpens, WhereShown};
+ghost use Rattle.desk_replay.specs.Journal.{OnlyOpens, WhereShown};
 ghost use Rattle.desk_top.specs.Store.{kept_directories, HasBegun, HoldsAll, IsAtMostNamed, IsPlacedAt, IsStored, IsWrittenAt, RunsOnDisk, StandsAlways, UnlessNamed};
 ghost use Rattle.desk_top.specs.Desk.{Runs, RunsAsPromised, IsReplayed, IsReplayedWithCrews, IsRecovered, IsRecoveredByTeam, IsTried, IsChecked, IsCheckedWithCrews, IsFerriedPlan, IsGenerated};
 

@@ -11,10 +11,9 @@ ghost use Rattle.desk_story.specs.Facts.{as_task, CanBeDone};
 ghost use Rattle.desk_top.specs.Desk.{Obeys, RunsWith, RunsAsPromised};
 
 use crate::day::write_day;
-use desk_ferry::run_ferry;
 use desk_folder::{Folder, FolderFault, Sink};
 use desk_headway::Listener;
-use desk_judge::{judge_crews, judge_plan};
+use desk_judge::{judge_crews, judge_plan, run_ferry};
 use desk_recover::{recover_day, try_day};
 use desk_replay::{play_beside_crews, play_events};
 use desk_runs::{Ending, fault_text};

@@ -11,15 +11,15 @@ ghost use Rattle.desk_runs.specs.Commands.{asked_here, files_read};
 ghost use Rattle.desk_runs.specs.Inputs.{Inputs, Tells};
 ghost use Rattle.desk_runs.specs.Runs.{Between};
 ghost use Rattle.desk_story.specs.Story.{kept_of};
-ghost use Rattle.desk_store.specs.Journal.{OnlyOpens, WhereShown};
+ghost use Rattle.desk_replay.specs.Journal.{OnlyOpens, WhereShown};
 ghost use Rattle.desk_top.specs.Store.{HasBegun, HoldsAll, IsWrittenAt, RunsKept, StandsAlways};
 ghost use Rattle.desk_top.specs.Obeyed.{ObeysStore};
 
 use crate::plain::tell;
 use desk_disk::Disk;
 use desk_folder::{Folder, Sink};
+use desk_replay::keep_events;
 use desk_runs::Ending;
-use desk_store::keep_events;
 use desk_story::{InputKept, InputStory, read_kept};
 use std::alloc::Global;
 

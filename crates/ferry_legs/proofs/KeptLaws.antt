@@ -6,10 +6,10 @@ use Rattle.std.specs.Option.{option_map}
 use Rattle.desk_units.specs.declared.numbers.Minute.{Minute}
 use Rattle.desk_data.specs.Situation.{Situation, planes_of, plane_at}
 use Rattle.desk_data.specs.PlanRows.{PlanRows}
-use Rattle.added_rules.specs.declared.added.Added.{Added}
+use Rattle.added_legs.specs.declared.added.Added.{Added}
 use Rattle.desk_rules.specs.Least.{airport}
-use Rattle.added_rules.specs.Merged.{way_to}
-use Rattle.added_rules.specs.Ferried.{with_added, may_go, added_leg, candidate}
+use Rattle.added_legs.specs.Merged.{way_to}
+use Rattle.added_legs.specs.Ferried.{with_added, may_go, added_leg, candidate}
 use Rattle.ferry_legs.specs.declared.ferried.Ferried.{Ferried}
 use Rattle.ferry_legs.specs.declared.kept.Kept.{Kept}
 use Rattle.ferry_legs.specs.Ferried.{added_of}

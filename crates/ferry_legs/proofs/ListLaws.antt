@@ -12,10 +12,10 @@ use Rattle.desk_data.specs.Situation.{Situation, planes_of}
 use Rattle.desk_data.specs.PlanRows.{PlanRows}
 use Rattle.desk_rules.specs.Cost.{grains}
 use Rattle.desk_rules.proofs.FindLaws.{none-cons}
-use Rattle.added_rules.specs.declared.added.Added.{Added}
-use Rattle.added_rules.specs.Added.{cost_added}
-use Rattle.added_rules.specs.Merged.{added_for, IsAdded, AreAdded}
-use Rattle.added_rules.specs.Ferried.{with_added, next_added}
+use Rattle.added_legs.specs.declared.added.Added.{Added}
+use Rattle.added_legs.specs.Added.{cost_added}
+use Rattle.added_legs.specs.Merged.{added_for, IsAdded, AreAdded}
+use Rattle.added_legs.specs.Ferried.{with_added, next_added}
 use Rattle.ferry_legs.specs.declared.ferried.Ferried.{Ferried}
 use Rattle.ferry_legs.specs.Ferried.{AreFerried, added_of}
 use Rattle.ferry_legs.specs.Steps.{AreTaken, AreSoFar}

@@ -12,12 +12,12 @@ use Rattle.desk_data.specs.Valid.{IsValid}
 use Rattle.desk_rules.specs.Least.{airport}
 use Rattle.desk_rules.specs.Numbers.{numbers}
 use Rattle.desk_rules.proofs.FindLaws.{lists_none, first_of_lists}
-use Rattle.added_rules.specs.declared.added.Added.{Added}
-use Rattle.added_rules.specs.Added.{least_added}
-use Rattle.added_rules.specs.Merged.{added_for, way_to}
-use Rattle.added_rules.specs.Ferried.{ready, minute, moments, with_added, fits, may_go, added_leg, candidate, lowers, next_added}
-use Rattle.added_rules.proofs.FerriedLaws.{found_passes}
-use Rattle.ferry_prices.specs.Prices.{IsInTime}
+use Rattle.added_legs.specs.declared.added.Added.{Added}
+use Rattle.added_legs.specs.Added.{least_added}
+use Rattle.added_legs.specs.Merged.{added_for, way_to}
+use Rattle.added_legs.specs.Ferried.{ready, minute, moments, with_added, fits, may_go, added_leg, candidate, lowers, next_added}
+use Rattle.added_legs.proofs.FerriedLaws.{found_passes}
+use Rattle.ferry_legs.specs.Prices.{IsInTime}
 use Rattle.ferry_legs.specs.Steps.{if_lowers, paying, paying_of, AreTaken, IsNew}
 
 none_is : {X : Type 0} (o : Option X) → is_none o ≡ true → o ≡ None

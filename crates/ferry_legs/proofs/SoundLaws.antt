@@ -11,9 +11,9 @@ use Rattle.desk_rules.specs.Least.{breaks, each_leg, each_plane, rotation_items,
 use Rattle.desk_rules.specs.Words.{IsFeasible}
 use Rattle.desk_rules.proofs.FindLaws.{find_none-parts, find_none-both}
 use Rattle.desk_rules.proofs.LeastLaws.{feasible-from}
-use Rattle.added_rules.specs.Added.{items_from_c4, least_added}
-use Rattle.added_rules.specs.declared.added.AddBroken.TheVariants as add
-use Rattle.added_rules.proofs.EmptyLaws.{same_least}
+use Rattle.added_legs.specs.Added.{items_from_c4, least_added}
+use Rattle.added_legs.specs.declared.added.AddBroken.TheVariants as add
+use Rattle.added_legs.proofs.EmptyLaws.{same_least}
 
 module _ (q : Broken → Bool) (c1 c2 c3 c4 c5 c6 c7 c8 c9 slots pax : List Broken) where
   none_after : find q ((c1 ++ c2 ++ c3 ++ c4 ++ c5 ++ c6 ++ c7 ++ c8 ++ c9) ++ slots ++ pax) ≡ None → find q (c4 ++ c5 ++ c6 ++ c7 ++ c8 ++ c9 ++ slots) ≡ None

@@ -1,11 +1,11 @@
--- The legs that are added to a plan, each with what the plan costs with it. The letters are those of added_rules.
+-- The legs that are added to a plan, each with what the plan costs with it. The letters are those of added_legs.
 use Rattle.std.specs.Prelude.{◌≡◌, ℕ, ◌+◌, ◌<◌, List, map, take, length, slice_index_or}
 use Rattle.desk_data.specs.Situation.{Situation}
 use Rattle.desk_data.specs.PlanRows.{PlanRows}
 use Rattle.desk_rules.specs.Cost.{grains}
-use Rattle.added_rules.specs.declared.added.Added.{Added}
-use Rattle.added_rules.specs.Added.{cost_added}
-use Rattle.added_rules.specs.Ferried.{IsFerried}
+use Rattle.added_legs.specs.declared.added.Added.{Added}
+use Rattle.added_legs.specs.Added.{cost_added}
+use Rattle.added_legs.specs.Ferried.{IsFerried}
 use Rattle.ferry_legs.specs.declared.ferried.Ferried.{Ferried}
 
 -- the added legs of such a list

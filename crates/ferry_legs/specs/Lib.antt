@@ -1,2 +1,9 @@
+pub mod Positions
+pub mod Prices
+pub mod Times
+pub mod Departs
+pub mod Taken
+pub mod RuledOut
+pub mod Asked
 pub mod Ferried
 pub mod Steps

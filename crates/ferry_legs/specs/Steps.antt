@@ -1,16 +1,16 @@
--- What is kept while legs are added, and which leg is added next. The letters are those of added_rules.
+-- What is kept while legs are added, and which leg is added next. The letters are those of added_legs.
 use Rattle.std.specs.Prelude.{◌≡◌, ℕ, ◌+◌, ◌<◌, Bool, true, false, if◌then◌else◌, List, Option, Some, None, find, length, take, is_some, slice_index_or, slice_set}
 use Rattle.std.specs.List.{filter_map}
 use Rattle.desk_data.specs.Situation.{Situation, planes_of, airports_of}
 use Rattle.desk_data.specs.PlanRows.{PlanRows}
 use Rattle.desk_rules.specs.Cost.{grains}
 use Rattle.desk_rules.specs.Numbers.{numbers}
-use Rattle.added_rules.specs.declared.added.Added.{Added}
-use Rattle.added_rules.specs.Added.{least_added, cost_added}
-use Rattle.added_rules.specs.Merged.{added_for, IsAdded, AreAdded}
-use Rattle.added_rules.specs.Ferried.{with_added, candidate, lowers, next_added}
-use Rattle.ferry_prices.specs.Prices.{IsInTime, IsPricesOf}
-use Rattle.ferry_times.specs.Times.{IsTimesOf}
+use Rattle.added_legs.specs.declared.added.Added.{Added}
+use Rattle.added_legs.specs.Added.{least_added, cost_added}
+use Rattle.added_legs.specs.Merged.{added_for, IsAdded, AreAdded}
+use Rattle.added_legs.specs.Ferried.{with_added, candidate, lowers, next_added}
+use Rattle.ferry_legs.specs.Prices.{IsInTime, IsPricesOf}
+use Rattle.ferry_legs.specs.Times.{IsTimesOf}
 use Rattle.ferry_legs.specs.declared.ferried.Ferried.{Ferried}
 use Rattle.ferry_legs.specs.declared.kept.Kept.{Kept}
 use Rattle.ferry_legs.specs.Ferried.{added_of}

@@ -3,14 +3,14 @@
 ghost use Rattle.std.specs.Prelude.{◌≡◌, IfOk, Some};
 ghost use Rattle.desk_data.specs.Valid.{IsPlanFor};
 ghost use Rattle.desk_rules.specs.Words.{IsFeasible};
-ghost use Rattle.added_rules.specs.Ferried.{next_added};
-ghost use Rattle.added_rules.specs.Merged.{AreAdded};
+ghost use Rattle.added_legs.specs.Ferried.{next_added};
+ghost use Rattle.added_legs.specs.Merged.{AreAdded};
 ghost use Rattle.ferry_legs.specs.Ferried.{AreFerried, added_of};
 ghost use Rattle.ferry_legs.specs.Steps.{AreSoFar, IsMarked, IsKeptOf, IsNew};
 
 use crate::ferried::Ferried;
 use crate::kept::Kept;
-use added_rules::Added;
+use added_legs::Added;
 use desk_data::{Instance, NoMem, Plan};
 use std::alloc::Global;
 

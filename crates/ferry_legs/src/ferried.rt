@@ -1,6 +1,6 @@
 //! What is told of a leg that is added.
 
-use added_rules::Added;
+use added_legs::Added;
 use desk_data::Grains;
 
 /// A leg that is added, and what the plan costs with it and with those that were added before it.

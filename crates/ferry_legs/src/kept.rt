@@ -7,16 +7,15 @@ ghost use Rattle.desk_data.specs.Situation.{Situation, airports_of, plane_at, pl
 ghost use Rattle.desk_data.specs.Valid.{IsPlanFor};
 ghost use Rattle.desk_rules.specs.Cost.{grains};
 ghost use Rattle.desk_rules.specs.Words.{IsFeasible};
-ghost use Rattle.added_rules.specs.declared.added.Added.{Added as Extra};
-ghost use Rattle.added_rules.specs.Added.{cost_added};
-ghost use Rattle.added_rules.specs.Ferried.{next_added, with_added};
-ghost use Rattle.added_rules.specs.Merged.{way_to};
+ghost use Rattle.added_legs.specs.declared.added.Added.{Added as Extra};
+ghost use Rattle.added_legs.specs.Added.{cost_added};
+ghost use Rattle.added_legs.specs.Ferried.{next_added, with_added};
+ghost use Rattle.added_legs.specs.Merged.{way_to};
 ghost use Rattle.ferry_legs.specs.Steps.{IsMarked, IsKeptOf, IsNew, paying, paying_of};
 
-use added_rules::Added;
+use crate::{FerryPrices, FerryTimes};
+use added_legs::Added;
 use desk_data::{Airport, Grains, Instance, NoMem, Plan, Plane};
-use ferry_prices::FerryPrices;
-use ferry_times::FerryTimes;
 use std::alloc::Global;
 
 /// What is kept of a plan and of the legs that are added so far.

@@ -13,7 +13,7 @@ use Rattle.plan_moves.specs.declared.moves.Move.{Move}
 use Rattle.plan_moves.specs.declared.moves.Step.{Step}
 use Rattle.plan_moves.specs.declared.moves.Step.TheVariants as step
 use Rattle.plan_moves.specs.Fits.{Fits, IsPathIn, StepFits}
-use Rattle.move_bytes.specs.Spelling.{AreSteps, HasShortPaths, IsNumber, IsPath, IsRow, IsStep}
+use Rattle.journal_disk.specs.Spelling.{AreSteps, HasShortPaths, IsNumber, IsPath, IsRow, IsStep}
 
 pub short_paths : (I : Situation) (s : Step) → StepFits I s → HasShortPaths s
 short_paths I (step.Set leg was new) fits = tt

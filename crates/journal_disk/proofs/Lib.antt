@@ -1,3 +1,7 @@
+pub mod Readers
+pub mod Moves
+pub mod Loops
+pub mod Read
 pub mod FitLaws
 pub mod NextLaws
 pub mod PayloadLaws

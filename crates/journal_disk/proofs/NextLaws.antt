@@ -11,13 +11,13 @@ use Rattle.desk_data.specs.Situation.{Situation}
 use Rattle.desk_data.specs.Valid.{AreWithinLimits}
 use Rattle.desk_model.specs.declared.answer.Event.{Event}
 use Rattle.desk_model.specs.declared.answer.Event.TheVariants as event
-use Rattle.disk_records.specs.Stored.{lists_of}
-use Rattle.move_bytes.specs.declared.payload.StoredEvent.{StoredEvent}
-use Rattle.move_bytes.specs.declared.payload.StoredEvent.TheVariants as stored
-use Rattle.move_bytes.specs.Spelling.{HasSpelling, payload}
-use Rattle.move_bytes.specs.Reading.{spelled_by}
-use Rattle.move_bytes.proofs.Readers.{some_is}
-use Rattle.move_bytes.proofs.Moves.{spelled_again}
+use Rattle.desk_disk.specs.Stored.{lists_of}
+use Rattle.journal_disk.specs.declared.payload.StoredEvent.{StoredEvent}
+use Rattle.journal_disk.specs.declared.payload.StoredEvent.TheVariants as stored
+use Rattle.journal_disk.specs.Spelling.{HasSpelling, payload}
+use Rattle.journal_disk.specs.Reading.{spelled_by}
+use Rattle.journal_disk.proofs.Readers.{some_is}
+use Rattle.journal_disk.proofs.Moves.{spelled_again}
 use Rattle.journal_disk.specs.Payloads.{ComesNext, MayBeNext, MayCome, MayStand, batches_in, spells_batch, stored_by}
 use Rattle.journal_disk.proofs.FitLaws.{steps_spelled}
 

@@ -9,10 +9,10 @@ use Rattle.desk_model.specs.declared.answer.Event.{Event}
 use Rattle.desk_model.specs.declared.answer.Event.TheVariants as event
 use Rattle.desk_model.specs.States.{State}
 use Rattle.desk_model.specs.Histories.{is_batch, run}
-use Rattle.disk_records.specs.Records.{AreAccepted, IsDamagedAt, Opens}
-use Rattle.disk_records.specs.Stored.{OpensFirst, RunsLeave}
-use Rattle.disk_records.proofs.Stopped.{leave_first, leave_undamaged}
-use Rattle.disk_records.proofs.Storing.{accepted_front}
+use Rattle.desk_disk.specs.Records.{AreAccepted, IsDamagedAt, Opens}
+use Rattle.desk_disk.specs.Stored.{OpensFirst, RunsLeave}
+use Rattle.desk_disk.proofs.Stopped.{leave_first, leave_undamaged}
+use Rattle.desk_disk.proofs.Storing.{accepted_front}
 use Rattle.journal_disk.specs.Payloads.{AreNext, MayCome, MayStand, asked_in, batches_in, history_payloads, payload_by, payloads_from, payloads_of}
 use Rattle.journal_disk.specs.Store.{Holds, HoldsFirst}
 use Rattle.journal_disk.proofs.NextLaws.{batches-push}

@@ -1,2 +1,4 @@
+pub mod Spelling
+pub mod Reading
 pub mod Payloads
 pub mod Store

@@ -7,9 +7,9 @@ use Rattle.desk_model.specs.declared.answer.Entry.{Entry}
 use Rattle.desk_model.specs.declared.answer.Event.{Event}
 use Rattle.desk_model.specs.declared.answer.Event.TheVariants as event
 use Rattle.desk_model.specs.Histories.{has_room, is_batch}
-use Rattle.move_bytes.specs.declared.payload.StoredEvent.{StoredEvent}
-use Rattle.move_bytes.specs.declared.payload.StoredEvent.TheVariants as stored
-use Rattle.move_bytes.specs.Spelling.{IsNumber, payload}
+use Rattle.journal_disk.specs.declared.payload.StoredEvent.{StoredEvent}
+use Rattle.journal_disk.specs.declared.payload.StoredEvent.TheVariants as stored
+use Rattle.journal_disk.specs.Spelling.{IsNumber, payload}
 
 -- how many batches there are among events, each with its caller
 abbrev pub batches_among : List (ℕ × Event) → ℕ

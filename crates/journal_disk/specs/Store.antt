@@ -4,7 +4,7 @@ use Rattle.day_orders.specs.declared.orders.Batch.{Batch}
 use Rattle.desk_data.specs.Situation.{Situation}
 use Rattle.desk_model.specs.declared.answer.Entry.{Entry}
 use Rattle.desk_model.specs.declared.answer.Event.{Event}
-use Rattle.disk_records.specs.Records.{AreAccepted, Opens}
+use Rattle.desk_disk.specs.Records.{AreAccepted, Opens}
 use Rattle.journal_disk.specs.Payloads.{asked_in, with_room, payloads_of, MayStand}
 
 -- the file holds these events: it opens so, and each may stand there

@@ -5,14 +5,13 @@ ghost use Rattle.desk_data.specs.Situation.{Situation};
 ghost use Rattle.desk_model.specs.Histories.{IsAskable};
 ghost use Rattle.desk_disk.specs.FileStates.{DiskSide};
 ghost use Rattle.desk_disk.specs.Crashes.{RunsTo};
-ghost use Rattle.disk_records.specs.Files.{IsAtRest, IsReady, IsWithOrWithout, MakesCalls, added_at};
+ghost use Rattle.desk_disk.specs.Files.{IsAtRest, IsReady, IsWithOrWithout, MakesCalls, added_at};
 ghost use Rattle.journal_disk.specs.Payloads.{payload_by};
 
+use crate::{batch_payload, move_payload};
 use desk_data::NoMem;
-use desk_disk::Disk;
+use desk_disk::{AppendFault, Disk, Tail};
 use desk_model::{Entry, Event};
-use disk_records::{AppendFault, Tail};
-use move_bytes::{batch_payload, move_payload};
 use std::alloc::Global;
 
 /// The payload of a caller's event: of a batch with its number among those of the day, from 0 on, and of a
@@ -72,5 +71,5 @@ pub fn append<D: Disk>(
     if payload.len() >= 1 << 32 {
         return Err(AppendFault::Memory);
     }
-    disk_records::append(alloc, disk, tail, payload.as_slice())
+    desk_disk::append(alloc, disk, tail, payload.as_slice())
 }

@@ -1,13 +1,13 @@
 //! A reader of a journal's records that checks each and keeps its payload.
 ghost use Rattle.std.specs.Prelude.{◌≡◌, ◌∷◌, []};
-ghost use Rattle.disk_records.specs.Stored.{lists_of};
-ghost use Rattle.move_bytes.specs.Spelling.{payload as spelling};
+ghost use Rattle.desk_disk.specs.Stored.{lists_of};
+ghost use Rattle.journal_disk.specs.Spelling.{payload as spelling};
 ghost use Rattle.journal_disk.specs.Payloads.{batches_in};
 
+use crate::StoredEvent;
 use crate::next::next_stored;
 use desk_data::{Batch, Instance, List, NoMem};
-use disk_records::PayloadReader;
-use move_bytes::StoredEvent;
+use desk_disk::PayloadReader;
 use std::alloc::{AllocError, Global};
 
 /// A day, its batches, how many of them stand in the records read so far, and the payloads of these.
@@ -21,7 +21,7 @@ pub(crate) struct Checker<'a> {
 }
 
 impl PayloadReader for Checker<'_> {
-    ghost use Rattle.disk_records.specs.Stored.{lists_of};
+    ghost use Rattle.desk_disk.specs.Stored.{lists_of};
     ghost use Rattle.journal_disk.specs.Payloads.{MayStand};
 
     /// The day, and its batches.

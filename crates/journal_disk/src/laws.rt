@@ -6,8 +6,8 @@ ghost use Rattle.desk_model.specs.declared.answer.Entry.{Entry};
 ghost use Rattle.desk_model.specs.declared.answer.Event.{Event};
 ghost use Rattle.desk_model.specs.States.{State};
 ghost use Rattle.desk_model.specs.Histories.{run};
-ghost use Rattle.disk_records.specs.Records.{AreAccepted, IsDamagedAt};
-ghost use Rattle.disk_records.specs.Stored.{RunsLeave};
+ghost use Rattle.desk_disk.specs.Records.{AreAccepted, IsDamagedAt};
+ghost use Rattle.desk_disk.specs.Stored.{RunsLeave};
 ghost use Rattle.journal_disk.specs.Payloads.{AreNext, MayStand, asked_in, batches_among, with_room, history_payloads, payload_by, payloads_of};
 ghost use Rattle.journal_disk.specs.Store.{HoldsFirst};
 

@@ -1,10 +1,10 @@
 //! Whether a payload may come next in a journal.
 ghost use Rattle.std.specs.Prelude.{◌≡◌, ◌↔◌, IsTrue, IfOk, MatchOption};
-ghost use Rattle.move_bytes.specs.Spelling.{payload as spelling, HasSpelling};
+ghost use Rattle.journal_disk.specs.Spelling.{payload as spelling, HasSpelling};
 ghost use Rattle.journal_disk.specs.Payloads.{ComesNext, MayCome};
 
+use crate::{StoredEvent, read_payload};
 use desk_data::{Batch, Instance, NoMem};
-use move_bytes::{StoredEvent, read_payload};
 use plan_moves::fits;
 use std::alloc::Global;
 

@@ -3,15 +3,14 @@ ghost use Rattle.std.specs.Prelude.{◌≡◌, ℕ, ◌≤◌, [], List, Option,
 ghost use Rattle.desk_folder.specs.Calls.{Rose};
 ghost use Rattle.desk_disk.specs.FileStates.{DiskSide, HasNothingPending};
 ghost use Rattle.desk_disk.specs.Crashes.{RunsTo};
-ghost use Rattle.disk_records.specs.Records.{AreAccepted, Opens};
-ghost use Rattle.disk_records.specs.Files.{IsAtRest, IsOpening, IsReady, IsWhole, LeftBy, RefusedBy, opened_at};
-ghost use Rattle.disk_records.specs.Stored.{lists_of};
+ghost use Rattle.desk_disk.specs.Records.{AreAccepted, Opens};
+ghost use Rattle.desk_disk.specs.Files.{IsAtRest, IsOpening, IsReady, IsWhole, LeftBy, RefusedBy, opened_at};
+ghost use Rattle.desk_disk.specs.Stored.{lists_of};
 ghost use Rattle.journal_disk.specs.Payloads.{MayStand};
 
 use crate::checker::Checker;
 use desk_data::{Batch, Instance};
-use desk_disk::Disk;
-use disk_records::{OpenFault, Tail};
+use desk_disk::{Disk, OpenFault, Tail};
 use std::alloc::Global;
 
 /// Opens the file of a journal on a disk as the payloads of its records, and the place behind them. Each
@@ -61,6 +60,6 @@ pub fn open_records<D: Disk>(
         due: 0,
         payloads: Vec::new(alloc),
     };
-    let tail = disk_records::open(alloc, disk, &mut checker)?;
+    let tail = desk_disk::open(alloc, disk, &mut checker)?;
     Ok((tail, checker.payloads))
 }

@@ -1,1 +1,4 @@
+mod SeatLemmas
+mod ShortLemmas
+pub mod StepLemmas
 mod TextLemmas

@@ -8,11 +8,11 @@ use Rattle.desk_text.specs.Fields.{name_of, number_of, date_of}
 use Rattle.desk_text.specs.Moments.{minute_of}
 use Rattle.desk_text.specs.Rows.{◌>>=◌, RowOf}
 use Rattle.comma_rows.specs.Records.{are_printed, comma_rows}
-use Rattle.journal_rows.specs.declared.rows.NamedEvent.{NamedEvent}
-use Rattle.journal_rows.specs.declared.rows.NamedEvent.TheVariants.{Batch, Move}
-use Rattle.journal_rows.specs.declared.rows.JournalRow.{JournalRow}
-use Rattle.journal_rows.specs.Tokens.{TokenReaders}
-use Rattle.journal_rows.specs.Steps.{steps_of}
+use Rattle.journal_file.specs.declared.rows.NamedEvent.{NamedEvent}
+use Rattle.journal_file.specs.declared.rows.NamedEvent.TheVariants.{Batch, Move}
+use Rattle.journal_file.specs.declared.rows.JournalRow.{JournalRow}
+use Rattle.journal_file.specs.Tokens.{TokenReaders}
+use Rattle.journal_file.specs.Steps.{steps_of}
 
 -- ---- events
 

@@ -1,2 +1,4 @@
+pub mod Facts
+pub mod Tokens
+pub mod Steps
 pub mod Journal
-pub use Rattle.journal_rows.specs.Facts

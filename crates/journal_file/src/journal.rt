@@ -5,15 +5,15 @@ ghost use Rattle.std.specs.List.{list_all};
 ghost use Rattle.desk_text.specs.Lines.{is_text};
 ghost use Rattle.desk_text.specs.Rows.{Gives, GivesRow};
 ghost use Rattle.comma_rows.specs.Records.{are_printed, is_printed};
-ghost use Rattle.journal_rows.specs.Facts.{AreRows, IsJournalRow, IsNamedEvent};
+ghost use Rattle.journal_file.specs.Facts.{AreRows, IsJournalRow, IsNamedEvent};
 ghost use Rattle.journal_file.specs.Journal.{asked_row, batch_of, event_of, journal_row, journal_rows_of, looked_at, move_of, record_row};
 
-use crate::tokens::FullTokens;
+use crate::journal_tokens::FullTokens;
+use crate::{JournalRow, NamedEvent, read_steps};
 use comma_rows::{Columns, CommaGrammar, is_field, read_records};
 use desk_text::{Cause, ReadFault, RowFault, number};
 use desk_units::List;
 use file_rows::MOST_JOURNAL_BYTES;
-use journal_rows::{JournalRow, NamedEvent, read_steps};
 use std::alloc::Global;
 
 /// The greatest number of a caller.

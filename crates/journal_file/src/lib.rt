@@ -1,3 +1,26 @@
+//! The reader of journal.csv.
+//!
+//! # Rows and steps
+//!
+//! The rows of a journal, and the reader of a move's steps from its text.
+//!
+//! A row has its line, its caller and an event: the batch of a number, or a move, in whose steps legs,
+//! aircraft and reservations have their names. The join makes numbers of them. What a reader says of its
+//! rows is stated in `specs/Facts`, as `IsJournalRow`.
+//!
+//!     read_steps(alloc, &form, b"push P1 after F3 01/03/08 tidy")    // a push and a tidy
+//!
+//! A journal has its lines in one form or another, and names, dates and times that are read more
+//! narrowly or less. Its steps are the same in each: so the reader of the lines takes a move's text
+//! from its line, and hands it on with its form of tokens, a `TokenForm`.
+//!
+//! Proved: `read_steps` gives the steps, or the first cause from the left, that the definition in
+//! `specs/Steps` gives for the tokens (`exact`), and the ranges that the join relies on (`facts`). The
+//! definition counts down from the number of tokens, so that it ends; `steps_are_read_in_turn` says that
+//! this leaves nothing out.
+//!
+//! # Records of a comma file
+//!
 //! The reader of journal.csv: batches and moves, one a record.
 //!
 //! journal.csv is a comma file. A record is `CALLER,EVENT,DETAIL`, and perhaps a fourth field, the
@@ -7,15 +30,24 @@
 //!     0,batch,0
 //!     1,move,push P1 after F1 01/03/08 tidy,breaks C5 F2 01/03/08
 //!
-//! The steps are read by `journal_rows`, with names, dates and times as the text files have them. What
+//! The steps are read by `journal_file`, with names, dates and times as the text files have them. What
 //! `journal_text` writes is such a file. Proved: `read_journal` gives the rows, or the first record that
 //! is refused with its cause, that the definition in `specs/` gives of the bytes (`exact`), and the rows
-//! are as the join relies on (`facts`). It depends on `journal_rows` and `comma_rows`.
+//! are as the join relies on (`facts`).
 #![tactic(auto)]
 
 mod journal;
+mod journal_tokens;
+mod kind;
+mod parts;
+mod rows;
+mod steps;
 mod tokens;
 
-pub use comma_rows::{Cause, ReadFault};
+pub use comma_rows::ReadFault;
+pub use desk_text::{Cause, RowFault};
+pub use desk_units::{Cabin, List, Minute, Name};
 pub use journal::read_journal;
-pub use journal_rows::{JournalRow, NamedEvent};
+pub use rows::{JournalRow, NamedEvent, NamedLeg, NamedPath, NamedRes, NamedRow, NamedStep};
+pub use steps::{read_steps, steps_are_read_in_turn};
+pub use tokens::TokenForm;

@@ -5,8 +5,8 @@ use Rattle.desk_data.specs.declared.broken.Broken.{Broken}
 use Rattle.desk_data.specs.Situation.{Situation}
 use Rattle.desk_data.specs.PlanRows.{PlanRows}
 use Rattle.desk_rules.specs.Least.{least}
-use Rattle.journal_text.specs.Writable.{Names}
-use Rattle.journal_text.proofs.WritableLaws.{least-names}
+use Rattle.output_texts.specs.Writable.{Names}
+use Rattle.output_texts.proofs.WritableLaws.{least-names}
 
 pub item_names : (I : Situation) (P : PlanRows) (o : Option Broken) → o ≡ least I P → IfSome o (Names I)
 item_names I P None e = tt

@@ -3,17 +3,14 @@
 ghost use Rattle.std.specs.Prelude.{◌≡◌, IfOk, IfSome};
 ghost use Rattle.desk_data.specs.Valid.{IsPlanFor};
 ghost use Rattle.desk_rules.specs.Least.{least};
-ghost use Rattle.journal_text.specs.Writable.{Names};
+ghost use Rattle.output_texts.specs.Writable.{Names};
 
-use cost_terms::cost_terms;
+use crate::{PICTURE_STYLE, Picture, put_key, put_patterns, put_picture};
 use desk_data::{Broken, Instance, NoMem, Plan};
 use full_check::full_check;
-use journal_text::push_broken;
-use page_picture::{PICTURE_STYLE, Picture, put_key, put_patterns, put_picture};
+use output_texts::push_broken;
+use page_parts::{Page, Part, changed_groups, changed_legs, cost_terms, date};
 use page_tables::{Findings, TABLE_STYLE, put_costs, put_facts, put_footer, put_groups, put_legs};
-use page_text::{Page, Part};
-use page_values::date;
-use plan_changes::{changed_groups, changed_legs};
 use std::alloc::Global;
 
 /// A page, and what its plan breaks first.

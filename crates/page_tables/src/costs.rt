@@ -1,9 +1,7 @@
 //! What the schedule and the plan cost, term by term.
 
-use cost_terms::CostTerms;
 use desk_data::{Grains, NoMem};
-use page_text::{Page, Part};
-use page_values::{put_units, shown_term, ten_thousandths};
+use page_parts::{CostTerms, Page, Part, put_units, shown_term, ten_thousandths};
 
 // A row of the table: a term, what it counts, and what the schedule and the plan cost in it, in ten-thousandths of a unit.
 #[derive(Clone, Copy)]

@@ -3,9 +3,10 @@
 use crate::costs::{put_difference, sum_of};
 use crate::findings::Findings;
 use desk_data::{Instance, Minute, NoMem};
-use page_text::{Page, Part};
-use page_values::{clock, date, put_units, ten_thousandths};
-use plan_changes::{ChangedGroup, ChangedLeg, Fate, LegChange, Shift};
+use page_parts::{
+    ChangedGroup, ChangedLeg, Fate, LegChange, Page, Part, Shift, clock, date, put_units,
+    ten_thousandths,
+};
 
 // How many legs changed in which way.
 #[derive(Clone, Copy)]

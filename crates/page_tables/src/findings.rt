@@ -1,7 +1,6 @@
 //! What the tables tell of a plan.
 
-use cost_terms::CostTerms;
-use plan_changes::{ChangedGroup, ChangedLeg};
+use page_parts::{ChangedGroup, ChangedLeg, CostTerms};
 
 /// A plan beside the schedule.
 pub struct Findings {

@@ -5,9 +5,7 @@ ghost use Rattle.desk_data.specs.Valid.{IsPlanFor};
 
 use desk_data::{Cabin, Instance, Leg, LegInfo, NoMem, Plan, ResInfo};
 use desk_text::{cabin_letter, direction_letter};
-use page_text::{Page, Part};
-use page_values::{leg_of, res_of};
-use plan_changes::{ChangedGroup, Fate};
+use page_parts::{ChangedGroup, Fate, Page, Part, leg_of, res_of};
 use std::alloc::Global;
 
 // The most rows of the table.

@@ -5,9 +5,9 @@ ghost use Rattle.desk_data.specs.Situation.{legs_of};
 ghost use Rattle.desk_data.specs.Valid.{IsPlanFor};
 
 use desk_data::{Instance, Leg, LegInfo, Minute, NoMem, Plan, Plane, Row};
-use page_text::{Page, Part};
-use page_values::{airport_name, date, leg_of, plane_name, put_time};
-use plan_changes::{ChangedLeg, LegChange, Shift};
+use page_parts::{
+    ChangedLeg, LegChange, Page, Part, Shift, airport_name, date, leg_of, plane_name, put_time,
+};
 use std::alloc::Global;
 
 // How bad a change is: the least stands first. Cancelled legs come before the others, then those that are shifted most, then

@@ -5,7 +5,7 @@
 //! put one part on a page; the legs and the passengers stand worst first. docs/PAGE.md has each column.
 //!
 //! Nothing is proved of how the tables are laid out but that the calls are safe and return: what they tell is proved where it
-//! is found, in `cost_terms`, `plan_changes` and `full_check`, and all text goes through `page_text`.
+//! is found, in `cost_terms`, `page_parts` and `full_check`, and all text goes through `page_parts`.
 #![tactic(auto)]
 
 mod costs;

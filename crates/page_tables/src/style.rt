@@ -1,7 +1,7 @@
 //! How the tables look, and what stands below them.
 
 use desk_data::NoMem;
-use page_text::{Page, Part};
+use page_parts::{Page, Part};
 
 /// The style of the page and its tables, for the head of the page.
 pub const TABLE_STYLE: &str = "\

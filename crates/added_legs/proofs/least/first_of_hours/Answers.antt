@@ -5,8 +5,8 @@ use Rattle.desk_data.specs.declared.broken.Broken.{Broken}
 use Rattle.desk_data.specs.declared.broken.Broken.TheVariants.{C10, C11}
 use Rattle.desk_data.specs.Situation.{legs_of}
 use Rattle.desk_rules.specs.Least.{breaks, each_hour}
-use Rattle.added_rules.specs.declared.added.AddBroken.TheVariants as add
-use Rattle.added_rules.specs.Merged.{merged_day, merged_plan}
+use Rattle.added_legs.specs.declared.added.AddBroken.TheVariants as add
+use Rattle.added_legs.specs.Merged.{merged_day, merged_plan}
 use Rattle.added_legs.proofs.ItemLaws.{hours_split}
 use Rattle.added_legs.proofs.least.first_of_hours.Goals as goal
 

@@ -5,9 +5,9 @@ use Rattle.std.specs.Option.{option_or, option_map}
 use Rattle.desk_data.specs.declared.broken.Broken.{Broken}
 use Rattle.desk_data.specs.Situation.{legs_of}
 use Rattle.desk_rules.specs.Least.{breaks}
-use Rattle.added_rules.specs.declared.added.AddBroken.{AddBroken}
-use Rattle.added_rules.specs.Added.{named}
-use Rattle.added_rules.specs.Merged.{merged_day, merged_plan}
+use Rattle.added_legs.specs.declared.added.AddBroken.{AddBroken}
+use Rattle.added_legs.specs.Added.{named}
+use Rattle.added_legs.specs.Merged.{merged_day, merged_plan}
 use Rattle.added_legs.specs.Items.{items_of}
 use Rattle.added_legs.specs.declared.rule.Rule.TheVariants.{C4Range}
 use Rattle.added_legs.proofs.ItemLaws.{next_rule, map_or}

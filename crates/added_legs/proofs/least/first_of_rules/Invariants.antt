@@ -4,8 +4,8 @@ use Rattle.std.specs.List.{flat_map}
 use Rattle.std.specs.Option.{option_map}
 use Rattle.desk_data.specs.Situation.{legs_of}
 use Rattle.desk_rules.specs.Least.{breaks}
-use Rattle.added_rules.specs.Added.{named}
-use Rattle.added_rules.specs.Merged.{merged_day, merged_plan}
+use Rattle.added_legs.specs.Added.{named}
+use Rattle.added_legs.specs.Merged.{merged_day, merged_plan}
 use Rattle.added_legs.specs.Items.{items_of}
 use Rattle.added_legs.proofs.least.first_of_rules.Given as goal
 

@@ -3,8 +3,8 @@ use Rattle.std.specs.Option.{option_map}
 use Rattle.desk_data.specs.Situation.{legs_of}
 use Rattle.desk_rules.specs.Least.{breaks}
 use Rattle.desk_rules.proofs.FindLaws.{first_of_numbers, numbers_none}
-use Rattle.added_rules.specs.Added.{named}
-use Rattle.added_rules.specs.Merged.{merged_day, merged_plan}
+use Rattle.added_legs.specs.Added.{named}
+use Rattle.added_legs.specs.Merged.{merged_day, merged_plan}
 use Rattle.added_legs.specs.Items.{count, item_of, keeps}
 use Rattle.added_legs.proofs.ItemLaws.{breaks-keeps}
 use Rattle.added_legs.proofs.rule.first_broken.Goals as goal

@@ -1,6 +1,6 @@
 use Rattle.std.proofs.Common.{◌≡◌, ℕ, ◌<◌, true}
 use Rattle.added_legs.specs.Items.{keeps}
-use Rattle.added_rules.specs.Merged.{merged_day, merged_plan}
+use Rattle.added_legs.specs.Merged.{merged_day, merged_plan}
 use Rattle.added_legs.proofs.rule.first_broken.Given as goal
 
 abbrev pub invariant-loop-n : goal.invariant-loop-n

@@ -1,6 +1,6 @@
 use Rattle.std.proofs.Common.{◌≡◌, ◌+◌, ◌-◌, ◌<◌, Bool, true, false, cond, sym, ap, subst, ◌∙◌, arith}
 use Rattle.desk_data.specs.Situation.{legs_of, planes_of}
-use Rattle.added_rules.specs.Merged.{merged_day, merged_plan}
+use Rattle.added_legs.specs.Merged.{merged_day, merged_plan}
 use Rattle.added_legs.specs.Items.{is_of_planes, leg_keeps, plane_keeps}
 use Rattle.added_legs.proofs.rule.keeps.Goals as goal
 

@@ -1,9 +1,9 @@
 use Rattle.std.proofs.Common.{◌≡◌, ℕ, List, sym, ap, subst, ◌∙◌}
 use Rattle.std.specs.Prelude.{IfOk}
 use Rattle.desk_model.specs.declared.answer.Entry.{Entry}
-use Rattle.journal_text.specs.Lines.{journal_text}
-use Rattle.journal_text.proofs.WritableLaws.{legal-written-of}
-use Rattle.journal_text.proofs.PartsLaws.{journal-same}
+use Rattle.output_texts.specs.Lines.{journal_text}
+use Rattle.output_texts.proofs.WritableLaws.{legal-written-of}
+use Rattle.output_texts.proofs.PartsLaws.{journal-same}
 use Rattle.book_texts.proofs.texts.book_journal.Goals as goal
 
 pub journal_text-requires : goal.journal_text-requires

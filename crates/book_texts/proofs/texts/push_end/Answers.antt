@@ -3,7 +3,7 @@ use Rattle.desk_model.specs.States.{opening}
 use Rattle.desk_model.specs.Histories.{state}
 use Rattle.desk_model.proofs.StateLaws.{opening-known}
 use Rattle.desk_model.proofs.HistoryLaws.{state-known}
-use Rattle.journal_text.proofs.WritableLaws.{least-names}
+use Rattle.output_texts.proofs.WritableLaws.{least-names}
 use Rattle.book_texts.proofs.texts.push_end.Goals as goal
 
 pub push_broken-requires : goal.push_broken-requires

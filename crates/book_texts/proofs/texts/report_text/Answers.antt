@@ -1,7 +1,7 @@
 use Rattle.std.proofs.Common.{ℕ, List, ◌++◌, sym, ap, ◌∙◌, append_assoc}
 use Rattle.desk_model.specs.declared.answer.Entry.{Entry}
 use Rattle.desk_tasks.specs.Play.{batch_lines, search_line, end_lines, report_text}
-use Rattle.journal_text.proofs.WritableLaws.{legal-written-of}
+use Rattle.output_texts.proofs.WritableLaws.{legal-written-of}
 use Rattle.book_texts.proofs.BatchLaws.{lines-same}
 use Rattle.book_texts.proofs.texts.report_text.Goals as goal
 

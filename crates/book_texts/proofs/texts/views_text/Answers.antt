@@ -5,7 +5,7 @@ use Rattle.desk_model.specs.States.{opening}
 use Rattle.desk_view.specs.declared.view.View.{View}
 use Rattle.desk_view.specs.Views.{IsSightOf}
 use Rattle.desk_tasks.specs.Play.{seen_lines}
-use Rattle.journal_text.specs.Writable.{Names}
+use Rattle.output_texts.specs.Writable.{Names}
 use Rattle.book_texts.proofs.SeenLaws.{sight-names, seen-same}
 use Rattle.book_texts.proofs.texts.views_text.Goals as goal
 

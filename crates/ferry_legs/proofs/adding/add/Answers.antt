@@ -1,8 +1,8 @@
 use Rattle.std.proofs.Common.{◌≡◌, List, sym, ap, subst, ◌∙◌}
 use Rattle.desk_rules.specs.Cost.{grains}
-use Rattle.added_rules.specs.declared.added.Added.{Added}
-use Rattle.added_rules.specs.Added.{cost_added}
-use Rattle.added_rules.specs.Ferried.{with_added}
+use Rattle.added_legs.specs.declared.added.Added.{Added}
+use Rattle.added_legs.specs.Added.{cost_added}
+use Rattle.added_legs.specs.Ferried.{with_added}
 use Rattle.ferry_legs.specs.declared.ferried.Ferried.{Ferried}
 use Rattle.ferry_legs.specs.Ferried.{added_of}
 use Rattle.ferry_legs.specs.Steps.{AreSoFar, IsKeptOf}

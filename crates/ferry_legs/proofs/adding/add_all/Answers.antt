@@ -1,6 +1,6 @@
 use Rattle.std.proofs.Common.{◌<◌, List, refl, sym, ap, subst, ◌∙◌}
 use Rattle.std.specs.Prelude.{Bool, sum_by}
-use Rattle.added_rules.specs.Ferried.{next_added}
+use Rattle.added_legs.specs.Ferried.{next_added}
 use Rattle.ferry_legs.specs.Ferried.{added_of}
 use Rattle.ferry_legs.proofs.ListLaws.{fewer_free, is_free}
 use Rattle.ferry_legs.proofs.KeptLaws.{kept_itself, new_of}

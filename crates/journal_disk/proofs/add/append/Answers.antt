@@ -1,7 +1,7 @@
 use Rattle.std.proofs.Common.{◌≡◌, ◌∙◌, ap, subst, List, ℕ, [], ◌∷◌, ◌++◌}
 use Rattle.std.proofs.lemmas.Result.{IfOk-weaker}
-use Rattle.disk_records.specs.Files.{IsAtRest, added_at}
-use Rattle.disk_records.proofs.Opened.{nothing_on}
+use Rattle.desk_disk.specs.Files.{IsAtRest, added_at}
+use Rattle.desk_disk.proofs.Opened.{nothing_on}
 use Rattle.journal_disk.specs.Payloads.{payload_by}
 use Rattle.journal_disk.proofs.add.append.Goals as goal
 

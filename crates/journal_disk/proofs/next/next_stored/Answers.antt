@@ -1,6 +1,6 @@
 use Rattle.std.proofs.Common.{◌≡◌, refl, sym, subst}
 use Rattle.std.specs.Prelude.{true, false}
-use Rattle.move_bytes.specs.Spelling.{HasSpelling, payload}
+use Rattle.journal_disk.specs.Spelling.{HasSpelling, payload}
 use Rattle.journal_disk.specs.Payloads.{MayCome}
 use Rattle.journal_disk.proofs.NextLaws.{at_some, comes_may, may_comes}
 use Rattle.journal_disk.proofs.next.next_stored.Goals as goal

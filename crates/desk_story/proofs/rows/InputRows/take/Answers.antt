@@ -10,23 +10,23 @@ use Rattle.desk_units.specs.declared.tariff.TariffRow.{TariffRow}
 use Rattle.file_rows.specs.Facts.{IsPosition}
 use Rattle.file_rows.specs.Limits.{most_bytes}
 use Rattle.file_rows.specs.declared.network.Window.{Window}
-use Rattle.read_net.specs.Config.{config_of}
-use Rattle.read_net.specs.Airports.{airport_row}
-use Rattle.read_net.specs.Dist.{dist_row}
-use Rattle.read_pax.specs.Itineraries.{itinerary_row}
-use Rattle.read_tariff.specs.Tariff.{tariff_rows}
-use Rattle.read_alt.specs.Orders as orders
-use Rattle.read_alt.specs.Feed.{feed_rows}
-use Rattle.read_legs.specs.Flights.{flight_row}
-use Rattle.read_legs.specs.Rotations.{rotation_row}
-use Rattle.read_fleet.specs.Aircraft.{aircraft_row}
-use Rattle.read_fleet.specs.Position.{position_row}
-use Rattle.crew_rows.specs.declared.rows.CrewRow.{CrewRow}
-use Rattle.crew_rows.specs.Crews.{crew_row}
-use Rattle.crew_rows.specs.Facts.{IsCrewRow}
-use Rattle.journal_rows.specs.declared.rows.JournalRow.{JournalRow}
+use Rattle.file_readers.specs.Config.{config_of}
+use Rattle.file_readers.specs.Airports.{airport_row}
+use Rattle.file_readers.specs.Dist.{dist_row}
+use Rattle.file_readers.specs.Itineraries.{itinerary_row}
+use Rattle.file_readers.specs.Tariff.{tariff_rows}
+use Rattle.file_readers.specs.Orders as orders
+use Rattle.file_readers.specs.Feed.{feed_rows}
+use Rattle.file_readers.specs.Flights.{flight_row}
+use Rattle.file_readers.specs.Rotations.{rotation_row}
+use Rattle.file_readers.specs.Aircraft.{aircraft_row}
+use Rattle.file_readers.specs.Position.{position_row}
+use Rattle.file_readers.specs.declared.crew_row.CrewRow.{CrewRow}
+use Rattle.file_readers.specs.Crews.{crew_row}
+use Rattle.file_readers.specs.CrewFacts.{IsCrewRow}
+use Rattle.journal_file.specs.declared.rows.JournalRow.{JournalRow}
 use Rattle.journal_file.specs.Journal.{journal_rows_of}
-use Rattle.sol_rows.specs.Grammar.{Tries, refusal_in}
+use Rattle.file_readers.specs.Grammar.{Tries, refusal_in}
 use Rattle.desk_story.specs.Story.{with_rows}
 use Rattle.desk_story.specs.Facts.{as_rows}
 use Rattle.desk_story.proofs.PutLaws.{put_gives, rows_give, put_seen, kept_give, rows_hold}

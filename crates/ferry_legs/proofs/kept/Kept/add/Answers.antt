@@ -1,8 +1,8 @@
 use Rattle.std.proofs.Common.{List, subst, sym}
-use Rattle.added_rules.specs.declared.added.Added.{Added}
-use Rattle.added_rules.specs.Merged.{AreAdded}
-use Rattle.added_rules.specs.Ferried.{with_added}
-use Rattle.ferry_times.specs.Times.{IsTimesOf}
+use Rattle.added_legs.specs.declared.added.Added.{Added}
+use Rattle.added_legs.specs.Merged.{AreAdded}
+use Rattle.added_legs.specs.Ferried.{with_added}
+use Rattle.ferry_legs.specs.Times.{IsTimesOf}
 use Rattle.ferry_legs.proofs.ListLaws.{one_more_added, one_more_taken}
 use Rattle.ferry_legs.proofs.KeptLaws.{marked}
 use Rattle.ferry_legs.proofs.kept.Kept.add.Goals as goal

@@ -1,6 +1,6 @@
 use Rattle.std.proofs.Common.{◌≡◌, true, sym, ◌∙◌}
 use Rattle.std.specs.Prelude.{Some}
-use Rattle.added_rules.specs.Ferried.{added_leg, candidate, may_go}
+use Rattle.added_legs.specs.Ferried.{added_leg, candidate, may_go}
 use Rattle.ferry_legs.proofs.NextLaws.{has_none, no_way, pays, never_pays, candidate_is_new}
 use Rattle.ferry_legs.proofs.KeptLaws.{goes_there, departs_then, departs_not}
 use Rattle.ferry_legs.proofs.kept.Kept.paying.Goals as goal

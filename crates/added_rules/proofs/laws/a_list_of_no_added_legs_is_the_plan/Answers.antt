@@ -1,5 +1,0 @@
-use Rattle.added_rules.proofs.EmptyLaws.{same_least, same_cost}
-use Rattle.added_rules.proofs.laws.a_list_of_no_added_legs_is_the_plan.Goals as goal
-
-pub returns : goal.returns
-returns c = record { least = same_least; cost = same_cost }

@@ -1,5 +1,0 @@
-use Rattle.added_rules.proofs.EndLaws.{is_beside}
-use Rattle.added_rules.proofs.laws.added_legs_leave_where_their_aircraft_end.Goals as goal
-
-pub returns : goal.returns
-returns c = is_beside

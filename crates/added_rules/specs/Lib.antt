@@ -1,4 +1,0 @@
-pub mod Merged
-pub mod Added
-pub mod Ferried
-pub mod Words

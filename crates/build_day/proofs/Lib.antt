@@ -1,9 +1,0 @@
-mod BeforeLemmas
-mod FlightLemmas
-mod FoundLemmas
-mod ValidPlanes
-mod ValidLegs
-mod ValidPax
-mod ValidParts
-mod OrderLemmas
-mod FilledLemmas

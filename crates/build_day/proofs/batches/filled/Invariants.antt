@@ -1,7 +1,0 @@
-use Rattle.std.proofs.Common.{take}
-use Rattle.build_day.proofs.FilledLemmas.{AreFilled}
-use Rattle.build_day.proofs.batches.filled.Given as goal
-
--- the batches that the rows so far fill
-abbrev pub invariant-loop-fed : goal.invariant-loop-fed
-invariant-loop-fed l = AreFilled l.tables.files.now (take l.fed-index l.rows) l.number l.done.items l.batch

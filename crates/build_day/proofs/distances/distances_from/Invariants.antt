@@ -1,7 +1,0 @@
-use Rattle.std.proofs.Common.{◌≡◌, map, take}
-use Rattle.build_day.specs.Day.{minutes_between}
-use Rattle.build_day.proofs.distances.distances_from.Given as goal
-
--- the minutes to the airports so far
-abbrev pub invariant-loop-dest : goal.invariant-loop-dest
-invariant-loop-dest l = l.row.items ≡ map (minutes_between l.tables.files.now l.origin) (take l.dest l.tables.files.now.airports)

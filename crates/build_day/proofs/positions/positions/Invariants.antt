@@ -1,8 +1,0 @@
-use Rattle.std.proofs.Common.{◌≡◌, take}
-use Rattle.std.specs.List.{flat_map}
-use Rattle.build_day.specs.Day.{positions_of}
-use Rattle.build_day.proofs.positions.positions.Given as goal
-
--- the positions of the rows so far
-abbrev pub invariant-loop-row : goal.invariant-loop-row
-invariant-loop-row l = l.positions.items ≡ flat_map (positions_of l.tables.files.now.airports) (take l.row-index l.rows)

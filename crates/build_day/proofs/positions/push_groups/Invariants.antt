@@ -1,7 +1,0 @@
-use Rattle.std.proofs.Common.{◌≡◌, ◌++◌, map, take}
-use Rattle.build_day.specs.Day.{position_info}
-use Rattle.build_day.proofs.positions.push_groups.Given as goal
-
--- those that stood before, and those of the groups so far
-abbrev pub invariant-loop-group : goal.invariant-loop-group
-invariant-loop-group l = l.positions.items ≡ l.initial.positions.items ++ map (position_info l.airport) (take l.group-index l.groups)

@@ -1,3 +1,0 @@
-pub mod Legs
-pub mod Day
-pub mod Batches

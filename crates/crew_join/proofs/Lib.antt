@@ -1,2 +1,0 @@
-pub mod LegLemmas
-pub mod CrewLemmas

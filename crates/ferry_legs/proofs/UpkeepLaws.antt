@@ -1,0 +1,131 @@
+-- What one more leg says of an aircraft's maintenance.
+use Rattle.std.proofs.Common.{◌≡◌, ◌≢◌, ℕ, suc, ◌+◌, ◌*◌, ◌<◌, ◌≤◌, ◌⊎◌, inl, inr, Bool, true, false, not, ◌&&◌, ltb, List, [], ◌∷◌, length, get_or, set, refl, sym, ap, subst, ◌∙◌, arith, add-one}
+use Rattle.std.specs.Prelude.{Some, None, if◌then◌else◌, sum_by, replicate}
+use Rattle.std.specs.Option.{ForSome}
+use Rattle.std.proofs.lemmas.Bool.Decides.{nat_tests}
+use Rattle.std.proofs.lemmas.List.{get_or-set_same, get_or-set_other, length-set, length-replicate, get_or-replicate}
+use Rattle.std.proofs.lemmas.List.Sums.{sum_by-append, sum_by-cons}
+use Rattle.desk_data.specs.declared.info.Maint.{Maint}
+use Rattle.desk_data.specs.declared.row.Row.{Row}
+use Rattle.desk_data.specs.declared.row.Row.TheVariants.{Flown, Cancelled}
+use Rattle.desk_data.specs.Situation.{Situation, planes_of, leg_at, plane_at}
+use Rattle.desk_data.specs.PlanRows.{PlanRows, row_at}
+use Rattle.desk_rules.specs.Numbers.{numbers, none_below}
+use Rattle.desk_rules.specs.Rotations.{dep, arr}
+use Rattle.desk_rules.specs.Rules.{meets_span}
+use Rattle.desk_rules.specs.Maintenance.{is_flown_by, flies, departs_before}
+use Rattle.plan_reads.proofs.OrderLaws.{and_true}
+use Rattle.ferry_legs.specs.declared.upkeep.Upkeep.{Upkeep}
+use Rattle.ferry_legs.specs.Times.{no_upkeep, blank, IsUpkeep, AreUpkeeps}
+
+-- ---- one more number
+
+below_cases : (k n : ℕ) → k < suc n → (k < n) ⊎ (k ≡ n)
+below_cases k n h = grind arith
+
+none_below-same : (n : ℕ) (test : ℕ → Bool) → test n ≡ false → none_below (suc n) test ≡ none_below n test
+none_below-same n test off = ap (λ (b : Bool). none_below n test && not b) off ∙ and_true (none_below n test)
+
+none_below-more : (n : ℕ) (test : ℕ → Bool) (b : Bool) → test n ≡ b → none_below (suc n) test ≡ (none_below n test && not b)
+none_below-more n test b is = ap (λ (b : Bool). none_below n test && not b) is
+
+abbrev meets_maint : Situation → PlanRows → ℕ → Maint → ℕ → Bool
+meets_maint I P p maint x = flies P p x && meets_span (dep P x) (arr I P x) maint.from maint.to
+
+abbrev minutes_of : Situation → PlanRows → ℕ → ℕ → ℕ → ℕ
+minutes_of I P p at n = sum_by (λ x. if departs_before P p at x then (leg_at I x).block else 0) (numbers n)
+
+minutes-more : (I : Situation) (P : PlanRows) (p at n : ℕ) → minutes_of I P p at (suc n) ≡ minutes_of I P p at n + (if departs_before P p at n then (leg_at I n).block else 0)
+minutes-more I P p at n =
+    let minutes : ℕ → ℕ = λ x. if departs_before P p at x then (leg_at I x).block else 0 in
+    sum_by-append minutes (numbers n) (n ∷ []) ∙ omega (arith, sum_by-cons minutes n [])
+
+-- ---- one more leg
+
+-- the aircraft does not fly leg n
+skipped : (I : Situation) (P : PlanRows) (p : ℕ) (maint : Maint) (n : ℕ) (upkeep : Upkeep) → flies P p n ≡ false → IsUpkeep I P p maint n upkeep → IsUpkeep I P p maint (suc n) upkeep
+skipped I P p maint n upkeep off h =
+    let at = maint.from.0 in
+    let before : departs_before P p at n ≡ false = ap (λ (b : Bool). b && ltb (dep P n) at) off in
+    record {
+      free = h.free ∙ sym (none_below-same n (meets_maint I P p maint) (ap (λ (b : Bool). b && meets_span (dep P n) (arr I P n) maint.from maint.to) off));
+      minutes = h.minutes ∙ sym (minutes-more I P p at n ∙ ap (λ (b : Bool). minutes_of I P p at n + (if b then (leg_at I n).block else 0)) before ∙ omega arith);
+      few = omega (arith, h.few);
+    }
+
+-- the aircraft flies leg n
+pub flown : (I : Situation) (P : PlanRows) (p : ℕ) (maint : Maint) (n : ℕ) (upkeep more : Upkeep) → flies P p n ≡ true → IsUpkeep I P p maint n upkeep
+    → more.free ≡ (upkeep.free && not (meets_span (dep P n) (arr I P n) maint.from maint.to))
+    → more.minutes ≡ upkeep.minutes + (if ltb (dep P n) maint.from.0 then (leg_at I n).block else 0)
+    → more.minutes ≤ 2880 * (n + 1)
+    → IsUpkeep I P p maint (n + 1) more
+flown I P p maint n upkeep more on h free minutes few =
+    let at = maint.from.0 in
+    subst (λ (k : ℕ). IsUpkeep I P p maint k more) (sym (add-one n))
+    (let before : departs_before P p at n ≡ ltb (dep P n) at = ap (λ (b : Bool). b && ltb (dep P n) at) on in
+    record {
+      free = free ∙ ap (λ (b : Bool). b && not (meets_span (dep P n) (arr I P n) maint.from maint.to)) h.free
+          ∙ sym (none_below-more n (meets_maint I P p maint) (meets_span (dep P n) (arr I P n) maint.from maint.to) (ap (λ (b : Bool). b && meets_span (dep P n) (arr I P n) maint.from maint.to) on));
+      minutes = minutes ∙ ap (λ (k : ℕ). k + (if ltb (dep P n) at then (leg_at I n).block else 0)) h.minutes
+          ∙ sym (minutes-more I P p at n ∙ ap (λ (b : Bool). minutes_of I P p at n + (if b then (leg_at I n).block else 0)) before);
+      few = omega (arith, few);
+    })
+
+-- ---- no legs
+
+pub no_legs : (I : Situation) (P : PlanRows) (upkeeps : List Upkeep) → upkeeps ≡ replicate (planes_of I) blank → AreUpkeeps I P 0 upkeeps
+no_legs I P upkeeps is =
+    subst (λ (us : List Upkeep). AreUpkeeps I P 0 us) (sym is)
+    (record {
+      planes = length-replicate (planes_of I) blank;
+      each = λ p lt maint some.
+          subst (λ (u : Upkeep). IsUpkeep I P p maint 0 u) (sym (get_or-replicate (planes_of I) p blank no_upkeep lt))
+          (record { free = refl; minutes = refl; few = omega arith });
+    })
+
+-- ---- all aircraft
+
+other_plane : (p q : ℕ) (row : Row) → is_flown_by q row ≡ true → p ≢ q → is_flown_by p row ≡ false
+other_plane p q (Flown a d) h apart = grind (arith, nat_tests)
+other_plane p q Cancelled h apart = refl
+
+nat_eq_cases : (p q : ℕ) → (p ≡ q) ⊎ (p ≢ q)
+nat_eq_cases p q = grind (arith, nat_tests)
+
+-- no aircraft with a maintenance flies leg n
+all-skipped : (I : Situation) (P : PlanRows) (n : ℕ) (upkeeps : List Upkeep) → ((p : ℕ) → p < planes_of I → ForSome (plane_at I p).maint (λ maint. flies P p n ≡ false)) → AreUpkeeps I P n upkeeps → AreUpkeeps I P (n + 1) upkeeps
+all-skipped I P n upkeeps off h = record {
+  planes = h.planes;
+  each = λ p lt maint is. subst (λ (k : ℕ). IsUpkeep I P p maint k (get_or upkeeps p no_upkeep)) (sym (add-one n))
+      (skipped I P p maint n (get_or upkeeps p no_upkeep) (off p lt maint is) (h.each p lt maint is));
+}
+
+pub none-flown : (I : Situation) (P : PlanRows) (n : ℕ) (upkeeps : List Upkeep) → row_at P n ≡ Cancelled → AreUpkeeps I P n upkeeps → AreUpkeeps I P (n + 1) upkeeps
+none-flown I P n upkeeps off h = all-skipped I P n upkeeps (λ p lt maint is. ap (is_flown_by p) off) h
+
+-- an aircraft with no maintenance flies leg n
+pub free-flown : (I : Situation) (P : PlanRows) (q n : ℕ) (upkeeps : List Upkeep) → flies P q n ≡ true → (plane_at I q).maint ≡ None → AreUpkeeps I P n upkeeps → AreUpkeeps I P (n + 1) upkeeps
+free-flown I P q n upkeeps on free h = all-skipped I P n upkeeps (λ p lt maint is.
+    elim (nat_eq_cases p q) [
+      | inl same ↦ let here : (plane_at I q).maint ≡ Some maint = ap (λ (k : ℕ). (plane_at I k).maint) (sym same) ∙ is in absurd cc
+      | inr apart ↦ other_plane p q (row_at P n) on apart
+    ]) h
+
+one-at : (I : Situation) (P : PlanRows) (q n : ℕ) (upkeeps : List Upkeep) (more : Upkeep) → q < planes_of I → flies P q n ≡ true → AreUpkeeps I P n upkeeps → ForSome (plane_at I q).maint (λ maint. IsUpkeep I P q maint (n + 1) more) → (p : ℕ) → p < planes_of I → (maint : Maint) → (plane_at I p).maint ≡ Some maint → (p ≡ q) ⊎ (p ≢ q) → IsUpkeep I P p maint (n + 1) (get_or (set upkeeps q more) p no_upkeep)
+one-at I P q n upkeeps more within on h new p lt maint is (inl same) =
+    let there : q < length upkeeps = omega (arith, h.planes) in
+    let at : get_or (set upkeeps q more) q no_upkeep ≡ more = get_or-set_same upkeeps q more no_upkeep there in
+    let here : (plane_at I q).maint ≡ Some maint = ap (λ (k : ℕ). (plane_at I k).maint) (sym same) ∙ is in
+    subst (λ (k : ℕ). IsUpkeep I P k maint (n + 1) (get_or (set upkeeps q more) k no_upkeep)) (sym same)
+    (subst (λ (u : Upkeep). IsUpkeep I P q maint (n + 1) u) (sym at) (new maint here))
+one-at I P q n upkeeps more within on h new p lt maint is (inr apart) =
+    subst (λ (u : Upkeep). IsUpkeep I P p maint (n + 1) u) (sym (get_or-set_other upkeeps q p more no_upkeep apart))
+    (subst (λ (k : ℕ). IsUpkeep I P p maint k (get_or upkeeps p no_upkeep)) (sym (add-one n))
+    (skipped I P p maint n (get_or upkeeps p no_upkeep) (other_plane p q (row_at P n) on apart) (h.each p lt maint is)))
+
+-- aircraft q flies leg n
+pub one-flown : (I : Situation) (P : PlanRows) (q n : ℕ) (upkeeps : List Upkeep) (more : Upkeep) → q < planes_of I → flies P q n ≡ true → AreUpkeeps I P n upkeeps → ForSome (plane_at I q).maint (λ maint. IsUpkeep I P q maint (n + 1) more) → AreUpkeeps I P (n + 1) (set upkeeps q more)
+one-flown I P q n upkeeps more within on h new = record {
+  planes = length-set upkeeps q more ∙ h.planes;
+  each = λ p lt maint is. one-at I P q n upkeeps more within on h new p lt maint is (nat_eq_cases p q);
+}

@@ -1,0 +1,10 @@
+use Rattle.std.proofs.Common.{ap, ◌∙◌, arith}
+use Rattle.ferry_legs.specs.Positions.{with_one_more}
+use Rattle.ferry_legs.proofs.PositionLaws.{one_changed}
+use Rattle.ferry_legs.proofs.positions.add_one.Goals as goal
+
+pub loop-k-preserved : goal.loop-k-preserved
+loop-k-preserved c =
+    one_changed (with_one_more c.args.plane.now) c.args.rows.now.items c.loop-k.rows.items c.loop-k.k c.index.result.now c.with_one_more.result
+    (omega (arith, c.loop-k-test.true, c.len-k-end.ensures)) c.loop-k.invariant
+    (c.with_one_more.ensures ∙ ap (with_one_more c.args.plane.now) c.index.ensures)

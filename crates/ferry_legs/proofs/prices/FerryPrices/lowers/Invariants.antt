@@ -1,0 +1,4 @@
+use Rattle.ferry_legs.proofs.prices.FerryPrices.lowers.Given as goal
+
+abbrev pub ghost-change : goal.ghost-change
+ghost-change g a = g.added

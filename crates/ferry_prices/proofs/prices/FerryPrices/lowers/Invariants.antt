@@ -1,4 +1,0 @@
-use Rattle.ferry_prices.proofs.prices.FerryPrices.lowers.Given as goal
-
-abbrev pub ghost-change : goal.ghost-change
-ghost-change g a = g.added

@@ -1,0 +1,10 @@
+pub mod Join
+pub mod Gives
+pub mod CrewJoin
+pub mod Stated
+pub mod Statement
+pub mod Legs
+pub mod Groups
+pub mod Solution
+pub mod Parties
+pub mod Both

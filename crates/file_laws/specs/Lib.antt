@@ -1,0 +1,4 @@
+pub mod Lengths
+pub mod Named
+pub mod Plain
+pub mod Due

@@ -1,0 +1,17 @@
+use Rattle.std.proofs.Common.{◌≡◌, ◌+◌, ◌*◌, length}
+use Rattle.std.specs.Prelude.{All}
+use Rattle.file_readers.specs.Itineraries.{legs_of}
+use Rattle.file_rows.specs.Facts.{IsLeg}
+use Rattle.file_readers.proofs.LegLemmas.{prepended}
+use Rattle.file_readers.proofs.itineraries.legs.Given as goal
+
+-- the legs so far, and those of the fields that are left after them, are the legs of all
+abbrev pub invariant-loop-legs : goal.invariant-loop-legs
+invariant-loop-legs l = record {
+  read : prepended l.legs.items (legs_of l.fields) ≡ legs_of l.fn.fields;
+  size : 3 * length l.legs.items + length l.fields ≡ length l.fn.fields;
+  facts : All IsLeg l.legs.items;
+}
+
+abbrev pub decreases-loop-legs : goal.decreases-loop-legs
+decreases-loop-legs l = length l.fields

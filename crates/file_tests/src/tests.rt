@@ -1,5 +1,0 @@
-//! The tests, by what they ask.
-
-mod disk;
-mod folder;
-mod text;

@@ -1,4 +1,0 @@
-mod AllOf
-mod AllAfter
-mod RowLemmas
-mod EventLemmas

@@ -1,8 +1,0 @@
-use Rattle.std.proofs.Common.{◌≡◌, drop}
-use Rattle.journal_join.specs.Join.{all_of, step_of}
-use Rattle.journal_join.proofs.AllOf.{prepended}
-use Rattle.journal_join.proofs.steps.steps_of.Given as goal
-
--- the steps so far, and those that are left after them, are the steps of all
-abbrev pub invariant-loop-step : goal.invariant-loop-step
-invariant-loop-step l = prepended l.steps.items (all_of (step_of l.names) (drop l.step-index l.named)) ≡ all_of (step_of l.names) l.named

@@ -1,3 +1,0 @@
-mod SeatLemmas
-mod ShortLemmas
-pub mod StepLemmas

@@ -1,4 +1,0 @@
-pub mod Items
-pub mod Quoting
-pub mod Lines
-pub mod Writable

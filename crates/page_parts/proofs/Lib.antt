@@ -1,0 +1,4 @@
+pub mod TextLaws
+pub mod RowLaws
+pub mod GroupLaws
+pub mod TermLaws

@@ -1,7 +1,0 @@
-use Rattle.std.proofs.Common.{◌≡◌, ◌++◌, take}
-use Rattle.page_text.specs.Escaped.{escaped}
-use Rattle.page_text.proofs.escape.push_escaped.Given as goal
-
--- the bytes so far, as they stand on a page
-abbrev pub invariant-loop-byte : goal.invariant-loop-byte
-invariant-loop-byte l = l.out.items ≡ l.initial.out.items ++ escaped (take l.byte-index l.bytes)

@@ -1,7 +1,0 @@
-use Rattle.std.proofs.Common.{◌≡◌}
-use Rattle.plan_changes.specs.Groups.{changed_groups}
-use Rattle.plan_changes.proofs.groups.changed_groups.Given as goal
-
--- the changed groups of the reservations so far
-abbrev pub invariant-loop-r : goal.invariant-loop-r
-invariant-loop-r l = l.out.items ≡ changed_groups l.inst l.before l.now l.r

@@ -1,8 +1,0 @@
-use Rattle.plan_changes.proofs.RowLaws.{same_row-itself, same_row-one}
-use Rattle.plan_changes.proofs.laws.legs_are_told_where_rows_differ.Goals as goal
-
-pub returns-clause-itself : goal.returns-clause-itself
-returns-clause-itself c = same_row-itself
-
-pub returns-clause-one : goal.returns-clause-one
-returns-clause-one c = same_row-one

@@ -1,7 +1,0 @@
-use Rattle.std.proofs.Common.{◌≡◌}
-use Rattle.plan_changes.specs.Legs.{changed_legs}
-use Rattle.plan_changes.proofs.legs.changed_legs.Given as goal
-
--- the changed legs so far
-abbrev pub invariant-loop-x : goal.invariant-loop-x
-invariant-loop-x l = l.out.items ≡ changed_legs l.before l.now l.x

@@ -1,3 +1,0 @@
-pub mod Orders
-pub mod Feed
-pub use Rattle.file_rows.specs.Facts

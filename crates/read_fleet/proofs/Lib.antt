@@ -1,2 +1,0 @@
-pub mod MaintenanceLemmas
-pub mod GroupLemmas

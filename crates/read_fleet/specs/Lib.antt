@@ -1,4 +1,0 @@
-pub mod Maintenance
-pub mod Aircraft
-pub mod Position
-pub use Rattle.file_rows.specs.Facts

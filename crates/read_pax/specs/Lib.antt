@@ -1,2 +1,0 @@
-pub mod Itineraries
-pub use Rattle.file_rows.specs.Facts

@@ -1,8 +1,0 @@
-pub mod Chains
-pub mod StatementLemmas
-pub mod LineLemmas
-pub mod PathLemmas
-pub mod PartyLemmas
-pub mod PlanLemmas
-pub mod SolutionLemmas
-pub mod WholeLemmas

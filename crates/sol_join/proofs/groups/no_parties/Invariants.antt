@@ -1,5 +1,0 @@
-use Rattle.std.proofs.Common.{◌≡◌, [], replicate}
-use Rattle.sol_join.proofs.groups.no_parties.Given as goal
-
-abbrev pub invariant-loop : goal.invariant-loop
-invariant-loop l = l.parties.items ≡ replicate l.counter []

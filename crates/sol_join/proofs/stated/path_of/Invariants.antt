@@ -1,8 +1,0 @@
-use Rattle.std.proofs.Common.{◌≡◌, drop}
-use Rattle.sol_join.specs.Stated.{path_of}
-use Rattle.sol_join.proofs.PathLemmas.{prepended}
-use Rattle.sol_join.proofs.stated.path_of.Given as goal
-
--- the legs so far, and those that are left after them, are all of them
-abbrev pub invariant-loop-seat : goal.invariant-loop-seat
-invariant-loop-seat l = prepended l.path.items (path_of l.names (drop l.seat-index l.seats)) ≡ path_of l.names l.seats

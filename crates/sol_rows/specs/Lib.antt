@@ -1,4 +1,0 @@
-pub mod Legs
-pub mod Groups
-pub mod Facts
-pub mod Grammar

@@ -1,7 +1,0 @@
-use Rattle.std.proofs.Common.{◌≡◌, ◌++◌, take}
-use Rattle.std.specs.List.{flat_map}
-use Rattle.sol_text.specs.Itineraries.{group_line}
-use Rattle.sol_text.proofs.itineraries.push_groups.Given as goal
-
-abbrev pub invariant-loop-group : goal.invariant-loop-group
-invariant-loop-group l = l.text.items ≡ l.initial.text.items ++ flat_map (group_line l.inst l.res) (take l.group-index l.groups)
