@@ -27,7 +27,7 @@ CRATES = os.path.join(TOP, "crates")
 KEPT = os.path.join(TOP, "bench", "out", "near_list")
 STANDS_ON = (
     "desk_units", "day_orders", "desk_data", "desk_rules", "desk_folder", "desk_words", "desk_runs", "desk_tasks", "desk_story",
-    "desk_core", "desk_eval", "desk_model", "near_moves", "plan_moves", "plan_pages", "journal_text", "near_legs", "near_pax",
+    "desk_core", "desk_eval", "desk_model", "near_moves", "plan_moves", "plan_pages", "output_texts", "near_legs", "near_pax",
 )
 # its source and its proofs, by their files
 PROGRAM = {
@@ -50,9 +50,9 @@ use desk_folder::{ALL_FILES, File, MemFolder};
 use desk_model::{Answer, Entry, Event};
 use desk_story::{InputStory, InputTask, read_task};
 use desk_words::Command;
-use journal_text::journal_line;
 use near_legs::LegMoves;
 use near_pax::PaxMoves;
+use output_texts::journal_line;
 use plan_moves::{Move, fits};
 use plan_pages::Pages;
 use std::alloc::Global;
