@@ -10,7 +10,7 @@
 //! so that no rule and no price is told twice; `Ferried` says which legs are added: as long as there is one, the first
 //! candidate that lowers the cost.
 //!
-//! The code here is laws: each is a public function with an empty body, whose contract is the law.
+//! The code of `laws.rt` is laws: each is a public function with an empty body, whose contract is the law.
 //!
 //! # Rules and cost of a plan with added legs
 //!

@@ -6,7 +6,7 @@ ghost use Rattle.desk_data.specs.PlanRows.{PlanRows, AreGroups, groups_at, with_
 ghost use Rattle.desk_data.specs.Situation.{Situation, legs_of, planes_of, reservations_of, res_at};
 ghost use Rattle.desk_data.specs.Valid.{AreGroupsOf, IsPlanFor, IsRowOf};
 ghost use Rattle.desk_rules.specs.Cost.{cost, grains};
-ghost use Rattle.leg_users.specs.Users.{HasUsers, has_user, users};
+ghost use Rattle.board_kit.specs.Users.{HasUsers, has_user, users};
 ghost use Rattle.board_kit.specs.Boards.{CanGoBack, IsChanged, HasNoPast, IsReady, IsTakenBack, IsUnchanged};
 ghost use Rattle.board_cost.specs.Board.{HasFewEdits, HasPlace, HasRoomFor, IsBoardOf, IsRoomierFleet};
 
@@ -19,7 +19,7 @@ use crate::rotation_leg::{RotationLegs, rotation_legs_of};
 use crate::row::change_row;
 use desk_data::{Grains, Group, Instance, Leg, NoMem, Res, Row, Steps};
 use full_cost::full_cost;
-use leg_users::LegUsers;
+use board_kit::LegUsers;
 use plan_pages::Pages;
 use plan_reads::ReadPlan;
 use std::alloc::Global;

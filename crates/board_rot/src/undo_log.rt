@@ -12,7 +12,7 @@ ghost use Rattle.desk_rules.specs.Least.{least_rot};
 
 use crate::edit::Edit;
 use crate::rotation::Rotation;
-use board_items::BrokenItems;
+use board_kit::BrokenItems;
 use desk_data::{Broken, NoMem, Plane};
 use kept_set::NextItem;
 use plan_reads::RotationLeg;

@@ -15,7 +15,7 @@ use Rattle.desk_rules.specs.Rotations.{departure}
 use Rattle.desk_rules.specs.Passengers.{is_flown, longest_delay}
 use Rattle.desk_rules.specs.Carriage.{is_good_path, is_in_time_path}
 use Rattle.plan_reads.specs.Connection.{goes_on}
-use Rattle.leg_users.specs.Users.{has_leg}
+use Rattle.board_kit.specs.Users.{has_leg}
 use Rattle.board_seats.specs.declared.faults.PathFaults.{PathFaults}
 use Rattle.board_seats.specs.declared.judge.PathVerdict.{PathVerdict}
 

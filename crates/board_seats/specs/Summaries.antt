@@ -5,7 +5,7 @@ use Rattle.std.specs.Prelude.{◌≡◌, ℕ, Bool, not, ◌&&◌, ◌==◌, if�
 use Rattle.desk_units.specs.declared.numbers.Seats.{Seats}
 use Rattle.desk_data.specs.declared.broken.Broken.{Broken}
 use Rattle.desk_rules.specs.Order.{rule_of, named_by, part_of}
-use Rattle.leg_users.specs.Users.{without_user}
+use Rattle.board_kit.specs.Users.{without_user}
 use Rattle.board_seats.specs.declared.faults.PathFaults.{PathFaults}
 use Rattle.board_seats.specs.declared.edit.Edit.{Edit}
 use Rattle.board_seats.specs.declared.edit.Edit.TheVariants.{OfSeats, OfFaults, OfItem, OfUser}

@@ -8,7 +8,7 @@ ghost use Rattle.desk_rules.specs.Carriage.{keeps_c13, keeps_c14, keeps_c15};
 ghost use Rattle.desk_rules.specs.Least.{least_pax};
 ghost use Rattle.desk_rules.specs.Numbers.{numbers};
 ghost use Rattle.desk_rules.specs.Passengers.{aboard};
-ghost use Rattle.leg_users.specs.Users.{HasUsers, has_user, users};
+ghost use Rattle.board_kit.specs.Users.{HasUsers, has_user, users};
 ghost use Rattle.board_seats.specs.Summaries.{LedTo};
 ghost use Rattle.board_seats.specs.Kept.{seen};
 ghost use Rattle.board_seats.specs.Board.{IsBoardOf, Stands, StandsAt};
@@ -19,9 +19,8 @@ use crate::groups::{judge_groups, judge_seats};
 use crate::opening::{enter_all, judge_legs, judge_reservations};
 use crate::seats::judge_leg;
 use crate::undo_log::UndoLog;
-use board_kit::Board;
+use board_kit::{Board, LegUsers};
 use desk_data::{Broken, Cabin, Group, Instance, Leg, NoMem, Res, Row, Steps};
-use leg_users::LegUsers;
 use plan_pages::Pages;
 use plan_reads::{ReadPlan, seats_in};
 use std::alloc::Global;
@@ -115,7 +114,7 @@ impl SeatBoard {
 impl Board for SeatBoard {
     ghost use Rattle.std.specs.Prelude.{◌+◌, ◌*◌, length};
     ghost use Rattle.desk_data.specs.PlanRows.{groups_at};
-    ghost use Rattle.leg_users.specs.Users.{users};
+    ghost use Rattle.board_kit.specs.Users.{users};
     ghost use Rattle.board_seats.specs.Board.{IsBoardOf};
 
     ghost is_board_of = { IsBoardOf };

@@ -1,9 +1,9 @@
 //! Lines that say how far a recovery has come, for a person who waits.
 
 ghost use Rattle.std.specs.Prelude.{◌≡◌, Some};
-ghost use Rattle.desk_headway.specs.declared.headway.Headway.{Headway as Told};
+ghost use Rattle.desk_units.specs.declared.headway.Headway.{Headway as Told};
 
-use desk_headway::{Headway, Listener};
+use desk_units::{Headway, Listener};
 use std::alloc::Global;
 use std::env;
 use std::env::Env;

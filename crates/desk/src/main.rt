@@ -13,7 +13,7 @@
 //!
 //! `main` gives `desk_main_heard` of desk_top the host's threads, the words, the host's folder, disk and standard output, ends with
 //! the status that it answers, and empties output files that an earlier run left. On standard error it explains an end that is not
-//! the wanted one, by `explain` of desk_help and a copy of the report, and says how far a recovery has come where the environment
+//! the wanted one, by `explain` of desk_words and a copy of the report, and says how far a recovery has come where the environment
 //! asks for that. All that is promised of a run is proved of `desk_main_heard`, as of `desk_main`; how `main` calls it is tested by
 //! the stored run in `data/`.
 #![tactic(auto)]
@@ -22,12 +22,10 @@ mod headway;
 
 use desk_data::NoMem;
 use desk_disk::HostDisk;
-use desk_folder::{File, FreeGate, HostFolder, HostSink, Sink};
-use desk_help::{CopyingSink, explain, faulty_path};
-use desk_runs::files_written;
+use desk_folder::{File, FreeGate, HostFolder, HostSink, Sink, put_report};
+use desk_words::{CopyingSink, command, explain, faulty_path};
+use desk_tasks::files_written;
 use desk_top::desk_main_heard;
-use desk_words::command;
-use folder_io::put_report;
 use headway::{HeadwayLines, lines_asked};
 use std::alloc::Global;
 use std::env::Env;

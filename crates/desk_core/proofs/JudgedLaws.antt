@@ -12,7 +12,7 @@ use Rattle.desk_model.specs.declared.answer.Event.TheVariants as event
 use Rattle.desk_model.specs.Steps.{after_move}
 use Rattle.desk_model.specs.States.{verdict, answer}
 use Rattle.desk_eval.specs.Evaluated.{Evaluated}
-use Rattle.desk_moves.specs.Back.{WayBack, back_to}
+use Rattle.desk_eval.specs.Back.{WayBack, back_to}
 use Rattle.desk_core.specs.Judged.{state_in, IsVerdict, IsMoved, IsRefused}
 
 -- where the rows break an item there is no plan

@@ -11,7 +11,7 @@ use Rattle.desk_model.specs.Steps.{after_move}
 use Rattle.desk_model.specs.States.{State, answer}
 use Rattle.desk_model.specs.Histories.{is_accepted}
 use Rattle.desk_eval.specs.Evaluated.{Evaluated}
-use Rattle.desk_moves.specs.Back.{WayBack, back_to}
+use Rattle.desk_eval.specs.Back.{WayBack, back_to}
 use Rattle.desk_core.specs.declared.judged.Judged.{Judged}
 use Rattle.desk_core.specs.declared.judged.Judged.TheVariants.{Moved, Refused}
 

@@ -9,9 +9,8 @@ ghost use Rattle.desk_core.specs.Judged.{state_in};
 use crate::judged::publish;
 use crate::taken::take_in;
 use desk_data::{Broken, NoMem};
-use desk_eval::Evaluator;
+use desk_eval::{Evaluator, apply};
 use desk_model::{Answer, Entry, Event};
-use desk_moves::apply;
 use std::alloc::Global;
 
 /// Takes a state to the one after an entry that was answered at it. The state is the plan of an evaluator with an

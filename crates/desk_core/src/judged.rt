@@ -8,9 +8,8 @@ ghost use Rattle.desk_model.specs.States.{verdict};
 ghost use Rattle.desk_core.specs.Judged.{IsJudged, IsVerdict};
 
 use desk_data::{Grains, NoMem};
-use desk_eval::Evaluator;
+use desk_eval::{Evaluator, Undo, apply, keep, undo};
 use desk_model::Answer;
-use desk_moves::{Undo, apply, keep, undo};
 use plan_moves::Move;
 use std::alloc::Global;
 

@@ -6,7 +6,7 @@ ghost use Rattle.desk_core.specs.Taken.{IsTaken};
 
 use desk_data::{Batch, NoMem};
 use desk_eval::Evaluator;
-use desk_fallback::fallback;
+use crate::fallback;
 use desk_model::{Answer, Fallback};
 use std::alloc::Global;
 

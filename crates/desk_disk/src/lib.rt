@@ -2,7 +2,7 @@
 //!
 //! # The disk
 //!
-//! It is asked as a journal asks it: to read, to write over a range or past the end, and to sync.
+//! The disk is asked as a journal asks it: to read, to write over a range or past the end, and to sync.
 //!
 //! `Disk` names a directory (`place`), tells the length of its file (`length`), reads and writes (`read_at`,
 //! `write_at`), and syncs (`sync`). A contract sees a disk as what it shows: its file with what of it is

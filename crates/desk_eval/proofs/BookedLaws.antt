@@ -4,7 +4,7 @@ use Rattle.std.specs.Prelude.{nat_lt}
 use Rattle.desk_units.specs.declared.numbers.Res.{Res}
 use Rattle.desk_data.specs.declared.parts.Parts.{Parts}
 use Rattle.desk_data.specs.Situation.{Situation, reservations_of}
-use Rattle.leg_users.specs.Users.{is_booked_on}
+use Rattle.board_kit.specs.Users.{is_booked_on}
 use Rattle.desk_eval.specs.Asked.{AreBooked}
 
 -- whether reservation r of these rows is booked on leg x

@@ -4,7 +4,7 @@ ghost use Rattle.std.specs.Prelude.{◌≡◌, ◌+◌, ◌*◌, ◌<◌, ◌≤
 ghost use Rattle.desk_data.specs.Situation.{legs_of, planes_of, reservations_of, res_at};
 ghost use Rattle.desk_data.specs.PlanRows.{AreGroups, groups_at, with_row, with_groups};
 ghost use Rattle.desk_data.specs.Valid.{IsRowOf, AreGroupsOf, IsPlanFor};
-ghost use Rattle.leg_users.specs.Users.{users};
+ghost use Rattle.board_kit.specs.Users.{users};
 ghost use Rattle.plan_pages.specs.Pages.{IsPageOf, with_page};
 ghost use Rattle.board_kit.specs.Boards.{IsReady, IsChanged, IsUnchanged};
 ghost use Rattle.desk_eval.specs.Boards.{AreBoardsOf};

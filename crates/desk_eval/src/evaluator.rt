@@ -6,13 +6,12 @@ ghost use Rattle.desk_eval.specs.Asked.{AreBooked};
 
 use crate::boards::Boards;
 use crate::change::{change_groups, change_row};
-use board_kit::Board;
-use day_notes::{NotedDay, Notes, UnitNotes};
+use board_kit::{Board, LegUsers};
+use near_notes::{NotedDay, Notes, UnitNotes};
 use desk_data::{
     Airport, Broken, Cabin, Grains, Group, Instance, Leg, NoMem, Plan, Plane, Res, Row, Steps,
 };
 use hour_counts::KnowsHours;
-use leg_users::LegUsers;
 use plan_groups::KnowsAboard;
 use plan_pages::{Page, Pages, copied_groups};
 use std::alloc::Global;
@@ -72,9 +71,9 @@ impl Evaluator {
     ghost use Rattle.desk_rules.specs.Numbers.{numbers};
     ghost use Rattle.desk_model.specs.Push.{rotation};
     ghost use Rattle.desk_eval.specs.Asked.{keeps_paths};
-    ghost use Rattle.leg_users.specs.Users.{is_booked_on};
-    ghost use Rattle.day_notes.specs.Notes.{AreNotes};
-    ghost use Rattle.unit_notes.specs.Notes.{AreUnitNotes};
+    ghost use Rattle.board_kit.specs.Users.{is_booked_on};
+    ghost use Rattle.near_notes.specs.DayNotes.{AreNotes};
+    ghost use Rattle.near_notes.specs.Notes.{AreUnitNotes};
     ghost use Rattle.desk_eval.specs.Boards.{AreBoardsOf};
     ghost use Rattle.desk_eval.specs.Evaluated.{after_change, row_reads, group_reads};
 

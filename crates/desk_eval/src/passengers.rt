@@ -27,7 +27,7 @@ impl Drop for PassengerBoards {
 impl Board for PassengerBoards {
     ghost use Rattle.std.specs.Prelude.{◌+◌, ◌*◌, length};
     ghost use Rattle.desk_data.specs.PlanRows.{groups_at};
-    ghost use Rattle.leg_users.specs.Users.{users};
+    ghost use Rattle.board_kit.specs.Users.{users};
     ghost use Rattle.board_kit.specs.Boards.{AreBoth};
     ghost use Rattle.board_seats.specs.Board.{IsBoardOf as IsSeatBoardOf};
     ghost use Rattle.board_cost.specs.Board.{IsBoardOf as IsCostBoardOf};

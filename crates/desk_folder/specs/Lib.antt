@@ -5,3 +5,7 @@ pub mod Host
 pub mod Memory
 pub mod MemorySink
 pub mod Outside
+pub mod Ends
+pub mod Lines
+pub mod Texts
+pub mod Outputs

@@ -12,7 +12,7 @@ use Rattle.desk_folder.specs.declared.files.File.TheVariants.{SolAdded}
 use Rattle.desk_rules.specs.Least.{least}
 use Rattle.desk_rules.specs.Cost.{cost, grains}
 use Rattle.desk_units.specs.declared.money.Grains.{Grains}
-use Rattle.folder_io.specs.Outputs.{FileText, files_of}
+use Rattle.desk_folder.specs.Outputs.{FileText, files_of}
 use Rattle.added_legs.specs.declared.added.Added.{Added}
 use Rattle.added_legs.specs.Added.{cost_added}
 use Rattle.added_legs.specs.Ferried.{with_added}
@@ -22,13 +22,13 @@ use Rattle.added_legs.proofs.FerriedLaws.{only_one}
 use Rattle.ferry_legs.specs.declared.ferried.Ferried.{Ferried}
 use Rattle.ferry_legs.specs.Ferried.{added_of, AreFerried}
 use Rattle.output_texts.specs.FerryText.{added_line, added_text, reported_line}
-use Rattle.desk_runs.specs.declared.ending.Ending.{Ending}
-use Rattle.desk_runs.specs.Outcome.{line, Texts}
-use Rattle.desk_runs.specs.Runs.{World}
-use Rattle.desk_runs.specs.Writing.{PutsOutputs}
-use Rattle.desk_runs.specs.Finishing.{IsEndOf, Completes}
-use Rattle.desk_runs.proofs.PutLaws.{all_done, ended_by}
-use Rattle.desk_runs.proofs.CompleteLaws.{completes-all, completes-short}
+use Rattle.desk_tasks.specs.declared.ending.Ending.{Ending}
+use Rattle.desk_tasks.specs.Outcome.{line, Texts}
+use Rattle.desk_tasks.specs.Runs.{World}
+use Rattle.desk_tasks.specs.Writing.{PutsOutputs}
+use Rattle.desk_tasks.specs.Finishing.{IsEndOf, Completes}
+use Rattle.desk_tasks.proofs.PutLaws.{all_done, ended_by}
+use Rattle.desk_tasks.proofs.CompleteLaws.{completes-all, completes-short}
 use Rattle.desk_tasks.specs.Judge.{rule_status, verdict_end}
 use Rattle.desk_tasks.specs.Ferry.{ferried, ferried_lines, ferried_report, ferry_file, ferry_report, ferry_outcome}
 use Rattle.desk_tasks.proofs.FerryLaw.{ferried_is}

@@ -1,7 +1,7 @@
 -- A verdict is written.
 use Rattle.std.proofs.Common.{◌≡◌, ℕ, List, [], refl, sym, ap, ◌∙◌}
 use Rattle.std.specs.Prelude.{Option, Some, None, IfSome}
-use Rattle.folder_io.specs.Outputs.{FileText, files_of}
+use Rattle.desk_folder.specs.Outputs.{FileText, files_of}
 use Rattle.desk_units.specs.declared.money.Grains.{Grains}
 use Rattle.desk_data.specs.declared.broken.Broken.{Broken}
 use Rattle.desk_data.specs.Situation.{Situation}
@@ -10,13 +10,13 @@ use Rattle.desk_rules.specs.Least.{least}
 use Rattle.desk_rules.specs.Cost.{cost, grains}
 use Rattle.output_texts.specs.Writable.{Names}
 use Rattle.output_texts.proofs.WritableLaws.{least-names}
-use Rattle.desk_runs.specs.declared.ending.Ending.{Ending}
-use Rattle.desk_runs.specs.Outcome.{Texts}
-use Rattle.desk_runs.specs.Runs.{World}
-use Rattle.desk_runs.specs.Writing.{PutsOutputs}
-use Rattle.desk_runs.specs.Finishing.{IsEndOf, Completes}
-use Rattle.desk_runs.proofs.PutLaws.{all_done, ended_by}
-use Rattle.desk_runs.proofs.CompleteLaws.{completes-all, completes-short}
+use Rattle.desk_tasks.specs.declared.ending.Ending.{Ending}
+use Rattle.desk_tasks.specs.Outcome.{Texts}
+use Rattle.desk_tasks.specs.Runs.{World}
+use Rattle.desk_tasks.specs.Writing.{PutsOutputs}
+use Rattle.desk_tasks.specs.Finishing.{IsEndOf, Completes}
+use Rattle.desk_tasks.proofs.PutLaws.{all_done, ended_by}
+use Rattle.desk_tasks.proofs.CompleteLaws.{completes-all, completes-short}
 use Rattle.crew_rules.specs.declared.crew.CrewInfo.{CrewInfo}
 use Rattle.crew_rules.specs.declared.crew.CrewBroken.{CrewBroken}
 use Rattle.desk_tasks.specs.Judge.{verdict_report, verdict_end, rule_status, verdict}

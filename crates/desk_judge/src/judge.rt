@@ -8,14 +8,14 @@ ghost use Rattle.output_texts.specs.Writable.{Names};
 ghost use Rattle.crew_rules.specs.Valid.{AreCrews};
 ghost use Rattle.desk_tasks.specs.Judge.{verdict_text, verdict_report, verdict_end, verdict};
 ghost use Rattle.desk_tasks.specs.Crew.{crewed_report, crewed_end, crewed_verdict};
-ghost use Rattle.desk_runs.specs.Runs.{Between};
-ghost use Rattle.desk_runs.specs.Finishing.{Completes};
+ghost use Rattle.desk_tasks.specs.Runs.{Between};
+ghost use Rattle.desk_tasks.specs.Finishing.{Completes};
 
 use crew_duty::crew_least;
 use crew_rules::{CrewBroken, CrewInfo};
 use desk_data::{Broken, Grains, Instance, NoMem, Plan};
 use desk_folder::{Folder, Sink};
-use desk_runs::{Ending, OutputTexts, put_outputs};
+use desk_tasks::{Ending, OutputTexts, put_outputs};
 use full_cost::full_cost;
 use output_texts::{push_broken, push_crews};
 use par_check::{is_large, par_check};

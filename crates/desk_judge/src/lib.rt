@@ -26,6 +26,6 @@ mod judge;
 mod run;
 mod texts;
 
-pub use desk_runs::Ending;
+pub use desk_tasks::Ending;
 pub use judge::{Findings, judge_crews, judge_plan, judged, verdict_report};
 pub use run::run_ferry;

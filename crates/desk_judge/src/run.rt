@@ -5,9 +5,9 @@ ghost use Rattle.desk_data.specs.Valid.{IsPlanFor};
 ghost use Rattle.desk_folder.specs.declared.files.File.TheVariants.{SolAdded};
 ghost use Rattle.desk_rules.specs.Least.{least};
 ghost use Rattle.desk_rules.specs.Cost.{cost, grains};
-ghost use Rattle.desk_runs.specs.Finishing.{Completes};
-ghost use Rattle.desk_runs.specs.Runs.{Between};
-ghost use Rattle.desk_runs.specs.Writing.{as_texts};
+ghost use Rattle.desk_tasks.specs.Finishing.{Completes};
+ghost use Rattle.desk_tasks.specs.Runs.{Between};
+ghost use Rattle.desk_tasks.specs.Writing.{as_texts};
 ghost use Rattle.desk_tasks.specs.Ferry.{ferry_file, ferry_report, ferry_outcome};
 ghost use Rattle.desk_tasks.specs.Judge.{verdict_end};
 
@@ -15,7 +15,7 @@ use crate::texts::ferried_texts;
 use crate::{Findings, judged, verdict_report};
 use desk_data::{Broken, Instance, NoMem, Plan};
 use desk_folder::{File, Folder, Sink};
-use desk_runs::{Ending, OutputTexts, put_outputs};
+use desk_tasks::{Ending, OutputTexts, put_outputs};
 use std::alloc::Global;
 use std::thread::Threads;
 

@@ -9,7 +9,7 @@ ghost use Rattle.desk_data.specs.Situation.{airports_of, legs_of, planes_of};
 ghost use Rattle.desk_data.specs.Valid.{IsPlanFor};
 ghost use Rattle.desk_rules.specs.Cost.{cost, grains};
 ghost use Rattle.desk_rules.specs.Least.{least};
-ghost use Rattle.desk_runs.specs.Outcome.{line};
+ghost use Rattle.desk_tasks.specs.Outcome.{line};
 ghost use Rattle.desk_tasks.specs.Ferry.{ferried, ferried_report};
 ghost use Rattle.ferry_legs.specs.declared.ferried.Ferried.{Ferried as Extra};
 ghost use Rattle.plan_reads.specs.Last.{stand};

@@ -7,7 +7,7 @@ use Rattle.turn_book.specs.Names.{knows}
 use Rattle.turn_book.specs.Places.{has}
 use Rattle.turn_book.proofs.Bools.{off, refute, or_left, or_right, or_cases}
 use Rattle.turn_book.proofs.Prefixes.{prefix_self, prefix_trans}
-use Rattle.pass_laws.proofs.SplitLaws.{none_out}
+use Rattle.turn_book.proofs.SplitLaws.{none_out}
 use Rattle.desk_teams.specs.declared.trail.Trail.{Trail}
 use Rattle.desk_model.specs.declared.answer.Entry.{Entry}
 use Rattle.desk_teams.proofs.TrailLaws.{budget-longer}

@@ -11,8 +11,8 @@ use Rattle.turn_book.specs.Passes.{known, seen}
 use Rattle.turn_book.specs.Knowing.{AreNested, joined}
 use Rattle.turn_book.proofs.Bools.{off}
 use Rattle.turn_book.proofs.Prefixes.{prefix_trans, prefix_length, prefix_whole}
-use Rattle.pass_laws.specs.SplitPasses.{AreSplit, IsSplitOff, SomeMade, AreJoined}
-use Rattle.pass_laws.proofs.SplitLaws.{joined_none, joined_more, all_back}
+use Rattle.turn_book.specs.SplitPasses.{AreSplit, IsSplitOff, SomeMade, AreJoined}
+use Rattle.turn_book.proofs.SplitLaws.{joined_none, joined_more, all_back}
 use Rattle.desk_data.specs.Situation.{Situation}
 use Rattle.desk_model.specs.declared.answer.Entry.{Entry}
 use Rattle.desk_model.specs.States.{opening}

@@ -7,7 +7,7 @@ use Rattle.desk_model.specs.declared.answer.Entry.{Entry}
 use Rattle.desk_core.specs.Recorded.{Recorded}
 use Rattle.turn_book.specs.declared.turn.Turn.{Turn}
 use Rattle.turn_book.specs.Passes.{first_book, known, seen, tags, IsPassOf}
-use Rattle.pass_laws.specs.SplitPasses.{IsSplitOff}
+use Rattle.turn_book.specs.SplitPasses.{IsSplitOff}
 use Rattle.desk_teams.specs.declared.trail.Trail.{Trail}
 use Rattle.desk_pool.specs.declared.worker.Worker.{Worker}
 use Rattle.desk_core.specs.Turned.{opening_of}

@@ -4,7 +4,7 @@ ghost use Rattle.std.specs.Prelude.{◌≡◌, ℕ, ◌<◌, length, All, IfOk, 
 ghost use Rattle.desk_model.specs.States.{opening};
 ghost use Rattle.desk_model.specs.Histories.{IsLegal};
 ghost use Rattle.turn_book.specs.Passes.{known, seen, IsPassOf};
-ghost use Rattle.pass_laws.specs.SplitPasses.{AreSplit};
+ghost use Rattle.turn_book.specs.SplitPasses.{AreSplit};
 ghost use Rattle.desk_pool.specs.declared.worker.Worker.{Worker as Known};
 ghost use Rattle.desk_core.specs.Turned.{opening_of};
 ghost use Rattle.desk_pool.specs.Workers.{day_of, AreAllShards, CanAllSearch, CanWork, HasPass, WorksOn, IsSameWorker};

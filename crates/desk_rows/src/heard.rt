@@ -1,6 +1,6 @@
 //! What a listener hears of a recovery.
 
-use desk_headway::{Headway, Listener};
+use desk_units::{Headway, Listener};
 use std::alloc::Global;
 
 /// Writes down what it hears: a line for each batch that is taken and each move that is accepted, and one where moves were tried after

@@ -9,12 +9,12 @@ use Rattle.desk_folder.specs.Calls.{Rose}
 use Rattle.desk_story.specs.declared.fault.StoryFault.{StoryFault}
 use Rattle.desk_story.specs.declared.fault.StoryFault.TheVariants as fault
 use Rattle.desk_story.specs.declared.rows.InputRows.{InputRows}
-use Rattle.folder_io.specs.Outputs.{is_among}
-use Rattle.folder_io.proofs.Among.{same_or_other, among_rest, among_first, not_first, not_rest, among_either}
-use Rattle.desk_runs.specs.Inputs.{Inputs, Tells}
+use Rattle.desk_folder.specs.Outputs.{is_among}
+use Rattle.desk_folder.proofs.Among.{same_or_other, among_rest, among_first, not_first, not_rest, among_either}
+use Rattle.desk_tasks.specs.Inputs.{Inputs, Tells}
 use Rattle.desk_story.specs.Story.{Rows, read_as, read_all}
-use Rattle.desk_runs.specs.declared.refusal.Refusal.{Refusal}
-use Rattle.desk_runs.specs.Reading.{IsRead, IsUnread, ReadsAmong, StopsAt}
+use Rattle.desk_tasks.specs.declared.refusal.Refusal.{Refusal}
+use Rattle.desk_tasks.specs.Reading.{IsRead, IsUnread, ReadsAmong, StopsAt}
 use Rattle.desk_story.specs.Reading.{are_in_order, StopsAtFault, GivesRead, HasReadCause}
 use Rattle.desk_story.specs.Facts.{as_rows}
 use Rattle.desk_story.proofs.Orders.{numbered_after, refused_among, stands-first}

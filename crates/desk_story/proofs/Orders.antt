@@ -6,12 +6,12 @@ use Rattle.std.proofs.lemmas.Bool.{cases_Bool}
 use Rattle.desk_folder.specs.declared.files.File.{File}
 use Rattle.desk_folder.specs.Files.{file_number}
 use Rattle.file_rows.specs.declared.cause.Cause.{Cause}
-use Rattle.desk_runs.specs.declared.refusal.Refusal.{Refusal}
-use Rattle.folder_io.specs.Outputs.{is_among}
-use Rattle.folder_io.proofs.Among.{among_rest, among_first}
-use Rattle.desk_runs.specs.Inputs.{Inputs}
+use Rattle.desk_tasks.specs.declared.refusal.Refusal.{Refusal}
+use Rattle.desk_folder.specs.Outputs.{is_among}
+use Rattle.desk_folder.proofs.Among.{among_rest, among_first}
+use Rattle.desk_tasks.specs.Inputs.{Inputs}
 use Rattle.desk_story.specs.Story.{Rows, or_refused, in_file, within_limit, with_rows, read_as, read_all}
-use Rattle.desk_runs.specs.Reading.{StandsFirst}
+use Rattle.desk_tasks.specs.Reading.{StandsFirst}
 use Rattle.desk_story.specs.Reading.{are_in_order}
 
 and_left : (a b : Bool) → (a && b) ≡ true → a ≡ true

@@ -7,7 +7,7 @@ use Rattle.std.proofs.Math.Seq.{drop-cons}
 use Rattle.std.proofs.Math.ListN.{drop_of_length-le}
 use Rattle.desk_folder.specs.declared.files.File.{File}
 use Rattle.desk_folder.specs.Entries.{named_texts}
-use Rattle.folder_io.specs.Outputs.{FileText}
+use Rattle.desk_folder.specs.Outputs.{FileText}
 use Rattle.build_tables.specs.declared.files.Files.{Files}
 use Rattle.build_refusals.specs.Refusals.{Refusal as Refused, refusal_of}
 use Rattle.desk_build.specs.Batches.{batches_of}
@@ -15,8 +15,8 @@ use Rattle.desk_build.specs.declared.joining.Built.{Built}
 use Rattle.desk_build.specs.Join.{made_of, unless_refused, built_of}
 use Rattle.desk_folder.specs.Files.{day_files}
 use Rattle.desk_gen.specs.Generated.{text_of, generated}
-use Rattle.desk_runs.specs.declared.refusal.Refusal.{Refusal}
-use Rattle.desk_runs.specs.Inputs.{Inputs}
+use Rattle.desk_tasks.specs.declared.refusal.Refusal.{Refusal}
+use Rattle.desk_tasks.specs.Inputs.{Inputs}
 use Rattle.desk_text.specs.Rows.{◌>>=◌}
 use Rattle.desk_story.specs.declared.fault.StoryFault.{StoryFault}
 use Rattle.desk_story.specs.declared.fault.StoryFault.TheVariants as fault

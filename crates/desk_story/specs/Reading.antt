@@ -5,9 +5,9 @@ use Rattle.desk_folder.specs.declared.files.File.{File}
 use Rattle.desk_folder.specs.Files.{file_number}
 use Rattle.desk_folder.specs.Outside.{Outside}
 use Rattle.desk_folder.specs.Calls.{Rose}
-use Rattle.folder_io.specs.Outputs.{is_among}
-use Rattle.desk_runs.specs.declared.refusal.Refusal.{Refusal}
-use Rattle.desk_runs.specs.Reading.{StopsAt, StandsFirst}
+use Rattle.desk_folder.specs.Outputs.{is_among}
+use Rattle.desk_tasks.specs.declared.refusal.Refusal.{Refusal}
+use Rattle.desk_tasks.specs.Reading.{StopsAt, StandsFirst}
 use Rattle.desk_story.specs.declared.fault.StoryFault.{StoryFault}
 use Rattle.desk_story.specs.declared.fault.StoryFault.TheVariants as fault
 

@@ -2,7 +2,7 @@
 use Rattle.std.specs.Prelude.{ℕ, true, false, List, [], ◌∷◌, length, Option, Some, None, Result, Ok, Err, nat_lt, if◌then◌else◌}
 use Rattle.desk_folder.specs.declared.files.File.{File}
 use Rattle.desk_folder.specs.declared.files.File.TheVariants as file
-use Rattle.folder_io.specs.Outputs.{FileText}
+use Rattle.desk_folder.specs.Outputs.{FileText}
 use Rattle.file_rows.specs.declared.cause.Cause.{Cause}
 use Rattle.file_rows.specs.declared.cause.Cause.TheVariants.{Size}
 use Rattle.file_rows.specs.Limits.{most_bytes, most_journal_bytes}
@@ -28,14 +28,14 @@ use Rattle.journal_file.specs.Journal.{journal_rows_of}
 use Rattle.file_joins.specs.Join.{events_of}
 use Rattle.file_readers.specs.Grammar.{refusal_in}
 use Rattle.file_joins.specs.Solution.{solution_of}
-use Rattle.desk_runs.specs.declared.refusal.Refusal.{Refusal}
+use Rattle.desk_tasks.specs.declared.refusal.Refusal.{Refusal}
 use Rattle.desk_words.specs.declared.asked.Command.{Command}
 use Rattle.desk_words.specs.declared.asked.Command.TheVariants as command_is
 use Rattle.desk_words.specs.declared.choice.NumberOption.TheVariants.{Moves}
 use Rattle.desk_words.specs.Commands.{default_of}
 use Rattle.desk_gen.specs.Generated.{text_of}
-use Rattle.desk_runs.specs.Inputs.{Inputs}
-use Rattle.desk_runs.specs.Commands.{files_read}
+use Rattle.desk_tasks.specs.Inputs.{Inputs}
+use Rattle.desk_tasks.specs.Commands.{files_read}
 use Rattle.desk_tasks.specs.Play.{Story}
 use Rattle.desk_tasks.specs.Keep.{KeptStory}
 use Rattle.desk_tasks.specs.Recover.{Recovery}

@@ -6,7 +6,7 @@ ghost use Rattle.desk_story.specs.Faults.{read_fault, build_fault, story_end};
 
 use desk_build::BuildFault;
 use desk_folder::File;
-use desk_runs::{Ending, Refusal};
+use desk_tasks::{Ending, Refusal};
 use desk_text::ReadFault;
 
 /// Why the input sets no task.

@@ -3,22 +3,21 @@
 ghost use Rattle.std.specs.Prelude.{◌≡◌, ℕ, true, List, [], ◌∷◌, ◌≤◌, length, Some, MatchOption, Err, IfOk, OnOk, IfErr, IsTrue};
 ghost use Rattle.desk_folder.specs.declared.files.File.{File as AnyFile};
 ghost use Rattle.desk_folder.specs.Outside.{ReadsOnly};
-ghost use Rattle.folder_io.specs.Outputs.{is_among};
-ghost use Rattle.desk_runs.specs.Inputs.{Inputs, Tells};
+ghost use Rattle.desk_folder.specs.Outputs.{is_among};
+ghost use Rattle.desk_tasks.specs.Inputs.{Inputs, Tells};
 ghost use Rattle.file_rows.specs.declared.cause.Cause.TheVariants as cause;
 ghost use Rattle.desk_story.specs.declared.fault.StoryFault.TheVariants as fault;
 ghost use Rattle.desk_story.specs.Story.{refusal, byte_limit, read_as, read_all};
-ghost use Rattle.desk_runs.specs.declared.refusal.Refusal.{Refusal as Refused};
-ghost use Rattle.desk_runs.specs.Reading.{IsRead, ReadsAmong, StopsAt};
+ghost use Rattle.desk_tasks.specs.declared.refusal.Refusal.{Refusal as Refused};
+ghost use Rattle.desk_tasks.specs.Reading.{IsRead, ReadsAmong, StopsAt};
 ghost use Rattle.desk_story.specs.Reading.{are_in_order, StopsAtFault, GivesRead, HasReadCause, NeedsNoFault};
 ghost use Rattle.desk_story.specs.Facts.{as_rows, AreInputRows};
 
 use crate::fault::StoryFault;
 use crate::rows::InputRows;
-use desk_folder::{File, Folder};
-use desk_runs::{Cause, Refusal};
+use desk_folder::{File, Folder, ReadEnd, read_file};
+use desk_tasks::{Cause, Refusal};
 use file_rows::{MOST_BYTES, MOST_JOURNAL_BYTES};
-use folder_io::{ReadEnd, read_file};
 use std::alloc::Global;
 
 // The most bytes of a file.

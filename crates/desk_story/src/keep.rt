@@ -2,11 +2,11 @@
 
 ghost use Rattle.std.specs.Prelude.{◌≡◌, Err, IfOk, OnOk, IfErr};
 ghost use Rattle.desk_words.specs.declared.asked.Command.TheVariants.{Store};
-ghost use Rattle.desk_runs.specs.Commands.{files_read};
-ghost use Rattle.desk_runs.specs.Inputs.{Inputs, Tells};
-ghost use Rattle.desk_runs.specs.declared.refusal.Refusal.{Refusal as Refused};
-ghost use Rattle.desk_runs.specs.Reading.{ReadsAmong, StopsAt};
-ghost use Rattle.desk_runs.specs.Runs.{AreRead};
+ghost use Rattle.desk_tasks.specs.Commands.{files_read};
+ghost use Rattle.desk_tasks.specs.Inputs.{Inputs, Tells};
+ghost use Rattle.desk_tasks.specs.declared.refusal.Refusal.{Refusal as Refused};
+ghost use Rattle.desk_tasks.specs.Reading.{ReadsAmong, StopsAt};
+ghost use Rattle.desk_tasks.specs.Runs.{AreRead};
 ghost use Rattle.desk_story.specs.Story.{rows_of, kept_of_rows, kept_of};
 ghost use Rattle.desk_story.specs.Reading.{StopsAtFault, GivesRead, GivesTask, HasReadCause, NeedsNoFault};
 ghost use Rattle.desk_story.specs.Facts.{as_rows, AreInputRows, as_kept, CanBeRun};

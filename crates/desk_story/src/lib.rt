@@ -10,7 +10,7 @@
 //!
 //! Proved: the task is that of the definition `task_of` over the bytes of the files, or its first refusal
 //! is reported; no file is read after one that is refused, and no file that is not on the list is touched. It
-//! depends on the readers, the joins, `desk_runs` and `desk_tasks`.
+//! depends on the readers, the joins and `desk_tasks`.
 #![tactic(auto)]
 
 mod crews;
@@ -24,7 +24,7 @@ mod story;
 mod task;
 
 pub use crews::{InputCrewedPlan, InputCrewedStory};
-pub use desk_runs::{Cause, Ending, Refusal};
+pub use desk_tasks::{Cause, Ending, Refusal};
 pub use fault::StoryFault;
 pub use keep::{InputKept, read_kept};
 pub use plan::InputPlan;

@@ -1,11 +1,11 @@
 //! What the input of a command asks for.
 
 ghost use Rattle.std.specs.Prelude.{◌≡◌, ◌≤◌, Err, IfOk, OnOk, IfErr};
-ghost use Rattle.desk_runs.specs.Commands.{IsCommand, files_read, files_written, history_files, workers_of};
-ghost use Rattle.desk_runs.specs.Inputs.{Inputs, Tells};
-ghost use Rattle.desk_runs.specs.declared.refusal.Refusal.{Refusal as Refused};
-ghost use Rattle.desk_runs.specs.Reading.{ReadsAmong, StopsAt};
-ghost use Rattle.desk_runs.specs.Runs.{AreRead};
+ghost use Rattle.desk_tasks.specs.Commands.{IsCommand, files_read, files_written, history_files, workers_of};
+ghost use Rattle.desk_tasks.specs.Inputs.{Inputs, Tells};
+ghost use Rattle.desk_tasks.specs.declared.refusal.Refusal.{Refusal as Refused};
+ghost use Rattle.desk_tasks.specs.Reading.{ReadsAmong, StopsAt};
+ghost use Rattle.desk_tasks.specs.Runs.{AreRead};
 ghost use Rattle.desk_tasks.specs.Tasks.{files_for, recover_by, team_size};
 ghost use Rattle.desk_story.specs.Story.{rows_of, task_of_rows, task_of};
 ghost use Rattle.desk_story.specs.Reading.{StopsAtFault, GivesRead, GivesTask, HasReadCause, NeedsNoFault};
@@ -19,7 +19,7 @@ use crate::recovery::{InputRecovery, joined_recovery, trial};
 use crate::rows::InputRows;
 use crate::story::{InputStory, joined_story};
 use desk_folder::Folder;
-use desk_runs::files_read;
+use desk_tasks::files_read;
 use desk_words::Command;
 use std::alloc::Global;
 

@@ -6,8 +6,8 @@ use Rattle.std.specs.Io.KnownBytes.{Appends}
 use Rattle.std.proofs.lemmas.Bool.{ltb-true, cases_order}
 use Rattle.std.proofs.lemmas.List.{take_at, take-append-le, get_or_append_left, get_or_push, length_push}
 use Rattle.desk_folder.specs.declared.files.File.TheVariants as file
-use Rattle.folder_io.specs.Outputs.{FileText}
-use Rattle.folder_io.proofs.PutAll.{whole-first, whole-end}
+use Rattle.desk_folder.specs.Outputs.{FileText}
+use Rattle.desk_folder.proofs.PutAll.{whole-first, whole-end}
 use Rattle.desk_data.specs.declared.broken.Broken.{Broken}
 use Rattle.desk_data.specs.Situation.{Situation, legs_of}
 use Rattle.desk_data.specs.PlanRows.{PlanRows}
@@ -20,8 +20,8 @@ use Rattle.added_legs.specs.Ferried.{with_added, next_added, IsFerried}
 use Rattle.added_legs.proofs.FerriedLaws.{next_passes, each_pays}
 use Rattle.added_legs.proofs.MergedLaws.{is_untouched}
 use Rattle.output_texts.specs.FerryText.{added_text}
-use Rattle.desk_runs.specs.Outcome.{Texts}
-use Rattle.desk_runs.specs.Runs.{World, IsWritten}
+use Rattle.desk_tasks.specs.Outcome.{Texts}
+use Rattle.desk_tasks.specs.Runs.{World, IsWritten}
 use Rattle.desk_tasks.specs.Judge.{Judged, verdict_report}
 use Rattle.desk_tasks.specs.Ferry.{added_on, ferried, ferried_report, ferry_file, ferry_report, ferry_outcome, ferried_plan}
 use Rattle.desk_tasks.specs.Headline.{TellsAdded, TellsBroken, HasFerried}

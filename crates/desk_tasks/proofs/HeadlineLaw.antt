@@ -5,8 +5,8 @@ use Rattle.std.specs.Io.KnownBytes.{Appends, Keeps}
 use Rattle.std.proofs.lemmas.Bool.{false≢true}
 use Rattle.std.proofs.lemmas.List.{append-nil}
 use Rattle.desk_folder.specs.declared.files.File.TheVariants as file
-use Rattle.folder_io.specs.Outputs.{FileText, HasAll, ArePut}
-use Rattle.folder_io.proofs.PutAll.{whole-first, whole-rest, whole-end}
+use Rattle.desk_folder.specs.Outputs.{FileText, HasAll, ArePut}
+use Rattle.desk_folder.proofs.PutAll.{whole-first, whole-rest, whole-end}
 use Rattle.desk_data.specs.declared.broken.Broken.{Broken}
 use Rattle.desk_data.specs.Situation.{Situation}
 use Rattle.desk_model.specs.States.{State, opening}
@@ -15,8 +15,8 @@ use Rattle.desk_model.specs.Histories.{AreAskable, IsLegal, run, state}
 use Rattle.desk_model.proofs.StateLaws.{opening-inst}
 use Rattle.desk_model.proofs.HistoryLaws.{promises, run-legal}
 use Rattle.output_texts.specs.Lines.{journal_text}
-use Rattle.desk_runs.specs.Outcome.{Texts}
-use Rattle.desk_runs.specs.Runs.{World, IsWritten}
+use Rattle.desk_tasks.specs.Outcome.{Texts}
+use Rattle.desk_tasks.specs.Runs.{World, IsWritten}
 use Rattle.near_moves.specs.Descent.{recovery}
 use Rattle.desk_teams.proofs.TeamLaws.{refused-between}
 use Rattle.near_moves.proofs.LegalLaws.{recovery-legal}

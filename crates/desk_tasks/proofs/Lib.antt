@@ -1,3 +1,10 @@
+pub mod Composed
+pub mod CausesLaw
+pub mod DoneLaw
+pub mod StandingLaw
+pub mod PromisedLaw
+pub mod PutLaws
+pub mod CompleteLaws
 pub mod RecoveryLaw
 pub mod HeadlineLaw
 pub mod FilesLaw

@@ -12,9 +12,9 @@ use Rattle.crew_rules.specs.declared.crew.CrewInfo.{CrewInfo}
 use Rattle.crew_rules.specs.declared.crew.CrewBroken.{CrewBroken}
 use Rattle.crew_rules.specs.Crews as crews
 use Rattle.output_texts.specs.CrewText.{crew_text}
-use Rattle.desk_runs.specs.declared.ending.Ending.{Ending}
-use Rattle.desk_runs.specs.declared.ending.Ending.TheVariants as ending
-use Rattle.desk_runs.specs.Outcome.{line, Outcome}
+use Rattle.desk_tasks.specs.declared.ending.Ending.{Ending}
+use Rattle.desk_tasks.specs.declared.ending.Ending.TheVariants as ending
+use Rattle.desk_tasks.specs.Outcome.{line, Outcome}
 use Rattle.desk_tasks.specs.Play.{Story, Remarks, remarks_with, history, history_outcome}
 use Rattle.desk_tasks.specs.Judge.{Judged, verdict_report}
 

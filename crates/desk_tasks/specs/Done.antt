@@ -1,9 +1,9 @@
 -- When a task is done, with whatever work.
 use Rattle.std.specs.Prelude.{◌≡◌, ◌⊎◌}
-use Rattle.desk_runs.specs.declared.ending.Ending.{Ending}
-use Rattle.desk_runs.specs.declared.ending.Ending.TheVariants as ending
-use Rattle.desk_runs.specs.Runs.{World}
-use Rattle.desk_runs.specs.Finishing.{Completes}
+use Rattle.desk_tasks.specs.declared.ending.Ending.{Ending}
+use Rattle.desk_tasks.specs.declared.ending.Ending.TheVariants as ending
+use Rattle.desk_tasks.specs.Runs.{World}
+use Rattle.desk_tasks.specs.Finishing.{Completes}
 use Rattle.desk_tasks.specs.Team.{Work}
 use Rattle.desk_tasks.specs.Tasks.{Task, IsWorkOf, outcome_at, files_for}
 

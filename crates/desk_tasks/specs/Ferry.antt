@@ -11,7 +11,7 @@ use Rattle.added_legs.specs.declared.added.Added.{Added}
 use Rattle.added_legs.specs.Added.{cost_added}
 use Rattle.added_legs.specs.Ferried.{with_added, next_added}
 use Rattle.output_texts.specs.FerryText.{added_text, reported_line}
-use Rattle.desk_runs.specs.Outcome.{line, Outcome}
+use Rattle.desk_tasks.specs.Outcome.{line, Outcome}
 use Rattle.desk_tasks.specs.Judge.{Judged, verdict_report, rule_status}
 
 -- ---- which legs are added

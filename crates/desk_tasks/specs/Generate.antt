@@ -2,7 +2,7 @@
 use Rattle.std.specs.Prelude.{ℕ, ◌++◌, length, codes, decimal}
 use Rattle.desk_folder.specs.Files.{day_files}
 use Rattle.desk_gen.specs.Generated.{generated}
-use Rattle.desk_runs.specs.Outcome.{line, Outcome}
+use Rattle.desk_tasks.specs.Outcome.{line, Outcome}
 
 -- the generated files, and how many they are: 13
 unfoldable pub generation : ℕ → ℕ → Outcome

@@ -22,7 +22,7 @@ use Rattle.desk_teams.specs.Teams.{IsTeamwork, IsProposal, ChangesBetween}
 use Rattle.output_texts.specs.Lines.{journal_text}
 use Rattle.output_texts.specs.Rotations.{rotations_text}
 use Rattle.output_texts.specs.Itineraries.{itineraries_text}
-use Rattle.desk_runs.specs.Runs.{World}
+use Rattle.desk_tasks.specs.Runs.{World}
 use Rattle.desk_tasks.specs.Play.{Story, Remarks, search_remarks, watch_remarks, report_text}
 use Rattle.desk_tasks.specs.Keep.{opened_remarks}
 use Rattle.desk_tasks.specs.Crew.{CrewedStory, crew_remarks}

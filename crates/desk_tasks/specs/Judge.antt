@@ -8,9 +8,9 @@ use Rattle.day_orders.specs.declared.orders.Batch.{Batch}
 use Rattle.desk_rules.specs.Least.{least}
 use Rattle.desk_rules.specs.Cost.{cost}
 use Rattle.output_texts.specs.Items.{broken_text}
-use Rattle.desk_runs.specs.declared.ending.Ending.{Ending}
-use Rattle.desk_runs.specs.declared.ending.Ending.TheVariants as ending
-use Rattle.desk_runs.specs.Outcome.{line, Outcome}
+use Rattle.desk_tasks.specs.declared.ending.Ending.{Ending}
+use Rattle.desk_tasks.specs.declared.ending.Ending.TheVariants as ending
+use Rattle.desk_tasks.specs.Outcome.{line, Outcome}
 
 -- a day with its batches, and a plan on it
 pub record Judged : Type 0 where

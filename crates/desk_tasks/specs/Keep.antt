@@ -1,7 +1,7 @@
 -- Playing a story whose journal is kept on a disk, which may hold the beginning of it already.
 use Rattle.std.specs.Prelude.{ℕ, List, [], ◌++◌, None, codes, decimal}
 use Rattle.day_orders.specs.declared.orders.Batch.{Batch}
-use Rattle.desk_runs.specs.Outcome.{line, Outcome}
+use Rattle.desk_tasks.specs.Outcome.{line, Outcome}
 use Rattle.desk_tasks.specs.Play.{Story, Remarks, played}
 
 -- a story, and all batches of its day, by whose numbers the disk has them

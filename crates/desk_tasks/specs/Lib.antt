@@ -1,3 +1,14 @@
+pub mod Inputs
+pub mod Outcome
+pub mod Commands
+pub mod Reading
+pub mod Runs
+pub mod Causes
+pub mod Standing
+pub mod Works
+pub mod Promised
+pub mod Writing
+pub mod Finishing
 pub mod Play
 pub mod Keep
 pub mod Recover

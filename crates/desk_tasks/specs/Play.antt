@@ -17,9 +17,9 @@ use Rattle.output_texts.specs.Items.{broken_text}
 use Rattle.output_texts.specs.Lines.{answer_text, journal_text}
 use Rattle.output_texts.specs.Rotations.{rotations_text}
 use Rattle.output_texts.specs.Itineraries.{itineraries_text}
-use Rattle.desk_runs.specs.declared.ending.Ending.{Ending}
-use Rattle.desk_runs.specs.declared.ending.Ending.TheVariants as ending
-use Rattle.desk_runs.specs.Outcome.{line, Outcome}
+use Rattle.desk_tasks.specs.declared.ending.Ending.{Ending}
+use Rattle.desk_tasks.specs.declared.ending.Ending.TheVariants as ending
+use Rattle.desk_tasks.specs.Outcome.{line, Outcome}
 use Rattle.near_moves.specs.declared.ended.SearchEnd.{SearchEnd}
 use Rattle.near_moves.specs.declared.ended.SearchEnd.TheVariants as ended
 

@@ -6,7 +6,7 @@ use Rattle.desk_model.specs.declared.answer.Entry.{Entry}
 use Rattle.desk_model.specs.States.{opening}
 use Rattle.desk_model.specs.Histories.{state}
 use Rattle.near_moves.specs.Descent.{IsQuiet, end_by, is_spent, recovery}
-use Rattle.desk_runs.specs.Outcome.{Outcome}
+use Rattle.desk_tasks.specs.Outcome.{Outcome}
 use Rattle.near_moves.specs.declared.ended.SearchEnd.{SearchEnd}
 use Rattle.near_moves.specs.declared.ended.SearchEnd.TheVariants as ended
 use Rattle.desk_tasks.specs.Play.{search_remarks, history_outcome}

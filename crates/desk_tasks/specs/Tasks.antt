@@ -5,8 +5,8 @@ use Rattle.desk_folder.specs.declared.files.File.TheVariants.{SolAdded}
 use Rattle.desk_folder.specs.Files.{day_files}
 use Rattle.desk_data.specs.Valid.{IsBatch, IsValid, IsPlanFor}
 use Rattle.desk_model.specs.Histories.{AreAskable}
-use Rattle.desk_runs.specs.Commands.{history_files}
-use Rattle.desk_runs.specs.Outcome.{Outcome}
+use Rattle.desk_tasks.specs.Commands.{history_files}
+use Rattle.desk_tasks.specs.Outcome.{Outcome}
 use Rattle.desk_tasks.specs.Play.{Story, played}
 use Rattle.desk_tasks.specs.Recover.{Recovery, recovered, tried}
 use Rattle.desk_tasks.specs.Team.{TeamRecovery, team_on, Work, nothing, IsTeamWork, recovered_by_team}

@@ -1,6 +1,6 @@
 //! The headline, as laws.
 
-ghost use Rattle.desk_runs.specs.Runs.{World, IsWritten};
+ghost use Rattle.desk_tasks.specs.Runs.{World, IsWritten};
 ghost use Rattle.desk_tasks.specs.Play.{Story, played};
 ghost use Rattle.desk_tasks.specs.Keep.{kept};
 ghost use Rattle.desk_tasks.specs.Crew.{CrewedStory, played_crews};

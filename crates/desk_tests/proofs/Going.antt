@@ -10,7 +10,7 @@ use Rattle.desk_core.specs.Recorded.{Recorded, state_of, with_entry}
 use Rattle.live_board.specs.declared.told.Told.{Told}
 use Rattle.live_board.specs.Histories.{history, opens}
 use Rattle.live_board.proofs.Beginnings.{prefix_trans}
-use Rattle.desk_board.specs.Posts.{HasTold}
+use Rattle.desk_core.specs.Posts.{HasTold}
 
 by_room : (room : Bool) (B : Recorded) (entry : Entry) → IsPrefix B.journal (if room then record B { journal = B.journal ++ entry ∷ [] } else B).journal
 by_room true B entry = (entry ∷ [], refl)

@@ -13,12 +13,12 @@ use Rattle.desk_rules.specs.Cost.{cost}
 use Rattle.desk_words.specs.declared.asked.Command.{Command}
 use Rattle.desk_words.specs.declared.asked.Command.TheVariants as command_is
 use Rattle.desk_words.specs.Commands.{Asking}
-use Rattle.desk_runs.specs.declared.refusal.Refusal.{Refusal}
-use Rattle.desk_runs.specs.Commands.{asks, asked_here, files_read, workers_of}
-use Rattle.desk_runs.specs.Inputs.{Inputs, Tells}
-use Rattle.desk_runs.specs.Causes.{IsDoneAt}
-use Rattle.desk_runs.specs.Runs.{World, IsWritten}
-use Rattle.desk_runs.proofs.CausesLaw.{usage-only}
+use Rattle.desk_tasks.specs.declared.refusal.Refusal.{Refusal}
+use Rattle.desk_tasks.specs.Commands.{asks, asked_here, files_read, workers_of}
+use Rattle.desk_tasks.specs.Inputs.{Inputs, Tells}
+use Rattle.desk_tasks.specs.Causes.{IsDoneAt}
+use Rattle.desk_tasks.specs.Runs.{World, IsWritten}
+use Rattle.desk_tasks.proofs.CausesLaw.{usage-only}
 use Rattle.desk_text.specs.Rows.{◌>>=◌}
 use Rattle.near_moves.specs.Descent.{recovery}
 use Rattle.desk_gen.specs.Generated.{text_of}

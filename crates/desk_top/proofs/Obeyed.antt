@@ -4,15 +4,15 @@ use Rattle.std.specs.Prelude.{Result, Ok, Err}
 use Rattle.desk_folder.specs.declared.files.File.{File}
 use Rattle.desk_folder.specs.Outside.{Outside, SinkSide}
 use Rattle.desk_words.specs.declared.asked.Command.{Command}
-use Rattle.desk_runs.specs.declared.ending.Ending.{Ending}
-use Rattle.desk_runs.specs.Commands.{files_read, files_written}
-use Rattle.desk_runs.specs.Inputs.{Inputs, Tells}
-use Rattle.desk_runs.specs.Reading.{ReadsAmong}
-use Rattle.desk_runs.specs.declared.refusal.Refusal.{Refusal}
-use Rattle.desk_runs.specs.declared.ending.Ending.TheVariants as ending
-use Rattle.desk_runs.specs.Runs.{World, world, Meaning, AreRead}
-use Rattle.desk_runs.specs.Finishing.{Completes}
-use Rattle.desk_runs.proofs.Composed.{here, InOrder, Tries, obeys-done, obeys-refused, obeys-unread, obeys-memory}
+use Rattle.desk_tasks.specs.declared.ending.Ending.{Ending}
+use Rattle.desk_tasks.specs.Commands.{files_read, files_written}
+use Rattle.desk_tasks.specs.Inputs.{Inputs, Tells}
+use Rattle.desk_tasks.specs.Reading.{ReadsAmong}
+use Rattle.desk_tasks.specs.declared.refusal.Refusal.{Refusal}
+use Rattle.desk_tasks.specs.declared.ending.Ending.TheVariants as ending
+use Rattle.desk_tasks.specs.Runs.{World, world, Meaning, AreRead}
+use Rattle.desk_tasks.specs.Finishing.{Completes}
+use Rattle.desk_tasks.proofs.Composed.{here, InOrder, Tries, obeys-done, obeys-refused, obeys-unread, obeys-memory}
 use Rattle.desk_tasks.specs.Team.{Work, nothing}
 use Rattle.desk_tasks.specs.Tasks.{Task, outcome, outcome_at, IsWorkOf, IsSound, files_for, team_size}
 use Rattle.desk_tasks.specs.Done.{IsDoneWith, IsDoneSomehow}

@@ -4,20 +4,20 @@ use Rattle.std.specs.Prelude.{Option, Some, None, Result, Ok}
 use Rattle.desk_disk.specs.FileStates.{DiskSide, MayLeave}
 use Rattle.desk_disk.specs.Crashes.{LeavesOnly}
 use Rattle.desk_disk.proofs.Runs.{weaker}
-use Rattle.desk_runs.specs.declared.ending.DiskEnd.{DiskEnd}
-use Rattle.desk_runs.specs.declared.ending.DiskEnd.TheVariants as disk_end
-use Rattle.desk_runs.specs.declared.ending.Ending.TheVariants as ending
-use Rattle.desk_runs.specs.declared.refusal.Refusal.{Refusal}
-use Rattle.desk_runs.specs.Inputs.{Inputs}
-use Rattle.desk_runs.specs.Runs.{World, world}
+use Rattle.desk_tasks.specs.declared.ending.DiskEnd.{DiskEnd}
+use Rattle.desk_tasks.specs.declared.ending.DiskEnd.TheVariants as disk_end
+use Rattle.desk_tasks.specs.declared.ending.Ending.TheVariants as ending
+use Rattle.desk_tasks.specs.declared.refusal.Refusal.{Refusal}
+use Rattle.desk_tasks.specs.Inputs.{Inputs}
+use Rattle.desk_tasks.specs.Runs.{World, world}
 use Rattle.desk_tasks.specs.Keep.{KeptStory}
 use Rattle.desk_story.specs.Story.{kept_of}
-use Rattle.desk_replay.specs.Held.{entered, story_payloads}
-use Rattle.desk_replay.specs.Own.{Extends, IsOwn, OpensFor}
-use Rattle.desk_replay.specs.Journal.{LeavesJournal, OnlyOpens, PassesComparison}
-use Rattle.desk_replay.proofs.Exact.{undamaged, no_others}
-use Rattle.desk_replay.proofs.Owned.{own_begins, own_goes_on, own_kept, own_opens}
-use Rattle.desk_replay.proofs.Continued.{own_grows, passed_moments, passed_whole}
+use Rattle.book_commands.specs.Held.{entered, story_payloads}
+use Rattle.book_commands.specs.Own.{Extends, IsOwn, OpensFor}
+use Rattle.book_commands.specs.Journal.{LeavesJournal, OnlyOpens, PassesComparison}
+use Rattle.book_commands.proofs.Exact.{undamaged, no_others}
+use Rattle.book_commands.proofs.Owned.{own_begins, own_goes_on, own_kept, own_opens}
+use Rattle.book_commands.proofs.Continued.{own_grows, passed_moments, passed_whole}
 use Rattle.file_laws.proofs.Few.{kept_few}
 use Rattle.file_laws.proofs.Kept.{kept_stored}
 use Rattle.desk_top.specs.Store.{HoldsAll, IsOpenedNext, JournalSays, Keeps, StandsAlways}

@@ -6,21 +6,21 @@ use Rattle.desk_folder.specs.declared.faults.FolderFault.{FolderFault}
 use Rattle.desk_folder.specs.Outside.{Outside, SinkSide, Directories, PlacesOnly}
 use Rattle.desk_folder.specs.declared.files.File.{File}
 use Rattle.desk_folder.specs.Calls.{Names, AppendsPrefix, Rose}
-use Rattle.folder_io.specs.Outputs.{IsUnput}
-use Rattle.folder_io.specs.Texts.{TextAppends}
-use Rattle.folder_io.proofs.PutAll.{begins-whole}
+use Rattle.desk_folder.specs.Outputs.{IsUnput}
+use Rattle.desk_folder.specs.Texts.{TextAppends}
+use Rattle.desk_folder.proofs.PutAll.{begins-whole}
 use Rattle.desk_words.specs.declared.asked.Command.{Command}
 use Rattle.desk_words.specs.Commands.{Asking}
-use Rattle.desk_runs.specs.Commands.{Ask, asks, asked_here, workers_of}
-use Rattle.desk_runs.specs.declared.ending.Ending.{Ending}
-use Rattle.desk_runs.specs.declared.ending.Ending.TheVariants as ending
-use Rattle.desk_runs.specs.Reading.{IsUnread}
-use Rattle.desk_runs.specs.Outcome.{fault_text}
-use Rattle.desk_runs.specs.Works.{IsUnbegun, IsFair}
-use Rattle.desk_runs.specs.Runs.{World, world, Meaning, IsUnreported, EndsBy, TellsEnd}
-use Rattle.desk_runs.specs.Runs as runs
-use Rattle.desk_runs.proofs.Composed.{here, at, works-placed, runs-tells_end}
-use Rattle.desk_runs.proofs.PromisedLaw.{runs-of}
+use Rattle.desk_tasks.specs.Commands.{Ask, asks, asked_here, workers_of}
+use Rattle.desk_tasks.specs.declared.ending.Ending.{Ending}
+use Rattle.desk_tasks.specs.declared.ending.Ending.TheVariants as ending
+use Rattle.desk_tasks.specs.Reading.{IsUnread}
+use Rattle.desk_tasks.specs.Outcome.{fault_text}
+use Rattle.desk_tasks.specs.Works.{IsUnbegun, IsFair}
+use Rattle.desk_tasks.specs.Runs.{World, world, Meaning, IsUnreported, EndsBy, TellsEnd}
+use Rattle.desk_tasks.specs.Runs as runs
+use Rattle.desk_tasks.proofs.Composed.{here, at, works-placed, runs-tells_end}
+use Rattle.desk_tasks.proofs.PromisedLaw.{runs-of}
 use Rattle.desk_tasks.specs.Team.{nothing}
 use Rattle.desk_top.specs.Desk.{meaning_at, meanings, ObeysSomehow, RunsWith, Runs, RunsAsPromised}
 use Rattle.desk_top.proofs.Commands.{plain-work}

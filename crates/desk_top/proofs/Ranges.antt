@@ -11,7 +11,7 @@ use Rattle.desk_words.specs.declared.choice.NumberOption.{NumberOption}
 use Rattle.desk_words.specs.declared.choice.NumberOption.TheVariants as choice_is
 use Rattle.desk_words.specs.Arguments.{Argument, arguments, places}
 use Rattle.desk_words.specs.Commands.{Asking, least_of, most_of, value_in, value_of, no_day_options, no_search_options, input_and_output, output_alone, no_directory, is_unset, plain, crewed, search, searching, recovering, making, generating, sampling, trying, uncrewed_by, command_by, command}
-use Rattle.desk_runs.specs.Commands.{IsCommand, is_of_disk}
+use Rattle.desk_tasks.specs.Commands.{IsCommand, is_of_disk}
 
 -- from a least to a greatest number
 abbrev Within : ℕ → ℕ → ℕ → Type 0

@@ -10,21 +10,21 @@ use Rattle.desk_disk.proofs.Runs.{starts}
 use Rattle.desk_disk.proofs.Torn.{nothing_pending_is}
 use Rattle.desk_disk.specs.Files.{IsOpening}
 use Rattle.desk_words.specs.declared.asked.Command.TheVariants as command_is
-use Rattle.desk_runs.specs.declared.ending.DiskEnd.{DiskEnd}
-use Rattle.desk_runs.specs.declared.ending.DiskEnd.TheVariants as disk_end
-use Rattle.desk_runs.specs.declared.ending.Ending.{Ending}
-use Rattle.desk_runs.specs.declared.ending.Ending.TheVariants as ending
-use Rattle.desk_runs.specs.Commands.{asked_here, files_read}
-use Rattle.desk_runs.specs.Inputs.{Inputs, Tells}
-use Rattle.desk_runs.specs.Outcome.{status_of, Outcome}
-use Rattle.desk_runs.specs.Runs.{World, world, IsUnreported, TellsEnd, status_after}
-use Rattle.desk_runs.specs.Finishing.{Leaves}
-use Rattle.desk_runs.proofs.CausesLaw.{status_cases}
-use Rattle.desk_runs.proofs.Composed.{Prepares, obeys-done, obeys-memory, runs-tells_end}
-use Rattle.desk_runs.proofs.PromisedLaw.{promised}
+use Rattle.desk_tasks.specs.declared.ending.DiskEnd.{DiskEnd}
+use Rattle.desk_tasks.specs.declared.ending.DiskEnd.TheVariants as disk_end
+use Rattle.desk_tasks.specs.declared.ending.Ending.{Ending}
+use Rattle.desk_tasks.specs.declared.ending.Ending.TheVariants as ending
+use Rattle.desk_tasks.specs.Commands.{asked_here, files_read}
+use Rattle.desk_tasks.specs.Inputs.{Inputs, Tells}
+use Rattle.desk_tasks.specs.Outcome.{status_of, Outcome}
+use Rattle.desk_tasks.specs.Runs.{World, world, IsUnreported, TellsEnd, status_after}
+use Rattle.desk_tasks.specs.Finishing.{Leaves}
+use Rattle.desk_tasks.proofs.CausesLaw.{status_cases}
+use Rattle.desk_tasks.proofs.Composed.{Prepares, obeys-done, obeys-memory, runs-tells_end}
+use Rattle.desk_tasks.proofs.PromisedLaw.{promised}
 use Rattle.desk_tasks.specs.Keep.{KeptStory, kept}
-use Rattle.desk_replay.specs.Journal.{EndsEarly, EndsWritten, IsEarly, KeepsStory, LeavesJournal, OnlyOpens, PassesComparison, WhereShown}
-use Rattle.desk_replay.proofs.Opening.{read_opens}
+use Rattle.book_commands.specs.Journal.{EndsEarly, EndsWritten, IsEarly, KeepsStory, LeavesJournal, OnlyOpens, PassesComparison, WhereShown}
+use Rattle.book_commands.proofs.Opening.{read_opens}
 use Rattle.desk_story.specs.Story.{kept_of}
 use Rattle.file_laws.proofs.Kept.{kept_stored}
 use Rattle.desk_top.specs.Store.{kept_meaning, RunsKept, StandsAlways, HoldsAll, HoldsSince, HasBegun, IsWrittenAt, WritesNothing}

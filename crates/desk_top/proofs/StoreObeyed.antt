@@ -4,12 +4,12 @@ use Rattle.std.specs.Prelude.{Option, Ok, Err}
 use Rattle.desk_folder.specs.Outside.{Outside, SinkSide}
 use Rattle.desk_disk.specs.FileStates.{DiskSide}
 use Rattle.desk_words.specs.declared.asked.Command.TheVariants as command_is
-use Rattle.desk_runs.specs.declared.ending.Ending.{Ending}
-use Rattle.desk_runs.specs.Commands.{files_read}
-use Rattle.desk_runs.specs.Inputs.{Inputs, Tells}
-use Rattle.desk_runs.specs.Reading.{ReadsAmong}
-use Rattle.desk_runs.specs.Runs.{World, world, AreRead, Obeys}
-use Rattle.desk_runs.proofs.Composed.{here, InOrder, Tries, obeys-refused, obeys-unread, obeys-memory}
+use Rattle.desk_tasks.specs.declared.ending.Ending.{Ending}
+use Rattle.desk_tasks.specs.Commands.{files_read}
+use Rattle.desk_tasks.specs.Inputs.{Inputs, Tells}
+use Rattle.desk_tasks.specs.Reading.{ReadsAmong}
+use Rattle.desk_tasks.specs.Runs.{World, world, AreRead, Obeys}
+use Rattle.desk_tasks.proofs.Composed.{here, InOrder, Tries, obeys-refused, obeys-unread, obeys-memory}
 use Rattle.desk_story.specs.declared.fault.StoryFault.{StoryFault}
 use Rattle.desk_story.specs.declared.fault.StoryFault.TheVariants as fault
 use Rattle.desk_story.specs.declared.keep.InputKept.{InputKept}
@@ -19,7 +19,7 @@ use Rattle.desk_story.specs.Facts.{as_kept, CanBeRun}
 use Rattle.desk_story.specs.Reading.{StopsAtFault, HasReadCause, GivesTask}
 use Rattle.day_orders.specs.declared.orders.Batch.{Batch}
 use Rattle.desk_model.specs.declared.answer.Event.{Event}
-use Rattle.desk_replay.specs.Journal.{kept_story, KeepsStory}
+use Rattle.book_commands.specs.Journal.{kept_story, KeepsStory}
 use Rattle.desk_top.specs.Store.{kept_meaning}
 use Rattle.desk_top.specs.Obeyed.{SetsNoStory, ObeysStore}
 

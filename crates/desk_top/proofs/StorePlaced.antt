@@ -17,20 +17,20 @@ use Rattle.desk_disk.specs.Files.{IsOpening}
 use Rattle.desk_words.specs.declared.asked.Command.{Command}
 use Rattle.desk_words.specs.declared.asked.Command.TheVariants as command_is
 use Rattle.desk_words.specs.Commands.{Asking}
-use Rattle.desk_runs.specs.declared.ending.DiskEnd.{DiskEnd}
-use Rattle.desk_runs.specs.declared.ending.DiskEnd.TheVariants as disk_end
-use Rattle.desk_runs.specs.declared.ending.Ending.{Ending}
-use Rattle.desk_runs.specs.declared.ending.Ending.TheVariants as ending
-use Rattle.desk_runs.specs.Commands.{asks, asks_disk, files_read, is_of_disk}
-use Rattle.desk_runs.specs.Inputs.{Inputs, Tells}
-use Rattle.desk_runs.specs.Reading.{IsUnread}
-use Rattle.desk_runs.specs.Outcome.{status_of}
-use Rattle.desk_runs.proofs.CausesLaw.{status_cases}
-use Rattle.desk_runs.specs.Runs.{World, world, TellsEnd, status_after}
-use Rattle.desk_runs.proofs.Composed.{here, at, Tries, obeys-memory, runs-placed, runs-tells_end}
-use Rattle.desk_runs.proofs.PromisedLaw.{promised}
+use Rattle.desk_tasks.specs.declared.ending.DiskEnd.{DiskEnd}
+use Rattle.desk_tasks.specs.declared.ending.DiskEnd.TheVariants as disk_end
+use Rattle.desk_tasks.specs.declared.ending.Ending.{Ending}
+use Rattle.desk_tasks.specs.declared.ending.Ending.TheVariants as ending
+use Rattle.desk_tasks.specs.Commands.{asks, asks_disk, files_read, is_of_disk}
+use Rattle.desk_tasks.specs.Inputs.{Inputs, Tells}
+use Rattle.desk_tasks.specs.Reading.{IsUnread}
+use Rattle.desk_tasks.specs.Outcome.{status_of}
+use Rattle.desk_tasks.proofs.CausesLaw.{status_cases}
+use Rattle.desk_tasks.specs.Runs.{World, world, TellsEnd, status_after}
+use Rattle.desk_tasks.proofs.Composed.{here, at, Tries, obeys-memory, runs-placed, runs-tells_end}
+use Rattle.desk_tasks.proofs.PromisedLaw.{promised}
 use Rattle.desk_tasks.specs.Keep.{KeptStory}
-use Rattle.desk_replay.specs.Journal.{IsOnlyRead, IsOpened, LeavesJournal, OnlyOpens, PassesComparison, WhereShown}
+use Rattle.book_commands.specs.Journal.{IsOnlyRead, IsOpened, LeavesJournal, OnlyOpens, PassesComparison, WhereShown}
 use Rattle.desk_top.specs.Store.{kept_directories, kept_meaning, AreCounted, EndsAtDisk, FailsToName, JournalSays, RunsKept, RunsOnDisk, Keeps, StandsAlways, HoldsAll, HoldsSince, HasBegun, IsPlacedAt, IsWrittenAt, UnlessNamed, WritesNothing}
 use Rattle.desk_top.proofs.Placed.{obeys-unplaced, obeys-unnamed, unbegun-tells_end}
 use Rattle.desk_top.proofs.StoreLaws.{only_opens, shown_is}

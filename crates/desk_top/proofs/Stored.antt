@@ -9,17 +9,17 @@ use Rattle.desk_model.specs.States.{opening}
 use Rattle.desk_model.specs.declared.answer.Entry.{Entry}
 use Rattle.desk_model.specs.Histories.{run, state}
 use Rattle.desk_words.specs.declared.asked.Command.TheVariants as command_is
-use Rattle.desk_runs.specs.declared.ending.DiskEnd.{DiskEnd}
-use Rattle.desk_runs.specs.declared.ending.DiskEnd.TheVariants as disk_end
-use Rattle.desk_runs.specs.declared.ending.Ending.TheVariants as ending
-use Rattle.desk_runs.specs.declared.refusal.Refusal.{Refusal}
-use Rattle.desk_runs.specs.Commands.{files_read}
-use Rattle.desk_runs.specs.Inputs.{Inputs, Tells}
-use Rattle.desk_runs.specs.Causes.{IsDoneAt, IsDone}
-use Rattle.desk_runs.specs.Outcome.{status_of}
-use Rattle.desk_runs.specs.Runs.{World, status_after}
-use Rattle.desk_runs.proofs.CausesLaw.{status_cases}
-use Rattle.desk_runs.proofs.Composed.{at}
+use Rattle.desk_tasks.specs.declared.ending.DiskEnd.{DiskEnd}
+use Rattle.desk_tasks.specs.declared.ending.DiskEnd.TheVariants as disk_end
+use Rattle.desk_tasks.specs.declared.ending.Ending.TheVariants as ending
+use Rattle.desk_tasks.specs.declared.refusal.Refusal.{Refusal}
+use Rattle.desk_tasks.specs.Commands.{files_read}
+use Rattle.desk_tasks.specs.Inputs.{Inputs, Tells}
+use Rattle.desk_tasks.specs.Causes.{IsDoneAt, IsDone}
+use Rattle.desk_tasks.specs.Outcome.{status_of}
+use Rattle.desk_tasks.specs.Runs.{World, status_after}
+use Rattle.desk_tasks.proofs.CausesLaw.{status_cases}
+use Rattle.desk_tasks.proofs.Composed.{at}
 use Rattle.desk_tasks.specs.Play.{Story, history, history_outcome, plan_status}
 use Rattle.desk_tasks.specs.Keep.{KeptStory, opened_first, kept}
 use Rattle.desk_tasks.specs.Tasks.{play}
@@ -27,7 +27,7 @@ use Rattle.desk_tasks.specs.Headline.{HasKept}
 use Rattle.desk_tasks.proofs.HeadlineLaw.{has-kept}
 use Rattle.desk_story.specs.Story.{task_of, kept_of}
 use Rattle.desk_story.proofs.TaskLaws.{same-story, SameStory}
-use Rattle.desk_replay.specs.Journal.{WhereShown}
+use Rattle.book_commands.specs.Journal.{WhereShown}
 use Rattle.desk_top.specs.Store.{kept_meaning, AreCounted, HoldsSince, IsStored, RunsOnDisk}
 
 status_is : (s : Story) (held : ℕ) (h : List Entry) → h ≡ run (opening s.day) s.events → (kept held s).status ≡ plan_status (state (opening s.day) h).broken

@@ -6,7 +6,7 @@ use Rattle.std.proofs.lemmas.List.{append-nil}
 use Rattle.desk_folder.specs.declared.faults.FolderFault.{FolderFault}
 use Rattle.desk_folder.specs.declared.faults.FolderFault.TheVariants.{Memory}
 use Rattle.desk_folder.specs.Outside.{SinkSide}
-use Rattle.folder_io.specs.Texts.{PutsReport}
+use Rattle.desk_folder.specs.Texts.{PutsReport}
 
 nothing_appended : (known : Option (List ℕ)) → Appends known known []
 nothing_appended None = tt

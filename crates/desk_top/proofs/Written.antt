@@ -2,17 +2,17 @@
 use Rattle.std.proofs.Common.{◌≡◌, ℕ, true, List, refl, ap, ◌∙◌}
 use Rattle.std.specs.Prelude.{codes}
 use Rattle.std.specs.Fmt.{digits}
-use Rattle.folder_io.specs.Outputs.{FileText, files_of, are_different}
+use Rattle.desk_folder.specs.Outputs.{FileText, files_of, are_different}
 use Rattle.desk_folder.specs.Files.{day_files}
 use Rattle.desk_gen.specs.Generated.{generated}
-use Rattle.desk_runs.specs.declared.ending.Ending.{Ending}
-use Rattle.desk_runs.specs.declared.ending.Ending.TheVariants as ending
-use Rattle.desk_runs.specs.Outcome.{Texts}
-use Rattle.desk_runs.specs.Runs.{World}
-use Rattle.desk_runs.specs.Writing.{PutsOutputs}
-use Rattle.desk_runs.specs.Finishing.{Completes}
-use Rattle.desk_runs.proofs.PutLaws.{all_done, ended_by}
-use Rattle.desk_runs.proofs.CompleteLaws.{completes-all, completes-short}
+use Rattle.desk_tasks.specs.declared.ending.Ending.{Ending}
+use Rattle.desk_tasks.specs.declared.ending.Ending.TheVariants as ending
+use Rattle.desk_tasks.specs.Outcome.{Texts}
+use Rattle.desk_tasks.specs.Runs.{World}
+use Rattle.desk_tasks.specs.Writing.{PutsOutputs}
+use Rattle.desk_tasks.specs.Finishing.{Completes}
+use Rattle.desk_tasks.proofs.PutLaws.{all_done, ended_by}
+use Rattle.desk_tasks.proofs.CompleteLaws.{completes-all, completes-short}
 use Rattle.desk_tasks.specs.Generate.{generation}
 use Rattle.desk_tasks.proofs.FilesLaw.{generated-files}
 

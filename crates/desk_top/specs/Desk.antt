@@ -8,14 +8,14 @@ use Rattle.desk_rules.specs.Least.{least}
 use Rattle.desk_rules.specs.Cost.{cost}
 use Rattle.desk_words.specs.declared.asked.Command.{Command}
 use Rattle.desk_words.specs.declared.asked.Command.TheVariants as command_is
-use Rattle.desk_runs.specs.declared.ending.Ending.{Ending}
-use Rattle.desk_runs.specs.Commands.{Ask, files_read}
-use Rattle.desk_runs.specs.Inputs.{Inputs, Tells}
-use Rattle.desk_runs.specs.Runs.{World, Meaning, SetsTask, IsUnreported, IsWritten}
-use Rattle.desk_runs.specs.Runs as runs
-use Rattle.desk_runs.specs.Causes as causes
-use Rattle.desk_runs.specs.Promised as promised
-use Rattle.desk_runs.specs.Works.{Meanings, AtSomeWork}
+use Rattle.desk_tasks.specs.declared.ending.Ending.{Ending}
+use Rattle.desk_tasks.specs.Commands.{Ask, files_read}
+use Rattle.desk_tasks.specs.Inputs.{Inputs, Tells}
+use Rattle.desk_tasks.specs.Runs.{World, Meaning, SetsTask, IsUnreported, IsWritten}
+use Rattle.desk_tasks.specs.Runs as runs
+use Rattle.desk_tasks.specs.Causes as causes
+use Rattle.desk_tasks.specs.Promised as promised
+use Rattle.desk_tasks.specs.Works.{Meanings, AtSomeWork}
 use Rattle.desk_tasks.specs.Play.{Story, search_remarks, report_text, plan_status}
 use Rattle.desk_tasks.specs.Recover.{Recovery, search_end}
 use Rattle.desk_tasks.specs.Team.{team_on, Work}

@@ -3,12 +3,12 @@ use Rattle.std.specs.Prelude.{◌≡◌, ◌⊎◌, Option}
 use Rattle.desk_folder.specs.Outside.{Outside}
 use Rattle.desk_disk.specs.FileStates.{DiskSide}
 use Rattle.desk_words.specs.declared.asked.Command.TheVariants as command_is
-use Rattle.desk_runs.specs.declared.ending.Ending.{Ending}
-use Rattle.desk_runs.specs.declared.ending.Ending.TheVariants as ending
-use Rattle.desk_runs.specs.Runs.{World, world, IsUnreported, Obeys}
-use Rattle.desk_runs.proofs.Composed.{here, Prepares}
+use Rattle.desk_tasks.specs.declared.ending.Ending.{Ending}
+use Rattle.desk_tasks.specs.declared.ending.Ending.TheVariants as ending
+use Rattle.desk_tasks.specs.Runs.{World, world, IsUnreported, Obeys}
+use Rattle.desk_tasks.proofs.Composed.{here, Prepares}
 use Rattle.desk_tasks.specs.Keep.{KeptStory}
-use Rattle.desk_replay.specs.Journal.{KeepsStory}
+use Rattle.book_commands.specs.Journal.{KeepsStory}
 use Rattle.desk_top.specs.Store.{kept_meaning}
 
 -- how a run ends whose input sets no story

@@ -5,32 +5,32 @@ use Rattle.desk_folder.specs.declared.files.File.{File}
 use Rattle.desk_folder.specs.declared.faults.FolderFault.{FolderFault}
 use Rattle.desk_folder.specs.Outside.{Directories}
 use Rattle.desk_folder.specs.Calls.{Rose}
-use Rattle.folder_io.specs.Outputs.{is_among, IsUnput}
-use Rattle.folder_io.specs.Texts.{PutsReport}
+use Rattle.desk_folder.specs.Outputs.{is_among, IsUnput}
+use Rattle.desk_folder.specs.Texts.{PutsReport}
 use Rattle.desk_disk.specs.FileStates.{DiskSide, stays}
 use Rattle.desk_model.specs.States.{opening}
 use Rattle.desk_model.specs.Histories.{state}
 use Rattle.desk_words.specs.declared.asked.Command.TheVariants as command_is
 use Rattle.desk_words.specs.Commands.{Asking}
-use Rattle.desk_runs.specs.declared.ending.DiskEnd.{DiskEnd}
-use Rattle.desk_runs.specs.declared.ending.DiskEnd.TheVariants as disk_end
-use Rattle.desk_runs.specs.declared.ending.Ending.{Ending}
-use Rattle.desk_runs.specs.declared.ending.Ending.TheVariants as ending
-use Rattle.desk_runs.specs.Commands.{Ask, files_read, reads}
-use Rattle.desk_runs.specs.Inputs.{Inputs, Tells}
-use Rattle.desk_runs.specs.Reading.{IsUnread}
-use Rattle.desk_runs.specs.Outcome.{fault_text}
-use Rattle.desk_runs.specs.Runs.{World, Meaning, AreRead, IsPlaced, status_after}
-use Rattle.desk_runs.specs.Works.{IsUnbegun}
-use Rattle.desk_runs.specs.Promised.{IsPromised}
+use Rattle.desk_tasks.specs.declared.ending.DiskEnd.{DiskEnd}
+use Rattle.desk_tasks.specs.declared.ending.DiskEnd.TheVariants as disk_end
+use Rattle.desk_tasks.specs.declared.ending.Ending.{Ending}
+use Rattle.desk_tasks.specs.declared.ending.Ending.TheVariants as ending
+use Rattle.desk_tasks.specs.Commands.{Ask, files_read, reads}
+use Rattle.desk_tasks.specs.Inputs.{Inputs, Tells}
+use Rattle.desk_tasks.specs.Reading.{IsUnread}
+use Rattle.desk_tasks.specs.Outcome.{fault_text}
+use Rattle.desk_tasks.specs.Runs.{World, Meaning, AreRead, IsPlaced, status_after}
+use Rattle.desk_tasks.specs.Works.{IsUnbegun}
+use Rattle.desk_tasks.specs.Promised.{IsPromised}
 use Rattle.desk_tasks.specs.Play.{Story, plan_status}
 use Rattle.desk_tasks.specs.Keep.{KeptStory, kept}
 use Rattle.desk_tasks.specs.Tasks.{play, IsRunnable}
 use Rattle.desk_tasks.specs.Headline.{HasKept}
 use Rattle.desk_story.specs.Story.{Rows, rows_of, task_of, kept_of}
-use Rattle.desk_replay.specs.Held.{entered}
-use Rattle.desk_replay.specs.Journal.{IsKept, LeavesJournal, OnlyOpens, PassesComparison, WhereShown}
-use Rattle.desk_replay.specs.Own.{CanBeStored, IsOwn, OpensFor}
+use Rattle.book_commands.specs.Held.{entered}
+use Rattle.book_commands.specs.Journal.{IsKept, LeavesJournal, OnlyOpens, PassesComparison, WhereShown}
+use Rattle.book_commands.specs.Own.{CanBeStored, IsOwn, OpensFor}
 
 -- the directories of words that ask for a journal on a disk
 abbrev pub kept_directories : Option Asking → Option Directories

@@ -3,14 +3,14 @@
 ghost use Rattle.std.specs.Prelude.{◌≡◌, ℕ, List, [], Option, Some, Ok, length};
 ghost use Rattle.desk_disk.specs.FileStates.{DiskSide, MayLeave};
 ghost use Rattle.desk_disk.specs.Crashes.{LeavesOnly};
-ghost use Rattle.desk_runs.specs.declared.ending.DiskEnd.{DiskEnd};
-ghost use Rattle.desk_runs.specs.declared.ending.DiskEnd.TheVariants.{Fault};
-ghost use Rattle.desk_runs.specs.Inputs.{Inputs};
+ghost use Rattle.desk_tasks.specs.declared.ending.DiskEnd.{DiskEnd};
+ghost use Rattle.desk_tasks.specs.declared.ending.DiskEnd.TheVariants.{Fault};
+ghost use Rattle.desk_tasks.specs.Inputs.{Inputs};
 ghost use Rattle.desk_tasks.specs.Keep.{KeptStory};
 ghost use Rattle.desk_story.specs.Story.{kept_of};
-ghost use Rattle.desk_replay.specs.Held.{entered, story_payloads};
-ghost use Rattle.desk_replay.specs.Own.{Extends, IsOwn, OpensFor};
-ghost use Rattle.desk_replay.specs.Journal.{OnlyOpens};
+ghost use Rattle.book_commands.specs.Held.{entered, story_payloads};
+ghost use Rattle.book_commands.specs.Own.{Extends, IsOwn, OpensFor};
+ghost use Rattle.book_commands.specs.Journal.{OnlyOpens};
 ghost use Rattle.desk_top.specs.Store.{HoldsAll, IsOpenedNext, JournalSays, Keeps, StandsAlways};
 
 /// What one run of an input leaves the next one opens, whatever moment the first was stopped at, and the input has only to be

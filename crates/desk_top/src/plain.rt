@@ -1,27 +1,25 @@
 //! The commands, one after another, in directories that are named already: all but `check` and `ferry` on one thread.
 
 ghost use Rattle.std.specs.Prelude.{◌≡◌, ◌≢◌, false};
-ghost use Rattle.desk_runs.specs.Commands.{IsCommand, asked_here, is_of_disk, workers_of};
-ghost use Rattle.desk_runs.specs.Runs.{Between, TellsEnd};
-ghost use Rattle.desk_runs.specs.Finishing.{Completes};
-ghost use Rattle.desk_runs.proofs.Composed.{here};
+ghost use Rattle.desk_tasks.specs.Commands.{IsCommand, asked_here, is_of_disk, workers_of};
+ghost use Rattle.desk_tasks.specs.Runs.{Between, TellsEnd};
+ghost use Rattle.desk_tasks.specs.Finishing.{Completes};
+ghost use Rattle.desk_tasks.proofs.Composed.{here};
 ghost use Rattle.desk_tasks.specs.Team.{nothing};
 ghost use Rattle.desk_tasks.specs.Tasks.{outcome, files_for, team_size};
 ghost use Rattle.desk_story.specs.Facts.{as_task, CanBeDone};
 ghost use Rattle.desk_top.specs.Desk.{Obeys, RunsWith, RunsAsPromised};
 
 use crate::day::write_day;
-use desk_folder::{Folder, FolderFault, Sink};
-use desk_headway::Listener;
+use desk_folder::{Folder, FolderFault, Sink, put_report};
+use desk_units::Listener;
 use desk_judge::{judge_crews, judge_plan, run_ferry};
-use desk_recover::{recover_day, try_day};
-use desk_replay::{play_beside_crews, play_events};
-use desk_runs::{Ending, fault_text};
+use book_commands::{play_beside_crews, play_events, recover_day, try_day};
+use desk_tasks::{Ending, fault_text};
 use desk_story::{
     InputCrewedPlan, InputCrewedStory, InputPlan, InputRecovery, InputStory, InputTask, read_task,
 };
 use desk_words::Command;
-use folder_io::put_report;
 use std::alloc::Global;
 use std::thread::Threads;
 

@@ -4,22 +4,22 @@ ghost use Rattle.std.specs.Prelude.{◌≡◌, ◌≤◌, ◌⊎◌, None, IfSom
 ghost use Rattle.desk_folder.specs.Calls.{Rose};
 ghost use Rattle.desk_disk.specs.FileStates.{HasNothingPending};
 ghost use Rattle.desk_words.specs.declared.asked.Command.TheVariants.{Store};
-ghost use Rattle.desk_runs.specs.declared.ending.DiskEnd.TheVariants as disk_end;
-ghost use Rattle.desk_runs.specs.declared.ending.Ending.TheVariants as ending;
-ghost use Rattle.desk_runs.specs.declared.refusal.Refusal.{Refusal};
-ghost use Rattle.desk_runs.specs.Commands.{asked_here, files_read};
-ghost use Rattle.desk_runs.specs.Inputs.{Inputs, Tells};
-ghost use Rattle.desk_runs.specs.Runs.{Between};
+ghost use Rattle.desk_tasks.specs.declared.ending.DiskEnd.TheVariants as disk_end;
+ghost use Rattle.desk_tasks.specs.declared.ending.Ending.TheVariants as ending;
+ghost use Rattle.desk_tasks.specs.declared.refusal.Refusal.{Refusal};
+ghost use Rattle.desk_tasks.specs.Commands.{asked_here, files_read};
+ghost use Rattle.desk_tasks.specs.Inputs.{Inputs, Tells};
+ghost use Rattle.desk_tasks.specs.Runs.{Between};
 ghost use Rattle.desk_story.specs.Story.{kept_of};
-ghost use Rattle.desk_replay.specs.Journal.{OnlyOpens, WhereShown};
+ghost use Rattle.book_commands.specs.Journal.{OnlyOpens, WhereShown};
 ghost use Rattle.desk_top.specs.Store.{HasBegun, HoldsAll, IsWrittenAt, RunsKept, StandsAlways};
 ghost use Rattle.desk_top.specs.Obeyed.{ObeysStore};
 
 use crate::plain::tell;
 use desk_disk::Disk;
 use desk_folder::{Folder, Sink};
-use desk_replay::keep_events;
-use desk_runs::Ending;
+use book_commands::keep_events;
+use desk_tasks::Ending;
 use desk_story::{InputKept, InputStory, read_kept};
 use std::alloc::Global;
 

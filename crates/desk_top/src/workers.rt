@@ -2,11 +2,11 @@
 
 ghost use Rattle.std.specs.Prelude.{◌≡◌, ◌≢◌, ◌≤◌, Bool};
 ghost use Rattle.desk_words.specs.declared.asked.Command.TheVariants.{Recover};
-ghost use Rattle.desk_runs.specs.Commands.{IsCommand, asked_here, files_read, workers_of};
-ghost use Rattle.desk_runs.specs.Inputs.{Inputs, Tells};
-ghost use Rattle.desk_runs.specs.Runs.{Between};
-ghost use Rattle.desk_runs.specs.Causes.{IsDoneAt};
-ghost use Rattle.desk_runs.proofs.Composed.{here};
+ghost use Rattle.desk_tasks.specs.Commands.{IsCommand, asked_here, files_read, workers_of};
+ghost use Rattle.desk_tasks.specs.Inputs.{Inputs, Tells};
+ghost use Rattle.desk_tasks.specs.Runs.{Between};
+ghost use Rattle.desk_tasks.specs.Causes.{IsDoneAt};
+ghost use Rattle.desk_tasks.proofs.Composed.{here};
 ghost use Rattle.desk_tasks.specs.Tasks.{team_size};
 ghost use Rattle.desk_tasks.specs.Done.{IsDoneSomehow};
 ghost use Rattle.desk_story.specs.Facts.{as_task, CanBeDone};
@@ -14,8 +14,8 @@ ghost use Rattle.desk_top.specs.Desk.{ObeysSomehow, Runs, RunsAsPromised, IsReco
 
 use crate::plain::tell;
 use desk_folder::{Folder, Gate, Sink};
-use desk_runs::Ending;
-use desk_search::{Team, recover_by_team};
+use desk_tasks::Ending;
+use book_commands::{Team, recover_by_team};
 use desk_story::{InputRecovery, InputTask, read_task};
 use desk_words::Command;
 use std::alloc::Global;

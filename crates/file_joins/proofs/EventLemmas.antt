@@ -24,8 +24,8 @@ use Rattle.plan_moves.specs.Fits.{IsPathIn, StepFits}
 use Rattle.desk_model.specs.declared.answer.Event.{Event}
 use Rattle.desk_model.specs.declared.answer.Event.TheVariants as event
 use Rattle.desk_model.specs.Histories.{IsAskable, AreAskable}
-use Rattle.day_names.specs.Names.{leg_named, plane_named, res_named}
-use Rattle.day_names.proofs.NameLaws.{leg_named-lt, plane_named-lt, res_named-lt}
+use Rattle.file_joins.specs.Names.{leg_named, plane_named, res_named}
+use Rattle.file_joins.proofs.NameLaws.{leg_named-lt, plane_named-lt, res_named-lt}
 use Rattle.journal_file.specs.declared.rows.NamedLeg.{NamedLeg}
 use Rattle.journal_file.specs.declared.rows.NamedRes.{NamedRes}
 use Rattle.journal_file.specs.declared.rows.NamedPath.{NamedPath}

@@ -1,3 +1,6 @@
+pub mod NameLaws
+mod KeyLemmas
+mod NameLemmas
 mod AllOf
 mod AllAfter
 mod RowLemmas

@@ -12,8 +12,8 @@ use Rattle.desk_text.specs.Rows.{Gives, fault_at}
 use Rattle.desk_data.specs.declared.row.Row.{Row}
 use Rattle.desk_data.specs.declared.row.Group.{Group}
 use Rattle.desk_data.specs.Situation.{Situation, legs_of, reservations_of}
-use Rattle.day_names.specs.Names.{leg_named, res_named}
-use Rattle.day_names.proofs.NameLaws.{leg_named-lt, res_named-lt}
+use Rattle.file_joins.specs.Names.{leg_named, res_named}
+use Rattle.file_joins.proofs.NameLaws.{leg_named-lt, res_named-lt}
 use Rattle.file_readers.specs.declared.sol_row.PlannedLeg.{PlannedLeg}
 use Rattle.file_readers.specs.declared.sol_row.PlannedGroup.{PlannedGroup}
 use Rattle.file_joins.specs.Stated.{leg_of, row_of, is_in_time, stated_leg, path_of, group_of, stated_group}

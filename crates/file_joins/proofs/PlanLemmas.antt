@@ -33,8 +33,8 @@ use Rattle.desk_data.specs.declared.row.Row.TheVariants.{Flown, Cancelled}
 use Rattle.desk_data.specs.PlanRows.{PlanRows, IsRow, IsGroup, AreGroups, pair_cmp, path_cmp}
 use Rattle.desk_data.specs.Situation.{Situation, legs_of, planes_of, reservations_of, no_res}
 use Rattle.desk_data.specs.Valid.{IsPathOf, IsRowOf, IsPlanFor}
-use Rattle.day_names.specs.Names.{leg_named, plane_named, res_named}
-use Rattle.day_names.proofs.NameLaws.{leg_named-lt, plane_named-lt}
+use Rattle.file_joins.specs.Names.{leg_named, plane_named, res_named}
+use Rattle.file_joins.proofs.NameLaws.{leg_named-lt, plane_named-lt}
 use Rattle.file_readers.specs.declared.sol_row.PlannedFlight.{PlannedFlight}
 use Rattle.file_readers.specs.declared.sol_row.PlannedLeg.{PlannedLeg}
 use Rattle.file_readers.specs.declared.sol_row.PlannedGroup.{PlannedGroup}

@@ -7,7 +7,7 @@ use Rattle.desk_text.specs.Rows.{◌>>=◌, at_line}
 use Rattle.desk_units.specs.declared.numbers.Airport.{Airport}
 use Rattle.desk_units.specs.declared.numbers.Leg.{Leg}
 use Rattle.desk_data.specs.Situation.{Situation}
-use Rattle.day_names.specs.Names.{leg_named, airport_named}
+use Rattle.file_joins.specs.Names.{leg_named, airport_named}
 use Rattle.file_readers.specs.declared.crew_row.CrewLeg.{CrewLeg}
 use Rattle.file_readers.specs.declared.crew_row.CrewRow.{CrewRow}
 use Rattle.crew_rules.specs.declared.crew.CrewInfo.{CrewInfo}

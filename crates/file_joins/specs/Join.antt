@@ -19,7 +19,7 @@ use Rattle.desk_data.specs.Situation.{Situation}
 use Rattle.desk_model.specs.declared.answer.Event.{Event}
 use Rattle.desk_model.specs.declared.answer.Event.TheVariants as event
 use Rattle.desk_build.specs.declared.joining.Built.{Built}
-use Rattle.day_names.specs.Names.{leg_named, plane_named, res_named}
+use Rattle.file_joins.specs.Names.{leg_named, plane_named, res_named}
 use Rattle.journal_file.specs.declared.rows.NamedLeg.{NamedLeg}
 use Rattle.journal_file.specs.declared.rows.NamedRes.{NamedRes}
 use Rattle.journal_file.specs.declared.rows.NamedPath.{NamedPath}

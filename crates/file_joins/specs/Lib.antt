@@ -1,3 +1,5 @@
+pub mod Keys
+pub mod Names
 pub mod Join
 pub mod Gives
 pub mod CrewJoin

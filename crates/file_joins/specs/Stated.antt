@@ -12,7 +12,7 @@ use Rattle.desk_data.specs.declared.row.Group.{Group}
 use Rattle.desk_data.specs.declared.row.Row.{Row}
 use Rattle.desk_data.specs.declared.row.Row.TheVariants as row
 use Rattle.desk_data.specs.Situation.{Situation}
-use Rattle.day_names.specs.Names.{leg_named, plane_named, res_named}
+use Rattle.file_joins.specs.Names.{leg_named, plane_named, res_named}
 use Rattle.file_readers.specs.declared.sol_row.PlannedFlight.{PlannedFlight}
 use Rattle.file_readers.specs.declared.sol_row.PlannedLeg.{PlannedLeg}
 use Rattle.file_readers.specs.declared.sol_row.PlannedGroup.{PlannedGroup}

@@ -1,4 +1,4 @@
-//! What a row says: names become numbers.
+//! What a row of crew.csv says: names become numbers.
 
 ghost use Rattle.std.specs.Prelude.{◌≡◌, ◌==◌, ◌<◌, IfOk, All, List as Items, length, ok_or};
 ghost use Rattle.std.specs.List.{list_any};
@@ -10,7 +10,7 @@ ghost use Rattle.desk_data.specs.Situation.{airports_of, legs_of as day_legs};
 ghost use Rattle.desk_text.specs.Rows.{GivesRow};
 
 use crew_rules::CrewInfo;
-use day_names::DayNames;
+use crate::DayNames;
 use desk_text::{Cause, RowFault};
 use desk_units::{Airport, Leg, List, Name};
 use file_readers::{CrewLeg, CrewRow};

@@ -13,7 +13,7 @@ ghost use Rattle.file_joins.specs.Parties.{Tried};
 
 use crate::party::Party;
 use crate::stated::stated_group;
-use day_names::DayNames;
+use crate::DayNames;
 use desk_data::{Group, Instance, Res, ResInfo};
 use desk_text::{ReadFault, RowFault};
 use desk_units::NoMem;

@@ -1,4 +1,4 @@
-//! The crews of the rows.
+//! The crews of the rows of crew.csv.
 
 ghost use Rattle.std.specs.Prelude.{◌≡◌, [], All, IfOk};
 ghost use Rattle.desk_text.specs.Rows.{Gives};
@@ -8,7 +8,7 @@ ghost use Rattle.file_joins.specs.CrewJoin.{crews_after};
 
 use crate::crew::crew_stated;
 use crew_rules::CrewInfo;
-use day_names::DayNames;
+use crate::DayNames;
 use desk_data::Instance;
 use desk_text::ReadFault;
 use file_readers::CrewRow;

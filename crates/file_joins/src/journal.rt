@@ -10,7 +10,7 @@ ghost use Rattle.file_joins.specs.Gives.{JoinGives, fault_at};
 
 use crate::batches::{due_after, stated_batch};
 use crate::steps::joined_move;
-use day_names::DayNames;
+use crate::DayNames;
 use desk_build::{BuildFault, Built};
 use desk_data::Batch;
 use desk_folder::File;

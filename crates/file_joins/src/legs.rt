@@ -9,7 +9,7 @@ ghost use Rattle.file_joins.specs.Statement.{Adds, cause_of};
 ghost use Rattle.file_joins.specs.Legs.{all_rows, statement_of_legs, rows_stated};
 
 use crate::stated::stated_leg;
-use day_names::DayNames;
+use crate::DayNames;
 use desk_data::Row;
 use desk_text::ReadFault;
 use desk_units::NoMem;

@@ -1,6 +1,25 @@
+//! The joins of what was read: rows that name each other become a day, its batches, its crews and its plan.
+//!
+//! # Rows by their names
+//!
+//! The legs, aircraft, reservations and airports of a day, found by their names.
+//!
+//!     let names = DayNames::of(alloc, &inst)?;
+//!     names.leg(b"F1", 2_982)             // the leg of this flight and day, if there is one
+//!     names.plane(b"P1")
+//!     names.reservation(b"R1", false)     // outbound; true is inbound
+//!     names.airport(b"AAA")
+//!
+//! Files that come after the day is made name legs and the like: journals, solution files, crews. The table
+//! is a hash map over the names where they stand in the day's rows, made in one walk over them; a look-up
+//! takes constant time. Proved: what is found is the first that has the name, and where nothing is found
+//! nothing has it.
+//!
+//! # Joins
+//!
 //! The joins of the journal, of crews and of a plan with a day: names become its numbers.
 //!
-//! # The journal
+//! ## The journal
 //!
 //! The journal's rows, joined: names become numbers of an instance, and numbers of batches those batches.
 //!
@@ -14,7 +33,7 @@
 //! Proved: the events, and what is refused, are what the definition in `specs/` says of the rows (`exact`);
 //! each event can be asked of the day (`asked`), by a caller that there may be (`callers`).
 //!
-//! # Crews
+//! ## Crews
 //!
 //! The crews that crew.csv gives, for a day.
 //!
@@ -30,7 +49,7 @@
 //!
 //! Proved: the crews, or the refusal, are those of the definition in `specs/` (`exact`), and they are crews of the day (`facts`).
 //!
-//! # A plan
+//! ## A plan
 //!
 //! The plan that sol_rotations.csv and sol_itineraries.csv give, for a day.
 //!
@@ -57,8 +76,11 @@ mod groups;
 mod join;
 mod journal;
 mod legs;
+mod name_tables;
 mod names;
 mod party;
+mod places;
+mod rows;
 mod solution;
 mod stated;
 mod steps;
@@ -70,4 +92,5 @@ pub use desk_text::{Cause, ReadFault};
 pub use file_readers::CrewRow;
 pub use join::join_crew;
 pub use journal::join_journal;
+pub use name_tables::DayNames;
 pub use solution::read_solution;

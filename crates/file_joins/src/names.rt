@@ -4,7 +4,7 @@ ghost use Rattle.std.specs.Prelude.{◌≡◌};
 ghost use Rattle.desk_text.specs.Rows.{GivesRow};
 ghost use Rattle.file_joins.specs.Join.{leg_of, plane_of, res_of, all_of, after_of, seat_of, path_of, row_of};
 
-use day_names::DayNames;
+use crate::DayNames;
 use desk_data::{Path, Row};
 use desk_text::RowFault;
 use desk_units::{Cabin, Leg, List, Name, Plane, Res};

@@ -8,7 +8,7 @@ ghost use Rattle.file_joins.specs.Solution.{SolutionGives, fault_in, plan_stated
 
 use crate::groups::{all_groups, groups_of, passengers_stated};
 use crate::legs::{all_rows, rows_stated};
-use day_names::DayNames;
+use crate::DayNames;
 use desk_build::BuildFault;
 use desk_data::{Group, Instance, Plan, Row};
 use desk_folder::File;

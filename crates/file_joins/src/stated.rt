@@ -4,10 +4,10 @@ ghost use Rattle.std.specs.Prelude.{◌≡◌, ◌<◌, IfOk, ok_or};
 ghost use Rattle.desk_text.specs.Rows.{GivesRow};
 ghost use Rattle.file_rows.specs.declared.cause.Cause.TheVariants.{Unknown};
 ghost use Rattle.desk_data.specs.Situation.{legs_of, reservations_of};
-ghost use Rattle.day_names.specs.Names.{res_named};
+ghost use Rattle.file_joins.specs.Names.{res_named};
 ghost use Rattle.file_joins.specs.Stated.{group_of, is_in_time, leg_of, path_of, row_of, seat_of, stated_group, stated_leg};
 
-use day_names::DayNames;
+use crate::DayNames;
 use desk_data::{Group, Path, Row};
 use desk_text::RowFault;
 use desk_units::{Cabin, Leg, List, Name, Res};

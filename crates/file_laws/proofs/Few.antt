@@ -24,7 +24,7 @@ use Rattle.desk_build.specs.declared.joining.Built.{Built}
 use Rattle.desk_build.specs.Join.{built_of, made_of, unless_refused}
 use Rattle.desk_words.specs.declared.asked.Command.TheVariants as command_is
 use Rattle.file_joins.specs.Join.{events_of}
-use Rattle.desk_runs.specs.Inputs.{Inputs}
+use Rattle.desk_tasks.specs.Inputs.{Inputs}
 use Rattle.desk_tasks.specs.Keep.{KeptStory}
 use Rattle.desk_story.specs.Story.{Rows, rows_of, kept_of_rows, kept_of, or_refused, not_joined, in_file as in_file_of}
 use Rattle.desk_text.specs.Rows.{◌>>=◌}

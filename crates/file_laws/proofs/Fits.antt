@@ -16,8 +16,8 @@ use Rattle.desk_data.specs.Situation.{Situation, legs_of, planes_of, reservation
 use Rattle.desk_data.specs.Valid.{IsRowOf}
 use Rattle.plan_moves.specs.declared.moves.Step.{Step}
 use Rattle.plan_moves.specs.Fits.{Fits, IsPathIn, StepFits}
-use Rattle.day_names.specs.Names.{leg_named, plane_named, res_named}
-use Rattle.day_names.proofs.NameLaws.{leg_named-lt, plane_named-lt, res_named-lt}
+use Rattle.file_joins.specs.Names.{leg_named, plane_named, res_named}
+use Rattle.file_joins.proofs.NameLaws.{leg_named-lt, plane_named-lt, res_named-lt}
 use Rattle.journal_file.specs.declared.rows.NamedLeg.{NamedLeg}
 use Rattle.journal_file.specs.declared.rows.NamedPath.{NamedPath}
 use Rattle.journal_file.specs.declared.rows.NamedRes.{NamedRes}

@@ -11,10 +11,10 @@ use Rattle.file_joins.specs.Join.{events_of}
 use Rattle.journal_disk.specs.Payloads.{AreNext}
 use Rattle.journal_disk.proofs.EnteredLaws.{run_enters_all}
 use Rattle.desk_words.specs.declared.asked.Command.TheVariants as command_is
-use Rattle.desk_runs.specs.Inputs.{Inputs}
+use Rattle.desk_tasks.specs.Inputs.{Inputs}
 use Rattle.desk_tasks.specs.Play.{history}
 use Rattle.desk_tasks.specs.Keep.{KeptStory}
-use Rattle.desk_replay.specs.Own.{CanBeStored}
+use Rattle.book_commands.specs.Own.{CanBeStored}
 use Rattle.desk_story.specs.Story.{Rows, rows_of, kept_of_rows, kept_of, or_refused, not_joined, in_file}
 use Rattle.file_laws.specs.Due.{AreDue}
 use Rattle.file_laws.proofs.Parts.{bound, same_Ok, or_refused-Ok}

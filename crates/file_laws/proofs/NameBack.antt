@@ -11,8 +11,8 @@ use Rattle.desk_data.specs.declared.info.PlaneInfo.{PlaneInfo}
 use Rattle.desk_data.specs.declared.info.ResInfo.{ResInfo}
 use Rattle.desk_data.specs.Situation.{Situation, leg_at, plane_at, res_at, legs_of, planes_of, reservations_of, no_leg, no_plane, no_res}
 use Rattle.desk_data.specs.Valid.{AreDistinct}
-use Rattle.day_names.specs.Keys.{same_direction}
-use Rattle.day_names.specs.Names.{leg_named, plane_named, res_named}
+use Rattle.file_joins.specs.Keys.{same_direction}
+use Rattle.file_joins.specs.Names.{leg_named, plane_named, res_named}
 
 -- the first that passes
 position_is : {X : Type 0} (test : X → Bool) (xs : List X) (i : ℕ) (d : X) → i < length xs → test (get_or xs i d) ≡ true → ((k : ℕ) → k < i → test (get_or xs k d) ≡ false) → position test xs ≡ Some i

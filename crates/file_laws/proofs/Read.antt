@@ -23,8 +23,8 @@ use Rattle.file_readers.specs.Crews.{crew_row}
 use Rattle.journal_file.specs.Journal.{journal_rows_of}
 use Rattle.file_readers.specs.Grammar.{refusal_in}
 use Rattle.desk_words.specs.declared.asked.Command.TheVariants as command_is
-use Rattle.desk_runs.specs.Commands.{files_read}
-use Rattle.desk_runs.specs.Inputs.{Inputs}
+use Rattle.desk_tasks.specs.Commands.{files_read}
+use Rattle.desk_tasks.specs.Inputs.{Inputs}
 use Rattle.desk_story.specs.Story.{Rows, no_rows, byte_limit, unless_refused, with_rows, within_limit, in_file, read_as, read_all, rows_of}
 use Rattle.file_laws.specs.Due.{IsNumbered}
 use Rattle.file_laws.proofs.Parts.{bound, same_Ok, or_refused-Ok}

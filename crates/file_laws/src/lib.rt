@@ -18,7 +18,7 @@
 //! events of: by `written_journals_read_back`, a public function with an empty body, whose contract is the
 //! law. On the way stands another: a line is what the crate `csv` writes of its fields.
 //!
-//! The law asks that each name of the day has 1 to 32 bytes, with which `walk_names` of `file_laws` ends.
+//! The law asks that each name of the day has 1 to 32 bytes, with which `walk_names` ends.
 //!
 //! # Plans
 //!
@@ -26,7 +26,7 @@
 //!
 //! `written_plans_read_back` has no code: its clause is the law. Names have to be plain, since a line that
 //! begins with `#` ends a file, and neither file may be longer than a file may be. The law asks that each
-//! name of the day has 1 to 32 bytes, with which `walk_names` of `file_laws` ends.
+//! name of the day has 1 to 32 bytes, with which `walk_names` ends.
 //!
 //! # Journals on a disk
 //!
@@ -34,7 +34,7 @@
 //!
 //! The reader of journal.csv and the join look at each row by itself and at the batch that is due. The law says what
 //! follows for the whole history: its batches are those of the day in their order, its moves fit, and its callers are
-//! numbers of four bytes; and the day has at most 1,001 batches. So what `desk_replay` says of a story whose events may stand in a journal holds of each
+//! numbers of four bytes; and the day has at most 1,001 batches. So what book_commands says of a story whose events may stand in a journal holds of each
 //! story that an input gives. The law is a public function with an empty body.
 #![tactic(auto)]
 

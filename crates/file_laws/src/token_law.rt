@@ -1,7 +1,7 @@
 //! What is written is read again.
 
 ghost use Rattle.std.specs.Prelude.{◌≡◌, ℕ, ◌<◌, ◌≤◌, List as Items, Ok, Some, decimal, length};
-ghost use Rattle.day_names.specs.Names.{leg_named, plane_named, res_named};
+ghost use Rattle.file_joins.specs.Names.{leg_named, plane_named, res_named};
 ghost use Rattle.desk_data.specs.Situation.{Situation, leg_at, legs_of, plane_at, planes_of, res_at, reservations_of};
 ghost use Rattle.desk_data.specs.Valid.{AreDistinct};
 ghost use Rattle.desk_text.specs.Fields.{name_of, number_of, date_of};

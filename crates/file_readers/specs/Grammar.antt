@@ -1,4 +1,4 @@
--- Which line of a file of a plan is refused first.
+-- Which line of sol_rotations.csv or of sol_itineraries.csv is refused first.
 use Rattle.std.specs.Prelude.{◌≡◌, ◌⊎◌, ℕ, List, Option, Some, None, Result, Ok, Err}
 use Rattle.file_rows.specs.declared.cause.Cause.{Cause}
 use Rattle.desk_text.specs.declared.fault.ReadFault.{ReadFault}

@@ -1,4 +1,4 @@
--- The rows of the tariff: a kind, and the fields that it names; those after them are passed over.
+-- The rows of tariff.csv: a kind, and the fields that it names; those after them are passed over.
 use Rattle.std.specs.Prelude.{ℕ, List, [], ◌∷◌, Option, Some, None, Result, Ok, Err, bytes_eq, codes, nat_lt, if◌then◌else◌}
 use Rattle.desk_units.specs.declared.numbers.Cabin.{Cabin}
 use Rattle.desk_units.specs.declared.numbers.Haul.{Haul}

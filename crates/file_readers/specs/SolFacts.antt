@@ -1,4 +1,4 @@
--- What holds of the rows, as their readers give them.
+-- What holds of the rows of sol_rotations.csv and sol_itineraries.csv, as their readers give them.
 use Rattle.std.specs.Prelude.{◌<◌, ◌≤◌, All, IfSome}
 use Rattle.file_rows.specs.Facts.{IsLeg}
 use Rattle.file_readers.specs.declared.sol_row.PlannedFlight.{PlannedFlight}

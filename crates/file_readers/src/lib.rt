@@ -1,5 +1,9 @@
 //! The readers of the files of a day, of its crews and of a plan: each gives the rows of the bytes of a whole file.
 //!
+//! Each reader gives the rows of the bytes of a whole file, or its first refused line with the cause. Where a file has lines, a
+//! `Grammar` of desk_text takes the fields of one as its definition in `specs/` does, line for line. Proved, of each: the answer
+//! is what that definition says of the bytes (`exact`), and the rows are within the ranges that the join relies on (`facts`).
+//!
 //! # Flights and rotations
 //!
 //! The readers of flights.csv and rotations.csv.
@@ -9,10 +13,6 @@
 //! `read_rotations` give the rows of the bytes of a whole file, in the order of its lines, or the
 //! first refused line with its cause.
 //!
-//! Each has a `Grammar` of desk_text, which takes the fields of a line as its definition in `specs/` does,
-//! line for line. Proved: the answer is what that definition says of the bytes (`exact`), and the rows
-//! are within the ranges that the join relies on (`facts`).
-//!
 //! # Aircraft and positions
 //!
 //! The readers of aircraft.csv and position.csv: the aircraft, and where aircraft are wanted at the end.
@@ -21,10 +21,6 @@
 //! times, airport and maintenance; one of position.csv an airport and groups of model, seats and count.
 //! docs/FORMATS.md gives the fields. `read_aircraft` and `read_position` give the rows of the bytes of a
 //! whole file, in the order of its lines, or the first refused line with its cause.
-//!
-//! Each has a `Grammar` of desk_text, which takes the fields of a line as its definition in `specs/` does,
-//! line for line. Proved: the answer is what that definition says of the bytes (`exact`), and the rows
-//! are within the ranges that the join relies on (`facts`).
 //!
 //! # Airports, distances and the configuration
 //!
@@ -36,10 +32,6 @@
 //! lines. Each gives the first refused line with its cause where there is one. docs/FORMATS.md gives
 //! the fields.
 //!
-//! Each has a `Grammar` of desk_text, which takes the fields of a line as its definition in `specs/` does,
-//! line for line. Proved: the answer is what that definition says of the bytes (`exact`), and the rows
-//! are within the ranges that the join relies on (`facts`).
-//!
 //! # Itineraries
 //!
 //! The reader of itineraries.csv: reservations, with the legs that their passengers fly.
@@ -49,10 +41,6 @@
 //! in the order of its lines, or the first refused line with its cause. Limits of passengers and of
 //! legs are the join's.
 //!
-//! Its `Grammar` of desk_text takes the fields of a line as the definition in `specs/` does, line for
-//! line. Proved: the answer is what that definition says of the bytes (`exact`), and the rows are within
-//! the ranges that the join relies on (`facts`).
-//!
 //! # Crews
 //!
 //! The reader of crew.csv: the crews, each with the legs that it works.
@@ -60,10 +48,6 @@
 //! A line is `CREW HOME DUTY REST` and then `FLIGHT DATE` for each leg; docs/FORMATS.md gives the fields.
 //! `read_crew` gives the rows of the bytes of the whole file, in the order of its lines, or the first refused
 //! line with its cause. How many rows and legs there may be, and whether the names in them are known, is the join's.
-//!
-//! Its `Grammar` of desk_text takes the fields of a line as the definition in `specs/` does, line for line.
-//! Proved: the answer is what that definition says of the bytes (`exact`), and the rows are within the ranges
-//! that the join relies on (`facts`).
 //!
 //! # Disruptions
 //!

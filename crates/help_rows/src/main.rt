@@ -4,7 +4,7 @@
 //! `bench/help.py` compares what this prints with the pages.
 #![tactic(auto)]
 
-use desk_help::explain;
+use desk_words::explain;
 use std::alloc::{AllocError, Global};
 use std::io;
 use std::io::ErrorKind;

@@ -1,4 +1,4 @@
-//! Tests of what reaches the host, and of threads.
+//! Tests of what reaches the host, of records on a disk, and of threads.
 //!
 //! # Threads
 //!

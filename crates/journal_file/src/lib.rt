@@ -30,7 +30,7 @@
 //!     0,batch,0
 //!     1,move,push P1 after F1 01/03/08 tidy,breaks C5 F2 01/03/08
 //!
-//! The steps are read by `journal_file`, with names, dates and times as the text files have them. What
+//! The steps are read by `read_steps`, with names, dates and times as the text files have them. What
 //! `journal_text` writes is such a file. Proved: `read_journal` gives the rows, or the first record that
 //! is refused with its cause, that the definition in `specs/` gives of the bytes (`exact`), and the rows
 //! are as the join relies on (`facts`).

@@ -6,7 +6,7 @@ ghost use Rattle.desk_data.specs.Situation.{legs_of, planes_of};
 ghost use Rattle.desk_data.specs.PlanRows.{row_at, with_row};
 ghost use Rattle.desk_data.specs.Valid.{IsRowOf};
 ghost use Rattle.desk_model.specs.Swap.{after_swap, other_plane, row_after_swap};
-ghost use Rattle.desk_moves.specs.Swapped.{legs_of_both};
+ghost use Rattle.desk_eval.specs.Swapped.{legs_of_both};
 ghost use Rattle.near_draft.specs.Drafts.{plan_of};
 
 use crate::draft::Draft;

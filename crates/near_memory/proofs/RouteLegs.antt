@@ -20,8 +20,8 @@ use Rattle.near_moves.specs.RouteWords.{IsStem, IsTried, scheduled, stem_alone, 
 use Rattle.near_moves.proofs.ListLaws.{filter_contains, any_from, numbers_each, All_from_contains}
 use Rattle.near_moves.proofs.RepeatLaws.{has-repeats}
 use Rattle.near_moves.proofs.RouteLaws.{has-routes, is_route-fit, stems-each}
-use Rattle.flight_net.specs.Start.{place_after, ready_after, due_before}
-use Rattle.flight_net.proofs.StartLaws.{IsTaken, fit-taken, first-follows, last-is, goes_on-time, leg-flown, leg-next}
+use Rattle.near_pax.specs.Start.{place_after, ready_after, due_before}
+use Rattle.near_pax.proofs.StartLaws.{IsTaken, fit-taken, first-follows, last-is, goes_on-time, leg-flown, leg-next}
 use Rattle.near_memory.specs.Untouched.{is_on, goes_between, may_begin, may_end, is_in_time, may_use_after, may_use}
 
 or_left : (a b : Bool) → a ≡ true → (a || b) ≡ true

@@ -12,7 +12,7 @@ use Rattle.desk_rules.specs.Numbers.{numbers}
 use Rattle.desk_rules.specs.Rotations.{dep, arr}
 use Rattle.desk_rules.specs.Passengers.{aboard, is_flown}
 use Rattle.near_moves.specs.Routes.{stems}
-use Rattle.flight_net.specs.Start.{place_after, ready_after, due_before}
+use Rattle.near_pax.specs.Start.{place_after, ready_after, due_before}
 
 -- whether a path has leg x
 abbrev pub is_on : List (Leg × Cabin) → ℕ → Bool

@@ -16,7 +16,7 @@ use Rattle.desk_data.specs.Valid.{IsPlanFor}
 use Rattle.desk_rules.specs.Rotations.{dep, arr}
 use Rattle.desk_rules.specs.Passengers.{is_flown}
 use Rattle.near_moves.specs.Routes.{stems}
-use Rattle.flight_net.specs.Start.{place_after, ready_after, due_before}
+use Rattle.near_pax.specs.Start.{place_after, ready_after, due_before}
 use Rattle.near_memory.specs.Untouched.{IsStill, IsUntouched, is_on, goes_between, may_begin, may_end, is_in_time, may_use_after, may_use}
 use Rattle.near_notes.specs.declared.changes.Changes.{Changes}
 use Rattle.near_notes.specs.declared.onward.Outset.{Outset}

@@ -12,8 +12,8 @@ use Rattle.desk_data.specs.PlanRows.{PlanRows, groups_at}
 use Rattle.desk_data.specs.Valid.{IsValid, IsPlanFor}
 use Rattle.desk_rules.specs.Passengers.{aboard, seats_in}
 use Rattle.near_moves.specs.NeighbourhoodWords.{HasPassengers}
-use Rattle.day_notes.specs.declared.notes.Notes.{Notes}
-use Rattle.day_notes.specs.Notes.{AreNotes, HaveAboard, IsInVain}
+use Rattle.near_notes.specs.declared.notes_of_day.Notes.{Notes}
+use Rattle.near_notes.specs.DayNotes.{AreNotes, HaveAboard, IsInVain}
 use Rattle.near_memory.specs.Untouched.{IsUntouched}
 use Rattle.near_memory.proofs.Rebooked.{untouched-worse}
 use Rattle.near_notes.specs.Later.{AreKnown}

@@ -1,3 +1,6 @@
+pub mod PlaceLaws
+pub mod NotesLaws
+pub mod OutLaws
 pub mod LinkLaws
 pub mod StillLaws
 pub mod OutsetLaws

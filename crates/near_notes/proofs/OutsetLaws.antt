@@ -7,7 +7,7 @@ use Rattle.desk_data.specs.Situation.{Situation, airports_of, planes_of, legs_of
 use Rattle.desk_data.specs.Booked.{booked_path, origin_of, dest_of}
 use Rattle.desk_data.specs.Paths.{no_pair, first_leg, last_leg}
 use Rattle.desk_data.specs.Valid.{IsValid, IsLeg, IsReservation}
-use Rattle.flight_net.specs.Start.{IsStemPath, place_after}
+use Rattle.near_pax.specs.Start.{IsStemPath, place_after}
 
 leg-is : (I : Situation) (x : ℕ) → IsValid I → x < legs_of I → IsLeg (airports_of I) (planes_of I) (legs_of I) (leg_at I x)
 leg-is I x valid lt = All-get_or (IsLeg (airports_of I) (planes_of I) (legs_of I)) I.parts.legs x no_leg lt valid.parts.legs

@@ -3,8 +3,8 @@ use Rattle.std.specs.Prelude.{◌≡◌, ℕ, ◌<◌, List, length, slice_index
 use Rattle.desk_data.specs.declared.row.Group.{Group}
 use Rattle.desk_data.specs.Situation.{Situation}
 use Rattle.desk_data.specs.PlanRows.{PlanRows, groups_at}
-use Rattle.day_notes.specs.declared.notes.Notes.{Notes}
-use Rattle.day_notes.specs.Notes.{AreNotes, IsInVain}
+use Rattle.near_notes.specs.declared.notes_of_day.Notes.{Notes}
+use Rattle.near_notes.specs.DayNotes.{AreNotes, IsInVain}
 
 -- notes are true of the day, and are of plan P
 pub record AreNotesAt (I : Situation) (P : PlanRows) (given : Notes) : Type 0 where

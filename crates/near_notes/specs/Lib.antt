@@ -1,5 +1,12 @@
-pub use Rattle.day_notes.specs.Notes
+pub use Rattle.number_rows.specs.Rows
+pub use Rattle.near_legs.specs.Choices
+pub use Rattle.near_units.specs.Out
+pub use Rattle.desk_data.specs.Situation
+pub use Rattle.desk_data.specs.PlanRows
 pub use Rattle.near_memory.specs.Untouched
+pub mod Places
+pub mod Notes
+pub mod DayNotes
 pub mod Changes
 pub mod Links
 pub mod Onward

@@ -7,7 +7,7 @@ use Rattle.desk_data.specs.Booked.{dest_of}
 use Rattle.desk_data.specs.PlanRows.{PlanRows, row_at}
 use Rattle.desk_rules.specs.Rotations.{dep, arr}
 use Rattle.desk_rules.specs.Passengers.{is_flown}
-use Rattle.flight_net.specs.Start.{place_after, ready_after, due_before}
+use Rattle.near_pax.specs.Start.{place_after, ready_after, due_before}
 use Rattle.near_memory.specs.Untouched.{goes_between}
 use Rattle.near_notes.specs.declared.changes.Changes.{Changes}
 use Rattle.near_notes.specs.declared.onward.Outset.{Outset}

@@ -2,7 +2,7 @@
 
 ghost use Rattle.std.specs.Prelude.{◌≡◌, ◌<◌, length, All, IfOk, true};
 ghost use Rattle.desk_data.specs.Valid.{IsPlanFor};
-ghost use Rattle.day_notes.specs.Notes.{HaveAboard};
+ghost use Rattle.near_notes.specs.DayNotes.{HaveAboard};
 ghost use Rattle.near_memory.specs.Untouched.{IsStill};
 ghost use Rattle.near_notes.specs.Changes.{AreAllStill, AreChanges};
 

@@ -3,14 +3,14 @@
 ghost use Rattle.std.specs.Prelude.{◌≡◌, ◌<◌, ◌&&◌, ◌||◌, ◌==◌};
 ghost use Rattle.desk_data.specs.Situation.{airports_of, legs_of, reservations_of};
 ghost use Rattle.desk_data.specs.Valid.{IsPlanFor};
-ghost use Rattle.flight_net.specs.Start.{IsStemPath};
+ghost use Rattle.near_pax.specs.Start.{IsStemPath};
 ghost use Rattle.near_memory.specs.Untouched.{goes_between};
 ghost use Rattle.near_notes.specs.Onward.{IsOutsetOf, is_linked, is_soon, may_follow};
 ghost use Rattle.near_notes.specs.Links.{AreLinks};
 
 use crate::links::Links;
 use desk_data::{Airport, Cabin, Instance, Leg, Res};
-use flight_net::{due_before, start_after};
+use near_pax::{due_before, start_after};
 use plan_pages::Pages;
 use plan_reads::{arrival, departure, is_flown};
 

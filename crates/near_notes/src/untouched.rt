@@ -4,7 +4,7 @@ ghost use Rattle.std.specs.Prelude.{◌≡◌, ◌<◌, All, length, true, false
 ghost use Rattle.desk_data.specs.Situation.{airports_of, reservations_of};
 ghost use Rattle.desk_data.specs.Valid.{IsPlanFor};
 ghost use Rattle.near_moves.specs.Routes.{stems};
-ghost use Rattle.flight_net.specs.Start.{IsStemPath};
+ghost use Rattle.near_pax.specs.Start.{IsStemPath};
 ghost use Rattle.near_memory.specs.Untouched.{IsUntouched};
 ghost use Rattle.near_notes.specs.Changes.{AreAllStill, AreChanges};
 ghost use Rattle.near_notes.specs.Onward.{IsClear, may_follow};
@@ -14,7 +14,7 @@ use crate::changes::Changes;
 use crate::links::Links;
 use crate::onward::Outset;
 use desk_data::{Cabin, Group, Instance, Leg, Res};
-use flight_net::{begun_path, is_other_stem};
+use near_pax::{begun_path, is_other_stem};
 use plan_pages::{Pages, are_same_groups};
 
 /// Two plans of a day, the later one as it stands, and what changed between them.

@@ -7,7 +7,7 @@ use Rattle.desk_data.specs.Situation.{Situation, reservations_of}
 use Rattle.desk_data.specs.PlanRows.{PlanRows, groups_at, same_path}
 use Rattle.plan_moves.specs.declared.moves.Move.{Move}
 use Rattle.desk_model.specs.Rebook.{count_on}
-use Rattle.flight_net.specs.Flights.{IsNetOf}
+use Rattle.near_pax.specs.Flights.{IsNetOf}
 use Rattle.near_moves.specs.Units.{MoveUnit}
 use Rattle.near_moves.specs.PassengerMoves.{aims, portions, rebooking}
 use Rattle.near_moves.specs.Near.{move_of, unit_moves, moves_of}

@@ -12,7 +12,7 @@ ghost use Rattle.near_pax.specs.Left.{Gives, IsOf, left, unit_left, units_left};
 use crate::unit::PaxUnit;
 use crate::units::PaxUnits;
 use desk_data::{Instance, NoMem, Res};
-use flight_net::FlightNet;
+use crate::FlightNet;
 use plan_moves::Move;
 use plan_pages::Pages;
 use std::alloc::Global;

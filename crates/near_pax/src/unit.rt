@@ -4,7 +4,7 @@ ghost use Rattle.std.specs.Prelude.{◌≡◌, ◌<◌, ◌≤◌, IfOk, IfErr, 
 ghost use Rattle.desk_data.specs.PlanRows.{groups_at, same_path};
 ghost use Rattle.desk_data.specs.Situation.{reservations_of};
 ghost use Rattle.desk_data.specs.Valid.{IsPlanFor};
-ghost use Rattle.flight_net.specs.Flights.{IsNetOf};
+ghost use Rattle.near_pax.specs.Flights.{IsNetOf};
 ghost use Rattle.near_moves.specs.Near.{move_of, unit_moves};
 ghost use Rattle.near_moves.specs.PassengerMoves.{rebooking};
 ghost use Rattle.near_pax.specs.Units.{path_at, unit_at};
@@ -12,7 +12,7 @@ ghost use Rattle.near_pax.specs.Left.{Gives, IsMade, IsUnit, left_of_unit, left_
 
 use crate::counts::portions;
 use desk_data::{Cabin, Instance, Leg, List, NoMem, Path, Res, same_path};
-use flight_net::FlightNet;
+use crate::FlightNet;
 use plan_moves::{Move, Step};
 use plan_pages::Pages;
 use std::alloc::Global;

@@ -1,3 +1,6 @@
+pub mod DearLaws
+pub mod UnpaidLaws
+pub mod PayerLaws
 pub mod PricedLaws
 pub mod SavedLaws
 pub mod SavingLaws

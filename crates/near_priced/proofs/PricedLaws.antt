@@ -22,11 +22,11 @@ use Rattle.desk_model.specs.Refill.{has_leg}
 use Rattle.desk_model.specs.Steps.{after_steps, after_move}
 use Rattle.full_cost.specs.Amounts.{reservation_cost}
 use Rattle.board_cost.proofs.BalanceLaws.{cost_is}
-use Rattle.leg_users.specs.Users.{uses, is_booked_on}
+use Rattle.board_kit.specs.Users.{uses, is_booked_on}
 use Rattle.near_moves.specs.Descent.{is_better}
-use Rattle.near_trial.specs.RowRules.{keeps_rows}
-use Rattle.near_alone.specs.Alone.{IsLeftAlone, leaves_alone, cost_of_some}
-use Rattle.near_unpaid.proofs.DearLaws.{saves-dear, dear-worse}
+use Rattle.move_laws.specs.RowRules.{keeps_rows}
+use Rattle.near_untouched.specs.Alone.{IsLeftAlone, leaves_alone, cost_of_some}
+use Rattle.near_priced.proofs.DearLaws.{saves-dear, dear-worse}
 use Rattle.near_draft.specs.Drafts.{AreAllChanged}
 use Rattle.near_priced.specs.Priced.{paid_on, paid_booked, tidies, refilled}
 

@@ -34,11 +34,11 @@ use Rattle.desk_model.proofs.RefillLaws.{after_refill-valid, after_refill-refill
 use Rattle.full_cost.specs.Amounts.{group_cost, reservation_cost}
 use Rattle.full_cost.proofs.GroupLaws.{uncarried_is}
 use Rattle.board_cost.proofs.BalanceLaws.{cost_is}
-use Rattle.leg_users.specs.Users.{uses, is_booked_on}
+use Rattle.board_kit.specs.Users.{uses, is_booked_on}
 use Rattle.near_moves.specs.Descent.{is_better}
-use Rattle.near_trial.proofs.RowLaws.{steps-rows}
-use Rattle.near_alone.proofs.AloneLaws.{left-alone, flying-same, positions-same}
-use Rattle.near_unpaid.proofs.DearLaws.{dear-worse}
+use Rattle.move_laws.proofs.RowLaws.{steps-rows}
+use Rattle.near_untouched.proofs.AloneLaws.{left-alone, flying-same, positions-same}
+use Rattle.near_priced.proofs.DearLaws.{dear-worse}
 use Rattle.near_draft.specs.Drafts.{AreAllChanged}
 use Rattle.near_priced.specs.Priced.{paid_booked, tidies, refilled}
 use Rattle.near_priced.specs.Saved.{uncarried_cost, least_of, least_after, saved_by, saved_on, refills_leg}

@@ -18,7 +18,7 @@ use Rattle.desk_rules.specs.Numbers.{numbers}
 use Rattle.desk_model.specs.Refill.{has_leg}
 use Rattle.full_cost.specs.Amounts.{reservation_cost}
 use Rattle.full_cost.proofs.GroupLaws.{passenger_most, reservations-le}
-use Rattle.leg_users.specs.Users.{uses, is_booked_on}
+use Rattle.board_kit.specs.Users.{uses, is_booked_on}
 use Rattle.near_priced.specs.Tables.{amount, AreKept, IsGrown, AreGrown, paid_first, AreAmounts}
 
 -- ---- one amount

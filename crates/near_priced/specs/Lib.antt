@@ -1,3 +1,5 @@
+pub mod Unpaid
+pub mod Payers
 pub mod Priced
 pub mod Saved
 pub mod Tables

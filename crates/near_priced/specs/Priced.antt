@@ -6,8 +6,8 @@ use Rattle.desk_data.specs.Situation.{Situation}
 use Rattle.desk_data.specs.PlanRows.{PlanRows}
 use Rattle.plan_moves.specs.declared.moves.Step.{Step}
 use Rattle.plan_moves.specs.declared.moves.Step.TheVariants.{Set, Push, Swap, Rebook, Tidy, Refill}
-use Rattle.leg_users.specs.Users.{uses, is_booked_on}
-use Rattle.near_alone.specs.Alone.{cost_of_some}
+use Rattle.board_kit.specs.Users.{uses, is_booked_on}
+use Rattle.near_untouched.specs.Alone.{cost_of_some}
 
 -- what the passengers of those reservations pay that have somebody on leg x, and of those that are booked on it
 abbrev pub paid_on : Situation → PlanRows → ℕ → ℕ

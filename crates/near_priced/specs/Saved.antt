@@ -12,7 +12,7 @@ use Rattle.plan_moves.specs.declared.moves.Step.TheVariants.{Set, Push, Swap, Re
 use Rattle.desk_rules.specs.Numbers.{numbers}
 use Rattle.desk_rules.specs.Cost.{arrives, legal_uncarried}
 use Rattle.full_cost.specs.Amounts.{cancellation_uncarried, group_cost, reservation_cost}
-use Rattle.leg_users.specs.Users.{uses}
+use Rattle.board_kit.specs.Users.{uses}
 
 -- what so many passengers of reservation r cost who are not carried
 abbrev pub uncarried_cost : Situation → ℕ → ℕ → ℕ

@@ -11,8 +11,8 @@ use Rattle.desk_rules.specs.Numbers.{numbers}
 use Rattle.desk_rules.specs.Cost.{at_hand, ends_at, is_wanted}
 use Rattle.full_cost.specs.Amounts.{reservation_cost}
 use Rattle.plan_reads.specs.Last.{AreLasts}
-use Rattle.leg_users.specs.Users.{HasUsers, has_user, uses, is_booked_on}
-use Rattle.near_unpaid.specs.Payers.{AreCosts}
+use Rattle.board_kit.specs.Users.{HasUsers, has_user, uses, is_booked_on}
+use Rattle.near_priced.specs.Payers.{AreCosts}
 use Rattle.near_priced.specs.declared.payments.Payments.{Payments}
 
 -- the amount of leg x

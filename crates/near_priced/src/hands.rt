@@ -9,7 +9,7 @@ ghost use Rattle.plan_reads.specs.Last.{AreLasts, IsLastOf};
 ghost use Rattle.near_priced.specs.Tables.{is_hand};
 
 use desk_data::{Instance, Leg, NoMem, Plane, PositionInfo};
-use near_unpaid::{end_of, is_at, is_wanted};
+use crate::{end_of, is_at, is_wanted};
 use plan_pages::Pages;
 use std::alloc::Global;
 

@@ -3,11 +3,11 @@
 ghost use Rattle.std.specs.Prelude.{◌≡◌, ℕ, ◌+◌, ◌<◌, ◌≤◌, ◌^◌, length, All};
 ghost use Rattle.desk_data.specs.Situation.{legs_of, reservations_of};
 ghost use Rattle.desk_data.specs.Valid.{IsPathOf, IsPlanFor};
-ghost use Rattle.near_unpaid.specs.Payers.{AreCosts};
+ghost use Rattle.near_priced.specs.Payers.{AreCosts};
 ghost use Rattle.near_priced.specs.Tables.{AreAmounts, AreGrown, AreKept};
 
 use desk_data::{Cabin, Grains, Group, Instance, Leg, Res};
-use near_unpaid::cost_of;
+use crate::cost_of;
 use plan_pages::Pages;
 
 /// An amount, in grains, grows to this and no further: 10^38, and all passengers of a plan cost no more.

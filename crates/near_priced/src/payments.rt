@@ -3,13 +3,13 @@
 ghost use Rattle.std.specs.Prelude.{◌≡◌, IfOk, replicate};
 ghost use Rattle.desk_data.specs.Situation.{reservations_of};
 ghost use Rattle.desk_data.specs.Valid.{IsPlanFor};
-ghost use Rattle.near_unpaid.specs.Payers.{AreCosts};
+ghost use Rattle.near_priced.specs.Payers.{AreCosts};
 ghost use Rattle.near_priced.specs.Tables.{ArePayments};
 
 use crate::hands::hands_of;
 use crate::paid::put_paid;
 use desk_data::{Grains, Instance, Leg, NoMem};
-use leg_users::LegUsers;
+use board_kit::LegUsers;
 use plan_pages::Pages;
 use plan_reads::put_lasts;
 use std::alloc::Global;
@@ -46,8 +46,8 @@ impl Drop for Payments {
 }
 
 impl Payments {
-    /// Those at a plan, which is one for the instance, given what each reservation costs (`reservation_costs` of
-    /// near_unpaid): one walk over the reservations and the paths of those that cost something, one over all paths, one over
+    /// Those at a plan, which is one for the instance, given what each reservation costs
+    /// (`reservation_costs`): one walk over the reservations and the paths of those that cost something, one over all paths, one over
     /// the legs, and for each position one over the aircraft. The only error is out of memory.
     pub fn of(
         alloc: Global,

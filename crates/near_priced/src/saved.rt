@@ -14,7 +14,7 @@ use crate::payments::Payments;
 use desk_data::{Cabin, Instance, Leg, Res};
 use full_cost::{path_cost, path_end};
 use near_draft::Draft;
-use near_unpaid::cost_of;
+use crate::cost_of;
 use plan_pages::Pages;
 use plan_reads::ReadPlan;
 

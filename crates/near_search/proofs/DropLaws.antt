@@ -14,8 +14,8 @@ use Rattle.plan_moves.specs.declared.moves.Step.TheVariants.{Push, Tidy}
 use Rattle.desk_rules.specs.Least.{least}
 use Rattle.desk_rules.specs.Maintenance.{flies}
 use Rattle.near_moves.specs.LegMoves.{cancelling}
-use Rattle.near_dropped.specs.Drops.{IsDearDrop, legs_set}
-use Rattle.near_dropped.proofs.DropLaws.{drop-dear}
+use Rattle.near_dear.specs.Drops.{IsDearDrop, legs_set}
+use Rattle.near_dear.proofs.DropLaws.{drop-dear}
 use Rattle.near_search.specs.Out.{IsRuledOut}
 use Rattle.near_search.proofs.OutLaws.{dear-out}
 

@@ -25,12 +25,12 @@ use Rattle.near_moves.specs.Near.{unit_moves}
 use Rattle.near_moves.specs.Units.{MoveUnit}
 use Rattle.near_moves.proofs.FromLaws.{or_cases}
 use Rattle.near_moves.proofs.ListLaws.{All_from_contains, contains_head}
-use Rattle.near_chains.specs.Chains.{keeps_aircraft, IsRestoredInVain, IsSwappedInVain}
-use Rattle.near_chains.proofs.KeptLaws.{steps-append}
-use Rattle.near_chains.proofs.RestoreLaws.{restored_in_vain}
-use Rattle.near_chains.proofs.SwapLaws.{swapped_in_vain}
-use Rattle.near_trial.specs.RowRules.{keeps_rows}
-use Rattle.near_trial.proofs.RowLaws.{steps-rows}
+use Rattle.move_laws.specs.Chains.{keeps_aircraft, IsRestoredInVain, IsSwappedInVain}
+use Rattle.move_laws.proofs.KeptLaws.{steps-append}
+use Rattle.move_laws.proofs.RestoreLaws.{restored_in_vain}
+use Rattle.move_laws.proofs.SwapLaws.{swapped_in_vain}
+use Rattle.move_laws.specs.RowRules.{keeps_rows}
+use Rattle.move_laws.proofs.RowLaws.{steps-rows}
 use Rattle.near_draft.specs.Drafts.{Drafted, IsDraftOf, plan_of}
 use Rattle.near_draft.specs.LegRules.{BreaksOf, BreaksPushed, keeps_leg_rules}
 use Rattle.near_legs.specs.Choices.{IsLegUnit, unit_of}
@@ -44,10 +44,10 @@ use Rattle.near_units.proofs.OutLaws.{unit-worse}
 use Rattle.near_units.proofs.OwnLaws.{breaks-worse}
 use Rattle.near_units.proofs.RuleLaws.{c2-same, c4-same, c5-same, c6-same, c7-same}
 use Rattle.near_units.proofs.SplitLaws.{moves-split}
-use Rattle.near_swapped.specs.Dear.{IsDearExchange}
-use Rattle.near_swapped.proofs.TimeLaws.{exchange-out, exchange-worse}
-use Rattle.unit_notes.specs.Notes.{IsOutByRows, IsUnitOut, IsUnitOutByRows, breaks_rule, swaps_in_vain, restores_in_vain, hands_in_vain}
-use Rattle.unit_notes.proofs.OutLaws.{move-out}
+use Rattle.near_dear.specs.Dear.{IsDearExchange}
+use Rattle.near_dear.proofs.TimeLaws.{exchange-out, exchange-worse}
+use Rattle.near_notes.specs.Notes.{IsOutByRows, IsUnitOut, IsUnitOutByRows, breaks_rule, swaps_in_vain, restores_in_vain, hands_in_vain}
+use Rattle.near_notes.proofs.OutLaws.{move-out}
 use Rattle.near_search.specs.declared.verdict.Verdict.{Verdict}
 use Rattle.near_search.specs.Out.{AreMovesOut, AreMovesOutByRows, IsMoveOut, IsMoveOutByRows, IsRuledOut, IsRuledOutByRows, IsVerdict}
 use Rattle.near_search.proofs.FirstLaws.{dearer-ruled_out}

@@ -16,7 +16,7 @@ use Rattle.near_moves.specs.Descent.{is_better}
 use Rattle.near_pax.specs.Units.{group_at, unit_at}
 use Rattle.near_pax.specs.declared.pax.PaxMoves.{PaxMoves}
 use Rattle.near_pax.specs.Left.{left, unit_left, units_left}
-use Rattle.day_notes.specs.Notes.{IsInVain}
+use Rattle.near_notes.specs.DayNotes.{IsInVain}
 use Rattle.near_search.specs.Passed.{IsPast, GoesOn}
 
 -- ---- parts of a list

@@ -12,8 +12,8 @@ use Rattle.plan_moves.specs.declared.moves.Move.{Move}
 use Rattle.plan_moves.specs.declared.moves.Step.TheVariants.{Set, Push, Tidy, Refill}
 use Rattle.plan_moves.specs.Fits.{Fits}
 use Rattle.desk_rules.specs.Least.{least}
-use Rattle.near_restored.specs.Restored.{IsDearRestore, legs_with}
-use Rattle.near_restored.proofs.DearLaws.{restore-dear}
+use Rattle.near_dear.specs.Restored.{IsDearRestore, legs_with}
+use Rattle.near_dear.proofs.DearRestoreLaws.{restore-dear}
 use Rattle.near_search.specs.Out.{IsRuledOut}
 use Rattle.near_search.proofs.OutLaws.{dear-out}
 

@@ -6,8 +6,8 @@ use Rattle.std.proofs.lemmas.List.{get_or_append_left, get_or-append-add}
 use Rattle.std.proofs.lemmas.Bool.{cases_lt}
 use Rattle.desk_data.specs.Situation.{Situation}
 use Rattle.desk_data.specs.PlanRows.{PlanRows}
-use Rattle.near_swapped.specs.Times.{ArePlaneTimes}
-use Rattle.near_swapped.specs.declared.times.PlaneTimes.{PlaneTimes}
+use Rattle.near_dear.specs.Times.{ArePlaneTimes}
+use Rattle.near_dear.specs.declared.times.PlaneTimes.{PlaneTimes}
 use Rattle.near_search.specs.Rotations.{AreTimes}
 
 pub times-more : (I : Situation) (P : PlanRows) (n : ℕ) (times : List (Option PlaneTimes)) (time : Option PlaneTimes) → AreTimes I P n times → ForSome time (ArePlaneTimes I P n) → AreTimes I P (n + 1) (times ++ time ∷ [])

@@ -2,10 +2,10 @@
 use Rattle.std.specs.Prelude.{Option, Some, None}
 use Rattle.desk_data.specs.Situation.{Situation}
 use Rattle.desk_data.specs.PlanRows.{PlanRows}
-use Rattle.day_notes.specs.declared.notes.Notes.{Notes}
+use Rattle.near_notes.specs.declared.notes_of_day.Notes.{Notes}
 use Rattle.near_notes.specs.Later.{AreNotesAt}
-use Rattle.unit_notes.specs.declared.notes.UnitNotes.{UnitNotes}
-use Rattle.unit_notes.specs.Notes.{AreUnitNotesAt}
+use Rattle.near_notes.specs.declared.notes.UnitNotes.{UnitNotes}
+use Rattle.near_notes.specs.Notes.{AreUnitNotesAt}
 
 -- notes, if there are any, are true of the day, and are of plan P
 abbrev pub AreNotedAt : Situation → PlanRows → Option Notes → Type 0

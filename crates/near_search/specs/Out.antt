@@ -9,7 +9,7 @@ use Rattle.near_moves.specs.Near.{unit_moves}
 use Rattle.near_moves.specs.Units.{MoveUnit}
 use Rattle.near_units.specs.Steps.{BeginsFlown}
 use Rattle.near_units.specs.Out.{IsOut}
-use Rattle.unit_notes.specs.Notes.{IsOutByRows}
+use Rattle.near_notes.specs.Notes.{IsOutByRows}
 use Rattle.near_search.specs.declared.verdict.Verdict.{Verdict}
 
 -- a move is out, whichever unit of legs it is of; of a rebooking, which is of none, nothing is said

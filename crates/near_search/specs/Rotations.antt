@@ -7,11 +7,11 @@ use Rattle.desk_data.specs.PlanRows.{PlanRows}
 use Rattle.desk_rules.specs.Numbers.{numbers}
 use Rattle.desk_rules.specs.Least.{least}
 use Rattle.desk_model.specs.Push.{rotation}
-use Rattle.near_unpaid.specs.Payers.{ArePayers}
+use Rattle.near_priced.specs.Payers.{ArePayers}
 use Rattle.near_priced.specs.Tables.{ArePayments}
-use Rattle.near_dropped.specs.Owed.{AreOwed}
-use Rattle.near_swapped.specs.Times.{ArePlaneTimes}
-use Rattle.near_swapped.specs.declared.times.PlaneTimes.{PlaneTimes}
+use Rattle.near_dear.specs.Owed.{AreOwed}
+use Rattle.near_dear.specs.Times.{ArePlaneTimes}
+use Rattle.near_dear.specs.declared.times.PlaneTimes.{PlaneTimes}
 use Rattle.near_search.specs.declared.rotations.Rotations.{Rotations}
 
 -- the numbers of some legs

@@ -11,7 +11,7 @@ ghost use Rattle.near_search.specs.Rotations.{AreRotations};
 use crate::rotations::Rotations;
 use desk_data::Plane;
 use desk_eval::Evaluator;
-use near_dropped::{dropped_by, is_dear_drop};
+use near_dear::{dropped_by, is_dear_drop};
 use plan_moves::{Move, Step};
 
 /// Whether it is known that a move is not better, since it cancels legs of an aircraft, and those on one of them come to cost

@@ -8,14 +8,14 @@ ghost use Rattle.plan_moves.specs.Fits.{Fits, StepFits};
 ghost use Rattle.desk_data.specs.Situation.{planes_of};
 ghost use Rattle.near_search.specs.Out.{IsRuledOut};
 ghost use Rattle.near_search.specs.Rotations.{AreRotations};
-ghost use Rattle.near_swapped.specs.Dear.{IsDearExchange};
-ghost use Rattle.near_swapped.specs.Stands.{AreStands};
-ghost use Rattle.near_swapped.specs.Times.{ArePlaneTimes};
+ghost use Rattle.near_dear.specs.Dear.{IsDearExchange};
+ghost use Rattle.near_dear.specs.Stands.{AreStands};
+ghost use Rattle.near_dear.specs.Times.{ArePlaneTimes};
 
 use crate::rotations::{Rotations, stand, stand_before};
 use desk_data::{Minute, Plane};
 use desk_eval::Evaluator;
-use near_swapped::{PlaneTimes, Stands, is_dear_exchange};
+use near_dear::{PlaneTimes, Stands, is_dear_exchange};
 use plan_moves::Step;
 
 /// Whether it is known that a move with a first step and others is not better, since it exchanges the legs of two aircraft,

@@ -13,7 +13,7 @@ use crate::rotations::Rotations;
 use crate::units::{is_noted_quiet, keep_units, note_quiet, noted_units};
 use desk_data::NoMem;
 use desk_eval::Evaluator;
-use desk_headway::{Listener, Nobody};
+use desk_units::{Listener, Nobody};
 use near_legs::LegUnits;
 use near_pax::PaxMoves;
 use plan_moves::Move;

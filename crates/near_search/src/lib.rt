@@ -10,17 +10,17 @@
 //! back. Before that it is asked whether it is known not to be better, which is worth while where that takes less than to try
 //! the move, and may always be answered by no.
 //!
-//! - A run of legs that is handed on in vain (`near_chains`) is passed over before its move is made, and a path that costs a
+//! - A run of legs that is handed on in vain (`move_laws`) is passed over before its move is made, and a path that costs a
 //!   passenger nothing before the moves off it are made.
-//! - By its steps are told: a move whose first step gives legs in vain (`near_chains`); an exchange of the legs of two aircraft
-//!   (`near_swapped`), a leg that is flown again (`near_restored`) and a run that is cancelled (`near_dropped`) that cost at
-//!   least as much as they save at most; and a move on whose aircraft nobody pays (`near_unpaid`).
+//! - By its steps are told: a move whose first step gives legs in vain (`move_laws`); an exchange of the legs of two aircraft,
+//!   a leg that is flown again and a run that is cancelled that cost at least as much as they save at most (`near_dear`); and a
+//!   move on whose aircraft nobody pays (`near_priced`).
 //! - By a draft of its rows (`near_draft`) is told one that costs at least as much more as those pay whom it touches
 //!   (`near_priced`), or that breaks a rule of a leg.
 //!
 //! What is known is a law each. A path off which no rebooking was better is noted in the evaluator, and passed over by the next
 //! search as long as nothing is touched that those hang on (`near_notes`). So is a unit of legs of each of whose moves it is
-//! known why it is not better (`unit_notes`, and `near_later` for a later plan), apart where rows alone say so: each test that
+//! known why it is not better (`near_notes`, and `near_untouched` for a later plan), apart where rows alone say so: each test that
 //! rules a move out says why, and a trial does where the plan that the move makes is no cheaper.
 //!
 //! Proved: what is found is the first of `find` over the shard, as `near_moves` defines it, and it fits; the

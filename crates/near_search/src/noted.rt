@@ -5,15 +5,14 @@ ghost use Rattle.desk_data.specs.Situation.{reservations_of};
 ghost use Rattle.desk_data.specs.PlanRows.{groups_at};
 ghost use Rattle.desk_rules.specs.Least.{least};
 ghost use Rattle.near_pax.specs.Units.{group_at};
-ghost use Rattle.day_notes.specs.Notes.{AreNotes, IsInVain};
+ghost use Rattle.near_notes.specs.DayNotes.{AreNotes, IsInVain};
 ghost use Rattle.near_notes.specs.Later.{AreNotesAt};
 ghost use Rattle.near_search.specs.Noted.{AreNotedAt};
 
 use crate::ruled_out::costs_nothing;
-use day_notes::Notes;
+use near_notes::{Notes, first_notes, later_notes};
 use desk_data::{NoMem, Res};
 use desk_eval::Evaluator;
-use near_notes::{first_notes, later_notes};
 use std::alloc::Global;
 
 /// What is noted of the day at the evaluator's plan: what was noted at an earlier plan, as far as it still holds. No notes

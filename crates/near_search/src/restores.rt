@@ -7,7 +7,7 @@ ghost use Rattle.plan_moves.specs.declared.moves.Step.TheVariants.{Push, Refill,
 ghost use Rattle.plan_moves.specs.Fits.{Fits, StepFits};
 ghost use Rattle.desk_data.specs.declared.row.Row.TheVariants.{Cancelled, Flown};
 ghost use Rattle.desk_data.specs.Situation.{legs_of, planes_of};
-ghost use Rattle.near_restored.specs.Restored.{IsDearRestore, legs_with};
+ghost use Rattle.near_dear.specs.Restored.{IsDearRestore, legs_with};
 ghost use Rattle.near_search.specs.Out.{IsRuledOut};
 ghost use Rattle.near_search.specs.Rotations.{AreRotations};
 
@@ -15,7 +15,7 @@ use crate::exchanges::{is_tidy, pushes_all};
 use crate::rotations::Rotations;
 use desk_data::{Leg, Minute, Plane, Row};
 use desk_eval::Evaluator;
-use near_restored::is_dear_restore;
+use near_dear::is_dear_restore;
 use plan_moves::Step;
 
 /// A leg that was cancelled, and is flown by an aircraft from a moment on.

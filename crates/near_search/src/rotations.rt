@@ -6,16 +6,14 @@ ghost use Rattle.desk_data.specs.PlanRows.{PlanRows};
 ghost use Rattle.desk_rules.specs.Maintenance.{flies};
 ghost use Rattle.desk_rules.specs.Rotations.{dep};
 ghost use Rattle.desk_model.specs.Push.{rotation};
-ghost use Rattle.near_chains.specs.Chains.{led, run_leads_to, stand, stand_before};
+ghost use Rattle.move_laws.specs.Chains.{led, run_leads_to, stand, stand_before};
 ghost use Rattle.near_search.specs.Rotations.{AreRotations, from_leg};
 
 use crate::times::times_of;
 use desk_data::{Airport, Instance, Leg, Minute, NoMem, Plane};
 use desk_eval::Evaluator;
-use near_dropped::owed_by_leg;
-use near_priced::Payments;
-use near_swapped::{PlaneTimes, calm_moments};
-use near_unpaid::{Payers, reservation_costs};
+use near_dear::{PlaneTimes, calm_moments, owed_by_leg};
+use near_priced::{Payers, Payments, reservation_costs};
 use plan_reads::departure;
 use std::alloc::Global;
 

@@ -7,10 +7,10 @@ ghost use Rattle.desk_data.specs.Valid.{IsPlanFor};
 ghost use Rattle.desk_rules.specs.Numbers.{numbers};
 ghost use Rattle.desk_model.specs.Push.{rotation};
 ghost use Rattle.near_search.specs.Rotations.{AreTimes, numbers_of};
-ghost use Rattle.near_swapped.specs.Times.{AreCalm, ArePaid, ArePlaneTimes};
+ghost use Rattle.near_dear.specs.Times.{AreCalm, ArePaid, ArePlaneTimes};
 
 use desk_data::{Instance, Leg, NoMem, Plane};
-use near_swapped::PlaneTimes;
+use near_dear::PlaneTimes;
 use plan_pages::Pages;
 use std::alloc::Global;
 

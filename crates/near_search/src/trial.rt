@@ -14,9 +14,8 @@ use crate::rotations::Rotations;
 use crate::ruled_out::ruled_out;
 use crate::verdict::Verdict;
 use desk_data::NoMem;
-use desk_eval::Evaluator;
-use desk_headway::Listener;
-use desk_moves::{apply, undo};
+use desk_eval::{Evaluator, apply, undo};
+use desk_units::Listener;
 use plan_moves::Move;
 use std::alloc::Global;
 

@@ -5,14 +5,14 @@ ghost use Rattle.desk_rules.specs.Least.{least};
 ghost use Rattle.near_moves.specs.Descent.{first_better, is_better};
 ghost use Rattle.near_moves.specs.Near.{unit_moves};
 ghost use Rattle.near_legs.specs.Choices.{IsLegUnit, unit_of};
-ghost use Rattle.unit_notes.specs.Notes.{AreUnitNotes, AreUnitNotesAt, IsUnitOut, IsUnitOutByRows};
+ghost use Rattle.near_notes.specs.Notes.{AreUnitNotes, AreUnitNotesAt, IsUnitOut, IsUnitOutByRows};
 ghost use Rattle.near_search.specs.Noted.{AreUnitsNotedAt};
 
 use crate::noted::is_feasible;
-use day_notes::UnitNotes;
+use near_notes::UnitNotes;
 use desk_data::NoMem;
 use desk_eval::Evaluator;
-use near_later::later_unit_notes;
+use near_untouched::later_unit_notes;
 use near_legs::LegUnit;
 use std::alloc::Global;
 

@@ -12,9 +12,9 @@ use Rattle.near_moves.specs.Units.{MoveUnit, handed}
 use Rattle.near_moves.specs.Near.{unit_moves}
 use Rattle.near_moves.specs.Descent.{is_better}
 use Rattle.near_moves.proofs.ListLaws.{All_from_contains}
-use Rattle.near_chains.proofs.HandLaws.{handed_unit_in_vain}
-use Rattle.near_chains.proofs.SwapLaws.{swapped_in_vain}
-use Rattle.near_chains.proofs.RestoreLaws.{restored_in_vain}
+use Rattle.move_laws.proofs.HandLaws.{handed_unit_in_vain}
+use Rattle.move_laws.proofs.SwapLaws.{swapped_in_vain}
+use Rattle.move_laws.proofs.RestoreLaws.{restored_in_vain}
 use Rattle.near_units.specs.Steps.{unit_planes}
 use Rattle.near_units.specs.Out.{IsOut, dear, breaks, swaps, restores, hands}
 use Rattle.near_units.proofs.OwnLaws.{breaks-worse}

@@ -19,9 +19,9 @@ use Rattle.desk_rules.proofs.LegLaws.{keeps_c2-from, keeps_c4-from, keeps_c7-fro
 use Rattle.desk_model.specs.Steps.{after_steps, after_move}
 use Rattle.near_moves.specs.MoveParts.{flier}
 use Rattle.near_moves.specs.Descent.{is_better}
-use Rattle.near_chains.proofs.KeptLaws.{steps-append, broken-worse}
-use Rattle.near_trial.specs.RowRules.{keeps_rows}
-use Rattle.near_trial.proofs.RowLaws.{steps-rows}
+use Rattle.move_laws.proofs.KeptLaws.{steps-append, broken-worse}
+use Rattle.move_laws.specs.RowRules.{keeps_rows}
+use Rattle.move_laws.proofs.RowLaws.{steps-rows}
 use Rattle.near_units.specs.Same.{FliesSame, is_of, IsOwn, AgreeOn}
 use Rattle.near_units.specs.Steps.{is_among, is_tidying, IsSplit}
 use Rattle.near_units.specs.Room.{HaveSameRoom, AreMadeAlike}

@@ -14,7 +14,7 @@ use Rattle.desk_rules.specs.Words.{Flies}
 use Rattle.desk_rules.proofs.MaintenanceLaws.{flies-from}
 use Rattle.desk_model.specs.Push.{rotation}
 use Rattle.near_moves.specs.MoveParts.{flier, legs_from, run}
-use Rattle.near_chains.specs.Chains.{from_airport, to_airport, led, stand, stand_before, run_leads_to, IsHandedInVain, IsSwappedInVain, IsRestoredInVain}
+use Rattle.move_laws.specs.Chains.{from_airport, to_airport, led, stand, stand_before, run_leads_to, IsHandedInVain, IsSwappedInVain, IsRestoredInVain}
 use Rattle.near_units.specs.Same.{FliesSame}
 use Rattle.near_units.proofs.PlaneLaws.{filter-same, row-same, rotation-same, rotation-rows, from-same}
 

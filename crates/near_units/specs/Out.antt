@@ -11,7 +11,7 @@ use Rattle.desk_rules.specs.Cost.{cost}
 use Rattle.desk_model.specs.Steps.{after_move}
 use Rattle.near_moves.specs.MoveParts.{leg, plane, minute, flown_row}
 use Rattle.near_moves.specs.Units.{MoveUnit, handed}
-use Rattle.near_chains.specs.Chains.{keeps_aircraft, IsHandedInVain, IsSwappedInVain, IsRestoredInVain}
+use Rattle.move_laws.specs.Chains.{keeps_aircraft, IsHandedInVain, IsSwappedInVain, IsRestoredInVain}
 use Rattle.near_units.specs.Steps.{unit_planes, unit_legs}
 use Rattle.near_units.specs.Own.{BreaksOwn}
 

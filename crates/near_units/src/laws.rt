@@ -13,7 +13,7 @@ ghost use Rattle.desk_model.specs.Steps.{after_steps};
 ghost use Rattle.near_moves.specs.Descent.{is_better};
 ghost use Rattle.near_moves.specs.Near.{unit_moves};
 ghost use Rattle.near_moves.specs.Units.{MoveUnit};
-ghost use Rattle.near_chains.specs.Chains.{IsHandedInVain, IsRestoredInVain, IsSwappedInVain};
+ghost use Rattle.move_laws.specs.Chains.{IsHandedInVain, IsRestoredInVain, IsSwappedInVain};
 ghost use Rattle.near_units.specs.Same.{AgreeOn, FliesSame, FlyUnitSame};
 ghost use Rattle.near_units.specs.Steps.{BeginsFlown, IsSplit, is_among, unit_legs, unit_planes, unit_refills};
 ghost use Rattle.near_units.specs.Room.{AreMadeAlike, HaveSameRoom};

@@ -24,7 +24,7 @@ use Rattle.near_moves.specs.Units.{restored}
 use Rattle.near_moves.proofs.ListLaws.{contains_filter, numbers_each, filter_yes, filter_no}
 use Rattle.near_units.specs.Steps.{unit_restores}
 use Rattle.near_units.proofs.FrameLaws.{count-weaker, count-split}
-use Rattle.near_dearer.specs.Planes.{IsUntouchedAgain}
+use Rattle.near_untouched.specs.Planes.{IsUntouchedAgain}
 use Rattle.near_untouched.specs.Marks.{is_marked, AreChanged, HoldsOf}
 use Rattle.near_untouched.specs.Hours.{margin}
 use Rattle.near_untouched.specs.Legs.{AreLegsTold, IsUntouchedLeg}

@@ -10,7 +10,7 @@ use Rattle.desk_data.specs.Situation.{Situation}
 use Rattle.desk_data.specs.PlanRows.{PlanRows, groups_at}
 use Rattle.near_moves.proofs.ListLaws.{any_holds, any_from}
 use Rattle.near_units.specs.Room.{count_from, count_to}
-use Rattle.near_dearer.specs.Planes.{is_on, AreUntouchedLegs}
+use Rattle.near_untouched.specs.Planes.{is_on, AreUntouchedLegs}
 use Rattle.near_untouched.specs.Hours.{margin}
 use Rattle.near_untouched.specs.Passengers.{is_just}
 use Rattle.near_untouched.specs.Legs.{IsUntouchedLeg}

@@ -1,3 +1,8 @@
+pub mod AloneLaws
+pub mod SameLaws
+pub mod DearerLaws
+pub mod OutLaws
+pub mod UntouchedLaws
 pub mod MarkLaws
 pub mod RoomLaws
 pub mod PassengerLaws
@@ -6,3 +11,10 @@ pub mod CountLaws
 pub mod HandLaws
 pub mod AgainLaws
 pub mod PlaneLaws
+pub mod TouchLaws
+pub mod RowOutLaws
+pub mod SameRowLaws
+pub mod LaterLaws
+mod CarriedLaws
+mod SamePlanLaws
+mod HourLaws

@@ -8,7 +8,7 @@ use Rattle.desk_data.specs.PlanRows.{PlanRows, row_at}
 use Rattle.desk_data.specs.Valid.{IsPlanFor}
 use Rattle.desk_rules.specs.Maintenance.{flies, is_flown_by}
 use Rattle.hour_counts.specs.declared.slot.Movement.TheVariants.{Departure, Arrival}
-use Rattle.near_dearer.specs.Planes.{IsUntouchedPlane}
+use Rattle.near_untouched.specs.Planes.{IsUntouchedPlane}
 use Rattle.near_untouched.specs.Marks.{is_marked, AreKept, HoldsOf, IsFlierMarked}
 use Rattle.near_untouched.specs.Hours.{margin, HasFew}
 use Rattle.near_untouched.specs.Legs.{AreLegsTold}

@@ -8,7 +8,7 @@ use Rattle.desk_data.specs.PlanRows.{PlanRows}
 use Rattle.desk_rules.specs.Numbers.{numbers}
 use Rattle.near_moves.specs.LegMoves.{back_within}
 use Rattle.near_moves.specs.MoveParts.{is_restorable}
-use Rattle.near_dearer.specs.Planes.{IsUntouchedAgain}
+use Rattle.near_untouched.specs.Planes.{IsUntouchedAgain}
 use Rattle.near_untouched.specs.Marks.{HoldsOf, is_marked}
 use Rattle.near_untouched.specs.Hours.{margin}
 

@@ -1,4 +1,8 @@
-pub use Rattle.near_dearer.specs.Planes
+pub use Rattle.near_notes.specs.Notes
+pub mod Alone
+pub mod Dearer
+pub mod UntouchedUnits
+pub mod Planes
 pub mod Marks
 pub mod Hours
 pub mod Passengers
@@ -6,4 +10,6 @@ pub mod Legs
 pub mod Counts
 pub mod Positions
 pub mod Again
-pub mod Untouched
+pub mod UntouchedLegs
+pub mod Later
+pub mod Carried

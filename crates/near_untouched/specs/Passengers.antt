@@ -7,8 +7,8 @@ use Rattle.desk_units.specs.declared.numbers.Cabin.{Cabin}
 use Rattle.desk_data.specs.Booked.{booked_path}
 use Rattle.desk_data.specs.Situation.{Situation, reservations_of}
 use Rattle.desk_data.specs.PlanRows.{PlanRows, row_at, groups_at}
-use Rattle.near_dearer.specs.Dearer.{IsSameReservation, is_booked_on, HasSameSeats}
-use Rattle.near_dearer.specs.Planes.{is_on}
+use Rattle.near_untouched.specs.Dearer.{IsSameReservation, is_booked_on, HasSameSeats}
+use Rattle.near_untouched.specs.Planes.{is_on}
 use Rattle.near_untouched.specs.Marks.{is_marked, AreLegsMarked, ArePathsMarked}
 
 -- reservation r has the same groups in both plans, or the legs of their paths in both are marked

@@ -5,7 +5,7 @@ ghost use Rattle.desk_data.specs.Situation.{legs_of, planes_of};
 ghost use Rattle.desk_data.specs.Valid.{IsPlanFor};
 ghost use Rattle.near_untouched.specs.Legs.{AreLegsTold};
 ghost use Rattle.near_untouched.specs.Marks.{AreChanged, AreKept, IsFlierMarked, is_marked};
-ghost use Rattle.near_untouched.specs.Untouched.{ArePlanesTold};
+ghost use Rattle.near_untouched.specs.UntouchedLegs.{ArePlanesTold};
 
 use crate::counts::touch_many;
 use crate::marks::unmarked;

@@ -2,7 +2,7 @@
 
 ghost use Rattle.std.specs.Prelude.{IfOk};
 ghost use Rattle.desk_data.specs.Valid.{IsPlanFor};
-ghost use Rattle.near_untouched.specs.Untouched.{AreUntouched};
+ghost use Rattle.near_untouched.specs.UntouchedLegs.{AreUntouched};
 
 use crate::again::touched_again;
 use crate::changed::changed_legs;

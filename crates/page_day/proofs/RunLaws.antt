@@ -3,10 +3,10 @@ use Rattle.std.proofs.Common.{◌≡◌, false}
 use Rattle.std.specs.Prelude.{Result, Ok, Err}
 use Rattle.desk_text.specs.Rows.{◌>>=◌}
 use Rattle.desk_words.specs.declared.asked.Command.TheVariants as command_is
-use Rattle.desk_runs.specs.declared.refusal.Refusal.{Refusal}
-use Rattle.desk_runs.specs.declared.ending.Ending.{Ending}
-use Rattle.desk_runs.specs.declared.ending.Ending.TheVariants as ending
-use Rattle.desk_runs.specs.Inputs.{Inputs}
+use Rattle.desk_tasks.specs.declared.refusal.Refusal.{Refusal}
+use Rattle.desk_tasks.specs.declared.ending.Ending.{Ending}
+use Rattle.desk_tasks.specs.declared.ending.Ending.TheVariants as ending
+use Rattle.desk_tasks.specs.Inputs.{Inputs}
 use Rattle.desk_tasks.specs.Judge.{Judged}
 use Rattle.desk_tasks.specs.Tasks.{Task, judge}
 use Rattle.desk_story.specs.Story.{Rows, rows_of, judged_of_rows, task_of_rows, task_of}

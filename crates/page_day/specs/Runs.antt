@@ -7,10 +7,10 @@ use Rattle.desk_data.specs.Situation.{Situation}
 use Rattle.desk_data.specs.PlanRows.{PlanRows}
 use Rattle.desk_rules.specs.Least.{least}
 use Rattle.desk_words.specs.declared.asked.Command.TheVariants as command_is
-use Rattle.desk_runs.specs.Inputs.{Inputs}
-use Rattle.desk_runs.specs.Reading.{StandsFirst}
-use Rattle.desk_runs.specs.declared.ending.Ending.{Ending}
-use Rattle.desk_runs.specs.declared.ending.Ending.TheVariants as ending
+use Rattle.desk_tasks.specs.Inputs.{Inputs}
+use Rattle.desk_tasks.specs.Reading.{StandsFirst}
+use Rattle.desk_tasks.specs.declared.ending.Ending.{Ending}
+use Rattle.desk_tasks.specs.declared.ending.Ending.TheVariants as ending
 use Rattle.desk_tasks.specs.Judge.{Judged}
 use Rattle.desk_tasks.specs.Tasks.{judge}
 use Rattle.desk_story.specs.Story.{rows_of, task_of}

@@ -23,7 +23,7 @@
 //!
 //! Proved: which files are read, and that none is written; that the input is refused just as `check` refuses it; that the run
 //! ends with `Done` where the plan breaks no rule and with `BrokenRule` where it breaks one, and that then a page was put. What
-//! stands on the page is proved part by part, in page_parts; where it stands is not.
+//! stands on the page is proved in page_parts: the terms of a cost, what changed, and that text is escaped; where it stands is not.
 #![tactic(auto)]
 
 mod airports;
@@ -39,7 +39,7 @@ mod shades;
 mod style;
 mod words;
 
-pub use desk_runs::{Ending, fault_text};
+pub use desk_tasks::{Ending, fault_text};
 pub use file::PageFile;
 pub use picture::{Picture, put_picture};
 pub use run::page_day;

@@ -3,9 +3,9 @@
 ghost use Rattle.std.specs.Prelude.{◌≡◌, ◌≢◌, ◌≤◌, false, IfSome, IfNone};
 ghost use Rattle.desk_data.specs.Valid.{IsPlanFor};
 ghost use Rattle.desk_words.specs.declared.asked.Command.TheVariants as command_is;
-ghost use Rattle.desk_runs.specs.Commands.{files_read};
-ghost use Rattle.desk_runs.specs.Inputs.{Inputs, Tells};
-ghost use Rattle.desk_runs.specs.Reading.{ReadsAmong};
+ghost use Rattle.desk_tasks.specs.Commands.{files_read};
+ghost use Rattle.desk_tasks.specs.Inputs.{Inputs, Tells};
+ghost use Rattle.desk_tasks.specs.Reading.{ReadsAmong};
 ghost use Rattle.desk_story.specs.Facts.{CanBeDone, as_judged, as_task};
 ghost use Rattle.desk_tasks.specs.Judge.{Judged, verdict_end};
 ghost use Rattle.desk_tasks.specs.Tasks.{judge};
@@ -13,11 +13,10 @@ ghost use Rattle.page_day.specs.Runs.{IsVerdict, PutsPage, Shows};
 
 use crate::made::made_page;
 use desk_data::{Broken, Instance, Plan};
-use desk_folder::{Folder, FolderFault, Sink};
-use desk_runs::Ending;
+use desk_folder::{Folder, FolderFault, Sink, put_report};
+use desk_tasks::Ending;
 use desk_story::{InputPlan, InputTask, read_task};
 use desk_words::Command;
-use folder_io::put_report;
 use std::alloc::Global;
 
 // The day and the plan of a task that judges one.

@@ -5,11 +5,11 @@ use Rattle.desk_data.specs.declared.row.Row.{Row}
 use Rattle.desk_data.specs.declared.row.Row.TheVariants.{Flown, Cancelled}
 use Rattle.desk_data.specs.PlanRows.{PlanRows, row_at}
 use Rattle.desk_rules.specs.Numbers.{numbers}
-use Rattle.page_parts.specs.declared.legs.Shift.{Shift}
-use Rattle.page_parts.specs.declared.legs.Shift.TheVariants as shift_is
-use Rattle.page_parts.specs.declared.legs.LegChange.{LegChange}
-use Rattle.page_parts.specs.declared.legs.LegChange.TheVariants as change
-use Rattle.page_parts.specs.declared.legs.ChangedLeg.{ChangedLeg}
+use Rattle.page_parts.specs.declared.leg_changes.Shift.{Shift}
+use Rattle.page_parts.specs.declared.leg_changes.Shift.TheVariants as shift_is
+use Rattle.page_parts.specs.declared.leg_changes.LegChange.{LegChange}
+use Rattle.page_parts.specs.declared.leg_changes.LegChange.TheVariants as change
+use Rattle.page_parts.specs.declared.leg_changes.ChangedLeg.{ChangedLeg}
 
 -- by how many minutes a departure is earlier or later than it was
 abbrev pub shift : ℕ → ℕ → Shift

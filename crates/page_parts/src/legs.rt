@@ -1,133 +1,204 @@
-//! The legs that changed.
+//! The legs that changed, worst first.
 
-ghost use Rattle.std.specs.Prelude.{◌≡◌, ◌<◌, ◌++◌, IfOk, OnOk};
+ghost use Rattle.std.specs.Prelude.{◌<◌};
 ghost use Rattle.desk_data.specs.Situation.{legs_of};
 ghost use Rattle.desk_data.specs.Valid.{IsPlanFor};
-ghost use Rattle.page_parts.specs.Legs.{changed_leg, changed_legs, leg_change, same_row, shift};
 
-use desk_data::{Instance, Leg, Minute, NoMem, Plan, Row};
+use desk_data::{Instance, Leg, LegInfo, Minute, NoMem, Plan, Plane, Row};
+use crate::{
+    ChangedLeg, LegChange, Page, Part, Shift, airport_name, date, leg_of, plane_name, put_time,
+};
 use std::alloc::Global;
 
-/// By how many minutes a leg departs earlier or later than before.
-#[derive(Clone, Copy, PartialEq, Eq)]
-pub enum Shift {
-    /// By so many minutes, at least one.
-    Earlier(u32),
-    Same,
-    /// By so many minutes, at least one.
-    Later(u32),
+// How bad a change is: the least stands first. Cancelled legs come before the others, then those that are shifted most, then
+// those with most passengers, then the leg with the lesser number.
+#[derive(Clone, Copy, PartialEq, Eq, PartialOrd, Ord)]
+struct Rank {
+    kind: u32,
+    unshifted: u32,
+    unfilled: u32,
+    leg: u32,
 }
 
-/// What became of a leg.
-#[derive(Clone, Copy, PartialEq, Eq)]
-pub enum LegChange {
-    /// It was flown, and is cancelled.
-    Cancelled,
-    /// It was cancelled, and is flown.
-    Restored,
-    /// It is flown at another time, or by another aircraft (`swapped`), or both.
-    Moved { shift: Shift, swapped: bool },
+// How many minutes a leg is shifted.
+fn minutes_of(shift: Shift) -> u32 {
+    match shift {
+        Shift::Earlier(minutes) | Shift::Later(minutes) => minutes,
+        Shift::Same => 0,
+    }
 }
 
-/// A leg that changed.
-#[derive(Clone, Copy)]
-pub struct ChangedLeg {
-    /// The leg, by its number.
-    pub leg: Leg,
-    /// What became of it.
-    pub change: LegChange,
+// How many passengers are aboard a leg.
+fn aboard_of(aboard: &[u32], leg: Leg) -> u32 {
+    match aboard.get(leg.0 as usize) {
+        Some(count) => *count,
+        None => 0,
+    }
 }
 
-// By how many minutes a departure is earlier or later than it was.
-fn shift_between(was: Minute, now: Minute) -> Shift
-    ensures { result ≡ shift was.0 now.0 }
-{
+// The rank of a changed leg.
+fn rank_of(aboard: &[u32], changed: &ChangedLeg) -> Rank {
+    let (kind, minutes) = match changed.change {
+        LegChange::Cancelled => (0, 0),
+        LegChange::Moved { shift, .. } => (1, minutes_of(shift)),
+        LegChange::Restored => (2, 0),
+    };
+    Rank {
+        kind,
+        unshifted: u32::MAX - minutes,
+        unfilled: u32::MAX - aboard_of(aboard, changed.leg),
+        leg: changed.leg.0,
+    }
+}
+
+// The changed legs by their numbers, worst first.
+fn in_order(alloc: Global, aboard: &[u32], legs: &[ChangedLeg]) -> Result<Vec<Rank>, NoMem> {
+    let mut ranks = Vec::with_capacity(alloc, legs.len())?;
+    for changed in legs {
+        ranks.push(rank_of(aboard, changed))?;
+    }
+    ranks.sort()?;
+    Ok(ranks)
+}
+
+// Puts when a leg departs and arrives.
+fn put_times(page: &mut Page, info: &LegInfo, dep: Minute) -> Result<(), NoMem> {
+    put_time(page, dep, info.day)?;
+    page.put(&[Part::Own("&#8211;")])?;
+    put_time(page, Minute(dep.0.saturating_add(info.block)), info.day)
+}
+
+// Puts by how much a leg is shifted.
+fn put_shift(page: &mut Page, was: Minute, now: Minute) -> Result<(), NoMem> {
     if now.0 < was.0 {
-        Shift::Earlier(was.0 - now.0)
-    } else if was.0 < now.0 {
-        Shift::Later(now.0 - was.0)
-    } else {
-        Shift::Same
+        return page.put(&[Part::Own("&#8722;"), Part::Number(u64::from(was.0 - now.0))]);
     }
-}
-
-// Whether two rows are the same.
-fn same_row(was: Row, now: Row) -> bool
-    ensures { result ≡ same_row was now }
-{
-    match was {
-        Row::Flown { plane, dep } => match now {
-            Row::Flown {
-                plane: other,
-                dep: at,
-            } => plane.0 == other.0 && dep.0 == at.0,
-            Row::Cancelled => false,
-        },
-        Row::Cancelled => match now {
-            Row::Flown { .. } => false,
-            Row::Cancelled => true,
-        },
+    if was.0 < now.0 {
+        return page.put(&[Part::Own("+"), Part::Number(u64::from(now.0 - was.0))]);
     }
-}
-
-// What became of a leg.
-fn leg_change(was: Row, now: Row) -> LegChange
-    ensures { result ≡ leg_change was now }
-{
-    match was {
-        Row::Flown { plane, dep } => match now {
-            Row::Flown {
-                plane: other,
-                dep: at,
-            } => LegChange::Moved {
-                shift: shift_between(dep, at),
-                swapped: plane.0 != other.0,
-            },
-            Row::Cancelled => LegChange::Cancelled,
-        },
-        Row::Cancelled => LegChange::Restored,
-    }
-}
-
-// Adds a leg, if its row is another one.
-fn push_changed(
-    out: &mut Vec<ChangedLeg>,
-    inst: &Instance,
-    before: &Plan,
-    now: &Plan,
-    leg: Leg,
-) -> Result<(), NoMem>
-    requires before { IsPlanFor inst.now before.now }
-    requires plan { IsPlanFor inst.now now.now }
-    requires leg { leg.0 < legs_of inst.now }
-    ensures { OnOk result (out.new.items ≡ out.old.items ++ changed_leg before.now now.now leg.0) }
-{
-    let was = before.read_row(leg);
-    let is = now.read_row(leg);
-    if same_row(was, is) {
-        return Ok(());
-    }
-    out.push(ChangedLeg {
-        leg,
-        change: leg_change(was, is),
-    })?;
     Ok(())
 }
 
-/// The legs whose row in the second plan is not that of the first, in their order. The only error is out of memory.
-pub fn changed_legs(
+// Puts what became of a leg: its times, by how many minutes they are shifted, and its aircraft.
+fn put_row_of(page: &mut Page, inst: &Instance, info: &LegInfo, row: Row) -> Result<(), NoMem> {
+    match row {
+        Row::Cancelled => page.put(&[
+            Part::Own("<td class=\"bad\">cancelled</td><td></td><td>"),
+            Part::Given(plane_name(inst, info.plane)),
+        ])?,
+        Row::Flown { plane, dep } => {
+            page.put(&[Part::Own("<td>")])?;
+            put_times(page, info, dep)?;
+            page.put(&[Part::Own("</td><td class=\"r\">")])?;
+            put_shift(page, info.sched, dep)?;
+            page.put(&[
+                Part::Own("</td><td>"),
+                Part::Given(plane_name(inst, info.plane)),
+            ])?;
+            put_other(page, inst, info.plane, plane)?;
+        }
+    }
+    page.put(&[Part::Own("</td>")])
+}
+
+// Puts the aircraft that flies a leg, where it is another one.
+fn put_other(page: &mut Page, inst: &Instance, was: Plane, now: Plane) -> Result<(), NoMem> {
+    if was.0 == now.0 {
+        return Ok(());
+    }
+    page.put(&[
+        Part::Own(" &#8594; <b>"),
+        Part::Given(plane_name(inst, now)),
+        Part::Own("</b>"),
+    ])
+}
+
+// Puts the flight of a leg, which leads to its bar in the picture.
+fn put_flight(page: &mut Page, leg: Leg, info: &LegInfo) -> Result<(), NoMem> {
+    page.put(&[
+        Part::Own("<tr><th scope=\"row\"><a href=\"#leg"),
+        Part::Number(u64::from(leg.0)),
+        Part::Own("\">"),
+        Part::Given(info.flight.as_slice()),
+        Part::Own("</a></th><td class=\"was\">"),
+    ])
+}
+
+// Puts the date of a flight, whose day is counted from 2000-01-01, and where the leg leaves and arrives.
+fn put_route(page: &mut Page, inst: &Instance, info: &LegInfo) -> Result<(), NoMem> {
+    let day = date(Minute(info.day.saturating_mul(1_440)));
+    page.put(&[
+        Part::Given(&day),
+        Part::Own("</td><td>"),
+        Part::Given(airport_name(inst, info.origin)),
+        Part::Own("&#8211;"),
+        Part::Given(airport_name(inst, info.dest)),
+    ])
+}
+
+// Puts how many passengers are aboard.
+fn put_aboard(page: &mut Page, aboard: u32) -> Result<(), NoMem> {
+    page.put(&[
+        Part::Own("</td><td class=\"r\">"),
+        Part::Number(u64::from(aboard)),
+        Part::Own("</td><td class=\"was\">"),
+    ])
+}
+
+// Puts a leg.
+fn put_leg(
+    page: &mut Page,
+    inst: &Instance,
+    plan: &Plan,
+    aboard: &[u32],
+    leg: Leg,
+) -> Result<(), NoMem>
+    requires plan { IsPlanFor inst.now plan.now }
+{
+    let Some(info) = leg_of(inst, leg) else {
+        return Ok(());
+    };
+    put_flight(page, leg, info)?;
+    put_route(page, inst, info)?;
+    put_aboard(page, aboard_of(aboard, leg))?;
+    put_times(page, info, info.sched)?;
+    page.put(&[Part::Own("</td>")])?;
+    if leg.0 < inst.legs() {
+        put_row_of(page, inst, info, plan.read_row(leg))?;
+    }
+    page.put(&[Part::Own("</tr>\n")])
+}
+
+/// Puts the legs whose row is not the scheduled one: the cancelled ones, then those that are shifted most. How many passengers
+/// are aboard each leg of the day is handed in, by its number.
+pub fn put_legs(
+    page: &mut Page,
     alloc: Global,
     inst: &Instance,
-    before: &Plan,
-    now: &Plan,
-) -> Result<Vec<ChangedLeg>, NoMem>
-    requires before { IsPlanFor inst.now before.now }
-    requires plan { IsPlanFor inst.now now.now }
-    ensures { IfOk result (λ list. list.items ≡ changed_legs before.now now.now (legs_of inst.now)) }
+    plan: &Plan,
+    aboard: &[u32],
+    legs: &[ChangedLeg],
+) -> Result<(), NoMem>
+    requires plan { IsPlanFor inst.now plan.now }
 {
-    let mut out = Vec::new(alloc);
-    for x in 0..inst.legs() {
-        push_changed(&mut out, inst, before, now, Leg(x))?;
+    page.put(&[
+        Part::Own("<section><h2>Changed legs <small>"),
+        Part::Number(legs.len() as u64),
+        Part::Own(", worst first</small></h2>\n"),
+    ])?;
+    if legs.is_empty() {
+        return page.put(&[Part::Own(
+            "<p class=\"none\">Each leg is flown as scheduled.</p></section>\n",
+        )]);
     }
-    Ok(out)
+    page.put(&[Part::Own(
+        "<table class=\"t\"><thead><tr><th scope=\"col\">Flight</th><th scope=\"col\">Date</th>\
+<th scope=\"col\">Route</th><th scope=\"col\" class=\"r\">Aboard</th><th scope=\"col\">Scheduled</th>\
+<th scope=\"col\">Recovered</th><th scope=\"col\" class=\"r\">Minutes</th><th scope=\"col\">Aircraft</th></tr></thead>\n<tbody>\n",
+    )])?;
+    let ranks = in_order(alloc, aboard, legs)?;
+    for rank in ranks.iter() {
+        put_leg(page, inst, plan, aboard, Leg(rank.leg))?;
+    }
+    page.put(&[Part::Own("</tbody></table></section>\n")])
 }

@@ -1,6 +1,10 @@
+//! The page of a recovered day: its parts and its tables.
+//!
+//! # Parts
+//!
 //! What the page of a recovered day is made of: text, moments, names and money on a page, what changed between two plans, and the terms of a cost.
 //!
-//! # Text
+//! ## Text
 //!
 //! Text on a page: what stands on a page of HTML, and how names from files come there.
 //!
@@ -16,7 +20,7 @@
 //! `escaped_text_marks_nothing_up`, none of the five bytes `<`, `>`, `&`, `"` and `'` is in escaped text but as a part of an
 //! entity.
 //!
-//! # Moments, names and money
+//! ## Moments, names and money
 //!
 //! Moments, names and sums of money as they are read on a page.
 //!
@@ -28,7 +32,7 @@
 //! A moment that is past the year 2099 reads as its last day. `plane_name` and the like give the name of a number of the day,
 //! and no name for a number that it has not. Proved: what sums are rounded to.
 //!
-//! # What changed
+//! ## What changed
 //!
 //! What changed between two plans for a day: legs and passengers.
 //!
@@ -40,7 +44,7 @@
 //! Proved: both lists are those of the definitions in `specs/`, in the order of legs and of reservations; and by the law
 //! `legs_are_told_where_rows_differ`, that a leg is told of just where its row is another one.
 //!
-//! # The terms of a cost
+//! ## The terms of a cost
 //!
 //! The six terms of a plan's cost, each by itself.
 //!
@@ -50,27 +54,50 @@
 //!
 //! Proved: each is its term of the definition of the cost, and their sum is the cost. It takes no memory. What a group costs
 //! in all, and a plan, is asked of `full_cost`; legal and position are what is left of these.
+//!
+//! # Tables
+//!
+//! The tables of a recovered day: how it stands in a few words, what it costs term by term, which legs changed and which
+//! passengers.
+//!
+//! `Findings` is what the tables tell: the plan beside the schedule. `put_facts`, `put_costs`, `put_legs` and `put_groups` each
+//! put one part on a page; the legs and the passengers stand worst first. docs/PAGE.md has each column.
+//!
+//! Nothing is proved of how the tables are laid out but that the calls are safe and return: what they tell is proved where it
+//! is found, in `cost_terms`, `changed_legs`, `changed_groups` and `full_check`, and all text goes through `Page`.
 #![tactic(auto)]
 
 mod amounts;
 mod change_laws;
+mod costs;
 mod escape;
+mod facts;
+mod findings;
 mod group_changes;
 mod groups;
 mod laws;
+mod leg_changes;
 mod legs;
 mod money;
 mod names;
 mod page;
+mod passenger_terms;
+mod style;
 mod terms;
 mod times;
 
 pub use change_laws::legs_are_told_where_rows_differ;
+pub use costs::put_costs;
+pub use facts::put_facts;
+pub use findings::Findings;
 pub use group_changes::{ChangedGroup, Fate, changed_groups};
+pub use groups::put_groups;
 pub use laws::escaped_text_marks_nothing_up;
-pub use legs::{ChangedLeg, LegChange, Shift, changed_legs};
+pub use leg_changes::{ChangedLeg, LegChange, Shift, changed_legs};
+pub use legs::put_legs;
 pub use money::{put_units, shown_term, ten_thousandths};
 pub use names::{airport_name, leg_of, plane_name, plane_of, res_of};
 pub use page::{Page, Part};
+pub use style::{TABLE_STYLE, put_footer};
 pub use terms::{CostTerms, cost_terms};
 pub use times::{clock, date, put_time};

@@ -6,7 +6,7 @@ ghost use Rattle.desk_data.specs.Valid.{IsPlanFor};
 ghost use Rattle.desk_rules.specs.Cost.{cancellation_cost, cost, delay_cost, downgrade_cost, grains, legal_cost, operating_cost, position_cost};
 
 use crate::amounts::PassengerTerm;
-use crate::groups::passenger_term;
+use crate::passenger_terms::passenger_term;
 use desk_data::{Grains, Instance, Leg};
 use full_cost::{flight_cost, full_cost};
 use plan_reads::ReadPlan;

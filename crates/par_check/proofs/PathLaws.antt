@@ -11,7 +11,7 @@ use Rattle.desk_rules.specs.Least.{breaks, each_cabin, each_res, least, least_pa
 use Rattle.desk_rules.proofs.FindLaws.{numbers_none}
 use Rattle.desk_rules.proofs.LeastLaws.{least-split}
 use Rattle.desk_data.specs.declared.broken.Broken.{Broken}
-use Rattle.rule_pax.proofs.ItemLaws.{least-by_rule}
+use Rattle.rule_checks.proofs.PassengerItemLaws.{least-by_rule}
 use Rattle.par_check.specs.Paths.{KeepPaths, first_of_paths, keeps_paths}
 
 none_c13 : (I : Situation) (P : PlanRows) → ((r : ℕ) → r < reservations_of I → keeps_c13 I P r ≡ true) → find (breaks I P) (each_res I C13) ≡ None

@@ -12,9 +12,7 @@ use crate::pieces::{Cuts, cuts_of};
 use desk_data::{Broken, Instance, NoMem, Plan};
 use full_check::full_check;
 use rayon::{current_num_threads, join};
-use rule_pax::{first_c12, least_pax};
-use rule_rot::least_rot;
-use rule_slots::{first_c10, first_c11};
+use rule_checks::{first_c10, first_c11, first_c12, least_pax, least_rot};
 use std::alloc::Global;
 use std::thread::Threads;
 

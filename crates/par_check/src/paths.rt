@@ -6,7 +6,7 @@ ghost use Rattle.desk_data.specs.Valid.{IsPlanFor};
 ghost use Rattle.par_check.specs.Paths.{KeepPaths, keeps_paths};
 
 use desk_data::{Instance, Plan, Res};
-use rule_pax::{keeps_c13, keeps_c14, keeps_c15};
+use rule_checks::{keeps_c13, keeps_c14, keeps_c15};
 
 /// Whether no reservation from one number on, before another, breaks C13, C14 or C15. Of numbers that are past the last
 /// reservation none is asked.

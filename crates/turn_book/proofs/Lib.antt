@@ -8,3 +8,5 @@ pub mod Forks
 pub mod Chains
 pub mod Closing
 pub mod Wording
+pub mod Lists
+pub mod SplitLaws

@@ -6,3 +6,4 @@ pub mod Rule
 pub mod InWords
 pub mod Seats
 pub mod Passes
+pub mod SplitPasses

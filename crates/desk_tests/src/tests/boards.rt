@@ -9,9 +9,7 @@ use board_slots::SlotBoard;
 use desk_data::{Instance, NoMem, Plan};
 use full_cost::full_cost;
 use plan_pages::Pages;
-use rule_pax::least_pax;
-use rule_rot::least_rot;
-use rule_slots::least_slots;
+use rule_checks::{least_pax, least_rot, least_slots};
 use std::alloc::Global;
 
 impl Walkable for RotBoard {

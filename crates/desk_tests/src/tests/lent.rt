@@ -1,9 +1,8 @@
 //! The board of the cost, to which somebody lends who uses each leg.
 
 use board_cost::CostBoard;
-use board_kit::Board;
+use board_kit::{Board, LegUsers};
 use desk_data::{Group, Instance, Leg, NoMem, Res, Row, Steps};
-use leg_users::LegUsers;
 use plan_pages::Pages;
 use std::alloc::Global;
 use std::sync::ledger::Ledger;
@@ -28,7 +27,7 @@ impl Drop for LentCostBoard {
 impl Board for LentCostBoard {
     ghost use Rattle.std.specs.Prelude.{◌+◌, ◌*◌, length};
     ghost use Rattle.desk_data.specs.PlanRows.{groups_at};
-    ghost use Rattle.leg_users.specs.Users.{users};
+    ghost use Rattle.board_kit.specs.Users.{users};
     ghost use Rattle.board_cost.specs.Board.{IsBoardOf};
     ghost use Rattle.desk_tests.specs.Walks.{IsCounted};
 

@@ -6,13 +6,12 @@ ghost use Rattle.desk_data.specs.Valid.{IsBatch};
 ghost use Rattle.desk_core.specs.Recorded.{Recorded};
 ghost use Rattle.live_board.specs.Histories.{opens};
 ghost use Rattle.live_board.specs.Words.{board_of, opening_log};
-ghost use Rattle.desk_board.specs.Posts.{HasTold};
-ghost use Rattle.desk_board.specs.Told.{told_to};
+ghost use Rattle.desk_core.specs.Posts.{HasTold};
+ghost use Rattle.desk_core.specs.Told.{told_to};
 
 use super::days::day_of;
 use super::texts::VIEWED;
-use desk_board::{BoardTelling, Posted, Sight};
-use desk_core::Book;
+use desk_core::{BoardTelling, Book, Posted, Sight};
 use desk_data::{Batch, Grains, Instance, Leg, List, Order};
 use desk_view::View;
 use live_board::{Naming, Opened, Viewer};

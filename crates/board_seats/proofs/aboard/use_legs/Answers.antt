@@ -4,8 +4,8 @@ use Rattle.std.proofs.lemmas.List.{take_all}
 use Rattle.desk_units.specs.declared.numbers.Leg.{Leg}
 use Rattle.desk_units.specs.declared.numbers.Cabin.{Cabin}
 use Rattle.desk_data.specs.declared.row.Group.{Group}
-use Rattle.leg_users.specs.Users.{has_leg, has_user}
-use Rattle.leg_users.proofs.UserLaws.{groups_more}
+use Rattle.board_kit.specs.Users.{has_leg, has_user}
+use Rattle.board_kit.proofs.UserLaws.{groups_more}
 use Rattle.board_seats.specs.Kept.{seen, summary_in}
 use Rattle.board_seats.proofs.EditLaws.{led_same, led_both}
 use Rattle.board_seats.proofs.ListLaws.{used_none}

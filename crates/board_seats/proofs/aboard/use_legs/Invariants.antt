@@ -1,6 +1,6 @@
 use Rattle.std.proofs.Common.{◌≡◌, ℕ, ◌&&◌, ◌||◌, ◌==◌, take}
 use Rattle.std.specs.List.{list_any}
-use Rattle.leg_users.specs.Users.{has_leg}
+use Rattle.board_kit.specs.Users.{has_leg}
 use Rattle.board_seats.specs.Summaries.{LedTo}
 use Rattle.board_seats.specs.Kept.{seen, summary_in}
 use Rattle.board_seats.proofs.aboard.use_legs.Given as goal

@@ -3,9 +3,9 @@ use Rattle.std.specs.declared.alloc.Global.{Global}
 use Rattle.std.specs.declared.vec.Vec.{Vec}
 use Rattle.desk_folder.specs.declared.files.File.{File}
 use Rattle.desk_folder.specs.Entries.{named_texts}
-use Rattle.desk_runs.specs.declared.ending.Ending.{Ending}
-use Rattle.desk_runs.specs.Runs.{world}
-use Rattle.desk_runs.specs.Finishing.{Completes}
+use Rattle.desk_tasks.specs.declared.ending.Ending.{Ending}
+use Rattle.desk_tasks.specs.Runs.{world}
+use Rattle.desk_tasks.specs.Finishing.{Completes}
 use Rattle.desk_tasks.specs.Crew.{crewed_verdict}
 use Rattle.desk_judge.proofs.JudgeLaws.{item-names, crewed_report-is, crewed-all, crewed-short}
 use Rattle.desk_judge.proofs.judge.judge_crews.Goals as goal

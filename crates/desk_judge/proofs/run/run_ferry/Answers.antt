@@ -2,11 +2,11 @@ use Rattle.std.proofs.Common.{List, [], ◌∷◌, sym, subst, refl}
 use Rattle.std.specs.Prelude.{IsTrue}
 use Rattle.desk_folder.specs.declared.files.File.{File}
 use Rattle.desk_folder.specs.declared.files.File.TheVariants.{SolAdded}
-use Rattle.folder_io.specs.Outputs.{are_different}
-use Rattle.desk_runs.specs.declared.ending.Ending.{Ending}
-use Rattle.desk_runs.specs.Finishing.{Completes}
-use Rattle.desk_runs.specs.Runs.{world}
-use Rattle.desk_runs.specs.Writing.{as_texts}
+use Rattle.desk_folder.specs.Outputs.{are_different}
+use Rattle.desk_tasks.specs.declared.ending.Ending.{Ending}
+use Rattle.desk_tasks.specs.Finishing.{Completes}
+use Rattle.desk_tasks.specs.Runs.{world}
+use Rattle.desk_tasks.specs.Writing.{as_texts}
 use Rattle.desk_tasks.specs.Ferry.{ferry_outcome}
 use Rattle.desk_judge.proofs.FerryTexts.{one_file, ferried-all, ferried-short}
 use Rattle.desk_judge.proofs.run.run_ferry.Goals as goal

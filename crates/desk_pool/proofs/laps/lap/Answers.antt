@@ -2,7 +2,7 @@ use Rattle.std.proofs.Common.{◌≡◌, ℕ, ◌<◌, get_or, length, sym, ap, 
 use Rattle.std.specs.Prelude.{Some, IsSome, Option}
 use Rattle.std.proofs.lemmas.List.{get_or_default}
 use Rattle.turn_book.specs.Passes.{known, seen}
-use Rattle.pass_laws.specs.SplitPasses.{AreSplit}
+use Rattle.turn_book.specs.SplitPasses.{AreSplit}
 use Rattle.desk_model.specs.States.{opening}
 use Rattle.desk_model.specs.Histories.{IsLegal}
 use Rattle.desk_core.proofs.TurnedLaws.{desk_legal}

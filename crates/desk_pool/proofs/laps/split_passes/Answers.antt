@@ -3,7 +3,7 @@ use mathlib.Core.List.{IsPrefix}
 use Rattle.turn_book.specs.Passes.{first_book, known, seen}
 use Rattle.turn_book.specs.Knowing.{tags_at}
 use Rattle.turn_book.proofs.Prefixes.{prefix_self}
-use Rattle.pass_laws.proofs.SplitLaws.{split_more, next_child}
+use Rattle.turn_book.proofs.SplitLaws.{split_more, next_child}
 use Rattle.desk_model.specs.declared.answer.Entry.{Entry}
 use Rattle.desk_pool.specs.declared.searcher.Searcher.{Searcher}
 use Rattle.desk_pool.specs.Rounds.{IsReady}

@@ -1,6 +1,6 @@
 use Rattle.std.proofs.Common.{◌≡◌, ℕ, ◌<◌, length, get_or}
 use Rattle.turn_book.specs.Passes.{known, IsPassOf}
-use Rattle.pass_laws.specs.SplitPasses.{AreSplit}
+use Rattle.turn_book.specs.SplitPasses.{AreSplit}
 use Rattle.desk_core.specs.Turned.{opening_of}
 use Rattle.desk_pool.specs.Workers.{HasPass, IsSameWorker}
 use Rattle.desk_pool.proofs.laps.split_passes.Given as goal

@@ -3,10 +3,10 @@ use Rattle.std.specs.Prelude.{Result, Ok, Err, OnOk, IfErr}
 use Rattle.desk_folder.specs.declared.files.File.{File}
 use Rattle.desk_story.specs.declared.rows.InputRows.{InputRows}
 use Rattle.desk_story.specs.declared.fault.StoryFault.{StoryFault}
-use Rattle.folder_io.specs.Outputs.{is_among}
-use Rattle.desk_runs.specs.Inputs.{Tells}
+use Rattle.desk_folder.specs.Outputs.{is_among}
+use Rattle.desk_tasks.specs.Inputs.{Tells}
 use Rattle.desk_story.specs.Story.{read_all}
-use Rattle.desk_runs.specs.Reading.{IsRead, ReadsAmong}
+use Rattle.desk_tasks.specs.Reading.{IsRead, ReadsAmong}
 use Rattle.desk_story.specs.Reading.{are_in_order, StopsAtFault, GivesRead, HasReadCause}
 use Rattle.desk_story.specs.Facts.{as_rows}
 use Rattle.desk_story.proofs.Chain.{tells-rest, tells-first, exact-rest, exact-first, all-read, reads-first, reads-rest, order-first, order-rest, stops-first, stops-rest}

@@ -1,5 +1,5 @@
 use Rattle.desk_folder.specs.Entries.{named_texts}
-use Rattle.desk_runs.specs.Runs.{world}
+use Rattle.desk_tasks.specs.Runs.{world}
 use Rattle.desk_top.proofs.Written.{made, made-is, made-differ, made-all, made-short}
 use Rattle.desk_top.proofs.day.write_day.Goals as goal
 

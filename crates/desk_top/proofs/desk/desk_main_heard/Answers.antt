@@ -7,11 +7,11 @@ use Rattle.desk_folder.specs.Outside.{Directories}
 use Rattle.desk_words.specs.declared.asked.Command.TheVariants as command_is
 use Rattle.desk_words.specs.Asked.{named}
 use Rattle.desk_words.specs.Commands.{Asking, command}
-use Rattle.desk_runs.specs.Commands.{asked_by, asks, asks_disk}
-use Rattle.desk_runs.specs.Inputs.{Inputs}
-use Rattle.desk_runs.specs.Reading.{IsUnread}
-use Rattle.desk_runs.specs.Runs.{world}
-use Rattle.desk_runs.proofs.PromisedLaw.{runs-as-promised}
+use Rattle.desk_tasks.specs.Commands.{asked_by, asks, asks_disk}
+use Rattle.desk_tasks.specs.Inputs.{Inputs}
+use Rattle.desk_tasks.specs.Reading.{IsUnread}
+use Rattle.desk_tasks.specs.Runs.{world}
+use Rattle.desk_tasks.proofs.PromisedLaw.{runs-as-promised}
 use Rattle.desk_top.specs.Desk.{meanings, RunsAsPromised}
 use Rattle.desk_top.specs.Store.{kept_directories, RunsOnDisk, UnlessNamed}
 use Rattle.desk_top.proofs.Commands.{done-by, replayed, replayed-crews, recovered-day, recovered-by-team, tried-day, checked, checked-crews, ferried, generated}

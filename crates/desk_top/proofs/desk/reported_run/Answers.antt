@@ -1,6 +1,6 @@
 use Rattle.std.proofs.Common.{map, ap, refl, ◌∙◌}
-use Rattle.desk_runs.specs.Commands.{asks, asks_disk}
-use Rattle.desk_runs.specs.Runs.{world}
+use Rattle.desk_tasks.specs.Commands.{asks, asks_disk}
+use Rattle.desk_tasks.specs.Runs.{world}
 use Rattle.std.specs.Prelude.{Option, Some, option_map}
 use Rattle.std.specs.String.{string_bytes}
 use Rattle.desk_words.specs.Commands.{Asking, command}

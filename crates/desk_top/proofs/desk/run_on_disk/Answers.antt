@@ -1,11 +1,11 @@
 use Rattle.std.proofs.Common.{◌∙◌, ap, refl, inl, inr}
-use Rattle.desk_runs.specs.declared.ending.DiskEnd.TheVariants as disk_end
-use Rattle.desk_runs.specs.declared.ending.Ending.TheVariants as ending
+use Rattle.desk_tasks.specs.declared.ending.DiskEnd.TheVariants as disk_end
+use Rattle.desk_tasks.specs.declared.ending.Ending.TheVariants as ending
 use Rattle.desk_folder.specs.declared.files.File.{File}
-use Rattle.desk_runs.specs.Reading.{IsUnread}
-use Rattle.desk_runs.specs.Runs.{world}
+use Rattle.desk_tasks.specs.Reading.{IsUnread}
+use Rattle.desk_tasks.specs.Runs.{world}
 use Rattle.desk_words.specs.Asked.{named}
-use Rattle.desk_replay.specs.Journal.{OnlyOpens}
+use Rattle.book_commands.specs.Journal.{OnlyOpens}
 use Rattle.desk_top.specs.Store.{HoldsAll, StandsAlways}
 use Rattle.desk_top.proofs.StoreLaws.{shown-same}
 use Rattle.desk_top.proofs.StorePlaced.{kept-disked, kept-undisked, kept-unremembered, at_most, risen, unshown-placed, named-there, not-placed, never-began, eight-only, still, opens-placed, always-placed, all-placed, shown-placed, pending-placed, shown-failed, disk-named, holds-unnamed, unread-still}

@@ -1,7 +1,7 @@
 use Rattle.std.proofs.Common.{sym, subst, ◌∙◌}
-use Rattle.desk_runs.specs.declared.ending.Ending.{Ending}
-use Rattle.desk_runs.specs.Runs.{world}
-use Rattle.desk_runs.proofs.Composed.{here}
+use Rattle.desk_tasks.specs.declared.ending.Ending.{Ending}
+use Rattle.desk_tasks.specs.Runs.{world}
+use Rattle.desk_tasks.proofs.Composed.{here}
 use Rattle.desk_tasks.specs.Team.{nothing}
 use Rattle.desk_top.specs.Desk.{Obeys}
 use Rattle.desk_top.proofs.Obeyed.{obeyed-fault, obeyed-task}

@@ -1,6 +1,6 @@
-use Rattle.desk_runs.specs.Commands.{asked_here}
-use Rattle.desk_runs.specs.Runs.{world}
-use Rattle.desk_runs.proofs.Composed.{runs-tells_end}
+use Rattle.desk_tasks.specs.Commands.{asked_here}
+use Rattle.desk_tasks.specs.Runs.{world}
+use Rattle.desk_tasks.proofs.Composed.{runs-tells_end}
 use Rattle.desk_tasks.specs.Team.{nothing}
 use Rattle.desk_top.specs.Desk.{meaning_at}
 use Rattle.desk_top.proofs.plain.obey_and_tell.Goals as goal

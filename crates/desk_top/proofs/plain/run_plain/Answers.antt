@@ -1,6 +1,6 @@
-use Rattle.desk_runs.specs.Commands.{asked_here}
-use Rattle.desk_runs.specs.Runs.{world}
-use Rattle.desk_runs.proofs.PromisedLaw.{runs-as-promised}
+use Rattle.desk_tasks.specs.Commands.{asked_here}
+use Rattle.desk_tasks.specs.Runs.{world}
+use Rattle.desk_tasks.proofs.PromisedLaw.{runs-as-promised}
 use Rattle.desk_tasks.specs.Team.{nothing}
 use Rattle.desk_top.specs.Desk.{meanings}
 use Rattle.desk_top.proofs.Commands.{here-no-usage}

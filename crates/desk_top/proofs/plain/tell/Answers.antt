@@ -1,5 +1,5 @@
 use Rattle.std.proofs.Common.{refl}
-use Rattle.desk_runs.specs.Outcome.{fault_text}
+use Rattle.desk_tasks.specs.Outcome.{fault_text}
 use Rattle.desk_top.proofs.Unput.{puts-nothing, no_memory}
 use Rattle.desk_top.proofs.plain.tell.Goals as goal
 

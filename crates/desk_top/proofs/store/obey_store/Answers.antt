@@ -1,6 +1,6 @@
 use Rattle.std.proofs.Common.{◌∙◌, sym, subst}
-use Rattle.desk_runs.specs.declared.ending.Ending.{Ending}
-use Rattle.desk_runs.specs.Runs.{world}
+use Rattle.desk_tasks.specs.declared.ending.Ending.{Ending}
+use Rattle.desk_tasks.specs.Runs.{world}
 use Rattle.desk_top.specs.Obeyed.{ObeysStore}
 use Rattle.desk_top.proofs.StoreObeyed.{keeps-as, obeyed-none, obeyed-story}
 use Rattle.desk_top.proofs.store.obey_store.Goals as goal

@@ -1,4 +1,4 @@
-use Rattle.desk_runs.specs.Runs.{world}
+use Rattle.desk_tasks.specs.Runs.{world}
 use Rattle.desk_top.proofs.StoreLaws.{store-runs, store-stored, store-always, store-refused, store-failed}
 use Rattle.desk_top.proofs.store.run_store.Goals as goal
 

@@ -1,7 +1,7 @@
 use Rattle.std.proofs.Common.{◌≤◌, ℕ, sym, subst}
-use Rattle.desk_runs.specs.declared.ending.Ending.{Ending}
-use Rattle.desk_runs.specs.Runs.{world}
-use Rattle.desk_runs.proofs.Composed.{here}
+use Rattle.desk_tasks.specs.declared.ending.Ending.{Ending}
+use Rattle.desk_tasks.specs.Runs.{world}
+use Rattle.desk_tasks.proofs.Composed.{here}
 use Rattle.desk_top.specs.Desk.{ObeysSomehow}
 use Rattle.desk_top.proofs.Obeyed.{obeyed-fault-somehow, obeyed-somehow}
 use Rattle.desk_top.proofs.workers.obey_by_team.Goals as goal

@@ -1,4 +1,4 @@
-use Rattle.desk_runs.specs.Runs.{world}
+use Rattle.desk_tasks.specs.Runs.{world}
 use Rattle.desk_top.proofs.Placed.{run-somehow}
 use Rattle.desk_top.proofs.workers.reported_by_team.Goals as goal
 

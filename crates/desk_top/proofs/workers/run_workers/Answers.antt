@@ -1,9 +1,9 @@
 use Rattle.std.proofs.Common.{refl}
 use Rattle.desk_words.specs.declared.asked.Command.TheVariants as command_is
-use Rattle.desk_runs.specs.Commands.{asked_here}
-use Rattle.desk_runs.specs.Runs.{world}
-use Rattle.desk_runs.proofs.Composed.{here}
-use Rattle.desk_runs.proofs.PromisedLaw.{runs-as-promised}
+use Rattle.desk_tasks.specs.Commands.{asked_here}
+use Rattle.desk_tasks.specs.Runs.{world}
+use Rattle.desk_tasks.proofs.Composed.{here}
+use Rattle.desk_tasks.proofs.PromisedLaw.{runs-as-promised}
 use Rattle.desk_top.specs.Desk.{meanings, RunsAsPromised}
 use Rattle.desk_top.proofs.Commands.{recovered-by-team, here-no-usage}
 use Rattle.desk_top.proofs.workers.run_workers.Goals as goal

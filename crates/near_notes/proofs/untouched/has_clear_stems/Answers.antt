@@ -7,8 +7,8 @@ use Rattle.desk_units.specs.declared.numbers.Leg.{Leg}
 use Rattle.desk_units.specs.declared.numbers.Cabin.{Cabin}
 use Rattle.desk_data.specs.Situation.{PassengersGone}
 use Rattle.near_moves.specs.Routes.{begun_path, is_other_stem, stems}
-use Rattle.flight_net.specs.Start.{IsStemPath}
-use Rattle.flight_net.proofs.StartLaws.{tallied-stem}
+use Rattle.near_pax.specs.Start.{IsStemPath}
+use Rattle.near_pax.proofs.StartLaws.{tallied-stem}
 use Rattle.near_notes.specs.Onward.{IsClear}
 use Rattle.near_notes.proofs.ClearLaws.{stems-more}
 use Rattle.near_notes.proofs.untouched.has_clear_stems.Goals as goal

@@ -1,7 +1,7 @@
 use Rattle.std.proofs.Common.{Bool, ◌&&◌, ap, ◌∙◌}
 use Rattle.desk_data.specs.Situation.{plane_at}
 use Rattle.desk_rules.specs.Cost.{is_wanted}
-use Rattle.near_unpaid.proofs.PayerLaws.{ends-is}
+use Rattle.near_priced.proofs.PayerLaws.{ends-is}
 use Rattle.near_priced.proofs.hands.is_hand.Goals as goal
 
 pub returns : goal.returns

@@ -2,7 +2,7 @@ use Rattle.std.proofs.Common.{◌+◌, ◌≤◌, length, ap, arith}
 use Rattle.std.specs.Prelude.{sum_by}
 use Rattle.std.proofs.lemmas.List.{take_all}
 use Rattle.desk_units.specs.declared.numbers.Res.{Res}
-use Rattle.leg_users.specs.Users.{users_at}
+use Rattle.board_kit.specs.Users.{users_at}
 use Rattle.near_draft.specs.Drafts.{plan_of}
 use Rattle.near_moves.proofs.ListLaws.{for_some}
 use Rattle.near_priced.specs.Saved.{saved_by, saved_on}

@@ -1,6 +1,6 @@
 use Rattle.std.proofs.Common.{◌≡◌, ◌+◌, take}
 use Rattle.std.specs.Prelude.{sum_by}
-use Rattle.leg_users.specs.Users.{users_at}
+use Rattle.board_kit.specs.Users.{users_at}
 use Rattle.near_draft.specs.Drafts.{plan_of}
 use Rattle.near_priced.specs.Saved.{saved_by}
 use Rattle.near_priced.proofs.saved.left_by_leg.Given as goal

@@ -1,6 +1,6 @@
 use Rattle.std.proofs.Common.{subst, sym, ◌∙◌}
 use Rattle.near_legs.specs.Choices.{unit_of}
-use Rattle.unit_notes.proofs.OutLaws.{rows-out}
+use Rattle.near_notes.proofs.OutLaws.{rows-out}
 use Rattle.near_search.specs.Out.{AreMovesOut, AreMovesOutByRows}
 use Rattle.near_search.proofs.OutLaws.{all-out, all-out-by-rows, begins-flown, hands-out, unit-none}
 use Rattle.near_search.proofs.VainLaws.{worse-none}

@@ -4,7 +4,7 @@ use Rattle.desk_data.specs.declared.row.Group.{Group}
 use Rattle.desk_data.specs.Situation.{Situation}
 use Rattle.desk_data.specs.PlanRows.{PlanRows, groups_at}
 use Rattle.near_pax.specs.Units.{group_at, no_group}
-use Rattle.day_notes.specs.Notes.{IsInVain}
+use Rattle.near_notes.specs.DayNotes.{IsInVain}
 use Rattle.near_notes.specs.Later.{AreNotesAt}
 use Rattle.near_search.specs.Noted.{AreNotedAt}
 use Rattle.near_search.proofs.noted.note.Goals as goal

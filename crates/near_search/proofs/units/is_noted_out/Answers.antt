@@ -1,7 +1,7 @@
 use Rattle.std.proofs.Common.{sym, subst}
 use Rattle.desk_data.specs.PlanRows.{PlanRows}
 use Rattle.near_legs.specs.Choices.{IsLegUnit, unit_of}
-use Rattle.unit_notes.specs.Notes.{AreUnitNotesAt, IsUnitOut}
+use Rattle.near_notes.specs.Notes.{AreUnitNotesAt, IsUnitOut}
 use Rattle.near_search.specs.Noted.{AreUnitsNotedAt}
 use Rattle.near_search.proofs.OutLaws.{unit-none}
 use Rattle.near_search.proofs.units.is_noted_out.Goals as goal

@@ -2,7 +2,7 @@ use Rattle.std.proofs.Common.{◌≡◌, sym, subst, ◌∙◌}
 use Rattle.std.specs.Prelude.{None}
 use Rattle.desk_data.specs.PlanRows.{PlanRows}
 use Rattle.near_moves.specs.Descent.{first_better}
-use Rattle.unit_notes.specs.Notes.{AreUnitNotesAt}
+use Rattle.near_notes.specs.Notes.{AreUnitNotesAt}
 use Rattle.near_search.specs.Noted.{AreUnitsNotedAt}
 use Rattle.near_search.proofs.units.note_quiet.Goals as goal
 

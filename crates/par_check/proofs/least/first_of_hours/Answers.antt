@@ -3,7 +3,7 @@ use Rattle.std.specs.Prelude.{IfOk, find}
 use Rattle.std.specs.Option.{option_or}
 use Rattle.desk_data.specs.declared.broken.Broken.TheVariants.{C11}
 use Rattle.desk_rules.specs.Least.{breaks, each_hour, least_slots}
-use Rattle.rule_slots.proofs.ItemLaws.{least-by_rule}
+use Rattle.rule_checks.proofs.SlotItemLaws.{least-by_rule}
 use Rattle.par_check.proofs.least.first_of_hours.Goals as goal
 
 pub returns-in-Some : goal.returns-in-Some

@@ -1,6 +1,6 @@
 use Rattle.std.proofs.Common.{◌∙◌, ap}
 use Rattle.desk_rules.specs.Least.{breaks, rotation_items, least_rot}
-use Rattle.board_items.proofs.MemberLaws.{rotations_ascend}
+use Rattle.board_kit.proofs.MemberLaws.{rotations_ascend}
 use Rattle.board_rot.specs.Summaries.{Summary}
 use Rattle.board_rot.specs.Kept.{Lists, has_item}
 use Rattle.board_rot.proofs.LeastLaws.{those_broken}

@@ -1,6 +1,6 @@
 use Rattle.std.proofs.Common.{List, length, ap, sym, subst, ◌∙◌}
 use Rattle.desk_units.specs.declared.numbers.Res.{Res}
-use Rattle.leg_users.specs.Users.{HasUsers, has_user}
+use Rattle.board_kit.specs.Users.{HasUsers, has_user}
 use Rattle.board_seats.specs.Board.{Board}
 use Rattle.board_seats.proofs.board.SeatBoard.users.Goals as goal
 

@@ -1,6 +1,6 @@
 use Rattle.std.proofs.Common.{rules, ◌≡◌, true, false, ap, sym, subst, ◌∙◌, arith, length, List, [], ◌∷◌, length-append}
 use Rattle.desk_data.specs.declared.broken.Broken.{Broken}
-use Rattle.leg_users.specs.Users.{has_user}
+use Rattle.board_kit.specs.Users.{has_user}
 use Rattle.board_seats.specs.declared.edit.Edit.{Edit}
 use Rattle.board_seats.specs.declared.edit.Edit.TheVariants.{OfUser}
 use Rattle.board_seats.specs.Summaries.{LedTo}

@@ -1,5 +1,5 @@
 use Rattle.std.proofs.Common.{sym, subst}
-use Rattle.board_items.specs.Items.{AreThose}
+use Rattle.board_kit.specs.Items.{AreThose}
 use Rattle.board_seats.specs.Kept.{Lists}
 use Rattle.board_seats.proofs.undo_log.UndoLog.first.Goals as goal
 

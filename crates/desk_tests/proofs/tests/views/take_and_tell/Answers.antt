@@ -1,6 +1,6 @@
 use Rattle.std.proofs.Common.{sym, ◌∙◌}
 use Rattle.desk_model.specs.declared.answer.Event.TheVariants as event
-use Rattle.desk_board.specs.Told.{told_to}
+use Rattle.desk_core.specs.Told.{told_to}
 use Rattle.desk_tests.proofs.Going.{told_on}
 use Rattle.desk_tests.proofs.tests.views.take_and_tell.Goals as goal
 

@@ -1,5 +1,5 @@
 use Rattle.std.proofs.Common.{refl, ◌∙◌}
-use Rattle.desk_board.specs.Told.{told_to}
+use Rattle.desk_core.specs.Told.{told_to}
 use Rattle.desk_tests.proofs.Going.{told_first}
 use Rattle.desk_tests.proofs.tests.views.views_on.Goals as goal
 

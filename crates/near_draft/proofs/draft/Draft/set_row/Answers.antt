@@ -2,7 +2,7 @@ use Rattle.std.proofs.Common.{◌≡◌, ◌<◌, List, [], ◌∷◌, ◌++◌,
 use Rattle.desk_data.specs.Situation.{legs_of, planes_of}
 use Rattle.desk_data.specs.PlanRows.{PlanRows, row_at}
 use Rattle.desk_data.specs.Valid.{IsRowOf}
-use Rattle.desk_moves.proofs.SwapLaws.{with_row-own}
+use Rattle.desk_eval.proofs.SwapLaws.{with_row-own}
 use Rattle.near_draft.specs.declared.change.Change.{Change}
 use Rattle.near_draft.specs.Drafts.{AreChanges, Drafted, IsChange, drafted, plan_of}
 use Rattle.near_draft.specs.Kept.{AreKept, AreMarked}

@@ -1,5 +1,0 @@
-pub mod FirstLaws
-pub mod MemberLaws
-pub mod ItemLaws
-pub mod RowLaws
-pub mod SumLaws

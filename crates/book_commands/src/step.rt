@@ -1,0 +1,79 @@
+//! A step of a descent.
+
+ghost use Rattle.std.specs.Prelude.{◌≡◌, IfOk, OnOk, OnErr, is_some};
+ghost use Rattle.std.specs.Option.{ForSome};
+ghost use Rattle.plan_moves.specs.Fits.{Fits};
+ghost use Rattle.near_moves.specs.Descent.{is_spent};
+ghost use Rattle.book_commands.specs.Steps.{IsFirstBetter, next_of, stepped};
+
+use desk_core::{Book, Evaluator, Search};
+use desk_data::NoMem;
+use desk_units::Listener;
+use near_search::{Finder, first_better_heard};
+use plan_moves::Move;
+use std::alloc::Global;
+
+/// The search of a descent: all moves near a plan are tried, and a listener is told of each.
+#[derive(Drop)]
+struct FirstBetter<'a, L: Listener> {
+    finder: &'a mut Finder,
+    listener: &'a mut L,
+}
+
+/// It finds the first move near the plan that makes it feasible and cheaper.
+impl<L: Listener> Search for FirstBetter<'_, L> {
+    ghost finds = { IsFirstBetter };
+
+    fn search(&mut self, alloc: Global, eval: &mut Evaluator) -> Result<Option<Move>, NoMem> {
+        first_better_heard(alloc, eval, self.finder, 0, 1, self.listener)
+    }
+}
+
+/// Proposes the first better move near the plan. Answers whether there was one to propose. After an error the
+/// book is as it was.
+pub(crate) fn step<L: Listener>(
+    alloc: Global,
+    book: &mut Book,
+    finder: &mut Finder,
+    most: u32,
+    listener: &mut L,
+) -> Result<bool, NoMem>
+    ensures ok { OnOk result (book.new ≡ stepped most book.old) }
+    ensures went { IfOk result (λ went. went ≡ is_some (next_of most book.old)) }
+    ensures err { OnErr result (book.new ≡ book.old) }
+{
+    match proposal(alloc, book, finder, most, listener)? {
+        Some(m) => {
+            let _ = book.propose(alloc, 0, &m)?;
+            Ok(true)
+        }
+        None => Ok(false),
+    }
+}
+
+/// What is to be proposed: the first better move near the plan, where there is a plan and the history is not
+/// spent. The book stays as it is, after an error too.
+fn proposal<L: Listener>(
+    alloc: Global,
+    book: &mut Book,
+    finder: &mut Finder,
+    most: u32,
+    listener: &mut L,
+) -> Result<Option<Move>, NoMem>
+    ensures ok { IfOk result (λ next. next ≡ next_of most book.old) }
+    ensures fits { IfOk result (λ next. ForSome next (Fits book.old.opening)) }
+    ensures book { book.new ≡ book.old }
+{
+    if book.broken().is_some() || is_spent(book, most) {
+        return Ok(None);
+    }
+    book.search(alloc, &mut FirstBetter { finder, listener })
+}
+
+/// Whether no proposal more is made: so many were accepted since the last batch, or the journal takes no more.
+#[tactic(auto, unfolding(near_moves::specs::Descent::is_spent))]
+pub(crate) fn is_spent(book: &Book, most: u32) -> bool
+    ensures { result ≡ is_spent most book.now.journal }
+{
+    book.accepted() >= most || !book.takes_proposals()
+}

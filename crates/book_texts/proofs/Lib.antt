@@ -1,3 +1,0 @@
-pub mod BatchLaws
-pub mod SeenLaws
-pub mod HistoryTexts

@@ -1,3 +1,0 @@
-pub mod NameLaws
-mod KeyLemmas
-mod NameLemmas

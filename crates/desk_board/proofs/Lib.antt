@@ -1,2 +1,0 @@
-pub mod TellingLaws
-pub mod LineLaws

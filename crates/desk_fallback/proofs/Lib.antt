@@ -1,3 +1,0 @@
-mod RowParts
-mod StopLaws
-mod PushParts

@@ -1,2 +1,0 @@
-pub use Rattle.desk_model.specs.Fallback
-pub mod Stops

@@ -1,6 +1,0 @@
-pub mod BackLaws
-pub mod SwapLaws
-pub mod GroupLaws
-pub mod PushLaws
-pub mod StepLaws
-pub mod WalkLaws

@@ -1,4 +1,0 @@
-use Rattle.desk_moves.proofs.changes.set_groups.Given as goal
-
-abbrev pub ghosts-set_counted_groups : goal.ghosts-set_counted_groups
-ghosts-set_counted_groups a = record { name = a.blank.name; parts = a.blank.parts }

@@ -1,5 +1,0 @@
-use Rattle.desk_moves.proofs.BackLaws.{after-itself}
-use Rattle.desk_moves.proofs.set_step.set_step.Goals as goal
-
-pub returns-else-is_row-clause-after : goal.returns-else-is_row-clause-after
-returns-else-is_row-clause-after c = after-itself 100000 c.args.eval.now

@@ -1,2 +1,0 @@
-mod DescendLaws
-pub mod RecoverLaws

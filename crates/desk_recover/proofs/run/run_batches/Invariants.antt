@@ -1,9 +1,0 @@
-use Rattle.std.proofs.Common.{◌≡◌, drop}
-use Rattle.desk_recover.proofs.RecoverLaws.{Continues}
-use Rattle.desk_recover.proofs.run.run_batches.Given as goal
-
-abbrev pub invariant-loop-batch : goal.invariant-loop-batch
-invariant-loop-batch g l = record {
-  goes : Continues l.fn.inst l.fn.moves l.book l.search l.batch-index (drop l.batch-index l.batches) l.batches;
-  number : l.number ≡ l.batch-index;
-}

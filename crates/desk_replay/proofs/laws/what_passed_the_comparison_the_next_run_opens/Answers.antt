@@ -1,5 +1,0 @@
-use Rattle.desk_replay.proofs.Continued.{passed_moments, passed_whole, opens_still}
-use Rattle.desk_replay.proofs.laws.what_passed_the_comparison_the_next_run_opens.Goals as goal
-
-pub returns : goal.returns
-returns c = record { moments = passed_moments; whole = passed_whole; grows = opens_still }

@@ -1,7 +1,0 @@
-mod SortedLaws
-mod FlightLaws
-mod SoughtLaws
-mod TriedLaws
-pub mod StartLaws
-mod JoinLaws
-mod OnwardLaws

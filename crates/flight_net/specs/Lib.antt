@@ -1,5 +1,0 @@
-pub mod Flights
-pub mod Sought
-pub mod Start
-pub mod Tried
-pub mod Onward

@@ -1,5 +1,0 @@
-pub mod Frames
-pub mod PutLemmas
-pub mod Among
-pub mod PutAll
-mod FeedLemmas

@@ -1,9 +1,0 @@
-use Rattle.left_laws.proofs.SpanLaws.{out-minutes, out-meets, out-whole}
-use Rattle.left_laws.proofs.laws.spans_go_on_from_where_the_aircraft_has_landed.Goals as goal
-
-pub returns : goal.returns
-returns c = record {
-  minutes = out-minutes;
-  meets = out-meets;
-  whole = out-whole;
-}

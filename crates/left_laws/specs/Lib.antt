@@ -1,3 +1,0 @@
-pub mod WhatLeft
-pub mod LineWords
-pub mod StemWords

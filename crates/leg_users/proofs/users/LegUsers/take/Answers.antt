@@ -1,6 +1,0 @@
-use Rattle.leg_users.proofs.UserLaws.{res_exact, kept_less}
-use Rattle.leg_users.proofs.users.LegUsers.take.Goals as goal
-
-pub returns-clause-taken : goal.returns-clause-taken
-returns-clause-taken c =
-    kept_less c.self.inside.legs.items c.args.self.now c.args.leg.0 c.index_mut.result.now c.take.new.self c.args.res c.self.view_is c.requires c.index_mut.ensures.value (c.take.ensures.set res_exact)

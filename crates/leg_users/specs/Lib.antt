@@ -1,2 +1,0 @@
-pub use Rattle.desk_data.specs.Valid
-pub mod Users

@@ -1,0 +1,5 @@
+pub mod Chains
+pub mod RowRules
+pub mod WhatLeft
+pub mod LineWords
+pub mod StemWords

@@ -1,5 +1,0 @@
-use Rattle.near_alone.proofs.AloneLaws.{saves-worse}
-use Rattle.near_alone.proofs.laws.a_move_that_saves_no_more_than_it_costs_is_not_better.Goals as goal
-
-pub returns : goal.returns
-returns c = saves-worse

@@ -1,5 +1,0 @@
-use Rattle.near_alone.proofs.AloneLaws.{left-alone}
-use Rattle.near_alone.proofs.laws.a_reservation_that_is_left_alone_costs_what_it_did.Goals as goal
-
-pub returns : goal.returns
-returns c = left-alone

@@ -1,5 +1,0 @@
-use Rattle.near_chains.proofs.HandLaws.{handed_unit_in_vain}
-use Rattle.near_chains.proofs.laws.a_run_that_leads_elsewhere_is_handed_on_in_vain.Goals as goal
-
-pub returns : goal.returns
-returns c = handed_unit_in_vain

@@ -1,0 +1,9 @@
+pub mod Exchanged
+pub mod Moves
+pub mod Calm
+pub mod Dear
+pub mod Times
+pub mod Stands
+pub mod Restored
+pub mod Owed
+pub mod Drops

@@ -1,4 +1,0 @@
-pub mod SameLaws
-pub mod DearerLaws
-pub mod OutLaws
-pub mod UntouchedLaws

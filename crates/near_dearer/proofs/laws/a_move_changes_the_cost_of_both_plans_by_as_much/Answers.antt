@@ -1,5 +1,0 @@
-use Rattle.near_dearer.proofs.DearerLaws.{dearer-stays}
-use Rattle.near_dearer.proofs.laws.a_move_changes_the_cost_of_both_plans_by_as_much.Goals as goal
-
-pub returns : goal.returns
-returns c = dearer-stays

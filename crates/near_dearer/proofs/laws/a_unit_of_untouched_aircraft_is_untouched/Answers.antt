@@ -1,5 +1,0 @@
-use Rattle.near_dearer.proofs.UntouchedLaws.{planes-untouched}
-use Rattle.near_dearer.proofs.laws.a_unit_of_untouched_aircraft_is_untouched.Goals as goal
-
-pub returns : goal.returns
-returns c = planes-untouched

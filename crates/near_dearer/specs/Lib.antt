@@ -1,3 +1,0 @@
-pub mod Dearer
-pub mod Untouched
-pub mod Planes

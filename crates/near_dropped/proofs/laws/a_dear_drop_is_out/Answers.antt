@@ -1,5 +1,0 @@
-use Rattle.near_dropped.proofs.DropLaws.{drop-dear, run-dear, run-out, run-worse}
-use Rattle.near_dropped.proofs.laws.a_dear_drop_is_out.Goals as goal
-
-pub returns : goal.returns
-returns c = record { dear = drop-dear; run = run-dear; out = run-out; worse = run-worse }

@@ -1,6 +1,0 @@
-use Rattle.near_dropped.specs.Owed.{AreOwed}
-use Rattle.near_dropped.proofs.owed.owed_by_leg.Given as goal
-
--- of the reservations so far
-abbrev pub invariant-loop-r : goal.invariant-loop-r
-invariant-loop-r l = AreOwed l.inst l.plan l.owed.items l.r

@@ -1,0 +1,9 @@
+use Rattle.std.proofs.Common.{◌≡◌, take}
+use Rattle.std.specs.Prelude.{sum_by}
+use Rattle.desk_data.specs.PlanRows.{groups_at}
+use Rattle.full_cost.specs.Amounts.{group_cost}
+use Rattle.near_priced.proofs.pays.reservation_cost.Given as goal
+
+-- what the groups so far cost
+abbrev pub invariant-loop-group : goal.invariant-loop-group
+invariant-loop-group l = l.total.0 ≡ sum_by (group_cost l.inst l.plan l.fn.res.0) (take l.group-index (groups_at l.plan l.fn.res.0))

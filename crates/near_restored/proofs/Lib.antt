@@ -1,3 +1,0 @@
-pub mod FlownLaws
-pub mod DearLaws
-pub mod TableLaws

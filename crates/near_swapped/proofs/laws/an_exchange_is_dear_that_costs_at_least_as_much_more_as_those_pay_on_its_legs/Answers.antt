@@ -1,5 +1,0 @@
-use Rattle.near_swapped.proofs.DearLaws.{exchange-dear}
-use Rattle.near_swapped.proofs.laws.an_exchange_is_dear_that_costs_at_least_as_much_more_as_those_pay_on_its_legs.Goals as goal
-
-pub returns : goal.returns
-returns c = exchange-dear

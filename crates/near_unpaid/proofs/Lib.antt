@@ -1,3 +1,0 @@
-pub mod DearLaws
-pub mod UnpaidLaws
-pub mod PayerLaws

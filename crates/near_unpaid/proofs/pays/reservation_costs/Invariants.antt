@@ -1,6 +1,0 @@
-use Rattle.near_unpaid.specs.Payers.{AreCosts}
-use Rattle.near_unpaid.proofs.pays.reservation_costs.Given as goal
-
--- of the reservations so far
-abbrev pub invariant-loop-r : goal.invariant-loop-r
-invariant-loop-r l = AreCosts l.inst l.plan l.costs.items l.r

@@ -1,2 +1,0 @@
-pub mod Unpaid
-pub mod Payers

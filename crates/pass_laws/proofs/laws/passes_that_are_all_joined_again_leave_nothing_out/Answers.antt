@@ -1,5 +1,0 @@
-use Rattle.pass_laws.proofs.SplitLaws.{all_back}
-use Rattle.pass_laws.proofs.laws.passes_that_are_all_joined_again_leave_nothing_out.Goals as goal
-
-pub returns : goal.returns
-returns g c = all_back

@@ -1,0 +1,4 @@
+pub mod Upkeep
+pub mod Items
+pub mod TakenSlots
+pub mod TakenSeats

@@ -1,0 +1,73 @@
+//! The rules of rotations, of hours and of passengers, each asked of a whole plan.
+//!
+//! # Rotations
+//!
+//! The rules of rotations, C1 to C9: whether each leg of a plan is flown as it may be, and whether
+//! each aircraft makes its maintenance.
+//!
+//! `least_rot(alloc, &inst, &plan)` gives the first item that the plan breaks, by rule and then by leg or
+//! aircraft, or `None`. What C1 to C7 ask of a leg and its row is in `plan_reads` by their numbers, as
+//! `c6_ground_time`; C8 and C9 have a file each. `rule.rt` applies them to the plan's rows, and has the one
+//! loop that looks for the first leg or aircraft that breaks a rule. docs/RULES-AND-COST.md gives the
+//! rules. The time is near linear in the legs: they are sorted once, and each rule walks over them once.
+//!
+//! Proved: the answer is `least_rot` of desk_rules. It depends on `desk_rules` and on `plan_reads`, which
+//! knows the leg before each leg, too.
+//!
+//! # Hours
+//!
+//! The rules of an airport's hours, C10 and C11: whether its departures and its arrivals in an hour are
+//! at most its caps.
+//!
+//! `least_slots(alloc, &inst, &plan)` gives the first item that the plan breaks, by rule, then by airport,
+//! then by hour, or `None`. The legs in the air are sorted by airport and hour, once by departure and once
+//! by arrival, and walked once: so only hours in which a leg is counted are looked at, and the time is near
+//! linear in the legs.
+//!
+//! Proved: the answer is `least_slots` of desk_rules, which looks at every hour of a century. It depends on
+//! `desk_data`, `desk_rules` and `hour_counts`, which says what a slot is. Its two halves are there for whoever counts both side
+//! by side, as `par_check`: the first airport and hour that break C10, and those that break C11.
+//!
+//! # Passengers
+//!
+//! The rules of passengers, C12 to C15: whether they have seats, whether the paths on which they are
+//! carried are flown and connect, arrive in time, and keep to what has begun and left.
+//!
+//! `least_pax(alloc, &inst, &plan)` gives the first item that the plan breaks, by rule, then by leg and
+//! cabin or by reservation, or `None`. A file of `src/` is a rule, by its number, as `c12_seats.rt`. The
+//! passengers are counted in one walk over their groups, and each path is looked at once beside the groups of
+//! its reservation, so the time is linear in the legs and the groups of passengers, and at most quadratic in
+//! the groups of one reservation.
+//!
+//! Proved: the answer is `least_pax` of desk_rules. It depends on `desk_rules` and on `plan_reads`, which
+//! knows whether a path keeps C13 and C14. What it is made of is there for whoever looks for the first item in another way,
+//! as `par_check`: the first leg and cabin that break C12, and whether a reservation keeps C13, C14 or C15.
+#![tactic(auto)]
+
+mod c10_departures;
+mod c11_arrivals;
+mod c12_seats;
+mod c13_connection;
+mod c14_arrival;
+mod c15_begun;
+mod c8_maintenance;
+mod c9_minutes;
+mod carried;
+mod least_of_passengers;
+mod least_of_rotations;
+mod least_of_slots;
+mod overfull;
+mod rule;
+mod slots;
+mod taken;
+mod upkeep;
+
+pub use c10_departures::first_c10;
+pub use c11_arrivals::first_c11;
+pub use c12_seats::first_c12;
+pub use c13_connection::keeps_c13;
+pub use c14_arrival::keeps_c14;
+pub use c15_begun::keeps_c15;
+pub use least_of_passengers::least_pax;
+pub use least_of_rotations::least_rot;
+pub use least_of_slots::least_slots;

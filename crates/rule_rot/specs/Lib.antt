@@ -1,2 +1,0 @@
-pub mod Upkeep
-pub mod Items

@@ -1,4 +1,0 @@
-pub mod PlaceLaws
-pub mod SortedLaws
-pub mod TakenLaws
-pub mod ItemLaws

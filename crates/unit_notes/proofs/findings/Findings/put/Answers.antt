@@ -1,6 +1,0 @@
-use Rattle.std.proofs.lemmas.Result.{on_ok_weaker}
-use Rattle.unit_notes.proofs.NotesLaws.{put-now}
-use Rattle.unit_notes.proofs.findings.Findings.put.Goals as goal
-
-pub returns : goal.returns
-returns c = on_ok_weaker c.put.result (λ is. put-now c.args.self.now c.put.new.self c.args.there c.args.search is) c.put.ensures
