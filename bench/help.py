@@ -1,11 +1,11 @@
 #!/usr/bin/env python3
-"""Compares the explanations of crates/desk_help with the pages, and with what its stored run gives.
+"""Compares the explanations of crates/desk_words with the pages, and with what its stored run gives.
 
     bench/help.py          in any folder
 
-1. The tables of causes in crates/desk_help/src are those of docs/REFUSALS.md, row by row, and each refusal in a transcript of
+1. The tables of causes in crates/desk_words/src are those of docs/REFUSALS.md, row by row, and each refusal in a transcript of
    crates/desk_rows has a row, and each row such a refusal. The sections that explanations name are headings of docs/FORMATS.md.
-2. The rules of crates/desk_help/src/rules.rt are those of docs/RULES-AND-COST.md, with their words, items and sentences.
+2. The rules of crates/desk_words/src/rules.rt are those of docs/RULES-AND-COST.md, with their words, items and sentences.
 3. The commands of docs/FORMATS.md, with their options, ranges and what holds where one is left out, are those of USAGE.
 4. crates/help_rows/stdin has a case for each row and for each rule, and each answer in its stdout is what the pages say.
 
@@ -17,7 +17,7 @@ import sys
 from pathlib import Path
 
 TOP = Path(__file__).resolve().parent.parent
-SOURCES = TOP / "crates" / "desk_help" / "src"
+SOURCES = TOP / "crates" / "desk_words" / "src"
 ROWS = TOP / "crates" / "help_rows"
 TRANSCRIPTS = TOP / "crates" / "desk_rows" / "data"
 WHOLE = " at line 0"

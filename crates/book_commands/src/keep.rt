@@ -21,8 +21,8 @@ ghost use Rattle.book_commands.specs.Journal.{kept_story, IsEarly, IsKept, IsSto
 
 use crate::compare::{Compared, compare};
 use crate::held::entered;
-use crate::{run_events, write_opened};
 use crate::store::store_events;
+use crate::{run_events, write_opened};
 use desk_core::Book;
 use desk_data::{Batch, Instance};
 use desk_disk::Disk;

@@ -12,8 +12,8 @@ use crate::take_batches::run_batches;
 use crate::{report_history, write_history};
 use desk_data::{Batch, Instance};
 use desk_folder::{Folder, Sink};
-use desk_units::Listener;
 use desk_tasks::Ending;
+use desk_units::Listener;
 use std::alloc::Global;
 
 /// Takes these batches on a day, 1 to 1,001 of them, descends after each with at most so many accepted moves,

@@ -8,8 +8,8 @@ use Rattle.desk_data.specs.PlanRows.{PlanRows}
 use Rattle.desk_rules.specs.Numbers.{numbers}
 use Rattle.desk_model.specs.Push.{after_push}
 use Rattle.desk_model.specs.Fallback.{all_pushed}
-use Rattle.plan_push.specs.Flown.{AreFlown}
-use Rattle.plan_push.proofs.FlownLaws.{flown-pushed}
+use Rattle.hour_counts.specs.Flown.{AreFlown}
+use Rattle.hour_counts.proofs.FlownLaws.{flown-pushed}
 
 -- the plan once the first n aircraft are pushed
 unfoldable pub pushed_to : Situation → ℕ → PlanRows → PlanRows

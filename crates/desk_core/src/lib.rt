@@ -15,7 +15,7 @@
 //! pages are lent, and copied only for Ground.
 //!
 //! Proved: the answer is `fallback` of desk_model, and its rows are a valid plan. The legs are walked once
-//! to settle and to cancel; Push is `plan_push`, Tidy is `plan_groups`, and `full_check` judges. The types
+//! to settle and to cancel; Push is asked of hour_counts, Tidy of plan_reads, and `full_check` judges. The types
 //! `Fallback` and `Which` are those of desk_model.
 //!
 //! # The book

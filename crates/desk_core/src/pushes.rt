@@ -7,12 +7,11 @@ ghost use Rattle.desk_data.specs.Valid.{IsPlanFor};
 ghost use Rattle.desk_model.specs.Fallback.{all_pushed};
 ghost use Rattle.desk_model.specs.Push.{after_placing, after_push};
 ghost use Rattle.hour_counts.specs.Counts.{AreCountsOf};
-ghost use Rattle.plan_push.specs.Flown.{AreFlown};
-ghost use Rattle.plan_push.specs.Placings.{AreLegs, IsPlacing};
+ghost use Rattle.hour_counts.specs.Flown.{AreFlown};
+ghost use Rattle.hour_counts.specs.Placings.{AreLegs, IsPlacing};
 
 use desk_data::{Instance, NoMem, Plan, Plane, Row};
-use hour_counts::HourCounts;
-use plan_push::{FlownLegs, Placing, first_departure, placings};
+use hour_counts::{FlownLegs, HourCounts, Placing, first_departure, placings};
 use std::alloc::Global;
 
 /// Pushes all aircraft in ascending order, each in the plan as those before it left it. All legs are walked

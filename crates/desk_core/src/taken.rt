@@ -4,9 +4,9 @@ ghost use Rattle.std.specs.Prelude.{◌≡◌, IfOk};
 ghost use Rattle.desk_data.specs.Valid.{IsBatch};
 ghost use Rattle.desk_core.specs.Taken.{IsTaken};
 
+use crate::fallback;
 use desk_data::{Batch, NoMem};
 use desk_eval::Evaluator;
-use crate::fallback;
 use desk_model::{Answer, Fallback};
 use std::alloc::Global;
 

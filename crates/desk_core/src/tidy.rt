@@ -7,7 +7,7 @@ ghost use Rattle.desk_data.specs.Valid.{IsPlanFor};
 ghost use Rattle.desk_model.specs.Tidy.{after_tidy, groups_after_tidy};
 
 use desk_data::{Instance, NoMem, Plan, Res};
-use plan_groups::groups_after_tidy;
+use plan_reads::groups_after_tidy;
 use std::alloc::Global;
 
 /// Tidies a plan. No row changes, and a reservation keeps its groups until its turn, so that each is judged

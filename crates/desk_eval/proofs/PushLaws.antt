@@ -1,4 +1,4 @@
--- How many legs are placed. That they are placed one at a time stands in plan_push.
+-- How many legs are placed. That they are placed one at a time stands in hour_counts.
 use Rattle.std.proofs.Common.{◌≡◌, ℕ, ◌+◌, ◌≤◌, inl, inr, Bool, true, ◌&&◌, not, List, [], ◌∷◌, length, ap, arith, length-append}
 use Rattle.std.specs.Prelude.{Option, filter, fold, map}
 use Rattle.std.proofs.lemmas.Bool.{cases_Bool}
@@ -13,7 +13,7 @@ use Rattle.desk_rules.proofs.HourLaws.{length-numbers}
 use Rattle.desk_rules.proofs.RotationLaws.{precedes-holds}
 use Rattle.desk_model.specs.Push.{with_leg, rotation, comes_after, pushed_legs}
 use Rattle.desk_model.proofs.RotationOrder.{precedes-itself, precedes-trans}
-use Rattle.plan_push.specs.declared.pushed.Placing.{Placing}
+use Rattle.hour_counts.specs.declared.pushed.Placing.{Placing}
 
 -- ---- how many legs are placed
 

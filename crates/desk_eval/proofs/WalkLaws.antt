@@ -24,7 +24,7 @@ use Rattle.desk_eval.specs.Asked.{keeps_paths}
 use Rattle.desk_model.specs.Tidy.{is_fit_path, groups_after_tidy, after_tidy}
 use Rattle.desk_model.specs.Refill.{has_leg, is_refilled, after_refilling, after_refill}
 use Rattle.desk_model.proofs.GroupPlans.{numbers-at, with_groups-own}
-use Rattle.plan_groups.proofs.TidyCalls.{tidy-keeps}
+use Rattle.plan_reads.proofs.TidyCalls.{tidy-keeps}
 use Rattle.desk_model.proofs.TidyParts.{tidied_to, tidied_to-none, tidied_to-next, tidied_to-judges, tidied_to-more, tidied_to-all}
 use Rattle.desk_eval.proofs.GroupLaws.{refilled_to, refilled_to-none, refilled_to-more, refilled_to-all}
 

@@ -5,6 +5,7 @@ ghost use Rattle.plan_moves.specs.Fits.{Fits, StepFits};
 ghost use Rattle.desk_model.specs.Steps.{after_move, after_step, after_steps};
 ghost use Rattle.desk_eval.specs.Back.{IsAfter, back_to};
 
+use crate::Evaluator;
 use crate::back::go_back;
 use crate::push_step::push_step;
 use crate::rebook_step::rebook_step;
@@ -14,7 +15,6 @@ use crate::swap_step::{Exchange, swap_step};
 use crate::tidy_step::tidy_step;
 use crate::way_back::Undo;
 use desk_data::NoMem;
-use crate::Evaluator;
 use plan_moves::{Move, Step};
 use std::alloc::Global;
 

@@ -5,8 +5,8 @@ ghost use Rattle.desk_data.specs.PlanRows.{PlanRows};
 ghost use Rattle.desk_eval.specs.Evaluated.{Evaluated, after_change};
 ghost use Rattle.desk_eval.specs.Back.{back_to};
 
-use crate::way_back::Undo;
 use crate::Evaluator;
+use crate::way_back::Undo;
 
 /// Takes changes back until the past has no more of them than when the move was applied. Where nothing was
 /// forgotten or taken back further since, the evaluator is as before the move; where the past has no more

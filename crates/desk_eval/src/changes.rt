@@ -5,11 +5,11 @@ ghost use Rattle.std.specs.Option.{ForSome};
 ghost use Rattle.desk_data.specs.Situation.{legs_of, planes_of, reservations_of, res_at};
 ghost use Rattle.desk_data.specs.PlanRows.{AreGroups, groups_at, with_groups, with_row};
 ghost use Rattle.desk_data.specs.Valid.{AreGroupsOf, IsRowOf};
-ghost use Rattle.plan_groups.specs.Made.{AreWhole, groups_or};
+ghost use Rattle.plan_reads.specs.Made.{AreWhole, groups_or};
 ghost use Rattle.desk_eval.specs.Back.{IsAfter};
 
-use desk_data::{Group, Leg, NoMem, Res, Row, Steps};
 use crate::Evaluator;
+use desk_data::{Group, Leg, NoMem, Res, Row, Steps};
 use std::alloc::Global;
 use std::marker::Brand;
 use std::sync::ledger::{Blank, Ledger};

@@ -7,13 +7,13 @@ ghost use Rattle.desk_eval.specs.Asked.{AreBooked};
 use crate::boards::Boards;
 use crate::change::{change_groups, change_row};
 use board_kit::{Board, LegUsers};
-use near_notes::{NotedDay, Notes, UnitNotes};
 use desk_data::{
     Airport, Broken, Cabin, Grains, Group, Instance, Leg, NoMem, Plan, Plane, Res, Row, Steps,
 };
 use hour_counts::KnowsHours;
-use plan_groups::KnowsAboard;
+use near_notes::{NotedDay, Notes, UnitNotes};
 use plan_pages::{Page, Pages, copied_groups};
+use plan_reads::KnowsAboard;
 use std::alloc::Global;
 use std::marker::Model;
 use std::sync::Arc;

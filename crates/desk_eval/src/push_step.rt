@@ -5,14 +5,14 @@ ghost use Rattle.std.specs.Option.{ForSome};
 ghost use Rattle.desk_data.specs.Situation.{legs_of, planes_of};
 ghost use Rattle.desk_data.specs.PlanRows.{PlanRows};
 ghost use Rattle.desk_model.specs.Push.{after_placing, after_push};
-ghost use Rattle.plan_push.specs.Placings.{AreLegs, IsPlacing};
+ghost use Rattle.hour_counts.specs.Placings.{AreLegs, IsPlacing};
 ghost use Rattle.desk_eval.specs.Back.{IsAfter};
 
+use crate::Evaluator;
 use crate::changes::set_row;
 use crate::sizes::leg_count;
 use desk_data::{Leg, NoMem, Plane, Row};
-use crate::Evaluator;
-use plan_push::{Placing, first_departure, placings};
+use hour_counts::{Placing, first_departure, placings};
 use std::alloc::Global;
 
 /// Takes a Push. Which legs are placed, and which leg is before each, is that of the plan at the step's

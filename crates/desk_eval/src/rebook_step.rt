@@ -6,10 +6,10 @@ ghost use Rattle.plan_moves.specs.Fits.{IsPathIn};
 ghost use Rattle.desk_model.specs.Rebook.{after_rebook};
 ghost use Rattle.desk_eval.specs.Back.{IsAfter};
 
+use crate::Evaluator;
 use crate::changes::set_groups;
 use desk_data::{NoMem, Path, Res};
-use crate::Evaluator;
-use plan_groups::groups_after_rebook;
+use plan_reads::groups_after_rebook;
 use std::alloc::Global;
 
 /// Takes a Rebook. After an error, which is out of memory, nothing has changed.

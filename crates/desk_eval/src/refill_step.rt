@@ -5,11 +5,11 @@ ghost use Rattle.desk_data.specs.Situation.{legs_of, reservations_of};
 ghost use Rattle.desk_model.specs.Refill.{after_refill, after_refilling};
 ghost use Rattle.desk_eval.specs.Back.{IsAfter};
 
+use crate::Evaluator;
 use crate::changes::set_groups;
 use crate::sizes::reservation_count;
 use desk_data::{Leg, NoMem, Res};
-use crate::Evaluator;
-use plan_groups::groups_after_refill;
+use plan_reads::groups_after_refill;
 use std::alloc::Global;
 
 /// Takes a Refill: one reservation after another, each in the plan as those before it left it. Those that

@@ -7,9 +7,9 @@ ghost use Rattle.desk_rules.specs.Rows.{is_row};
 ghost use Rattle.desk_model.specs.Steps.{after_set};
 ghost use Rattle.desk_eval.specs.Back.{IsAfter};
 
+use crate::Evaluator;
 use crate::changes::set_row;
 use desk_data::{Leg, NoMem, Row};
-use crate::Evaluator;
 use std::alloc::Global;
 
 /// Takes a Set. After an error, which is out of memory, nothing has changed.

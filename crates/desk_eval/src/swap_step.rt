@@ -7,10 +7,10 @@ ghost use Rattle.desk_model.specs.Swap.{after_swap, other_plane, row_after_swap}
 ghost use Rattle.desk_eval.specs.Back.{IsAfter};
 ghost use Rattle.desk_eval.specs.Swapped.{legs_of_both};
 
+use crate::Evaluator;
 use crate::changes::set_row;
 use crate::sizes::leg_count;
 use desk_data::{Leg, Minute, NoMem, Plane, Row};
-use crate::Evaluator;
 use std::alloc::Global;
 
 /// Two aircraft, and the moment from which they fly each other's legs.

@@ -6,11 +6,11 @@ ghost use Rattle.desk_data.specs.PlanRows.{with_groups};
 ghost use Rattle.desk_model.specs.Tidy.{after_tidy, groups_after_tidy};
 ghost use Rattle.desk_eval.specs.Back.{IsAfter};
 
+use crate::Evaluator;
 use crate::changes::set_groups;
 use crate::sizes::reservation_count;
 use desk_data::{NoMem, Res};
-use crate::Evaluator;
-use plan_groups::groups_after_tidy;
+use plan_reads::groups_after_tidy;
 use std::alloc::Global;
 
 /// Takes a Tidy. No row changes, and a reservation keeps its groups until its turn, so that each is judged

@@ -1,2 +1,3 @@
+pub mod PathLaws
 pub mod JudgeLaws
 pub mod FerryTexts

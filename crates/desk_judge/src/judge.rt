@@ -11,6 +11,7 @@ ghost use Rattle.desk_tasks.specs.Crew.{crewed_report, crewed_end, crewed_verdic
 ghost use Rattle.desk_tasks.specs.Runs.{Between};
 ghost use Rattle.desk_tasks.specs.Finishing.{Completes};
 
+use crate::{is_large, par_check};
 use crew_duty::crew_least;
 use crew_rules::{CrewBroken, CrewInfo};
 use desk_data::{Broken, Grains, Instance, NoMem, Plan};
@@ -18,7 +19,6 @@ use desk_folder::{Folder, Sink};
 use desk_tasks::{Ending, OutputTexts, put_outputs};
 use full_cost::full_cost;
 use output_texts::{push_broken, push_crews};
-use par_check::{is_large, par_check};
 use std::alloc::Global;
 use std::thread::{Threads, join};
 

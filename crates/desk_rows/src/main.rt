@@ -6,9 +6,12 @@
 //!
 //! A case costs no proof: it is a few files that a person can read, and `bench/row.py` runs it on the disk
 //! by hand. It calls `desk_main_heard` of desk_top over the folder and the sink in memory of desk_folder.
+//!
+//! After the cases it explains the ends of runs that its standard input lists, as `explained.rt` says.
 #![tactic(auto)]
 
 mod cases;
+mod explained;
 mod gate;
 mod heard;
 mod lines;
@@ -18,6 +21,7 @@ mod texts;
 mod told;
 
 use cases::{case_names, play_case};
+use explained::explain_all;
 use std::io;
 use std::process::ExitCode;
 use std::sync::Wait;
@@ -52,5 +56,6 @@ fn play_all<R: Threads + Wait + Sync>(rt: HostRuntime, threads: &R) -> io::Resul
 
 fn main(rt: HostRuntime) -> io::Result<ExitCode> {
     let others = play_all(rt, &rt)?;
+    explain_all(rt)?;
     Ok(ExitCode::from(u8::from(others > 0)))
 }

@@ -11,14 +11,14 @@ ghost use Rattle.desk_story.specs.Facts.{as_task, CanBeDone};
 ghost use Rattle.desk_top.specs.Desk.{Obeys, RunsWith, RunsAsPromised};
 
 use crate::day::write_day;
-use desk_folder::{Folder, FolderFault, Sink, put_report};
-use desk_units::Listener;
-use desk_judge::{judge_crews, judge_plan, run_ferry};
 use book_commands::{play_beside_crews, play_events, recover_day, try_day};
-use desk_tasks::{Ending, fault_text};
+use desk_folder::{Folder, FolderFault, Sink, put_report};
+use desk_judge::{judge_crews, judge_plan, run_ferry};
 use desk_story::{
     InputCrewedPlan, InputCrewedStory, InputPlan, InputRecovery, InputStory, InputTask, read_task,
 };
+use desk_tasks::{Ending, fault_text};
+use desk_units::Listener;
 use desk_words::Command;
 use std::alloc::Global;
 use std::thread::Threads;

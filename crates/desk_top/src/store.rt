@@ -16,11 +16,11 @@ ghost use Rattle.desk_top.specs.Store.{HasBegun, HoldsAll, IsWrittenAt, RunsKept
 ghost use Rattle.desk_top.specs.Obeyed.{ObeysStore};
 
 use crate::plain::tell;
+use book_commands::keep_events;
 use desk_disk::Disk;
 use desk_folder::{Folder, Sink};
-use book_commands::keep_events;
-use desk_tasks::Ending;
 use desk_story::{InputKept, InputStory, read_kept};
+use desk_tasks::Ending;
 use std::alloc::Global;
 
 // Reads the story that the files give, and keeps it.

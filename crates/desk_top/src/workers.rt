@@ -13,10 +13,10 @@ ghost use Rattle.desk_story.specs.Facts.{as_task, CanBeDone};
 ghost use Rattle.desk_top.specs.Desk.{ObeysSomehow, Runs, RunsAsPromised, IsRecoveredByTeam};
 
 use crate::plain::tell;
-use desk_folder::{Folder, Gate, Sink};
-use desk_tasks::Ending;
 use book_commands::{Team, recover_by_team};
+use desk_folder::{Folder, Gate, Sink};
 use desk_story::{InputRecovery, InputTask, read_task};
+use desk_tasks::Ending;
 use desk_words::Command;
 use std::alloc::Global;
 use std::sync::Wait;

@@ -27,7 +27,7 @@
 //! `explain` makes them of the words, the status and the report, and `CopyingSink` keeps a copy of the report for it while it
 //! is printed. The tables are data: `USAGE`, the causes of each file (`causes_of_lines`, `causes_of_the_whole`) and `RULES`.
 //! docs/REFUSALS.md and docs/RULES-AND-COST.md show the last two, and `bench/help.py` compares them; the stored run of
-//! help_rows has an explanation for each cause.
+//! desk_rows has an explanation for each cause.
 //!
 //!     explain(alloc, &words, 3, b"refused config.csv 1 Date\n")
 //!     // config.csv, line 1: a DATE is not dd/mm/yy or dd/mm/yyyy, or there is no such day from 01/01/2000 to 31/12/2099.

@@ -5,9 +5,9 @@ ghost use Rattle.std.specs.String.{string_bytes};
 ghost use Rattle.desk_folder.specs.Files.{file_name};
 
 use crate::report::{Fault, fault_of};
+use crate::{Directories, command};
 use desk_folder::File;
 use desk_units::NoMem;
-use crate::{Directories, command};
 use std::alloc::Global;
 
 // The path of a file in a directory.

@@ -9,8 +9,8 @@ ghost use Rattle.file_joins.specs.CrewJoin.{are_apart, crew_named, crew_stated, 
 ghost use Rattle.desk_data.specs.Situation.{airports_of, legs_of as day_legs};
 ghost use Rattle.desk_text.specs.Rows.{GivesRow};
 
-use crew_rules::CrewInfo;
 use crate::DayNames;
+use crew_rules::CrewInfo;
 use desk_text::{Cause, RowFault};
 use desk_units::{Airport, Leg, List, Name};
 use file_readers::{CrewLeg, CrewRow};

@@ -11,9 +11,9 @@ ghost use Rattle.file_joins.specs.Statement.{Adds, cause_of};
 ghost use Rattle.file_joins.specs.Groups.{all_groups, groups_in, statement_of_groups, has_path, is_whole, passengers_stated};
 ghost use Rattle.file_joins.specs.Parties.{Tried};
 
+use crate::DayNames;
 use crate::party::Party;
 use crate::stated::stated_group;
-use crate::DayNames;
 use desk_data::{Group, Instance, Res, ResInfo};
 use desk_text::{ReadFault, RowFault};
 use desk_units::NoMem;

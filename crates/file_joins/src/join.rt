@@ -6,9 +6,9 @@ ghost use Rattle.file_readers.specs.CrewFacts.{IsCrewRow};
 ghost use Rattle.crew_rules.specs.Valid.{AreCrews};
 ghost use Rattle.file_joins.specs.CrewJoin.{crews_after};
 
+use crate::DayNames;
 use crate::crew::crew_stated;
 use crew_rules::CrewInfo;
-use crate::DayNames;
 use desk_data::Instance;
 use desk_text::ReadFault;
 use file_readers::CrewRow;

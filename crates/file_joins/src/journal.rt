@@ -8,9 +8,9 @@ ghost use Rattle.journal_file.specs.Facts.{AreRows};
 ghost use Rattle.file_joins.specs.Join.{all_after, asked_of, event_of, events_of};
 ghost use Rattle.file_joins.specs.Gives.{JoinGives, fault_at};
 
+use crate::DayNames;
 use crate::batches::{due_after, stated_batch};
 use crate::steps::joined_move;
-use crate::DayNames;
 use desk_build::{BuildFault, Built};
 use desk_data::Batch;
 use desk_folder::File;

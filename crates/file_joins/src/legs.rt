@@ -8,8 +8,8 @@ ghost use Rattle.file_joins.specs.Stated.{stated_leg};
 ghost use Rattle.file_joins.specs.Statement.{Adds, cause_of};
 ghost use Rattle.file_joins.specs.Legs.{all_rows, statement_of_legs, rows_stated};
 
-use crate::stated::stated_leg;
 use crate::DayNames;
+use crate::stated::stated_leg;
 use desk_data::Row;
 use desk_text::ReadFault;
 use desk_units::NoMem;

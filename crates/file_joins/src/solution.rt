@@ -6,9 +6,9 @@ ghost use Rattle.file_readers.specs.SolFacts.{IsPlannedGroup};
 ghost use Rattle.file_joins.specs.Both.{both};
 ghost use Rattle.file_joins.specs.Solution.{SolutionGives, fault_in, plan_stated, solution_of};
 
+use crate::DayNames;
 use crate::groups::{all_groups, groups_of, passengers_stated};
 use crate::legs::{all_rows, rows_stated};
-use crate::DayNames;
 use desk_build::BuildFault;
 use desk_data::{Group, Instance, Plan, Row};
 use desk_folder::File;

@@ -5,8 +5,8 @@ ghost use Rattle.std.specs.List.{list_all};
 ghost use Rattle.desk_text.specs.Rows.{GivesRow};
 ghost use Rattle.file_joins.specs.Join.{set_of, push_of, swap_of, rebook_of, refill_of, step_of, all_of, row_is_in_time, step_is_in_time, is_move, move_of, joined_move};
 
-use crate::names::{after_of, leg_of, path_of, plane_of, res_of, row_of};
 use crate::DayNames;
+use crate::names::{after_of, leg_of, path_of, plane_of, res_of, row_of};
 use desk_data::Row;
 use desk_model::Event;
 use desk_text::RowFault;

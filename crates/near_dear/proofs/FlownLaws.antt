@@ -30,7 +30,7 @@ use Rattle.desk_model.specs.Steps.{after_set, after_step, after_steps}
 use Rattle.desk_model.proofs.SetLaws.{after_set-sets, with_row-same, with_row-other}
 use Rattle.desk_model.proofs.PushLaws.{after_push-groups, after_push-others}
 use Rattle.desk_model.proofs.RotationOrder.{rotation-each}
-use Rattle.plan_push.proofs.FlownLaws.{pushed-flies}
+use Rattle.hour_counts.proofs.FlownLaws.{pushed-flies}
 use Rattle.full_cost.specs.Amounts.{reservation_cost}
 use Rattle.board_kit.proofs.SumLaws.{sum_same, sum_change}
 use Rattle.board_kit.specs.Users.{uses, has_leg}

@@ -27,7 +27,7 @@ use Rattle.desk_model.specs.Steps.{after_step, after_move}
 use Rattle.desk_model.proofs.SwapLaws.{after_swap-row, after_swap-valid}
 use Rattle.desk_model.proofs.PushLaws.{after_push-others, after_push-valid}
 use Rattle.desk_model.proofs.RotationOrder.{flown_once, rotation-each}
-use Rattle.plan_push.proofs.FlownLaws.{pushed-flies}
+use Rattle.hour_counts.proofs.FlownLaws.{pushed-flies}
 use Rattle.near_moves.specs.LegMoves.{exchange}
 use Rattle.move_laws.proofs.TallyLaws.{AreApart}
 use Rattle.move_laws.proofs.ChainLaws.{rotation-apart, in-rotation}

@@ -9,15 +9,15 @@ ghost use Rattle.plan_moves.specs.Fits.{StepFits};
 ghost use Rattle.desk_rules.specs.Rows.{is_row};
 ghost use Rattle.desk_model.specs.Push.{after_placing, after_push};
 ghost use Rattle.desk_model.specs.Steps.{after_set, after_step};
-ghost use Rattle.plan_push.specs.Placings.{AreLegs, IsPlacing};
+ghost use Rattle.hour_counts.specs.Placings.{AreLegs, IsPlacing};
 ghost use Rattle.near_draft.specs.Drafts.{plan_of};
 
 use crate::draft::Draft;
 use crate::legs::legs_in_order;
 use crate::swap::{Exchange, swap_step};
 use desk_data::{Leg, NoMem, Plane, Row};
+use hour_counts::{Placing, first_departure, placings};
 use plan_moves::Step;
-use plan_push::{Placing, first_departure, placings};
 use std::alloc::Global;
 
 /// Takes a step in a draft, if it changes rows alone: a Set, a Push or a Swap. It says no where it did not: then the

@@ -6,7 +6,7 @@ ghost use Rattle.desk_data.specs.PlanRows.{PlanRows};
 ghost use Rattle.desk_rules.specs.Passengers.{aboard, seats_in};
 
 use desk_data::{Cabin, Leg, Seats};
-use plan_groups::KnowsAboard;
+use plan_reads::KnowsAboard;
 
 /// Whether at least so many are aboard a leg in each cabin.
 pub(crate) fn has_no_fewer<A: KnowsAboard>(knower: &A, leg: Leg, had: Seats) -> bool

@@ -8,8 +8,8 @@ ghost use Rattle.near_notes.specs.Changes.{AreAllStill, AreChanges};
 
 use crate::aboard::has_no_fewer;
 use desk_data::{Cabin, Instance, Leg, NoMem, Seats};
-use plan_groups::KnowsAboard;
 use plan_pages::Pages;
+use plan_reads::KnowsAboard;
 use std::alloc::Global;
 
 /// The legs that were touched between two plans: that have another row, or fewer passengers in a cabin.

@@ -11,14 +11,14 @@ ghost use Rattle.near_notes.specs.Changes.{AreChanges};
 ghost use Rattle.near_notes.specs.Later.{AreNotesAt, AreKnown};
 ghost use Rattle.near_notes.specs.Links.{AreLinks};
 
+use crate::Notes;
 use crate::aboard::seats_aboard;
 use crate::changes::Changes;
 use crate::links::Links;
 use crate::untouched::{Plans, is_untouched};
-use crate::Notes;
 use desk_data::{Instance, Leg, NoMem, Res, Seats};
-use plan_groups::KnowsAboard;
 use plan_pages::Pages;
+use plan_reads::KnowsAboard;
 use std::alloc::Global;
 
 /// Notes of a feasible plan of which nothing is known yet. The only error is out of memory.

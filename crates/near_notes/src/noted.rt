@@ -4,10 +4,10 @@ ghost use Rattle.std.specs.Prelude.{◌≡◌, IfSome};
 ghost use Rattle.near_notes.specs.DayNotes.{AreNotes};
 ghost use Rattle.near_notes.specs.Notes.{AreUnitNotes};
 
+use crate::UnitNotes;
 use crate::notes_of_day::Notes;
 use desk_data::Instance;
 use std::marker::Model;
-use crate::UnitNotes;
 
 /// A day, and what was noted of it. Contracts see it as the day.
 pub struct NotedDay {

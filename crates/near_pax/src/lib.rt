@@ -11,12 +11,11 @@
 //! Legs are found by the airports between which they go and by departure: the first where passengers stand after
 //! a stem, no earlier than they may go, the second from where the first arrives to where they want to go, no earlier
 //! than that arrives, and none that arrives too late. Of one stem no path is tried twice, so a path is looked for
-//! among the routes of the stems before it alone. What is found is judged as a whole path, by `is_fit_path` of plan_groups.
+//! among the routes of the stems before it alone. What is found is judged as a whole path, by `is_fit_path` of plan_reads.
 //! `begun_path`, `is_other_stem`, `start_after` and `due_before` tell a reservation's stems, and from where, from when on and
 //! until when its passengers go on after one.
 //!
-//! Proved: the paths are `routes` of near_moves, in its order. It depends on `near_moves`, `plan_reads`,
-//! `plan_groups` and `plan_pages`.
+//! Proved: the paths are `routes` of near_moves, in its order.
 //!
 //! # Units and moves of passengers
 //!

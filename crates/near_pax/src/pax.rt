@@ -9,10 +9,10 @@ ghost use Rattle.near_moves.specs.PassengerMoves.{rebooked_units};
 ghost use Rattle.near_pax.specs.Units.{unit_at};
 ghost use Rattle.near_pax.specs.Left.{Gives, IsOf, left, unit_left, units_left};
 
+use crate::FlightNet;
 use crate::unit::PaxUnit;
 use crate::units::PaxUnits;
 use desk_data::{Instance, NoMem, Res};
-use crate::FlightNet;
 use plan_moves::Move;
 use plan_pages::Pages;
 use std::alloc::Global;

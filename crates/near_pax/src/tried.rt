@@ -10,9 +10,8 @@ ghost use Rattle.near_pax.specs.Tried.{new_routes};
 
 use crate::start::Outset;
 use desk_data::{Cabin, Instance, Leg, List, NoMem, Path, Res, same_path};
-use plan_groups::is_fit_path;
 use plan_pages::Pages;
-use plan_reads::is_carried;
+use plan_reads::{is_carried, is_fit_path};
 use std::alloc::Global;
 
 /// The scheduled path, where it is a route, and nothing else.

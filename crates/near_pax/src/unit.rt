@@ -10,9 +10,9 @@ ghost use Rattle.near_moves.specs.PassengerMoves.{rebooking};
 ghost use Rattle.near_pax.specs.Units.{path_at, unit_at};
 ghost use Rattle.near_pax.specs.Left.{Gives, IsMade, IsUnit, left_of_unit, left_of_made, other_aims};
 
+use crate::FlightNet;
 use crate::counts::portions;
 use desk_data::{Cabin, Instance, Leg, List, NoMem, Path, Res, same_path};
-use crate::FlightNet;
 use plan_moves::{Move, Step};
 use plan_pages::Pages;
 use std::alloc::Global;

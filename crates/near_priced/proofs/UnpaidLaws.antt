@@ -35,7 +35,7 @@ use Rattle.desk_model.specs.Steps.{after_set, after_step, after_steps, after_mov
 use Rattle.desk_model.proofs.SetLaws.{with_row-same, with_row-other}
 use Rattle.desk_model.proofs.SwapLaws.{after_swap-row}
 use Rattle.desk_model.proofs.MoveLaws.{after_steps-valid}
-use Rattle.plan_push.proofs.FlownLaws.{pushed-flies}
+use Rattle.hour_counts.proofs.FlownLaws.{pushed-flies}
 use Rattle.full_cost.specs.Amounts.{reservation_cost}
 use Rattle.board_kit.proofs.SumLaws.{sum_same, sum_change}
 use Rattle.board_cost.proofs.BalanceLaws.{cost_is}

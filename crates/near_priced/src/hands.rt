@@ -8,8 +8,8 @@ ghost use Rattle.full_cost.specs.Stands.{end_of, is_there};
 ghost use Rattle.plan_reads.specs.Last.{AreLasts, IsLastOf};
 ghost use Rattle.near_priced.specs.Tables.{is_hand};
 
-use desk_data::{Instance, Leg, NoMem, Plane, PositionInfo};
 use crate::{end_of, is_at, is_wanted};
+use desk_data::{Instance, Leg, NoMem, Plane, PositionInfo};
 use plan_pages::Pages;
 use std::alloc::Global;
 

@@ -6,8 +6,8 @@ ghost use Rattle.desk_data.specs.Valid.{IsPathOf, IsPlanFor};
 ghost use Rattle.near_priced.specs.Payers.{AreCosts};
 ghost use Rattle.near_priced.specs.Tables.{AreAmounts, AreGrown, AreKept};
 
-use desk_data::{Cabin, Grains, Group, Instance, Leg, Res};
 use crate::cost_of;
+use desk_data::{Cabin, Grains, Group, Instance, Leg, Res};
 use plan_pages::Pages;
 
 /// An amount, in grains, grows to this and no further: 10^38, and all passengers of a plan cost no more.

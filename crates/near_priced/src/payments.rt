@@ -8,8 +8,8 @@ ghost use Rattle.near_priced.specs.Tables.{ArePayments};
 
 use crate::hands::hands_of;
 use crate::paid::put_paid;
-use desk_data::{Grains, Instance, Leg, NoMem};
 use board_kit::LegUsers;
+use desk_data::{Grains, Instance, Leg, NoMem};
 use plan_pages::Pages;
 use plan_reads::put_lasts;
 use std::alloc::Global;

@@ -9,12 +9,12 @@ ghost use Rattle.near_draft.specs.Drafts.{plan_of};
 ghost use Rattle.near_priced.specs.Saved.{least_after, least_of, saved_by, saved_on, uncarried_cost};
 ghost use Rattle.near_priced.specs.Tables.{ArePayments};
 
+use crate::cost_of;
 use crate::left::take_off;
 use crate::payments::Payments;
 use desk_data::{Cabin, Instance, Leg, Res};
 use full_cost::{path_cost, path_end};
 use near_draft::Draft;
-use crate::cost_of;
 use plan_pages::Pages;
 use plan_reads::ReadPlan;
 

@@ -15,11 +15,11 @@ use crate::left::MadeMoves;
 use crate::rotations::Rotations;
 use crate::trial::{Tried, try_all};
 use crate::units::{is_noted_out, note_by_rows, note_out};
-use near_notes::UnitNotes;
 use desk_data::NoMem;
 use desk_eval::Evaluator;
 use desk_units::Listener;
 use near_legs::{LegUnit, LegUnits};
+use near_notes::UnitNotes;
 use plan_moves::Move;
 use std::alloc::Global;
 

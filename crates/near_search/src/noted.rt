@@ -10,9 +10,9 @@ ghost use Rattle.near_notes.specs.Later.{AreNotesAt};
 ghost use Rattle.near_search.specs.Noted.{AreNotedAt};
 
 use crate::ruled_out::costs_nothing;
-use near_notes::{Notes, first_notes, later_notes};
 use desk_data::{NoMem, Res};
 use desk_eval::Evaluator;
+use near_notes::{Notes, first_notes, later_notes};
 use std::alloc::Global;
 
 /// What is noted of the day at the evaluator's plan: what was noted at an earlier plan, as far as it still holds. No notes

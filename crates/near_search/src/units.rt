@@ -9,11 +9,11 @@ ghost use Rattle.near_notes.specs.Notes.{AreUnitNotes, AreUnitNotesAt, IsUnitOut
 ghost use Rattle.near_search.specs.Noted.{AreUnitsNotedAt};
 
 use crate::noted::is_feasible;
-use near_notes::UnitNotes;
 use desk_data::NoMem;
 use desk_eval::Evaluator;
-use near_untouched::later_unit_notes;
 use near_legs::LegUnit;
+use near_notes::UnitNotes;
+use near_untouched::later_unit_notes;
 use std::alloc::Global;
 
 /// What is noted of units of legs at the evaluator's plan: what was noted at an earlier plan, as far as it still holds. No

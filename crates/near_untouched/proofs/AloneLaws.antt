@@ -31,7 +31,7 @@ use Rattle.desk_model.specs.Refill.{after_refill}
 use Rattle.desk_model.specs.Steps.{after_step, after_steps, after_move}
 use Rattle.desk_model.proofs.TidyLaws.{after_tidy-at, after_tidy-valid, after_tidy-rows}
 use Rattle.desk_model.proofs.RefillLaws.{after_refill-valid, after_refill-rows, after_refill-refills}
-use Rattle.plan_groups.proofs.TidyCalls.{tidy-keeps}
+use Rattle.plan_reads.proofs.TidyCalls.{tidy-keeps}
 use Rattle.full_cost.specs.Amounts.{group_cost, reservation_cost}
 use Rattle.board_cost.proofs.BalanceLaws.{cost_is}
 use Rattle.board_kit.proofs.SumLaws.{sum_same}

@@ -12,15 +12,15 @@ ghost use Rattle.near_notes.specs.Notes.{AreUnitNotes, AreUnitNotesAt};
 ghost use Rattle.near_untouched.specs.Carried.{AreCarriedTold};
 ghost use Rattle.near_untouched.specs.Later.{AreAllTouched, AreMoved, AreTouchedAt};
 
+use crate::Untouched;
 use crate::carried::carriers;
 use crate::later_hours::SameHours;
 use crate::same::{has_same_rows, is_same_plan};
 use desk_data::{Instance, NoMem};
 use hour_counts::{HourCounts, KnowsHours};
-use crate::Untouched;
+use near_notes::{Findings, UnitNotes};
 use plan_pages::Pages;
 use std::alloc::Global;
-use near_notes::{Findings, UnitNotes};
 
 /// What of the notes of an earlier plan holds at a feasible plan as it stands, whose hours are known: a unit stays known
 /// where nothing was touched that it hangs on, and notes of the same plan stay as they are. The only error is out of memory,

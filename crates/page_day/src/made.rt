@@ -9,7 +9,10 @@ use crate::{PICTURE_STYLE, Picture, put_key, put_patterns, put_picture};
 use desk_data::{Broken, Instance, NoMem, Plan};
 use full_check::full_check;
 use output_texts::push_broken;
-use page_parts::{Findings, Page, Part, TABLE_STYLE, changed_groups, changed_legs, cost_terms, date, put_costs, put_facts, put_footer, put_groups, put_legs};
+use page_parts::{
+    Findings, Page, Part, TABLE_STYLE, changed_groups, changed_legs, cost_terms, date, put_costs,
+    put_facts, put_footer, put_groups, put_legs,
+};
 use std::alloc::Global;
 
 /// A page, and what its plan breaks first.

@@ -14,8 +14,8 @@ ghost use Rattle.page_day.specs.Runs.{IsVerdict, PutsPage, Shows};
 use crate::made::made_page;
 use desk_data::{Broken, Instance, Plan};
 use desk_folder::{Folder, FolderFault, Sink, put_report};
-use desk_tasks::Ending;
 use desk_story::{InputPlan, InputTask, read_task};
+use desk_tasks::Ending;
 use desk_words::Command;
 use std::alloc::Global;
 

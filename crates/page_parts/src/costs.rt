@@ -1,7 +1,7 @@
 //! What the schedule and the plan cost, term by term.
 
-use desk_data::{Grains, NoMem};
 use crate::{CostTerms, Page, Part, put_units, shown_term, ten_thousandths};
+use desk_data::{Grains, NoMem};
 
 // A row of the table: a term, what it counts, and what the schedule and the plan cost in it, in ten-thousandths of a unit.
 #[derive(Clone, Copy)]

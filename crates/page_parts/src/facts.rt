@@ -2,11 +2,11 @@
 
 use crate::costs::{put_difference, sum_of};
 use crate::findings::Findings;
-use desk_data::{Instance, Minute, NoMem};
 use crate::{
     ChangedGroup, ChangedLeg, Fate, LegChange, Page, Part, Shift, clock, date, put_units,
     ten_thousandths,
 };
+use desk_data::{Instance, Minute, NoMem};
 
 // How many legs changed in which way.
 #[derive(Clone, Copy)]

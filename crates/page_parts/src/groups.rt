@@ -3,9 +3,9 @@
 ghost use Rattle.std.specs.Prelude.{◌<◌};
 ghost use Rattle.desk_data.specs.Valid.{IsPlanFor};
 
+use crate::{ChangedGroup, Fate, Page, Part, leg_of, res_of};
 use desk_data::{Cabin, Instance, Leg, LegInfo, NoMem, Plan, ResInfo};
 use desk_text::{cabin_letter, direction_letter};
-use crate::{ChangedGroup, Fate, Page, Part, leg_of, res_of};
 use std::alloc::Global;
 
 // The most rows of the table.

@@ -4,10 +4,10 @@ ghost use Rattle.std.specs.Prelude.{◌<◌};
 ghost use Rattle.desk_data.specs.Situation.{legs_of};
 ghost use Rattle.desk_data.specs.Valid.{IsPlanFor};
 
-use desk_data::{Instance, Leg, LegInfo, Minute, NoMem, Plan, Plane, Row};
 use crate::{
     ChangedLeg, LegChange, Page, Part, Shift, airport_name, date, leg_of, plane_name, put_time,
 };
+use desk_data::{Instance, Leg, LegInfo, Minute, NoMem, Plan, Plane, Row};
 use std::alloc::Global;
 
 // How bad a change is: the least stands first. Cancelled legs come before the others, then those that are shifted most, then

@@ -1,7 +1,7 @@
 //! How the tables look, and what stands below them.
 
-use desk_data::NoMem;
 use crate::{Page, Part};
+use desk_data::NoMem;
 
 /// The style of the page and its tables, for the head of the page.
 pub const TABLE_STYLE: &str = "\

@@ -4,3 +4,8 @@ pub mod LastLaws
 pub mod OrderLaws
 pub mod PathLaws
 pub mod RotationLegLaws
+pub mod CountLaws
+pub mod SeatLaws
+pub mod RebookCalls
+pub mod TidyCalls
+pub mod RefillCalls

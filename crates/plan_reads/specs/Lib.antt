@@ -3,3 +3,4 @@ pub mod Order
 pub mod Last
 pub mod AfterLeg
 pub mod Connection
+pub mod Made

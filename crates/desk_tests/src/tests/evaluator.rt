@@ -5,7 +5,7 @@
 ghost use Rattle.std.specs.Prelude.{◌≡◌, ◌<◌, length};
 ghost use Rattle.std.specs.Option.{ForSome};
 ghost use Rattle.desk_data.specs.Situation.{reservations_of};
-ghost use Rattle.plan_groups.specs.Made.{AreWhole};
+ghost use Rattle.plan_reads.specs.Made.{AreWhole};
 
 use super::changes::{on_schedule, said, said_anew};
 use super::days::{Orders, made_up, told};

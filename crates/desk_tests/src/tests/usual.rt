@@ -5,8 +5,8 @@ ghost use Rattle.desk_data.specs.Valid.{IsPlanFor};
 
 use super::days::{Texts, day_of};
 use desk_data::{Cabin, Instance, Leg, List, Minute, Path, Plane, Res};
-use desk_folder::File;
 use desk_eval::{cancel, delay, rebook, reroute, swap};
+use desk_folder::File;
 use near_pax::routes;
 use plan_moves::Move;
 use plan_pages::Pages;

@@ -4,15 +4,15 @@ ghost use Rattle.std.specs.Prelude.{◌≡◌, ◌<◌, [], length, IfOk, OnOk};
 ghost use Rattle.std.specs.Option.{ForSome};
 ghost use Rattle.desk_data.specs.Situation.{legs_of, reservations_of};
 ghost use Rattle.desk_data.specs.Valid.{IsPlanFor};
-ghost use Rattle.plan_groups.specs.Made.{AreWhole};
+ghost use Rattle.plan_reads.specs.Made.{AreWhole};
 ghost use Rattle.desk_tests.specs.Walks.{IsWalk};
 
 use super::days::{Orders, told};
 use super::draws::{Draws, drawn_path, drawn_row};
 use board_kit::Board;
 use desk_data::{Group, Instance, Leg, NoMem, Plan, Res, Steps};
-use plan_groups::{groups_after_rebook, groups_after_tidy};
 use plan_pages::Pages;
+use plan_reads::{groups_after_rebook, groups_after_tidy};
 use std::alloc::Global;
 use std::marker::Brand;
 use std::sync::ledger::{Blank, Ledger};

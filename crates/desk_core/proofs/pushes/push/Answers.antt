@@ -4,9 +4,9 @@ use Rattle.std.specs.Prelude.{None}
 use Rattle.desk_units.specs.declared.numbers.Leg.{Leg}
 use Rattle.desk_data.specs.PlanRows.{PlanRows}
 use Rattle.desk_model.specs.Push.{after_placing}
-use Rattle.plan_push.specs.declared.pushed.Placing.{Placing}
-use Rattle.plan_push.specs.Placings.{IsPlacing}
-use Rattle.plan_push.proofs.PlacedLaws.{placed_all, placed_all-more, placed_all-is}
+use Rattle.hour_counts.specs.declared.pushed.Placing.{Placing}
+use Rattle.hour_counts.specs.Placings.{IsPlacing}
+use Rattle.hour_counts.proofs.PlacedLaws.{placed_all, placed_all-more, placed_all-is}
 use Rattle.desk_core.proofs.pushes.push.Goals as goal
 
 -- what is read where there is no placing

@@ -1,7 +1,7 @@
 use Rattle.std.proofs.Common.{◌≡◌, take}
 use Rattle.desk_data.specs.Valid.{IsPlanFor}
 use Rattle.hour_counts.specs.Counts.{AreCountsOf}
-use Rattle.plan_push.proofs.PlacedLaws.{placed_all}
+use Rattle.hour_counts.proofs.PlacedLaws.{placed_all}
 use Rattle.desk_core.proofs.pushes.push.Given as goal
 
 abbrev pub invariant-loop-placing : goal.invariant-loop-placing

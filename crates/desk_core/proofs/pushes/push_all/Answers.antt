@@ -2,7 +2,7 @@ use Rattle.std.proofs.Common.{sym, ap, subst, ◌∙◌, arith}
 use Rattle.std.specs.Prelude.{None}
 use Rattle.desk_data.specs.PlanRows.{PlanRows}
 use Rattle.desk_model.specs.Push.{after_push}
-use Rattle.plan_push.specs.Flown.{AreFlown}
+use Rattle.hour_counts.specs.Flown.{AreFlown}
 use Rattle.desk_core.proofs.PushParts.{pushed_to-none, pushed_to-more, pushed_to-all, pushed_to-flown}
 use Rattle.desk_core.proofs.pushes.push_all.Goals as goal
 

@@ -6,10 +6,10 @@ use Rattle.desk_units.specs.declared.numbers.Leg.{Leg}
 use Rattle.desk_data.specs.Situation.{Situation, legs_of, planes_of}
 use Rattle.desk_data.specs.PlanRows.{PlanRows}
 use Rattle.desk_model.specs.Push.{after_placing, rotation}
-use Rattle.plan_push.specs.declared.pushed.Placing.{Placing}
-use Rattle.plan_push.specs.Placings.{AreLegs, IsPlacing}
+use Rattle.hour_counts.specs.declared.pushed.Placing.{Placing}
+use Rattle.hour_counts.specs.Placings.{AreLegs, IsPlacing}
 use Rattle.desk_eval.proofs.BackLaws.{after-itself, after-more, after-then}
-use Rattle.plan_push.proofs.PlacedLaws.{placed_all, placed_all-more, placed_all-is}
+use Rattle.hour_counts.proofs.PlacedLaws.{placed_all, placed_all-more, placed_all-is}
 use Rattle.desk_eval.proofs.PushLaws.{length-placings}
 use Rattle.desk_eval.proofs.push_step.push_step.Goals as goal
 

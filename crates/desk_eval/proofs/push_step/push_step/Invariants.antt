@@ -1,6 +1,6 @@
 use Rattle.std.proofs.Common.{◌≡◌, take}
 use Rattle.desk_eval.specs.Back.{IsAfter}
-use Rattle.plan_push.proofs.PlacedLaws.{placed_all}
+use Rattle.hour_counts.proofs.PlacedLaws.{placed_all}
 use Rattle.desk_eval.proofs.push_step.push_step.Given as goal
 
 abbrev pub invariant-loop-placing : goal.invariant-loop-placing

@@ -1,6 +1,6 @@
 use Rattle.std.proofs.Common.{subst}
 use Rattle.desk_data.specs.Situation.{Situation}
-use Rattle.plan_groups.specs.Made.{AreWhole}
+use Rattle.plan_reads.specs.Made.{AreWhole}
 use Rattle.desk_eval.proofs.BackLaws.{after-itself}
 use Rattle.desk_eval.proofs.tidy_step.tidy_reservation.Goals as goal
 

@@ -4,9 +4,9 @@ use Rattle.std.proofs.lemmas.List.{take_all}
 use Rattle.desk_data.specs.Situation.{Situation}
 use Rattle.desk_data.specs.PlanRows.{PlanRows}
 use Rattle.desk_model.specs.Push.{after_placing, rotation}
-use Rattle.plan_push.specs.declared.pushed.Placing.{Placing}
-use Rattle.plan_push.specs.Placings.{AreLegs, IsPlacing}
-use Rattle.plan_push.proofs.PlacedLaws.{placed_all, placed_all-more, placed_all-is}
+use Rattle.hour_counts.specs.declared.pushed.Placing.{Placing}
+use Rattle.hour_counts.specs.Placings.{AreLegs, IsPlacing}
+use Rattle.hour_counts.proofs.PlacedLaws.{placed_all, placed_all-more, placed_all-is}
 use Rattle.near_draft.specs.Drafts.{plan_of}
 use Rattle.near_draft.specs.Legs.{numbers_of}
 use Rattle.near_draft.proofs.LegLaws.{rotation-legs}

@@ -1,5 +1,5 @@
 use Rattle.std.proofs.Common.{◌≡◌, take}
-use Rattle.plan_push.proofs.PlacedLaws.{placed_all}
+use Rattle.hour_counts.proofs.PlacedLaws.{placed_all}
 use Rattle.near_draft.specs.Drafts.{plan_of}
 use Rattle.near_draft.proofs.steps.push_step.Given as goal
 

@@ -1,6 +1,6 @@
 use Rattle.std.proofs.Common.{subst}
 use Rattle.desk_data.specs.Situation.{Situation}
-use Rattle.plan_groups.specs.Made.{AreWhole}
+use Rattle.plan_reads.specs.Made.{AreWhole}
 use Rattle.desk_tests.proofs.tests.evaluator.change_groups.Goals as goal
 
 pub put_groups-requires-clause-whole : goal.put_groups-requires-clause-whole

@@ -1,5 +1,0 @@
-pub mod CountLaws
-pub mod SeatLaws
-pub mod RebookCalls
-pub mod TidyCalls
-pub mod RefillCalls

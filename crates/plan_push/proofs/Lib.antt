@@ -1,7 +1,0 @@
-mod AgreeLaws
-mod RuledOutLaws
-mod DepartLaws
-mod LeftLaws
-mod SortedLaws
-pub mod FlownLaws
-pub mod PlacedLaws
