@@ -7,7 +7,8 @@
    crates/desk_rows has a row, and each row such a refusal. The sections that explanations name are headings of docs/FORMATS.md.
 2. The rules of crates/desk_words/src/rules.rt are those of docs/RULES-AND-COST.md, with their words, items and sentences.
 3. The commands of docs/FORMATS.md, with their options, ranges and what holds where one is left out, are those of USAGE.
-4. crates/help_rows/stdin has a case for each row and for each rule, and each answer in its stdout is what the pages say.
+4. crates/desk_rows/stdin has a case for each row and for each rule, and each answer at the end of its stdout, after the cases of the
+   program, is what the pages say.
 
 It ends with 1 where it names anything, and else with 0.
 """
@@ -18,8 +19,8 @@ from pathlib import Path
 
 TOP = Path(__file__).resolve().parent.parent
 SOURCES = TOP / "crates" / "desk_words" / "src"
-ROWS = TOP / "crates" / "help_rows"
-TRANSCRIPTS = TOP / "crates" / "desk_rows" / "data"
+ROWS = TOP / "crates" / "desk_rows"
+TRANSCRIPTS = ROWS / "data"
 WHOLE = " at line 0"
 COMMA_FILES = ("tariff.csv", "feed.csv", "journal.csv")
 STRING = r'"((?:[^"\\]|\\.)*)"'
@@ -179,15 +180,15 @@ def run_faults(rows, rules):
     cases = (ROWS / "stdin").read_text(encoding="utf-8").splitlines()
     given = ("\n" + (ROWS / "stdout").read_text(encoding="utf-8")).split("\n$ ")[1:]
     answers = {block.split("\n", 1)[0]: block.split("\n")[1:] for block in given}
-    faults = [f"help_rows: stdin and stdout have other cases: {case}" for case in set(cases) ^ set(answers)]
+    faults = [f"desk_rows: stdin and stdout have other cases: {case}" for case in set(cases) ^ set(answers)]
     for case in cases:
         wanted, got = answer(case, rows, rules), "\n".join(answers.get(case, [])).rstrip("\n").split("\n")
         if wanted is not None and (wanted or [""]) != got:
-            faults.append(f"help_rows: {case}: other than the pages say")
+            faults.append(f"desk_rows: {case}: other than the pages say")
     asked = {(file, line == "0", cause) for file, line, cause in REFUSED.findall("\n".join(cases))}
-    faults += [f"help_rows: no case of {' '.join(map(str, row))}" for row in rows.keys() - asked]
+    faults += [f"desk_rows: no case of {' '.join(map(str, row))}" for row in rows.keys() - asked]
     items = {number for number in rules if re.search(rf"(no plan|broken|crew) {number} ", "\n".join(cases))}
-    return faults + [f"help_rows: no case of {number}" for number in rules.keys() - items]
+    return faults + [f"desk_rows: no case of {number}" for number in rules.keys() - items]
 
 
 def faults_of(name, code, page):

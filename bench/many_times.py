@@ -53,7 +53,7 @@ def run(command, folder, seconds):
     """Why a run failed, or None; and its seconds."""
     start = time.time()
     try:
-        done = subprocess.run(command, cwd=folder, stdout=subprocess.PIPE, stderr=subprocess.STDOUT, timeout=seconds)
+        done = subprocess.run(command, cwd=folder, stdin=subprocess.DEVNULL, stdout=subprocess.PIPE, stderr=subprocess.STDOUT, timeout=seconds)
     except subprocess.TimeoutExpired:
         return "it did not end in %d seconds" % seconds, time.time() - start
     if done.returncode != 0:

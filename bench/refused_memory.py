@@ -240,7 +240,7 @@ def refuse_in_case(shim, folder):
 
     def played(refuse):
         env = {**os.environ, "LD_PRELOAD": shim, "REFUSE": str(refuse)}
-        return subprocess.run([ROWS], cwd=data, capture_output=True, text=True, env=env)
+        return subprocess.run([ROWS], cwd=data, stdin=subprocess.DEVNULL, capture_output=True, text=True, env=env)
 
     calls = int(played(0).stderr.split()[-1])
     return calls, sum(not memory_case.is_right(played(refuse)) for refuse in range(1, calls + 1))

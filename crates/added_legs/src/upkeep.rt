@@ -14,19 +14,19 @@ use desk_data::{Instance, Leg, Maint, Minute, NoMem, Plan, Plane, Row};
 use plan_reads::{Moments, departure, meets_span};
 use std::alloc::Global;
 
-/// What some legs say of an aircraft's maintenance.
+/// What some legs of an aircraft say of its maintenance.
 #[derive(Clone, Copy)]
-pub(crate) struct Upkeep {
+pub struct Upkeep {
     /// Whether none of them departs from the start of the maintenance on.
-    pub(crate) stops: bool,
+    pub stops: bool,
     /// Whether none meets the maintenance.
-    pub(crate) free: bool,
+    pub free: bool,
     /// The block minutes of those that depart before the start.
-    pub(crate) minutes: u32,
+    pub minutes: u32,
 }
 
 /// The start of each aircraft's maintenance; minute 0 where it has none.
-pub(crate) struct Starts;
+pub struct Starts;
 
 impl Moments for Starts {
     ghost moment_of = { λ starts I p. start_of (plane_at I p).maint };
@@ -40,7 +40,7 @@ impl Moments for Starts {
 }
 
 /// What the legs of a plan say of the maintenance of each aircraft.
-pub(crate) fn upkeeps_of(alloc: Global, inst: &Instance, plan: &Plan) -> Result<Vec<Upkeep>, NoMem>
+pub fn upkeeps_of(alloc: Global, inst: &Instance, plan: &Plan) -> Result<Vec<Upkeep>, NoMem>
     requires { IsPlanFor inst.now plan.now }
     ensures { IfOk result (λ upkeeps. AreUpkeeps inst.now plan.now (legs_of inst.now) upkeeps.items) }
 {

@@ -14,7 +14,6 @@ pub mod MoreLaws
 pub mod FitLaws
 pub mod FirstLaws
 pub mod CandidateLaws
-pub mod UpkeepLaws
 pub mod RuledOutLaws
 pub mod TableLaws
 pub mod RoomLaws

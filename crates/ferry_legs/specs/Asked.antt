@@ -9,7 +9,7 @@ use Rattle.added_legs.specs.Asked.{start_of}
 use Rattle.ferry_legs.specs.declared.ruled_out.Asked.{Asked}
 use Rattle.ferry_legs.specs.Departs.{IsWay}
 use Rattle.ferry_legs.specs.Taken.{IsTakenOf}
-use Rattle.ferry_legs.specs.Times.{IsUpkeep}
+use Rattle.added_legs.specs.Asked.{IsUpkeep}
 
 -- it is of a way, of what the plan says of its aircraft, and of all who depart and arrive, with the same added legs
 pub record IsAsked (I : Situation) (P : PlanRows) (asked : Asked) : Type 0 where

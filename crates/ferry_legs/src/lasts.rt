@@ -2,32 +2,17 @@
 
 ghost use Rattle.std.specs.Prelude.{◌≡◌, ◌<◌, ◌≤◌, IfOk};
 ghost use Rattle.std.specs.Option.{ForSome};
-ghost use Rattle.desk_data.specs.Situation.{airports_of, legs_of, planes_of, plane_at};
+ghost use Rattle.desk_data.specs.Situation.{airports_of, legs_of, planes_of};
 ghost use Rattle.desk_data.specs.Valid.{IsPlanFor};
 ghost use Rattle.plan_reads.specs.Last.{AreLasts, stand};
 ghost use Rattle.added_legs.specs.Ferried.{ready};
 ghost use Rattle.added_legs.specs.Merged.{plane_end};
-ghost use Rattle.added_legs.specs.Asked.{start_of};
 ghost use Rattle.ferry_legs.specs.Departs.{IsWay, way_of};
 
 use crate::way::Way;
 use desk_data::{Airport, Instance, Leg, Minute, NoMem, Plan, Plane};
 use plan_reads::{Moments, arrival, put_lasts, stand_of};
 use std::alloc::Global;
-
-/// The start of each aircraft's maintenance; minute 0 where it has none.
-pub(crate) struct Starts;
-
-impl Moments for Starts {
-    ghost moment_of = { λ starts I p. start_of (plane_at I p).maint };
-
-    fn moment(&self, inst: &Instance, plane: Plane) -> Minute {
-        match inst.plane(plane).maint {
-            Some(maint) => maint.from,
-            None => Minute(0),
-        }
-    }
-}
 
 /// The last leg of the plan before each aircraft's moment.
 pub(crate) fn lasts_of<M: Moments>(

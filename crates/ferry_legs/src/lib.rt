@@ -60,7 +60,6 @@ mod room;
 mod ruled_out;
 mod table;
 mod times;
-mod upkeep;
 mod wanted;
 mod way;
 

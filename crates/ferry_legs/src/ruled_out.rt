@@ -7,16 +7,15 @@ ghost use Rattle.desk_data.specs.Valid.{IsPlanFor};
 ghost use Rattle.desk_rules.specs.Rules.{meets_span};
 ghost use Rattle.plan_reads.specs.Last.{AreLasts, IsLastOf};
 ghost use Rattle.hour_counts.specs.declared.slot.Movement.TheVariants.{Departure, Arrival};
-ghost use Rattle.added_legs.specs.Asked.{start_of};
 ghost use Rattle.ferry_legs.specs.Asked.{IsAsked};
 ghost use Rattle.ferry_legs.specs.Departs.{IsWay, can_depart, has_slots, is_in_service, keeps_all, keeps_maint, keeps_maintenance, serves};
 ghost use Rattle.ferry_legs.specs.RuledOut.{HoldsOrIsRuledOut};
 ghost use Rattle.ferry_legs.specs.Taken.{IsTakenOf};
-ghost use Rattle.ferry_legs.specs.Times.{AreUpkeeps, IsUpkeep};
+ghost use Rattle.added_legs.specs.Asked.{start_of, AreUpkeeps, IsUpkeep};
 
 use crate::room::{Taken, has_room};
-use crate::upkeep::Upkeep;
 use crate::way::Way;
+use added_legs::Upkeep;
 use desk_data::{Instance, Leg, Maint, Minute, Plan};
 use plan_reads::{meets_span, stand_of};
 

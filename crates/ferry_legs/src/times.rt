@@ -12,12 +12,11 @@ ghost use Rattle.ferry_legs.specs.Taken.{IsTakenOf};
 ghost use Rattle.ferry_legs.specs.Times.{IsTimesOf};
 
 use crate::departs::first_from;
-use crate::lasts::{Starts, lasts_of, ready, way_of};
+use crate::lasts::{lasts_of, ready, way_of};
 use crate::room::Taken;
 use crate::ruled_out::asked_of;
 use crate::table::Table;
-use crate::upkeep::{Upkeep, upkeeps_of};
-use added_legs::Added;
+use added_legs::{Added, Starts, Upkeep, upkeeps_of};
 use desk_data::{Airport, DEPARTURES_END, Instance, Leg, Minute, NoMem, Plan, Plane};
 use hour_counts::Movement;
 use std::alloc::Global;
