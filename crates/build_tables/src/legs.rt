@@ -46,7 +46,7 @@ pub(crate) fn leg_places(
     ensures { IfOk result (λ places. places.items ≡ flat_map (leg_places files.now.rotations) files.now.itineraries) }
 {
     let rows = files.itineraries.as_slice();
-    let mut places = Vec::new(alloc);
+    let mut places = Vec::with_capacity(alloc, rows.len())?;
     for row in rows {
         push_legs(&mut places, files, rotations, row.legs.as_slice())?;
     }

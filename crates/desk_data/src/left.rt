@@ -4,7 +4,7 @@ ghost use Rattle.std.specs.Prelude.{◌≡◌, ◌<◌, ◌≤◌, ℕ, List, No
 ghost use Rattle.std.specs.List.{filter_map};
 ghost use Rattle.std.specs.Option.{ForSome, option_or};
 ghost use Rattle.day_orders.specs.declared.orders.Order.{Order};
-ghost use Rattle.desk_data.specs.Insides.{progress_of};
+ghost use Rattle.desk_data.specs.Insides.{entries_in, progress_of};
 ghost use Rattle.desk_data.specs.Keeps.{KeepsLeft};
 ghost use Rattle.desk_data.specs.PlanRows.{row_at};
 ghost use Rattle.desk_data.specs.Progress.{leaving, frozen_by, progress_at};
@@ -14,10 +14,9 @@ ghost use Rattle.desk_data.specs.Valid.{AreParts, IsPlanFor, IsRowOf};
 
 use crate::instance::Instance;
 use crate::parts::Parts;
-use crate::path::Path;
 use crate::plan::Plan;
 use crate::row::Row;
-use crate::tally::{all_waiting, tallies};
+use crate::tally::{Tally, all_waiting, tallies};
 use day_orders::{AirportHour, AirportHours};
 use desk_units::{Airport, Leg, Minute, NoMem, Plane};
 use std::alloc::Global;
@@ -29,7 +28,7 @@ pub struct Left {
     /// By leg, the row with which it is frozen.
     pub frozen: Vec<Option<Row>>,
     /// By reservation, how many passengers have flown which frozen legs, in the order of paths.
-    pub tally: Vec<Vec<(Path, u32)>>,
+    pub tally: Vec<Tally>,
     /// Where and when frozen rows depart, but for those of surface transport.
     pub departures: AirportHours,
     /// Where and when they arrive.
@@ -84,12 +83,12 @@ impl Left {
         parts: &Parts,
         now: Minute,
         frozen: Vec<Option<Row>>,
-        tally: Vec<Vec<(Path, u32)>>,
+        tally: Vec<Tally>,
     ) -> Result<Left, NoMem>
         requires parts { AreParts parts.now }
         requires legs { length frozen.items ≡ length parts.now.legs }
         requires rows { All (λ row. ForSome row (IsRowOf (length parts.now.planes))) frozen.items }
-        ensures progress { IfOk result (λ left. progress_of left ≡ record { now = now; frozen = frozen.items; tally = map (λ entries. entries.items) tally.items }) }
+        ensures progress { IfOk result (λ left. progress_of left ≡ record { now = now; frozen = frozen.items; tally = map entries_in tally.items }) }
         ensures kept { IfOk result (λ left. (orders : List Order) → KeepsLeft (record { parts = parts.now; orders = orders; progress = progress_of left }) left.departures left.arrivals left.landings.items) }
     {
         let departures = departures_of(alloc, parts, frozen.as_slice())?;

@@ -3,6 +3,7 @@
 ghost use Rattle.std.specs.Prelude.{◌≡◌, ◌<◌, ◌≤◌, ◌&&◌, [], is_some, length, map, filter, fold, sum_by, slice_index_or, IfOk, MatchOption};
 ghost use Rattle.std.specs.List.{AllPairs, filter_map, insert, prefix_len};
 ghost use Rattle.std.specs.declared.cmp.Ordering.TheVariants.{Less};
+ghost use Rattle.desk_data.specs.Insides.{entries_in};
 ghost use Rattle.desk_data.specs.Paths.{is_carried};
 ghost use Rattle.desk_data.specs.PlanRows.{path_cmp, same_path};
 ghost use Rattle.desk_data.specs.Progress.{with_list, count_then, entry_of, tally_then, tally_by};
@@ -17,17 +18,39 @@ use crate::row::{Group, Row};
 use desk_units::{Cabin, Leg, List, NoMem, Res};
 use std::alloc::Global;
 use std::cmp::Ordering;
+use std::slice;
+
+/// How many passengers of a reservation have flown which frozen legs, in the order of paths.
+#[derive(Drop)]
+pub enum Tally {
+    /// One entry, for which no list is made: most days begin with nothing else.
+    One((Path, u32)),
+    /// A list of them.
+    Several(Vec<(Path, u32)>),
+}
+
+impl Tally {
+    /// The entries, in the order of paths.
+    pub(crate) fn as_slice(&self) -> &[(Path, u32)]
+        ensures { result.now ≡ entries_in self.now }
+    {
+        match self {
+            Tally::One(entry) => slice::from_ref(entry),
+            Tally::Several(entries) => entries.as_slice(),
+        }
+    }
+}
 
 /// Before any moment is told: all passengers of each reservation have flown nothing yet.
-pub fn all_waiting(alloc: Global, reservations: &[ResInfo]) -> Result<Vec<Vec<(Path, u32)>>, NoMem>
-    ensures { IfOk result (λ tally. map (λ entries. entries.items) tally.items ≡ map all_waiting reservations.now) }
+pub fn all_waiting(alloc: Global, reservations: &[ResInfo]) -> Result<Vec<Tally>, NoMem>
+    ensures { IfOk result (λ tally. map entries_in tally.items ≡ map all_waiting reservations.now) }
 {
     let mut tally = Vec::with_capacity(alloc, reservations.len())?;
     for res in reservations {
         let nothing = Path {
             legs: List(Vec::new(alloc)),
         };
-        tally.push(vec![in alloc; (nothing, res.count)]?)?;
+        tally.push(Tally::One((nothing, res.count)))?;
     }
     Ok(tally)
 }
@@ -38,14 +61,15 @@ pub fn tallies(
     inst: &Instance,
     plan: &Plan,
     frozen: &[Option<Row>],
-) -> Result<Vec<Vec<(Path, u32)>>, NoMem>
+) -> Result<Vec<Tally>, NoMem>
     requires { IsPlanFor inst.now plan.now }
-    ensures { IfOk result (λ tally. map (λ entries. entries.items) tally.items ≡ tally_by inst.now plan.now frozen.now) }
+    ensures { IfOk result (λ tally. map entries_in tally.items ≡ tally_by inst.now plan.now frozen.now) }
 {
     let count = inst.reservations();
     let mut tally = Vec::with_capacity(alloc, count as usize)?;
     for r in 0..count {
-        tally.push(tally_then(alloc, inst, plan, frozen, Res(r))?)?;
+        let entries = tally_then(alloc, inst, plan, frozen, Res(r))?;
+        tally.push(Tally::Several(entries))?;
     }
     Ok(tally)
 }

@@ -3,6 +3,7 @@ use Rattle.std.specs.Prelude.{Option}
 use Rattle.std.specs.List.{All}
 use Rattle.std.specs.Option.{ForSome}
 use Rattle.std.proofs.lemmas.Result.{IfOk-weaker}
+use Rattle.desk_data.specs.Insides.{entries_in}
 use Rattle.desk_data.specs.declared.parts.Parts.{Parts}
 use Rattle.desk_data.specs.declared.row.Row.{Row}
 use Rattle.desk_data.specs.Keeps.{KeepsLeft}
@@ -29,7 +30,7 @@ known-requires-clause-rows c =
 
 pub returns-clause-progress : goal.returns-clause-progress
 returns-clause-progress c =
-    let tally = map (λ entries. entries.items) c.in_ok-tally.tally.items in
+    let tally = map entries_in c.in_ok-tally.tally.items in
     let later = progress-later c.args.inst.now c.args.plan.now c.args.at c.in_ok-frozen.frozen.items tally c.requires.later c.in_ok-frozen.ensures (rw c.as_slice.ensures.value at c.in_ok-tally.ensures) in
     IfOk-weaker c.known.result _ _ (λ left is. is ∙ later) c.known.ensures.progress
 
@@ -37,5 +38,5 @@ pub returns-clause-kept : goal.returns-clause-kept
 returns-clause-kept c =
     let I = c.args.inst.now in
     IfOk-weaker c.known.result _ _
-    (λ left kept. subst (λ (parts : Parts). KeepsLeft (record { parts = parts; orders = I.orders; progress = record { now = left.now; frozen = left.frozen.items; tally = map (λ entries. entries.items) left.tally.items } }) left.departures left.arrivals left.landings.items) c.parts.ensures.parts (kept I.orders))
+    (λ left kept. subst (λ (parts : Parts). KeepsLeft (record { parts = parts; orders = I.orders; progress = record { now = left.now; frozen = left.frozen.items; tally = map entries_in left.tally.items } }) left.departures left.arrivals left.landings.items) c.parts.ensures.parts (kept I.orders))
     c.known.ensures.kept

@@ -1,4 +1,5 @@
 use Rattle.std.proofs.Common.{map}
+use Rattle.desk_data.specs.Insides.{entries_in}
 use Rattle.desk_data.specs.HoursTaken.{departs_in, arrives_in}
 use Rattle.desk_data.specs.Situation.{Situation}
 use Rattle.desk_data.proofs.LeftLemmas.{keeps_left, hours-few}
@@ -16,7 +17,7 @@ of-requires-2 c =
 
 pub returns-clause-kept : goal.returns-clause-kept
 returns-clause-kept c = λ orders.
-    let tally = map (λ entries. entries.items) c.args.tally.items in
+    let tally = map entries_in c.args.tally.items in
     let I : Situation = record { parts = c.args.parts.now; orders = orders; progress = record { now = c.args.now; frozen = c.args.frozen.items; tally = tally } } in
     keeps_left I c.of.result c.of-2.result c.in_ok-departures.departures.items c.in_ok-arrivals.arrivals.items c.in_ok-landings.landings.items
     (rw c.as_slice.ensures.value at c.in_ok-departures.ensures)
