@@ -179,8 +179,10 @@ def run_faults(rows, rules):
     """What is wrong with the stored run."""
     cases = (ROWS / "stdin").read_text(encoding="utf-8").splitlines()
     given = ("\n" + (ROWS / "stdout").read_text(encoding="utf-8")).split("\n$ ")[1:]
-    answers = {block.split("\n", 1)[0]: block.split("\n")[1:] for block in given}
-    faults = [f"desk_rows: stdin and stdout have other cases: {case}" for case in set(cases) ^ set(answers)]
+    heads = [block.split("\n", 1)[0] for block in given]
+    answers = dict(zip(heads, (block.split("\n")[1:] for block in given)))
+    faults = [] if cases == heads else ["desk_rows: stdin and stdout don't have the same cases in the same order"]
+    faults += [f"desk_rows: stdin and stdout have other cases: {case}" for case in set(cases) ^ set(answers)]
     for case in cases:
         wanted, got = answer(case, rows, rules), "\n".join(answers.get(case, [])).rstrip("\n").split("\n")
         if wanted is not None and (wanted or [""]) != got:

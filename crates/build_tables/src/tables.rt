@@ -173,21 +173,35 @@ impl<'a> NameTables<'a> {
         self.legs.as_slice()
     }
 
-    /// The place of the first row from the one airport to the other.
-    fn dist_place(&self, origin: &Name, dest: &Name) -> Option<usize>
+    /// The place of the first row from the one airport to the other, given the places of the two.
+    fn dist_place(
+        &self,
+        origin: &Name,
+        dest: &Name,
+        places: (Option<usize>, Option<usize>),
+    ) -> Option<usize>
+        requires origin { places.0 ≡ airport_place self.now.files.now.airports origin.now }
+        requires dest { places.1 ≡ airport_place self.now.files.now.airports dest.now }
         ensures { result ≡ position (is_between origin.now dest.now) self.now.files.now.dist }
     {
-        match pair_at(self.airport_place(origin), self.airport_place(dest)) {
+        match pair_at(places.0, places.1) {
             Some(pair) => self.dist.place_at(pair),
             None => self.dist.place_named(origin, dest),
         }
     }
 
-    /// The first row from the one airport to the other.
-    fn distance_from(&self, origin: &Name, dest: &Name) -> Option<&'a DistRow>
+    /// The first row from the one airport to the other, given the places of the two.
+    fn distance_from(
+        &self,
+        origin: &Name,
+        dest: &Name,
+        places: (Option<usize>, Option<usize>),
+    ) -> Option<&'a DistRow>
+        requires origin { places.0 ≡ airport_place self.now.files.now.airports origin.now }
+        requires dest { places.1 ≡ airport_place self.now.files.now.airports dest.now }
         ensures { option_map (λ row. row.now) result ≡ find (is_between origin.now dest.now) self.now.files.now.dist }
     {
-        let place = self.dist_place(origin, dest)?;
+        let place = self.dist_place(origin, dest, places)?;
         Some(&self.files.dist.as_slice()[place])
     }
 
@@ -196,11 +210,27 @@ impl<'a> NameTables<'a> {
     pub fn distance(&self, origin: &Name, dest: &Name) -> Option<&'a DistRow>
         ensures { option_map (λ row. row.now) result ≡ distance_between self.now.files.now.dist origin.now dest.now }
     {
-        match self.distance_from(origin, dest) {
+        let places = (self.airport_place(origin), self.airport_place(dest));
+        self.distance_with(origin, dest, places)
+    }
+
+    /// The same, given the places of the two airports, so that no name is looked up again.
+    pub fn distance_with(
+        &self,
+        origin: &Name,
+        dest: &Name,
+        places: (Option<usize>, Option<usize>),
+    ) -> Option<&'a DistRow>
+        requires origin { places.0 ≡ airport_place self.now.files.now.airports origin.now }
+        requires dest { places.1 ≡ airport_place self.now.files.now.airports dest.now }
+        ensures { option_map (λ row. row.now) result ≡ distance_between self.now.files.now.dist origin.now dest.now }
+    {
+        match self.distance_from(origin, dest, places) {
             Some(row) => Some(row),
-            None => self.distance_from(dest, origin),
+            None => self.distance_from(dest, origin, (places.1, places.0)),
         }
     }
+
     /// The place of the first row from the one airport to the other, by the places of the two.
     fn dist_place_at(&self, origin: usize, dest: usize) -> Option<usize>
         requires few { length self.now.files.now.airports ≤ 500 }

@@ -16,8 +16,17 @@ pub(crate) fn airport_of(tables: &NameTables<'_>, name: &Name) -> Airport
     requires { AreFew tables.now.files.now }
     ensures { result ≡ airport_of tables.now.files.now.airports name.now }
 {
-    let place = tables.airport_place(name).unwrap_or(0);
-    Airport(place as u32)
+    airport_in(tables, tables.airport_place(name))
+}
+
+/// The number of the airport that stands at this place, or 0 where there is none.
+fn airport_in(tables: &NameTables<'_>, place: Option<usize>) -> Airport
+    requires few { AreFew tables.now.files.now }
+    requires within { IfSome place (λ k. k < length tables.now.files.now.airports) }
+    ensures { result.0 ≡ unwrap_or place 0 }
+{
+    let _rows = tables.files.airports.as_slice();
+    Airport(place.unwrap_or(0) as u32)
 }
 
 /// The number of the leg of a flight on a day: the place of its rotation, or 0 where there is none.
@@ -114,12 +123,14 @@ fn leg_by(tables: &NameTables<'_>, row: &RotationRow, flight: &FlightRow) -> Leg
     requires flight { IsFlight flight.now }
     ensures { result ≡ leg_by tables.now.files.now row.now flight.now }
 {
-    let distance = tables.distance(&flight.origin, &flight.dest);
+    let origin = tables.airport_place(&flight.origin);
+    let dest = tables.airport_place(&flight.dest);
+    let distance = tables.distance_with(&flight.origin, &flight.dest, (origin, dest));
     LegInfo {
         flight: row.flight,
         day: row.day,
-        origin: airport_of(tables, &flight.origin),
-        dest: airport_of(tables, &flight.dest),
+        origin: airport_in(tables, origin),
+        dest: airport_in(tables, dest),
         sched: Minute(DAY * row.day + flight.dep),
         block: flight.arr - flight.dep,
         distance: minutes_of(distance),

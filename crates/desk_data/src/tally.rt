@@ -23,13 +23,27 @@ use std::slice;
 /// How many passengers of a reservation have flown which frozen legs, in the order of paths.
 #[derive(Drop)]
 pub enum Tally {
-    /// One entry, for which no list is made: most days begin with nothing else.
+    /// One entry stands by itself, and takes no list: so each day begins, and mostly all passengers of a reservation have
+    /// flown the same legs.
     One((Path, u32)),
-    /// A list of them.
+    /// A list of none, or of more than one.
     Several(Vec<(Path, u32)>),
 }
 
 impl Tally {
+    /// Those of a list.
+    fn of(entries: Vec<(Path, u32)>) -> Tally
+        ensures { entries_in result ≡ entries.entry.items }
+    {
+        let mut entries = entries;
+        if entries.len() == 1 {
+            if let Some(entry) = entries.pop() {
+                return Tally::One(entry);
+            }
+        }
+        Tally::Several(entries)
+    }
+
     /// The entries, in the order of paths.
     pub(crate) fn as_slice(&self) -> &[(Path, u32)]
         ensures { result.now ≡ entries_in self.now }
@@ -69,7 +83,7 @@ pub fn tallies(
     let mut tally = Vec::with_capacity(alloc, count as usize)?;
     for r in 0..count {
         let entries = tally_then(alloc, inst, plan, frozen, Res(r))?;
-        tally.push(Tally::Several(entries))?;
+        tally.push(Tally::of(entries))?;
     }
     Ok(tally)
 }

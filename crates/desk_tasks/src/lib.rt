@@ -12,7 +12,7 @@
 //! The definitions say what a run has read and written by its ending (`Runs`), over what its inputs mean
 //! (`Meaning`): the task that they set a command, and the `Outcome` of that task, with a status, texts of
 //! files and a report. The laws in `proofs/` make of that what `desk_main` promises, once for all commands. They
-//! hold of any meaning, so this crate stands beside the readers and the judging. A command more is a line in each list of files.
+//! hold of any meaning, so they need neither the readers nor what judges. A command more is a line in each list of files.
 //!
 //! # Tasks
 //!
@@ -24,7 +24,7 @@
 //! is a task more, or a use of one of these. What a team comes to depends on the history that it makes, its `Work`;
 //! each other task has one outcome.
 //!
-//! The code is the headline of the desk as laws, public functions with
+//! The code of `laws.rt` is the headline of the desk as laws, public functions with
 //! empty bodies: a story that was played, and all of whose texts are written, has written the journal of a
 //! legal history of its events, in which each published plan meets the rules, and the last plan of it; and a
 //! day that was recovered has written the same of the history in which a descent follows each batch. Of legs that are added to

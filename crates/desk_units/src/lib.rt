@@ -13,7 +13,7 @@
 //!     per_hour(Price(600_000), Weight(1_000), 60)    // an hour at 60 units: 36,000,000,000 grains
 //!
 //! `Name::of` takes 1 to 32 bytes and keeps them in place. `Steps` counts rows that are read, and
-//! takes no room when it runs. Every crate of the desk depends on this one, and it on none. Proved:
+//! takes no room when it runs. Nearly every crate of the desk depends on this one, and it on none. Proved:
 //! the two sums, that `Grains::plus` keeps below its limit, and that a name is the bytes it was made of.
 //!
 //! # How far a recovery has come

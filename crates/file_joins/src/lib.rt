@@ -1,4 +1,4 @@
-//! The joins of what was read: rows that name each other become a day, its batches, its crews and its plan.
+//! The joins of what was read with a day: names become its numbers, of a journal, of crews and of a plan.
 //!
 //! # Rows by their names
 //!

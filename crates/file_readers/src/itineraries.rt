@@ -20,6 +20,8 @@ use std::alloc::Global;
 
 /// The most passengers that a reservation of the file may have: the largest number of 9 digits.
 const MOST_PASSENGERS: u32 = 999_999_999;
+/// For how many legs of a reservation there is room at first: most have fewer.
+const USUAL_LEGS: usize = 4;
 
 /// The leg that three fields give.
 #[tactic(auto, unfolding(crate::specs::Itineraries::leg_of))]
@@ -65,7 +67,7 @@ pub fn legs(alloc: Global, mut fields: Fields<'_>) -> Result<List<LegRow>, RowFa
     ensures size { IfOk result (λ legs. 3 * length legs ≡ length fields.entry) }
     ensures facts { IfOk result (All IsLeg) }
 {
-    let mut legs = Vec::new(alloc);
+    let mut legs = Vec::with_capacity(alloc, USUAL_LEGS)?;
     let mut last = None;
     while let Some(leg) = next_leg(&mut fields, &mut last)? {
         legs.push(leg)?;

@@ -7,7 +7,7 @@
 //!     }
 //!
 //! It asks rule_checks: `least_rot` for C1 to C9, `least_slots` for C10 and C11 and `least_pax` for C12 to C15, in this
-//! order, and depends on them. Proved: the answer is `least` of desk_rules, the first broken item of
+//! order, and depends on it. Proved: the answer is `least` of desk_rules, the first broken item of
 //! all in the order of rules and of what they name.
 #![tactic(auto)]
 

@@ -14,11 +14,11 @@
 mod add;
 mod checker;
 mod laws;
-mod move_laws;
 mod next;
 mod payload;
 mod reading;
 mod records;
+mod spelling_laws;
 mod writing;
 
 pub use add::{append, event_payload};
@@ -27,7 +27,7 @@ pub use laws::{
     a_run_enters_what_finds_room, an_entry_adds_its_payload, payloads_that_may_stand_are_of_events,
     stopped_runs_leave_a_beginning_of_the_history,
 };
-pub use move_laws::what_is_spelled_is_read;
 pub use payload::{StoredEvent, read_payload};
 pub use records::open_records;
+pub use spelling_laws::what_is_spelled_is_read;
 pub use writing::{batch_payload, move_payload};

@@ -39,6 +39,7 @@ use Rattle.near_dear.specs.Exchanged.{own_cost, exchanged_cost, positions_then}
 use Rattle.near_dear.specs.Moves.{first_steps, IsExchange, IsInTime, exchanged}
 use Rattle.near_dear.proofs.FlyLaws.{exchange-flying}
 use Rattle.near_dear.proofs.HandLaws.{made-alike, all-changed, others-fly, positions-then}
+use Rattle.near_dear.proofs.DearRestoreLaws.{first-fit}
 
 -- ---- which of some numbers fails a test
 
@@ -84,10 +85,6 @@ tidied-rows (Swap first second at ∷ steps) all = absurd cc
 tidied-rows (Rebook res path to count ∷ steps) all = absurd cc
 tidied-rows (Tidy ∷ steps) all = tidied-rows steps all
 tidied-rows (Refill leg ∷ steps) all = tidied-rows steps all
-
-first-fit : (I : Situation) (first others : List Step) → AllByRecursion (StepFits I) (first ++ others) → AllByRecursion (StepFits I) first
-first-fit I [] others fits = tt
-first-fit I (step ∷ first) others fits = (fits.0, first-fit I first others fits.1)
 
 apart-first : (p q u : ℕ) → is_either p q u ≡ false → u ≢ p
 apart-first p q u off same = true≢false (sym (ap (λ (b : Bool). b || eqb u q) (eq-eqb u p same)) ∙ off)

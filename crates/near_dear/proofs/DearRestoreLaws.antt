@@ -49,7 +49,7 @@ first-fly P p (flight ∷ flights) after gone =
     (and_from (is_own_leg P p p x) (is_either p p p) own (itself p))
     (first-fly P p flights after (All-tail (λ (y : ℕ). row_at P y ≡ Cancelled) x xs gone))
 
-first-fit : (I : Situation) (first others : List Step) → AllByRecursion (StepFits I) (first ++ others) → AllByRecursion (StepFits I) first
+pub first-fit : (I : Situation) (first others : List Step) → AllByRecursion (StepFits I) (first ++ others) → AllByRecursion (StepFits I) first
 first-fit I [] others fits = tt
 first-fit I (step ∷ first) others fits = (fits.0, first-fit I first others fits.1)
 

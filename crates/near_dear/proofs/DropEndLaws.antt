@@ -31,6 +31,7 @@ use Rattle.near_priced.specs.Unpaid.{may_serve, services, saved_by_ending}
 use Rattle.near_draft.specs.Drafts.{AreAllChanged}
 use Rattle.near_dear.proofs.CancelLaws.{first_steps}
 use Rattle.near_dear.proofs.OwedSumLaws.{two-le, one-le}
+use Rattle.near_dear.proofs.FlownLaws.{flown-within}
 
 -- ---- the steps change rows of the aircraft's legs alone
 
@@ -54,7 +55,7 @@ start-own P p = record {
   now = λ y off. off;
 }
 
-room-itself : (n k : ℕ) (cap : Option ℕ) → IsSameRoom n k k cap
+pub room-itself : (n k : ℕ) (cap : Option ℕ) → IsSameRoom n k k cap
 room-itself n k None = tt
 room-itself n k (Some cap) = inl refl
 
@@ -65,13 +66,6 @@ all-among P p (x ∷ legs) flown =
     and_from (own_legs P p x && true) (list_all (is_among (this p) (own_legs P p)) (first_steps P p legs))
     (and_from (own_legs P p x) true own refl)
     (all-among P p legs (All-tail (λ y. flies P p y ≡ true) x legs flown))
-
-pub flown-within : (I : Situation) (P : PlanRows) (p x : ℕ) → IsPlanFor I P → flies P p x ≡ true → x < legs_of I
-flown-within I P p x plan on =
-    elim (cases_lt x (length P.rows)) [
-      | inl within ↦ subst (λ (n : ℕ). x < n) plan.legs within
-      | inr past ↦ absurd (true≢false (sym on ∙ ap (is_flown_by p) (get_or_past P.rows x Cancelled past)))
-    ]
 
 module _ (I : Situation) (P : PlanRows) (p : ℕ) (legs : List ℕ) (flown : All (λ x. flies P p x ≡ true) legs) where
   abbrev S : PlanRows

@@ -46,6 +46,7 @@ use Rattle.near_dear.proofs.OwedSumLaws.{any-le, both-le, others-le, some_of}
 use Rattle.near_dear.proofs.OwedLaws.{none-owed, tidy-owes}
 use Rattle.near_dear.proofs.CancelLaws.{among-has, first_steps, flying-saves, gone-after}
 use Rattle.near_dear.proofs.DropEndLaws.{alike, all-changed, flown-within, positions-save}
+use Rattle.near_dear.proofs.DearRestoreLaws.{first-fit}
 
 -- ---- who is touched
 
@@ -69,10 +70,6 @@ on-its-leg P r k i d e within short =
     let x = (get_or path i e).0.0 in
     list_any_at (λ (group : Group). has_leg x group.path) (groups_at P r) k d within
     (list_any_at (λ (pair : Leg × Cabin). eqb pair.0.0 x) path i e short (eq-eqb x x refl))
-
-first-fit : (I : Situation) (first others : List Step) → AllByRecursion (StepFits I) (first ++ others) → AllByRecursion (StepFits I) first
-first-fit I [] others fits = tt
-first-fit I (step ∷ first) others fits = (fits.0, first-fit I first others fits.1)
 
 module _ (I : Situation) (P : PlanRows) (p : ℕ) (legs : List ℕ) (flown : All (λ x. flies P p x ≡ true) legs) where
   abbrev Q : PlanRows

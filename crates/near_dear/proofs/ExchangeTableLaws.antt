@@ -16,6 +16,7 @@ use Rattle.near_priced.specs.Priced.{paid_on}
 use Rattle.near_dear.specs.Calm.{IsCalmFor, DepartsBy}
 use Rattle.near_dear.specs.Times.{most_legs, AreCalm, ArePaid, IsBy}
 use Rattle.near_dear.proofs.MonoLaws.{calm-at-later}
+use Rattle.near_dear.proofs.RestoreTableLaws.{numbers-sum, sum-le}
 
 -- all that is so far holds of one more
 pub all-more : {X : Type 0} (A B : X → Type 0) (xs : List X) (i : ℕ) (d : X) → i < length xs → ((x : X) → A x → B x) → All A (take i xs) → B (get_or xs i d) → All B (take (i + 1) xs)
@@ -41,17 +42,9 @@ numbers-all : (S : ℕ → Type 0) (legs : List Leg) → All (λ (leg : Leg). S 
 numbers-all S [] all = All-nil S
 numbers-all S (leg ∷ legs) all = All-cons S leg.0 (numbers_of legs) (All-head (λ (l : Leg). S l.0) leg legs all) (numbers-all S legs (All-tail (λ (l : Leg). S l.0) leg legs all))
 
-numbers-sum : (f : ℕ → ℕ) (legs : List Leg) → sum_by f (numbers_of legs) ≡ sum_by (λ (leg : Leg). f leg.0) legs
-numbers-sum f [] = refl
-numbers-sum f (leg ∷ legs) = (let rest = numbers-sum f legs in omega (arith, rest, sum_by-cons f leg.0 (numbers_of legs), sum_by-cons (λ (l : Leg). f l.0) leg legs))
-
 numbers-length : (legs : List Leg) → length (numbers_of legs) ≡ length legs
 numbers-length [] = refl
 numbers-length (leg ∷ legs) = (let rest = numbers-length legs in omega (arith, rest))
-
-sum-le : (f g : ℕ → ℕ) (xs : List ℕ) → ((x : ℕ) → f x ≤ g x) → sum_by f xs ≤ sum_by g xs
-sum-le f g [] le = omega arith
-sum-le f g (x ∷ xs) le = (let rest = sum-le f g xs le in let here = le x in omega (arith, rest, here, sum_by-cons f x xs, sum_by-cons g x xs))
 
 -- of the legs of an aircraft
 module _ (I : Situation) (P : PlanRows) (p : ℕ) (legs : List Leg) (are : numbers_of legs ≡ rotation I P p) where

@@ -108,7 +108,7 @@ sets-cost I P p (flight ∷ flights) long gone =
     omega (arith, first, one, rest, sum_by-cons (flying I p) x (flown_legs flights))
 
 -- rows that the same aircraft flies cost the same
-same-flier : (I : Situation) (x : ℕ) (row other : Row) → ((u : ℕ) → is_flown_by u row ≡ is_flown_by u other) → operating_of I x row ≡ operating_of I x other
+pub same-flier : (I : Situation) (x : ℕ) (row other : Row) → ((u : ℕ) → is_flown_by u row ≡ is_flown_by u other) → operating_of I x row ≡ operating_of I x other
 same-flier I x (Flown a d) (Flown b e) same =
     let is : b.0 ≡ a.0 = eqb-true b.0 a.0 (sym (same a.0) ∙ eq-eqb a.0 a.0 refl) in
     ap (λ (p : ℕ). by_hour (weight I term.Operating) (plane_at I p).hourly.0 (leg_at I x).block) (sym is)
@@ -193,7 +193,7 @@ pushed-late I P p at z (Some first) (flight ∷ flights) long gone from pushed =
       | inr same ↦ (let both = same.0 in omega (arith, both, moment_is, second, moment))
     ]
 
-flown-within : (I : Situation) (P : PlanRows) (p x : ℕ) → IsPlanFor I P → flies P p x ≡ true → x < legs_of I
+pub flown-within : (I : Situation) (P : PlanRows) (p x : ℕ) → IsPlanFor I P → flies P p x ≡ true → x < legs_of I
 flown-within I P p x plan on =
     elim (cases_lt x (length P.rows)) [
       | inl within ↦ subst (λ (n : ℕ). x < n) plan.legs within

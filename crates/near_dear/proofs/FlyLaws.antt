@@ -22,17 +22,9 @@ use Rattle.near_dear.specs.Exchanged.{tail, cost_by, own_cost, exchanged_cost}
 use Rattle.near_dear.specs.Moves.{IsExchange, exchanged}
 use Rattle.near_dear.proofs.TakeLaws.{late, filter-apart, goes-on, stays-soon, exchanged-flies}
 use Rattle.near_dear.proofs.LegSumLaws.{part, AreMembers, members-sum, scaled, two-sums, sum-two}
+use Rattle.near_dear.proofs.FlownLaws.{same-flier}
 
 -- ---- by who flies a leg
-
--- rows that the same aircraft flies cost the same
-same-flier : (I : Situation) (x : ℕ) (row other : Row) → ((u : ℕ) → is_flown_by u row ≡ is_flown_by u other) → operating_of I x row ≡ operating_of I x other
-same-flier I x (Flown a d) (Flown b e) same =
-    let is : b.0 ≡ a.0 = eqb-true b.0 a.0 (sym (same a.0) ∙ eq-eqb a.0 a.0 refl) in
-    ap (λ (p : ℕ). by_hour (weight I term.Operating) (plane_at I p).hourly.0 (leg_at I x).block) (sym is)
-same-flier I x (Flown a d) Cancelled same = absurd (true≢false (sym (eq-eqb a.0 a.0 refl) ∙ same a.0))
-same-flier I x Cancelled (Flown b e) same = absurd (true≢false (sym (eq-eqb b.0 b.0 refl) ∙ sym (same b.0)))
-same-flier I x Cancelled Cancelled same = refl
 
 -- what leg x costs by aircraft p
 abbrev price : Situation → ℕ → ℕ → ℕ

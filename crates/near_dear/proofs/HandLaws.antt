@@ -38,6 +38,8 @@ use Rattle.near_dear.specs.Exchanged.{stand_then, serves, hand_then, positions_t
 use Rattle.near_dear.specs.Moves.{pushes_either, first_steps, IsExchange, IsInTime, exchanged}
 use Rattle.near_dear.proofs.StandLaws.{first-stands, second-stands}
 use Rattle.near_dear.proofs.ExchangeEndLaws.{serves-is}
+use Rattle.near_dear.proofs.DropEndLaws.{room-itself}
+use Rattle.near_dear.proofs.FlownLaws.{flown-within}
 
 -- ---- the steps of two aircraft change rows of their legs alone
 
@@ -53,10 +55,6 @@ module _ (P : PlanRows) (p q : ℕ) where
     before = λ y off. off;
     now = λ y off. off;
   }
-
-room-itself : (n k : ℕ) (cap : Option ℕ) → IsSameRoom n k k cap
-room-itself n k None = tt
-room-itself n k (Some cap) = inl refl
 
 pushes-among : (legs : ℕ → Bool) (p q : ℕ) (pushes : List Step) → list_all (pushes_either p q) pushes ≡ true → list_all (is_among (is_either p q) legs) pushes ≡ true
 pushes-among legs p q [] all = refl
@@ -95,13 +93,6 @@ made-alike I P p q at pushes all =
 pub of-cases : (p q : ℕ) (row : Row) → is_of (is_either p q) row ≡ true → (is_flown_by p row ≡ true) ⊎ (is_flown_by q row ≡ true)
 of-cases p q (Flown n d) on = or_cases (eqb n.0 p) (eqb n.0 q) on
 of-cases p q Cancelled on = absurd cc
-
-pub flown-within : (I : Situation) (P : PlanRows) (u x : ℕ) → IsPlanFor I P → flies P u x ≡ true → x < legs_of I
-flown-within I P u x plan on =
-    elim (cases_lt x (length P.rows)) [
-      | inl within ↦ subst (λ (n : ℕ). x < n) plan.legs within
-      | inr past ↦ absurd (true≢false (sym on ∙ ap (is_flown_by u) (get_or_past P.rows x Cancelled past)))
-    ]
 
 -- each leg keeps its row or is one of theirs
 pub all-changed : (I : Situation) (P : PlanRows) (p q at : ℕ) (pushes : List Step) → list_all (pushes_either p q) pushes ≡ true → IsPlanFor I P → AreAllChanged P (exchanged I P p q at pushes) (rotation I P p ++ rotation I P q)

@@ -10,7 +10,7 @@ use Rattle.board_kit.proofs.SumLaws.{sum_same, sum_change}
 use Rattle.near_moves.proofs.ListLaws.{contains_cases, contains_head, contains_tail, contains_none}
 use Rattle.move_laws.proofs.TallyLaws.{AreApart}
 
-none-sum : (n : ℕ) → sum_by (λ y. 0) (numbers n) ≡ 0
+pub none-sum : (n : ℕ) → sum_by (λ y. 0) (numbers n) ≡ 0
 none-sum zero = refl
 none-sum (suc n) =
     let rest = none-sum n in

@@ -6,6 +6,7 @@ use Rattle.std.proofs.lemmas.Bool.{cases_lt, eq-eqb, ne_eqb}
 use Rattle.std.proofs.lemmas.List.Sums.{sum_by-cons, sum_by_push, sum_by-le-sum_by}
 use Rattle.desk_rules.specs.Numbers.{numbers}
 use Rattle.board_kit.proofs.SumLaws.{sum_same, sum_change}
+use Rattle.near_dear.proofs.LegSumLaws.{none-sum}
 
 -- what those of the first n numbers come to that pass a test
 abbrev pub some_of : (ℕ → ℕ) → ℕ → (ℕ → Bool) → ℕ
@@ -26,12 +27,6 @@ both-le f g h (suc n) less =
     let rest = both-le f g h n (λ y lt. less y (omega (arith, lt))) in
     let here = less n (omega arith) in
     omega (arith, sum_by_push f (numbers n) n, sum_by_push g (numbers n) n, sum_by_push h (numbers n) n, rest, here)
-
-none-sum : (n : ℕ) → sum_by (λ y. 0) (numbers n) ≡ 0
-none-sum zero = refl
-none-sum (suc n) =
-    let rest = none-sum n in
-    omega (arith, sum_by_push (λ y. 0) (numbers n) n, rest)
 
 either-part : (a b : Bool) (c : ℕ) → cond (a || b) c 0 ≤ cond a c 0 + cond b c 0
 either-part true b c = omega arith

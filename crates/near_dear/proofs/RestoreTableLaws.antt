@@ -12,11 +12,11 @@ use Rattle.near_priced.specs.Priced.{paid_on, paid_booked}
 use Rattle.near_priced.specs.Tables.{AreAmounts, amount}
 use Rattle.near_dear.specs.Restored.{may_move, moved_amount, moved_legs}
 
-sum-le : (f g : ℕ → ℕ) (xs : List ℕ) → ((x : ℕ) → f x ≤ g x) → sum_by f xs ≤ sum_by g xs
+pub sum-le : (f g : ℕ → ℕ) (xs : List ℕ) → ((x : ℕ) → f x ≤ g x) → sum_by f xs ≤ sum_by g xs
 sum-le f g [] le = omega arith
 sum-le f g (x ∷ xs) le = (let rest = sum-le f g xs le in let here = le x in omega (arith, rest, here, sum_by-cons f x xs, sum_by-cons g x xs))
 
-numbers-sum : (f : ℕ → ℕ) (legs : List Leg) → sum_by f (numbers_of legs) ≡ sum_by (λ (leg : Leg). f leg.0) legs
+pub numbers-sum : (f : ℕ → ℕ) (legs : List Leg) → sum_by f (numbers_of legs) ≡ sum_by (λ (leg : Leg). f leg.0) legs
 numbers-sum f [] = refl
 numbers-sum f (leg ∷ legs) = (let rest = numbers-sum f legs in omega (arith, rest, sum_by-cons f leg.0 (numbers_of legs), sum_by-cons (λ (l : Leg). f l.0) leg legs))
 

@@ -13,6 +13,7 @@ ghost use Rattle.near_priced.specs.Unpaid.{saved_by_ending};
 ghost use Rattle.near_priced.specs.Tables.{ArePayments, amount};
 ghost use Rattle.near_dear.specs.Restored.{IsDearRestore, flying, legs_with, may_move, moved_amount};
 
+use crate::left::take_off;
 use desk_data::{Grains, Instance, Leg, Minute, Plane, Row, Term};
 use desk_units::per_hour;
 use near_priced::Payments;
@@ -201,16 +202,5 @@ fn left_by_leg(amounts: &[u128], leg: Leg, left: u128) -> Option<u128>
     match amounts.get(leg.0 as usize) {
         Some(paid) => take_off(*paid, left),
         None => None,
-    }
-}
-
-/// The same of an amount.
-fn take_off(paid: u128, left: u128) -> Option<u128>
-    ensures { ForSome result (λ rest. paid + rest ≡ left) }
-{
-    if paid <= left {
-        Some(left - paid)
-    } else {
-        None
     }
 }

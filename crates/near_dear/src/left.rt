@@ -68,8 +68,8 @@ fn left_after(amounts: &[u128], leg: Leg, left: u128) -> Option<u128>
     }
 }
 
-/// The same of an amount.
-fn take_off(taken: u128, left: u128) -> Option<u128>
+/// What is left of a limit once an amount is taken off; `None` where it is more.
+pub(crate) fn take_off(taken: u128, left: u128) -> Option<u128>
     ensures { ForSome result (λ rest. taken + rest ≡ left) }
 {
     if taken <= left {

@@ -67,7 +67,7 @@ gets-fits I P changes i are lt = (changes-at I P changes i are lt).row
 abbrev pub gap : Situation → PlanRows → PositionInfo → ℕ
 gap I P position = position.count - at_hand I P position
 
-scaled : {X : Type 0} (price : ℕ) (f : X → ℕ) (xs : List X) → sum_by (λ x. price * f x) xs ≡ price * sum_by f xs
+pub scaled : {X : Type 0} (price : ℕ) (f : X → ℕ) (xs : List X) → sum_by (λ x. price * f x) xs ≡ price * sum_by f xs
 scaled price f [] = omega arith
 scaled price f (x ∷ xs) = sum_by-cons (λ y. price * f y) x xs ∙ ap (λ (n : ℕ). price * f x + n) (scaled price f xs) ∙ sym (ap (λ (n : ℕ). price * n) (sum_by-cons f x xs) ∙ mul-add price (f x) (sum_by f xs))
 

@@ -40,7 +40,7 @@ two-le f g h (suc n) less =
     let here = less n in
     omega (arith, sum_by_push f (numbers n) n, sum_by_push g (numbers n) n, sum_by_push h (numbers n) n, rest, here)
 
-none-sum : (n : ℕ) → sum_by (λ y. 0) (numbers n) ≡ 0
+pub none-sum : (n : ℕ) → sum_by (λ y. 0) (numbers n) ≡ 0
 none-sum zero = refl
 none-sum (suc n) =
     let rest = none-sum n in
@@ -85,7 +85,7 @@ module _ (weight : ℕ → ℕ) (n : ℕ) where
 
 -- ---- who is touched
 
-any-off : {X : Type 0} (test : X → Bool) (xs : List X) → list_any test xs ≡ false → All (λ x. test x ≡ false) xs
+pub any-off : {X : Type 0} (test : X → Bool) (xs : List X) → list_any test xs ≡ false → All (λ x. test x ≡ false) xs
 any-off test [] off = All-nil (λ x. test x ≡ false)
 any-off test (x ∷ xs) off =
     let parts = or_parts (test x) (list_any test xs) off in

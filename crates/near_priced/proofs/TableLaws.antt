@@ -19,37 +19,37 @@ use Rattle.desk_model.specs.Refill.{has_leg}
 use Rattle.full_cost.specs.Amounts.{reservation_cost}
 use Rattle.full_cost.proofs.GroupLaws.{passenger_most, reservations-le}
 use Rattle.board_kit.specs.Users.{uses, is_booked_on}
-use Rattle.near_priced.specs.Tables.{amount, AreKept, IsGrown, AreGrown, paid_first, AreAmounts}
+use Rattle.near_priced.specs.Tables.{amount, AreNoLess, IsGrown, AreGrown, paid_first, AreAmounts}
 
 -- ---- one amount
 
-pub grown-later : (c : ℕ) (old mid new : List ℕ) (x : ℕ) → IsGrown c old mid x → AreKept mid new → IsGrown c old new x
+pub grown-later : (c : ℕ) (old mid new : List ℕ) (x : ℕ) → IsGrown c old mid x → AreNoLess mid new → IsGrown c old new x
 grown-later c old mid new x grown kept n less few =
     let first = grown n less few in
     let then = kept x in
     omega (arith, first, then)
 
-pub grown-sooner : (c : ℕ) (old mid new : List ℕ) (x : ℕ) → IsGrown c mid new x → AreKept old mid → IsGrown c old new x
+pub grown-sooner : (c : ℕ) (old mid new : List ℕ) (x : ℕ) → IsGrown c mid new x → AreNoLess old mid → IsGrown c old new x
 grown-sooner c old mid new x grown kept n less few =
     let first = kept x in
     grown n (omega (arith, first, less)) few
 
-pub path-later : (c : ℕ) (old mid new : List ℕ) (path : List (Leg × Cabin)) → AreGrown c old mid path → AreKept mid new → AreGrown c old new path
+pub path-later : (c : ℕ) (old mid new : List ℕ) (path : List (Leg × Cabin)) → AreGrown c old mid path → AreNoLess mid new → AreGrown c old new path
 path-later c old mid new path grown kept = λ k d lt. grown-later c old mid new (get_or path k d).0.0 (grown k d lt) kept
 
-pub path-sooner : (c : ℕ) (old mid new : List ℕ) (path : List (Leg × Cabin)) → AreGrown c mid new path → AreKept old mid → AreGrown c old new path
+pub path-sooner : (c : ℕ) (old mid new : List ℕ) (path : List (Leg × Cabin)) → AreGrown c mid new path → AreNoLess old mid → AreGrown c old new path
 path-sooner c old mid new path grown kept = λ k d lt. grown-sooner c old mid new (get_or path k d).0.0 (grown k d lt) kept
 
-pub groups-later : (c : ℕ) (old mid new : List ℕ) (groups : List Group) → All (λ group. AreGrown c old mid group.path) groups → AreKept mid new → All (λ group. AreGrown c old new group.path) groups
+pub groups-later : (c : ℕ) (old mid new : List ℕ) (groups : List Group) → All (λ group. AreGrown c old mid group.path) groups → AreNoLess mid new → All (λ group. AreGrown c old new group.path) groups
 groups-later c old mid new groups grown kept = λ k d lt. path-later c old mid new (get_or groups k d).path (grown k d lt) kept
 
-pub kept-then : (old mid new : List ℕ) → AreKept old mid → AreKept mid new → AreKept old new
+pub kept-then : (old mid new : List ℕ) → AreNoLess old mid → AreNoLess mid new → AreNoLess old new
 kept-then old mid new first then x =
     let one = first x in
     let two = then x in
     omega (arith, one, two)
 
-pub set-kept : (amounts : List ℕ) (x v : ℕ) → amount amounts x ≤ v → AreKept amounts (set amounts x v)
+pub set-kept : (amounts : List ℕ) (x v : ℕ) → amount amounts x ≤ v → AreNoLess amounts (set amounts x v)
 set-kept amounts x v less y =
     elim (cases_eq y x) [
       | inr other ↦ (let same : amount (set amounts x v) y ≡ amount amounts y = get_or-set_other amounts x y v 0 other in omega (arith, same))
@@ -107,7 +107,7 @@ first-more I P some n =
     let next : n + 1 ≡ suc n = omega arith in
     ap (paid_first I P some) next ∙ sum_by_push (λ r. cond (some r) (reservation_cost I P r) 0) (numbers n) n
 
-amount-more : (I : Situation) (P : PlanRows) (some : ℕ → Bool) (old new : List ℕ) (c n x : ℕ) → IsValid I → IsPlanFor I P → n < reservations_of I → c ≡ reservation_cost I P n → AreKept old new → (some n ≡ true → IsGrown c old new x) → paid_first I P some n ≤ amount old x → paid_first I P some (n + 1) ≤ amount new x
+amount-more : (I : Situation) (P : PlanRows) (some : ℕ → Bool) (old new : List ℕ) (c n x : ℕ) → IsValid I → IsPlanFor I P → n < reservations_of I → c ≡ reservation_cost I P n → AreNoLess old new → (some n ≡ true → IsGrown c old new x) → paid_first I P some n ≤ amount old x → paid_first I P some (n + 1) ≤ amount new x
 amount-more I P some old new c n x valid plan lt is kept grown before =
     let more = first-more I P some n in
     elim (cases_Bool (some n)) [
@@ -120,7 +120,7 @@ amount-more I P some old new c n x valid plan lt is kept grown before =
           omega (arith, more, none, before, stays)
     ]
 
-pub amounts-more : (I : Situation) (P : PlanRows) (on booked on_new booked_new : List ℕ) (c n : ℕ) → IsValid I → IsPlanFor I P → n < reservations_of I → c ≡ reservation_cost I P n → AreAmounts I P on booked n → length on_new ≡ length on → length booked_new ≡ length booked → AreKept on on_new → AreKept booked booked_new → All (λ group. AreGrown c on on_new group.path) (groups_at P n) → AreGrown c booked booked_new (booked_path I n) → AreAmounts I P on_new booked_new (n + 1)
+pub amounts-more : (I : Situation) (P : PlanRows) (on booked on_new booked_new : List ℕ) (c n : ℕ) → IsValid I → IsPlanFor I P → n < reservations_of I → c ≡ reservation_cost I P n → AreAmounts I P on booked n → length on_new ≡ length on → length booked_new ≡ length booked → AreNoLess on on_new → AreNoLess booked booked_new → All (λ group. AreGrown c on on_new group.path) (groups_at P n) → AreGrown c booked booked_new (booked_path I n) → AreAmounts I P on_new booked_new (n + 1)
 amounts-more I P on booked on_new booked_new c n valid plan lt is are long booked_long kept booked_kept paths path = record {
   legs = long ∙ are.legs;
   booked_legs = booked_long ∙ are.booked_legs;

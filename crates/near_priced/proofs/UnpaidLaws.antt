@@ -53,6 +53,8 @@ use Rattle.near_units.proofs.RuleLaws.{left_at-same}
 use Rattle.near_untouched.specs.Planes.{is_on}
 use Rattle.near_priced.proofs.DearLaws.{saves-dear, dear-worse}
 use Rattle.near_priced.specs.Unpaid.{is_either, is_own_leg, flies_on, HasNoneToSave, may_serve, services, saved_by_ending, flown_again}
+use Rattle.near_priced.proofs.FlyingLaws.{scaled}
+use Rattle.near_priced.proofs.PricedLaws.{none-sum, any-off}
 
 -- ---- sums
 
@@ -70,12 +72,6 @@ list-three-le f g h k (x ∷ xs) less =
     let rest = list-three-le f g h k xs less in
     let here = less x in
     omega (arith, sum_by-cons f x xs, sum_by-cons g x xs, sum_by-cons h x xs, sum_by-cons k x xs, rest, here)
-
-none-sum : (n : ℕ) → sum_by (λ y. 0) (numbers n) ≡ 0
-none-sum zero = refl
-none-sum (suc n) =
-    let rest = none-sum n in
-    omega (arith, sum_by_push (λ y. 0) (numbers n) n, rest)
 
 -- a term at one number alone
 only : ℕ → ℕ → ℕ → ℕ
@@ -100,18 +96,7 @@ only-le a v n =
           omega (arith, none, none-sum n)
     ]
 
--- one price for each
-scaled : {X : Type 0} (price : ℕ) (f : X → ℕ) (xs : List X) → sum_by (λ x. price * f x) xs ≡ price * sum_by f xs
-scaled price f [] = omega arith
-scaled price f (x ∷ xs) = sum_by-cons (λ y. price * f y) x xs ∙ ap (λ (n : ℕ). price * f x + n) (scaled price f xs) ∙ sym (ap (λ (n : ℕ). price * n) (sum_by-cons f x xs) ∙ mul-add price (f x) (sum_by f xs))
-
 -- ---- tests
-
-any-off : {X : Type 0} (test : X → Bool) (xs : List X) → list_any test xs ≡ false → All (λ x. test x ≡ false) xs
-any-off test [] off = All-nil (λ x. test x ≡ false)
-any-off test (x ∷ xs) off =
-    let parts = or_parts (test x) (list_any test xs) off in
-    All-cons (λ y. test y ≡ false) x xs parts.0 (any-off test xs parts.1)
 
 pub list-weaker : (f g : Step → Bool) (steps : List Step) → ((step : Step) → f step ≡ true → g step ≡ true) → list_all f steps ≡ true → list_all g steps ≡ true
 list-weaker f g [] weaker all = refl

@@ -29,8 +29,8 @@ refill_amount amounts Tidy = 0
 refill_amount amounts (Refill leg) = amount amounts leg.0
 
 -- no amount became less
-abbrev pub AreKept : List ℕ → List ℕ → Type 0
-AreKept old new = (x : ℕ) → amount old x ≤ amount new x
+abbrev pub AreNoLess : List ℕ → List ℕ → Type 0
+AreNoLess old new = (x : ℕ) → amount old x ≤ amount new x
 
 -- the amount of leg x grew by as much as c, or to 10^38: all passengers together cost no more
 abbrev pub IsGrown : ℕ → List ℕ → List ℕ → ℕ → Type 0

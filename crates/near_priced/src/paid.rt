@@ -4,7 +4,7 @@ ghost use Rattle.std.specs.Prelude.{◌≡◌, ℕ, ◌+◌, ◌<◌, ◌≤◌,
 ghost use Rattle.desk_data.specs.Situation.{legs_of, reservations_of};
 ghost use Rattle.desk_data.specs.Valid.{IsPathOf, IsPlanFor};
 ghost use Rattle.near_priced.specs.Payers.{AreCosts};
-ghost use Rattle.near_priced.specs.Tables.{AreAmounts, AreGrown, AreKept};
+ghost use Rattle.near_priced.specs.Tables.{AreAmounts, AreGrown, AreNoLess};
 
 use crate::cost_of;
 use desk_data::{Cabin, Grains, Group, Instance, Leg, Res};
@@ -61,7 +61,7 @@ fn put_one(
 fn add_groups(cost: u128, groups: &[Group], on: &mut Vec<u128>)
     requires { All (λ group. IsPathOf (length on.old.items) group.path) groups.now }
     ensures on { length on.new.items ≡ length on.old.items }
-    ensures kept { AreKept on.old.items on.new.items }
+    ensures kept { AreNoLess on.old.items on.new.items }
     ensures grown { All (λ group. AreGrown cost on.old.items on.new.items group.path) groups.now }
 {
     for group in groups {
@@ -73,7 +73,7 @@ fn add_groups(cost: u128, groups: &[Group], on: &mut Vec<u128>)
 fn add_legs(cost: u128, path: &[(Leg, Cabin)], amounts: &mut Vec<u128>)
     requires { IsPathOf (length amounts.old.items) path.now }
     ensures amounts { length amounts.new.items ≡ length amounts.old.items }
-    ensures kept { AreKept amounts.old.items amounts.new.items }
+    ensures kept { AreNoLess amounts.old.items amounts.new.items }
     ensures grown { AreGrown cost amounts.old.items amounts.new.items path.now }
 {
     for pair in path {

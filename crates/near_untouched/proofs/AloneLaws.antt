@@ -44,7 +44,7 @@ use Rattle.near_untouched.specs.Alone.{IsLeftAlone, KeepsRows, leaves_alone, cos
 
 -- ---- paths that meet the rules of paths in a feasible plan meet them where their legs have the same rows
 
-some-of : (path : List (Leg × Cabin)) → is_carried path ≡ true → 1 ≤ length path
+pub some-of : (path : List (Leg × Cabin)) → is_carried path ≡ true → 1 ≤ length path
 some-of [] carried = absurd cc
 some-of (pair ∷ path) carried = omega arith
 

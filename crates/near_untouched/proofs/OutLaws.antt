@@ -34,6 +34,7 @@ use Rattle.near_units.proofs.SplitLaws.{moves-split}
 use Rattle.near_units.proofs.OwnLaws.{breaks-stays}
 use Rattle.near_untouched.specs.UntouchedUnits.{HasSameBacks, IsUntouchedUnit}
 use Rattle.near_untouched.proofs.DearerLaws.{dearer-stays}
+use Rattle.near_untouched.proofs.RowOutLaws.{begin-row, planes-same, restores-same}
 
 -- ---- the aircraft of an untouched unit
 
@@ -59,25 +60,6 @@ agree-unit I P Q (handed x k q) on agree backs =
       agree-flies planes legs P Q q agree (or_right (eqb q p) (eqb q q) (itself q)),
     )
 agree-unit I P Q (rebooked r path) on agree backs = absurd on
-
-begin-row : (P Q : PlanRows) (x : ℕ) → is_flown (row_at P x) ≡ true → FliesSame P Q (flier (row_at P x)) → row_at P x ≡ row_at Q x
-begin-row P Q x on same = row-same P Q (flier (row_at P x)) same x (flier-flies P x on)
-
-planes-same : (I : Situation) (P Q : PlanRows) (u : MoveUnit) → FlyUnitSame I P Q u → unit_planes P u ≡ unit_planes Q u
-planes-same I P Q (retimed x) same = ap (λ (row : Row). λ (p : ℕ). eqb p (flier row)) (begin-row P Q x same.0 same.1)
-planes-same I P Q (swapped p q) same = refl
-planes-same I P Q (dropped x) same = ap (λ (row : Row). λ (p : ℕ). eqb p (flier row)) (begin-row P Q x same.0 same.1)
-planes-same I P Q (restored x p) same = refl
-planes-same I P Q (handed x k q) same = ap (λ (row : Row). λ (p : ℕ). (eqb p (flier row)) || (eqb p q)) (begin-row P Q x same.0 same.1)
-planes-same I P Q (rebooked r path) same = refl
-
-restores-same : (I : Situation) (P Q : PlanRows) (u : MoveUnit) → HasSameBacks I P Q u → (y : ℕ) → unit_restores I P u y ≡ unit_restores I Q u y
-restores-same I P Q (retimed x) backs y = refl
-restores-same I P Q (swapped p q) backs y = refl
-restores-same I P Q (dropped x) backs y = refl
-restores-same I P Q (restored x p) backs y = ap (λ (b : Bool). (eqb y x) || b) (backs y)
-restores-same I P Q (handed x k q) backs y = refl
-restores-same I P Q (rebooked r path) backs y = refl
 
 -- ---- steps that fit
 

@@ -30,10 +30,10 @@ use Rattle.near_units.proofs.OwnLaws.{breaks-stays}
 use Rattle.near_untouched.specs.UntouchedUnits.{HasSameBacks}
 use Rattle.near_notes.specs.Notes.{IsOutByRows, breaks_rule, swaps_in_vain, restores_in_vain, hands_in_vain}
 
-begin-row : (P Q : PlanRows) (x : ℕ) → is_flown (row_at P x) ≡ true → FliesSame P Q (flier (row_at P x)) → row_at P x ≡ row_at Q x
+pub begin-row : (P Q : PlanRows) (x : ℕ) → is_flown (row_at P x) ≡ true → FliesSame P Q (flier (row_at P x)) → row_at P x ≡ row_at Q x
 begin-row P Q x on same = row-same P Q (flier (row_at P x)) same x (flier-flies P x on)
 
-planes-same : (I : Situation) (P Q : PlanRows) (u : MoveUnit) → FlyUnitSame I P Q u → unit_planes P u ≡ unit_planes Q u
+pub planes-same : (I : Situation) (P Q : PlanRows) (u : MoveUnit) → FlyUnitSame I P Q u → unit_planes P u ≡ unit_planes Q u
 planes-same I P Q (retimed x) same = ap (λ (row : Row). λ (p : ℕ). eqb p (flier row)) (begin-row P Q x same.0 same.1)
 planes-same I P Q (swapped p q) same = refl
 planes-same I P Q (dropped x) same = ap (λ (row : Row). λ (p : ℕ). eqb p (flier row)) (begin-row P Q x same.0 same.1)
@@ -41,7 +41,7 @@ planes-same I P Q (restored x p) same = refl
 planes-same I P Q (handed x k q) same = ap (λ (row : Row). λ (p : ℕ). (eqb p (flier row)) || (eqb p q)) (begin-row P Q x same.0 same.1)
 planes-same I P Q (rebooked r path) same = refl
 
-restores-same : (I : Situation) (P Q : PlanRows) (u : MoveUnit) → HasSameBacks I P Q u → (y : ℕ) → unit_restores I P u y ≡ unit_restores I Q u y
+pub restores-same : (I : Situation) (P Q : PlanRows) (u : MoveUnit) → HasSameBacks I P Q u → (y : ℕ) → unit_restores I P u y ≡ unit_restores I Q u y
 restores-same I P Q (retimed x) backs y = refl
 restores-same I P Q (swapped p q) backs y = refl
 restores-same I P Q (dropped x) backs y = refl

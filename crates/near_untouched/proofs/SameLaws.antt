@@ -31,6 +31,7 @@ use Rattle.near_units.specs.Room.{AreMadeAlike}
 use Rattle.near_units.proofs.PlaneLaws.{and-same_left, filter-same}
 use Rattle.near_units.proofs.RuleLaws.{left_at-same}
 use Rattle.near_units.proofs.FrameLaws.{is_of-by, agree-flies}
+use Rattle.near_untouched.proofs.AloneLaws.{some-of}
 
 -- ---- sums
 
@@ -175,10 +176,6 @@ same-tests false false there back = refl
 
 same-back : (S T : PlanRows) (path : List (Leg × Cabin)) → HasSameRows S T path → HasSameRows T S path
 same-back S T path rows = λ k d lt. sym (rows k d lt)
-
-some-of : (path : List (Leg × Cabin)) → is_carried path ≡ true → 1 ≤ length path
-some-of [] carried = absurd cc
-some-of (pair ∷ path) carried = omega arith
 
 good-to : (I : Situation) (S T : PlanRows) (r : ℕ) (path : List (Leg × Cabin)) → 1 ≤ length path → HasSameRows S T path → is_good_path I S r path ≡ true → is_good_path I T r path ≡ true
 good-to I S T r path some rows good = is_good_path-from I T r path (there-same I S T r path some rows (is_good_path-holds I S r path good))

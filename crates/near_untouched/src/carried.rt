@@ -1,12 +1,14 @@
 //! The aircraft on which passengers are whose reservations have other groups in a later plan.
 
-ghost use Rattle.std.specs.Prelude.{◌≡◌, ◌+◌, ◌<◌, All, IfOk, false, length, replicate};
+ghost use Rattle.std.specs.Prelude.{◌≡◌, ◌+◌, ◌<◌, All, IfOk, length};
 ghost use Rattle.desk_data.specs.Situation.{legs_of, planes_of, reservations_of};
 ghost use Rattle.desk_data.specs.Valid.{IsPathOf, IsPlanFor};
-ghost use Rattle.near_untouched.specs.Marks.{AreKept, IsFlierMarked};
+ghost use Rattle.near_untouched.specs.Marks.{AreKept};
 ghost use Rattle.near_untouched.specs.Carried.{AreCarriedTold, AreCarriersMarked, AreFliersMarked};
 
-use desk_data::{Cabin, Group, Instance, Leg, NoMem, Res, Row};
+use crate::marks::unmarked;
+use crate::planes::mark_flier;
+use desk_data::{Cabin, Group, Instance, Leg, NoMem, Res};
 use plan_pages::{Pages, are_same_groups};
 use std::alloc::Global;
 
@@ -27,13 +29,6 @@ pub(crate) fn carriers(
         mark_carriers(inst, earlier, later, Res(r), &mut marks);
     }
     Ok(marks)
-}
-
-/// So many marks, none of them set. The only error is out of memory.
-fn unmarked(alloc: Global, count: usize) -> Result<Vec<bool>, NoMem>
-    ensures { IfOk result (λ none. none.items ≡ replicate count false) }
-{
-    Ok(vec![in alloc; false; count]?)
 }
 
 /// Marks those of one reservation, if it has other groups.
@@ -78,20 +73,5 @@ fn mark_fliers(inst: &Instance, plan: &Pages, path: &[(Leg, Cabin)], marks: &mut
 {
     for pair in path {
         mark_flier(inst, plan, pair.0, marks);
-    }
-}
-
-/// Marks the aircraft that flies a leg, if one does.
-fn mark_flier(_inst: &Instance, plan: &Pages, leg: Leg, marks: &mut Vec<bool>)
-    requires plan { IsPlanFor _inst.now plan.now }
-    requires leg { leg.0 < legs_of _inst.now }
-    requires marks { length marks.old.items ≡ planes_of _inst.now }
-    ensures marks { length marks.new.items ≡ planes_of _inst.now }
-    ensures kept { AreKept marks.old.items marks.new.items }
-    ensures marked { IsFlierMarked plan.now marks.new.items leg.0 }
-{
-    match plan.read_row(leg) {
-        Row::Flown { plane, .. } => marks[plane.0 as usize] = true,
-        Row::Cancelled => {}
     }
 }

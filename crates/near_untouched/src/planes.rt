@@ -83,7 +83,7 @@ fn touch_flier(inst: &Instance, plan: &Pages, legs: &[bool], leg: Leg, planes: &
 }
 
 /// Marks the aircraft that flies a leg, if one does.
-fn mark_flier(_inst: &Instance, plan: &Pages, leg: Leg, planes: &mut Vec<bool>)
+pub(crate) fn mark_flier(_inst: &Instance, plan: &Pages, leg: Leg, planes: &mut Vec<bool>)
     requires plan { IsPlanFor _inst.now plan.now }
     requires leg { leg.0 < legs_of _inst.now }
     requires planes { length planes.old.items ≡ planes_of _inst.now }

@@ -1,4 +1,4 @@
-//! The first item that a plan breaks.
+//! The first broken item of rotations.
 
 ghost use Rattle.std.specs.Prelude.{◌≡◌, find, IfOk};
 ghost use Rattle.std.specs.List.{flat_map};

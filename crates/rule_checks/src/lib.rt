@@ -11,8 +11,7 @@
 //! loop that looks for the first leg or aircraft that breaks a rule. docs/RULES-AND-COST.md gives the
 //! rules. The time is near linear in the legs: they are sorted once, and each rule walks over them once.
 //!
-//! Proved: the answer is `least_rot` of desk_rules. It depends on `desk_rules` and on `plan_reads`, which
-//! knows the leg before each leg, too.
+//! Proved: the answer is `least_rot` of desk_rules. The leg before each leg is that of plan_reads.
 //!
 //! # Hours
 //!
@@ -24,9 +23,8 @@
 //! by arrival, and walked once: so only hours in which a leg is counted are looked at, and the time is near
 //! linear in the legs.
 //!
-//! Proved: the answer is `least_slots` of desk_rules, which looks at every hour of a century. It depends on
-//! `desk_data`, `desk_rules` and `hour_counts`, which says what a slot is. Its two halves are there for whoever counts both side
-//! by side, as `par_check`: the first airport and hour that break C10, and those that break C11.
+//! Proved: the answer is `least_slots` of desk_rules, which looks at every hour of a century. What a slot is stands in
+//! hour_counts. Its two halves are there for whoever counts both side by side, as `par_check` of desk_judge: the first airport and hour that break C10, and those that break C11.
 //!
 //! # Passengers
 //!
@@ -39,9 +37,8 @@
 //! its reservation, so the time is linear in the legs and the groups of passengers, and at most quadratic in
 //! the groups of one reservation.
 //!
-//! Proved: the answer is `least_pax` of desk_rules. It depends on `desk_rules` and on `plan_reads`, which
-//! knows whether a path keeps C13 and C14. What it is made of is there for whoever looks for the first item in another way,
-//! as `par_check`: the first leg and cabin that break C12, and whether a reservation keeps C13, C14 or C15.
+//! Proved: the answer is `least_pax` of desk_rules. Whether a path keeps C13 and C14 is asked of plan_reads. What it is made
+//! of is there for whoever looks for the first item in another way, as `par_check` of desk_judge: the first leg and cabin that break C12, and whether a reservation keeps C13, C14 or C15.
 #![tactic(auto)]
 
 mod c10_departures;

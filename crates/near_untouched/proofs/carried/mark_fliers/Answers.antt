@@ -16,10 +16,10 @@ loop-pair-preserved c =
     let path = c.args.path.now in
     let i = c.loop-pair.pair-index in
     let old = c.loop-pair.marks.items in
-    let new = c.mark_flier.new.marks.items in
+    let new = c.mark_flier.new.planes.items in
     let kept = c.mark_flier.ensures.kept in
     record {
-      marks = c.mark_flier.ensures.marks;
+      marks = c.mark_flier.ensures.planes;
       kept = λ k is. kept k (c.loop-pair.invariant.kept k is);
       marked = All-more (λ (pair : Leg × Cabin). IsFlierMarked P new pair.0.0) path i no_pair c.loop-pair-test.true
           (fliers-kept P old new (take i path) kept c.loop-pair.invariant.marked)
