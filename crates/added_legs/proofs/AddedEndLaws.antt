@@ -1,28 +1,27 @@
 -- Where aircraft end.
-use Rattle.std.proofs.Common.{◌≡◌, ℕ, ◌+◌, ◌<◌, ◌⊎◌, inl, inr, Bool, true, false, ◌&&◌, List, [], ◌∷◌, length, map, refl, sym, ap, subst, ◌∙◌, arith}
-use Rattle.std.specs.Prelude.{Option, Some, None, find, unwrap_or}
+use Rattle.std.proofs.Common.{◌≡◌, ℕ, ◌+◌, ◌<◌, ◌⊎◌, inl, inr, true, false, List, length, refl, sym, ap, subst, ◌∙◌, arith}
+use Rattle.std.specs.Prelude.{Option, Some, None, unwrap_or}
 use Rattle.std.proofs.lemmas.Bool.{cases_Bool, and_parts, and_from, and_left, true≢false}
 use Rattle.std.proofs.lemmas.Bool.Decides.{nat_tests}
-use Rattle.desk_units.specs.declared.numbers.Leg.{Leg}
 use Rattle.desk_units.specs.declared.numbers.Plane.{Plane}
 use Rattle.desk_units.specs.declared.numbers.Minute.{Minute}
 use Rattle.desk_data.specs.declared.row.Row.{Row}
-use Rattle.desk_data.specs.declared.row.Row.TheVariants.{Flown, Cancelled}
+use Rattle.desk_data.specs.declared.row.Row.TheVariants.{Flown}
 use Rattle.desk_data.specs.declared.info.LegInfo.{LegInfo}
-use Rattle.desk_data.specs.Situation.{Situation, legs_of, planes_of, leg_at, plane_at}
+use Rattle.desk_data.specs.Situation.{Situation, legs_of, planes_of, leg_at}
 use Rattle.desk_data.specs.PlanRows.{PlanRows, row_at}
-use Rattle.desk_rules.specs.Numbers.{numbers, none_below}
+use Rattle.desk_rules.specs.Numbers.{none_below}
 use Rattle.desk_rules.specs.Rotations.{comes_before, precedes}
 use Rattle.desk_rules.specs.Maintenance.{flies}
-use Rattle.desk_rules.specs.Words.{Flies, Precedes}
-use Rattle.desk_rules.specs.Least.{leg, plane}
+use Rattle.desk_rules.specs.Words.{Flies}
+use Rattle.desk_rules.specs.Least.{leg}
 use Rattle.desk_rules.proofs.Tests.{none_below-holds, none_below-from}
-use Rattle.desk_rules.proofs.RotationLaws.{precedes-holds, precedes-from}
+use Rattle.desk_rules.proofs.RotationLaws.{precedes-holds}
 use Rattle.desk_rules.proofs.MaintenanceLaws.{flies-holds, flies-from}
 use Rattle.desk_rules.proofs.FindLaws.{first_of_numbers, numbers_none}
 use Rattle.plan_reads.specs.Last.{stand}
 use Rattle.added_legs.specs.declared.added.Added.{Added}
-use Rattle.added_legs.specs.Merged.{is_last_leg, last_leg, plane_end, way_to, minutes_to, added_for, leg_for, row_for, merged_day, merged_plan}
+use Rattle.added_legs.specs.Merged.{is_last_leg, last_leg, plane_end, minutes_to, added_for, leg_for, row_for, merged_day, merged_plan}
 use Rattle.added_legs.specs.Words.{EndsAt, IsFlownBeside}
 use Rattle.added_legs.proofs.MergedLaws.{new_leg, new_row}
 

@@ -1,6 +1,6 @@
 -- What the rules C4 to C7 ask of the merged plan is what they ask by the legs of the plan and the added leg of an aircraft.
-use Rattle.std.proofs.Common.{◌≡◌, ℕ, ◌+◌, ◌<◌, ◌≤◌, Bool, true, false, not, ◌&&◌, ◌||◌, cond, eqb, ltb, leb, List, length, get_or, refl, sym, ap, subst, ◌∙◌, arith}
-use Rattle.std.specs.Prelude.{Option, Some, None, unwrap_or}
+use Rattle.std.proofs.Common.{◌≡◌, ℕ, ◌+◌, ◌<◌, Bool, true, false, not, ◌&&◌, ◌||◌, cond, eqb, ltb, leb, List, length, get_or, refl, sym, ap, subst, ◌∙◌, arith}
+use Rattle.std.specs.Prelude.{Option, Some, None}
 use Rattle.std.specs.List.{list_any}
 use Rattle.std.specs.Option.{ForSome, option_map}
 use Rattle.std.proofs.lemmas.Bool.{le-leb, ne_eqb}
@@ -21,7 +21,7 @@ use Rattle.desk_rules.specs.Least.{leg, plane}
 use Rattle.plan_reads.specs.declared.rotation_leg.RotationLeg.{RotationLeg}
 use Rattle.plan_reads.specs.Last.{IsLastOf, stand}
 use Rattle.plan_reads.specs.Before.{IsLegBefore}
-use Rattle.plan_reads.specs.AfterLeg.{IsRotationLegBefore, leg_in, with_departure, c5_location_after, has_ground_time_after, c6_ground_time_after}
+use Rattle.plan_reads.specs.AfterLeg.{IsRotationLegBefore, leg_in, with_departure, has_ground_time_after}
 use Rattle.plan_reads.proofs.AfterLegLaws.{keeps_c5-after, keeps_c6-after, before-within}
 use Rattle.plan_reads.proofs.LastLaws.{last_in}
 use Rattle.added_legs.specs.declared.added.Added.{Added}

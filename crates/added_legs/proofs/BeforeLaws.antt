@@ -1,7 +1,7 @@
 -- The leg before a leg on its aircraft, with added legs.
-use Rattle.std.proofs.Common.{◌≡◌, ℕ, ◌+◌, ◌<◌, Bool, true, false, ◌&&◌, cond, eqb, ltb, List, length, refl, sym, ap, subst, ◌∙◌, arith}
+use Rattle.std.proofs.Common.{◌≡◌, ℕ, ◌+◌, ◌<◌, Bool, true, false, ◌&&◌, cond, ltb, List, length, refl, sym, ap, subst, ◌∙◌, arith}
 use Rattle.std.specs.Prelude.{Option, Some, None}
-use Rattle.std.proofs.lemmas.Bool.{and_parts, true≢false}
+use Rattle.std.proofs.lemmas.Bool.{true≢false}
 use Rattle.std.proofs.lemmas.Bool.Decides.{nat_tests}
 use Rattle.desk_units.specs.declared.numbers.Leg.{Leg}
 use Rattle.desk_units.specs.declared.numbers.Plane.{Plane}
@@ -11,7 +11,7 @@ use Rattle.desk_data.specs.declared.row.Row.TheVariants.{Flown, Cancelled}
 use Rattle.desk_data.specs.Situation.{Situation, legs_of, planes_of}
 use Rattle.desk_data.specs.PlanRows.{PlanRows, row_at}
 use Rattle.desk_rules.specs.Rotations.{departure, comes_before}
-use Rattle.desk_rules.specs.Maintenance.{is_flown_by, departs_before}
+use Rattle.desk_rules.specs.Maintenance.{is_flown_by}
 use Rattle.desk_rules.specs.Least.{leg, plane}
 use Rattle.plan_reads.specs.Last.{IsLastOf}
 use Rattle.plan_reads.specs.Before.{IsLegBefore}

@@ -7,19 +7,19 @@ use Rattle.desk_units.specs.declared.tariff.Term.TheVariants as term
 use Rattle.desk_data.specs.declared.info.LegInfo.{LegInfo}
 use Rattle.desk_data.specs.declared.row.Row.{Row}
 use Rattle.desk_data.specs.declared.row.Row.TheVariants.{Flown, Cancelled}
-use Rattle.desk_data.specs.Situation.{Situation, legs_of, planes_of, reservations_of, leg_at, plane_at}
+use Rattle.desk_data.specs.Situation.{Situation, legs_of, planes_of, reservations_of, plane_at}
 use Rattle.desk_data.specs.PlanRows.{PlanRows, row_at}
 use Rattle.desk_data.specs.Valid.{IsValid, IsPlanFor}
 use Rattle.desk_rules.specs.Numbers.{numbers}
 use Rattle.desk_rules.specs.Cost.{weight, by_hour, operating_of, operating, operating_cost, delay, delay_cost, cancellation, cancellation_cost, downgrade, downgrade_cost, legal, legal_cost, position_cost, cost}
-use Rattle.desk_rules.proofs.CostLaws.{operating_most, item_most, delay_most, downgrade_most, legal_most, missing_most, operating-sum-le, reservations-le, delay-le, cancellation-le, downgrade-le, legal-le, missing-sum-le}
+use Rattle.desk_rules.proofs.CostLaws.{operating_most, item_most, delay_most, downgrade_most, legal_most, operating-sum-le, reservations-le, delay-le, cancellation-le, downgrade-le, legal-le, missing-sum-le}
 use Rattle.added_legs.specs.declared.added.Added.{Added}
 use Rattle.added_legs.specs.Merged.{added_for, leg_for, row_for, merged_day, merged_plan}
 use Rattle.added_legs.specs.Added.{cost_added}
 use Rattle.added_legs.proofs.MergedLaws.{old_leg, new_leg, old_row, new_row, merged_legs}
 use Rattle.added_legs.specs.declared.flight.Flight.{Flight}
 use Rattle.added_legs.specs.Flights.{flight_of, AreFlights}
-use Rattle.added_legs.specs.Stands.{flight_cost, flights_cost, position_by}
+use Rattle.added_legs.specs.Stands.{flight_cost, flights_cost}
 use Rattle.added_legs.proofs.SumLaws.{sum_split, sum_same}
 
 -- ---- operating

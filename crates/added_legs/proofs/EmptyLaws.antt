@@ -1,5 +1,5 @@
 -- A list of no added legs is the plan: the same first item is broken, and the cost is the same.
-use Rattle.std.proofs.Common.{◌≡◌, ℕ, zero, suc, ◌+◌, ◌-◌, ◌<◌, ◌≤◌, Bool, true, false, not, ◌&&◌, ◌||◌, cond, eqb, ltb, leb, List, [], ◌∷◌, ◌++◌, length, get_or, map, refl, sym, ap, subst, ◌∙◌, arith, All}
+use Rattle.std.proofs.Common.{◌≡◌, ℕ, zero, suc, ◌+◌, ◌-◌, ◌<◌, Bool, true, false, not, ◌&&◌, ◌||◌, cond, eqb, leb, List, [], ◌∷◌, ◌++◌, length, map, refl, sym, ap, ◌∙◌, arith, All}
 use Rattle.std.proofs.Math.Path.{fun_ext}
 use Rattle.std.specs.Prelude.{Option, Some, None, find, filter, sum_by}
 use Rattle.std.specs.List.{flat_map, list_any}
@@ -8,7 +8,6 @@ use Rattle.std.proofs.lemmas.Bool.{lt-ltb}
 use Rattle.std.proofs.lemmas.List.{get_or_past}
 use Rattle.std.proofs.lemmas.List.Elements.{All-nil, All-cons, All-push, All-append, All-map, All-weaker}
 use Rattle.std.proofs.lemmas.List.Folds.{find-append}
-use Rattle.desk_units.specs.declared.numbers.Airport.{Airport}
 use Rattle.desk_units.specs.declared.numbers.Leg.{Leg}
 use Rattle.desk_units.specs.declared.numbers.Minute.{Minute}
 use Rattle.desk_units.specs.declared.tariff.Term.TheVariants as term
@@ -31,8 +30,6 @@ use Rattle.desk_rules.specs.Maintenance.{makes_maintenance, is_within_minutes, k
 use Rattle.desk_rules.specs.Slots.{hour_of, is_within, keeps_c10, keeps_c11}
 use Rattle.desk_rules.specs.Least.{breaks, each_leg, each_plane, each_hour, all_hours, slot_items, leg, plane, airport}
 use Rattle.desk_rules.specs.Cost.{weight, rows_of, by_hour, by_item, operating_of, operating_cost, position_cost, missing_aircraft, is_wanted, cost}
-use Rattle.added_legs.specs.declared.added.Added.{Added}
-use Rattle.added_legs.specs.declared.added.AddBroken.{AddBroken}
 use Rattle.added_legs.specs.declared.added.AddBroken.TheVariants as add
 use Rattle.added_legs.specs.Merged.{merged_day, merged_plan}
 use Rattle.added_legs.specs.Added.{items_from_c4, named, least_added, cost_added}

@@ -1,5 +1,5 @@
 -- The lists that are ferried.
-use Rattle.std.proofs.Common.{◌≡◌, ℕ, zero, suc, ◌+◌, ◌<◌, ◌≤◌, ◌⊎◌, inl, inr, Bool, true, false, cond, List, [], ◌∷◌, ◌++◌, length, get_or, take, map, refl, sym, ap, subst, ◌∙◌, arith, add-one, All}
+use Rattle.std.proofs.Common.{◌≡◌, ℕ, zero, suc, ◌+◌, ◌<◌, ◌≤◌, inl, inr, Bool, true, false, cond, List, [], ◌∷◌, length, get_or, take, map, refl, sym, ap, subst, ◌∙◌, arith, add-one, All}
 use Rattle.std.specs.Prelude.{Option, Some, None, find, is_none}
 use Rattle.std.specs.List.{filter_map, flat_map, cons_option}
 use Rattle.std.proofs.lemmas.Bool.{ltb-true, cases_order}
@@ -7,11 +7,9 @@ use Rattle.std.proofs.lemmas.List.{take_more, take_all, take_more_same}
 use Rattle.std.proofs.lemmas.List.Elements.{All-nil, All-cons, All-head, All-tail, All-append}
 use Rattle.desk_data.specs.Situation.{Situation, airports_of, planes_of}
 use Rattle.desk_data.specs.PlanRows.{PlanRows}
-use Rattle.desk_units.specs.declared.numbers.Minute.{Minute}
 use Rattle.desk_rules.specs.Numbers.{numbers}
 use Rattle.desk_rules.proofs.FindLaws.{found}
 use Rattle.added_legs.specs.declared.added.Added.{Added}
-use Rattle.added_legs.specs.declared.added.AddBroken.{AddBroken}
 use Rattle.added_legs.specs.Added.{least_added, cost_added}
 use Rattle.added_legs.specs.Ferried.{with_added, fits, may_go, added_leg, moments, candidate, candidates, lowers, next_added, IsFerried}
 use Rattle.added_legs.specs.Words.{EachPays}

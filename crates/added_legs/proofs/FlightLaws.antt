@@ -1,14 +1,13 @@
 -- The last legs of aircraft, and their added legs.
 use Rattle.std.proofs.Common.{◌≡◌, ◌≢◌, ℕ, ◌+◌, ◌<◌, ◌⊎◌, inl, inr, Bool, true, false, not, cond, eqb, ltb, List, [], ◌∷◌, length, get_or, set, take, refl, sym, ap, subst, ◌∙◌, arith}
-use Rattle.std.specs.Prelude.{Option, Some, None, find, All, is_some, min, ◌^◌, ◌-◌}
+use Rattle.std.specs.Prelude.{Option, Some, None, find, is_some, min, ◌^◌, ◌-◌}
 use Rattle.std.specs.Option.{ForSome, option_map, option_or}
-use Rattle.std.proofs.lemmas.Bool.{true≢false, and_parts, and_cases, ltb-false, eq-eqb, ne_eqb, eqb-true, cases_eq}
-use Rattle.std.proofs.lemmas.List.{take_more, get_or-set_same, get_or-set_other, length-set, get_or_default}
+use Rattle.std.proofs.lemmas.Bool.{true≢false, and_parts, and_cases, ltb-false, eq-eqb, ne_eqb, cases_eq}
+use Rattle.std.proofs.lemmas.List.{take_more, get_or-set_same, get_or-set_other, length-set}
 use Rattle.std.proofs.lemmas.List.Folds.{find-append}
-use Rattle.std.proofs.lemmas.List.Elements.{All-get_or}
 use Rattle.desk_units.specs.declared.numbers.Leg.{Leg}
 use Rattle.desk_data.specs.Situation.{Situation, legs_of, planes_of}
-use Rattle.desk_data.specs.PlanRows.{PlanRows, row_at}
+use Rattle.desk_data.specs.PlanRows.{PlanRows}
 use Rattle.desk_data.specs.declared.row.Row.{Row}
 use Rattle.desk_data.specs.declared.row.Row.TheVariants.{Flown, Cancelled}
 use Rattle.desk_data.specs.Valid.{IsPlanFor}
@@ -23,7 +22,7 @@ use Rattle.plan_reads.specs.Last.{IsLastOf, AreLasts}
 use Rattle.plan_reads.proofs.LastLaws.{last_in}
 use Rattle.plan_reads.proofs.OrderLaws.{not_both}
 use Rattle.added_legs.specs.declared.added.Added.{Added}
-use Rattle.added_legs.specs.Merged.{last_leg, added_for, IsAdded, AreAdded}
+use Rattle.added_legs.specs.Merged.{last_leg, added_for}
 use Rattle.added_legs.proofs.AddedEndLaws.{last_found, none_found}
 use Rattle.added_legs.specs.declared.flight.Flight.{Flight}
 use Rattle.added_legs.specs.Flights.{AreLastLegs, flight_of, IsFlight, departure_end, AreRanges, AreFlights}

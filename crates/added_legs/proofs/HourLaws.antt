@@ -1,11 +1,11 @@
 -- The slots that the legs of the merged plan take, and the first item of C10 or C11 that it breaks.
-use Rattle.std.proofs.Common.{◌≡◌, ℕ, zero, suc, ◌+◌, ◌<◌, ◌≤◌, ◌⊎◌, inl, inr, Bool, true, false, not, ◌&&◌, cond, eqb, ltb, List, [], ◌∷◌, ◌++◌, length, get_or, map, refl, sym, ap, subst, ◌∙◌, arith, is_lt, nat_cmp, length-append, append_assoc, add-one}
+use Rattle.std.proofs.Common.{◌≡◌, ℕ, zero, suc, ◌+◌, ◌<◌, ◌≤◌, inl, inr, Bool, true, false, not, ◌&&◌, cond, eqb, ltb, List, [], ◌∷◌, ◌++◌, length, get_or, map, refl, sym, ap, subst, ◌∙◌, arith, is_lt, nat_cmp, length-append, append_assoc, add-one}
 use Rattle.std.specs.Prelude.{find, Option, None, Some}
 use Rattle.std.specs.List.{filter_map, cons_option, filter}
-use Rattle.std.specs.Option.{option_map, option_or}
+use Rattle.std.specs.Option.{option_map}
 use Rattle.std.specs.List.Sorted.{IsPermutation}
 use Rattle.std.specs.Ordering.{ordering_then}
-use Rattle.std.proofs.lemmas.Bool.{cases_Bool, cases_lt, and_right, and_left, lt-ltb, le-ltb, ltb-true, ltb-false, ne_eqb}
+use Rattle.std.proofs.lemmas.Bool.{cases_lt, and_right, lt-ltb, le-ltb, ne_eqb}
 use Rattle.std.proofs.lemmas.Bool.Decides.{nat_tests}
 use Rattle.std.proofs.lemmas.List.Elements.{filter-append, filter_map-append}
 use Rattle.std.proofs.lemmas.List.{append-nil}
@@ -17,16 +17,15 @@ use Rattle.desk_data.specs.declared.row.Row.{Row}
 use Rattle.desk_data.specs.PlanRows.{PlanRows, row_at}
 use Rattle.desk_data.specs.Situation.{Situation, legs_of, planes_of, airports_of, leg_at, plane_at}
 use Rattle.desk_data.specs.Valid.{IsValid}
-use Rattle.desk_data.specs.Hours.{dep_cap, arr_cap}
 use Rattle.desk_rules.specs.Numbers.{numbers}
-use Rattle.desk_rules.specs.Rotations.{departure, dep, arr}
+use Rattle.desk_rules.specs.Rotations.{departure, dep}
 use Rattle.desk_rules.specs.Slots.{is_in_the_air, hour_of, is_within}
-use Rattle.desk_rules.specs.Least.{breaks, each_hour, all_hours, airport, plane}
+use Rattle.desk_rules.specs.Least.{breaks, each_hour, all_hours, airport}
 use Rattle.desk_rules.proofs.FindLaws.{numbers_none, lists_none, first_of_numbers, first_of_lists}
 use Rattle.hour_counts.specs.declared.slot.Slot.{Slot}
 use Rattle.hour_counts.specs.declared.slot.Movement.{Movement}
 use Rattle.hour_counts.specs.declared.slot.Movement.TheVariants.{Departure, Arrival}
-use Rattle.hour_counts.specs.Slots.{rank, slot_cmp, item, cap}
+use Rattle.hour_counts.specs.Slots.{rank, item, cap}
 use Rattle.rule_checks.specs.TakenSlots.{slot_for, item_of, slot_of, slots, is_at, is_overfull, IsLeastOver, IsLeastOverfull}
 use Rattle.rule_checks.proofs.PlaceLaws.{passed}
 use Rattle.rule_checks.proofs.TakenLaws.{overfull-breaks}

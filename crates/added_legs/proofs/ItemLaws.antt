@@ -1,5 +1,5 @@
 -- The items of the rules, and the first that a plan breaks.
-use Rattle.std.proofs.Common.{◌≡◌, ℕ, ◌+◌, ◌<◌, Bool, true, false, not, cond, List, [], ◌∷◌, ◌++◌, length, get_or, drop, map, refl, sym, ap, ◌∙◌, append_assoc, add-one, drop-cons, All}
+use Rattle.std.proofs.Common.{◌≡◌, ℕ, ◌+◌, ◌<◌, Bool, not, List, [], ◌∷◌, ◌++◌, length, get_or, drop, map, refl, ap, ◌∙◌, append_assoc, add-one, drop-cons, All}
 use Rattle.std.specs.Prelude.{find, Option, Some, None}
 use Rattle.std.specs.List.{flat_map}
 use Rattle.std.specs.Option.{option_or, option_map}
@@ -8,10 +8,10 @@ use Rattle.std.proofs.lemmas.List.Elements.{All-nil, All-cons}
 use Rattle.std.proofs.lemmas.List.Folds.{find-append}
 use Rattle.desk_data.specs.declared.broken.Broken.{Broken}
 use Rattle.desk_data.specs.declared.broken.Broken.TheVariants.{C4, C5, C6, C7, C8, C9, C10, C11}
-use Rattle.desk_data.specs.Situation.{Situation, legs_of, planes_of, airports_of}
+use Rattle.desk_data.specs.Situation.{Situation, legs_of, airports_of}
 use Rattle.desk_data.specs.PlanRows.{PlanRows}
 use Rattle.desk_rules.specs.Numbers.{numbers}
-use Rattle.desk_rules.specs.Least.{breaks, each_leg, each_plane, each_hour, all_hours, slot_items, leg, plane, airport}
+use Rattle.desk_rules.specs.Least.{breaks, each_plane, each_hour, all_hours, slot_items, leg, airport}
 use Rattle.added_legs.specs.declared.added.Added.{Added}
 use Rattle.added_legs.specs.declared.added.AddBroken.{AddBroken}
 use Rattle.added_legs.specs.declared.added.AddBroken.TheVariants as add
@@ -21,7 +21,7 @@ use Rattle.added_legs.proofs.MergedLaws.{merged_legs}
 use Rattle.added_legs.proofs.FerriedLaws.{found_passes, all_joined}
 use Rattle.added_legs.specs.declared.rule.Rule.{Rule}
 use Rattle.added_legs.specs.declared.rule.Rule.TheVariants.{C4Range, C5Location, C6GroundTime, C7Service, C8Maintenance, C9Minutes}
-use Rattle.added_legs.specs.Items.{is_of_planes, leg_keeps, plane_keeps, keeps, item_of, items_of, six_rules}
+use Rattle.added_legs.specs.Items.{keeps, item_of, items_of, six_rules}
 
 -- an item is broken where its leg or aircraft does not keep the rule
 pub breaks-keeps : (J : Situation) (R : PlanRows) (rule : Rule) (n : ℕ) → breaks J R (item_of rule n) ≡ not (keeps J R rule n)

@@ -1,7 +1,6 @@
 -- The last leg of an aircraft that passes a test, with its added leg: the last before a moment, and the last before another leg.
-use Rattle.std.proofs.Common.{◌≡◌, ℕ, ◌+◌, ◌-◌, ◌<◌, ◌≤◌, ◌⊎◌, inl, inr, Bool, true, false, ◌&&◌, cond, eqb, ltb, leb, List, length, get_or, refl, sym, ap, subst, ◌∙◌, arith}
+use Rattle.std.proofs.Common.{◌≡◌, ℕ, ◌+◌, ◌-◌, ◌<◌, ◌≤◌, ◌⊎◌, inl, inr, Bool, true, false, ◌&&◌, cond, ltb, List, length, refl, sym, ap, subst, ◌∙◌, arith}
 use Rattle.std.specs.Prelude.{Option, Some, None}
-use Rattle.std.specs.Option.{ForSome}
 use Rattle.std.proofs.lemmas.Bool.{cases_Bool, cases_lt, cases_eq, and_parts, true≢false, leb-true, leb-false, eq-eqb, ne_eqb}
 use Rattle.std.proofs.lemmas.Bool.Decides.{nat_tests}
 use Rattle.desk_units.specs.declared.numbers.Leg.{Leg}
@@ -12,14 +11,13 @@ use Rattle.desk_data.specs.declared.row.Row.TheVariants.{Flown, Cancelled}
 use Rattle.desk_data.specs.Situation.{Situation, legs_of, planes_of}
 use Rattle.desk_data.specs.PlanRows.{PlanRows, row_at}
 use Rattle.desk_rules.specs.Rotations.{departure, dep, comes_before, precedes}
-use Rattle.desk_rules.specs.Maintenance.{is_flown_by, departs_before}
+use Rattle.desk_rules.specs.Maintenance.{is_flown_by}
 use Rattle.desk_rules.specs.Least.{leg, plane}
-use Rattle.plan_reads.specs.Last.{IsLast, IsLastOf}
-use Rattle.plan_reads.specs.Before.{IsNearest, IsLegBefore}
+use Rattle.plan_reads.specs.Last.{IsLastOf}
 use Rattle.plan_reads.proofs.OrderLaws.{not_both}
 use Rattle.added_legs.specs.declared.added.Added.{Added}
-use Rattle.added_legs.specs.Merged.{added_for, row_for, merged_day, merged_plan}
-use Rattle.added_legs.proofs.MergedLaws.{old_row, new_row, merged_legs}
+use Rattle.added_legs.specs.Merged.{added_for, row_for, merged_plan}
+use Rattle.added_legs.proofs.MergedLaws.{old_row, new_row}
 use Rattle.added_legs.specs.Stands.{is_after}
 
 -- ---- rows of one aircraft

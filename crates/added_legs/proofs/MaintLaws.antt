@@ -1,24 +1,22 @@
 -- What C8 and C9 ask of the merged plan is what they ask by the legs of the plan and the added leg of an aircraft.
-use Rattle.std.proofs.Common.{◌≡◌, ℕ, zero, suc, ◌+◌, ◌*◌, ◌<◌, ◌≤◌, ◌⊎◌, inl, inr, Bool, true, false, not, ◌&&◌, ◌||◌, cond, eqb, ltb, leb, List, length, get_or, refl, sym, ap, subst, ◌∙◌, arith}
-use Rattle.std.specs.Prelude.{Option, Some, None, sum_by, if◌then◌else◌}
+use Rattle.std.proofs.Common.{◌≡◌, ℕ, zero, suc, ◌+◌, ◌*◌, ◌<◌, ◌≤◌, ◌⊎◌, inl, inr, Bool, true, false, not, ◌&&◌, ◌||◌, cond, eqb, ltb, leb, List, length, refl, sym, ap, subst, ◌∙◌, arith}
+use Rattle.std.specs.Prelude.{Option, Some, None, sum_by}
 use Rattle.std.specs.Option.{ForSome, option_map}
-use Rattle.std.proofs.lemmas.Bool.{and_left, cases_eq, eq-eqb}
+use Rattle.std.proofs.lemmas.Bool.{eq-eqb}
 use Rattle.std.proofs.lemmas.Bool.Decides.{nat_tests}
 use Rattle.desk_units.specs.declared.numbers.Airport.{Airport}
 use Rattle.desk_units.specs.declared.numbers.Leg.{Leg}
 use Rattle.desk_data.specs.declared.info.LegInfo.{LegInfo}
 use Rattle.desk_data.specs.declared.info.Maint.{Maint}
 use Rattle.desk_data.specs.declared.row.Row.{Row}
-use Rattle.desk_data.specs.declared.row.Row.TheVariants.{Flown, Cancelled}
 use Rattle.desk_data.specs.Situation.{Situation, legs_of, planes_of, leg_at, plane_at}
-use Rattle.desk_data.specs.PlanRows.{PlanRows, row_at}
+use Rattle.desk_data.specs.PlanRows.{PlanRows}
 use Rattle.desk_data.specs.Valid.{IsValid}
 use Rattle.desk_rules.specs.Numbers.{numbers, each_below, none_below}
 use Rattle.desk_rules.specs.Rotations.{dep, arr, departure}
 use Rattle.desk_rules.specs.Rules.{meets_span}
-use Rattle.desk_rules.specs.Maintenance.{is_flown_by, flies, departs_before, departs_from, is_free_for, is_left_at, minutes_before, makes_maintenance, is_within_minutes, keeps_c8, keeps_c9}
-use Rattle.desk_rules.specs.Least.{leg, plane}
-use Rattle.plan_reads.specs.Last.{IsLastOf, AreLasts, stand}
+use Rattle.desk_rules.specs.Maintenance.{is_flown_by, flies, departs_from, is_free_for, is_left_at, minutes_before, makes_maintenance, is_within_minutes, keeps_c8, keeps_c9}
+use Rattle.plan_reads.specs.Last.{IsLastOf}
 use Rattle.plan_reads.proofs.LastLaws.{last_in, left_asked}
 use Rattle.plan_reads.proofs.OrderLaws.{and_true}
 use Rattle.added_legs.specs.declared.added.Added.{Added}
@@ -26,7 +24,7 @@ use Rattle.added_legs.specs.Merged.{added_for, leg_for, row_for, merged_day, mer
 use Rattle.added_legs.proofs.MergedLaws.{old_leg, new_leg, new_row, merged_legs}
 use Rattle.added_legs.specs.declared.flight.Flight.{Flight}
 use Rattle.added_legs.specs.declared.upkeep.Upkeep.{Upkeep}
-use Rattle.added_legs.specs.Flights.{flight_of, AreFlights}
+use Rattle.added_legs.specs.Flights.{flight_of}
 use Rattle.added_legs.specs.Stands.{stand_with}
 use Rattle.added_legs.specs.Asked.{start_of, IsUpkeep, with_flight, makes_it, is_within}
 use Rattle.added_legs.proofs.LastLaws.{row_old, not_own, later, last_before}

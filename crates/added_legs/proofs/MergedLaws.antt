@@ -1,10 +1,7 @@
 -- The legs and the rows of the merged day and the merged plan.
-use Rattle.std.proofs.Common.{◌≡◌, ◌≢◌, ℕ, zero, suc, ◌+◌, ◌<◌, ◌≤◌, ◌⊎◌, inl, inr, Bool, true, false, eqb, List, [], ◌∷◌, ◌++◌, length, get_or, map, refl, sym, ap, subst, ◌∙◌, arith, length-append}
-use Rattle.std.specs.Prelude.{Option, Some, None, find}
-use Rattle.std.proofs.lemmas.List.{length-map, get_or-map, get_or_append_left, get_or-append-add, get_or-append_right, get_or_push, get_or_past}
-use Rattle.desk_data.specs.declared.row.Row.{Row}
-use Rattle.desk_data.specs.declared.row.Row.TheVariants.{Flown, Cancelled}
-use Rattle.desk_data.specs.declared.info.LegInfo.{LegInfo}
+use Rattle.std.proofs.Common.{◌≡◌, ℕ, zero, suc, ◌+◌, ◌<◌, ◌⊎◌, inl, inr, List, [], ◌∷◌, length, get_or, map, refl, sym, ap, ◌∙◌, arith, length-append}
+use Rattle.std.proofs.lemmas.List.{length-map, get_or-map, get_or_append_left, get_or-append-add, get_or_push}
+use Rattle.desk_data.specs.declared.row.Row.TheVariants.{Cancelled}
 use Rattle.desk_data.specs.Situation.{Situation, legs_of, planes_of, leg_at, no_leg}
 use Rattle.desk_data.specs.PlanRows.{PlanRows, row_at}
 use Rattle.desk_rules.specs.Numbers.{numbers}

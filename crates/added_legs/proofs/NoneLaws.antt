@@ -1,5 +1,5 @@
 -- With no added legs the merged day and the merged plan are the day and the plan, but for legs of nothing that are cancelled.
-use Rattle.std.proofs.Common.{◌≡◌, ℕ, zero, suc, ◌+◌, ◌*◌, ◌-◌, ◌<◌, ◌≤◌, Bool, true, false, not, ◌&&◌, ◌||◌, cond, eqb, ltb, leb, List, [], ◌∷◌, ◌++◌, length, get_or, map, refl, sym, ap, subst, ◌∙◌, arith, add-one}
+use Rattle.std.proofs.Common.{◌≡◌, ℕ, zero, suc, ◌+◌, ◌≤◌, Bool, true, false, not, ◌&&◌, ◌||◌, cond, eqb, ltb, leb, List, [], ◌∷◌, ◌++◌, length, get_or, map, refl, ap, ◌∙◌, arith}
 use Rattle.std.proofs.Math.Path.{fun_ext}
 use Rattle.std.specs.Prelude.{Option, Some, None, find, filter, fold, sum_by, zip, count_by, max, if◌then◌else◌}
 use Rattle.std.specs.List.{filter_map}
@@ -8,21 +8,20 @@ use Rattle.std.proofs.lemmas.Bool.{and_right}
 use Rattle.std.proofs.lemmas.List.{append-nil, map-append}
 use Rattle.std.proofs.lemmas.List.Elements.{filter-append}
 use Rattle.std.proofs.lemmas.List.Folds.{find-append}
-use Rattle.desk_units.specs.declared.numbers.Leg.{Leg}
 use Rattle.desk_data.specs.declared.info.LegInfo.{LegInfo}
 use Rattle.desk_data.specs.declared.info.Maint.{Maint}
 use Rattle.desk_data.specs.declared.row.Row.{Row}
 use Rattle.desk_data.specs.declared.row.Row.TheVariants.{Flown, Cancelled}
 use Rattle.day_orders.specs.LastOrders.{span_of, span_after}
-use Rattle.desk_data.specs.Situation.{Situation, legs_of, planes_of, leg_at, plane_at, no_leg, lands_frozen, ordered_spans, spans, legs_frozen}
+use Rattle.desk_data.specs.Situation.{Situation, planes_of, leg_at, plane_at, no_leg, lands_frozen, ordered_spans, spans, legs_frozen}
 use Rattle.desk_data.specs.Hours.{departs_by, arrives_by, is_row_that, hour_cap, dep_cap, arr_cap}
 use Rattle.desk_data.specs.PlanRows.{PlanRows, row_at}
 use Rattle.desk_data.specs.Valid.{IsValid}
 use Rattle.desk_rules.specs.Numbers.{numbers, each_below, none_below, implies}
 use Rattle.desk_rules.specs.Rotations.{departure, comes_before, is_leg}
-use Rattle.desk_rules.specs.Rules.{meets_span, c4_range, c5_location, c6_ground_time, c7_service, keeps_c4, keeps_c5, keeps_c6, keeps_c7}
-use Rattle.desk_rules.specs.Maintenance.{is_flown_by, makes_maintenance, is_within_minutes, keeps_c8, keeps_c9}
-use Rattle.desk_rules.specs.Slots.{is_in_the_air, hour_of, is_within, keeps_c10, keeps_c11}
+use Rattle.desk_rules.specs.Rules.{meets_span}
+use Rattle.desk_rules.specs.Maintenance.{is_flown_by}
+use Rattle.desk_rules.specs.Slots.{is_in_the_air}
 use Rattle.desk_rules.proofs.CostLaws.{sum-more}
 use Rattle.plan_reads.proofs.OrderLaws.{and_true}
 use Rattle.added_legs.specs.declared.added.Added.{Added}

@@ -6,13 +6,13 @@ use Rattle.desk_units.specs.declared.numbers.Leg.{Leg}
 use Rattle.desk_data.specs.declared.info.Maint.{Maint}
 use Rattle.desk_data.specs.declared.row.Row.{Row}
 use Rattle.desk_data.specs.declared.row.Row.TheVariants.{Flown, Cancelled}
-use Rattle.desk_data.specs.Situation.{Situation, legs_of, planes_of, leg_at, plane_at, spans}
+use Rattle.desk_data.specs.Situation.{Situation, planes_of, leg_at, plane_at, spans}
 use Rattle.desk_data.specs.PlanRows.{PlanRows}
 use Rattle.desk_rules.specs.Numbers.{numbers, none_below}
 use Rattle.desk_rules.specs.Rotations.{dep, arr, ground_time}
 use Rattle.desk_rules.specs.Rules.{meets_span}
 use Rattle.desk_rules.specs.Maintenance.{flies, departs_before, departs_from}
-use Rattle.plan_reads.specs.Last.{stand, IsLastOf}
+use Rattle.plan_reads.specs.Last.{stand}
 use Rattle.added_legs.specs.declared.flight.Flight.{Flight}
 use Rattle.added_legs.specs.declared.upkeep.Upkeep.{Upkeep}
 use Rattle.added_legs.specs.Stands.{is_after, stand_with}

@@ -1,7 +1,5 @@
 -- The rules C4 to C9 by their numbers, of the merged day and the merged plan, and what is known for them.
-use Rattle.std.specs.Prelude.{◌≡◌, ℕ, ◌+◌, ◌<◌, Bool, true, false, if◌then◌else◌, List, [], ◌∷◌, map, slice_index_or, Option, None}
-use Rattle.std.specs.Option.{ForSome}
-use Rattle.desk_units.specs.declared.numbers.Leg.{Leg}
+use Rattle.std.specs.Prelude.{ℕ, ◌+◌, Bool, true, false, if◌then◌else◌, List, [], ◌∷◌, map, slice_index_or, None}
 use Rattle.desk_data.specs.declared.broken.Broken.{Broken}
 use Rattle.desk_data.specs.declared.broken.Broken.TheVariants.{C4, C5, C6, C7, C8, C9}
 use Rattle.desk_data.specs.Situation.{Situation, legs_of, planes_of, plane_at}

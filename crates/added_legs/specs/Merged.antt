@@ -4,7 +4,7 @@
 --   I  the day, P  a plan for it         A  a list of added legs, a  one of them
 --   p  the number of an aircraft         x  the number of a leg
 --   M  the merged day, Q  the merged plan
-use Rattle.std.specs.Prelude.{◌≡◌, ◌≢◌, ℕ, ◌<◌, Bool, true, false, ◌&&◌, ◌==◌, List, [], ◌++◌, map, find, length, All, Option, Some, None, unwrap_or, is_some}
+use Rattle.std.specs.Prelude.{◌≡◌, ◌≢◌, ℕ, ◌<◌, Bool, true, false, ◌&&◌, ◌==◌, List, [], ◌++◌, map, find, All, Option, Some, None, unwrap_or, is_some}
 use Rattle.std.specs.List.{AllPairs}
 use Rattle.desk_units.specs.declared.numbers.Airport.{Airport}
 use Rattle.desk_units.specs.declared.numbers.Haul.TheVariants.{D}

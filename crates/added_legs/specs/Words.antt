@@ -1,5 +1,5 @@
 -- What added legs are, as facts in words. The letters are those of the other files.
-use Rattle.std.specs.Prelude.{◌≡◌, ℕ, ◌+◌, ◌<◌, List, Option, Some, None, length, take}
+use Rattle.std.specs.Prelude.{◌≡◌, ℕ, ◌+◌, ◌<◌, List, Some, None, length, take}
 use Rattle.desk_units.specs.declared.numbers.Airport.{Airport}
 use Rattle.desk_data.specs.declared.info.LegInfo.{LegInfo}
 use Rattle.desk_data.specs.declared.row.Row.{Row}

@@ -2,7 +2,7 @@
 //!
 //! # Items
 //!
-//! The items that a plan breaks, kept up to date while it changes: what the boards have in common.
+//! The items that a plan breaks, in the order in which they are reported, kept up to date while it changes.
 //!
 //! `BrokenItems` has items in the order in which they are reported, so that the first is known without a walk,
 //! and takes no memory within its room, so that a change can be taken back.

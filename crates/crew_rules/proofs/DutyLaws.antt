@@ -1,7 +1,7 @@
 -- Duties: that they are the longest, and the rule K3.
-use Rattle.std.proofs.Common.{◌≡◌, ℕ, ◌+◌, ◌<◌, ◌≤◌, ◌⊎◌, inl, inr, Bool, true, false, ltb, leb, cond, List, [], ◌∷◌, ◌++◌, length, refl, sym, ap, subst, ◌∙◌, arith}
-use Rattle.std.specs.Prelude.{◌↔◌, All, if◌then◌else◌}
-use Rattle.std.specs.List.{flat_map, list_all}
+use Rattle.std.proofs.Common.{◌≡◌, ℕ, ◌+◌, ◌<◌, ◌≤◌, inl, inr, true, ltb, List, [], ◌∷◌, length, refl, sym, ap, subst, arith}
+use Rattle.std.specs.Prelude.{◌↔◌, All}
+use Rattle.std.specs.List.{list_all}
 use Rattle.std.proofs.lemmas.Bool.{and_parts, and_from, cases_Bool, leb-true, le-leb, ltb-true, ltb-false}
 use Rattle.std.proofs.lemmas.List.Elements.{All-nil, All-cons, All-head, All-tail}
 use Rattle.desk_data.specs.declared.parts.Parts.{Parts}
@@ -10,7 +10,7 @@ use Rattle.crew_rules.specs.declared.crew.CrewInfo.{CrewInfo}
 use Rattle.crew_rules.specs.declared.crew.WorkedLeg.{WorkedLeg}
 use Rattle.crew_rules.specs.Crews.{worked, duties, before_duties, last_arrival, is_short, keeps_k3}
 use Rattle.crew_rules.specs.Words.{IsFirst, IsLast, IsNext, AreDuties, MeetsK3}
-use Rattle.crew_rules.proofs.PlaceLaws.{first_of, first_is, first_none, next_none, next_alone, next_cases, next_tail, next_head, last_none, last_tail, last_alone}
+use Rattle.crew_rules.proofs.PlaceLaws.{first_of, first_is, first_none, next_none, next_alone, next_cases, next_tail, next_head, last_tail, last_alone}
 use Rattle.crew_rules.proofs.RuleLaws.{last_of}
 
 -- ---- the duties are the longest

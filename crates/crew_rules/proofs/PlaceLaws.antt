@@ -1,5 +1,5 @@
 -- The first, the last and the next of a list.
-use Rattle.std.proofs.Common.{◌≡◌, ◌⊎◌, inl, inr, List, [], ◌∷◌, ◌++◌, refl, sym, ap, subst, ◌∙◌}
+use Rattle.std.proofs.Common.{◌≡◌, ◌⊎◌, inl, inr, List, [], ◌∷◌, ◌++◌, refl, ap}
 use Rattle.crew_rules.specs.Words.{IsFirst, IsLast, IsNext}
 
 -- ---- the first

@@ -1,5 +1,5 @@
 -- Which items of crews a plan breaks, and in which order they are reported.
-use Rattle.std.specs.Prelude.{◌≡◌, ℕ, ◌<◌, ◌⊎◌, Bool, ◌&&◌, not, nat_lt, false, List, [], length, slice_index_or}
+use Rattle.std.specs.Prelude.{◌≡◌, ℕ, ◌<◌, ◌⊎◌, Bool, ◌&&◌, not, nat_lt, List, [], length, slice_index_or}
 use Rattle.desk_data.specs.declared.parts.Parts.{Parts}
 use Rattle.desk_data.specs.declared.row.Row.{Row}
 use Rattle.crew_rules.specs.declared.crew.CrewInfo.{CrewInfo}

@@ -8,7 +8,6 @@ use Rattle.desk_data.specs.declared.row.Row.{Row}
 use Rattle.crew_rules.specs.declared.crew.CrewInfo.{CrewInfo}
 use Rattle.crew_rules.specs.declared.crew.WorkedLeg.{WorkedLeg}
 use Rattle.crew_rules.specs.declared.crew.CrewBroken.{CrewBroken}
-use Rattle.crew_rules.specs.declared.crew.CrewBroken.TheVariants.{K1, K2, K3, K4}
 use Rattle.crew_rules.specs.Crews.{leg_of, row_of}
 use Rattle.crew_rules.specs.Broken.{breaks_crew, ComesBefore}
 

@@ -33,7 +33,7 @@ pub enum Tally {
 impl Tally {
     /// Those of a list.
     fn of(entries: Vec<(Path, u32)>) -> Tally
-        ensures { entries_in result ≡ entries.entry.items }
+        ensures { entries_in result ≡ entries.items }
     {
         let mut entries = entries;
         if entries.len() == 1 {

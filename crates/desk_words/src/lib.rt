@@ -35,9 +35,8 @@
 //!
 //! Proved: no byte but line feeds and those from the space to `~` is in an explanation (`ShownText`); what `text_of` finds for
 //! a cause is the first row with it; a copy is what the sink took, or there is none. Which table is asked, and which words
-//! stand between the parts, is tested alone. It
-//! depends on `desk_text`, `desk_folder` and `file_rows`, and parses no input: what it reads of the report is
-//! what this program wrote.
+//! stand between the parts, is tested alone. The
+//! explanations parse no input: what they read of the report is what this program wrote.
 #![tactic(auto)]
 
 mod asked;

@@ -1,5 +1,5 @@
 -- How many departures and arrivals of an hour have left.
-use Rattle.std.proofs.Common.{◌≡◌, ℕ, zero, suc, ◌+◌, ◌<◌, ◌≤◌, inl, inr, Bool, true, false, not, ◌&&◌, cond, eqb, List, [], ◌∷◌, ◌++◌, length, get_or, map, max, refl, sym, ap, ◌∙◌, arith}
+use Rattle.std.proofs.Common.{◌≡◌, ℕ, zero, suc, ◌+◌, ◌<◌, ◌≤◌, inl, inr, Bool, cond, List, [], ◌∷◌, length, get_or, map, max, refl, sym, ap, ◌∙◌, arith}
 use Rattle.std.specs.Prelude.{Option, None, Some, count_by, filter, unwrap_or, zip}
 use Rattle.std.specs.Option.{option_map}
 use Rattle.std.proofs.lemmas.Bool.{cases_Bool, cases_lt}
@@ -10,7 +10,7 @@ use Rattle.desk_data.specs.declared.info.LegInfo.{LegInfo}
 use Rattle.desk_data.specs.declared.row.Row.{Row}
 use Rattle.desk_data.specs.declared.row.Row.TheVariants.{Flown, Cancelled}
 use Rattle.desk_data.specs.Hours.{arr_cap, arrives_by, dep_cap, departs_by, frozen_arrivals, frozen_departures, hour_cap, is_row_that}
-use Rattle.desk_data.specs.PlanRows.{PlanRows, row_at}
+use Rattle.desk_data.specs.PlanRows.{row_at}
 use Rattle.desk_data.specs.Situation.{Situation, frozen_at, leg_at, legs_of, no_leg}
 use Rattle.desk_data.specs.Valid.{IsValid}
 use Rattle.day_orders.specs.declared.hours.HourCap.{HourCap}

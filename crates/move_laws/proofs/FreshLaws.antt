@@ -1,8 +1,7 @@
 -- A day of which nothing has left: its latest departures, its stems and routes, and its refills.
-use Rattle.std.proofs.Common.{◌≡◌, ℕ, ◌+◌, ◌<◌, ◌≤◌, inl, inr, Bool, true, false, ◌&&◌, cond, leb, List, [], ◌∷◌, ◌++◌, length, map, get_or, refl, sym, ap, subst, ◌∙◌, arith}
+use Rattle.std.proofs.Common.{◌≡◌, ℕ, ◌+◌, ◌<◌, ◌≤◌, inl, inr, Bool, true, false, ◌&&◌, List, [], ◌∷◌, refl, sym, ap, ◌∙◌, arith}
 use Rattle.std.specs.Prelude.{filter, sum_by}
-use Rattle.std.specs.List.{All, flat_map}
-use Rattle.std.proofs.lemmas.Bool.{cases_Bool, and_parts}
+use Rattle.std.specs.List.{flat_map}
 use Rattle.std.proofs.lemmas.List.{append-nil, get_or-map}
 use Rattle.desk_units.specs.declared.numbers.Leg.{Leg}
 use Rattle.desk_units.specs.declared.numbers.Cabin.{Cabin}
@@ -10,10 +9,10 @@ use Rattle.desk_data.specs.declared.row.Group.{Group}
 use Rattle.desk_data.specs.Booked.{booked_path}
 use Rattle.desk_data.specs.LaterOrders.{IsAsOrdered}
 use Rattle.desk_data.specs.PlanRows.{PlanRows, groups_at}
-use Rattle.desk_data.specs.Situation.{Situation, all_waiting, begins_as_begun, bound, earliest, first_progress, latest, no_res, ordered, res_at, reservations_of, tally_at}
+use Rattle.desk_data.specs.Situation.{Situation, all_waiting, begins_as_begun, bound, earliest, first_progress, latest, no_res, res_at, reservations_of, tally_at}
 use Rattle.desk_data.specs.Valid.{IsPlanFor, IsValid}
-use Rattle.desk_model.specs.Choices.{IsGreatestWithin, greatest_within}
-use Rattle.desk_model.specs.Rebook.{count_on, groups_after_rebook, passengers_on}
+use Rattle.desk_model.specs.Choices.{greatest_within}
+use Rattle.desk_model.specs.Rebook.{count_on, groups_after_rebook}
 use Rattle.desk_model.specs.Refill.{has_seats_for, may_refill, refill_count}
 use Rattle.desk_model.specs.Tidy.{is_fit_path}
 use Rattle.desk_model.proofs.ChoiceLaws.{greatest_within-holds, greatest_within-is}

@@ -1,12 +1,11 @@
 -- What is left of spans out of service.
-use Rattle.std.proofs.Common.{◌≡◌, ℕ, zero, suc, ◌+◌, ◌<◌, ◌≤◌, ◌⊎◌, ◌↔◌, inl, inr, Bool, true, false, ltb, List, [], ◌∷◌, length, get_or, max, refl, sym, ap, subst, ◌∙◌, arith}
+use Rattle.std.proofs.Common.{◌≡◌, ℕ, ◌<◌, ◌≤◌, ◌↔◌, inl, inr, List, [], ◌∷◌, max, refl, sym, ap, subst, ◌∙◌, arith}
 use Rattle.std.specs.Prelude.{Option, None, Some, if◌then◌else◌, filter}
 use Rattle.std.specs.List.{All, Contains, cons_option, filter_map}
-use Rattle.std.proofs.lemmas.Bool.{cases_Bool, cases_lt, lt-ltb, le-ltb, ltb-true}
-use Rattle.std.proofs.lemmas.List.Elements.{All-nil, All-cons, All-contains_itself, All-weaker}
+use Rattle.std.proofs.lemmas.Bool.{cases_Bool, cases_lt, lt-ltb, le-ltb}
 use Rattle.desk_units.specs.declared.numbers.Minute.{Minute}
 use Rattle.day_orders.specs.LastOrders.{span_after}
-use Rattle.desk_data.specs.Situation.{Situation, landed, leg_at, legs_of, ordered_spans, spans}
+use Rattle.desk_data.specs.Situation.{Situation, landed, legs_of, ordered_spans, spans}
 use Rattle.desk_data.specs.Valid.{IsValid}
 use Rattle.desk_rules.specs.Words.{MeetsSpan}
 use Rattle.move_laws.specs.WhatLeft.{HasFlown, HasLanded, IsInSpan, has_minute}

@@ -14,7 +14,6 @@ use Rattle.desk_data.specs.PlanRows.{PlanRows, row_at, groups_at}
 use Rattle.desk_data.specs.Valid.{IsPlanFor, IsValid}
 use Rattle.plan_moves.specs.Fits.{Fits, StepFits}
 use Rattle.plan_moves.specs.declared.moves.Move.{Move}
-use Rattle.plan_moves.specs.declared.moves.Step.{Step}
 use Rattle.plan_moves.specs.declared.moves.Step.TheVariants.{Push, Tidy}
 use Rattle.desk_rules.specs.Least.{least}
 use Rattle.desk_rules.specs.Maintenance.{flies}
@@ -45,7 +44,8 @@ use Rattle.near_dear.specs.Owed.{owed_by}
 use Rattle.near_dear.proofs.OwedSumLaws.{any-le, both-le, others-le, some_of}
 use Rattle.near_dear.proofs.OwedLaws.{none-owed, tidy-owes}
 use Rattle.near_dear.proofs.CancelLaws.{among-has, first_steps, flying-saves, gone-after}
-use Rattle.near_dear.proofs.DropEndLaws.{alike, all-changed, flown-within, positions-save}
+use Rattle.near_dear.proofs.DropEndLaws.{alike, all-changed, positions-save}
+use Rattle.near_dear.proofs.FlownLaws.{flown-within}
 use Rattle.near_dear.proofs.DearRestoreLaws.{first-fit}
 
 -- ---- who is touched

@@ -1,10 +1,9 @@
 -- Which legs keep their rows, and how many aircraft are at hand once two have exchanged legs.
-use Rattle.std.proofs.Common.{◌≡◌, ◌≢◌, ℕ, ◌+◌, ◌-◌, ◌<◌, ◌⊎◌, inl, inr, Bool, true, false, ◌&&◌, cond, eqb, List, [], ◌∷◌, ◌++◌, length, refl, sym, ap, subst, ◌∙◌, arith}
-use Rattle.std.specs.Prelude.{Option, None, Some, sum_by}
+use Rattle.std.proofs.Common.{◌≡◌, ◌≢◌, ℕ, ◌+◌, ◌-◌, ◌<◌, ◌⊎◌, inl, inr, Bool, true, false, ◌&&◌, cond, eqb, List, [], ◌∷◌, ◌++◌, refl, sym, ap, subst, ◌∙◌, arith}
+use Rattle.std.specs.Prelude.{None, sum_by}
 use Rattle.std.specs.List.{list_all}
 use Rattle.std.proofs.Math.Path.{fun_ext}
-use Rattle.std.proofs.lemmas.Bool.{true≢false, cases_Bool, cases_eq, cases_lt, eq-eqb, ne_eqb, eqb-true, and_parts, and_from}
-use Rattle.std.proofs.lemmas.List.{get_or_past}
+use Rattle.std.proofs.lemmas.Bool.{cases_Bool, cases_eq, eq-eqb, ne_eqb, eqb-true, and_parts, and_from}
 use Rattle.std.proofs.lemmas.List.Elements.{Contains-append_left, Contains-append_right}
 use Rattle.plan_moves.specs.declared.moves.Move.{Move}
 use Rattle.plan_moves.specs.declared.moves.Step.{Step}
@@ -14,11 +13,11 @@ use Rattle.tariff_prices.specs.Prices.{position_price}
 use Rattle.desk_data.specs.declared.info.PositionInfo.{PositionInfo}
 use Rattle.desk_data.specs.declared.row.Row.{Row}
 use Rattle.desk_data.specs.declared.row.Row.TheVariants.{Flown, Cancelled}
-use Rattle.desk_data.specs.Situation.{Situation, legs_of, planes_of, plane_at}
+use Rattle.desk_data.specs.Situation.{Situation, planes_of, plane_at}
 use Rattle.desk_data.specs.PlanRows.{PlanRows, row_at}
 use Rattle.desk_data.specs.Valid.{IsPlanFor}
 use Rattle.desk_rules.specs.Least.{least}
-use Rattle.desk_rules.specs.Maintenance.{is_flown_by, flies}
+use Rattle.desk_rules.specs.Maintenance.{is_flown_by}
 use Rattle.desk_rules.specs.Cost.{weight, rows_of, by_item, at_hand, missing_aircraft, position_cost, is_wanted}
 use Rattle.desk_model.specs.Push.{rotation}
 use Rattle.desk_model.proofs.RotationOrder.{rotation-each}
@@ -28,7 +27,7 @@ use Rattle.move_laws.specs.Chains.{stand}
 use Rattle.move_laws.proofs.ChainLaws.{KeepsC5}
 use Rattle.near_units.specs.Same.{FliesSame, is_of, AgreeOn}
 use Rattle.near_units.specs.Steps.{is_among}
-use Rattle.near_units.specs.Room.{IsSameRoom, HaveSameRoom, AreMadeAlike}
+use Rattle.near_units.specs.Room.{HaveSameRoom, AreMadeAlike}
 use Rattle.near_units.proofs.FrameLaws.{steps-alike, start-alike}
 use Rattle.near_priced.specs.Unpaid.{is_either}
 use Rattle.near_draft.specs.Drafts.{AreAllChanged}

@@ -1,5 +1,5 @@
 -- Nothing was touched that a rebooking of a reservation hangs on.
-use Rattle.std.proofs.Common.{◌≡◌, ℕ, ◌<◌, inl, inr, Bool, true, false, ◌&&◌, ◌||◌, eqb, leb, ltb, List, [], ◌∷◌, ◌++◌, ◌+◌, length, get_or, map, take, refl, sym, ap, subst, ◌∙◌}
+use Rattle.std.proofs.Common.{◌≡◌, ℕ, ◌<◌, inl, inr, Bool, true, false, ◌&&◌, ◌||◌, eqb, leb, ltb, List, [], ◌∷◌, ◌++◌, ◌+◌, length, get_or, map, take, sym, ap, subst, ◌∙◌}
 use Rattle.std.specs.Prelude.{filter}
 use Rattle.std.specs.List.{All, list_any}
 use Rattle.std.proofs.lemmas.Bool.{cases_Bool, and_cases, and_left, and_right, or_from, true≢false}
@@ -10,14 +10,14 @@ use Rattle.desk_units.specs.declared.numbers.Leg.{Leg}
 use Rattle.desk_units.specs.declared.numbers.Cabin.{Cabin}
 use Rattle.desk_data.specs.declared.row.Group.{Group}
 use Rattle.desk_data.specs.Situation.{Situation, legs_of, reservations_of, leg_at}
-use Rattle.desk_data.specs.Booked.{booked_path, dest_of}
+use Rattle.desk_data.specs.Booked.{booked_path}
 use Rattle.desk_data.specs.PlanRows.{PlanRows, groups_at, row_at}
 use Rattle.desk_data.specs.Valid.{IsPlanFor}
 use Rattle.desk_rules.specs.Rotations.{dep, arr}
 use Rattle.desk_rules.specs.Passengers.{is_flown}
 use Rattle.near_moves.specs.Routes.{stems}
-use Rattle.near_pax.specs.Start.{place_after, ready_after, due_before}
-use Rattle.near_memory.specs.Untouched.{IsStill, IsUntouched, is_on, goes_between, may_begin, may_end, is_in_time, may_use_after, may_use}
+use Rattle.near_pax.specs.Start.{place_after, ready_after}
+use Rattle.near_memory.specs.Untouched.{IsUntouched, is_on, goes_between, may_begin, may_end, is_in_time, may_use_after, may_use}
 use Rattle.near_notes.specs.declared.changes.Changes.{Changes}
 use Rattle.near_notes.specs.declared.onward.Outset.{Outset}
 use Rattle.near_notes.specs.Changes.{AreAllStill, AreChanges, is_touched}

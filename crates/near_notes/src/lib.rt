@@ -1,4 +1,5 @@
-//! What is noted of a plan that was searched, and what of it still holds at a later one.
+//! What a search notes of a plan: rebookings and units of legs that are not better; and which notes of rebookings hold at a
+//! later plan.
 //!
 //! # Notes of units of legs
 //!

@@ -1,4 +1,4 @@
-//! Moves held against what the passengers they touch pay, or can save.
+//! Moves that save no more than they cost: because nobody on them pays, or less than they cost more.
 //!
 //! # Aircraft on which nobody pays
 //!

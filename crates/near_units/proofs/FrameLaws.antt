@@ -1,6 +1,6 @@
 -- Steps of some aircraft make the same rows of two plans that agree on them, where hours have the same room.
-use Rattle.std.proofs.Common.{◌≡◌, ℕ, ◌+◌, ◌<◌, ◌≤◌, max, inl, inr, Bool, true, false, ◌&&◌, ◌||◌, cond, eqb, leb, ltb, not, List, [], ◌∷◌, ◌++◌, length, get_or, refl, sym, ap, subst, ◌∙◌, arith}
-use Rattle.std.specs.Prelude.{Option, None, Some, filter, find, fold, count_by}
+use Rattle.std.proofs.Common.{◌≡◌, ℕ, ◌+◌, ◌<◌, ◌≤◌, max, inl, inr, Bool, true, false, ◌&&◌, ◌||◌, cond, eqb, leb, ltb, not, List, [], ◌∷◌, length, get_or, refl, sym, ap, subst, ◌∙◌, arith}
+use Rattle.std.specs.Prelude.{Option, None, Some, filter, fold, count_by}
 use Rattle.std.specs.List.{All, list_all}
 use Rattle.std.proofs.Math.Path.{fun_ext}
 use Rattle.std.proofs.lemmas.Bool.{true≢false, cases_Bool, cases_eq, cases_lt, and_parts, and_from, ne_eqb, lt-ltb, eqb-true}
@@ -34,7 +34,7 @@ use Rattle.near_moves.proofs.DescentLaws.{find-passes}
 use Rattle.near_units.specs.Same.{FliesSame, is_of, IsOwn, AgreeOn}
 use Rattle.near_units.specs.Steps.{is_among}
 use Rattle.near_units.specs.Room.{departures_outside, arrivals_outside, count_from, count_to, IsSameRoom, HaveSameRoom, AreMadeAlike}
-use Rattle.near_units.proofs.PlaneLaws.{filter-same, row-same, precedes-to, flies-first, leg_before-same, rotation-same}
+use Rattle.near_units.proofs.PlaneLaws.{filter-same, precedes-to, flies-first, leg_before-same, rotation-same}
 
 -- ---- rows of some aircraft
 

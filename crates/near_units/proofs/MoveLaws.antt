@@ -1,16 +1,16 @@
 -- The moves of a unit are the same in two plans, where its aircraft fly the same.
-use Rattle.std.proofs.Common.{◌≡◌, ℕ, ◌+◌, ◌-◌, inl, inr, Bool, true, false, ◌&&◌, ◌||◌, cond, eqb, ltb, not, List, [], ◌∷◌, ◌++◌, length, take, get_or, refl, sym, ap, ◌∙◌}
+use Rattle.std.proofs.Common.{◌≡◌, ℕ, ◌+◌, ◌-◌, inl, inr, Bool, true, ◌&&◌, ◌||◌, cond, eqb, ltb, not, List, [], ◌∷◌, ◌++◌, length, take, get_or, refl, sym, ap, ◌∙◌}
 use Rattle.std.specs.Prelude.{None, Some, filter, map}
 use Rattle.std.specs.List.{All, list_all, list_any}
 use Rattle.std.proofs.Math.Path.{fun_ext}
-use Rattle.std.proofs.lemmas.Bool.{true≢false, cases_Bool, or_from, and_parts, eq-eqb}
+use Rattle.std.proofs.lemmas.Bool.{true≢false, cases_Bool, or_from, eq-eqb}
 use Rattle.std.proofs.lemmas.List.Elements.{All-head, All-tail, All-take, All-filter, filter_agree}
 use Rattle.desk_data.specs.declared.row.Row.{Row}
 use Rattle.desk_data.specs.declared.row.Row.TheVariants.{Flown, Cancelled}
 use Rattle.desk_data.specs.Situation.{Situation, legs_of, leg_at, fixed, earliest}
 use Rattle.desk_data.specs.PlanRows.{PlanRows, row_at}
 use Rattle.plan_moves.specs.declared.moves.Step.{Step}
-use Rattle.plan_moves.specs.declared.moves.Step.TheVariants.{Set, Push, Swap, Tidy, Refill}
+use Rattle.plan_moves.specs.declared.moves.Step.TheVariants.{Set, Push, Tidy, Refill}
 use Rattle.desk_rules.specs.Numbers.{numbers}
 use Rattle.desk_rules.specs.Rotations.{departure, dep, precedes}
 use Rattle.desk_rules.specs.Maintenance.{is_flown_by, flies}

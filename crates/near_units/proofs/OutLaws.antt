@@ -1,5 +1,5 @@
 -- A unit of legs that is out has no better move.
-use Rattle.std.proofs.Common.{◌≡◌, ◌≤◌, false, subst}
+use Rattle.std.proofs.Common.{◌≡◌, false, subst}
 use Rattle.std.specs.List.{All, Contains}
 use Rattle.std.proofs.lemmas.Bool.{le-ltb, and_right}
 use Rattle.std.proofs.lemmas.List.Elements.{All-contains}

@@ -1,18 +1,15 @@
 -- A rule of a leg of its own aircraft that a move breaks at a plan is broken at each plan that agrees on them.
-use Rattle.std.proofs.Common.{◌≡◌, ℕ, ◌<◌, ◌⊎◌, inl, inr, Bool, true, false, ◌&&◌, List, [], ◌∷◌, ◌++◌, length, get_or, refl, sym, ap, subst, ◌∙◌}
-use Rattle.std.specs.Prelude.{None}
+use Rattle.std.proofs.Common.{◌≡◌, ℕ, Bool, true, false, List, [], ◌∷◌, length, get_or, refl, sym, ap, subst, ◌∙◌}
 use Rattle.std.specs.List.{list_all}
-use Rattle.std.proofs.lemmas.Bool.{true≢false, and_parts, and_cases, and_from, eq-eqb}
+use Rattle.std.proofs.lemmas.Bool.{true≢false, and_parts, eq-eqb}
 use Rattle.desk_data.specs.declared.row.Row.{Row}
 use Rattle.desk_data.specs.declared.row.Row.TheVariants.{Flown, Cancelled}
-use Rattle.desk_data.specs.Situation.{Situation, legs_of}
+use Rattle.desk_data.specs.Situation.{Situation}
 use Rattle.desk_data.specs.PlanRows.{PlanRows, row_at}
 use Rattle.plan_moves.specs.declared.moves.Move.{Move}
 use Rattle.plan_moves.specs.declared.moves.Step.{Step}
 use Rattle.plan_moves.specs.declared.moves.Step.TheVariants.{Set, Push, Swap, Rebook, Tidy, Refill}
 use Rattle.desk_rules.specs.Maintenance.{is_flown_by, flies}
-use Rattle.desk_rules.specs.Rules.{keeps_c2, keeps_c4, keeps_c5, keeps_c6, keeps_c7}
-use Rattle.desk_rules.specs.Least.{least}
 use Rattle.desk_rules.proofs.LeastLaws.{feasible-holds}
 use Rattle.desk_rules.proofs.RotationLaws.{keeps_c5-from, keeps_c6-from}
 use Rattle.desk_rules.proofs.LegLaws.{keeps_c2-from, keeps_c4-from, keeps_c7-from}
@@ -23,10 +20,9 @@ use Rattle.move_laws.proofs.KeptLaws.{steps-append, broken-worse}
 use Rattle.move_laws.specs.RowRules.{keeps_rows}
 use Rattle.move_laws.proofs.RowLaws.{steps-rows}
 use Rattle.near_units.specs.Same.{FliesSame, is_of, IsOwn, AgreeOn}
-use Rattle.near_units.specs.Steps.{is_among, is_tidying, IsSplit}
-use Rattle.near_units.specs.Room.{HaveSameRoom, AreMadeAlike}
+use Rattle.near_units.specs.Steps.{is_tidying, IsSplit}
+use Rattle.near_units.specs.Room.{HaveSameRoom}
 use Rattle.near_units.specs.Own.{keeps_own_rules, BreaksOwn}
-use Rattle.near_units.proofs.PlaneLaws.{flies-same}
 use Rattle.near_units.proofs.RuleLaws.{c2-same, c4-same, c5-same, c6-same, c7-same}
 use Rattle.near_units.proofs.FrameLaws.{agree-flies, own-leg, steps-alike, start-alike}
 

@@ -1,20 +1,18 @@
 -- An aircraft that flies the same legs with the same rows in two plans: its rotation is the same, and so is what rules ask of it.
-use Rattle.std.proofs.Common.{◌≡◌, ℕ, ◌<◌, inl, inr, Bool, true, false, ◌&&◌, ◌||◌, eqb, leb, not, List, [], ◌∷◌, ◌++◌, length, refl, sym, ap, subst, ◌∙◌}
-use Rattle.std.specs.Prelude.{Option, None, Some, filter, find, fold}
+use Rattle.std.proofs.Common.{◌≡◌, ℕ, ◌<◌, inl, inr, Bool, true, false, ◌&&◌, ◌||◌, eqb, List, [], ◌∷◌, ◌++◌, refl, sym, ap, ◌∙◌}
+use Rattle.std.specs.Prelude.{filter, find, fold}
 use Rattle.std.specs.List.{All}
 use Rattle.std.proofs.Math.Path.{fun_ext}
-use Rattle.std.proofs.lemmas.Bool.{true≢false, and_parts, and_right, eqb-true, false_from_ne_true, cases_Bool}
+use Rattle.std.proofs.lemmas.Bool.{true≢false, and_parts, and_right, eqb-true, false_from_ne_true}
 use Rattle.std.proofs.lemmas.List.Elements.{All-head, All-tail, All-weaker, filter_passes, filter_agree}
-use Rattle.desk_units.specs.declared.numbers.Leg.{Leg}
 use Rattle.desk_data.specs.declared.row.Row.{Row}
 use Rattle.desk_data.specs.declared.row.Row.TheVariants.{Flown, Cancelled}
-use Rattle.desk_data.specs.Situation.{Situation, legs_of, leg_at, plane_at, fixed}
+use Rattle.desk_data.specs.Situation.{Situation, legs_of}
 use Rattle.desk_data.specs.PlanRows.{PlanRows, row_at}
 use Rattle.desk_rules.specs.Numbers.{numbers, none_below, implies}
-use Rattle.desk_rules.specs.Rotations.{dep, arr, is_earlier, comes_before, precedes, follows, is_first, ground_time}
-use Rattle.desk_rules.specs.Maintenance.{is_flown_by, flies, departs_before, is_last_before, is_left_at}
-use Rattle.desk_rules.specs.Rules.{c5_location, c6_ground_time, keeps_c2, keeps_c4, keeps_c5, keeps_c6, keeps_c7}
-use Rattle.desk_model.specs.Push.{with_leg, rotation, comes_after, pushed_legs, leg_before}
+use Rattle.desk_rules.specs.Rotations.{dep, is_earlier, comes_before, precedes, follows, is_first}
+use Rattle.desk_rules.specs.Maintenance.{is_flown_by, flies}
+use Rattle.desk_model.specs.Push.{with_leg, rotation, leg_before}
 use Rattle.desk_model.proofs.RotationOrder.{rotation-flown}
 use Rattle.near_moves.specs.MoveParts.{flier, legs_from}
 use Rattle.near_units.specs.Same.{FliesSame}

@@ -1,17 +1,17 @@
 -- What rules ask of the legs of an aircraft that flies the same in two plans, and where it is left.
-use Rattle.std.proofs.Common.{◌≡◌, ℕ, ◌+◌, inl, inr, Bool, true, false, ◌&&◌, ◌||◌, cond, eqb, leb, ltb, not, List, [], ◌∷◌, length, refl, sym, ap, ◌∙◌}
+use Rattle.std.proofs.Common.{◌≡◌, ℕ, ◌+◌, Bool, true, ◌&&◌, ◌||◌, eqb, leb, ltb, refl, ap, ◌∙◌}
 use Rattle.std.proofs.Math.Path.{fun_ext}
-use Rattle.std.proofs.lemmas.Bool.{true≢false, and_parts}
+use Rattle.std.proofs.lemmas.Bool.{and_parts}
 use Rattle.desk_data.specs.declared.row.Row.{Row}
 use Rattle.desk_data.specs.declared.row.Row.TheVariants.{Flown, Cancelled}
 use Rattle.desk_data.specs.Situation.{Situation, legs_of, leg_at, plane_at, fixed}
 use Rattle.desk_data.specs.PlanRows.{PlanRows, row_at}
 use Rattle.desk_rules.specs.Numbers.{none_below, each_below, implies}
 use Rattle.desk_rules.specs.Rotations.{departure, dep, arr, precedes, follows, is_first, ground_time}
-use Rattle.desk_rules.specs.Maintenance.{flies, is_flown_by, departs_before, is_last_before, is_left_at}
+use Rattle.desk_rules.specs.Maintenance.{flies, departs_before, is_last_before, is_left_at}
 use Rattle.desk_rules.specs.Rules.{departs_in_time, c4_range, c5_location, c6_ground_time, c7_service, keeps_c2, keeps_c4, keeps_c5, keeps_c6, keeps_c7}
 use Rattle.near_units.specs.Same.{FliesSame}
-use Rattle.near_units.proofs.PlaneLaws.{and-same_left, implies-same, flies-same, row-same, precedes-of, precedes-to, flies-first, follows-to, is_first-same}
+use Rattle.near_units.proofs.PlaneLaws.{and-same_left, implies-same, flies-same, row-same, precedes-of, flies-first, follows-to, is_first-same}
 
 module _ (I : Situation) (P Q : PlanRows) (p : ℕ) (same : FliesSame P Q p) where
   -- ---- C2 and C4 to C7 of a leg that it flies

@@ -1,12 +1,12 @@
 -- The moves of a unit of legs begin with steps of its own legs and aircraft, and all others are of passengers.
-use Rattle.std.proofs.Common.{◌≡◌, ℕ, ◌<◌, ◌⊎◌, inl, inr, Bool, true, false, ◌&&◌, ◌||◌, cond, eqb, ltb, not, List, [], ◌∷◌, ◌++◌, length, map, get_or, refl, sym, ap, subst, ◌∙◌}
-use Rattle.std.specs.Prelude.{Option, None, Some, filter}
+use Rattle.std.proofs.Common.{◌≡◌, ℕ, ◌<◌, inl, inr, Bool, true, ◌&&◌, ◌||◌, eqb, not, List, [], ◌∷◌, ◌++◌, map, get_or, refl, sym, subst}
+use Rattle.std.specs.Prelude.{None, Some, filter}
 use Rattle.std.specs.List.{All, Contains, list_all}
 use Rattle.std.proofs.lemmas.Bool.{eq-eqb, and_from, and_parts, or_left, or_right}
 use Rattle.std.proofs.lemmas.List.{append_assoc}
 use Rattle.std.proofs.lemmas.List.Elements.{All-head, All-tail, All-take, All-filter, All-weaker}
 use Rattle.desk_data.specs.declared.row.Row.{Row}
-use Rattle.desk_data.specs.declared.row.Row.TheVariants.{Flown, Cancelled}
+use Rattle.desk_data.specs.declared.row.Row.TheVariants.{Cancelled}
 use Rattle.desk_data.specs.Situation.{Situation, legs_of, earliest}
 use Rattle.desk_data.specs.PlanRows.{PlanRows, row_at}
 use Rattle.plan_moves.specs.declared.moves.Move.{Move}
@@ -14,7 +14,7 @@ use Rattle.plan_moves.specs.declared.moves.Step.{Step}
 use Rattle.plan_moves.specs.declared.moves.Step.TheVariants.{Set, Push, Swap, Tidy, Refill}
 use Rattle.desk_rules.specs.Numbers.{numbers}
 use Rattle.desk_rules.specs.Rotations.{dep, precedes}
-use Rattle.desk_rules.specs.Maintenance.{is_flown_by, flies}
+use Rattle.desk_rules.specs.Maintenance.{flies}
 use Rattle.desk_rules.specs.Passengers.{is_flown}
 use Rattle.desk_model.specs.Push.{rotation}
 use Rattle.desk_model.proofs.RotationOrder.{rotation-flown}

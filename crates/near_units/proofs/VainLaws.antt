@@ -1,20 +1,18 @@
 -- What is in vain stays in vain, where its aircraft fly the same.
-use Rattle.std.proofs.Common.{◌≡◌, ℕ, ◌⊎◌, inl, inr, Bool, true, false, eqb, ltb, ◌||◌, List, [], ◌∷◌, length, take, refl, sym, ap, subst, ◌∙◌}
+use Rattle.std.proofs.Common.{◌≡◌, ℕ, ◌⊎◌, inl, inr, true, ltb, List, take, refl, sym, ap, ◌∙◌}
 use Rattle.std.specs.Prelude.{◌≢◌, None, filter}
-use Rattle.std.specs.List.{All}
 use Rattle.desk_data.specs.declared.row.Row.{Row}
 use Rattle.desk_data.specs.declared.row.Row.TheVariants.{Cancelled}
-use Rattle.desk_data.specs.Situation.{Situation, legs_of, plane_at}
+use Rattle.desk_data.specs.Situation.{Situation, plane_at}
 use Rattle.desk_data.specs.PlanRows.{PlanRows, row_at}
 use Rattle.desk_data.specs.Valid.{IsPlanFor}
 use Rattle.desk_rules.specs.Rotations.{departure, dep}
 use Rattle.desk_rules.specs.Maintenance.{flies}
 use Rattle.desk_rules.specs.Least.{least}
-use Rattle.desk_rules.specs.Words.{Flies}
 use Rattle.desk_rules.proofs.MaintenanceLaws.{flies-from}
 use Rattle.desk_model.specs.Push.{rotation}
-use Rattle.near_moves.specs.MoveParts.{flier, legs_from, run}
-use Rattle.move_laws.specs.Chains.{from_airport, to_airport, led, stand, stand_before, run_leads_to, IsHandedInVain, IsSwappedInVain, IsRestoredInVain}
+use Rattle.near_moves.specs.MoveParts.{flier, legs_from}
+use Rattle.move_laws.specs.Chains.{from_airport, led, stand, stand_before, run_leads_to, IsHandedInVain, IsSwappedInVain, IsRestoredInVain}
 use Rattle.near_units.specs.Same.{FliesSame}
 use Rattle.near_units.proofs.PlaneLaws.{filter-same, row-same, rotation-same, rotation-rows, from-same}
 

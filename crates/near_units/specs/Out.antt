@@ -1,5 +1,5 @@
 -- Why a move of a unit of legs is known not to be better.
-use Rattle.std.specs.Prelude.{◌≡◌, ℕ, ◌≤◌, Bool, true, List, ◌∷◌}
+use Rattle.std.specs.Prelude.{◌≡◌, ℕ, ◌≤◌, true, List, ◌∷◌}
 use Rattle.std.specs.List.{list_all}
 use Rattle.desk_data.specs.declared.row.Row.TheVariants.{Cancelled}
 use Rattle.desk_data.specs.Situation.{Situation}
@@ -9,7 +9,7 @@ use Rattle.plan_moves.specs.declared.moves.Step.{Step}
 use Rattle.plan_moves.specs.declared.moves.Step.TheVariants.{Set, Swap}
 use Rattle.desk_rules.specs.Cost.{cost}
 use Rattle.desk_model.specs.Steps.{after_move}
-use Rattle.near_moves.specs.MoveParts.{leg, plane, minute, flown_row}
+use Rattle.near_moves.specs.MoveParts.{plane, minute, flown_row}
 use Rattle.near_moves.specs.Units.{MoveUnit, handed}
 use Rattle.move_laws.specs.Chains.{keeps_aircraft, IsHandedInVain, IsSwappedInVain, IsRestoredInVain}
 use Rattle.near_units.specs.Steps.{unit_planes, unit_legs}

@@ -1,7 +1,7 @@
 -- Plans that are the same where some aircraft are concerned.
 --
 -- P is the plan at which no move of a unit was better, and Q the later one. Aircraft and legs are told by tests of their numbers.
-use Rattle.std.specs.Prelude.{◌≡◌, ℕ, Bool, true, false, ◌⊎◌, List, length}
+use Rattle.std.specs.Prelude.{◌≡◌, ℕ, Bool, true, false, ◌⊎◌, length}
 use Rattle.desk_data.specs.declared.row.Row.{Row}
 use Rattle.desk_data.specs.declared.row.Row.TheVariants.{Flown, Cancelled}
 use Rattle.desk_data.specs.PlanRows.{PlanRows, row_at}

@@ -1,4 +1,4 @@
-//! What is known of moves near a plan once another one was accepted.
+//! What a change of the plan leaves untouched, and which notes of units of legs hold after it.
 //!
 //! # Reservations that are left alone
 //!

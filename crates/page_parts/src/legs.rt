@@ -127,9 +127,8 @@ fn put_flight(page: &mut Page, leg: Leg, info: &LegInfo) -> Result<(), NoMem> {
 // Puts the date of a flight, whose day is counted from 2000-01-01, and where the leg leaves and arrives.
 fn put_route(page: &mut Page, inst: &Instance, info: &LegInfo) -> Result<(), NoMem> {
     let day = date(Minute(info.day.saturating_mul(1_440)));
+    page.put(&[Part::Given(&day), Part::Own("</td><td>")])?;
     page.put(&[
-        Part::Given(&day),
-        Part::Own("</td><td>"),
         Part::Given(airport_name(inst, info.origin)),
         Part::Own("&#8211;"),
         Part::Given(airport_name(inst, info.dest)),

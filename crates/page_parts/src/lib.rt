@@ -1,8 +1,8 @@
-//! The page of a recovered day: its parts and its tables.
+//! What the page of a recovered day is made of: text and sums on it, what changed, the terms of the cost, and its tables.
 //!
 //! # Parts
 //!
-//! What the page of a recovered day is made of: text, moments, names and money on a page, what changed between two plans, and the terms of a cost.
+//! What stands on the page, and what it is made from.
 //!
 //! ## Text
 //!

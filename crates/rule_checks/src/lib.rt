@@ -24,7 +24,7 @@
 //! linear in the legs.
 //!
 //! Proved: the answer is `least_slots` of desk_rules, which looks at every hour of a century. What a slot is stands in
-//! hour_counts. Its two halves are there for whoever counts both side by side, as `par_check` of desk_judge: the first airport and hour that break C10, and those that break C11.
+//! hour_counts. The two halves of `least_slots` are there for whoever counts both side by side, as `par_check` of desk_judge: the first airport and hour that break C10, and those that break C11.
 //!
 //! # Passengers
 //!
@@ -32,13 +32,13 @@
 //! carried are flown and connect, arrive in time, and keep to what has begun and left.
 //!
 //! `least_pax(alloc, &inst, &plan)` gives the first item that the plan breaks, by rule, then by leg and
-//! cabin or by reservation, or `None`. A file of `src/` is a rule, by its number, as `c12_seats.rt`. The
+//! cabin or by reservation, or `None`. Each of these rules has a file of `src/`, by its number, as `c12_seats.rt`. The
 //! passengers are counted in one walk over their groups, and each path is looked at once beside the groups of
 //! its reservation, so the time is linear in the legs and the groups of passengers, and at most quadratic in
 //! the groups of one reservation.
 //!
-//! Proved: the answer is `least_pax` of desk_rules. Whether a path keeps C13 and C14 is asked of plan_reads. What it is made
-//! of is there for whoever looks for the first item in another way, as `par_check` of desk_judge: the first leg and cabin that break C12, and whether a reservation keeps C13, C14 or C15.
+//! Proved: the answer is `least_pax` of desk_rules. Whether a path keeps C13 and C14 is asked of plan_reads. What `least_pax`
+//! is made of is there for whoever looks for the first item in another way, as `par_check` of desk_judge: the first leg and cabin that break C12, and whether a reservation keeps C13, C14 or C15.
 #![tactic(auto)]
 
 mod c10_departures;

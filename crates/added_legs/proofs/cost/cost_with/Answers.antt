@@ -1,10 +1,10 @@
-use Rattle.std.proofs.Common.{◌≡◌, ℕ, ◌+◌, ◌≤◌, ◌^◌, length, ap, sym, ◌∙◌, arith}
+use Rattle.std.proofs.Common.{◌≡◌, ℕ, ◌+◌, length, ap, sym, ◌∙◌, arith}
 use Rattle.desk_data.specs.Situation.{legs_of, planes_of}
 use Rattle.desk_rules.specs.Cost.{cost, position_cost, operating_cost, grains}
 use Rattle.plan_reads.specs.Last.{AreLasts}
 use Rattle.added_legs.specs.Merged.{merged_day, merged_plan}
 use Rattle.added_legs.specs.Added.{cost_added}
-use Rattle.added_legs.specs.Stands.{flights_cost, position_by}
+use Rattle.added_legs.specs.Stands.{flights_cost}
 use Rattle.added_legs.proofs.CostLaws.{operating_is, cost-room, position-le, cost_is}
 use Rattle.added_legs.proofs.EndLaws.{ends_are, old_ends_are, position_is, same_positions}
 use Rattle.added_legs.proofs.cost.cost_with.Goals as goal

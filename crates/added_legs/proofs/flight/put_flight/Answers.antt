@@ -1,7 +1,6 @@
-use Rattle.std.proofs.Common.{◌≡◌, ◌<◌, get_or, refl}
+use Rattle.std.proofs.Common.{get_or}
 use Rattle.std.specs.Prelude.{None}
 use Rattle.std.proofs.lemmas.List.{get_or_default}
-use Rattle.desk_data.specs.Situation.{planes_of}
 use Rattle.added_legs.specs.declared.added.Added.{Added}
 use Rattle.added_legs.proofs.FlightLaws.{none_is, some_is, kept, written}
 use Rattle.added_legs.proofs.flight.put_flight.Goals as goal

@@ -1,4 +1,4 @@
-use Rattle.std.proofs.Common.{◌≡◌, ◌<◌, ◌∙◌, arith}
+use Rattle.std.proofs.Common.{◌∙◌, arith}
 use Rattle.added_legs.proofs.FlightLaws.{are_last, no_flights}
 use Rattle.added_legs.proofs.flight.put_flights.Goals as goal
 

@@ -1,8 +1,8 @@
-use Rattle.std.proofs.Common.{◌≡◌, Bool, sym, ap, ◌∙◌}
+use Rattle.std.proofs.Common.{Bool, sym, ap, ◌∙◌}
 use Rattle.std.specs.Prelude.{find, Option}
 use Rattle.std.specs.Option.{option_or, option_map}
 use Rattle.desk_data.specs.declared.broken.Broken.{Broken}
-use Rattle.desk_data.specs.declared.broken.Broken.TheVariants.{C10, C11}
+use Rattle.desk_data.specs.declared.broken.Broken.TheVariants.{C11}
 use Rattle.desk_data.specs.Situation.{legs_of}
 use Rattle.desk_rules.specs.Least.{breaks, each_hour}
 use Rattle.added_legs.specs.declared.added.AddBroken.TheVariants as add

@@ -1,13 +1,11 @@
 use Rattle.std.proofs.Common.{◌≡◌, sym, ap, subst, ◌∙◌}
 use Rattle.std.specs.Prelude.{find, Option, IfOk}
-use Rattle.std.specs.List.{flat_map}
 use Rattle.std.specs.Option.{option_or, option_map}
 use Rattle.desk_data.specs.Situation.{legs_of}
 use Rattle.desk_rules.specs.Least.{breaks, slot_items}
 use Rattle.added_legs.specs.declared.added.AddBroken.{AddBroken}
 use Rattle.added_legs.specs.Added.{named, least_added}
 use Rattle.added_legs.specs.Merged.{merged_day, merged_plan}
-use Rattle.added_legs.specs.Items.{items_of, six_rules}
 use Rattle.added_legs.proofs.ItemLaws.{first_split}
 use Rattle.added_legs.proofs.least.least_added.Goals as goal
 

@@ -1,4 +1,4 @@
-use Rattle.std.proofs.Common.{refl, arith}
+use Rattle.std.proofs.Common.{arith}
 use Rattle.desk_rules.proofs.CostLaws.{by_hour-le}
 use Rattle.added_legs.proofs.operating.flight_cost.Goals as goal
 

@@ -1,10 +1,8 @@
-use Rattle.std.proofs.Common.{◌≡◌, ◌<◌, ◌+◌, length, get_or, sym, ap, subst, ◌∙◌, arith}
-use Rattle.std.specs.Prelude.{None, Some, Option}
-use Rattle.std.specs.Option.{ForSome}
-use Rattle.desk_data.specs.Situation.{legs_of, planes_of}
+use Rattle.std.proofs.Common.{◌≡◌, length, get_or, sym, ap, ◌∙◌}
+use Rattle.std.specs.Prelude.{None}
+use Rattle.desk_data.specs.Situation.{legs_of}
 use Rattle.plan_reads.specs.Last.{IsLastOf}
 use Rattle.plan_reads.proofs.LastLaws.{last_in}
-use Rattle.added_legs.specs.declared.flight.Flight.{Flight}
 use Rattle.added_legs.specs.Flights.{departure_end}
 use Rattle.added_legs.specs.Asked.{c4_added, c5_added, c6_added, c7_added}
 use Rattle.added_legs.proofs.FlightLaws.{added_some, added_none, earlier_of}

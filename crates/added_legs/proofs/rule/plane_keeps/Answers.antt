@@ -1,6 +1,6 @@
-use Rattle.std.proofs.Common.{◌≡◌, ◌<◌, ◌≤◌, ◌*◌, length, get_or, sym, ap, subst, ◌∙◌, arith}
+use Rattle.std.proofs.Common.{◌≡◌, length, get_or, sym, ◌∙◌}
 use Rattle.std.specs.Prelude.{None}
-use Rattle.desk_data.specs.Situation.{legs_of, planes_of, plane_at}
+use Rattle.desk_data.specs.Situation.{legs_of, plane_at}
 use Rattle.plan_reads.proofs.LastLaws.{last_in}
 use Rattle.added_legs.specs.Asked.{no_upkeep, start_of}
 use Rattle.added_legs.proofs.MaintLaws.{c8_is, c9_is, few_minutes}

@@ -1,5 +1,5 @@
 use Rattle.std.proofs.Common.{◌≡◌, ℕ, subst, arith}
-use Rattle.desk_data.specs.Situation.{legs_of, planes_of}
+use Rattle.desk_data.specs.Situation.{legs_of}
 use Rattle.added_legs.specs.Asked.{AreUpkeeps}
 use Rattle.added_legs.proofs.UpkeepLaws.{no_legs}
 use Rattle.added_legs.proofs.upkeep.upkeeps_of.Goals as goal

@@ -1,7 +1,5 @@
-use Rattle.std.proofs.Common.{◌≡◌, List, sym, ap, subst, ◌∙◌}
+use Rattle.std.proofs.Common.{◌≡◌, sym, ap, subst, ◌∙◌}
 use Rattle.std.specs.List.{All}
-use Rattle.desk_units.specs.declared.numbers.Leg.{Leg}
-use Rattle.desk_units.specs.declared.numbers.Cabin.{Cabin}
 use Rattle.desk_data.specs.declared.row.Group.{Group}
 use Rattle.desk_data.specs.declared.info.ResInfo.{ResInfo}
 use Rattle.desk_data.specs.PlanRows.{groups_at}
