@@ -1,11 +1,11 @@
 #!/usr/bin/env python3
 """Runs the tests with threads many times, and the cases with workers, and counts the runs that fail.
 
-Usage: bench/many_times.py [--times 200] [--seconds 60] [CRATE ..]   without words host_tests and desk_rows
+Usage: bench/many_times.py [--times 200] [--seconds 60] [CRATE ..]   without words desk_tests and desk_rows
 
 What threads do first is another thing in each run, so that a test of threads that passed once says little. Each test is run so often, as
 `rt test` has built it, and so is desk_rows, built by `rt run`, which then plays the cases with workers alone. A run that takes longer than so
-many seconds is ended, and has failed. host_tests has tests of files beside those with threads: they are run as often.
+many seconds is ended, and has failed. desk_tests has walks of changes and tests of files beside those with threads: they are run as often.
 
 Prints a line a test: how many runs there were, how many failed, and how long the longest took. The status is 1 where one failed.
 """
@@ -18,7 +18,7 @@ import tempfile
 import time
 
 CRATES = os.path.join(os.path.dirname(os.path.dirname(os.path.abspath(__file__))), "crates")
-USUAL = ["host_tests", "desk_rows"]
+USUAL = ["desk_tests", "desk_rows"]
 
 
 def program_of(crate):

@@ -26,7 +26,7 @@ TOP = os.path.dirname(os.path.dirname(os.path.abspath(__file__)))
 CRATES = os.path.join(TOP, "crates")
 KEPT = os.path.join(TOP, "bench", "out", "near_list")
 STANDS_ON = (
-    "desk_units", "day_orders", "desk_data", "desk_rules", "desk_folder", "desk_words", "desk_tasks", "desk_story",
+    "desk_units", "day_orders", "desk_data", "desk_rules", "desk_folder", "desk_words", "desk_tasks",
     "desk_core", "desk_eval", "desk_model", "near_moves", "plan_moves", "plan_pages", "output_texts", "near_legs", "near_pax",
 )
 # its source and its proofs, by their files
@@ -48,7 +48,7 @@ use desk_core::Book;
 use desk_data::{Grains, Instance};
 use desk_folder::{ALL_FILES, File, MemFolder};
 use desk_model::{Answer, Entry, Event};
-use desk_story::{InputStory, InputTask, read_task};
+use desk_tasks::{InputStory, InputTask, read_task};
 use desk_words::Command;
 use near_legs::LegMoves;
 use near_pax::PaxMoves;

@@ -17,7 +17,7 @@ use Rattle.desk_rules.specs.Least.{leg}
 use Rattle.desk_rules.specs.Cost.{rows_of, weight, by_item, is_wanted, ends_at, at_hand, missing_aircraft, position_cost}
 use Rattle.plan_reads.specs.Last.{AreLasts, IsLastOf, stand}
 use Rattle.plan_reads.proofs.LastLaws.{last_in, left_asked}
-use Rattle.full_cost.specs.Stands.{is_there, AreStands}
+use Rattle.plan_checks.specs.Stands.{is_there, AreStands}
 use Rattle.added_legs.specs.declared.added.Added.{Added}
 use Rattle.added_legs.specs.Merged.{added_for, leg_for, merged_day, merged_plan}
 use Rattle.added_legs.proofs.MergedLaws.{old_leg, new_leg, merged_legs}

@@ -26,9 +26,9 @@ use Rattle.hour_counts.specs.declared.slot.Slot.{Slot}
 use Rattle.hour_counts.specs.declared.slot.Movement.{Movement}
 use Rattle.hour_counts.specs.declared.slot.Movement.TheVariants.{Departure, Arrival}
 use Rattle.hour_counts.specs.Slots.{rank, item, cap}
-use Rattle.rule_checks.specs.TakenSlots.{slot_for, item_of, slot_of, slots, is_at, is_overfull, IsLeastOver, IsLeastOverfull}
-use Rattle.rule_checks.proofs.PlaceLaws.{passed}
-use Rattle.rule_checks.proofs.TakenLaws.{overfull-breaks}
+use Rattle.plan_checks.specs.TakenSlots.{slot_for, item_of, slot_of, slots, is_at, is_overfull, IsLeastOver, IsLeastOverfull}
+use Rattle.plan_checks.proofs.PlaceLaws.{passed}
+use Rattle.plan_checks.proofs.TakenLaws.{overfull-breaks}
 use Rattle.added_legs.specs.declared.added.Added.{Added}
 use Rattle.added_legs.specs.Merged.{added_for, leg_for, row_for, merged_day, merged_plan}
 use Rattle.added_legs.proofs.MergedLaws.{old_leg, new_leg, new_row, merged_legs}

@@ -10,7 +10,7 @@ use Rattle.hour_counts.specs.declared.slot.Slot.{Slot}
 use Rattle.hour_counts.specs.declared.slot.Movement.{Movement}
 use Rattle.hour_counts.specs.declared.slot.Movement.TheVariants.{Departure, Arrival}
 use Rattle.hour_counts.specs.Slots.{IsSlot}
-use Rattle.rule_checks.specs.TakenSlots.{slot_for}
+use Rattle.plan_checks.specs.TakenSlots.{slot_for}
 use Rattle.added_legs.specs.declared.flight.Flight.{Flight}
 
 -- where an added leg departs or arrives, and when

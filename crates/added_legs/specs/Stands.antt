@@ -11,7 +11,7 @@ use Rattle.desk_rules.specs.Numbers.{numbers}
 use Rattle.desk_rules.specs.Rotations.{dep}
 use Rattle.desk_rules.specs.Cost.{rows_of, weight, by_hour, by_item, is_wanted}
 use Rattle.plan_reads.specs.Last.{stand}
-use Rattle.full_cost.specs.Stands.{is_there}
+use Rattle.plan_checks.specs.Stands.{is_there}
 use Rattle.added_legs.specs.declared.flight.Flight.{Flight}
 
 -- whether an added leg comes after a leg of its aircraft: of two that depart together the added one is the later

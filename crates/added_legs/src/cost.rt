@@ -13,7 +13,7 @@ use crate::operating::flights_cost;
 use crate::position::position_cost;
 use crate::stands::put_ends;
 use desk_data::{Airport, Grains, Instance, Leg, Plan};
-use full_cost::full_cost;
+use plan_checks::full_cost;
 use plan_reads::put_lasts;
 
 /// The most aircraft that a day has.

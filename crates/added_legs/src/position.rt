@@ -3,7 +3,7 @@
 ghost use Rattle.std.specs.Prelude.{◌≡◌, ◌≤◌, ◌^◌, length};
 ghost use Rattle.desk_data.specs.Situation.{planes_of};
 ghost use Rattle.desk_rules.specs.Cost.{grains, is_wanted};
-ghost use Rattle.full_cost.specs.Stands.{is_there};
+ghost use Rattle.plan_checks.specs.Stands.{is_there};
 ghost use Rattle.added_legs.specs.Stands.{hand_by, position_by};
 
 use desk_data::{Airport, Grains, Instance, Plane, PlaneInfo, PositionInfo, Term};

@@ -7,7 +7,7 @@ ghost use Rattle.desk_data.specs.Situation.{legs_of, planes_of};
 ghost use Rattle.desk_data.specs.Valid.{IsPlanFor};
 ghost use Rattle.desk_rules.specs.Least.{breaks, each_hour};
 ghost use Rattle.hour_counts.specs.Slots.{is_slot, slot_cmp};
-ghost use Rattle.rule_checks.specs.TakenSlots.{IsLeastOverfull, is_one_too_many, item_of, slot_of, slots};
+ghost use Rattle.plan_checks.specs.TakenSlots.{IsLeastOverfull, is_one_too_many, item_of, slot_of, slots};
 ghost use Rattle.added_legs.specs.Merged.{merged_day, merged_plan};
 ghost use Rattle.added_legs.specs.Flights.{AreFlights, AreRanges, IsFlight};
 ghost use Rattle.added_legs.specs.Hours.{IsTaken, extra_slot, extra_slots};

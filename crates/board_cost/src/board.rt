@@ -19,7 +19,7 @@ use crate::rotation_leg::{RotationLegs, rotation_legs_of};
 use crate::row::change_row;
 use board_kit::LegUsers;
 use desk_data::{Grains, Group, Instance, Leg, NoMem, Res, Row, Steps};
-use full_cost::full_cost;
+use plan_checks::full_cost;
 use plan_pages::Pages;
 use plan_reads::ReadPlan;
 use std::alloc::Global;

@@ -4,3 +4,12 @@ pub mod ItemLaws
 pub mod RowLaws
 pub mod SumLaws
 pub mod UserLaws
+pub mod KeyLaws
+pub mod SlotLaws
+pub mod OverLaws
+pub mod CountLaws
+pub mod KnowLaws
+pub mod PlanLaws
+pub mod LeastLaws
+pub mod PastLaws
+pub mod CopyLaws

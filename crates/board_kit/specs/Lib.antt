@@ -4,3 +4,7 @@ pub use Rattle.desk_data.specs.Valid
 pub mod Items
 pub mod Boards
 pub mod Users
+pub use Rattle.desk_rules.specs.Least
+pub use Rattle.desk_model.specs.Push
+pub mod Slots
+pub mod Board

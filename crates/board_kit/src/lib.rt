@@ -1,4 +1,5 @@
-//! What boards are made of: the trait of a board, two boards as one, the items that are broken, and who uses a leg.
+//! What boards are made of: the trait of a board, two boards as one, the items that are broken, and who uses a leg; and the
+//! board of the slots.
 //!
 //! # Items
 //!
@@ -42,15 +43,41 @@
 //!
 //! Proved: `open` keeps just those that use a leg, and `booked` those that booked it; `add` and `take` change one reservation of one leg,
 //! and nothing else; a copy has the same lists.
+//!
+//! # The board of the slots
+//!
+//! The board of the slots: how many legs depart from each airport in each hour, and arrive there, kept
+//! while a plan changes place by place.
+//!
+//!     let mut board = SlotBoard::open(alloc, &inst, &plan)?;          // one walk over the legs
+//!     board.set_row(alloc, &inst, &pages, leg, row, &mut steps)?;     // before the pages change
+//!     board.least()                                                   // of C10 and C11, with no walk
+//!     board.back();                                                   // the last change is undone
+//!     let other = board.copy(alloc)?;                                 // of the same plan, with no walk over it
+//!
+//! A leg counts in the hour in which it departs and in the one in which it arrives: for C10 and C11 where
+//! the aircraft that flies it is no surface transport, and for Push where its scheduled aircraft is none.
+//! Both are kept side by side, since a change can make them differ. With the counts the board keeps the
+//! cap of each slot, and the items of the slots that are overfull, in their order.
+//!
+//! Proved: `least` is that of the rules from scratch, and what Push asks is what desk_model counts, after
+//! any list of changes; `back` gives the board before the last change and takes no memory; after an error
+//! the board is that of the plan before; a change of a row reads one row of the plan.
+//!
+//! No contract says what a change costs: it does not grow with the day, since slots are looked up by their hash.
 #![tactic(auto)]
 
 mod board;
 mod both;
 mod items;
 mod key;
+mod loads;
+mod slot;
+mod slot_board;
 mod users;
 
 pub use board::Board;
 pub use both::Both;
 pub use items::BrokenItems;
+pub use slot_board::SlotBoard;
 pub use users::LegUsers;

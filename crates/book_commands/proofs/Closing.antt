@@ -23,8 +23,8 @@ use Rattle.desk_pool.specs.Rounds.{Knows}
 use Rattle.desk_pool.specs.Laps.{IsReturned}
 use Rattle.desk_pool.specs.Voted.{IsVoteOf}
 use Rattle.near_moves.specs.declared.ended.SearchEnd.{SearchEnd}
-use Rattle.desk_view.specs.declared.view.View.{View}
-use Rattle.desk_view.specs.Views.{AreSeen}
+use Rattle.desk_model.specs.declared.view.View.{View}
+use Rattle.desk_model.specs.Views.{AreSeen}
 use Rattle.desk_tasks.specs.Team.{IsTeamEnd, IsTeamWork, IsWatched}
 use Rattle.book_commands.specs.declared.searched.Searched.TheVariants as searched
 use Rattle.book_commands.specs.declared.team.Team.{Team}

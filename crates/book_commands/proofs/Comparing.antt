@@ -8,7 +8,7 @@ use Rattle.desk_model.specs.declared.answer.Event.{Event}
 use Rattle.desk_model.specs.States.{State}
 use Rattle.desk_model.specs.Histories.{entry_of, has_room, is_batch, run, state}
 use Rattle.desk_model.proofs.HistoryLaws.{with_event}
-use Rattle.journal_disk.specs.Payloads.{asked_in, batches_among, history_payloads, payload_by}
+use Rattle.desk_journal.specs.Payloads.{asked_in, batches_among, history_payloads, payload_by}
 use Rattle.book_commands.specs.declared.compare.Reached.{Reached}
 use Rattle.book_commands.specs.Compared.{next_payload, IsFront, IsOther, IsShort, DiffersAt, Steps}
 use Rattle.book_commands.proofs.Runs.{run-more, event-enters, event-passes, payloads-enter, length-history, batches-enter}

@@ -14,8 +14,8 @@ use Rattle.desk_disk.specs.Crashes.{LeavesOnly}
 use Rattle.desk_disk.proofs.Runs.{weaker}
 use Rattle.desk_disk.specs.Records.{AreAccepted}
 use Rattle.desk_disk.proofs.Storing.{accepted_by}
-use Rattle.journal_disk.specs.Payloads.{MayBeNext, MayCome, MayStand, asked_in, batches_in, history_payloads}
-use Rattle.journal_disk.proofs.StoreLaws.{events_stand}
+use Rattle.desk_journal.specs.Payloads.{MayBeNext, MayCome, MayStand, asked_in, batches_in, history_payloads}
+use Rattle.desk_journal.proofs.StoreLaws.{events_stand}
 use Rattle.desk_tasks.specs.Play.{Story, history}
 use Rattle.desk_tasks.specs.Keep.{KeptStory}
 use Rattle.book_commands.specs.Held.{completed, entered, story_payloads, AreFirst}

@@ -7,7 +7,7 @@ use Rattle.desk_disk.proofs.Unique.{opens_one_way, opened_undamaged}
 use Rattle.desk_model.specs.declared.answer.Event.{Event}
 use Rattle.desk_model.specs.States.{State, opening}
 use Rattle.desk_model.specs.Histories.{has_room, run}
-use Rattle.journal_disk.specs.Payloads.{MayStand, history_payloads}
+use Rattle.desk_journal.specs.Payloads.{MayStand, history_payloads}
 use Rattle.desk_tasks.specs.Play.{Story, history}
 use Rattle.desk_tasks.specs.Keep.{KeptStory}
 use Rattle.book_commands.specs.Held.{entered, story_payloads, AreFirst}

@@ -21,7 +21,7 @@ use Rattle.desk_model.specs.Histories.{entries, run, state}
 use Rattle.desk_tasks.specs.declared.ending.DiskEnd.TheVariants as disk_end
 use Rattle.desk_tasks.specs.declared.ending.Ending.{Ending}
 use Rattle.desk_tasks.specs.declared.ending.Ending.TheVariants as ending
-use Rattle.journal_disk.specs.Payloads.{MayStand, history_payloads}
+use Rattle.desk_journal.specs.Payloads.{MayStand, history_payloads}
 use Rattle.desk_tasks.specs.Commands.{history_files}
 use Rattle.desk_tasks.specs.Outcome.{Outcome}
 use Rattle.desk_tasks.specs.Runs.{World}

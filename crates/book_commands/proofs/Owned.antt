@@ -11,8 +11,8 @@ use Rattle.desk_disk.specs.Files.{HasEndMark, IsOpening}
 use Rattle.desk_disk.proofs.Unique.{opens_one_way, whole_opens}
 use Rattle.desk_disk.proofs.Opened.{still_whole}
 use Rattle.desk_disk.proofs.Storing.{accepted_front}
-use Rattle.journal_disk.specs.Payloads.{MayStand, asked_in}
-use Rattle.journal_disk.proofs.StoreLaws.{events_stand}
+use Rattle.desk_journal.specs.Payloads.{MayStand, asked_in}
+use Rattle.desk_journal.proofs.StoreLaws.{events_stand}
 use Rattle.desk_tasks.specs.declared.ending.DiskEnd.TheVariants as disk_end
 use Rattle.desk_tasks.specs.declared.ending.Ending.{Ending}
 use Rattle.desk_tasks.specs.declared.ending.Ending.TheVariants as ending

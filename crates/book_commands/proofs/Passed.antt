@@ -12,10 +12,10 @@ use Rattle.desk_model.specs.Histories.{has_room, is_batch}
 use Rattle.desk_disk.specs.Records.{AreAccepted, Opens}
 use Rattle.desk_disk.proofs.Storing.{accepted_behind, accepted_front, accepted_joins}
 use Rattle.desk_disk.proofs.Unique.{whole_opens}
-use Rattle.journal_disk.specs.Payloads.{AreNext, MayCome, MayStand, batches_among, batches_in, with_room_from as events_from}
-use Rattle.journal_disk.proofs.NextLaws.{batches-push}
-use Rattle.journal_disk.proofs.PayloadLaws.{batches-spelled}
-use Rattle.journal_disk.proofs.StoreLaws.{stand_events}
+use Rattle.desk_journal.specs.Payloads.{AreNext, MayCome, MayStand, batches_among, batches_in, with_room_from as events_from}
+use Rattle.desk_journal.proofs.NextLaws.{batches-push}
+use Rattle.desk_journal.proofs.PayloadLaws.{batches-spelled}
+use Rattle.desk_journal.proofs.StoreLaws.{stand_events}
 use Rattle.book_commands.specs.Held.{AreFirst, completed, entered, entered_from, takes}
 use Rattle.book_commands.specs.Left.{HoldsBeginning}
 use Rattle.book_commands.proofs.Owned.{Begins, begins_by}

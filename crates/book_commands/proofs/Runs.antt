@@ -8,8 +8,8 @@ use Rattle.desk_model.specs.declared.answer.Event.{Event}
 use Rattle.desk_model.specs.States.{State}
 use Rattle.desk_model.specs.Histories.{entries, entry_of, has_room, is_batch, run, state}
 use Rattle.desk_model.proofs.HistoryLaws.{run-nil, run-step, with_event}
-use Rattle.journal_disk.specs.Payloads.{asked_in, batches_among, history_payloads, payload_by, payloads_from}
-use Rattle.journal_disk.proofs.PayloadLaws.{history-push, length-payloads}
+use Rattle.desk_journal.specs.Payloads.{asked_in, batches_among, history_payloads, payload_by, payloads_from}
+use Rattle.desk_journal.proofs.PayloadLaws.{history-push, length-payloads}
 use Rattle.book_commands.specs.Compared.{next_payload}
 
 -- a history and the entries of events after it

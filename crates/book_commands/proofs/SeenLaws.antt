@@ -13,8 +13,8 @@ use Rattle.desk_model.specs.States.{State, opening}
 use Rattle.desk_model.specs.Histories.{state}
 use Rattle.desk_model.proofs.StateLaws.{KnowsBroken, opening-inst, opening-known}
 use Rattle.desk_model.proofs.HistoryLaws.{state-known, state-parts}
-use Rattle.desk_view.specs.declared.view.View.{View}
-use Rattle.desk_view.specs.Views.{shown, IsSightOf}
+use Rattle.desk_model.specs.declared.view.View.{View}
+use Rattle.desk_model.specs.Views.{shown, IsSightOf}
 use Rattle.output_texts.specs.Lines.{answer_text}
 use Rattle.output_texts.specs.Writable.{Names}
 use Rattle.output_texts.proofs.PartsLaws.{answer-same}

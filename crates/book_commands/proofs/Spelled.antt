@@ -11,8 +11,8 @@ use Rattle.desk_model.specs.declared.answer.Event.{Event}
 use Rattle.desk_model.specs.declared.answer.Event.TheVariants as event
 use Rattle.desk_model.specs.States.{opening}
 use Rattle.desk_model.specs.Histories.{has_room, is_batch}
-use Rattle.journal_disk.specs.Payloads.{AreNext, asked_in, payload_by, payloads_from, payloads_of, with_room_from as events_from}
-use Rattle.journal_disk.proofs.EnteredLaws.{entered_history, front_enters}
+use Rattle.desk_journal.specs.Payloads.{AreNext, asked_in, payload_by, payloads_from, payloads_of, with_room_from as events_from}
+use Rattle.desk_journal.proofs.EnteredLaws.{entered_history, front_enters}
 use Rattle.desk_tasks.specs.Play.{Story, history}
 use Rattle.book_commands.specs.Held.{takes, entered_from, entered, story_payloads, completed}
 
@@ -31,15 +31,15 @@ unfolding entered_from
 takes_past n p ps is = rw is refl
 
 pub events_none : (n : ℕ) → events_from n [] ≡ []
-unfolding Rattle.journal_disk.specs.Payloads.with_room_from
+unfolding Rattle.desk_journal.specs.Payloads.with_room_from
 events_none n = refl
 
 pub events_one : (n : ℕ) (e : ℕ × Event) (es : List (ℕ × Event)) → has_room n e.1 ≡ true → events_from n (e ∷ es) ≡ e ∷ events_from (n + 1) es
-unfolding Rattle.journal_disk.specs.Payloads.with_room_from
+unfolding Rattle.desk_journal.specs.Payloads.with_room_from
 events_one n e es is = rw is refl
 
 pub events_past : (n : ℕ) (e : ℕ × Event) (es : List (ℕ × Event)) → has_room n e.1 ≡ false → events_from n (e ∷ es) ≡ events_from n es
-unfolding Rattle.journal_disk.specs.Payloads.with_room_from
+unfolding Rattle.desk_journal.specs.Payloads.with_room_from
 events_past n e es is = rw is refl
 
 events_few : (n : ℕ) (es : List (ℕ × Event)) → length (events_from n es) ≤ length es

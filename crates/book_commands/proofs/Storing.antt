@@ -18,7 +18,7 @@ use Rattle.desk_disk.specs.Crashes.{LeavesOnly, RunsTo}
 use Rattle.desk_disk.proofs.Runs.{runs_weaker, runs_join}
 use Rattle.desk_disk.specs.Files.{IsAtRest}
 use Rattle.book_commands.specs.Left.{HoldsBeginning}
-use Rattle.journal_disk.specs.Payloads.{asked_in, batches_among, history_payloads, payload_by}
+use Rattle.desk_journal.specs.Payloads.{asked_in, batches_among, history_payloads, payload_by}
 use Rattle.book_commands.specs.Compared.{next_payload}
 use Rattle.book_commands.specs.Added.{added, all_entries, lacking}
 use Rattle.book_commands.proofs.Runs.{after, event-enters, event-passes, payloads-enter, length-history, batches-enter}

@@ -8,8 +8,8 @@ use Rattle.desk_model.specs.declared.answer.Entry.{Entry}
 use Rattle.desk_model.specs.States.{State, opening}
 use Rattle.desk_core.specs.Recorded.{Recorded}
 use Rattle.near_moves.specs.declared.ended.SearchEnd.{SearchEnd}
-use Rattle.desk_view.specs.declared.view.View.{View}
-use Rattle.desk_view.specs.Views.{IsSightOf, AreSeen}
+use Rattle.desk_model.specs.declared.view.View.{View}
+use Rattle.desk_model.specs.Views.{IsSightOf, AreSeen}
 use Rattle.desk_tasks.specs.declared.ending.Ending.{Ending}
 use Rattle.desk_tasks.specs.Commands.{history_files}
 use Rattle.desk_tasks.specs.Runs.{World}

@@ -5,7 +5,7 @@ use Rattle.desk_model.specs.declared.answer.Event.{Event}
 use Rattle.desk_model.specs.States.{opening}
 use Rattle.desk_model.specs.Histories.{entries, has_room, state}
 use Rattle.desk_core.specs.Recorded.{Recorded}
-use Rattle.journal_disk.specs.Payloads.{history_payloads}
+use Rattle.desk_journal.specs.Payloads.{history_payloads}
 use Rattle.book_commands.specs.Compared.{next_payload}
 
 -- the payload of an event after a history, where there is room for its entry

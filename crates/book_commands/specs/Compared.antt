@@ -4,7 +4,7 @@ use Rattle.desk_model.specs.declared.answer.Entry.{Entry}
 use Rattle.desk_model.specs.declared.answer.Event.{Event}
 use Rattle.desk_model.specs.States.{State}
 use Rattle.desk_model.specs.Histories.{has_room, is_batch, run}
-use Rattle.journal_disk.specs.Payloads.{asked_in, batches_among, history_payloads, payload_by}
+use Rattle.desk_journal.specs.Payloads.{asked_in, batches_among, history_payloads, payload_by}
 use Rattle.book_commands.specs.declared.compare.Compared.{Compared}
 use Rattle.book_commands.specs.declared.compare.Reached.{Reached}
 use Rattle.book_commands.specs.declared.compare.Compared.TheVariants as compared

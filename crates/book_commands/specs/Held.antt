@@ -2,7 +2,7 @@
 use Rattle.std.specs.Prelude.{◌≡◌, ℕ, ◌+◌, nat_lt, Bool, if◌then◌else◌, List, [], ◌∷◌, ◌++◌, length, drop, map}
 use Rattle.desk_model.specs.Histories.{batch_limit, proposal_limit}
 use Rattle.desk_tasks.specs.Play.{Story, history}
-use Rattle.journal_disk.specs.Payloads.{spells_batch, history_payloads}
+use Rattle.desk_journal.specs.Payloads.{spells_batch, history_payloads}
 
 -- whether a journal of n entries takes the event that a payload spells
 abbrev pub takes : ℕ → List ℕ → Bool

@@ -8,7 +8,7 @@ use Rattle.desk_disk.specs.FileStates.{DiskSide}
 use Rattle.desk_disk.specs.Crashes.{LeavesOnly}
 use Rattle.desk_disk.specs.Records.{AreAccepted, IsDamagedAt, Opens}
 use Rattle.desk_disk.specs.Files.{IsAtRest, IsOpening, opened_at}
-use Rattle.journal_disk.specs.Payloads.{MayStand}
+use Rattle.desk_journal.specs.Payloads.{MayStand}
 use Rattle.desk_tasks.specs.declared.ending.DiskEnd.TheVariants as disk_end
 use Rattle.desk_tasks.specs.declared.ending.Ending.{Ending}
 use Rattle.desk_tasks.specs.declared.ending.Ending.TheVariants as ending

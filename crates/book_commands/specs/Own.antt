@@ -4,7 +4,7 @@ use Rattle.day_orders.specs.declared.orders.Batch.{Batch}
 use Rattle.desk_model.specs.declared.answer.Event.{Event}
 use Rattle.desk_disk.specs.FileStates.{DiskSide}
 use Rattle.desk_disk.specs.Crashes.{LeavesOnly}
-use Rattle.journal_disk.specs.Payloads.{AreNext, asked_in}
+use Rattle.desk_journal.specs.Payloads.{AreNext, asked_in}
 use Rattle.desk_tasks.specs.declared.ending.DiskEnd.TheVariants as disk_end
 use Rattle.desk_tasks.specs.declared.ending.Ending.{Ending}
 use Rattle.desk_tasks.specs.declared.ending.Ending.TheVariants as ending

@@ -5,13 +5,13 @@ ghost use Rattle.std.specs.Bool.{MatchBool};
 ghost use Rattle.desk_data.specs.Situation.{Situation};
 ghost use Rattle.desk_model.specs.States.{State};
 ghost use Rattle.desk_model.specs.Histories.{AreAskable, IsAskable, is_batch};
-ghost use Rattle.journal_disk.specs.Payloads.{payload_by};
+ghost use Rattle.desk_journal.specs.Payloads.{payload_by};
 ghost use Rattle.book_commands.specs.Compared.{Compares, Steps};
 
 use crate::room::{batches_of, has_room};
 use desk_data::NoMem;
+use desk_journal::event_payload;
 use desk_model::Event;
-use journal_disk::event_payload;
 use std::alloc::Global;
 
 /// What a comparison says.

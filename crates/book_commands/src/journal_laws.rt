@@ -4,7 +4,7 @@ ghost use Rattle.std.specs.Prelude.{◌≡◌, ◌≤◌, ℕ, List, [], Option,
 ghost use Rattle.desk_disk.specs.FileStates.{DiskSide, MayLeave};
 ghost use Rattle.desk_disk.specs.Crashes.{LeavesOnly};
 ghost use Rattle.desk_model.specs.declared.answer.Event.{Event};
-ghost use Rattle.journal_disk.specs.Payloads.{payloads_of, with_room};
+ghost use Rattle.desk_journal.specs.Payloads.{payloads_of, with_room};
 ghost use Rattle.desk_tasks.specs.declared.ending.Ending.{Ending};
 ghost use Rattle.desk_tasks.specs.Runs.{World};
 ghost use Rattle.desk_tasks.specs.Keep.{KeptStory};

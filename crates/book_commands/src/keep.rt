@@ -13,7 +13,7 @@ ghost use Rattle.desk_disk.specs.FileStates.{DiskSide};
 ghost use Rattle.desk_disk.specs.Crashes.{RunsTo};
 ghost use Rattle.desk_disk.specs.Files.{IsAtRest, IsReady};
 ghost use Rattle.book_commands.specs.Left.{HoldsBeginning};
-ghost use Rattle.journal_disk.specs.Payloads.{asked_in, batches_among, history_payloads};
+ghost use Rattle.desk_journal.specs.Payloads.{asked_in, batches_among, history_payloads};
 ghost use Rattle.desk_tasks.specs.Play.{story_on};
 ghost use Rattle.book_commands.specs.Held.{entered};
 ghost use Rattle.book_commands.specs.Ends.{append_end, open_end};
@@ -27,9 +27,9 @@ use desk_core::Book;
 use desk_data::{Batch, Instance};
 use desk_disk::Disk;
 use desk_folder::{Folder, Sink};
+use desk_journal::{AppendFault, OpenFault, Tail, open_records};
 use desk_model::Event;
 use desk_tasks::{DiskEnd, Ending};
-use journal_disk::{AppendFault, OpenFault, Tail, open_records};
 use std::alloc::Global;
 
 // A book all of whose journal is on the disk, and how many of its entries the disk held.

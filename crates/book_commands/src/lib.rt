@@ -120,8 +120,8 @@ pub use batches::Intake;
 pub use crews::play_beside_crews;
 pub use descent::descend;
 pub use desk_core::Book;
+pub use desk_model::View;
 pub use desk_tasks::Ending;
-pub use desk_view::View;
 pub use history_laws::{
     histories_with_makers_are_made_of_first_better_moves,
     runs_that_made_their_whole_history_are_teamwork,

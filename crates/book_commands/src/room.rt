@@ -2,7 +2,7 @@
 
 ghost use Rattle.std.specs.Prelude.{◌≡◌, cond};
 ghost use Rattle.desk_model.specs.Histories.{batch_limit, has_room, is_batch, proposal_limit};
-ghost use Rattle.journal_disk.specs.Payloads.{spells_batch};
+ghost use Rattle.desk_journal.specs.Payloads.{spells_batch};
 ghost use Rattle.book_commands.specs.Held.{takes};
 
 use desk_model::Event;

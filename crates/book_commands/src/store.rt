@@ -9,15 +9,15 @@ ghost use Rattle.book_commands.specs.Left.{HoldsBeginning};
 ghost use Rattle.desk_model.specs.States.{opening};
 ghost use Rattle.desk_model.specs.Histories.{AreAskable, IsAskable, entries, state};
 ghost use Rattle.desk_core.specs.Recorded.{with_entry};
-ghost use Rattle.journal_disk.specs.Payloads.{asked_in, batches_among, history_payloads};
+ghost use Rattle.desk_journal.specs.Payloads.{asked_in, batches_among, history_payloads};
 ghost use Rattle.book_commands.specs.Added.{added, all_entries, lacking};
 
 use crate::room::{batches_added, has_room};
 use crate::take_event;
 use desk_core::Book;
 use desk_disk::Disk;
+use desk_journal::{AppendFault, Tail, append};
 use desk_model::Event;
-use journal_disk::{AppendFault, Tail, append};
 use std::alloc::Global;
 
 // Has a book answer an event, before which its journal has so many batches, and keeps the entry on the disk. An event

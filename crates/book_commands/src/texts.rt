@@ -9,14 +9,13 @@ ghost use Rattle.desk_tasks.specs.Recover.{reported_alone};
 ghost use Rattle.desk_tasks.specs.Keep.{opened_line, opened_first};
 ghost use Rattle.desk_tasks.specs.Writing.{as_texts};
 ghost use Rattle.desk_model.specs.States.{opening};
-ghost use Rattle.desk_view.specs.Views.{IsSightOf};
+ghost use Rattle.desk_model.specs.Views.{IsSightOf};
 
 use desk_core::Book;
 use desk_data::{Instance, NoMem};
 use desk_folder::File;
-use desk_model::{Answer, Entry};
+use desk_model::{Answer, Entry, View};
 use desk_tasks::{OutputTexts, SearchEnd};
-use desk_view::View;
 use output_texts::{
     itineraries_text, journal_text, legal_entries_can_be_written, push_answer, push_broken,
     rotations_text,

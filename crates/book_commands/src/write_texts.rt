@@ -5,7 +5,7 @@ ghost use Rattle.desk_tasks.specs.Commands.{history_files};
 ghost use Rattle.desk_tasks.specs.Runs.{Between};
 ghost use Rattle.desk_tasks.specs.Finishing.{Completes};
 ghost use Rattle.desk_model.specs.States.{opening};
-ghost use Rattle.desk_view.specs.Views.{IsSightOf};
+ghost use Rattle.desk_model.specs.Views.{IsSightOf};
 ghost use Rattle.desk_tasks.specs.Play.{search_remarks, watch_remarks, remarks_with, history_outcome, played_end};
 ghost use Rattle.desk_tasks.specs.Recover.{reported_alone};
 ghost use Rattle.desk_tasks.specs.Keep.{opened_first};
@@ -14,8 +14,8 @@ use crate::texts::{opened_texts, output_texts, report_alone, views_text};
 use desk_core::Book;
 use desk_data::Broken;
 use desk_folder::{Folder, Sink};
+use desk_model::View;
 use desk_tasks::{Ending, SearchEnd, put_outputs};
-use desk_view::View;
 use std::alloc::Global;
 
 // How a run ends that wrote all of its texts, by what its last plan breaks.

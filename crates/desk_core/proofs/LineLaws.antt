@@ -10,9 +10,9 @@ use Rattle.live_board.specs.Histories.{history, origin, IsViewOf}
 use Rattle.live_board.proofs.Tellings.{histories_begin, origin_same}
 use Rattle.live_board.proofs.Beginnings.{prefix_self, prefix_trans, prefix_shorter, prefix_length}
 use Rattle.live_board.specs.Watched.{AreRising}
-use Rattle.desk_view.specs.declared.view.View.{View}
-use Rattle.desk_view.specs.Views.{view_of, IsSightOf}
-use Rattle.desk_view.proofs.SightLaws.{sight, entries_of}
+use Rattle.desk_model.specs.declared.view.View.{View}
+use Rattle.desk_model.specs.Views.{view_of, IsSightOf}
+use Rattle.desk_model.proofs.SightLaws.{sight, entries_of}
 use Rattle.desk_core.specs.declared.sight.Sight.{Sight}
 use Rattle.desk_core.specs.Sights.{sights, AddsSight, HasLine, HaveLines}
 use Rattle.desk_core.proofs.TellingLaws.{some_is}

@@ -14,7 +14,7 @@ use Rattle.desk_core.proofs.TurnedLaws.{turn_legal, desk_legal}
 use Rattle.live_board.specs.declared.told.Told.{Told}
 use Rattle.live_board.specs.Histories.{history, origin, tells, AreNext}
 use Rattle.live_board.proofs.Tellings.{history_grows, origin_same}
-use Rattle.desk_view.specs.Views.{Follows}
+use Rattle.desk_model.specs.Views.{Follows}
 use Rattle.desk_core.specs.Posts.{HasTold}
 
 get_right : (g rest : List Entry) (k : ℕ) (x : Entry) → slice_get rest k ≡ Some x → slice_get (g ++ rest) (length g + k) ≡ Some x

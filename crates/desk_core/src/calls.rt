@@ -11,7 +11,7 @@ ghost use Rattle.live_board.specs.Words.{told_by, stands_for, IsShown};
 ghost use Rattle.desk_core.specs.Posts.{posted, HasTold};
 ghost use Rattle.desk_core.specs.Sights.{HaveLines};
 ghost use Rattle.desk_core.specs.Told.{told_to};
-ghost use Rattle.desk_view.specs.Views.{AreSeen};
+ghost use Rattle.desk_model.specs.Views.{AreSeen};
 
 use crate::board_telling::BoardTelling;
 use crate::lines::seen_lines;
@@ -20,7 +20,7 @@ use crate::sight::Sight;
 use crate::telling::Telling;
 use crate::{Book, Entry};
 use desk_data::NoMem;
-use desk_view::View;
+use desk_model::View;
 use live_board::{Naming, Note, Teller, Viewer};
 use std::alloc::Global;
 use std::sync::Wait;

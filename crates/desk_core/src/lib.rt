@@ -50,7 +50,7 @@
 //!     telling.tell_more(rt, alloc, &turn, &mut pass)?;              // all that the pass then sees is published
 //!     let lines = telling.end(alloc, &book, viewer, &notes)?;       // what was seen is reported
 //!
-//! A board shows the `View` of desk_view, as a `Sight`. `BoardTelling` publishes on a board of live_board; `TellsNobody` is in its
+//! A board shows the `View` of desk_model, as a `Sight`. `BoardTelling` publishes on a board of live_board; `TellsNobody` is in its
 //! place where nobody watches.
 //!
 //! Proved: what is published is a beginning of the history that was seen; and what is reported of what was seen are views of

@@ -7,13 +7,13 @@ ghost use Rattle.desk_core.specs.Recorded.{Recorded};
 ghost use Rattle.live_board.specs.Histories.{history, origin};
 ghost use Rattle.live_board.specs.Watched.{AreRising};
 ghost use Rattle.live_board.specs.Words.{stands_for};
-ghost use Rattle.desk_view.specs.Views.{IsSightOf, AreSeen};
-ghost use Rattle.desk_view.proofs.SightLaws.{AreSightsBelow};
+ghost use Rattle.desk_model.specs.Views.{IsSightOf, AreSeen};
+ghost use Rattle.desk_model.proofs.SightLaws.{AreSightsBelow};
 ghost use Rattle.desk_core.specs.Sights.{AddsSight, HaveLines};
 
 use crate::sight::Sight;
 use desk_data::NoMem;
-use desk_view::View;
+use desk_model::View;
 use live_board::{Naming, Note};
 use std::alloc::Global;
 

@@ -2,11 +2,11 @@
 
 ghost use Rattle.std.specs.Prelude.{◌≡◌};
 ghost use Rattle.desk_model.specs.States.{opening};
-ghost use Rattle.desk_view.specs.Views.{view_of};
+ghost use Rattle.desk_model.specs.Views.{view_of};
 
 use crate::{Book, Entry};
 use desk_data::Grains;
-use desk_view::{View, view_after};
+use desk_model::{View, view_after};
 use live_board::Summary;
 
 /// A view, as a board shows it.
@@ -38,7 +38,7 @@ impl Summary for Sight {
     type Item = Entry;
 
     ghost use Rattle.desk_model.specs.States.{opening};
-    ghost use Rattle.desk_view.specs.Views.{Follows};
+    ghost use Rattle.desk_model.specs.Views.{Follows};
     ghost use Rattle.desk_core.specs.Sights.{sights};
 
     ghost journal = { λ b. b.journal };

@@ -15,7 +15,7 @@
 //! tables. A batch that tells a later moment freezes the rows that left before it and has passengers
 //! tallied; the orders of any are appended; and after an error the day is as before. Crates above use what
 //! holds of departures, rows that are due and paths that are bound by the laws alone (`src/laws`, `proofs`),
-//! and look inside none of these definitions, but for `move_laws`, which says more of them in words. It
+//! and look inside none of these definitions, but for `near_moves`, which says more of them in words. It
 //! depends on `desk_units`, `tariff_prices` and `day_orders`.
 #![tactic(auto)]
 

@@ -6,7 +6,7 @@ use Rattle.board_kit.specs.declared.both.Both.{Both}
 use Rattle.board_kit.specs.Boards.{AreBoth}
 use Rattle.desk_eval.specs.declared.passengers.PassengerBoards.{PassengerBoards}
 use Rattle.board_rot.specs.Boards.{Board as RotBoard, IsBoardOf as IsRotBoardOf}
-use Rattle.board_slots.specs.Board.{Board as SlotBoard, IsBoardOf as IsSlotBoardOf}
+use Rattle.board_kit.specs.Board.{Board as SlotBoard, IsBoardOf as IsSlotBoardOf}
 use Rattle.board_seats.specs.Board.{Board as SeatBoard, IsBoardOf as IsSeatBoardOf}
 use Rattle.board_cost.specs.Board.{Board as CostBoard, IsBoardOf as IsCostBoardOf}
 

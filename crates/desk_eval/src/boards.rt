@@ -15,10 +15,9 @@ ghost use Rattle.desk_eval.specs.Boards.{AreBoardsOf, rotations_of, slots_of, se
 
 use crate::passengers::PassengerBoards;
 use board_cost::CostBoard;
-use board_kit::{Board, Both};
+use board_kit::{Board, Both, SlotBoard};
 use board_rot::RotBoard;
 use board_seats::SeatBoard;
-use board_slots::SlotBoard;
 use desk_data::{Broken, Grains, Instance, Leg, NoMem, Plane, Res};
 use plan_pages::Pages;
 use plan_reads::RotationLeg;

@@ -16,3 +16,5 @@ pub mod ValidLaws
 pub mod MoveLaws
 pub mod FallbackLaws
 pub mod StatePlans
+pub mod ViewLaws
+pub mod SightLaws

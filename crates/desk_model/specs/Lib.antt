@@ -10,3 +10,4 @@ pub mod States
 pub mod Histories
 pub mod Batches
 pub mod Promises
+pub mod Views

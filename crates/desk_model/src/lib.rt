@@ -1,4 +1,6 @@
-//! What becomes of a plan, as definitions: steps, answers, states and histories, and what they promise.
+//! What becomes of a plan, as definitions: steps, answers, states and histories, what they promise, and what viewers are shown.
+//!
+//! # Steps, states and histories
 //!
 //! The definitions are in `specs/`: `Steps`, what a move makes of a plan; `States`, what the desk
 //! answers to an event, and the state after it; `Fallback`, what it falls back on when a batch of
@@ -10,14 +12,26 @@
 //! and laws: each is a public function with an empty body, whose contract is the law.
 //! `legal_histories_keep_the_promises` is the heart of what the desk promises: each published plan
 //! meets the rules, each stored cost is that of the rows, and between two batches costs only fall.
+//!
+//! # What viewers are shown
+//!
+//! What viewers are shown of the desk's history, as definitions, and the view with one entry more.
+//!
+//! A `View` says how many entries a history has, how many of them changed the state, and what the plan then costs or what the
+//! rows break. `specs/Views` has the definitions: the view of a history, and what is reported of views that were seen one
+//! after another. Proved: `view_after` gives the view of the longer history. What publishes
+//! views is desk_core.
 #![tactic(auto)]
 
+mod after;
 mod answer;
 mod batches;
 mod fallbacks;
 mod histories;
 mod steps;
+mod view;
 
+pub use after::view_after;
 pub use answer::{Answer, Entry, Event};
 pub use batches::a_batch_is_answered_by_the_first_that_is_feasible;
 pub use desk_data::{Batch, Broken, Grains};
@@ -42,3 +56,4 @@ pub use steps::{
     a_tidy_leaves_no_path_that_breaks_a_rule, choices_are_the_first_and_the_greatest,
     steps_make_valid_plans, the_steps_count_and_judge_as_in_words,
 };
+pub use view::View;

@@ -3,7 +3,7 @@ use Rattle.std.proofs.Common.{◌≡◌, ℕ, List, refl}
 use Rattle.desk_folder.specs.Outputs.{files_of}
 use Rattle.desk_data.specs.Situation.{Situation}
 use Rattle.desk_model.specs.declared.answer.Entry.{Entry}
-use Rattle.desk_gen.specs.Generated.{generated}
+use Rattle.output_texts.specs.Generated.{generated}
 use Rattle.desk_tasks.specs.Commands.{history_files}
 use Rattle.desk_tasks.specs.Play.{Story, Remarks, history_outcome, played}
 use Rattle.desk_tasks.specs.Keep.{opened_first, kept}

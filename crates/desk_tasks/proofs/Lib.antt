@@ -9,3 +9,12 @@ pub mod RecoveryLaw
 pub mod HeadlineLaw
 pub mod FilesLaw
 pub mod FerryLaw
+pub mod PathLaws
+pub mod JudgeLaws
+pub mod FerryTexts
+pub mod Orders
+pub mod Chain
+pub mod TaskLaws
+pub mod Batches
+pub mod RecoveryLaws
+pub mod PutRowLaws

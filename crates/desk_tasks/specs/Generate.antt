@@ -1,7 +1,7 @@
 -- Making the input files of a day.
 use Rattle.std.specs.Prelude.{ℕ, ◌++◌, length, codes, decimal}
 use Rattle.desk_folder.specs.Files.{day_files}
-use Rattle.desk_gen.specs.Generated.{generated}
+use Rattle.output_texts.specs.Generated.{generated}
 use Rattle.desk_tasks.specs.Outcome.{line, Outcome}
 
 -- the generated files, and how many they are: 13

@@ -20,3 +20,9 @@ pub mod Generate
 pub mod Tasks
 pub mod Done
 pub mod Headline
+pub mod Paths
+pub mod Lines
+pub mod Story
+pub mod StoryReading
+pub mod Faults
+pub mod Facts

@@ -12,7 +12,7 @@ use Rattle.desk_model.specs.declared.answer.Entry.{Entry}
 use Rattle.desk_model.specs.States.{State, opening}
 use Rattle.desk_model.specs.Histories.{state, changes, is_batch, run}
 use Rattle.desk_model.specs.Promises.{cost_of}
-use Rattle.desk_view.specs.declared.view.View.{View}
+use Rattle.desk_model.specs.declared.view.View.{View}
 use Rattle.output_texts.specs.Items.{broken_text}
 use Rattle.output_texts.specs.Lines.{answer_text, journal_text}
 use Rattle.output_texts.specs.Rotations.{rotations_text}

@@ -8,8 +8,8 @@ use Rattle.near_moves.specs.Descent.{IsQuiet, is_spent}
 use Rattle.near_moves.specs.declared.ended.SearchEnd.{SearchEnd}
 use Rattle.near_moves.specs.declared.ended.SearchEnd.TheVariants as ended
 use Rattle.desk_teams.specs.Teams.{IsTeamwork}
-use Rattle.desk_view.specs.declared.view.View.{View}
-use Rattle.desk_view.specs.Views.{AreSeen}
+use Rattle.desk_model.specs.declared.view.View.{View}
+use Rattle.desk_model.specs.Views.{AreSeen}
 use Rattle.desk_tasks.specs.Outcome.{Outcome}
 use Rattle.desk_tasks.specs.Play.{watch_remarks, history_outcome}
 use Rattle.desk_tasks.specs.Recover.{Recovery}

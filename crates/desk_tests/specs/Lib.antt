@@ -1,2 +1,3 @@
 pub use Rattle.desk_data.specs.Valid
 pub mod Walks
+pub mod Summing

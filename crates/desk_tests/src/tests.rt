@@ -14,9 +14,9 @@ mod usual;
 mod views;
 mod walk;
 
+use board_kit::SlotBoard;
 use board_rot::RotBoard;
 use board_seats::SeatBoard;
-use board_slots::SlotBoard;
 use days::Orders;
 use lent::LentCostBoard;
 use std::alloc::Global;

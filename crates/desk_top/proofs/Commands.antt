@@ -21,7 +21,7 @@ use Rattle.desk_tasks.specs.Runs.{World, IsWritten}
 use Rattle.desk_tasks.proofs.CausesLaw.{usage-only}
 use Rattle.desk_text.specs.Rows.{◌>>=◌}
 use Rattle.near_moves.specs.Descent.{recovery}
-use Rattle.desk_gen.specs.Generated.{text_of}
+use Rattle.output_texts.specs.Generated.{text_of}
 use Rattle.desk_tasks.specs.Play.{Story, history, Remarks, search_remarks, watch_remarks, history_outcome, plan_status}
 use Rattle.desk_tasks.specs.Recover.{Recovery, recovered_history, search_end, recovered, reported_alone, tried}
 use Rattle.desk_tasks.specs.Judge.{Judged, verdict, verdict_report, rule_status, judged}
@@ -32,7 +32,7 @@ use Rattle.desk_tasks.specs.Team.{team_on, Work, nothing, IsTeamWork}
 use Rattle.desk_tasks.specs.Tasks.{Task, play, play_crews, recover, team, recover_by, trial, judge, judge_crews, ferry, generate, outcome_at, IsSound, IsWorkOf, IsSoundAt}
 use Rattle.desk_tasks.proofs.HeadlineLaw.{has-headline, has-crewed, has-recovered, has-tried, has-team-recovered}
 use Rattle.desk_tasks.proofs.FerryLaw.{has-ferried}
-use Rattle.desk_story.specs.Story.{Rows, rows_of, usual_moves, story_of_rows, crewed_of_rows, recovery_of_rows, trial_of, judged_of_rows, judged_crews_of_rows, task_of_rows, task_of}
+use Rattle.desk_tasks.specs.Story.{Rows, rows_of, usual_moves, story_of_rows, crewed_of_rows, recovery_of_rows, trial_of, judged_of_rows, judged_crews_of_rows, task_of_rows, task_of}
 use Rattle.desk_top.specs.Desk.{meaning_at, RunsWith, IsDone, RunsAsPromised, IsReplayed, IsReplayedWithCrews, IsRecovered, IsRecoveredByTeam, IsTried, IsChecked, IsCheckedWithCrews, IsFerriedPlan, IsGenerated}
 
 -- ---- what is asked

@@ -16,15 +16,15 @@ use Rattle.desk_tasks.proofs.Composed.{here, InOrder, Tries, obeys-done, obeys-r
 use Rattle.desk_tasks.specs.Team.{Work, nothing}
 use Rattle.desk_tasks.specs.Tasks.{Task, outcome, outcome_at, IsWorkOf, IsSound, files_for, team_size}
 use Rattle.desk_tasks.specs.Done.{IsDoneWith, IsDoneSomehow}
-use Rattle.desk_story.specs.declared.fault.StoryFault.{StoryFault}
-use Rattle.desk_story.specs.declared.fault.StoryFault.TheVariants as fault
-use Rattle.desk_story.specs.declared.task.InputTask.{InputTask}
-use Rattle.desk_story.specs.declared.recovery.InputRecovery.{InputRecovery}
-use Rattle.desk_story.specs.declared.task.InputTask.TheVariants as input
-use Rattle.desk_story.specs.Story.{Rows, rows_of, task_of}
-use Rattle.desk_story.specs.Faults.{story_end}
-use Rattle.desk_story.specs.Facts.{as_task, CanBeDone}
-use Rattle.desk_story.specs.Reading.{StopsAtFault, HasReadCause, GivesTask}
+use Rattle.desk_tasks.specs.declared.fault.StoryFault.{StoryFault}
+use Rattle.desk_tasks.specs.declared.fault.StoryFault.TheVariants as fault
+use Rattle.desk_tasks.specs.declared.task.InputTask.{InputTask}
+use Rattle.desk_tasks.specs.declared.recovery.InputRecovery.{InputRecovery}
+use Rattle.desk_tasks.specs.declared.task.InputTask.TheVariants as input
+use Rattle.desk_tasks.specs.Story.{Rows, rows_of, task_of}
+use Rattle.desk_tasks.specs.Faults.{story_end}
+use Rattle.desk_tasks.specs.Facts.{as_task, CanBeDone}
+use Rattle.desk_tasks.specs.StoryReading.{StopsAtFault, HasReadCause, GivesTask}
 use Rattle.desk_top.specs.Desk.{meaning_at, Obeys, ObeysSomehow}
 
 -- the meaning where a run has no work

@@ -25,8 +25,8 @@ use Rattle.desk_tasks.proofs.PromisedLaw.{promised}
 use Rattle.desk_tasks.specs.Keep.{KeptStory, kept}
 use Rattle.book_commands.specs.Journal.{EndsEarly, EndsWritten, IsEarly, KeepsStory, LeavesJournal, OnlyOpens, PassesComparison, WhereShown}
 use Rattle.book_commands.proofs.Opening.{read_opens}
-use Rattle.desk_story.specs.Story.{kept_of}
-use Rattle.file_laws.proofs.Kept.{kept_stored}
+use Rattle.desk_tasks.specs.Story.{kept_of}
+use Rattle.desk_top.proofs.Kept.{kept_stored}
 use Rattle.desk_top.specs.Store.{kept_meaning, RunsKept, StandsAlways, HoldsAll, HoldsSince, HasBegun, IsWrittenAt, WritesNothing}
 use Rattle.desk_top.specs.Obeyed.{SetsNoStory, SetsNone, SetsStory, ObeysStore}
 use Rattle.desk_top.proofs.Placed.{unbegun-tells_end}

@@ -10,13 +10,13 @@ use Rattle.desk_tasks.specs.Inputs.{Inputs, Tells}
 use Rattle.desk_tasks.specs.Reading.{ReadsAmong}
 use Rattle.desk_tasks.specs.Runs.{World, world, AreRead, Obeys}
 use Rattle.desk_tasks.proofs.Composed.{here, InOrder, Tries, obeys-refused, obeys-unread, obeys-memory}
-use Rattle.desk_story.specs.declared.fault.StoryFault.{StoryFault}
-use Rattle.desk_story.specs.declared.fault.StoryFault.TheVariants as fault
-use Rattle.desk_story.specs.declared.keep.InputKept.{InputKept}
-use Rattle.desk_story.specs.Story.{rows_of, kept_of}
-use Rattle.desk_story.specs.Faults.{story_end}
-use Rattle.desk_story.specs.Facts.{as_kept, CanBeRun}
-use Rattle.desk_story.specs.Reading.{StopsAtFault, HasReadCause, GivesTask}
+use Rattle.desk_tasks.specs.declared.fault.StoryFault.{StoryFault}
+use Rattle.desk_tasks.specs.declared.fault.StoryFault.TheVariants as fault
+use Rattle.desk_tasks.specs.declared.keep.InputKept.{InputKept}
+use Rattle.desk_tasks.specs.Story.{rows_of, kept_of}
+use Rattle.desk_tasks.specs.Faults.{story_end}
+use Rattle.desk_tasks.specs.Facts.{as_kept, CanBeRun}
+use Rattle.desk_tasks.specs.StoryReading.{StopsAtFault, HasReadCause, GivesTask}
 use Rattle.day_orders.specs.declared.orders.Batch.{Batch}
 use Rattle.desk_model.specs.declared.answer.Event.{Event}
 use Rattle.book_commands.specs.Journal.{kept_story, KeepsStory}

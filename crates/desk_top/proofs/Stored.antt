@@ -25,8 +25,8 @@ use Rattle.desk_tasks.specs.Keep.{KeptStory, opened_first, kept}
 use Rattle.desk_tasks.specs.Tasks.{play}
 use Rattle.desk_tasks.specs.Headline.{HasKept}
 use Rattle.desk_tasks.proofs.HeadlineLaw.{has-kept}
-use Rattle.desk_story.specs.Story.{task_of, kept_of}
-use Rattle.desk_story.proofs.TaskLaws.{same-story, SameStory}
+use Rattle.desk_tasks.specs.Story.{task_of, kept_of}
+use Rattle.desk_tasks.proofs.TaskLaws.{same-story, SameStory}
 use Rattle.book_commands.specs.Journal.{WhereShown}
 use Rattle.desk_top.specs.Store.{kept_meaning, AreCounted, HoldsSince, IsStored, RunsOnDisk}
 

@@ -4,7 +4,7 @@ use Rattle.std.specs.Prelude.{codes}
 use Rattle.std.specs.Fmt.{digits}
 use Rattle.desk_folder.specs.Outputs.{FileText, files_of, are_different}
 use Rattle.desk_folder.specs.Files.{day_files}
-use Rattle.desk_gen.specs.Generated.{generated}
+use Rattle.output_texts.specs.Generated.{generated}
 use Rattle.desk_tasks.specs.declared.ending.Ending.{Ending}
 use Rattle.desk_tasks.specs.declared.ending.Ending.TheVariants as ending
 use Rattle.desk_tasks.specs.Outcome.{Texts}

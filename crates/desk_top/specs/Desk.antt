@@ -24,8 +24,8 @@ use Rattle.desk_tasks.specs.Crew.{JudgedCrews, CrewedStory, crew_least, crewed_r
 use Rattle.desk_tasks.specs.Generate.{generation}
 use Rattle.desk_tasks.specs.Tasks.{Task, play, play_crews, recover, team, judge, judge_crews, ferry, IsWorkOf, outcome_at, IsSoundAt}
 use Rattle.desk_tasks.specs.Headline.{TellsHistory, Headline, HasCrewed, Recovers, HasTeamRecovered, HasFerried}
-use Rattle.desk_gen.specs.Generated.{text_of}
-use Rattle.desk_story.specs.Story.{Rows, rows_of, usual_moves, task_of}
+use Rattle.output_texts.specs.Generated.{text_of}
+use Rattle.desk_tasks.specs.Story.{Rows, rows_of, usual_moves, task_of}
 
 -- what inputs say to a command: the rows of all its files, or the first refusal by a grammar; and the task, or the first refusal; and
 -- what that comes to, where a run has this work

@@ -27,7 +27,7 @@ use Rattle.desk_tasks.specs.Play.{Story, plan_status}
 use Rattle.desk_tasks.specs.Keep.{KeptStory, kept}
 use Rattle.desk_tasks.specs.Tasks.{play, IsRunnable}
 use Rattle.desk_tasks.specs.Headline.{HasKept}
-use Rattle.desk_story.specs.Story.{Rows, rows_of, task_of, kept_of}
+use Rattle.desk_tasks.specs.Story.{Rows, rows_of, task_of, kept_of}
 use Rattle.book_commands.specs.Held.{entered}
 use Rattle.book_commands.specs.Journal.{IsKept, LeavesJournal, OnlyOpens, PassesComparison, WhereShown}
 use Rattle.book_commands.specs.Own.{CanBeStored, IsOwn, OpensFor}

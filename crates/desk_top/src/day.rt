@@ -1,14 +1,14 @@
 //! Making the input files of a day.
 
 ghost use Rattle.desk_folder.specs.Files.{day_files};
-ghost use Rattle.desk_gen.specs.Generated.{IsSize};
+ghost use Rattle.output_texts.specs.Generated.{IsSize};
 ghost use Rattle.desk_tasks.specs.Generate.{generation};
 ghost use Rattle.desk_tasks.specs.Runs.{Between};
 ghost use Rattle.desk_tasks.specs.Finishing.{Completes};
 
 use desk_folder::{Folder, Sink};
-use desk_gen::generate;
 use desk_tasks::{Ending, OutputTexts, put_outputs};
+use output_texts::generate;
 use std::alloc::Global;
 
 /// Writes the input files of a day of this seed and this size, and reports how many they are.

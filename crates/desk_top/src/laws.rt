@@ -7,7 +7,7 @@ ghost use Rattle.desk_tasks.specs.declared.ending.DiskEnd.{DiskEnd};
 ghost use Rattle.desk_tasks.specs.declared.ending.DiskEnd.TheVariants.{Fault};
 ghost use Rattle.desk_tasks.specs.Inputs.{Inputs};
 ghost use Rattle.desk_tasks.specs.Keep.{KeptStory};
-ghost use Rattle.desk_story.specs.Story.{kept_of};
+ghost use Rattle.desk_tasks.specs.Story.{kept_of};
 ghost use Rattle.book_commands.specs.Held.{entered, story_payloads};
 ghost use Rattle.book_commands.specs.Own.{Extends, IsOwn, OpensFor};
 ghost use Rattle.book_commands.specs.Journal.{OnlyOpens};

@@ -7,17 +7,16 @@ ghost use Rattle.desk_tasks.specs.Finishing.{Completes};
 ghost use Rattle.desk_tasks.proofs.Composed.{here};
 ghost use Rattle.desk_tasks.specs.Team.{nothing};
 ghost use Rattle.desk_tasks.specs.Tasks.{outcome, files_for, team_size};
-ghost use Rattle.desk_story.specs.Facts.{as_task, CanBeDone};
+ghost use Rattle.desk_tasks.specs.Facts.{as_task, CanBeDone};
 ghost use Rattle.desk_top.specs.Desk.{Obeys, RunsWith, RunsAsPromised};
 
 use crate::day::write_day;
 use book_commands::{play_beside_crews, play_events, recover_day, try_day};
 use desk_folder::{Folder, FolderFault, Sink, put_report};
-use desk_judge::{judge_crews, judge_plan, run_ferry};
-use desk_story::{
-    InputCrewedPlan, InputCrewedStory, InputPlan, InputRecovery, InputStory, InputTask, read_task,
+use desk_tasks::{
+    Ending, InputCrewedPlan, InputCrewedStory, InputPlan, InputRecovery, InputStory, InputTask,
+    fault_text, judge_crews, judge_plan, read_task, run_ferry,
 };
-use desk_tasks::{Ending, fault_text};
 use desk_units::Listener;
 use desk_words::Command;
 use std::alloc::Global;

@@ -10,7 +10,7 @@ ghost use Rattle.desk_tasks.specs.declared.refusal.Refusal.{Refusal};
 ghost use Rattle.desk_tasks.specs.Commands.{asked_here, files_read};
 ghost use Rattle.desk_tasks.specs.Inputs.{Inputs, Tells};
 ghost use Rattle.desk_tasks.specs.Runs.{Between};
-ghost use Rattle.desk_story.specs.Story.{kept_of};
+ghost use Rattle.desk_tasks.specs.Story.{kept_of};
 ghost use Rattle.book_commands.specs.Journal.{OnlyOpens, WhereShown};
 ghost use Rattle.desk_top.specs.Store.{HasBegun, HoldsAll, IsWrittenAt, RunsKept, StandsAlways};
 ghost use Rattle.desk_top.specs.Obeyed.{ObeysStore};
@@ -19,8 +19,7 @@ use crate::plain::tell;
 use book_commands::keep_events;
 use desk_disk::Disk;
 use desk_folder::{Folder, Sink};
-use desk_story::{InputKept, InputStory, read_kept};
-use desk_tasks::Ending;
+use desk_tasks::{Ending, InputKept, InputStory, read_kept};
 use std::alloc::Global;
 
 // Reads the story that the files give, and keeps it.

@@ -9,14 +9,13 @@ ghost use Rattle.desk_tasks.specs.Causes.{IsDoneAt};
 ghost use Rattle.desk_tasks.proofs.Composed.{here};
 ghost use Rattle.desk_tasks.specs.Tasks.{team_size};
 ghost use Rattle.desk_tasks.specs.Done.{IsDoneSomehow};
-ghost use Rattle.desk_story.specs.Facts.{as_task, CanBeDone};
+ghost use Rattle.desk_tasks.specs.Facts.{as_task, CanBeDone};
 ghost use Rattle.desk_top.specs.Desk.{ObeysSomehow, Runs, RunsAsPromised, IsRecoveredByTeam};
 
 use crate::plain::tell;
 use book_commands::{Team, recover_by_team};
 use desk_folder::{Folder, Gate, Sink};
-use desk_story::{InputRecovery, InputTask, read_task};
-use desk_tasks::Ending;
+use desk_tasks::{Ending, InputRecovery, InputTask, read_task};
 use desk_words::Command;
 use std::alloc::Global;
 use std::sync::Wait;

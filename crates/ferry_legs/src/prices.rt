@@ -19,7 +19,7 @@ use crate::positions::{come, gained, leave, lost};
 use crate::wanted::Wanted;
 use added_legs::Added;
 use desk_data::{Airport, Grains, Instance, NoMem, Plan, Plane};
-use full_cost::full_cost;
+use plan_checks::full_cost;
 use std::alloc::Global;
 use std::marker::Model;
 

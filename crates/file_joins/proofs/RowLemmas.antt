@@ -10,7 +10,7 @@ use Rattle.desk_text.specs.Rows.{◌>>=◌, at_line, GivesRow}
 use Rattle.desk_data.specs.Situation.{Situation}
 use Rattle.desk_model.specs.declared.answer.Event.{Event}
 use Rattle.desk_build.specs.declared.fault.BuildFault.{BuildFault}
-use Rattle.journal_file.specs.declared.rows.JournalRow.{JournalRow}
+use Rattle.desk_journal.specs.declared.rows.JournalRow.{JournalRow}
 use Rattle.file_joins.specs.Join.{all_after, is_batch, batches_in, event_of, asked_of}
 use Rattle.file_joins.specs.Gives.{JoinGives, fault_at}
 use Rattle.file_joins.proofs.AllOf.{prepended}

@@ -20,16 +20,16 @@ use Rattle.desk_model.specs.declared.answer.Event.{Event}
 use Rattle.desk_model.specs.declared.answer.Event.TheVariants as event
 use Rattle.desk_build.specs.declared.joining.Built.{Built}
 use Rattle.file_joins.specs.Names.{leg_named, plane_named, res_named}
-use Rattle.journal_file.specs.declared.rows.NamedLeg.{NamedLeg}
-use Rattle.journal_file.specs.declared.rows.NamedRes.{NamedRes}
-use Rattle.journal_file.specs.declared.rows.NamedPath.{NamedPath}
-use Rattle.journal_file.specs.declared.rows.NamedRow.{NamedRow}
-use Rattle.journal_file.specs.declared.rows.NamedRow.TheVariants as named_row
-use Rattle.journal_file.specs.declared.rows.NamedStep.{NamedStep}
-use Rattle.journal_file.specs.declared.rows.NamedStep.TheVariants as named
-use Rattle.journal_file.specs.declared.rows.NamedEvent.{NamedEvent}
-use Rattle.journal_file.specs.declared.rows.NamedEvent.TheVariants as named_event
-use Rattle.journal_file.specs.declared.rows.JournalRow.{JournalRow}
+use Rattle.desk_journal.specs.declared.rows.NamedLeg.{NamedLeg}
+use Rattle.desk_journal.specs.declared.rows.NamedRes.{NamedRes}
+use Rattle.desk_journal.specs.declared.rows.NamedPath.{NamedPath}
+use Rattle.desk_journal.specs.declared.rows.NamedRow.{NamedRow}
+use Rattle.desk_journal.specs.declared.rows.NamedRow.TheVariants as named_row
+use Rattle.desk_journal.specs.declared.rows.NamedStep.{NamedStep}
+use Rattle.desk_journal.specs.declared.rows.NamedStep.TheVariants as named
+use Rattle.desk_journal.specs.declared.rows.NamedEvent.{NamedEvent}
+use Rattle.desk_journal.specs.declared.rows.NamedEvent.TheVariants as named_event
+use Rattle.desk_journal.specs.declared.rows.JournalRow.{JournalRow}
 
 -- what each gives, in order, or the first refusal
 unfoldable pub all_of : {A B E : Type 0} → (A → Result B E) → List A → Result (List B) E

@@ -5,10 +5,10 @@ ghost use Rattle.desk_text.specs.Rows.{GivesRow};
 ghost use Rattle.file_joins.specs.Join.{batch_of, is_batch, stated_batch};
 
 use desk_data::Batch;
+use desk_journal::NamedEvent;
 use desk_model::Event;
 use desk_text::RowFault;
 use file_rows::Cause;
-use journal_file::NamedEvent;
 use std::alloc::Global;
 
 /// The batch of a number, where it is the one that is due and there is such a batch.

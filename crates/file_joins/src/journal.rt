@@ -4,7 +4,7 @@ ghost use Rattle.std.specs.Prelude.{◌≡◌, ◌≤◌, [], All, IfOk};
 ghost use Rattle.desk_data.specs.Valid.{IsBatch};
 ghost use Rattle.desk_model.specs.Histories.{AreAskable};
 ghost use Rattle.desk_text.specs.Rows.{GivesRow};
-ghost use Rattle.journal_file.specs.Facts.{AreRows};
+ghost use Rattle.desk_journal.specs.Facts.{AreRows};
 ghost use Rattle.file_joins.specs.Join.{all_after, asked_of, event_of, events_of};
 ghost use Rattle.file_joins.specs.Gives.{JoinGives, fault_at};
 
@@ -14,9 +14,9 @@ use crate::steps::joined_move;
 use desk_build::{BuildFault, Built};
 use desk_data::Batch;
 use desk_folder::File;
+use desk_journal::{JournalRow, NamedEvent};
 use desk_model::Event;
 use desk_text::RowFault;
-use journal_file::{JournalRow, NamedEvent};
 use std::alloc::Global;
 
 /// The event of a row, where the batch of the number `due` is the next one.

@@ -6,10 +6,10 @@ ghost use Rattle.file_joins.specs.Join.{leg_of, plane_of, res_of, all_of, after_
 
 use crate::DayNames;
 use desk_data::{Path, Row};
+use desk_journal::{NamedLeg, NamedPath, NamedRes, NamedRow};
 use desk_text::RowFault;
 use desk_units::{Cabin, Leg, List, Name, Plane, Res};
 use file_rows::Cause;
-use journal_file::{NamedLeg, NamedPath, NamedRes, NamedRow};
 use std::alloc::Global;
 
 /// The leg of a flight and a day.

@@ -8,11 +8,11 @@ ghost use Rattle.file_joins.specs.Join.{set_of, push_of, swap_of, rebook_of, ref
 use crate::DayNames;
 use crate::names::{after_of, leg_of, path_of, plane_of, res_of, row_of};
 use desk_data::Row;
+use desk_journal::{NamedLeg, NamedPath, NamedRes, NamedRow, NamedStep};
 use desk_model::Event;
 use desk_text::RowFault;
 use desk_units::{List, Minute, Name};
 use file_rows::{Cause, END_OF_TIME};
-use journal_file::{NamedLeg, NamedPath, NamedRes, NamedRow, NamedStep};
 use plan_moves::{Move, Step};
 use std::alloc::Global;
 

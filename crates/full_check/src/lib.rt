@@ -6,7 +6,7 @@
 //!         Some(item) => ..,           // the first item that it breaks, as C5 of a leg
 //!     }
 //!
-//! It asks rule_checks: `least_rot` for C1 to C9, `least_slots` for C10 and C11 and `least_pax` for C12 to C15, in this
+//! It asks plan_checks: `least_rot` for C1 to C9, `least_slots` for C10 and C11 and `least_pax` for C12 to C15, in this
 //! order, and depends on it. Proved: the answer is `least` of desk_rules, the first broken item of
 //! all in the order of rules and of what they name.
 #![tactic(auto)]
@@ -16,7 +16,7 @@ ghost use Rattle.desk_data.specs.Valid.{IsPlanFor};
 ghost use Rattle.desk_rules.specs.Least.{least};
 
 use desk_data::{Broken, Instance, NoMem, Plan};
-use rule_checks::{least_pax, least_rot, least_slots};
+use plan_checks::{least_pax, least_rot, least_slots};
 use std::alloc::Global;
 
 /// The first item of C1 to C15 that the plan breaks, by rule and then by what the items name, or

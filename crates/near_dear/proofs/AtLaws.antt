@@ -12,7 +12,7 @@ use Rattle.desk_data.specs.PlanRows.{PlanRows}
 use Rattle.desk_rules.specs.Rotations.{dep}
 use Rattle.desk_rules.specs.Cost.{weight, rows_of, by_hour, by_item}
 use Rattle.desk_model.specs.Push.{rotation}
-use Rattle.move_laws.specs.Chains.{stand, stand_before}
+use Rattle.near_moves.specs.Chains.{stand, stand_before}
 use Rattle.near_draft.specs.Legs.{numbers_of}
 use Rattle.near_dear.specs.Exchanged.{tail, minutes, cost_by, stand_then, hand_then, positions_then}
 use Rattle.near_dear.specs.Times.{late_block}

@@ -23,8 +23,8 @@ use Rattle.desk_model.proofs.SetLaws.{with_row-same, after_set-sets}
 use Rattle.hour_counts.proofs.FlownLaws.{pushed-flies}
 use Rattle.near_moves.specs.LegMoves.{cancelling}
 use Rattle.near_moves.specs.MoveParts.{flier, plane}
-use Rattle.move_laws.proofs.KeptLaws.{steps-append}
-use Rattle.near_units.proofs.MoveLaws.{flier-flies}
+use Rattle.near_moves.proofs.KeptLaws.{steps-append}
+use Rattle.near_moves.proofs.MoveLaws.{flier-flies}
 use Rattle.near_dear.proofs.OwedSumLaws.{two-le, among-le}
 
 -- whether leg y is among some legs

@@ -25,13 +25,13 @@ use Rattle.desk_rules.proofs.Tests.{each_below-holds, implies-holds}
 use Rattle.desk_model.specs.Push.{rotation}
 use Rattle.desk_model.specs.Steps.{after_steps, after_move}
 use Rattle.desk_model.proofs.MoveLaws.{after_steps-valid}
-use Rattle.move_laws.proofs.ChainLaws.{KeepsC5}
-use Rattle.move_laws.proofs.KeptLaws.{steps-append}
-use Rattle.move_laws.specs.RowRules.{keeps_rows}
-use Rattle.move_laws.proofs.RowLaws.{steps-rows}
-use Rattle.near_units.specs.Same.{FliesSame, is_of}
-use Rattle.near_units.specs.Own.{keeps_own_rules, BreaksOwn}
-use Rattle.near_units.proofs.RuleLaws.{c5-same}
+use Rattle.near_moves.proofs.ChainLaws.{KeepsC5}
+use Rattle.near_moves.proofs.KeptLaws.{steps-append}
+use Rattle.near_moves.specs.RowRules.{keeps_rows}
+use Rattle.near_moves.proofs.RowLaws.{steps-rows}
+use Rattle.near_moves.specs.Same.{FliesSame, is_of}
+use Rattle.near_moves.specs.Own.{keeps_own_rules, BreaksOwn}
+use Rattle.near_moves.proofs.RuleLaws.{c5-same}
 use Rattle.near_priced.specs.Unpaid.{is_either}
 use Rattle.near_priced.specs.Priced.{paid_on, paid_booked, refilled, tidies}
 use Rattle.near_priced.proofs.PricedLaws.{priced-dear}

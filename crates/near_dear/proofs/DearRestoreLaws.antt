@@ -25,8 +25,8 @@ use Rattle.near_moves.specs.Descent.{is_better}
 use Rattle.near_moves.specs.LegMoves.{back_departure, restoring_alone, restoring_both}
 use Rattle.near_moves.specs.MoveParts.{leg, plane}
 use Rattle.near_moves.specs.Units.{MoveUnit}
-use Rattle.near_units.specs.Out.{IsOut, dear}
-use Rattle.near_units.specs.Same.{is_of}
+use Rattle.near_moves.specs.Out.{IsOut, dear}
+use Rattle.near_moves.specs.Same.{is_of}
 use Rattle.near_priced.specs.Unpaid.{flies_on, is_own_leg, is_either, saved_by_ending}
 use Rattle.near_priced.proofs.DearLaws.{dear-worse}
 use Rattle.near_priced.proofs.UnpaidLaws.{positions-all}

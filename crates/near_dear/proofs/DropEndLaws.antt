@@ -21,11 +21,11 @@ use Rattle.desk_model.specs.Push.{rotation}
 use Rattle.desk_model.specs.Steps.{after_steps}
 use Rattle.desk_model.proofs.RotationOrder.{rotation-each}
 use Rattle.near_moves.specs.MoveParts.{plane}
-use Rattle.near_units.specs.Same.{FliesSame, is_of, AgreeOn}
-use Rattle.near_units.specs.Steps.{is_among}
-use Rattle.near_units.specs.Room.{IsSameRoom, HaveSameRoom, AreMadeAlike}
-use Rattle.near_units.proofs.FrameLaws.{steps-alike, start-alike}
-use Rattle.near_units.proofs.RuleLaws.{left_at-same}
+use Rattle.near_moves.specs.Same.{FliesSame, is_of, AgreeOn}
+use Rattle.near_moves.specs.Steps.{is_among}
+use Rattle.near_moves.specs.Room.{IsSameRoom, HaveSameRoom, AreMadeAlike}
+use Rattle.near_moves.proofs.FrameLaws.{steps-alike, start-alike}
+use Rattle.near_moves.proofs.RuleLaws.{left_at-same}
 use Rattle.near_priced.specs.Unpaid.{may_serve, services, saved_by_ending}
 use Rattle.near_draft.specs.Drafts.{AreAllChanged}
 use Rattle.near_dear.proofs.CancelLaws.{first_steps}

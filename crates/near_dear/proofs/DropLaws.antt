@@ -26,17 +26,17 @@ use Rattle.desk_model.specs.Tidy.{after_tidy}
 use Rattle.desk_model.proofs.MoveLaws.{after_steps-valid}
 use Rattle.desk_model.proofs.RotationOrder.{rotation-each, rotation-flown}
 use Rattle.desk_model.proofs.TidyLaws.{after_tidy-rows}
-use Rattle.full_cost.specs.Amounts.{reservation_cost}
+use Rattle.plan_checks.specs.Amounts.{reservation_cost}
 use Rattle.board_cost.proofs.BalanceLaws.{cost_is}
 use Rattle.board_kit.specs.Users.{uses}
 use Rattle.near_moves.specs.Descent.{is_better}
 use Rattle.near_moves.specs.LegMoves.{cancelling, dropping}
 use Rattle.near_moves.specs.MoveParts.{flier, legs_from, plane, run}
 use Rattle.near_moves.specs.Units.{MoveUnit}
-use Rattle.move_laws.proofs.KeptLaws.{steps-append}
+use Rattle.near_moves.proofs.KeptLaws.{steps-append}
 use Rattle.near_untouched.specs.Alone.{IsLeftAlone}
 use Rattle.near_untouched.proofs.AloneLaws.{left-alone, flying-same, positions-same}
-use Rattle.near_units.specs.Out.{IsOut, dear}
+use Rattle.near_moves.specs.Out.{IsOut, dear}
 use Rattle.near_priced.proofs.DearLaws.{dear-worse}
 use Rattle.near_priced.specs.Priced.{paid_on}
 use Rattle.near_dear.specs.Drops.{IsDearDrop, dropping_legs}

@@ -16,8 +16,8 @@ use Rattle.desk_data.specs.Valid.{IsPlanFor, IsValid}
 use Rattle.desk_rules.specs.Numbers.{numbers}
 use Rattle.desk_rules.proofs.CostLaws.{IsAtMost, reservations-le}
 use Rattle.desk_model.specs.Refill.{has_leg}
-use Rattle.full_cost.specs.Counted.{IsGroupOf}
-use Rattle.full_cost.proofs.GroupLaws.{group-fits, group-le, passenger_most, uncarried_is}
+use Rattle.plan_checks.specs.Counted.{IsGroupOf}
+use Rattle.plan_checks.proofs.GroupLaws.{group-fits, group-le, passenger_most, uncarried_is}
 use Rattle.near_priced.specs.Tables.{amount}
 use Rattle.near_dear.specs.Owed.{AreOwed, owed_by, owed_first, uncarried}
 

@@ -16,11 +16,11 @@ use Rattle.desk_rules.proofs.RotationLaws.{precedes-holds}
 use Rattle.desk_model.specs.Push.{rotation}
 use Rattle.desk_model.proofs.RotationOrder.{precedes-trans, precedes-itself, pairs_across, rotation-ordered, rotation-each}
 use Rattle.plan_reads.specs.Last.{IsLastOf}
-use Rattle.full_cost.specs.Stands.{end_of, is_there}
+use Rattle.plan_checks.specs.Stands.{end_of, is_there}
 use Rattle.board_kit.proofs.SumLaws.{one_if}
 use Rattle.near_moves.proofs.ListLaws.{contains_cases, contains_head, contains_none}
-use Rattle.move_laws.specs.Chains.{to_airport, led, stand}
-use Rattle.move_laws.proofs.ChainLaws.{led-append, in-rotation}
+use Rattle.near_moves.specs.Chains.{to_airport, led, stand}
+use Rattle.near_moves.proofs.ChainLaws.{led-append, in-rotation}
 use Rattle.near_priced.proofs.PayerLaws.{ends-is}
 use Rattle.near_priced.specs.Tables.{is_hand}
 use Rattle.near_priced.proofs.EndLaws.{soon}

@@ -31,12 +31,12 @@ use Rattle.desk_model.proofs.SetLaws.{after_set-sets, with_row-same, with_row-ot
 use Rattle.desk_model.proofs.PushLaws.{after_push-groups, after_push-others}
 use Rattle.desk_model.proofs.RotationOrder.{rotation-each}
 use Rattle.hour_counts.proofs.FlownLaws.{pushed-flies}
-use Rattle.full_cost.specs.Amounts.{reservation_cost}
+use Rattle.plan_checks.specs.Amounts.{reservation_cost}
 use Rattle.board_kit.proofs.SumLaws.{sum_same, sum_change}
 use Rattle.board_kit.specs.Users.{uses, has_leg}
 use Rattle.near_moves.specs.MoveParts.{plane, flown_row}
 use Rattle.near_moves.proofs.ListLaws.{Apart, any_holds, contains_filter, apart_head, apart_tail, contains_head, contains_tail}
-use Rattle.move_laws.proofs.KeptLaws.{steps-append}
+use Rattle.near_moves.proofs.KeptLaws.{steps-append}
 use Rattle.near_draft.specs.Drafts.{AreAllChanged}
 use Rattle.near_priced.specs.Priced.{paid_on}
 use Rattle.near_dear.specs.Restored.{IsPushedFrom, flown_legs, flying_step, flying, may_move, moved_legs}

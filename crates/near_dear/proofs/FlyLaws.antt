@@ -17,7 +17,7 @@ use Rattle.desk_model.specs.Push.{rotation}
 use Rattle.desk_model.specs.Swap.{row_after_swap}
 use Rattle.desk_model.proofs.RotationOrder.{rotation-each}
 use Rattle.near_moves.proofs.ListLaws.{contains_filter, filter_contains}
-use Rattle.move_laws.proofs.ChainLaws.{in-rotation}
+use Rattle.near_moves.proofs.ChainLaws.{in-rotation}
 use Rattle.near_dear.specs.Exchanged.{tail, cost_by, own_cost, exchanged_cost}
 use Rattle.near_dear.specs.Moves.{IsExchange, exchanged}
 use Rattle.near_dear.proofs.TakeLaws.{late, filter-apart, goes-on, stays-soon, exchanged-flies}

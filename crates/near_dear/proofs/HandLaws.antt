@@ -23,12 +23,12 @@ use Rattle.desk_model.specs.Push.{rotation}
 use Rattle.desk_model.proofs.RotationOrder.{rotation-each}
 use Rattle.board_kit.proofs.SumLaws.{one_if, filter_change}
 use Rattle.near_moves.proofs.FromLaws.{or_cases}
-use Rattle.move_laws.specs.Chains.{stand}
-use Rattle.move_laws.proofs.ChainLaws.{KeepsC5}
-use Rattle.near_units.specs.Same.{FliesSame, is_of, AgreeOn}
-use Rattle.near_units.specs.Steps.{is_among}
-use Rattle.near_units.specs.Room.{HaveSameRoom, AreMadeAlike}
-use Rattle.near_units.proofs.FrameLaws.{steps-alike, start-alike}
+use Rattle.near_moves.specs.Chains.{stand}
+use Rattle.near_moves.proofs.ChainLaws.{KeepsC5}
+use Rattle.near_moves.specs.Same.{FliesSame, is_of, AgreeOn}
+use Rattle.near_moves.specs.Steps.{is_among}
+use Rattle.near_moves.specs.Room.{HaveSameRoom, AreMadeAlike}
+use Rattle.near_moves.proofs.FrameLaws.{steps-alike, start-alike}
 use Rattle.near_priced.specs.Unpaid.{is_either}
 use Rattle.near_draft.specs.Drafts.{AreAllChanged}
 use Rattle.near_priced.specs.Tables.{is_hand}

@@ -22,8 +22,8 @@ use Rattle.desk_model.proofs.PushLaws.{pushed-ordered, pushed-all, pushed-each, 
 use Rattle.desk_model.proofs.RotationOrder.{flown_once, precedes-trans, precedes-itself, pairs_after, rotation-ordered, rotation-each}
 use Rattle.hour_counts.proofs.FlownLaws.{pushed-flies}
 use Rattle.near_moves.proofs.ListLaws.{contains_cases, contains_head}
-use Rattle.move_laws.proofs.TallyLaws.{place}
-use Rattle.move_laws.proofs.ChainLaws.{in-rotation}
+use Rattle.near_moves.proofs.TallyLaws.{place}
+use Rattle.near_moves.proofs.ChainLaws.{in-rotation}
 use Rattle.near_dear.specs.Moves.{IsInTime}
 use Rattle.near_dear.specs.Calm.{IsBetween, IsFreeFrom, ground}
 

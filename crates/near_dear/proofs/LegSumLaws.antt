@@ -8,7 +8,7 @@ use Rattle.std.proofs.lemmas.List.Sums.{sum_by-cons, sum_by_push}
 use Rattle.desk_rules.specs.Numbers.{numbers}
 use Rattle.board_kit.proofs.SumLaws.{sum_same, sum_change}
 use Rattle.near_moves.proofs.ListLaws.{contains_cases, contains_head, contains_tail, contains_none}
-use Rattle.move_laws.proofs.TallyLaws.{AreApart}
+use Rattle.near_moves.proofs.TallyLaws.{AreApart}
 
 pub none-sum : (n : ℕ) → sum_by (λ y. 0) (numbers n) ≡ 0
 none-sum zero = refl

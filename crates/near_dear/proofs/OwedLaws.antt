@@ -23,8 +23,8 @@ use Rattle.desk_model.specs.Refill.{has_leg}
 use Rattle.desk_model.specs.Rebook.{passengers_on, group_of}
 use Rattle.desk_model.specs.Tidy.{is_fit_path, stays_carried, groups_after_tidy, after_tidy}
 use Rattle.desk_model.proofs.TidyLaws.{after_tidy-at, is_fit-holds}
-use Rattle.full_cost.specs.Amounts.{group_cost, reservation_cost}
-use Rattle.full_cost.proofs.GroupLaws.{uncarried_is}
+use Rattle.plan_checks.specs.Amounts.{group_cost, reservation_cost}
+use Rattle.plan_checks.proofs.GroupLaws.{uncarried_is}
 use Rattle.near_dear.specs.Owed.{uncarried, owed_by}
 
 -- ---- each passenger owes as much as another

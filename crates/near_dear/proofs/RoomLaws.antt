@@ -11,7 +11,7 @@ use Rattle.desk_rules.specs.Rotations.{departure}
 use Rattle.desk_rules.specs.Slots.{hour_of}
 use Rattle.desk_rules.specs.Passengers.{is_flown}
 use Rattle.desk_model.specs.Push.{departs_beside, arrives_beside, departures_beside, arrivals_beside}
-use Rattle.near_units.proofs.FrameLaws.{count-split, count-weaker}
+use Rattle.near_moves.proofs.FrameLaws.{count-split, count-weaker}
 
 module _ (legs : ℕ → Bool) (I : Situation) (P S : PlanRows) (same : (y : ℕ) → legs y ≡ false → row_at S y ≡ row_at P y) where
   outside-departs : (x a h y : ℕ) → (not (legs y) && departs_beside I S x a h y) ≡ (not (legs y) && departs_beside I P x a h y)

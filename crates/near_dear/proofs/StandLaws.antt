@@ -10,9 +10,9 @@ use Rattle.desk_rules.specs.Least.{least}
 use Rattle.desk_rules.proofs.LeastLaws.{feasible-holds}
 use Rattle.desk_model.specs.Push.{rotation}
 use Rattle.desk_model.proofs.RotationOrder.{rotation-ordered}
-use Rattle.move_laws.specs.Chains.{from_airport, to_airport, is_same, led, stand, stand_before}
-use Rattle.move_laws.proofs.ChainLaws.{IsChain, KeepsC5, chain-tally, chain-front, chain-back, led-append, rotation-chain}
-use Rattle.move_laws.proofs.HandLaws.{same-yes, same-no}
+use Rattle.near_moves.specs.Chains.{from_airport, to_airport, is_same, led, stand, stand_before}
+use Rattle.near_moves.proofs.ChainLaws.{IsChain, KeepsC5, chain-tally, chain-front, chain-back, led-append, rotation-chain}
+use Rattle.near_moves.proofs.HandLaws.{same-yes, same-no}
 use Rattle.near_dear.specs.Exchanged.{stand_then}
 use Rattle.near_dear.specs.Moves.{IsExchange, exchanged}
 use Rattle.near_dear.proofs.TakeLaws.{early, late, split-sorted, TakesOver, taken-tally, takes-first, takes-second}

@@ -23,11 +23,11 @@ use Rattle.desk_model.proofs.SwapLaws.{after_swap-row}
 use Rattle.desk_model.proofs.RotationOrder.{precedes-itself, rotation-ordered, rotation-each}
 use Rattle.near_moves.specs.MoveParts.{plane}
 use Rattle.near_moves.proofs.ListLaws.{contains_filter, filter_contains}
-use Rattle.move_laws.specs.Chains.{tally, keeps_aircraft}
-use Rattle.move_laws.proofs.TallyLaws.{AreApart, AreAmong, apart-ordered, tally-append, tally-same}
-use Rattle.move_laws.proofs.ChainLaws.{rotation-apart, in-rotation}
-use Rattle.move_laws.proofs.KeptLaws.{kept-flies}
-use Rattle.move_laws.proofs.HandLaws.{apart-join, drop_all, keep_all}
+use Rattle.near_moves.specs.Chains.{tally, keeps_aircraft}
+use Rattle.near_moves.proofs.TallyLaws.{AreApart, AreAmong, apart-ordered, tally-append, tally-same}
+use Rattle.near_moves.proofs.ChainLaws.{rotation-apart, in-rotation}
+use Rattle.near_moves.proofs.KeptLaws.{kept-flies}
+use Rattle.near_moves.proofs.HandLaws.{apart-join, drop_all, keep_all}
 use Rattle.near_dear.specs.Moves.{pushes_either, exchanged}
 
 -- ---- legs before a moment and from it on

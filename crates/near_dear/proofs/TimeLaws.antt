@@ -29,18 +29,18 @@ use Rattle.desk_model.proofs.PushLaws.{after_push-others, after_push-valid}
 use Rattle.desk_model.proofs.RotationOrder.{flown_once, rotation-each}
 use Rattle.hour_counts.proofs.FlownLaws.{pushed-flies}
 use Rattle.near_moves.specs.LegMoves.{exchange}
-use Rattle.move_laws.proofs.TallyLaws.{AreApart}
-use Rattle.move_laws.proofs.ChainLaws.{rotation-apart, in-rotation}
-use Rattle.move_laws.proofs.HandLaws.{apart-join}
+use Rattle.near_moves.proofs.TallyLaws.{AreApart}
+use Rattle.near_moves.proofs.ChainLaws.{rotation-apart, in-rotation}
+use Rattle.near_moves.proofs.HandLaws.{apart-join}
 use Rattle.near_moves.specs.Descent.{is_better}
 use Rattle.near_moves.specs.Units.{MoveUnit}
-use Rattle.near_units.specs.Same.{is_of}
-use Rattle.near_units.specs.Steps.{unit_planes}
-use Rattle.near_units.specs.Own.{BreaksOwn}
-use Rattle.near_units.specs.Out.{IsOut, dear, breaks}
-use Rattle.near_units.proofs.OwnLaws.{breaks-worse}
+use Rattle.near_moves.specs.Same.{is_of}
+use Rattle.near_moves.specs.Steps.{unit_planes}
+use Rattle.near_moves.specs.Own.{BreaksOwn}
+use Rattle.near_moves.specs.Out.{IsOut, dear, breaks}
+use Rattle.near_moves.proofs.OwnLaws.{breaks-worse}
 use Rattle.near_priced.proofs.DearLaws.{dear-worse}
-use Rattle.near_units.proofs.FrameLaws.{is_of-by}
+use Rattle.near_moves.proofs.FrameLaws.{is_of-by}
 use Rattle.near_priced.specs.Unpaid.{is_either}
 use Rattle.near_priced.specs.Priced.{paid_on}
 use Rattle.near_dear.specs.Exchanged.{own_cost, exchanged_cost, positions_then}

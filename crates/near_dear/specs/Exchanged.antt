@@ -10,7 +10,7 @@ use Rattle.desk_data.specs.PlanRows.{PlanRows}
 use Rattle.desk_rules.specs.Rotations.{dep}
 use Rattle.desk_rules.specs.Cost.{weight, rows_of, by_hour, by_item, is_wanted, at_hand}
 use Rattle.desk_model.specs.Push.{rotation}
-use Rattle.move_laws.specs.Chains.{stand, stand_before}
+use Rattle.near_moves.specs.Chains.{stand, stand_before}
 
 -- ---- flying
 

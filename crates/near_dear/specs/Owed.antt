@@ -6,7 +6,7 @@ use Rattle.desk_data.specs.PlanRows.{PlanRows, groups_at}
 use Rattle.desk_rules.specs.Cost.{legal_uncarried}
 use Rattle.desk_rules.specs.Numbers.{numbers}
 use Rattle.desk_model.specs.Refill.{has_leg}
-use Rattle.full_cost.specs.Amounts.{cancellation_uncarried}
+use Rattle.plan_checks.specs.Amounts.{cancellation_uncarried}
 use Rattle.near_priced.specs.Tables.{amount}
 
 -- what so many passengers of reservation r cost who are not carried

@@ -3,7 +3,7 @@ use Rattle.std.specs.Prelude.{◌≡◌, ℕ, ◌-◌, sum_by}
 use Rattle.desk_data.specs.Situation.{Situation}
 use Rattle.desk_data.specs.PlanRows.{PlanRows}
 use Rattle.desk_rules.specs.Cost.{at_hand}
-use Rattle.move_laws.specs.Chains.{stand, stand_before}
+use Rattle.near_moves.specs.Chains.{stand, stand_before}
 use Rattle.near_dear.specs.Exchanged.{hand_then}
 use Rattle.near_dear.specs.declared.positions.Stands.{Stands}
 

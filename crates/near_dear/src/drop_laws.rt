@@ -12,12 +12,12 @@ ghost use Rattle.desk_rules.specs.Least.{least};
 ghost use Rattle.desk_rules.specs.Maintenance.{flies};
 ghost use Rattle.desk_model.specs.Steps.{after_move};
 ghost use Rattle.desk_model.specs.Tidy.{after_tidy};
-ghost use Rattle.full_cost.specs.Amounts.{reservation_cost};
+ghost use Rattle.plan_checks.specs.Amounts.{reservation_cost};
 ghost use Rattle.near_moves.specs.Descent.{is_better};
 ghost use Rattle.near_moves.specs.LegMoves.{dropping};
 ghost use Rattle.near_moves.specs.MoveParts.{flier, run};
 ghost use Rattle.near_moves.specs.Units.{MoveUnit, dropped};
-ghost use Rattle.near_units.specs.Out.{IsOut};
+ghost use Rattle.near_moves.specs.Out.{IsOut};
 ghost use Rattle.near_dear.specs.Owed.{owed_by};
 ghost use Rattle.near_dear.specs.Drops.{IsDearDrop, dropping_legs};
 

@@ -8,7 +8,7 @@ ghost use Rattle.near_priced.specs.Tables.{amount};
 ghost use Rattle.near_dear.specs.Drops.{flying_of};
 
 use desk_data::{Instance, Leg};
-use full_cost::flight_cost;
+use plan_checks::flight_cost;
 use plan_moves::Step;
 use plan_pages::Pages;
 

@@ -4,12 +4,12 @@ ghost use Rattle.std.specs.Prelude.{◌≡◌, ℕ, ◌+◌, ◌<◌, ◌≤◌,
 ghost use Rattle.desk_data.specs.Situation.{legs_of, reservations_of};
 ghost use Rattle.desk_data.specs.Valid.{IsPathOf, IsPlanFor};
 ghost use Rattle.desk_model.specs.Refill.{has_leg};
-ghost use Rattle.full_cost.specs.Counted.{IsGroupOf};
+ghost use Rattle.plan_checks.specs.Counted.{IsGroupOf};
 ghost use Rattle.near_priced.specs.Tables.{amount};
 ghost use Rattle.near_dear.specs.Owed.{AreOwed, owed_by, uncarried};
 
 use desk_data::{Cabin, Group, Instance, Leg, NoMem, Res};
-use full_cost::path_cost;
+use plan_checks::path_cost;
 use plan_pages::Pages;
 use std::alloc::Global;
 
@@ -75,7 +75,7 @@ fn add_group(inst: &Instance, res: Res, group: &Group, owed: &mut Vec<u128>)
 }
 
 /// What so many passengers of a reservation cost who are not carried, in grains.
-#[tactic(auto, unfolding(full_cost::specs::Amounts::path_cost))]
+#[tactic(auto, unfolding(plan_checks::specs::Amounts::path_cost))]
 fn uncarried(inst: &Instance, res: Res, count: u32) -> u128
     requires res { res.0 < reservations_of inst.now }
     requires few { count ≤ 1000 }

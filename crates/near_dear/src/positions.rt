@@ -3,7 +3,7 @@
 ghost use Rattle.std.specs.Prelude.{◌≡◌, ◌<◌, ◌≤◌, ◌^◌, ◌==◌, if◌then◌else◌, map};
 ghost use Rattle.desk_data.specs.Situation.{planes_of};
 ghost use Rattle.desk_rules.specs.Cost.{at_hand, position_cost};
-ghost use Rattle.move_laws.specs.Chains.{stand, stand_before};
+ghost use Rattle.near_moves.specs.Chains.{stand, stand_before};
 ghost use Rattle.near_dear.specs.Exchanged.{positions_then, serves, hand_then, stand_then};
 ghost use Rattle.near_dear.specs.Stands.{AreStands, gaps_then, gaps_now};
 

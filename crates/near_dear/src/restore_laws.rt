@@ -16,7 +16,7 @@ ghost use Rattle.near_moves.specs.Descent.{is_better};
 ghost use Rattle.near_moves.specs.LegMoves.{back_departure, restoring_alone, restoring_both};
 ghost use Rattle.near_moves.specs.MoveParts.{leg};
 ghost use Rattle.near_moves.specs.Units.{MoveUnit};
-ghost use Rattle.near_units.specs.Out.{IsOut};
+ghost use Rattle.near_moves.specs.Out.{IsOut};
 ghost use Rattle.near_dear.specs.Restored.{IsDearRestore, IsRestore, flown_legs};
 
 /// A move by which an aircraft of a feasible plan flies cancelled legs again makes the plan no cheaper where flying them

@@ -5,8 +5,8 @@ use Rattle.desk_data.specs.Situation.{Situation}
 use Rattle.desk_data.specs.PlanRows.{PlanRows}
 use Rattle.desk_model.specs.Steps.{after_steps}
 use Rattle.near_moves.specs.Descent.{is_better}
-use Rattle.move_laws.specs.RowRules.{BreaksRows}
-use Rattle.move_laws.proofs.RowLaws.{first-break}
+use Rattle.near_moves.specs.RowRules.{BreaksRows}
+use Rattle.near_moves.proofs.RowLaws.{first-break}
 use Rattle.near_draft.specs.Drafts.{Drafted, IsDraftOf, plan_of}
 
 pub broken-worse : (I : Situation) (P : PlanRows) (m : Move) (D : Drafted) → IsDraftOf I P m D → BreaksRows D.inst (plan_of D) → is_better I P m ≡ false

@@ -21,7 +21,7 @@ use Rattle.plan_reads.proofs.AfterLegLaws.{keeps_c5-after, keeps_c6-after}
 use Rattle.plan_reads.specs.Before.{IsNearest, IsLegBefore}
 use Rattle.desk_model.specs.Push.{rotation}
 use Rattle.desk_model.proofs.RotationOrder.{flown_once, precedes-trans, precedes-itself, rotation-ordered, rotation-flown, rotation-each}
-use Rattle.move_laws.specs.RowRules.{BreaksRows}
+use Rattle.near_moves.specs.RowRules.{BreaksRows}
 use Rattle.near_draft.specs.LegRules.{BreaksOf, IsLeft, keeps_leg_rules, leg_rules_after}
 
 -- leg z stands before place k

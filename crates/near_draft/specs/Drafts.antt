@@ -7,7 +7,7 @@ use Rattle.desk_data.specs.Valid.{IsRowOf}
 use Rattle.plan_moves.specs.declared.moves.Move.{Move}
 use Rattle.plan_moves.specs.declared.moves.Step.{Step}
 use Rattle.desk_model.specs.Steps.{after_steps}
-use Rattle.move_laws.specs.RowRules.{keeps_rows}
+use Rattle.near_moves.specs.RowRules.{keeps_rows}
 use Rattle.near_draft.specs.declared.change.Change.{Change}
 
 -- plan P with another row of one leg, and after some changes, one after another

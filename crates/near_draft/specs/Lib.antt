@@ -1,5 +1,5 @@
 pub use Rattle.desk_model.specs.Push
-pub use Rattle.move_laws.specs.RowRules
+pub use Rattle.near_moves.specs.RowRules
 pub mod Drafts
 pub mod Hours
 pub mod Legs

@@ -5,7 +5,7 @@ ghost use Rattle.desk_data.specs.Situation.{Situation};
 ghost use Rattle.desk_data.specs.PlanRows.{PlanRows};
 ghost use Rattle.plan_moves.specs.declared.moves.Move.{Move};
 ghost use Rattle.near_moves.specs.Descent.{is_better};
-ghost use Rattle.move_laws.specs.RowRules.{BreaksRows};
+ghost use Rattle.near_moves.specs.RowRules.{BreaksRows};
 ghost use Rattle.near_draft.specs.Drafts.{Drafted, IsDraftOf, plan_of};
 
 /// A move is not better where the plan that is drafted of its first steps breaks a rule of rows.

@@ -9,7 +9,7 @@
 //! airports, so that a Push asks it as it asks an evaluator; but no board follows, and no passenger is looked at. The
 //! steps of a move that change rows, a Set, a Push or a Swap, are taken in a draft, and the legs of the aircraft that they
 //! push are asked what C2 and C4 to C7 ask of a leg. What is broken then is broken once the passengers are tidied and
-//! refilled (move_laws).
+//! refilled (near_moves).
 //!
 //! Proved: a draft is what the steps make, and a move is not better whose draft breaks a rule. None is drafted where legs
 //! that kept their aircraft changed their order, nor with a Push or a Swap of an aircraft of more than 64 legs.

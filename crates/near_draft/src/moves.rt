@@ -5,7 +5,7 @@ ghost use Rattle.plan_moves.specs.Fits.{Fits, StepFits};
 ghost use Rattle.std.specs.List.{list_all};
 ghost use Rattle.std.specs.Option.{ForSome};
 ghost use Rattle.desk_data.specs.Situation.{legs_of, planes_of};
-ghost use Rattle.move_laws.specs.RowRules.{keeps_rows};
+ghost use Rattle.near_moves.specs.RowRules.{keeps_rows};
 ghost use Rattle.desk_model.specs.Steps.{after_steps};
 ghost use Rattle.near_draft.specs.Drafts.{IsDraftOf, plan_of};
 ghost use Rattle.near_draft.specs.LegRules.{BreaksOf, BreaksPushed};
@@ -17,7 +17,7 @@ use crate::rules::break_leg_rules;
 use crate::steps::take_step;
 use desk_data::{Leg, NoMem, Plane};
 use desk_eval::Evaluator;
-use move_laws::keeps_rows;
+use near_moves::keeps_rows;
 use plan_moves::{Move, Step};
 use std::alloc::Global;
 

@@ -30,7 +30,7 @@ use Rattle.desk_model.specs.Rebook.{count_on, passengers_on, groups_after_rebook
 use Rattle.desk_model.specs.Steps.{after_step, after_move}
 use Rattle.desk_model.proofs.GroupPlans.{with_groups-same, with_groups-other}
 use Rattle.desk_model.proofs.RebookLaws.{groups_after_rebook-adds}
-use Rattle.full_cost.specs.Amounts.{group_cost}
+use Rattle.plan_checks.specs.Amounts.{group_cost}
 use Rattle.board_cost.proofs.BalanceLaws.{groups_balance}
 use Rattle.board_seats.proofs.PlanLaws.{aboard_groups}
 use Rattle.near_moves.specs.Descent.{is_better}

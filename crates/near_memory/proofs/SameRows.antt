@@ -19,8 +19,8 @@ use Rattle.desk_rules.specs.Words.{IsFlown, TakesThere, GoesOn, ArrivesInTime}
 use Rattle.desk_rules.proofs.CarriageLaws.{reaches-holds, reaches-from}
 use Rattle.desk_model.specs.Rebook.{count_on, is_before, is_after, group_of, with_count, with_fewer, groups_after_rebook}
 use Rattle.desk_model.proofs.RebookLaws.{one_group-all}
-use Rattle.full_cost.specs.Amounts.{group_cost, path_cost, path_end}
-use Rattle.full_cost.proofs.EndLaws.{ended_is}
+use Rattle.plan_checks.specs.Amounts.{group_cost, path_cost, path_end}
+use Rattle.plan_checks.proofs.EndLaws.{ended_is}
 use Rattle.near_memory.specs.Untouched.{HasSameRows}
 
 -- ---- the rules of a path

@@ -13,3 +13,13 @@ pub mod RouteParts
 pub mod DropWords
 pub mod NeighbourhoodWords
 pub mod StepWords
+pub mod Chains
+pub mod RowRules
+pub mod WhatLeft
+pub mod LineWords
+pub mod StemWords
+pub mod Same
+pub mod Steps
+pub mod Room
+pub mod Own
+pub mod Out

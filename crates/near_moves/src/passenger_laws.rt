@@ -15,7 +15,7 @@ ghost use Rattle.near_moves.specs.Near.{moves_of};
 /// The routes of a reservation are just the paths of 1 to 8 legs that meet C13, C14 and C15 and are the
 /// scheduled path, a stem, or a stem with one leg after it, or with two legs in one cabin; and each is
 /// listed once. A stem is what of the scheduled path has begun, or just the legs that some of the passengers
-/// have flown. In which order stems and routes stand is a law of move_laws (`stems_stand_in_order`).
+/// have flown. In which order stems and routes stand is a law too (`stems_stand_in_order`).
 pub fn routes_are_the_paths_that_passengers_may_take()
     ensures all { (I : Situation) (P : PlanRows) (r : ℕ) (path : Items (Leg × Cabin)) → Contains (routes I P r) path ↔ IsRoute I P r path }
     ensures once { (I : Situation) (P : PlanRows) (r : ℕ) → AllPairs (λ a b. a ≡ b → ⊥) (routes I P r) }

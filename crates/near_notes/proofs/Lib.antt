@@ -1,3 +1,4 @@
+mod RowLaws
 pub mod PlaceLaws
 pub mod NotesLaws
 pub mod OutLaws

@@ -10,7 +10,7 @@ use Rattle.near_moves.specs.Units.{MoveUnit}
 use Rattle.near_legs.specs.Choices.{IsLegUnit, unit_of}
 use Rattle.near_legs.specs.declared.unit.LegUnit.{LegUnit}
 use Rattle.near_legs.specs.declared.unit.LegUnit.TheVariants.{Retimed, Swapped, Dropped, Restored, Handed}
-use Rattle.number_rows.specs.Rows.{number_at, IsPut}
+use Rattle.near_notes.specs.Rows.{number_at, IsPut}
 use Rattle.near_notes.specs.Places.{place, number_of, number_of_place}
 use Rattle.near_notes.specs.declared.findings.Findings.{Findings}
 use Rattle.near_notes.specs.declared.place.Place.{Place}

@@ -6,7 +6,7 @@ use Rattle.plan_moves.specs.declared.moves.Move.{Move}
 use Rattle.near_moves.specs.Near.{unit_moves}
 use Rattle.near_moves.specs.Units.{MoveUnit}
 use Rattle.near_moves.proofs.ListLaws.{All_from_contains}
-use Rattle.near_units.specs.Out.{IsOut, breaks, swaps, restores, hands}
+use Rattle.near_moves.specs.Out.{IsOut, breaks, swaps, restores, hands}
 use Rattle.near_notes.specs.Notes.{IsOutByRows, IsUnitOut, IsUnitOutByRows, breaks_rule, swaps_in_vain, restores_in_vain, hands_in_vain}
 
 pub move-out : (I : Situation) (P : PlanRows) (u : MoveUnit) (m : Move) → IsOutByRows I P u m → IsOut I P u m

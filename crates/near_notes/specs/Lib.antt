@@ -1,6 +1,6 @@
-pub use Rattle.number_rows.specs.Rows
+pub mod Rows
 pub use Rattle.near_legs.specs.Choices
-pub use Rattle.near_units.specs.Out
+pub use Rattle.near_moves.specs.Out
 pub use Rattle.desk_data.specs.Situation
 pub use Rattle.desk_data.specs.PlanRows
 pub use Rattle.near_memory.specs.Untouched

@@ -14,10 +14,10 @@ use Rattle.near_moves.specs.Units.{MoveUnit}
 use Rattle.near_legs.specs.Choices.{IsLegUnit, unit_of}
 use Rattle.near_legs.specs.declared.unit.LegUnit.{LegUnit}
 use Rattle.near_legs.specs.declared.unit.LegUnit.TheVariants.{Retimed, Swapped, Dropped, Restored, Handed}
-use Rattle.near_units.specs.Steps.{unit_planes}
-use Rattle.near_units.specs.Own.{BreaksOwn}
-use Rattle.near_units.specs.Out.{SwapsInVain, RestoresInVain, HandsInVain, IsOut}
-use Rattle.number_rows.specs.Rows.{number_at}
+use Rattle.near_moves.specs.Steps.{unit_planes}
+use Rattle.near_moves.specs.Own.{BreaksOwn}
+use Rattle.near_moves.specs.Out.{SwapsInVain, RestoresInVain, HandsInVain, IsOut}
+use Rattle.near_notes.specs.Rows.{number_at}
 use Rattle.near_notes.specs.Places.{number_of}
 use Rattle.near_notes.specs.declared.findings.Findings.{Findings}
 use Rattle.near_notes.specs.declared.notes.UnitNotes.{UnitNotes}

@@ -3,7 +3,7 @@ use Rattle.std.specs.Prelude.{ℕ, ◌+◌, ◌*◌, ◌&&◌, nat_le, if◌then
 use Rattle.near_notes.specs.declared.place.Place.{Place}
 use Rattle.near_legs.specs.declared.unit.LegUnit.{LegUnit}
 use Rattle.near_legs.specs.declared.unit.LegUnit.TheVariants.{Retimed, Swapped, Dropped, Restored, Handed}
-use Rattle.number_rows.specs.Rows.{number_at}
+use Rattle.near_notes.specs.Rows.{number_at}
 
 abbrev pub at : ℕ → ℕ → Place
 at row column = record { row = row; column = column }

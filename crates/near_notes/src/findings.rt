@@ -9,10 +9,10 @@ ghost use Rattle.near_legs.specs.Choices.{IsLegUnit};
 ghost use Rattle.near_notes.specs.Notes.{AreNone, IsNotedAt, is_before, is_noted, is_untouched_since};
 ghost use Rattle.near_notes.specs.Places.{number_of};
 
+use crate::NumberRows;
 use crate::place::{Place, place_of};
 use desk_data::{Instance, Leg, NoMem, Plane, Row};
 use near_legs::LegUnit;
-use number_rows::NumberRows;
 use plan_pages::Pages;
 use std::alloc::Global;
 

@@ -1,6 +1,17 @@
 //! What a search notes of a plan: rebookings and units of legs that are not better; and which notes of rebookings hold at a
 //! later plan.
 //!
+//! # Numbers in rows
+//!
+//! Numbers in rows and columns, most of which are 0.
+//!
+//!     let mut numbers = NumberRows::zeros(alloc, rows)?;
+//!     numbers.put(row, column, 7)?;          // a row takes memory for up to twice its last column that was put
+//!     numbers.at(row, column)                // 7
+//!     numbers.at(row, column + 1)            // 0
+//!
+//! Proved: a number that is put stands at its place, and all others stay.
+//!
 //! # Notes of units of legs
 //!
 //! What is noted of the units of legs: of which of them it is known why none of their moves is better.
@@ -21,7 +32,7 @@
 //! Units are noted in one of two tables. Those that are out by rows alone stay out where passengers alone change, as they do by
 //! a rebooking; of the others, those that refill no leg hang on fewer passengers than those that refill one.
 //!
-//! Proved: what is known of a unit is true at the plan of the notes (`AreUnitNotes`), as `near_units` says it. What holds
+//! Proved: what is known of a unit is true at the plan of the notes (`AreUnitNotes`), as `near_moves` says it. What holds
 //! at a later plan near_untouched says.
 //!
 //! # Notes of a day
@@ -68,6 +79,7 @@ mod notes;
 mod notes_of_day;
 mod onward;
 mod place;
+mod rows;
 mod untouched;
 
 pub use findings::Findings;
@@ -76,3 +88,4 @@ pub use near_legs::LegUnit;
 pub use noted::NotedDay;
 pub use notes::{Shard, UnitNotes};
 pub use notes_of_day::Notes;
+pub use rows::NumberRows;

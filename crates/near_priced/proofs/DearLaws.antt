@@ -13,13 +13,13 @@ use Rattle.desk_rules.specs.Numbers.{numbers}
 use Rattle.desk_rules.specs.Least.{least}
 use Rattle.desk_rules.specs.Cost.{cost, operating_cost, position_cost}
 use Rattle.desk_model.specs.Steps.{after_steps, after_move}
-use Rattle.full_cost.specs.Amounts.{reservation_cost}
+use Rattle.plan_checks.specs.Amounts.{reservation_cost}
 use Rattle.board_cost.proofs.BalanceLaws.{cost_is}
 use Rattle.board_kit.proofs.SumLaws.{sum_same}
 use Rattle.near_moves.specs.Descent.{is_better}
-use Rattle.move_laws.proofs.KeptLaws.{steps-append}
-use Rattle.move_laws.specs.RowRules.{keeps_rows}
-use Rattle.move_laws.proofs.RowLaws.{steps-rows}
+use Rattle.near_moves.proofs.KeptLaws.{steps-append}
+use Rattle.near_moves.specs.RowRules.{keeps_rows}
+use Rattle.near_moves.proofs.RowLaws.{steps-rows}
 use Rattle.near_untouched.specs.Alone.{IsLeftAlone, cost_of_some}
 use Rattle.near_untouched.proofs.AloneLaws.{left-alone, flying-same, positions-same}
 

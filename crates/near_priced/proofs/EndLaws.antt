@@ -20,12 +20,12 @@ use Rattle.desk_model.proofs.ValidLaws.{with_row-valid}
 use Rattle.desk_model.proofs.RotationOrder.{Contains-head, Contains-tail, precedes-trans, precedes-itself}
 use Rattle.plan_reads.specs.Last.{IsLastOf, stand}
 use Rattle.plan_reads.specs.declared.rotation_leg.RotationLeg.{RotationLeg}
-use Rattle.full_cost.specs.Stands.{end_of, is_there}
+use Rattle.plan_checks.specs.Stands.{end_of, is_there}
 use Rattle.board_kit.proofs.RowLaws.{row_here, row_there}
 use Rattle.board_kit.proofs.SumLaws.{one_if, filter_change}
 use Rattle.board_cost.proofs.HandLaws.{hand_few}
-use Rattle.near_units.specs.Same.{FliesSame}
-use Rattle.near_units.proofs.RuleLaws.{left_at-same}
+use Rattle.near_moves.specs.Same.{FliesSame}
+use Rattle.near_moves.proofs.RuleLaws.{left_at-same}
 use Rattle.near_priced.specs.Unpaid.{is_either}
 use Rattle.near_priced.proofs.PayerLaws.{ends-is}
 use Rattle.near_draft.specs.declared.change.Change.{Change}

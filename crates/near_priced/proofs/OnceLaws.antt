@@ -21,8 +21,8 @@ use Rattle.desk_model.specs.Swap.{after_swap}
 use Rattle.desk_model.specs.Steps.{after_set, after_step, after_steps, after_move}
 use Rattle.desk_model.proofs.PushLaws.{after_push-groups}
 use Rattle.desk_model.proofs.SwapLaws.{after_swap-groups}
-use Rattle.move_laws.specs.RowRules.{keeps_rows}
-use Rattle.move_laws.proofs.RowLaws.{steps-rows}
+use Rattle.near_moves.specs.RowRules.{keeps_rows}
+use Rattle.near_moves.proofs.RowLaws.{steps-rows}
 use Rattle.near_draft.specs.Drafts.{AreAllChanged, Drafted, IsDraftOf, plan_of}
 use Rattle.near_draft.specs.Legs.{numbers_of}
 use Rattle.near_draft.proofs.ChangeLaws.{drafted-groups}

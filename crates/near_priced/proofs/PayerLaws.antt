@@ -26,10 +26,10 @@ use Rattle.desk_rules.specs.Cost.{cost, grains, is_wanted, ends_at, at_hand}
 use Rattle.desk_model.specs.Refill.{has_leg}
 use Rattle.plan_reads.specs.Last.{IsLastOf, stand}
 use Rattle.plan_reads.proofs.LastLaws.{left_asked}
-use Rattle.full_cost.specs.Amounts.{reservation_cost}
-use Rattle.full_cost.specs.Stands.{end_of, is_there}
+use Rattle.plan_checks.specs.Amounts.{reservation_cost}
+use Rattle.plan_checks.specs.Stands.{end_of, is_there}
 use Rattle.desk_model.specs.Steps.{after_move}
-use Rattle.move_laws.specs.RowRules.{keeps_rows}
+use Rattle.near_moves.specs.RowRules.{keeps_rows}
 use Rattle.near_untouched.specs.Alone.{leaves_alone}
 use Rattle.near_untouched.specs.Planes.{is_on}
 use Rattle.near_priced.specs.declared.payers.Payers.{Payers}

@@ -20,11 +20,11 @@ use Rattle.desk_rules.specs.Least.{least}
 use Rattle.desk_rules.specs.Cost.{cost, operating_cost, position_cost}
 use Rattle.desk_model.specs.Refill.{has_leg}
 use Rattle.desk_model.specs.Steps.{after_steps, after_move}
-use Rattle.full_cost.specs.Amounts.{reservation_cost}
+use Rattle.plan_checks.specs.Amounts.{reservation_cost}
 use Rattle.board_cost.proofs.BalanceLaws.{cost_is}
 use Rattle.board_kit.specs.Users.{uses, is_booked_on}
 use Rattle.near_moves.specs.Descent.{is_better}
-use Rattle.move_laws.specs.RowRules.{keeps_rows}
+use Rattle.near_moves.specs.RowRules.{keeps_rows}
 use Rattle.near_untouched.specs.Alone.{IsLeftAlone, leaves_alone, cost_of_some}
 use Rattle.near_priced.proofs.DearLaws.{saves-dear, dear-worse}
 use Rattle.near_draft.specs.Drafts.{AreAllChanged}

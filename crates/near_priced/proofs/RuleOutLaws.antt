@@ -14,7 +14,7 @@ use Rattle.plan_moves.specs.declared.moves.Step.TheVariants.{Set, Push, Swap, Re
 use Rattle.desk_rules.specs.Least.{least}
 use Rattle.desk_rules.specs.Cost.{cost, operating_cost, position_cost}
 use Rattle.desk_model.specs.Steps.{after_steps, after_move}
-use Rattle.move_laws.specs.RowRules.{keeps_rows}
+use Rattle.near_moves.specs.RowRules.{keeps_rows}
 use Rattle.near_draft.specs.Drafts.{AreAllChanged, Drafted, IsDraftOf, plan_of}
 use Rattle.near_draft.specs.Legs.{numbers_of}
 use Rattle.near_draft.proofs.ChangeLaws.{drafted-groups}

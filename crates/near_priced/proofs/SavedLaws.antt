@@ -31,12 +31,12 @@ use Rattle.desk_model.specs.Refill.{is_refilled, after_refill}
 use Rattle.desk_model.specs.Steps.{after_step, after_steps, after_move}
 use Rattle.desk_model.proofs.TidyLaws.{after_tidy-at, after_tidy-valid}
 use Rattle.desk_model.proofs.RefillLaws.{after_refill-valid, after_refill-refills}
-use Rattle.full_cost.specs.Amounts.{group_cost, reservation_cost}
-use Rattle.full_cost.proofs.GroupLaws.{uncarried_is}
+use Rattle.plan_checks.specs.Amounts.{group_cost, reservation_cost}
+use Rattle.plan_checks.proofs.GroupLaws.{uncarried_is}
 use Rattle.board_cost.proofs.BalanceLaws.{cost_is}
 use Rattle.board_kit.specs.Users.{uses, is_booked_on}
 use Rattle.near_moves.specs.Descent.{is_better}
-use Rattle.move_laws.proofs.RowLaws.{steps-rows}
+use Rattle.near_moves.proofs.RowLaws.{steps-rows}
 use Rattle.near_untouched.proofs.AloneLaws.{left-alone, flying-same, positions-same}
 use Rattle.near_priced.proofs.DearLaws.{dear-worse}
 use Rattle.near_draft.specs.Drafts.{AreAllChanged}

@@ -11,8 +11,8 @@ use Rattle.desk_data.specs.Situation.{Situation, reservations_of}
 use Rattle.desk_data.specs.PlanRows.{PlanRows, groups_at}
 use Rattle.desk_rules.specs.Cost.{arrives}
 use Rattle.desk_rules.specs.Numbers.{numbers}
-use Rattle.full_cost.specs.Amounts.{group_cost, path_cost, path_end}
-use Rattle.full_cost.proofs.EndLaws.{ended_is}
+use Rattle.plan_checks.specs.Amounts.{group_cost, path_cost, path_end}
+use Rattle.plan_checks.proofs.EndLaws.{ended_is}
 use Rattle.board_kit.specs.Users.{HasUsers, has_user, users_at, uses}
 use Rattle.near_priced.specs.Saved.{least_of, least_after, saved_by, saved_on, uncarried_cost}
 use Rattle.near_priced.proofs.PricedLaws.{some_of, any-le}

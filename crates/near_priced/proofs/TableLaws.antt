@@ -16,8 +16,8 @@ use Rattle.desk_data.specs.PlanRows.{PlanRows, groups_at}
 use Rattle.desk_data.specs.Valid.{IsPlanFor, IsValid}
 use Rattle.desk_rules.specs.Numbers.{numbers}
 use Rattle.desk_model.specs.Refill.{has_leg}
-use Rattle.full_cost.specs.Amounts.{reservation_cost}
-use Rattle.full_cost.proofs.GroupLaws.{passenger_most, reservations-le}
+use Rattle.plan_checks.specs.Amounts.{reservation_cost}
+use Rattle.plan_checks.proofs.GroupLaws.{passenger_most, reservations-le}
 use Rattle.board_kit.specs.Users.{uses, is_booked_on}
 use Rattle.near_priced.specs.Tables.{amount, AreNoLess, IsGrown, AreGrown, paid_first, AreAmounts}
 

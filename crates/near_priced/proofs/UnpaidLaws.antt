@@ -36,20 +36,20 @@ use Rattle.desk_model.proofs.SetLaws.{with_row-same, with_row-other}
 use Rattle.desk_model.proofs.SwapLaws.{after_swap-row}
 use Rattle.desk_model.proofs.MoveLaws.{after_steps-valid}
 use Rattle.hour_counts.proofs.FlownLaws.{pushed-flies}
-use Rattle.full_cost.specs.Amounts.{reservation_cost}
+use Rattle.plan_checks.specs.Amounts.{reservation_cost}
 use Rattle.board_kit.proofs.SumLaws.{sum_same, sum_change}
 use Rattle.board_cost.proofs.BalanceLaws.{cost_is}
 use Rattle.near_moves.specs.MoveParts.{flier}
 use Rattle.near_moves.specs.Descent.{is_better}
 use Rattle.near_moves.proofs.FromLaws.{or_cases, or_left}
-use Rattle.move_laws.specs.RowRules.{keeps_rows}
+use Rattle.near_moves.specs.RowRules.{keeps_rows}
 use Rattle.near_untouched.specs.Alone.{IsLeftAlone, leaves_alone, cost_of_some}
-use Rattle.near_units.specs.Same.{is_of, IsOwn, AgreeOn, FliesSame}
-use Rattle.near_units.specs.Steps.{is_among}
-use Rattle.near_units.specs.Room.{IsSameRoom, HaveSameRoom, AreMadeAlike}
-use Rattle.near_units.proofs.FrameLaws.{steps-alike, start-alike}
-use Rattle.near_units.proofs.MoveLaws.{flier-flies}
-use Rattle.near_units.proofs.RuleLaws.{left_at-same}
+use Rattle.near_moves.specs.Same.{is_of, IsOwn, AgreeOn, FliesSame}
+use Rattle.near_moves.specs.Steps.{is_among}
+use Rattle.near_moves.specs.Room.{IsSameRoom, HaveSameRoom, AreMadeAlike}
+use Rattle.near_moves.proofs.FrameLaws.{steps-alike, start-alike}
+use Rattle.near_moves.proofs.MoveLaws.{flier-flies}
+use Rattle.near_moves.proofs.RuleLaws.{left_at-same}
 use Rattle.near_untouched.specs.Planes.{is_on}
 use Rattle.near_priced.proofs.DearLaws.{saves-dear, dear-worse}
 use Rattle.near_priced.specs.Unpaid.{is_either, is_own_leg, flies_on, HasNoneToSave, may_serve, services, saved_by_ending, flown_again}

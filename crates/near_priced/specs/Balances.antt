@@ -5,7 +5,7 @@ use Rattle.desk_data.specs.declared.info.PositionInfo.{PositionInfo}
 use Rattle.desk_data.specs.Situation.{Situation, plane_at}
 use Rattle.desk_data.specs.PlanRows.{PlanRows}
 use Rattle.desk_rules.specs.Cost.{is_wanted, operating_cost, position_cost}
-use Rattle.full_cost.specs.Stands.{end_of, is_there}
+use Rattle.plan_checks.specs.Stands.{end_of, is_there}
 use Rattle.near_priced.specs.declared.balance.Balance.{Balance}
 
 -- 1 where aircraft p is of the kind that a position wants, and ends there after a leg, else 0

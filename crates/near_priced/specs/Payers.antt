@@ -10,7 +10,7 @@ use Rattle.plan_moves.specs.declared.moves.Step.{Step}
 use Rattle.plan_moves.specs.declared.moves.Step.TheVariants.{Set, Push, Swap, Rebook, Tidy, Refill}
 use Rattle.desk_rules.specs.Cost.{grains}
 use Rattle.desk_rules.specs.Maintenance.{flies}
-use Rattle.full_cost.specs.Amounts.{reservation_cost}
+use Rattle.plan_checks.specs.Amounts.{reservation_cost}
 use Rattle.near_priced.specs.Unpaid.{services}
 use Rattle.near_priced.specs.declared.payers.Payers.{Payers}
 

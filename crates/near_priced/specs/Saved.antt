@@ -11,7 +11,7 @@ use Rattle.plan_moves.specs.declared.moves.Step.{Step}
 use Rattle.plan_moves.specs.declared.moves.Step.TheVariants.{Set, Push, Swap, Rebook, Tidy, Refill}
 use Rattle.desk_rules.specs.Numbers.{numbers}
 use Rattle.desk_rules.specs.Cost.{arrives, legal_uncarried}
-use Rattle.full_cost.specs.Amounts.{cancellation_uncarried, group_cost, reservation_cost}
+use Rattle.plan_checks.specs.Amounts.{cancellation_uncarried, group_cost, reservation_cost}
 use Rattle.board_kit.specs.Users.{uses}
 
 -- what so many passengers of reservation r cost who are not carried

@@ -9,7 +9,7 @@ use Rattle.plan_moves.specs.declared.moves.Step.{Step}
 use Rattle.plan_moves.specs.declared.moves.Step.TheVariants.{Set, Push, Swap, Rebook, Tidy, Refill}
 use Rattle.desk_rules.specs.Numbers.{numbers}
 use Rattle.desk_rules.specs.Cost.{at_hand, ends_at, is_wanted}
-use Rattle.full_cost.specs.Amounts.{reservation_cost}
+use Rattle.plan_checks.specs.Amounts.{reservation_cost}
 use Rattle.plan_reads.specs.Last.{AreLasts}
 use Rattle.board_kit.specs.Users.{HasUsers, has_user, uses, is_booked_on}
 use Rattle.near_priced.specs.Payers.{AreCosts}

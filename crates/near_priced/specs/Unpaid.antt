@@ -13,9 +13,9 @@ use Rattle.plan_moves.specs.declared.moves.Step.TheVariants.{Set, Push, Swap, Re
 use Rattle.desk_rules.specs.Passengers.{is_flown}
 use Rattle.desk_rules.specs.Maintenance.{flies}
 use Rattle.desk_rules.specs.Cost.{weight, rows_of, by_item, operating_of, is_wanted, ends_at, at_hand}
-use Rattle.full_cost.specs.Amounts.{reservation_cost}
+use Rattle.plan_checks.specs.Amounts.{reservation_cost}
 use Rattle.near_untouched.specs.Alone.{leaves_alone}
-use Rattle.near_units.specs.Same.{is_of}
+use Rattle.near_moves.specs.Same.{is_of}
 use Rattle.near_untouched.specs.Planes.{is_on}
 
 -- whether an aircraft is one of two

@@ -16,8 +16,8 @@ use crate::hands::stands_ready;
 use crate::payments::Payments;
 use desk_data::{Instance, Leg, PositionInfo, Term};
 use desk_units::per_item;
-use full_cost::flight_cost;
 use near_draft::Draft;
+use plan_checks::flight_cost;
 use plan_pages::Pages;
 use plan_reads::stand_of;
 

@@ -4,7 +4,7 @@ ghost use Rattle.std.specs.Prelude.{◌≡◌, ◌<◌, ◌&&◌, IfOk, length, 
 ghost use Rattle.std.specs.Option.{ForSome};
 ghost use Rattle.desk_data.specs.Situation.{legs_of, plane_at, planes_of};
 ghost use Rattle.desk_rules.specs.Cost.{at_hand, is_wanted};
-ghost use Rattle.full_cost.specs.Stands.{end_of, is_there};
+ghost use Rattle.plan_checks.specs.Stands.{end_of, is_there};
 ghost use Rattle.plan_reads.specs.Last.{AreLasts, IsLastOf};
 ghost use Rattle.near_priced.specs.Tables.{is_hand};
 

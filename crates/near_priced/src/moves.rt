@@ -11,15 +11,15 @@ ghost use Rattle.desk_rules.specs.Cost.{cost};
 ghost use Rattle.desk_rules.specs.Least.{least};
 ghost use Rattle.desk_model.specs.Steps.{after_move};
 ghost use Rattle.desk_rules.specs.Passengers.{is_flown};
-ghost use Rattle.near_units.specs.Same.{is_of};
+ghost use Rattle.near_moves.specs.Same.{is_of};
 ghost use Rattle.near_priced.specs.Unpaid.{flies_on, flown_again, is_either, is_own_leg, saved_by_ending, services};
 ghost use Rattle.near_priced.specs.Payers.{ArePayers, is_marked, spares};
 
 use crate::payers::Payers;
 use desk_data::{Grains, Instance, Leg, Plane, Row, Term};
 use desk_units::per_item;
-use full_cost::flight_cost;
-use move_laws::keeps_rows;
+use near_moves::keeps_rows;
+use plan_checks::flight_cost;
 use plan_moves::{Move, Step};
 use plan_pages::Pages;
 use plan_reads::is_flown;

@@ -4,12 +4,12 @@ ghost use Rattle.std.specs.Prelude.{◌≡◌, ◌<◌, IfOk};
 ghost use Rattle.desk_data.specs.Situation.{reservations_of};
 ghost use Rattle.desk_data.specs.Valid.{IsPlanFor};
 ghost use Rattle.desk_rules.specs.Cost.{grains};
-ghost use Rattle.full_cost.specs.Amounts.{group_cost, reservation_cost};
-ghost use Rattle.full_cost.specs.Counted.{IsGroupOf, group_on};
+ghost use Rattle.plan_checks.specs.Amounts.{group_cost, reservation_cost};
+ghost use Rattle.plan_checks.specs.Counted.{IsGroupOf, group_on};
 ghost use Rattle.near_priced.specs.Payers.{AreCosts};
 
 use desk_data::{Cabin, Grains, Instance, Leg, NoMem, Res};
-use full_cost::{path_cost, path_end};
+use plan_checks::{path_cost, path_end};
 use plan_pages::Pages;
 use std::alloc::Global;
 

@@ -4,7 +4,7 @@ ghost use Rattle.std.specs.Prelude.{◌≡◌, ◌+◌, ◌-◌, ◌<◌, ◌≤
 ghost use Rattle.std.specs.Option.{ForSome};
 ghost use Rattle.desk_data.specs.Situation.{Situation, legs_of, reservations_of};
 ghost use Rattle.desk_data.specs.Valid.{IsPlanFor};
-ghost use Rattle.full_cost.specs.Counted.{IsGroupOf, group_on};
+ghost use Rattle.plan_checks.specs.Counted.{IsGroupOf, group_on};
 ghost use Rattle.near_draft.specs.Drafts.{plan_of};
 ghost use Rattle.near_priced.specs.Saved.{least_after, least_of, saved_by, saved_on, uncarried_cost};
 ghost use Rattle.near_priced.specs.Tables.{ArePayments};
@@ -13,8 +13,8 @@ use crate::cost_of;
 use crate::left::take_off;
 use crate::payments::Payments;
 use desk_data::{Cabin, Instance, Leg, Res};
-use full_cost::{path_cost, path_end};
 use near_draft::Draft;
+use plan_checks::{path_cost, path_end};
 use plan_pages::Pages;
 use plan_reads::ReadPlan;
 
@@ -114,7 +114,7 @@ fn least_of(inst: &Instance, draft: &Draft, res: Res, path: &[(Leg, Cabin)], cou
 }
 
 /// What so many passengers of a reservation cost who are not carried.
-#[tactic(auto, unfolding(full_cost::specs::Amounts::path_cost))]
+#[tactic(auto, unfolding(plan_checks::specs::Amounts::path_cost))]
 fn uncarried(inst: &Instance, res: Res, count: u32) -> u128
     requires res { res.0 < reservations_of inst.now }
     requires count { count ≤ 1000 }

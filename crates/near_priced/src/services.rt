@@ -6,7 +6,7 @@ ghost use Rattle.desk_data.specs.Situation.{legs_of, plane_at, planes_of};
 ghost use Rattle.desk_data.specs.Valid.{IsPlanFor};
 ghost use Rattle.desk_rules.specs.Cost.{is_wanted};
 ghost use Rattle.plan_reads.specs.Last.{AreLasts, IsLastOf};
-ghost use Rattle.full_cost.specs.Stands.{end_of, is_there};
+ghost use Rattle.plan_checks.specs.Stands.{end_of, is_there};
 ghost use Rattle.near_priced.specs.Unpaid.{services};
 
 use desk_data::{Airport, Instance, Leg, NoMem, Plane, PlaneInfo, PositionInfo};

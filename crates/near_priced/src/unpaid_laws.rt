@@ -10,7 +10,7 @@ ghost use Rattle.plan_moves.specs.declared.moves.Move.{Move};
 ghost use Rattle.plan_moves.specs.declared.moves.Step.{Step};
 ghost use Rattle.desk_rules.specs.Least.{least};
 ghost use Rattle.near_moves.specs.Descent.{is_better};
-ghost use Rattle.move_laws.specs.RowRules.{keeps_rows};
+ghost use Rattle.near_moves.specs.RowRules.{keeps_rows};
 ghost use Rattle.near_priced.specs.Unpaid.{HasNoneToSave, flies_on, flown_again, saved_by_ending};
 
 /// A move of a feasible plan is not better where its first steps fly legs of two aircraft on, which cost as much by the

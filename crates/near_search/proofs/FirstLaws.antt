@@ -20,7 +20,7 @@ use Rattle.desk_rules.specs.Least.{least}
 use Rattle.desk_rules.specs.Cost.{cost}
 use Rattle.desk_model.specs.Rebook.{count_on}
 use Rattle.desk_model.specs.Steps.{after_step, after_steps, after_move}
-use Rattle.full_cost.specs.Amounts.{passenger_cost}
+use Rattle.plan_checks.specs.Amounts.{passenger_cost}
 use Rattle.near_moves.specs.PassengerMoves.{aims, portions, rebooking, rebookings}
 use Rattle.near_moves.specs.Units.{rebooked}
 use Rattle.near_moves.specs.Near.{leg_units, units, unit_steps, unit_moves, moves_of, of_shard, shard, move_of, step_in_time}

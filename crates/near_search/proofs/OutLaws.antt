@@ -25,25 +25,25 @@ use Rattle.near_moves.specs.Near.{unit_moves}
 use Rattle.near_moves.specs.Units.{MoveUnit}
 use Rattle.near_moves.proofs.FromLaws.{or_cases}
 use Rattle.near_moves.proofs.ListLaws.{All_from_contains, contains_head}
-use Rattle.move_laws.specs.Chains.{keeps_aircraft, IsRestoredInVain, IsSwappedInVain}
-use Rattle.move_laws.proofs.KeptLaws.{steps-append}
-use Rattle.move_laws.proofs.RestoreLaws.{restored_in_vain}
-use Rattle.move_laws.proofs.SwapLaws.{swapped_in_vain}
-use Rattle.move_laws.specs.RowRules.{keeps_rows}
-use Rattle.move_laws.proofs.RowLaws.{steps-rows}
+use Rattle.near_moves.specs.Chains.{keeps_aircraft, IsRestoredInVain, IsSwappedInVain}
+use Rattle.near_moves.proofs.KeptLaws.{steps-append}
+use Rattle.near_moves.proofs.RestoreLaws.{restored_in_vain}
+use Rattle.near_moves.proofs.SwapLaws.{swapped_in_vain}
+use Rattle.near_moves.specs.RowRules.{keeps_rows}
+use Rattle.near_moves.proofs.RowLaws.{steps-rows}
 use Rattle.near_draft.specs.Drafts.{Drafted, IsDraftOf, plan_of}
 use Rattle.near_draft.specs.LegRules.{BreaksOf, BreaksPushed, keeps_leg_rules}
 use Rattle.near_legs.specs.Choices.{IsLegUnit, unit_of}
 use Rattle.near_legs.specs.declared.unit.LegUnit.{LegUnit}
 use Rattle.near_legs.specs.declared.unit.LegUnit.TheVariants.{Retimed, Swapped, Dropped, Restored, Handed}
-use Rattle.near_units.specs.Own.{BreaksOwn, keeps_own_rules}
-use Rattle.near_units.specs.Out.{HandsInVain, IsOut, dear}
-use Rattle.near_units.specs.Same.{FliesSame, is_of}
-use Rattle.near_units.specs.Steps.{BeginsFlown, IsSplit, is_among, is_tidying, unit_legs, unit_planes, unit_refills}
-use Rattle.near_units.proofs.OutLaws.{unit-worse}
-use Rattle.near_units.proofs.OwnLaws.{breaks-worse}
-use Rattle.near_units.proofs.RuleLaws.{c2-same, c4-same, c5-same, c6-same, c7-same}
-use Rattle.near_units.proofs.SplitLaws.{moves-split}
+use Rattle.near_moves.specs.Own.{BreaksOwn, keeps_own_rules}
+use Rattle.near_moves.specs.Out.{HandsInVain, IsOut, dear}
+use Rattle.near_moves.specs.Same.{FliesSame, is_of}
+use Rattle.near_moves.specs.Steps.{BeginsFlown, IsSplit, is_among, is_tidying, unit_legs, unit_planes, unit_refills}
+use Rattle.near_moves.proofs.OutLaws.{unit-worse}
+use Rattle.near_moves.proofs.OwnLaws.{breaks-worse}
+use Rattle.near_moves.proofs.RuleLaws.{c2-same, c4-same, c5-same, c6-same, c7-same}
+use Rattle.near_moves.proofs.SplitLaws.{moves-split}
 use Rattle.near_dear.specs.Dear.{IsDearExchange}
 use Rattle.near_dear.proofs.TimeLaws.{exchange-out, exchange-worse}
 use Rattle.near_notes.specs.Notes.{IsOutByRows, IsUnitOut, IsUnitOutByRows, breaks_rule, swaps_in_vain, restores_in_vain, hands_in_vain}

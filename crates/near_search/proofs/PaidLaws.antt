@@ -20,9 +20,9 @@ use Rattle.desk_model.specs.Rebook.{count_on, is_before, is_after, group_of, wit
 use Rattle.desk_data.proofs.PathOrder.{by_order, path_same}
 use Rattle.desk_model.proofs.RebookLaws.{amount}
 use Rattle.desk_model.proofs.GroupPlans.{with_groups-same, with_groups-other}
-use Rattle.full_cost.specs.Counted.{group_on}
-use Rattle.full_cost.specs.Amounts.{group_cost, reservation_cost, passenger_cost}
-use Rattle.full_cost.proofs.GroupLaws.{reservations_are}
+use Rattle.plan_checks.specs.Counted.{group_on}
+use Rattle.plan_checks.specs.Amounts.{group_cost, reservation_cost, passenger_cost}
+use Rattle.plan_checks.proofs.GroupLaws.{reservations_are}
 
 -- ---- so many passengers cost so many times what one costs
 

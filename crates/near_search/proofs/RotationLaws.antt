@@ -18,10 +18,10 @@ use Rattle.desk_model.specs.Push.{rotation}
 use Rattle.desk_model.proofs.GroupPlans.{numbers-at}
 use Rattle.near_moves.specs.MoveParts.{run}
 use Rattle.near_moves.proofs.ListLaws.{contains_head, contains_tail}
-use Rattle.move_laws.proofs.TallyLaws.{AreApart, apart-rest}
-use Rattle.move_laws.specs.Chains.{led, to_airport}
-use Rattle.move_laws.proofs.ChainLaws.{led-append, led-end, rotation-apart}
-use Rattle.move_laws.proofs.HandLaws.{from-last}
+use Rattle.near_moves.proofs.TallyLaws.{AreApart, apart-rest}
+use Rattle.near_moves.specs.Chains.{led, to_airport}
+use Rattle.near_moves.proofs.ChainLaws.{led-append, led-end, rotation-apart}
+use Rattle.near_moves.proofs.HandLaws.{from-last}
 use Rattle.near_search.specs.Rotations.{from_leg, numbers_of}
 
 -- ---- the legs of each aircraft at its place

@@ -13,7 +13,7 @@ use Rattle.desk_rules.proofs.MaintenanceLaws.{flies-holds}
 use Rattle.near_moves.specs.Descent.{is_better}
 use Rattle.near_moves.specs.Near.{unit_moves}
 use Rattle.near_moves.specs.Units.{MoveUnit}
-use Rattle.move_laws.specs.Chains.{IsHandedInVain, from_airport, run_leads_to, stand}
+use Rattle.near_moves.specs.Chains.{IsHandedInVain, from_airport, run_leads_to, stand}
 use Rattle.near_search.proofs.PassedLaws.{find_none}
 
 pub none_left : {X : Type 0} (o : Option X) → is_none o ≡ true → o ≡ None

@@ -7,8 +7,8 @@ use Rattle.plan_moves.specs.declared.moves.Move.{Move}
 use Rattle.near_moves.specs.Descent.{is_better}
 use Rattle.near_moves.specs.Near.{unit_moves}
 use Rattle.near_moves.specs.Units.{MoveUnit}
-use Rattle.near_units.specs.Steps.{BeginsFlown}
-use Rattle.near_units.specs.Out.{IsOut}
+use Rattle.near_moves.specs.Steps.{BeginsFlown}
+use Rattle.near_moves.specs.Out.{IsOut}
 use Rattle.near_notes.specs.Notes.{IsOutByRows}
 use Rattle.near_search.specs.declared.verdict.Verdict.{Verdict}
 

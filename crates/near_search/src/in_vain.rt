@@ -10,8 +10,8 @@ ghost use Rattle.desk_data.specs.Situation.{legs_of, plane_at, planes_of};
 ghost use Rattle.desk_data.specs.Valid.{IsRowOf};
 ghost use Rattle.desk_rules.specs.Maintenance.{flies};
 ghost use Rattle.near_legs.specs.Choices.{IsLegUnit, unit_of};
-ghost use Rattle.move_laws.specs.Chains.{IsHandedInVain, IsRestoredInVain, IsSwappedInVain, keeps_aircraft};
-ghost use Rattle.near_units.specs.Out.{HandsInVain};
+ghost use Rattle.near_moves.specs.Chains.{IsHandedInVain, IsRestoredInVain, IsSwappedInVain, keeps_aircraft};
+ghost use Rattle.near_moves.specs.Out.{HandsInVain};
 ghost use Rattle.near_search.specs.Out.{IsRuledOutByRows};
 ghost use Rattle.near_search.specs.Rotations.{AreRotations};
 

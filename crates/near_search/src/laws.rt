@@ -10,7 +10,7 @@ ghost use Rattle.desk_data.specs.Situation.{Situation};
 ghost use Rattle.desk_data.specs.PlanRows.{PlanRows};
 ghost use Rattle.desk_rules.specs.Cost.{cost};
 ghost use Rattle.desk_model.specs.Rebook.{after_rebook};
-ghost use Rattle.full_cost.specs.Amounts.{passenger_cost};
+ghost use Rattle.plan_checks.specs.Amounts.{passenger_cost};
 ghost use Rattle.near_moves.specs.Near.{shard, unit_moves};
 ghost use Rattle.near_moves.specs.Units.{rebooked};
 ghost use Rattle.near_moves.specs.Descent.{is_better};

@@ -10,9 +10,9 @@
 //! back. Before that it is asked whether it is known not to be better, which is worth while where that takes less than to try
 //! the move, and may always be answered by no.
 //!
-//! - A run of legs that is handed on in vain (`move_laws`) is passed over before its move is made, and a path that costs a
+//! - A run of legs that is handed on in vain (`near_moves`) is passed over before its move is made, and a path that costs a
 //!   passenger nothing before the moves off it are made.
-//! - By its steps are told: a move whose first step gives legs in vain (`move_laws`); an exchange of the legs of two aircraft,
+//! - By its steps are told: a move whose first step gives legs in vain (`near_moves`); an exchange of the legs of two aircraft,
 //!   a leg that is flown again and a run that is cancelled that cost at least as much as they save at most (`near_dear`); and a
 //!   move on whose aircraft nobody pays (`near_priced`).
 //! - By a draft of its rows (`near_draft`) is told one that costs at least as much more as those pay whom it touches

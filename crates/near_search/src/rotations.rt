@@ -6,7 +6,7 @@ ghost use Rattle.desk_data.specs.PlanRows.{PlanRows};
 ghost use Rattle.desk_rules.specs.Maintenance.{flies};
 ghost use Rattle.desk_rules.specs.Rotations.{dep};
 ghost use Rattle.desk_model.specs.Push.{rotation};
-ghost use Rattle.move_laws.specs.Chains.{led, run_leads_to, stand, stand_before};
+ghost use Rattle.near_moves.specs.Chains.{led, run_leads_to, stand, stand_before};
 ghost use Rattle.near_search.specs.Rotations.{AreRotations, from_leg};
 
 use crate::times::times_of;

@@ -8,7 +8,7 @@ ghost use Rattle.desk_data.specs.PlanRows.{groups_at};
 ghost use Rattle.desk_rules.specs.Cost.{cost};
 ghost use Rattle.desk_model.specs.Steps.{after_step};
 ghost use Rattle.near_pax.specs.Units.{path_at};
-ghost use Rattle.full_cost.specs.Amounts.{passenger_cost};
+ghost use Rattle.plan_checks.specs.Amounts.{passenger_cost};
 ghost use Rattle.near_search.specs.Out.{IsRuledOut};
 ghost use Rattle.near_search.specs.Rotations.{AreRotations};
 
@@ -18,7 +18,7 @@ use crate::restores::restore_dearly;
 use crate::rotations::Rotations;
 use desk_data::{Path, Res};
 use desk_eval::Evaluator;
-use full_cost::passenger_cost;
+use plan_checks::passenger_cost;
 use plan_moves::{Move, Step};
 
 /// Whether it is known without trying it that a move is not better, and why: it has one step, and that makes the plan no

@@ -22,8 +22,8 @@ use Rattle.near_moves.specs.MoveParts.{leg, is_restorable}
 use Rattle.near_moves.specs.LegMoves.{brings_back, back_within}
 use Rattle.near_moves.specs.Units.{restored}
 use Rattle.near_moves.proofs.ListLaws.{contains_filter, numbers_each, filter_yes, filter_no}
-use Rattle.near_units.specs.Steps.{unit_restores}
-use Rattle.near_units.proofs.FrameLaws.{count-weaker, count-split}
+use Rattle.near_moves.specs.Steps.{unit_restores}
+use Rattle.near_moves.proofs.FrameLaws.{count-weaker, count-split}
 use Rattle.near_untouched.specs.Planes.{IsUntouchedAgain}
 use Rattle.near_untouched.specs.Marks.{is_marked, AreChanged, HoldsOf}
 use Rattle.near_untouched.specs.Hours.{margin}

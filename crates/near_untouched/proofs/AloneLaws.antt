@@ -32,14 +32,14 @@ use Rattle.desk_model.specs.Steps.{after_step, after_steps, after_move}
 use Rattle.desk_model.proofs.TidyLaws.{after_tidy-at, after_tidy-valid, after_tidy-rows}
 use Rattle.desk_model.proofs.RefillLaws.{after_refill-valid, after_refill-rows, after_refill-refills}
 use Rattle.plan_reads.proofs.TidyCalls.{tidy-keeps}
-use Rattle.full_cost.specs.Amounts.{group_cost, reservation_cost}
+use Rattle.plan_checks.specs.Amounts.{group_cost, reservation_cost}
 use Rattle.board_cost.proofs.BalanceLaws.{cost_is}
 use Rattle.board_kit.proofs.SumLaws.{sum_same}
 use Rattle.near_moves.specs.Descent.{is_better}
-use Rattle.move_laws.proofs.KeptLaws.{steps-append}
+use Rattle.near_moves.proofs.KeptLaws.{steps-append}
 use Rattle.near_memory.proofs.SameRows.{all_flown-to, there-same, late-same, groups-same}
-use Rattle.move_laws.specs.RowRules.{keeps_rows}
-use Rattle.move_laws.proofs.RowLaws.{steps-rows}
+use Rattle.near_moves.specs.RowRules.{keeps_rows}
+use Rattle.near_moves.proofs.RowLaws.{steps-rows}
 use Rattle.near_untouched.specs.Alone.{IsLeftAlone, KeepsRows, leaves_alone, cost_of_some}
 
 -- ---- paths that meet the rules of paths in a feasible plan meet them where their legs have the same rows

@@ -32,19 +32,19 @@ use Rattle.desk_model.specs.Steps.{after_step, after_steps, after_move}
 use Rattle.desk_model.proofs.GroupPlans.{with_groups-same, with_groups-other}
 use Rattle.desk_model.proofs.TidyLaws.{after_tidy-at, after_tidy-valid}
 use Rattle.desk_model.proofs.RefillLaws.{after_refill-valid, has_leg-carried}
-use Rattle.full_cost.specs.Amounts.{group_cost, reservation_cost}
+use Rattle.plan_checks.specs.Amounts.{group_cost, reservation_cost}
 use Rattle.board_cost.proofs.BalanceLaws.{cost_is}
 use Rattle.board_cost.proofs.UserLaws.{sum_lists}
 use Rattle.near_moves.proofs.ListLaws.{numbers_below}
-use Rattle.move_laws.proofs.KeptLaws.{steps-append}
+use Rattle.near_moves.proofs.KeptLaws.{steps-append}
 use Rattle.near_memory.specs.Untouched.{HasSameRows}
 use Rattle.near_memory.proofs.SameRows.{HaveSameRows, groups-same, rebooked-same}
 use Rattle.near_untouched.proofs.AloneLaws.{tidy-same, flying-same, positions-same}
-use Rattle.near_units.specs.Same.{AgreeOn}
-use Rattle.near_units.specs.Steps.{is_among, is_tidying}
-use Rattle.near_units.specs.Room.{HaveSameRoom, AreMadeAlike}
-use Rattle.near_units.proofs.FrameLaws.{steps-alike, start-alike}
-use Rattle.near_units.proofs.OwnLaws.{agree-rows}
+use Rattle.near_moves.specs.Same.{AgreeOn}
+use Rattle.near_moves.specs.Steps.{is_among, is_tidying}
+use Rattle.near_moves.specs.Room.{HaveSameRoom, AreMadeAlike}
+use Rattle.near_moves.proofs.FrameLaws.{steps-alike, start-alike}
+use Rattle.near_moves.proofs.OwnLaws.{agree-rows}
 use Rattle.near_untouched.specs.Dearer.{IsSameReservation, IsOffLegs, is_booked_on, HasSameSeats, HaveSamePassengers, HaveSamePositions}
 use Rattle.near_untouched.proofs.SameLaws.{sum-balance, two-balance, flying-balance, positions-balance, fit-same, tidied-same, tidied-rows}
 

@@ -19,10 +19,10 @@ use Rattle.desk_rules.specs.Numbers.{numbers}
 use Rattle.desk_rules.specs.Cost.{at_hand, is_wanted, ends_at}
 use Rattle.plan_reads.specs.Last.{IsLastOf, stand}
 use Rattle.plan_reads.proofs.LastLaws.{left_asked}
-use Rattle.full_cost.specs.Stands.{AreStands, end_of, is_there}
+use Rattle.plan_checks.specs.Stands.{AreStands, end_of, is_there}
 use Rattle.near_moves.specs.MoveParts.{plane}
 use Rattle.near_moves.proofs.ListLaws.{numbers_below}
-use Rattle.near_units.proofs.PlaneLaws.{filter-same}
+use Rattle.near_moves.proofs.PlaneLaws.{filter-same}
 use Rattle.near_untouched.specs.Marks.{is_marked, AreChanged, AreKept, HoldsOf}
 use Rattle.near_untouched.specs.Positions.{AreElsewhere, IsPositionTold, HasSameHands}
 use Rattle.near_untouched.proofs.MarkLaws.{mark-kept, rows-all}

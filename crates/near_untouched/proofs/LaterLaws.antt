@@ -19,9 +19,9 @@ use Rattle.near_moves.specs.Units.{MoveUnit, retimed, swapped, dropped, restored
 use Rattle.near_legs.specs.Choices.{IsFlownLeg, IsLegUnit, unit_of}
 use Rattle.near_legs.specs.declared.unit.LegUnit.{LegUnit}
 use Rattle.near_legs.specs.declared.unit.LegUnit.TheVariants.{Retimed, Swapped, Dropped, Restored, Handed}
-use Rattle.near_units.specs.Same.{FlyUnitSame}
-use Rattle.near_units.specs.Steps.{BeginsFlown, unit_restores}
-use Rattle.near_units.proofs.MoveLaws.{flier-flies, moves-same}
+use Rattle.near_moves.specs.Same.{FlyUnitSame}
+use Rattle.near_moves.specs.Steps.{BeginsFlown, unit_restores}
+use Rattle.near_moves.proofs.MoveLaws.{flier-flies, moves-same}
 use Rattle.near_untouched.specs.Planes.{IsUntouchedPlane}
 use Rattle.near_untouched.specs.UntouchedUnits.{IsUntouchedUnit}
 use Rattle.near_untouched.proofs.UntouchedLaws.{planes-untouched}
@@ -31,7 +31,7 @@ use Rattle.near_untouched.specs.Hours.{margin}
 use Rattle.near_untouched.specs.Marks.{is_marked}
 use Rattle.near_untouched.specs.UntouchedLegs.{AreUntouched}
 use Rattle.near_untouched.specs.declared.untouched.Untouched.{Untouched}
-use Rattle.number_rows.specs.Rows.{number_at}
+use Rattle.near_notes.specs.Rows.{number_at}
 use Rattle.near_notes.specs.Places.{number_of}
 use Rattle.near_notes.specs.declared.findings.Findings.{Findings}
 use Rattle.near_notes.specs.declared.notes.UnitNotes.{UnitNotes}

@@ -9,7 +9,7 @@ use Rattle.desk_data.specs.declared.row.Group.{Group}
 use Rattle.desk_data.specs.Situation.{Situation}
 use Rattle.desk_data.specs.PlanRows.{PlanRows, groups_at}
 use Rattle.near_moves.proofs.ListLaws.{any_holds, any_from}
-use Rattle.near_units.specs.Room.{count_from, count_to}
+use Rattle.near_moves.specs.Room.{count_from, count_to}
 use Rattle.near_untouched.specs.Planes.{is_on, AreUntouchedLegs}
 use Rattle.near_untouched.specs.Hours.{margin}
 use Rattle.near_untouched.specs.Passengers.{is_just}

@@ -21,17 +21,17 @@ use Rattle.near_moves.specs.MoveParts.{flier}
 use Rattle.near_moves.specs.Units.{MoveUnit, retimed, swapped, dropped, restored, handed, rebooked}
 use Rattle.near_moves.specs.Near.{unit_moves}
 use Rattle.near_moves.proofs.ListLaws.{All_from_contains}
-use Rattle.move_laws.specs.Chains.{IsHandedInVain}
-use Rattle.near_units.specs.Same.{FliesSame, is_of, FlyUnitSame, AgreeOn}
-use Rattle.near_units.specs.Steps.{IsSplit, unit_planes, unit_restores, unit_legs, unit_refills, BeginsFlown}
-use Rattle.near_units.specs.Own.{BreaksOwn}
-use Rattle.near_units.specs.Out.{SwapsInVain, RestoresInVain, HandsInVain, IsOut, dear, breaks, swaps, restores, hands}
-use Rattle.near_units.proofs.PlaneLaws.{row-same}
-use Rattle.near_units.proofs.FrameLaws.{agree-flies}
-use Rattle.near_units.proofs.MoveLaws.{moves-same, flier-flies}
-use Rattle.near_units.proofs.VainLaws.{handed-stays, swapped-stays, restored-stays}
-use Rattle.near_units.proofs.SplitLaws.{moves-split}
-use Rattle.near_units.proofs.OwnLaws.{breaks-stays}
+use Rattle.near_moves.specs.Chains.{IsHandedInVain}
+use Rattle.near_moves.specs.Same.{FliesSame, is_of, FlyUnitSame, AgreeOn}
+use Rattle.near_moves.specs.Steps.{IsSplit, unit_planes, unit_restores, unit_legs, unit_refills, BeginsFlown}
+use Rattle.near_moves.specs.Own.{BreaksOwn}
+use Rattle.near_moves.specs.Out.{SwapsInVain, RestoresInVain, HandsInVain, IsOut, dear, breaks, swaps, restores, hands}
+use Rattle.near_moves.proofs.PlaneLaws.{row-same}
+use Rattle.near_moves.proofs.FrameLaws.{agree-flies}
+use Rattle.near_moves.proofs.MoveLaws.{moves-same, flier-flies}
+use Rattle.near_moves.proofs.VainLaws.{handed-stays, swapped-stays, restored-stays}
+use Rattle.near_moves.proofs.SplitLaws.{moves-split}
+use Rattle.near_moves.proofs.OwnLaws.{breaks-stays}
 use Rattle.near_untouched.specs.UntouchedUnits.{HasSameBacks, IsUntouchedUnit}
 use Rattle.near_untouched.proofs.DearerLaws.{dearer-stays}
 use Rattle.near_untouched.proofs.RowOutLaws.{begin-row, planes-same, restores-same}

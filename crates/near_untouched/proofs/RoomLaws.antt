@@ -16,8 +16,8 @@ use Rattle.hour_counts.specs.declared.slot.Movement.TheVariants.{Departure, Arri
 use Rattle.hour_counts.proofs.CountLaws.{count_change}
 use Rattle.board_kit.proofs.SumLaws.{sum_same}
 use Rattle.near_moves.proofs.ListLaws.{any_holds, any_from, numbers_each, numbers_within}
-use Rattle.near_units.specs.Room.{IsSameRoom}
-use Rattle.near_units.proofs.FrameLaws.{count-weaker}
+use Rattle.near_moves.specs.Room.{IsSameRoom}
+use Rattle.near_moves.proofs.FrameLaws.{count-weaker}
 use Rattle.near_untouched.specs.Marks.{is_marked, AreKept, HoldsOf, AreChanged}
 use Rattle.near_untouched.specs.Hours.{margin, place_of, beside, cap, counted_hour, HasRoom, IsRoomy, IsHourTold, IsLegTold, HasSameRoom}
 use Rattle.near_untouched.proofs.MarkLaws.{off-before, changed-at, rows-all}

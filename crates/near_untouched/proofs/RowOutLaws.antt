@@ -15,18 +15,18 @@ use Rattle.near_moves.specs.MoveParts.{flier}
 use Rattle.near_moves.specs.Units.{MoveUnit, retimed, swapped, dropped, restored, handed, rebooked}
 use Rattle.near_moves.specs.Near.{unit_moves}
 use Rattle.near_moves.proofs.ListLaws.{All_from_contains}
-use Rattle.move_laws.specs.Chains.{IsHandedInVain}
-use Rattle.near_units.specs.Same.{FliesSame, is_of, FlyUnitSame, AgreeOn}
-use Rattle.near_units.specs.Steps.{unit_planes, unit_restores, unit_legs, unit_refills, BeginsFlown}
-use Rattle.near_units.specs.Room.{HaveSameRoom}
-use Rattle.near_units.specs.Own.{BreaksOwn}
-use Rattle.near_units.specs.Out.{HandsInVain}
-use Rattle.near_units.proofs.PlaneLaws.{row-same}
-use Rattle.near_units.proofs.FrameLaws.{agree-flies}
-use Rattle.near_units.proofs.MoveLaws.{moves-same, flier-flies}
-use Rattle.near_units.proofs.VainLaws.{handed-stays, swapped-stays, restored-stays}
-use Rattle.near_units.proofs.SplitLaws.{moves-split}
-use Rattle.near_units.proofs.OwnLaws.{breaks-stays}
+use Rattle.near_moves.specs.Chains.{IsHandedInVain}
+use Rattle.near_moves.specs.Same.{FliesSame, is_of, FlyUnitSame, AgreeOn}
+use Rattle.near_moves.specs.Steps.{unit_planes, unit_restores, unit_legs, unit_refills, BeginsFlown}
+use Rattle.near_moves.specs.Room.{HaveSameRoom}
+use Rattle.near_moves.specs.Own.{BreaksOwn}
+use Rattle.near_moves.specs.Out.{HandsInVain}
+use Rattle.near_moves.proofs.PlaneLaws.{row-same}
+use Rattle.near_moves.proofs.FrameLaws.{agree-flies}
+use Rattle.near_moves.proofs.MoveLaws.{moves-same, flier-flies}
+use Rattle.near_moves.proofs.VainLaws.{handed-stays, swapped-stays, restored-stays}
+use Rattle.near_moves.proofs.SplitLaws.{moves-split}
+use Rattle.near_moves.proofs.OwnLaws.{breaks-stays}
 use Rattle.near_untouched.specs.UntouchedUnits.{HasSameBacks}
 use Rattle.near_notes.specs.Notes.{IsOutByRows, breaks_rule, swaps_in_vain, restores_in_vain, hands_in_vain}
 

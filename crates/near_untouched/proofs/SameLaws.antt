@@ -26,11 +26,11 @@ use Rattle.desk_model.specs.Rebook.{passengers_on, group_of}
 use Rattle.desk_model.specs.Tidy.{is_fit_path, stays_carried, groups_after_tidy}
 use Rattle.near_memory.specs.Untouched.{HasSameRows}
 use Rattle.near_memory.proofs.SameRows.{HaveSameRows, all_flown-to, there-same, late-same}
-use Rattle.near_units.specs.Same.{FliesSame, is_of, IsOwn, AgreeOn}
-use Rattle.near_units.specs.Room.{AreMadeAlike}
-use Rattle.near_units.proofs.PlaneLaws.{and-same_left, filter-same}
-use Rattle.near_units.proofs.RuleLaws.{left_at-same}
-use Rattle.near_units.proofs.FrameLaws.{is_of-by, agree-flies}
+use Rattle.near_moves.specs.Same.{FliesSame, is_of, IsOwn, AgreeOn}
+use Rattle.near_moves.specs.Room.{AreMadeAlike}
+use Rattle.near_moves.proofs.PlaneLaws.{and-same_left, filter-same}
+use Rattle.near_moves.proofs.RuleLaws.{left_at-same}
+use Rattle.near_moves.proofs.FrameLaws.{is_of-by, agree-flies}
 use Rattle.near_untouched.proofs.AloneLaws.{some-of}
 
 -- ---- sums

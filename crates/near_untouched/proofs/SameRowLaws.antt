@@ -22,10 +22,10 @@ use Rattle.near_moves.specs.MoveParts.{flier}
 use Rattle.near_moves.specs.Units.{MoveUnit, retimed, swapped, dropped, restored, handed, rebooked}
 use Rattle.near_moves.proofs.FromLaws.{or_cases}
 use Rattle.near_moves.proofs.ListLaws.{any_from}
-use Rattle.near_units.specs.Same.{AgreeOn, FliesSame, FlyUnitSame, is_of}
-use Rattle.near_units.specs.Steps.{BeginsFlown, unit_legs, unit_planes, unit_refills, unit_restores}
-use Rattle.near_units.specs.Room.{HaveSameRoom, IsSameRoom, arrivals_outside, departures_outside}
-use Rattle.near_units.proofs.OwnLaws.{own-flier}
+use Rattle.near_moves.specs.Same.{AgreeOn, FliesSame, FlyUnitSame, is_of}
+use Rattle.near_moves.specs.Steps.{BeginsFlown, unit_legs, unit_planes, unit_refills, unit_restores}
+use Rattle.near_moves.specs.Room.{HaveSameRoom, IsSameRoom, arrivals_outside, departures_outside}
+use Rattle.near_moves.proofs.OwnLaws.{own-flier}
 use Rattle.near_untouched.specs.Dearer.{HaveSamePassengers, HaveSamePositions, IsOffLegs, IsSameReservation, is_booked_on}
 use Rattle.near_untouched.specs.Planes.{is_on}
 use Rattle.near_untouched.specs.UntouchedUnits.{HasSameBacks, IsUntouchedUnit}

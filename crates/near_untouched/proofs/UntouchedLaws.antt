@@ -24,13 +24,13 @@ use Rattle.near_moves.specs.MoveParts.{flier}
 use Rattle.near_moves.specs.Units.{MoveUnit, retimed, swapped, dropped, restored, handed, rebooked}
 use Rattle.near_moves.proofs.ListLaws.{any_holds, any_from}
 use Rattle.near_moves.proofs.FromLaws.{or_cases}
-use Rattle.near_units.specs.Same.{FliesSame, is_of, IsOwn, AgreeOn}
-use Rattle.near_units.specs.Steps.{unit_planes, unit_restores, unit_legs, unit_refills, BeginsFlown}
-use Rattle.near_units.specs.Room.{departures_outside, arrivals_outside, count_from, count_to, IsSameRoom, HaveSameRoom}
-use Rattle.near_units.proofs.PlaneLaws.{flies-same, row-same}
-use Rattle.near_units.proofs.FrameLaws.{is_of-by, count-split, count-weaker, start-alike, own-departs, own-arrives}
-use Rattle.near_units.proofs.MoveLaws.{flier-flies}
-use Rattle.near_units.proofs.OwnLaws.{own-flier}
+use Rattle.near_moves.specs.Same.{FliesSame, is_of, IsOwn, AgreeOn}
+use Rattle.near_moves.specs.Steps.{unit_planes, unit_restores, unit_legs, unit_refills, BeginsFlown}
+use Rattle.near_moves.specs.Room.{departures_outside, arrivals_outside, count_from, count_to, IsSameRoom, HaveSameRoom}
+use Rattle.near_moves.proofs.PlaneLaws.{flies-same, row-same}
+use Rattle.near_moves.proofs.FrameLaws.{is_of-by, count-split, count-weaker, start-alike, own-departs, own-arrives}
+use Rattle.near_moves.proofs.MoveLaws.{flier-flies}
+use Rattle.near_moves.proofs.OwnLaws.{own-flier}
 use Rattle.near_untouched.specs.Dearer.{IsSameReservation, IsOffLegs, is_booked_on, HasSameSeats, HaveSamePassengers, HaveSamePositions}
 use Rattle.near_untouched.specs.UntouchedUnits.{HasSameBacks, IsUntouchedUnit}
 use Rattle.near_untouched.specs.Planes.{is_on, AreUntouchedLegs, IsUntouchedPlane, IsUntouchedAgain, AreUntouchedBeside}

@@ -12,7 +12,7 @@ use Rattle.desk_rules.specs.Numbers.{numbers}
 use Rattle.desk_model.specs.Refill.{has_leg}
 use Rattle.plan_moves.specs.declared.moves.Step.{Step}
 use Rattle.plan_moves.specs.declared.moves.Step.TheVariants.{Set, Push, Swap, Rebook, Tidy, Refill}
-use Rattle.full_cost.specs.Amounts.{reservation_cost}
+use Rattle.plan_checks.specs.Amounts.{reservation_cost}
 
 -- whether a step leaves reservation r alone, where its paths meet the rules: a Tidy, and a Refill of a leg on which it is not booked
 abbrev pub leaves_alone : Situation → ℕ → Step → Bool

@@ -15,7 +15,7 @@ use Rattle.desk_model.specs.Push.{departures_beside, arrivals_beside}
 use Rattle.hour_counts.specs.Counts.{counted_departure}
 use Rattle.hour_counts.specs.declared.slot.Movement.{Movement}
 use Rattle.hour_counts.specs.declared.slot.Movement.TheVariants.{Departure, Arrival}
-use Rattle.near_units.specs.Room.{IsSameRoom}
+use Rattle.near_moves.specs.Room.{IsSameRoom}
 use Rattle.near_untouched.specs.Marks.{is_marked}
 
 -- for how many legs an hour has to have room beside those that are counted, where it is not as full as it was: at most half as many legs of one aircraft may leave one airport, or reach it

@@ -13,9 +13,9 @@ use Rattle.desk_rules.specs.Maintenance.{flies}
 use Rattle.desk_model.specs.Push.{departures_beside, arrivals_beside}
 use Rattle.near_moves.specs.Units.{MoveUnit, retimed, swapped, dropped, restored, handed, rebooked}
 use Rattle.near_moves.specs.LegMoves.{brings_back}
-use Rattle.near_units.specs.Same.{FliesSame}
-use Rattle.near_units.specs.Steps.{unit_restores}
-use Rattle.near_units.specs.Room.{count_from, count_to, IsSameRoom}
+use Rattle.near_moves.specs.Same.{FliesSame}
+use Rattle.near_moves.specs.Steps.{unit_restores}
+use Rattle.near_moves.specs.Room.{count_from, count_to, IsSameRoom}
 use Rattle.near_untouched.specs.Dearer.{IsSameReservation, is_booked_on, HasSameSeats}
 
 -- whether somebody of reservation r is on one of some legs

@@ -6,9 +6,9 @@ use Rattle.desk_data.specs.Situation.{Situation}
 use Rattle.desk_data.specs.PlanRows.{PlanRows}
 use Rattle.near_moves.specs.Units.{MoveUnit, retimed, swapped, dropped, restored, handed, rebooked}
 use Rattle.near_moves.specs.LegMoves.{brings_back}
-use Rattle.near_units.specs.Same.{AgreeOn}
-use Rattle.near_units.specs.Steps.{unit_planes, unit_legs, unit_refills}
-use Rattle.near_units.specs.Room.{HaveSameRoom}
+use Rattle.near_moves.specs.Same.{AgreeOn}
+use Rattle.near_moves.specs.Steps.{unit_planes, unit_legs, unit_refills}
+use Rattle.near_moves.specs.Room.{HaveSameRoom}
 use Rattle.near_untouched.specs.Dearer.{HaveSamePassengers, HaveSamePositions}
 
 -- the same cancelled legs lead back from a leg that is flown again

@@ -10,9 +10,9 @@ ghost use Rattle.plan_moves.specs.declared.moves.Step.{Step};
 ghost use Rattle.desk_rules.specs.Least.{least};
 ghost use Rattle.desk_rules.specs.Cost.{cost, operating_cost, position_cost};
 ghost use Rattle.desk_model.specs.Steps.{after_steps};
-ghost use Rattle.full_cost.specs.Amounts.{reservation_cost};
+ghost use Rattle.plan_checks.specs.Amounts.{reservation_cost};
 ghost use Rattle.near_moves.specs.Descent.{is_better};
-ghost use Rattle.move_laws.specs.RowRules.{keeps_rows};
+ghost use Rattle.near_moves.specs.RowRules.{keeps_rows};
 ghost use Rattle.near_untouched.specs.Alone.{IsLeftAlone, cost_of_some};
 
 /// A reservation of a feasible plan that a move leaves alone costs in the plan that the move makes what it did before.

@@ -6,7 +6,7 @@ ghost use Rattle.desk_data.specs.Situation.{legs_of, planes_of};
 ghost use Rattle.desk_data.specs.Valid.{IsPlanFor};
 ghost use Rattle.desk_rules.specs.Cost.{ends_at};
 ghost use Rattle.plan_reads.specs.Last.{AreLasts, IsLastOf};
-ghost use Rattle.full_cost.specs.Stands.{AreStands, end_of, is_there};
+ghost use Rattle.plan_checks.specs.Stands.{AreStands, end_of, is_there};
 ghost use Rattle.near_untouched.specs.Positions.{AreElsewhere};
 
 use desk_data::{Airport, Instance, Leg, NoMem, Plane};

@@ -3,7 +3,7 @@
 ghost use Rattle.std.specs.Prelude.{◌≡◌, ℕ, ◌+◌, ◌≤◌, Bool, true};
 ghost use Rattle.desk_data.specs.Situation.{Situation};
 ghost use Rattle.desk_data.specs.PlanRows.{PlanRows};
-ghost use Rattle.near_units.specs.Room.{count_from, count_to};
+ghost use Rattle.near_moves.specs.Room.{count_from, count_to};
 ghost use Rattle.near_untouched.specs.Planes.{AreUntouchedLegs};
 ghost use Rattle.near_untouched.specs.Hours.{margin};
 ghost use Rattle.near_untouched.specs.Legs.{IsUntouchedLeg};

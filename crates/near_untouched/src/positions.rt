@@ -4,7 +4,7 @@ ghost use Rattle.std.specs.Prelude.{◌≡◌, ◌<◌, ◌&&◌, All, OnOk, fal
 ghost use Rattle.desk_data.specs.Situation.{planes_of};
 ghost use Rattle.desk_data.specs.Valid.{IsPlanFor};
 ghost use Rattle.desk_rules.specs.Cost.{at_hand, is_wanted};
-ghost use Rattle.full_cost.specs.Stands.{AreStands, is_there};
+ghost use Rattle.plan_checks.specs.Stands.{AreStands, is_there};
 ghost use Rattle.near_untouched.specs.Marks.{AreChanged, AreKept, HoldsOf};
 ghost use Rattle.near_untouched.specs.Positions.{AreElsewhere, AreWantedMarked, HasSameHands, IsPositionTold};
 

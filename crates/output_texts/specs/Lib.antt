@@ -6,3 +6,9 @@ pub mod Lines
 pub mod Writable
 pub mod CrewText
 pub mod FerryText
+pub mod Draws
+pub mod Fleet
+pub mod Schedule
+pub mod Demand
+pub mod Seats
+pub mod Generated

@@ -1,4 +1,4 @@
-//! The texts that the desk writes: the files of a plan, the lines of a journal, and those of crews and of added legs.
+//! The texts of files: those that the desk writes, and those of a day that is made up.
 //!
 //! # sol_rotations.csv and sol_itineraries.csv: a plan
 //!
@@ -45,27 +45,48 @@
 //! (`plane_end` of added_legs), which the caller has at hand. Names have no blanks, so they stand as they are.
 //!
 //! Proved: the text is that of the definitions in `specs/`.
+//!
+//! # Days that are made up
+//!
+//! `generate(alloc, seed, size)` gives the thirteen input files of a day from config.csv to feed.csv, in file order, each
+//! with its bytes. A day of size 1 has 6 aircraft, one of them a bus, 24 legs between a hub and three
+//! outstations, and up to 40 reservations; one of size 40 has forty times as many. A delay, a breakdown
+//! and a closure are known at first, and one flight is cancelled later. What differs from seed to seed is
+//! drawn from the words of `Xoshiro256PlusPlus` of `rand_xoshiro`, in one order: three for each aircraft,
+//! then five for each reservation.
+//!
+//! Proved: the texts are those of the definition in `specs/`, text by text.
 #![tactic(auto)]
 
 mod answers;
+mod bookings;
 mod crew_lines;
 mod dates;
+mod demand;
+mod draws;
 mod ferry_lines;
+mod files;
+mod fleet;
 mod items;
 mod itineraries;
 mod lines;
 mod paths;
 mod quoting;
 mod rotations;
+mod schedule;
+mod seats;
 mod steps;
+mod texts;
 
 pub use added_legs::Added;
 pub use answers::push_answer;
 pub use crew_lines::push_crews;
 pub use crew_rules::{CrewBroken, CrewInfo};
 pub use desk_data::{Broken, Instance, NoMem};
+pub use desk_folder::File;
 pub use desk_model::{Answer, Entry, Event};
 pub use ferry_lines::{push_added, push_reported};
+pub use files::generate;
 pub use items::push_broken;
 pub use itineraries::itineraries_text;
 pub use lines::{journal_line, journal_text, legal_entries_can_be_written};

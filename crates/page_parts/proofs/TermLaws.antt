@@ -6,8 +6,8 @@ use Rattle.desk_data.specs.PlanRows.{PlanRows}
 use Rattle.desk_data.specs.Valid.{IsValid, IsPlanFor}
 use Rattle.desk_rules.specs.Cost.{delay, cancellation, downgrade, legal, over_groups, delay_cost, cancellation_cost, downgrade_cost, legal_cost, operating_cost, position_cost, cost}
 use Rattle.desk_rules.proofs.CostLaws.{IsAtMost, delay-le, cancellation-le, downgrade-le, legal-le}
-use Rattle.full_cost.specs.Amounts.{group_cost}
-use Rattle.full_cost.proofs.GroupLaws.{passenger_most}
+use Rattle.plan_checks.specs.Amounts.{group_cost}
+use Rattle.plan_checks.proofs.GroupLaws.{passenger_most}
 use Rattle.page_parts.specs.declared.amounts.PassengerTerm.{PassengerTerm}
 use Rattle.page_parts.specs.declared.amounts.PassengerTerm.TheVariants as of
 use Rattle.page_parts.specs.Amounts.{amount}

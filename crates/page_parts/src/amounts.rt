@@ -5,13 +5,13 @@ ghost use Rattle.desk_data.specs.Situation.{legs_of, reservations_of};
 ghost use Rattle.desk_data.specs.Valid.{IsPathOf, IsPlanFor};
 ghost use Rattle.desk_rules.specs.Cost.{cancellation, delay, downgrade, legal};
 ghost use Rattle.desk_rules.specs.Passengers.{minutes_late};
-ghost use Rattle.full_cost.specs.Amounts.{group_cost};
-ghost use Rattle.full_cost.specs.Counted.{IsGroupOf, group_on};
+ghost use Rattle.plan_checks.specs.Amounts.{group_cost};
+ghost use Rattle.plan_checks.specs.Counted.{IsGroupOf, group_on};
 ghost use Rattle.page_parts.specs.Amounts.{amount};
 
 use desk_data::{Cabin, Grains, Instance, Leg, Res, Term};
 use desk_units::{per_hour, per_item};
-use full_cost::{path_cost, path_end};
+use plan_checks::{path_cost, path_end};
 use plan_reads::{ReadPlan, all_flown, arrival, is_carried};
 
 /// The terms that passengers cost.
@@ -80,7 +80,7 @@ fn group_cancellation(inst: &Instance, res: Res, path: &[(Leg, Cabin)], count: u
 }
 
 // The downgrades of a group: what it costs where it does not arrive, and all of its legs in a cabin below.
-#[tactic(auto, unfolding(full_cost::specs::Amounts::path_cost))]
+#[tactic(auto, unfolding(plan_checks::specs::Amounts::path_cost))]
 fn group_downgrade(inst: &Instance, res: Res, path: &[(Leg, Cabin)], count: u32) -> Grains
     requires res { res.0 < reservations_of inst.now }
     requires group { IsGroupOf inst.now (group_on path.now count) }

@@ -53,7 +53,7 @@
 //! has their sum in one walk, and this takes about six.
 //!
 //! Proved: each is its term of the definition of the cost, and their sum is the cost. It takes no memory. What a group costs
-//! in all, and a plan, is asked of `full_cost`; legal and position are what is left of these.
+//! in all, and a plan, is asked of `plan_checks`; legal and position are what is left of these.
 //!
 //! # Tables
 //!

@@ -8,7 +8,7 @@ ghost use Rattle.desk_rules.specs.Cost.{cancellation_cost, cost, delay_cost, dow
 use crate::amounts::PassengerTerm;
 use crate::passenger_terms::passenger_term;
 use desk_data::{Grains, Instance, Leg};
-use full_cost::{flight_cost, full_cost};
+use plan_checks::{flight_cost, full_cost};
 use plan_reads::ReadPlan;
 
 /// What a plan costs, term by term, in grains: 600,000,000 to one unit of money. Each is below 10^38, and so is their sum.

@@ -3,13 +3,12 @@
 use super::lent::LentCostBoard;
 use super::walk::Walkable;
 use board_cost::CostBoard;
+use board_kit::SlotBoard;
 use board_rot::RotBoard;
 use board_seats::SeatBoard;
-use board_slots::SlotBoard;
 use desk_data::{Instance, NoMem, Plan};
-use full_cost::full_cost;
+use plan_checks::{full_cost, least_pax, least_rot, least_slots};
 use plan_pages::Pages;
-use rule_checks::{least_pax, least_rot, least_slots};
 use std::alloc::Global;
 
 impl Walkable for RotBoard {

@@ -8,7 +8,7 @@ use super::days::made_up;
 use desk_data::{Broken, Grains, Instance, Leg, Minute, NoMem, Row, Steps};
 use desk_eval::Evaluator;
 use full_check::full_check;
-use full_cost::full_cost;
+use plan_checks::full_cost;
 use std::alloc::Global;
 use std::marker::Brand;
 use std::sync::ledger::{Blank, Ledger};

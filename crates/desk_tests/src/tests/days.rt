@@ -2,14 +2,14 @@
 
 ghost use Rattle.std.specs.Prelude.{◌≡◌, IfOk};
 ghost use Rattle.desk_data.specs.Situation.{fresh_day};
-ghost use Rattle.desk_gen.specs.Generated.{IsSize};
+ghost use Rattle.output_texts.specs.Generated.{IsSize};
 
 use super::texts::{TOLD, TOLD_LATER, WALKED};
 use day_checks::can_add;
 use desk_data::{Batch, Instance, NoMem};
 use desk_folder::{File, MemFolder};
-use desk_gen::generate;
-use desk_story::{InputKept, InputStory, read_kept};
+use desk_tasks::{InputKept, InputStory, read_kept};
+use output_texts::generate;
 use std::alloc::Global;
 use std::test::Fail;
 

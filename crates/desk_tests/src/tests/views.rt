@@ -13,7 +13,7 @@ use super::days::day_of;
 use super::texts::VIEWED;
 use desk_core::{BoardTelling, Book, Posted, Sight};
 use desk_data::{Batch, Grains, Instance, Leg, List, Order};
-use desk_view::View;
+use desk_model::View;
 use live_board::{Naming, Opened, Viewer};
 use std::alloc::Global;
 use std::marker::Brand;

@@ -3,7 +3,7 @@ use Rattle.std.specs.Prelude.{None}
 use Rattle.std.proofs.lemmas.Bool.{and_left, and_right}
 use Rattle.desk_data.specs.Situation.{plane_at}
 use Rattle.desk_rules.specs.Cost.{is_wanted}
-use Rattle.full_cost.specs.Stands.{is_there}
+use Rattle.plan_checks.specs.Stands.{is_there}
 use Rattle.added_legs.proofs.EndLaws.{hand_yes, hand_no}
 use Rattle.added_legs.proofs.position.at_hand.Goals as goal
 use Rattle.added_legs.proofs.position.at_hand.Goals.{then-is_wanted+then-is_there, else-is_wanted, else-is_wanted-via-then-is_wanted+else-is_there, else-is_wanted-via-else-is_wanted}

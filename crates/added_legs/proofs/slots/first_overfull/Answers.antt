@@ -5,7 +5,7 @@ use Rattle.std.specs.List.Sorted.{IsSorted}
 use Rattle.std.proofs.lemmas.List.Sorted.{All-permutation}
 use Rattle.desk_data.specs.Situation.{legs_of, planes_of}
 use Rattle.hour_counts.specs.Slots.{slot_cmp}
-use Rattle.rule_checks.proofs.SortedLaws.{sorted_are}
+use Rattle.plan_checks.proofs.SortedLaws.{sorted_are}
 use Rattle.added_legs.specs.Merged.{merged_day, merged_plan}
 use Rattle.added_legs.specs.Hours.{IsTaken, extra_slots}
 use Rattle.added_legs.proofs.HourLaws.{taken-breaks, least_item}

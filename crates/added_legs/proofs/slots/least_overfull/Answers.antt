@@ -2,8 +2,8 @@ use Rattle.std.proofs.Common.{◌≡◌, ◌<◌, true, length, arith, sym, ◌�
 use Rattle.std.specs.List.{All}
 use Rattle.std.proofs.lemmas.List.Elements.{All-weaker}
 use Rattle.hour_counts.specs.Slots.{IsSlot}
-use Rattle.rule_checks.specs.TakenSlots.{is_one_too_many}
-use Rattle.rule_checks.proofs.SortedLaws.{none_overfull, first_overfull}
+use Rattle.plan_checks.specs.TakenSlots.{is_one_too_many}
+use Rattle.plan_checks.proofs.SortedLaws.{none_overfull, first_overfull}
 use Rattle.added_legs.specs.Hours.{IsTaken}
 use Rattle.added_legs.proofs.slots.least_overfull.Goals as goal
 

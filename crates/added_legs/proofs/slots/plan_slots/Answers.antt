@@ -1,7 +1,7 @@
 use Rattle.std.proofs.Common.{sym, ap, ◌∙◌, ◌++◌, ◌∷◌, [], subst, refl}
 use Rattle.std.specs.List.{All}
 use Rattle.std.proofs.lemmas.List.Elements.{All-nil, All-cons, All-append}
-use Rattle.rule_checks.proofs.TakenLaws.{slots-taken, slots-none}
+use Rattle.plan_checks.proofs.TakenLaws.{slots-taken, slots-none}
 use Rattle.added_legs.specs.Hours.{IsTaken}
 use Rattle.added_legs.proofs.slots.plan_slots.Goals as goal
 use Rattle.added_legs.proofs.slots.plan_slots.Goals.{in-Some+in_ok-push, in_default}

@@ -1,6 +1,6 @@
 use Rattle.std.proofs.Common.{◌≡◌}
 use Rattle.std.specs.List.{All}
-use Rattle.rule_checks.specs.TakenSlots.{slots}
+use Rattle.plan_checks.specs.TakenSlots.{slots}
 use Rattle.added_legs.specs.Hours.{IsTaken}
 use Rattle.added_legs.proofs.slots.plan_slots.Given as goal
 

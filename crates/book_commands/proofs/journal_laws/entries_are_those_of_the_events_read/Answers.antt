@@ -1,5 +1,5 @@
 use Rattle.std.proofs.Common.{ap, ◌∙◌}
-use Rattle.journal_disk.proofs.StoreLaws.{stand_events}
+use Rattle.desk_journal.proofs.StoreLaws.{stand_events}
 use Rattle.book_commands.specs.Held.{entered}
 use Rattle.book_commands.proofs.Spelled.{entered_either}
 use Rattle.book_commands.proofs.journal_laws.entries_are_those_of_the_events_read.Goals as goal

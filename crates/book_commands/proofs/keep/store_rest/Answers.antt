@@ -10,7 +10,7 @@ use Rattle.desk_model.specs.declared.answer.Entry.{Entry}
 use Rattle.desk_model.specs.States.{opening}
 use Rattle.desk_model.specs.Histories.{AreAskable, IsAskable, run}
 use Rattle.desk_core.specs.Recorded.{Recorded}
-use Rattle.journal_disk.specs.Payloads.{history_payloads}
+use Rattle.desk_journal.specs.Payloads.{history_payloads}
 use Rattle.book_commands.specs.Added.{all_entries, lacking}
 use Rattle.book_commands.proofs.Adding.{adds_none}
 use Rattle.book_commands.proofs.Keeping.{whole-is, lacking-is, front-within}

@@ -6,7 +6,7 @@ use Rattle.book_commands.specs.Left.{HoldsBeginning}
 use Rattle.desk_model.specs.declared.answer.Entry.{Entry}
 use Rattle.desk_model.specs.States.{opening}
 use Rattle.desk_model.specs.Histories.{IsAskable, has_room}
-use Rattle.journal_disk.specs.Payloads.{payload_by}
+use Rattle.desk_journal.specs.Payloads.{payload_by}
 use Rattle.book_commands.specs.Added.{added}
 use Rattle.book_commands.proofs.Adding.{adds_none, adds_one}
 use Rattle.book_commands.proofs.Storing.{entered-entry, added-is}

@@ -7,7 +7,7 @@ use Rattle.desk_model.specs.declared.answer.Entry.{Entry}
 use Rattle.desk_model.specs.States.{opening}
 use Rattle.desk_model.specs.Histories.{IsAskable, has_room, is_batch}
 use Rattle.desk_model.proofs.HistoryLaws.{with_event}
-use Rattle.journal_disk.specs.Payloads.{asked_in, batches_among}
+use Rattle.desk_journal.specs.Payloads.{asked_in, batches_among}
 use Rattle.book_commands.proofs.RunLaws.{continues-next, continues-end, journal-next}
 use Rattle.book_commands.specs.Added.{added, all_entries, lacking}
 use Rattle.book_commands.proofs.Storing.{behind, Stands, stands-start, stands-on, stands-next, stands-runs, count-next, few-next, few-batches, length-next, goes-on}

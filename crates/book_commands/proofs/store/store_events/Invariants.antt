@@ -3,7 +3,7 @@ use Rattle.std.specs.Prelude.{None, Some}
 use Rattle.desk_disk.specs.FileStates.{DiskSide}
 use Rattle.desk_disk.specs.Files.{IsAtRest, IsReady}
 use Rattle.book_commands.proofs.RunLaws.{Continues}
-use Rattle.journal_disk.specs.Payloads.{asked_in, batches_among}
+use Rattle.desk_journal.specs.Payloads.{asked_in, batches_among}
 use Rattle.book_commands.specs.Added.{all_entries, lacking}
 use Rattle.book_commands.proofs.Storing.{Stands}
 use Rattle.book_commands.proofs.store.store_events.Given as goal

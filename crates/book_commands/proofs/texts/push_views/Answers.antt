@@ -1,6 +1,6 @@
 use Rattle.std.specs.Prelude.{None}
 use Rattle.desk_rules.specs.Cost.{grains}
-use Rattle.desk_view.specs.declared.view.View.{View}
+use Rattle.desk_model.specs.declared.view.View.{View}
 use Rattle.book_commands.proofs.SeenLaws.{seen-start, seen-more}
 use Rattle.book_commands.proofs.texts.push_views.Goals as goal
 

@@ -2,8 +2,8 @@ use Rattle.std.proofs.Common.{ℕ, List, ◌++◌, sym, ap, ◌∙◌}
 use Rattle.std.specs.Prelude.{IfSome}
 use Rattle.std.proofs.lemmas.List.Elements.{All-weaker}
 use Rattle.desk_model.specs.States.{opening}
-use Rattle.desk_view.specs.declared.view.View.{View}
-use Rattle.desk_view.specs.Views.{IsSightOf}
+use Rattle.desk_model.specs.declared.view.View.{View}
+use Rattle.desk_model.specs.Views.{IsSightOf}
 use Rattle.desk_tasks.specs.Play.{seen_lines}
 use Rattle.output_texts.specs.Writable.{Names}
 use Rattle.book_commands.proofs.SeenLaws.{sight-names, seen-same}

@@ -1,6 +1,6 @@
 use Rattle.std.proofs.Common.{◌+◌, arith, sym, subst, List}
-use Rattle.desk_view.specs.declared.view.View.{View}
-use Rattle.desk_view.proofs.SightLaws.{AreSightsBelow, sights_more}
+use Rattle.desk_model.specs.declared.view.View.{View}
+use Rattle.desk_model.proofs.SightLaws.{AreSightsBelow, sights_more}
 use Rattle.desk_core.proofs.lines.add_sight.Goals as goal
 
 pub returns-clause-seen : goal.returns-clause-seen

@@ -7,9 +7,9 @@ use Rattle.live_board.specs.Histories.{history, origin}
 use Rattle.live_board.specs.Words.{stands_for}
 use Rattle.live_board.proofs.Beginnings.{prefix_length}
 use Rattle.live_board.proofs.Tellings.{histories_begin}
-use Rattle.desk_view.specs.declared.view.View.{View}
-use Rattle.desk_view.specs.Views.{AreSeen, IsSightOf}
-use Rattle.desk_view.proofs.SightLaws.{sights_end}
+use Rattle.desk_model.specs.declared.view.View.{View}
+use Rattle.desk_model.specs.Views.{AreSeen, IsSightOf}
+use Rattle.desk_model.proofs.SightLaws.{sights_end}
 use Rattle.desk_core.specs.Sights.{HaveLines}
 use Rattle.desk_core.proofs.LineLaws.{told_last, told_count, from_both, fewer_sight, rising_to, adds_few, lined_none, lined_more, lined_end}
 use Rattle.desk_core.proofs.lines.seen_lines.Goals as goal

@@ -5,7 +5,7 @@ use Rattle.desk_core.specs.Recorded.{Recorded}
 use Rattle.live_board.specs.Histories.{history, origin}
 use Rattle.live_board.specs.Watched.{AreRising}
 use Rattle.live_board.specs.Words.{stands_for}
-use Rattle.desk_view.proofs.SightLaws.{AreSightsBelow}
+use Rattle.desk_model.proofs.SightLaws.{AreSightsBelow}
 use Rattle.desk_core.proofs.LineLaws.{AreLined}
 use Rattle.desk_core.proofs.lines.seen_lines.Given as goal
 

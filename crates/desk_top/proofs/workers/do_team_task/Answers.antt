@@ -1,7 +1,7 @@
 use Rattle.std.proofs.Common.{◌≤◌, ◌∙◌, All, List, sym, subst}
 use Rattle.day_orders.specs.declared.orders.Batch.{Batch}
 use Rattle.desk_data.specs.Valid.{IsBatch}
-use Rattle.desk_story.specs.Facts.{CanBeDone, CanRecover}
+use Rattle.desk_tasks.specs.Facts.{CanBeDone, CanRecover}
 use Rattle.desk_top.proofs.workers.do_team_task.Goals as goal
 
 -- each batch of the day can be taken

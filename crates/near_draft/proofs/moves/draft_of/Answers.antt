@@ -3,7 +3,7 @@ use Rattle.std.specs.List.{list_all}
 use Rattle.std.proofs.lemmas.List.{take-append-drop}
 use Rattle.std.proofs.lemmas.Option.{same_Some}
 use Rattle.desk_model.specs.Steps.{after_steps}
-use Rattle.move_laws.specs.RowRules.{keeps_rows}
+use Rattle.near_moves.specs.RowRules.{keeps_rows}
 use Rattle.near_draft.specs.Drafts.{Drafted, IsDraftOf, plan_of}
 use Rattle.near_draft.proofs.moves.draft_of.Goals as goal
 

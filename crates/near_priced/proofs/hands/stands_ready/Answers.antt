@@ -2,7 +2,7 @@ use Rattle.std.proofs.Common.{◌≡◌, true, false, rules, sym, ap, ◌∙◌}
 use Rattle.std.proofs.lemmas.Bool.{and_right}
 use Rattle.desk_data.specs.Situation.{plane_at}
 use Rattle.desk_rules.specs.Cost.{is_wanted}
-use Rattle.full_cost.specs.Stands.{end_of, is_there}
+use Rattle.plan_checks.specs.Stands.{end_of, is_there}
 use Rattle.near_priced.proofs.EndLaws.{and-last}
 use Rattle.near_priced.proofs.hands.stands_ready.Goals as goal
 

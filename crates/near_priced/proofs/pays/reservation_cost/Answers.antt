@@ -1,8 +1,8 @@
 use Rattle.std.proofs.Common.{◌≡◌, ◌<◌, ◌≤◌, length, get_or, ap, ◌∙◌, arith}
 use Rattle.std.proofs.lemmas.List.Sums.{sum_by_more}
 use Rattle.desk_data.specs.PlanRows.{groups_at}
-use Rattle.full_cost.specs.Amounts.{group_cost}
-use Rattle.full_cost.proofs.GroupLaws.{group-fits, some-groups-lt, all-groups}
+use Rattle.plan_checks.specs.Amounts.{group_cost}
+use Rattle.plan_checks.proofs.GroupLaws.{group-fits, some-groups-lt, all-groups}
 use Rattle.near_priced.proofs.pays.reservation_cost.Goals as goal
 
 pub group_cost-requires-clause-group : goal.group_cost-requires-clause-group

@@ -1,7 +1,7 @@
 use Rattle.std.proofs.Common.{◌≡◌, take}
 use Rattle.std.specs.Prelude.{sum_by}
 use Rattle.desk_data.specs.PlanRows.{groups_at}
-use Rattle.full_cost.specs.Amounts.{group_cost}
+use Rattle.plan_checks.specs.Amounts.{group_cost}
 use Rattle.near_priced.proofs.pays.reservation_cost.Given as goal
 
 -- what the groups so far cost

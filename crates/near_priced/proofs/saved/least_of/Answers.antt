@@ -1,7 +1,7 @@
 use Rattle.std.proofs.Common.{◌≡◌, true, false, not, sym, ap, ◌∙◌, arith}
 use Rattle.std.specs.Option.{is_some}
-use Rattle.full_cost.specs.Amounts.{path_cost, path_end}
-use Rattle.full_cost.specs.Counted.{group_on}
+use Rattle.plan_checks.specs.Amounts.{path_cost, path_end}
+use Rattle.plan_checks.specs.Counted.{group_on}
 use Rattle.near_draft.specs.Drafts.{plan_of}
 use Rattle.near_priced.proofs.SavingLaws.{least-none, least-some}
 use Rattle.near_priced.proofs.saved.least_of.Goals as goal

@@ -2,7 +2,7 @@ use Rattle.std.proofs.Common.{◌≡◌, ◌≤◌, not, ◌&&◌, take}
 use Rattle.std.specs.Prelude.{count_by}
 use Rattle.desk_data.specs.Situation.{plane_at}
 use Rattle.desk_rules.specs.Cost.{is_wanted}
-use Rattle.full_cost.specs.Stands.{is_there}
+use Rattle.plan_checks.specs.Stands.{is_there}
 use Rattle.near_priced.proofs.services.wanted_elsewhere.Given as goal
 
 -- those among the positions so far

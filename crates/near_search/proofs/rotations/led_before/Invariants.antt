@@ -2,7 +2,7 @@ use Rattle.std.proofs.Common.{◌≡◌, map, take}
 use Rattle.std.specs.Prelude.{filter, nat_lt}
 use Rattle.desk_units.specs.declared.numbers.Leg.{Leg}
 use Rattle.desk_rules.specs.Rotations.{dep}
-use Rattle.move_laws.specs.Chains.{led}
+use Rattle.near_moves.specs.Chains.{led}
 use Rattle.near_search.proofs.rotations.led_before.Given as goal
 
 -- where the legs led that are passed

@@ -2,7 +2,7 @@ use Rattle.std.proofs.Common.{ℕ, ◌<◌, take, ap, ◌∙◌}
 use Rattle.desk_units.specs.declared.numbers.Leg.{Leg}
 use Rattle.desk_data.specs.declared.info.LegInfo.{LegInfo}
 use Rattle.desk_data.specs.Situation.{legs_of}
-use Rattle.move_laws.specs.Chains.{led, from_airport}
+use Rattle.near_moves.specs.Chains.{led, from_airport}
 use Rattle.near_search.specs.Rotations.{numbers_of}
 use Rattle.near_search.proofs.RotationLaws.{run-is, run-within}
 use Rattle.near_search.proofs.rotations.run_leads_to.Goals as goal

@@ -1,7 +1,7 @@
 use Rattle.std.proofs.Common.{ap, ◌∙◌}
 use Rattle.std.specs.Prelude.{Option}
 use Rattle.desk_units.specs.declared.numbers.Airport.{Airport}
-use Rattle.full_cost.specs.Stands.{is_there}
+use Rattle.plan_checks.specs.Stands.{is_there}
 use Rattle.near_untouched.proofs.HandLaws.{ends-is}
 use Rattle.near_untouched.proofs.ends.end_after.Goals as goal
 

@@ -1,7 +1,7 @@
 use Rattle.std.proofs.Common.{◌≡◌, ◌<◌, ℕ, length}
 use Rattle.std.specs.Prelude.{None, slice_index_or}
 use Rattle.desk_rules.specs.Cost.{ends_at}
-use Rattle.full_cost.specs.Stands.{is_there}
+use Rattle.plan_checks.specs.Stands.{is_there}
 use Rattle.near_untouched.proofs.ends.ends_after.Given as goal
 
 -- of the aircraft so far

@@ -1,6 +1,6 @@
 use Rattle.std.proofs.Common.{◌≡◌, Bool, false, ◌&&◌, rules, sym, ap, ◌∙◌}
 use Rattle.desk_rules.specs.Cost.{is_wanted}
-use Rattle.full_cost.specs.Stands.{is_there}
+use Rattle.plan_checks.specs.Stands.{is_there}
 use Rattle.near_untouched.proofs.positions.counts_other.Goals as goal
 
 pub returns-then-before-after : goal.returns-then-before-after

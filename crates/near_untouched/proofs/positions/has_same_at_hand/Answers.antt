@@ -6,7 +6,7 @@ use Rattle.std.proofs.lemmas.List.Elements.{All-more}
 use Rattle.desk_units.specs.declared.numbers.Plane.{Plane}
 use Rattle.desk_data.specs.declared.info.PlaneInfo.{PlaneInfo}
 use Rattle.desk_rules.specs.Cost.{is_wanted}
-use Rattle.full_cost.specs.Stands.{is_there}
+use Rattle.plan_checks.specs.Stands.{is_there}
 use Rattle.near_untouched.proofs.HandLaws.{IsSameHand, hands-same}
 use Rattle.near_untouched.proofs.positions.has_same_at_hand.Goals as goal
 

@@ -1,8 +1,8 @@
 use Rattle.std.proofs.Common.{ap, ◌∙◌}
 use Rattle.desk_units.specs.declared.money.Grains.{Grains}
-use Rattle.full_cost.specs.Counted.{group_on}
-use Rattle.full_cost.specs.Amounts.{path_cost}
-use Rattle.full_cost.proofs.EndLaws.{ended_is}
+use Rattle.plan_checks.specs.Counted.{group_on}
+use Rattle.plan_checks.specs.Amounts.{path_cost}
+use Rattle.plan_checks.proofs.EndLaws.{ended_is}
 use Rattle.page_parts.proofs.amounts.group_cost.Goals as goal
 
 pub returns : goal.returns

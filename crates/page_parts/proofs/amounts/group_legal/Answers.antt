@@ -1,5 +1,5 @@
 use Rattle.std.proofs.Common.{arith}
-use Rattle.full_cost.specs.Counted.{group_on}
+use Rattle.plan_checks.specs.Counted.{group_on}
 use Rattle.page_parts.proofs.TermLaws.{group_is}
 use Rattle.page_parts.proofs.amounts.group_legal.Goals as goal
 

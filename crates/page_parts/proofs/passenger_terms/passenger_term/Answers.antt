@@ -4,7 +4,7 @@ use Rattle.desk_data.specs.PlanRows.{groups_at}
 use Rattle.desk_data.specs.Situation.{reservations_of}
 use Rattle.desk_rules.specs.Numbers.{numbers}
 use Rattle.desk_rules.proofs.CostLaws.{sum-more, reservations-le}
-use Rattle.full_cost.proofs.GroupLaws.{passenger_most}
+use Rattle.plan_checks.proofs.GroupLaws.{passenger_most}
 use Rattle.page_parts.specs.Amounts.{amount}
 use Rattle.page_parts.proofs.TermLaws.{amount-le}
 use Rattle.page_parts.proofs.passenger_terms.passenger_term.Goals as goal

@@ -4,7 +4,7 @@ use Rattle.std.specs.Prelude.{sum_by}
 use Rattle.std.proofs.lemmas.List.Sums.{sum_by_more, sum_by_more_le}
 use Rattle.desk_data.specs.PlanRows.{groups_at}
 use Rattle.desk_rules.proofs.CostLaws.{reservation-le}
-use Rattle.full_cost.proofs.GroupLaws.{passenger_most, group-fits}
+use Rattle.plan_checks.proofs.GroupLaws.{passenger_most, group-fits}
 use Rattle.page_parts.specs.Amounts.{amount}
 use Rattle.page_parts.proofs.TermLaws.{amount-le}
 use Rattle.page_parts.proofs.passenger_terms.reservation_term.Goals as goal

@@ -5,7 +5,7 @@ use Rattle.desk_model.specs.declared.answer.Entry.{Entry}
 use Rattle.desk_model.specs.States.{opening}
 use Rattle.live_board.specs.Histories.{history, origin}
 use Rattle.live_board.specs.Words.{stands_for}
-use Rattle.desk_view.specs.Views.{AreSeen}
+use Rattle.desk_model.specs.Views.{AreSeen}
 use Rattle.desk_core.specs.Sights.{HaveLines}
 use Rattle.desk_core.specs.Told.{told_to}
 use Rattle.desk_core.proofs.board_telling.BoardTelling.end.Goals as goal

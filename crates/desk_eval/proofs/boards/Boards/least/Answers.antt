@@ -2,7 +2,7 @@ use Rattle.std.proofs.Common.{◌≡◌, ◌∙◌, None, Some, refl, sym, subst
 use Rattle.desk_rules.specs.Least.{least_rot, least_slots}
 use Rattle.desk_rules.proofs.LeastLaws.{least-split}
 use Rattle.board_rot.specs.Boards.{IsBoardOf as IsRotBoardOf}
-use Rattle.board_slots.specs.Board.{IsBoardOf as IsSlotBoardOf}
+use Rattle.board_kit.specs.Board.{IsBoardOf as IsSlotBoardOf}
 use Rattle.board_seats.specs.Board.{IsBoardOf as IsSeatBoardOf}
 use Rattle.desk_eval.proofs.boards.Boards.least.Goals as goal
 

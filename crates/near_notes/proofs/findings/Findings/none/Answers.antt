@@ -1,5 +1,5 @@
 use Rattle.std.proofs.Common.{ap, ◌∙◌, ℕ, List, replicate}
-use Rattle.number_rows.specs.Rows.{number_at}
+use Rattle.near_notes.specs.Rows.{number_at}
 use Rattle.near_notes.proofs.NotesLaws.{none-at}
 use Rattle.near_notes.proofs.findings.Findings.none.Goals as goal
 

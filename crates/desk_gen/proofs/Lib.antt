@@ -1,4 +1,0 @@
-mod DrawLaws
-mod NumberLaws
-mod SeatLaws
-mod LineLaws

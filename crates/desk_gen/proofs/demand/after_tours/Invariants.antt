@@ -1,6 +1,0 @@
-use Rattle.std.proofs.Common.{◌≡◌}
-use Rattle.desk_gen.specs.Draws.{seeded, state_after}
-use Rattle.desk_gen.proofs.demand.after_tours.Given as goal
-
-abbrev pub invariant-loop : goal.invariant-loop
-invariant-loop l = l.words ≡ state_after (seeded l.seed) l.counter

@@ -1,8 +1,0 @@
-use Rattle.std.proofs.Common.{◌≡◌}
-use Rattle.std.specs.List.{flat_map}
-use Rattle.desk_gen.specs.Draws.{numbers}
-use Rattle.desk_gen.specs.Fleet.{aircraft_line}
-use Rattle.desk_gen.proofs.fleet.aircraft_text.Given as goal
-
-abbrev pub invariant-loop-plane : goal.invariant-loop-plane
-invariant-loop-plane l = l.text.items ≡ flat_map aircraft_line (numbers l.plane)

@@ -1,3 +1,0 @@
-pub mod PathLaws
-pub mod JudgeLaws
-pub mod FerryTexts

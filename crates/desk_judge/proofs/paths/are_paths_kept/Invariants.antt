@@ -1,5 +1,0 @@
-use Rattle.desk_judge.specs.Paths.{KeepPaths}
-use Rattle.desk_judge.proofs.paths.are_paths_kept.Given as goal
-
-abbrev pub invariant-loop-r : goal.invariant-loop-r
-invariant-loop-r l = KeepPaths l.inst l.plan l.from l.r

@@ -1,8 +1,0 @@
-use Rattle.std.proofs.Common.{◌≡◌, ◌++◌, take}
-use Rattle.std.specs.List.{flat_map}
-use Rattle.desk_judge.specs.Lines.{report_line_of}
-use Rattle.desk_judge.proofs.texts.push_report_lines.Given as goal
-
--- the lines of the legs so far
-abbrev pub invariant-loop-added : goal.invariant-loop-added
-invariant-loop-added l = l.text.items ≡ l.fn.text.items ++ flat_map (report_line_of l.inst l.plan) (take l.added-index l.list)

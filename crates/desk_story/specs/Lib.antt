@@ -1,4 +1,0 @@
-pub mod Story
-pub mod Reading
-pub mod Faults
-pub mod Facts

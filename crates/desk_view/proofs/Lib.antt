@@ -1,2 +1,0 @@
-pub mod ViewLaws
-pub mod SightLaws

@@ -1,5 +1,0 @@
-use Rattle.file_laws.proofs.QuotedBack.{line_is_record}
-use Rattle.file_laws.proofs.journal_law.lines_are_records.Goals as goal
-
-pub returns : goal.returns
-returns c = line_is_record

@@ -1,6 +1,0 @@
-use Rattle.file_laws.proofs.Few.{kept_few}
-use Rattle.file_laws.proofs.Kept.{kept_stored}
-use Rattle.file_laws.proofs.kept_law.an_accepted_story_can_be_stored.Goals as goal
-
-pub returns : goal.returns
-returns c = record { can = kept_stored; few = kept_few }

@@ -1,4 +1,0 @@
-pub mod Lengths
-pub mod Named
-pub mod Plain
-pub mod Due

@@ -1,3 +1,0 @@
-pub mod GroupLaws
-pub mod EndLaws
-pub mod StandLaws

@@ -1,7 +1,0 @@
-use Rattle.std.proofs.Common.{◌≡◌, ◌≤◌, take}
-use Rattle.full_cost.specs.Stands.{count_of_wanted}
-use Rattle.full_cost.proofs.position.at_hand.Given as goal
-
--- those among the aircraft so far
-abbrev pub invariant-loop-p : goal.invariant-loop-p
-invariant-loop-p l = (l.count ≡ count_of_wanted l.inst l.position (take l.p-index l.here)) × (l.count ≤ l.p-index)

@@ -1,4 +1,0 @@
-pub mod Weighed
-pub mod Counted
-pub mod Amounts
-pub mod Stands

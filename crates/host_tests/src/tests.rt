@@ -1,6 +1,0 @@
-//! The tests, by what they ask.
-
-mod disk;
-mod folder;
-mod records;
-mod text;

@@ -1,9 +1,0 @@
-pub mod Readers
-pub mod Moves
-pub mod Loops
-pub mod Read
-pub mod FitLaws
-pub mod NextLaws
-pub mod PayloadLaws
-pub mod EnteredLaws
-pub mod StoreLaws

@@ -1,5 +1,0 @@
-use Rattle.journal_disk.proofs.StoreLaws.{events_stand, stand_events}
-use Rattle.journal_disk.proofs.laws.payloads_that_may_stand_are_of_events.Goals as goal
-
-pub returns : goal.returns
-returns c = record { stand = events_stand; events = stand_events }

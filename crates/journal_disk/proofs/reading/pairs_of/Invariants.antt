@@ -1,6 +1,0 @@
-use Rattle.std.proofs.Common.{◌≡◌, ◌-◌}
-use Rattle.journal_disk.specs.Reading.{many, behind_front, pair_at}
-use Rattle.journal_disk.proofs.reading.pairs_of.Given as goal
-
-abbrev pub invariant-loop : goal.invariant-loop
-invariant-loop l = behind_front l.pairs.items (many pair_at (l.count - l.counter) l.rest) ≡ many pair_at l.count l.bytes

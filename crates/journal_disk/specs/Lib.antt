@@ -1,4 +1,0 @@
-pub mod Spelling
-pub mod Reading
-pub mod Payloads
-pub mod Store

@@ -1,4 +1,0 @@
-mod SeatLemmas
-mod ShortLemmas
-pub mod StepLemmas
-mod TextLemmas

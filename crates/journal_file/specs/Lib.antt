@@ -1,4 +1,0 @@
-pub mod Facts
-pub mod Tokens
-pub mod Steps
-pub mod Journal

@@ -1,5 +1,0 @@
-use Rattle.move_laws.proofs.RestoreLaws.{restored_in_vain}
-use Rattle.move_laws.proofs.chain_laws.a_leg_that_leaves_elsewhere_is_restored_in_vain.Goals as goal
-
-pub returns : goal.returns
-returns c = restored_in_vain

@@ -1,5 +1,0 @@
-use Rattle.move_laws.proofs.KeptLaws.{kept-flies}
-use Rattle.move_laws.proofs.chain_laws.steps_but_set_and_swap_leave_legs_to_their_aircraft.Goals as goal
-
-pub returns : goal.returns
-returns c = kept-flies

@@ -1,5 +1,0 @@
-use Rattle.move_laws.proofs.RowLaws.{first-break}
-use Rattle.move_laws.proofs.row_laws.a_rule_of_rows_that_first_steps_break_stays_broken.Goals as goal
-
-pub returns : goal.returns
-returns c = first-break

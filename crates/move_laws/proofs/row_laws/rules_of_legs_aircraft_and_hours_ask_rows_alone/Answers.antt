@@ -1,5 +1,0 @@
-use Rattle.move_laws.proofs.RowLaws.{rows-break}
-use Rattle.move_laws.proofs.row_laws.rules_of_legs_aircraft_and_hours_ask_rows_alone.Goals as goal
-
-pub returns : goal.returns
-returns c = rows-break

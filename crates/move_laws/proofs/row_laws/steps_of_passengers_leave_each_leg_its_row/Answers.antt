@@ -1,5 +1,0 @@
-use Rattle.move_laws.proofs.RowLaws.{steps-rows}
-use Rattle.move_laws.proofs.row_laws.steps_of_passengers_leave_each_leg_its_row.Goals as goal
-
-pub returns : goal.returns
-returns c = steps-rows

@@ -1,5 +1,0 @@
-use Rattle.near_units.proofs.OutLaws.{unit-worse}
-use Rattle.near_units.proofs.laws.a_unit_that_is_out_has_no_better_move.Goals as goal
-
-pub returns : goal.returns
-returns c = unit-worse

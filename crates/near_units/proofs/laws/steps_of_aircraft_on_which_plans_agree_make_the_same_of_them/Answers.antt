@@ -1,5 +1,0 @@
-use Rattle.near_units.proofs.FrameLaws.{steps-alike}
-use Rattle.near_units.proofs.laws.steps_of_aircraft_on_which_plans_agree_make_the_same_of_them.Goals as goal
-
-pub returns : goal.returns
-returns c = steps-alike

@@ -1,5 +1,0 @@
-pub mod Same
-pub mod Steps
-pub mod Room
-pub mod Own
-pub mod Out

@@ -1,5 +1,0 @@
-use Rattle.std.proofs.Common.{◌≡◌, [], map, replicate}
-use Rattle.number_rows.proofs.rows.NumberRows.zeros.Given as goal
-
-abbrev pub invariant-loop : goal.invariant-loop
-invariant-loop l = map (λ r. r.items) l.all.items ≡ replicate l.counter []

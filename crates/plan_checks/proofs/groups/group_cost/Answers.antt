@@ -1,0 +1,12 @@
+use Rattle.std.proofs.Common.{ap, ◌∙◌}
+use Rattle.desk_rules.specs.Cost.{grains}
+use Rattle.plan_checks.specs.Counted.{group_on}
+use Rattle.plan_checks.specs.Amounts.{path_cost}
+use Rattle.plan_checks.proofs.EndLaws.{ended_is}
+use Rattle.plan_checks.proofs.groups.group_cost.Goals as goal
+
+pub returns : goal.returns
+returns g c =
+    let group = group_on c.args.path.now c.args.count in
+    c.cost_by_end.ensures
+    ∙ ap grains (ap (path_cost c.args.inst.now c.args.res.0 group) c.path_end.ensures.end ∙ ended_is c.args.inst.now (g.P.ReadPlan.plan_of c.args.plan.now) c.args.res.0 group)

@@ -1,8 +1,0 @@
-pub mod RuleLaws
-pub mod UpkeepLaws
-pub mod PlaceLaws
-pub mod SortedLaws
-pub mod TakenLaws
-pub mod SlotItemLaws
-pub mod SeatLaws
-pub mod PassengerItemLaws

@@ -1,6 +1,0 @@
-use Rattle.std.proofs.Common.{◌≡◌, ℕ, ◌<◌, true}
-use Rattle.rule_checks.specs.Items.{keeps}
-use Rattle.rule_checks.proofs.rule.first_broken.Given as goal
-
-abbrev pub invariant-loop-n : goal.invariant-loop-n
-invariant-loop-n l = (k : ℕ) → k < l.n → keeps l.inst l.plan l.rule k ≡ true

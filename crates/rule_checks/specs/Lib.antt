@@ -1,4 +1,0 @@
-pub mod Upkeep
-pub mod Items
-pub mod TakenSlots
-pub mod TakenSeats
