@@ -5,7 +5,8 @@ Usage: bench/many_times.py [--times 200] [--seconds 60] [CRATE ..]   without wor
 
 What threads do first is another thing in each run, so that a test of threads that passed once says little. Each test is run so often, as
 `rt test` has built it, and so is desk_rows, built by `rt run`, which then plays the cases with workers alone. A run that takes longer than so
-many seconds is ended, and has failed. desk_tests has walks of changes and tests of files beside those with threads: they are run as often.
+many seconds is ended, and has failed. Of desk_tests those of threads are run, and those of files beside them; its walks of changes are the same
+in each run, and are left out.
 
 Prints a line a test: how many runs there were, how many failed, and how long the longest took. The status is 1 where one failed.
 """
@@ -19,6 +20,8 @@ import time
 
 CRATES = os.path.join(os.path.dirname(os.path.dirname(os.path.abspath(__file__))), "crates")
 USUAL = ["desk_tests", "desk_rows"]
+# the modules of tests with threads, and of tests of files
+MODULES = {"host", "live", "turn"}
 
 
 def program_of(crate):
@@ -44,9 +47,10 @@ def put_cases(folder):
 
 
 def tests_of(program):
-    """The full names of the tests of a built program."""
+    """The full names of the tests with threads, and of files, of a built program."""
     told = subprocess.run([program, "--list"], stdout=subprocess.PIPE, text=True, check=True).stdout
-    return [line.rsplit(": ", 1)[0] for line in told.splitlines() if line.endswith(": test")]
+    names = [line.rsplit(": ", 1)[0] for line in told.splitlines() if line.endswith(": test")]
+    return [name for name in names if MODULES & set(name.split("::"))]
 
 
 def run(command, folder, seconds):
