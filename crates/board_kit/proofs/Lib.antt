@@ -1,8 +1,6 @@
 pub mod FirstLaws
 pub mod MemberLaws
 pub mod ItemLaws
-pub mod RowLaws
-pub mod SumLaws
 pub mod UserLaws
 pub mod KeyLaws
 pub mod SlotLaws

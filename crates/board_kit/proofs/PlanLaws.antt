@@ -9,7 +9,7 @@ use Rattle.desk_rules.specs.Numbers.{numbers}
 use Rattle.std.proofs.lemmas.List.Sums.{count_by-le-length, sum_by_push}
 use Rattle.desk_rules.proofs.HourLaws.{length-numbers}
 use Rattle.hour_counts.specs.Counts.{one_if}
-use Rattle.board_kit.proofs.RowLaws.{count_of_rows}
+use Rattle.step_laws.proofs.RowLaws.{count_of_rows}
 use Rattle.std.specs.Prelude.{Option}
 use Rattle.board_kit.specs.declared.slot.SlotUse.{SlotUse}
 use Rattle.board_kit.specs.declared.slot.By.{By}

@@ -16,8 +16,8 @@ use Rattle.desk_model.specs.declared.answer.Event.TheVariants as event
 use Rattle.desk_model.specs.States.{State, opening}
 use Rattle.desk_model.specs.Histories.{state, proposal_limit, has_room, entry_of, changes}
 use Rattle.desk_model.specs.Promises.{cost_of}
-use Rattle.desk_model.proofs.HistoryLaws.{state-parts, askable-parts}
-use Rattle.desk_model.proofs.StateLaws.{opening-inst}
+use Rattle.desk_model.proofs.HistoryLaws.{state-parts, state-append, askable-parts}
+use Rattle.desk_model.proofs.StateLaws.{opening-inst, after-move-inst}
 use Rattle.desk_core.specs.Recorded.{Recorded, state_of, with_entry}
 use Rattle.near_moves.specs.Descent.{is_better, first_better, IsQuiet, end_by, is_spent, next_proposal, with_proposal, descent_of}
 use Rattle.near_moves.specs.Descents.{batch_in, batches_in}
@@ -150,6 +150,24 @@ still-batch i most B N batch is given =
     ap (λ (E : Recorded). length (batches_in E.journal)) is
     ∙ ap length (steps_batches i most (opening B.opening) B.journal)
     ∙ given
+
+-- ---- the day of a descent
+
+-- a proposal leaves the instance
+with_inst : (S : State) (h : List Entry) (o : Option Move) → (state S (with_proposal S h o)).inst ≡ (state S h).inst
+with_inst S h None = refl
+with_inst S h (Some m) =
+    let entry : Entry = entry_of (state S h) 0 (event.Move m) in
+    ap (λ (T : State). T.inst) (state-append S h (entry ∷ [])) ∙ after-move-inst (state S h) m
+
+steps_inst : (n most : ℕ) (S : State) (h : List Entry) → (state S (descent_of n most S h)).inst ≡ (state S h).inst
+unfolding descent_of
+steps_inst zero most S h = refl
+steps_inst (suc n) most S h = steps_inst n most S (with_proposal S h (next_proposal most S h)) ∙ with_inst S h (next_proposal most S h)
+
+-- after some steps of a descent the instance is the same
+pub still-inst : (i most : ℕ) (B N : Recorded) → N ≡ after_steps i most B → (state_of N).inst ≡ (state_of B).inst
+still-inst i most B N is = ap (λ (E : Recorded). (state_of E).inst) is ∙ steps_inst i most (opening B.opening) B.journal
 
 -- what is told of a book
 abbrev pub told : ℕ → ℕ → Grains → Headway

@@ -8,7 +8,7 @@ ghost use Rattle.near_moves.specs.Descents.{batches_in};
 ghost use Rattle.book_commands.specs.Ending.{ending, after_descent, IsUnderWay};
 ghost use Rattle.book_commands.specs.Reached.{headway_of};
 
-use crate::step::{is_spent, step};
+use crate::step::{FirstBetter, is_spent, step};
 use desk_core::Book;
 use desk_data::NoMem;
 use desk_units::{Headway, Listener};
@@ -38,14 +38,15 @@ pub fn descend<L: Listener>(
     ensures quiet { IfOk result (λ ended. ended ≡ Some Quiet → IsQuiet (state_of book.new)) }
     ensures err { OnErr result (IsUnderWay most book.old book.new) }
 {
-    let mut finder = Finder::new();
+    let finder = Finder::new();
+    let mut search = FirstBetter { finder, listener };
     for _ in 0..most {
-        tell(book, batch, listener);
-        if !step(alloc, book, &mut finder, most, listener)? {
+        tell(book, batch, search.listener);
+        if !step(alloc, book, &mut search, most)? {
             return Ok(ending(book, most));
         }
     }
-    tell(book, batch, listener);
+    tell(book, batch, search.listener);
     Ok(ending(book, most))
 }
 

@@ -201,14 +201,16 @@ impl Book {
         &self.eval
     }
 
-    /// What a search finds at the plan. It works on the book's own evaluator, of which no copy is made, and the
-    /// book stays as it is, after an error too, which is out of memory.
+    /// What a search finds at the plan, which serves the book's instance. It works on the book's own evaluator, of which no
+    /// copy is made, and the book stays as it is, after an error too, which is out of memory.
     pub fn search<S: Search>(
         &mut self,
         alloc: Global,
         search: &mut S,
     ) -> Result<Option<Move>, NoMem>
+        requires { S.serves search.old (state_of self.old).inst }
         ensures found { IfOk result (λ found. S.finds (state_of self.old).inst (state_of self.old).plan found) }
+        ensures day { S.serves search.new (state_of self.old).inst }
         ensures same { self.new ≡ self.old }
     {
         search.search(alloc, &mut self.eval)

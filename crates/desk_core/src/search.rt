@@ -15,10 +15,15 @@ pub trait Search {
     /// What it finds at a plan of an instance.
     ghost finds: { Situation → PlanRows → Option Asked → Type 0 };
 
-    /// What is found at the plan of an evaluator whose past is empty. The evaluator stands where it stood, after
-    /// an error too, which is out of memory.
+    /// Of which instances it may search the plans: what it keeps between its calls is true of them.
+    ghost serves: { Self → Situation → Type 0 };
+
+    /// What is found at the plan of an evaluator whose past is empty, and whose instance the search serves. The evaluator
+    /// stands where it stood, and is served still, after an error too, which is out of memory.
     fn search(&mut self, alloc: Global, eval: &mut Evaluator) -> Result<Option<Move>, NoMem>
-        requires { eval.old.past ≡ [] }
+        requires past { eval.old.past ≡ [] }
+        requires day { serves self.old eval.old.inst }
         ensures found { IfOk result (λ found. finds eval.old.inst eval.old.rows found) }
+        ensures day { serves self.new eval.old.inst }
         ensures eval { eval.new ≡ eval.old };
 }

@@ -1,17 +1,16 @@
 //! The evaluator.
 
-ghost use Rattle.std.specs.Prelude.{◌≡◌, ◌+◌, ◌<◌, ◌≤◌, [], ◌∷◌, length, map, filter, not, All, IfOk, IfSome, OnOk, OnErr};
+ghost use Rattle.std.specs.Prelude.{◌≡◌, ◌+◌, ◌<◌, ◌≤◌, [], ◌∷◌, length, map, filter, not, All, IfOk, OnOk, OnErr};
 ghost use Rattle.std.specs.Arc.{arc_value};
 ghost use Rattle.desk_eval.specs.Asked.{AreBooked};
 
 use crate::boards::Boards;
 use crate::change::{change_groups, change_row};
-use board_kit::{Board, LegUsers};
+use board_kit::{Board, LegUsers, SlotBoard};
 use desk_data::{
     Airport, Broken, Cabin, Grains, Group, Instance, Leg, NoMem, Plan, Plane, Res, Row, Steps,
 };
 use hour_counts::KnowsHours;
-use near_notes::{NotedDay, Notes, UnitNotes};
 use plan_pages::{Page, Pages, copied_groups};
 use plan_reads::KnowsAboard;
 use std::alloc::Global;
@@ -22,11 +21,9 @@ use std::sync::ledger::Ledger;
 /// A plan that changes place by place. At each moment it knows the first item that the plan breaks
 /// and what the plan costs, as a check and a cost from scratch would say. It keeps its past, the
 /// plans before each change, so that changes are taken back. Contracts see it as the instance, the
-/// plan's rows and groups, and those of its past, the last first. What a search noted of the day it keeps
-/// for the next one, and contracts do not see it.
+/// plan's rows and groups, and those of its past, the last first.
 pub struct Evaluator {
-    /// The day, with what a search noted of it.
-    inst: NotedDay,
+    inst: Instance,
     pages: Pages,
     boards: Boards,
     /// Who is booked on each leg, which is that of the day: all its evaluators may share it.
@@ -71,9 +68,10 @@ impl Evaluator {
     ghost use Rattle.desk_rules.specs.Numbers.{numbers};
     ghost use Rattle.desk_model.specs.Push.{rotation};
     ghost use Rattle.desk_eval.specs.Asked.{keeps_paths};
+    ghost use Rattle.std.specs.Prelude.{List as Items};
+    ghost use Rattle.desk_data.specs.PlanRows.{PlanRows};
+    ghost use Rattle.board_kit.specs.Board.{IsBoardOf};
     ghost use Rattle.board_kit.specs.Users.{is_booked_on};
-    ghost use Rattle.near_notes.specs.DayNotes.{AreNotes};
-    ghost use Rattle.near_notes.specs.Notes.{AreUnitNotes};
     ghost use Rattle.desk_eval.specs.Boards.{AreBoardsOf};
     ghost use Rattle.desk_eval.specs.Evaluated.{after_change, row_reads, group_reads};
 
@@ -142,7 +140,7 @@ impl Evaluator {
         ensures { result ≡ record { inst = inst; rows = pages; past = [] } }
     {
         Evaluator {
-            inst: NotedDay::of(inst),
+            inst,
             pages,
             boards,
             booked,
@@ -154,7 +152,7 @@ impl Evaluator {
     pub fn instance(&self) -> &Instance
         ensures { result.now ≡ self.now.inst }
     {
-        self.inst.instance()
+        &self.inst
     }
 
     /// The plan as it stands.
@@ -211,7 +209,7 @@ impl Evaluator {
         self.past.reserve(1)?;
         let page = change_row(
             alloc,
-            self.inst.instance(),
+            &self.inst,
             &mut self.pages,
             &mut self.boards.all,
             leg,
@@ -247,7 +245,7 @@ impl Evaluator {
         self.past.reserve(1)?;
         let page = change_groups(
             alloc,
-            self.inst.instance(),
+            &self.inst,
             &mut self.pages,
             &mut self.boards.all,
             res,
@@ -265,7 +263,7 @@ impl Evaluator {
     pub fn copy(&self, alloc: Global) -> Result<Evaluator, NoMem>
         ensures { IfOk result (λ copy. copy ≡ record self.now { past = [] }) }
     {
-        let inst = self.inst.instance().copy()?;
+        let inst = self.inst.copy()?;
         let pages = self.pages.share(alloc)?;
         let boards = self.boards.copy(alloc)?;
         let booked = self.booked.clone()?;
@@ -294,37 +292,11 @@ impl Evaluator {
         self.past.clear();
     }
 
-    /// Hands out what a search noted of rebookings, at the plan at which it did, and keeps none of it. An evaluator that
-    /// was just made has nothing noted, and no change of the plan touches what is.
-    pub fn take_notes(&mut self) -> Option<Notes>
-        ensures notes { IfSome result (AreNotes self.old.inst) }
-        ensures same { self.new ≡ self.old }
+    /// How many legs take each slot of the plan.
+    pub fn slots(&self) -> &SlotBoard
+        ensures { (Ps : Items PlanRows) × IsBoardOf self.now.inst self.now.rows Ps result.now }
     {
-        self.inst.take_notes()
-    }
-
-    /// Keeps notes of rebookings, in the place of those that it has. They may be of any plan for the day.
-    pub fn put_notes(&mut self, notes: Notes)
-        requires { AreNotes self.old.inst notes }
-        ensures { self.new ≡ self.old }
-    {
-        self.inst.put_notes(notes);
-    }
-
-    /// Hands out what a search noted of units of legs, as `take_notes` does with what it noted of rebookings.
-    pub fn take_unit_notes(&mut self) -> Option<UnitNotes>
-        ensures notes { IfSome result (AreUnitNotes self.old.inst) }
-        ensures same { self.new ≡ self.old }
-    {
-        self.inst.take_unit_notes()
-    }
-
-    /// Keeps notes of units of legs, in the place of those that it has. They may be of any plan for the day.
-    pub fn put_unit_notes(&mut self, notes: UnitNotes)
-        requires { AreUnitNotes self.old.inst notes }
-        ensures { self.new ≡ self.old }
-    {
-        self.inst.put_unit_notes(notes);
+        self.boards.slots()
     }
 
     /// The legs that an aircraft flies, in their order. No others are walked over. The only error is out of
@@ -401,7 +373,7 @@ impl KnowsAboard for Evaluator {
     ghost knows = { λ e Q. Q ≡ e.rows };
 
     fn aboard(&self, leg: Leg, cabin: Cabin) -> u32 {
-        if leg.0 < self.inst.instance().legs() {
+        if leg.0 < self.inst.legs() {
             self.boards.seats().aboard(leg, cabin)
         } else {
             0

@@ -5,7 +5,7 @@ ghost use Rattle.desk_data.specs.Situation.{legs_of, planes_of};
 ghost use Rattle.desk_data.specs.PlanRows.{row_at, with_row};
 ghost use Rattle.desk_model.specs.Swap.{after_swap, other_plane, row_after_swap};
 ghost use Rattle.desk_eval.specs.Back.{IsAfter};
-ghost use Rattle.desk_eval.specs.Swapped.{legs_of_both};
+ghost use Rattle.step_laws.specs.Swapped.{legs_of_both};
 
 use crate::Evaluator;
 use crate::changes::set_row;

@@ -1,6 +1,7 @@
 -- What follows a history stands at a beginning of it.
-use Rattle.std.proofs.Common.{◌≡◌, ℕ, ◌+◌, ◌<◌, ◌≤◌, Bool, true, false, cond, List, [], ◌∷◌, ◌++◌, length, take, drop, get_or, slice_get, refl, sym, ap, ◌∙◌, subst, arith, length-drop}
+use Rattle.std.proofs.Common.{◌≡◌, ℕ, ◌+◌, ◌<◌, ◌≤◌, inl, inr, Bool, true, false, cond, List, [], ◌∷◌, ◌++◌, length, take, drop, get_or, slice_get, refl, sym, ap, ◌∙◌, subst, arith, length-drop}
 use Rattle.std.specs.Prelude.{Some, reverse, take_while, count_by, not}
+use Rattle.std.proofs.lemmas.Bool.{cases_Bool}
 use Rattle.std.proofs.lemmas.List.{take-append-le, take_all, get_or-drop, reverse-append, length-take, length-reverse}
 use Rattle.std.proofs.lemmas.List.Sums.{sum_by-append, sum_by-cons, take_while-cons, count_by-le-length}
 use Rattle.std.proofs.lemmas.Option.{slice_get_within, slice_get-get_or}
@@ -8,14 +9,18 @@ use mathlib.Core.List.{IsPrefix}
 use Rattle.turn_book.proofs.Prefixes.{prefix_length}
 use Rattle.desk_data.specs.Situation.{Situation}
 use Rattle.desk_model.specs.declared.answer.Entry.{Entry}
+use Rattle.desk_model.specs.declared.answer.Event.{Event}
+use Rattle.desk_model.specs.declared.answer.Event.TheVariants as event
 use Rattle.desk_model.specs.States.{State, opening, answer, after}
 use Rattle.desk_model.specs.Histories.{state, IsLegal, IsAskable, is_batch, is_accepted, is_change, changes, since_batch, accepted_since_batch}
 use Rattle.desk_rules.specs.Least.{least}
-use Rattle.desk_model.proofs.StateLaws.{KnowsBroken, opening-known}
+use Rattle.desk_model.proofs.StateLaws.{KnowsBroken, opening-known, after-move-inst}
 use Rattle.desk_model.proofs.HistoryLaws.{state-next, state-known, take-next}
 use Rattle.desk_eval.specs.Evaluated.{Evaluated}
 use Rattle.desk_core.specs.Recorded.{Recorded, state_of}
 use Rattle.desk_core.specs.Judged.{state_in}
+use Rattle.near_search.specs.declared.finder.Finder.{Finder}
+use Rattle.near_search.specs.Finders.{IsFinderOf}
 use Rattle.desk_pool.specs.declared.follower.Follower.{Follower}
 use Rattle.desk_pool.specs.Follows.{StandsAt, IsOneLater}
 
@@ -77,6 +82,25 @@ next_stands I f g h entry stands at behind =
       changes = behind.changes ∙ ap (λ (n : ℕ). n + cond (is_change entry.event entry.answer) 1 0) stands.changes ∙ sym (changes_next (take f.followed h) entry) ∙ ap changes (sym grown);
       accepted = behind.accepted ∙ ap (λ (n : ℕ). cond (is_batch entry.event) 0 (n + cond (is_accepted entry.answer) 1 0)) stands.accepted ∙ sym (since_next (take f.followed h) entry (is_batch entry.event) refl) ∙ ap accepted_since_batch (sym grown);
     }
+
+-- ---- what a finder serves
+
+-- an event that is no batch leaves the instance
+same_day : (S : State) (e : Event) → is_batch e ≡ false → (after S e).inst ≡ S.inst
+same_day S (event.Batch B) no_batch = absurd cc
+same_day S (event.Move m) no_batch = after-move-inst S m
+
+-- one entry later a finder serves the day that it is then, if it began anew after a batch
+pub finder_next : (f g : Follower) (entry : Entry) (old new : Finder) → IsOneLater f entry g → IsFinderOf f.eval.inst old → ((I : Situation) → is_batch entry.event ≡ false → IsFinderOf I old → IsFinderOf I new) → ((I : Situation) → is_batch entry.event ≡ true → IsFinderOf I new) → IsFinderOf g.eval.inst new
+finder_next f g entry old new behind serves same anew =
+    elim (cases_Bool (is_batch entry.event)) [
+      | inl batch ↦ anew g.eval.inst batch
+      | inr proposal ↦
+          let day : g.eval.inst ≡ f.eval.inst = ap (λ (S : State). S.inst) behind.state ∙ same_day (state_in f.eval) entry.event proposal in
+          subst (λ (I : Situation). IsFinderOf I new) (sym day) (same f.eval.inst proposal serves)
+    ]
+
+-- ---- items
 
 -- an item of what is after some first entries
 pub item_after : (h items : List Entry) (n i : ℕ) (x : Entry) → items ≡ drop n h → i < length items → x ≡ get_or items i x → slice_get h (n + i) ≡ Some x

@@ -55,6 +55,7 @@ ready_longer I s h g ready p = record {
   some = ready.some;
   few = ready.few;
   stands = stands_longer I s.follower h g ready.stands p;
+  finder = ready.finder;
   trail = trail-longer s.number s.shards (opening I) s.trail.items h g p ready.trail;
 }
 

@@ -24,6 +24,7 @@ use Rattle.desk_pool.specs.declared.searcher.Searcher.{Searcher}
 use Rattle.desk_pool.specs.declared.searcher.Next.{Next}
 use Rattle.desk_pool.specs.declared.searcher.Next.TheVariants.{Ends, Proposes}
 use Rattle.desk_pool.specs.Reports.{report_at}
+use Rattle.near_search.specs.Finders.{IsFinderOf}
 use Rattle.desk_pool.specs.Follows.{StandsAt}
 use Rattle.desk_pool.specs.Rounds.{Knows, IsReady, IsSameShard, IsSameSearcher, NotesNone, NotesOne, IsReportedBy, HasRound, IsFound, IsNoted, HasProposed, end_of}
 use Rattle.desk_pool.proofs.Following.{stands_longer}
@@ -40,11 +41,12 @@ if_err (Err e) P is = tt
 
 -- ---- readiness
 
-pub ready_on : (I : Situation) (s t : Searcher) (h g : List Entry) → IsReady I s h → IsPrefix h g → IsSameShard s t → StandsAt I t.follower g → t.trail.items ≡ s.trail.items → IsReady I t g
-ready_on I s t h g ready p same stands trail = record {
+pub ready_on : (I : Situation) (s t : Searcher) (h g : List Entry) → IsReady I s h → IsPrefix h g → IsSameShard s t → StandsAt I t.follower g → IsFinderOf t.follower.eval.inst t.finder → t.trail.items ≡ s.trail.items → IsReady I t g
+ready_on I s t h g ready p same stands finder trail = record {
   some = (let a = ready.some in omega (arith, a, same.number));
   few = (let a = ready.few in omega (arith, a, same.number, same.shards));
   stands = stands;
+  finder = finder;
   trail = rw (same.number, same.shards, trail) (trail-longer s.number s.shards (opening I) s.trail.items h g p ready.trail);
 }
 
@@ -129,11 +131,12 @@ round_proposes most I s t next m v u w old new r looked same kept e found is pro
     }
 
 -- a searcher after its proposal
-pub ready_proposed : {F : Type 0} (most : ℕ) (I : Situation) (t x : Searcher) (next : Next) (m : Move) (u w : Knows) (p : Result (Unit {0}) F) → IsReady I t u.seen → StandsAtEnd I t.follower u.seen → IsFound most t next → next ≡ Proposes m → HasProposed I t m u w x.trail.items p → IsSameShard t x → x.follower ≡ t.follower → IsReady I x w.seen
-ready_proposed most I t x next m u w p ready e found is proposed same follower = record {
+pub ready_proposed : {F : Type 0} (most : ℕ) (I : Situation) (t x : Searcher) (next : Next) (m : Move) (u w : Knows) (p : Result (Unit {0}) F) → IsReady I t u.seen → StandsAtEnd I t.follower u.seen → IsFound most t next → next ≡ Proposes m → HasProposed I t m u w x.trail.items p → IsSameShard t x → x.follower ≡ t.follower → x.finder ≡ t.finder → IsReady I x w.seen
+ready_proposed most I t x next m u w p ready e found is proposed same follower kept = record {
   some = (let a = ready.some in omega (arith, a, same.number));
   few = (let a = ready.few in omega (arith, a, same.number, same.shards));
   stands = subst (λ (f : Follower). StandsAt I f w.seen) (sym follower) (stands_longer I t.follower u.seen w.seen ready.stands proposed.began);
+  finder = subst (λ (f : Follower). IsFinderOf f.eval.inst x.finder) (sym follower) (subst (IsFinderOf t.follower.eval.inst) (sym kept) ready.finder);
   trail = rw (same.number, same.shards) (⊎_elim
       (λ (none : NotesNone u w t.trail.items x.trail.items). subst (λ (l : List Trail). IsTrueTrail t.number t.shards (opening I) l w.seen) (sym none.trail) (trail-longer t.number t.shards (opening I) t.trail.items u.seen w.seen proposed.began ready.trail))
       (λ (by : IsNoted t m u w x.trail.items). trail_noted most I t next m u w x.trail.items by e proposed.began found is ready.trail)

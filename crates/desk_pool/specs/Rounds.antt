@@ -9,6 +9,7 @@ use Rattle.desk_model.specs.declared.answer.Event.TheVariants as event
 use Rattle.desk_model.specs.States.{opening}
 use Rattle.desk_model.specs.Histories.{proposal_limit}
 use Rattle.near_moves.specs.Descent.{first_better}
+use Rattle.near_search.specs.Finders.{IsFinderOf}
 use Rattle.turn_book.specs.declared.view.View.{View}
 use Rattle.desk_teams.specs.declared.trail.Trail.{Trail}
 use Rattle.desk_teams.specs.Trails.{IsTrueTrail, IsInBudget}
@@ -25,14 +26,15 @@ use Rattle.desk_pool.specs.Follows.{StandsAt}
 abbrev pub Knows : Type 0
 Knows = View Situation Entry
 
--- a searcher can make a round where its pass has seen this history: it stands at the state after a beginning of it, and its trail is true of it
+-- a searcher can make a round where its pass has seen this history: it stands at the state after a beginning of it, its finder serves the day there, and its trail is true of it
 pub record IsReady (I : Situation) (s : Searcher) (h : List Entry) : Type 0 where
   pub some : 1 ≤ s.number
   pub few : s.number ≤ s.shards
   pub stands : StandsAt I s.follower h
+  pub finder : IsFinderOf s.follower.eval.inst s.finder
   pub trail : IsTrueTrail s.number s.shards (opening I) s.trail.items h
 
--- nothing but the count of its rounds is other than before
+-- nothing but the count of its rounds, and what its finder noted, is other than before
 pub record IsSameSearcher (s t : Searcher) : Type 0 where
   pub number : t.number ≡ s.number
   pub shards : t.shards ≡ s.shards

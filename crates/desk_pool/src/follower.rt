@@ -1,17 +1,20 @@
 //! A state that follows a history, entry by entry.
 
-ghost use Rattle.std.specs.Prelude.{◌≡◌, ◌+◌, ◌-◌, ◌<◌, ◌≤◌, ◌^◌, ◌||◌, nat_le, [], length, IfOk, OnOk, OnErr};
+ghost use Rattle.std.specs.Prelude.{◌≡◌, ◌+◌, ◌-◌, ◌<◌, ◌≤◌, ◌^◌, ◌||◌, nat_le, [], length, IfOk, OnOk, OnErr, false, true};
+ghost use Rattle.desk_data.specs.Situation.{Situation};
 ghost use Rattle.desk_rules.specs.Least.{least};
 ghost use Rattle.desk_model.specs.States.{answer};
 ghost use Rattle.desk_model.specs.Histories.{IsAskable, is_accepted, is_batch, proposal_limit};
 ghost use Rattle.desk_core.specs.Judged.{state_in};
 ghost use Rattle.desk_core.specs.Turned.{opening_of};
 ghost use Rattle.turn_book.specs.Passes.{first_book, known, seen, IsPassOf, Looked};
+ghost use Rattle.near_search.specs.Finders.{IsFinderOf};
 ghost use Rattle.desk_pool.specs.Follows.{StandsAt, IsOneLater};
 
 use desk_core::{Book, Entry, Evaluator, Event, follow};
 use desk_data::{Broken, NoMem};
 use desk_model::Answer;
+use near_search::Finder;
 use std::alloc::Global;
 use std::sync::Wait;
 use turn_book::{Pass, Turn};
@@ -54,6 +57,16 @@ fn is_accepted(answer: &Answer) -> bool
     }
 }
 
+/// A finder goes on after an event: it begins anew after a batch, since that changes the day.
+fn go_on(finder: &mut Finder, event: &Event)
+    ensures same { (I : Situation) → is_batch event.now ≡ false → IsFinderOf I finder.old → IsFinderOf I finder.new }
+    ensures anew { (I : Situation) → is_batch event.now ≡ true → IsFinderOf I finder.new }
+{
+    if is_batch(event) {
+        *finder = Finder::new();
+    }
+}
+
 impl Follower {
     /// The state of a book, on a copy of its evaluator. The only error is out of memory.
     pub(crate) fn of(alloc: Global, book: &Book) -> Result<Follower, NoMem>
@@ -93,26 +106,30 @@ impl Follower {
         Ok(())
     }
 
-    /// Looks at the entries that it has not followed yet, and follows each. After an error, which is out of memory,
-    /// it may have followed some first ones of them.
+    /// Looks at the entries that it has not followed yet, and follows each. The finder goes on with it: after a batch it
+    /// begins anew. After an error, which is out of memory, it may have followed some first ones of them.
     pub(crate) fn catch_up<R: Wait>(
         &mut self,
         rt: &R,
         alloc: Global,
         turn: &Turn<Book>,
         pass: &mut Pass<Book>,
+        finder: &mut Finder,
     ) -> Result<(), NoMem>
         requires of { IsPassOf opening_of turn.now pass.old }
         requires stands { StandsAt (first_book turn.now).opening self.old (seen pass.old) }
+        requires finder { IsFinderOf self.old.eval.inst finder.old }
         ensures of { IsPassOf opening_of turn.now pass.new }
         ensures looked { Looked (known pass.old) (known pass.new) }
         ensures stands { StandsAt (first_book turn.now).opening self.new (seen pass.new) }
         ensures all { OnOk result (self.new.followed ≡ length (seen pass.new)) }
+        ensures finder { IsFinderOf self.new.eval.inst finder.new }
     {
         let items = turn.look(rt, alloc, pass, self.followed)?;
         let _seen = pass.seen();
         for entry in items.as_slice() {
             self.follow(alloc, entry)?;
+            go_on(finder, &entry.event);
         }
         Ok(())
     }

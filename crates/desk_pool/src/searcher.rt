@@ -4,6 +4,7 @@ ghost use Rattle.std.specs.Prelude.{◌≡◌, ◌-◌, ◌≤◌, [], None, Som
 ghost use Rattle.plan_moves.specs.Fits.{Fits};
 ghost use Rattle.desk_model.specs.States.{opening};
 ghost use Rattle.near_moves.specs.Descent.{first_better};
+ghost use Rattle.near_search.specs.Finders.{IsFinderOf};
 ghost use Rattle.desk_core.specs.Turned.{opening_of};
 ghost use Rattle.turn_book.specs.Passes.{first_book, known, seen, tags, IsPassOf};
 ghost use Rattle.desk_pool.specs.Rounds.{IsReady, IsSameShard, IsSameSearcher, HasRound, HasWorked, HasProposed, IsFound};
@@ -27,6 +28,7 @@ pub(crate) struct Searcher {
     /// How many rounds it has made.
     pub rounds: u32,
     pub trail: Vec<Trail>,
+    /// What it noted of the day at which the follower stands.
     pub finder: Finder,
 }
 
@@ -56,8 +58,10 @@ impl Searcher {
         requires some { 1 ≤ self.old.number }
         requires few { self.old.number ≤ self.old.shards }
         requires past { self.old.follower.eval.past ≡ [] }
+        requires finder { IsFinderOf self.old.follower.eval.inst self.old.finder }
         ensures found { IfOk result (IsFound budget self.old) }
         ensures same { IsSameSearcher self.old self.new }
+        ensures finder { IsFinderOf self.old.follower.eval.inst self.new.finder }
     {
         if let Some(item) = self.follower.broken {
             return Ok(Next::Ends(End::NoPlan(item)));
@@ -92,7 +96,7 @@ impl Searcher {
         requires fits { Fits (first_book turn.now).opening m }
         ensures of { IsPassOf opening_of turn.now pass.new }
         ensures tags { tags pass.new ≡ tags pass.old }
-        ensures same { IsSameShard self.old self.new × (self.new.follower ≡ self.old.follower) }
+        ensures same { IsSameShard self.old self.new × (self.new.follower ≡ self.old.follower) × (self.new.finder ≡ self.old.finder) }
         ensures proposed { HasProposed (first_book turn.now).opening self.old m (known pass.old) (known pass.new) self.new.trail.items result }
     {
         self.trail.reserve(1)?;
@@ -128,7 +132,8 @@ impl Searcher {
         ensures same { IsSameShard self.old self.new }
         ensures round { HasRound budget (first_book turn.now).opening self.old (known pass.old) (known pass.new) self.old.trail.items self.new.trail.items result }
     {
-        self.follower.catch_up(rt, alloc, turn, pass)?;
+        let finder = &mut self.finder;
+        self.follower.catch_up(rt, alloc, turn, pass, finder)?;
         gate.enter(self.number, self.rounds);
         self.rounds = self.rounds.saturating_add(1);
         let changes = self.follower.changes;

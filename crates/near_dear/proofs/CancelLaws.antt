@@ -20,7 +20,7 @@ use Rattle.desk_rules.proofs.LegLaws.{is_row-from}
 use Rattle.desk_model.specs.Push.{after_push}
 use Rattle.desk_model.specs.Steps.{after_set, after_step, after_steps}
 use Rattle.desk_model.proofs.SetLaws.{with_row-same, after_set-sets}
-use Rattle.hour_counts.proofs.FlownLaws.{pushed-flies}
+use Rattle.step_laws.proofs.PushedLaws.{pushed-flies}
 use Rattle.near_moves.specs.LegMoves.{cancelling}
 use Rattle.near_moves.specs.MoveParts.{flier, plane}
 use Rattle.near_moves.proofs.KeptLaws.{steps-append}

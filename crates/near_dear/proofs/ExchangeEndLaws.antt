@@ -17,7 +17,7 @@ use Rattle.desk_model.specs.Push.{rotation}
 use Rattle.desk_model.proofs.RotationOrder.{precedes-trans, precedes-itself, pairs_across, rotation-ordered, rotation-each}
 use Rattle.plan_reads.specs.Last.{IsLastOf}
 use Rattle.plan_checks.specs.Stands.{end_of, is_there}
-use Rattle.board_kit.proofs.SumLaws.{one_if}
+use Rattle.step_laws.proofs.SumLaws.{one_if}
 use Rattle.near_moves.proofs.ListLaws.{contains_cases, contains_head, contains_none}
 use Rattle.near_moves.specs.Chains.{to_airport, led, stand}
 use Rattle.near_moves.proofs.ChainLaws.{led-append, in-rotation}

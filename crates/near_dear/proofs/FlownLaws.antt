@@ -30,9 +30,9 @@ use Rattle.desk_model.specs.Steps.{after_set, after_step, after_steps}
 use Rattle.desk_model.proofs.SetLaws.{after_set-sets, with_row-same, with_row-other}
 use Rattle.desk_model.proofs.PushLaws.{after_push-groups, after_push-others}
 use Rattle.desk_model.proofs.RotationOrder.{rotation-each}
-use Rattle.hour_counts.proofs.FlownLaws.{pushed-flies}
+use Rattle.step_laws.proofs.PushedLaws.{pushed-flies}
 use Rattle.plan_checks.specs.Amounts.{reservation_cost}
-use Rattle.board_kit.proofs.SumLaws.{sum_same, sum_change}
+use Rattle.step_laws.proofs.SumLaws.{sum_same, sum_change}
 use Rattle.board_kit.specs.Users.{uses, has_leg}
 use Rattle.near_moves.specs.MoveParts.{plane, flown_row}
 use Rattle.near_moves.proofs.ListLaws.{Apart, any_holds, contains_filter, apart_head, apart_tail, contains_head, contains_tail}

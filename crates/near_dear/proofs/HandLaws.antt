@@ -21,7 +21,7 @@ use Rattle.desk_rules.specs.Maintenance.{is_flown_by}
 use Rattle.desk_rules.specs.Cost.{weight, rows_of, by_item, at_hand, missing_aircraft, position_cost, is_wanted}
 use Rattle.desk_model.specs.Push.{rotation}
 use Rattle.desk_model.proofs.RotationOrder.{rotation-each}
-use Rattle.board_kit.proofs.SumLaws.{one_if, filter_change}
+use Rattle.step_laws.proofs.SumLaws.{one_if, filter_change}
 use Rattle.near_moves.proofs.FromLaws.{or_cases}
 use Rattle.near_moves.specs.Chains.{stand}
 use Rattle.near_moves.proofs.ChainLaws.{KeepsC5}

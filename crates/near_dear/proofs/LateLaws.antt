@@ -20,7 +20,7 @@ use Rattle.desk_rules.proofs.MaintenanceLaws.{dep-is, flies-holds, flies-from}
 use Rattle.desk_model.specs.Push.{rotation, pushed_legs, after_push, departures_beside, arrivals_beside, IsPushed, MayDepart, PlacesLeg}
 use Rattle.desk_model.proofs.PushLaws.{pushed-ordered, pushed-all, pushed-each, after_push-others, after_push-places}
 use Rattle.desk_model.proofs.RotationOrder.{flown_once, precedes-trans, precedes-itself, pairs_after, rotation-ordered, rotation-each}
-use Rattle.hour_counts.proofs.FlownLaws.{pushed-flies}
+use Rattle.step_laws.proofs.PushedLaws.{pushed-flies}
 use Rattle.near_moves.proofs.ListLaws.{contains_cases, contains_head}
 use Rattle.near_moves.proofs.TallyLaws.{place}
 use Rattle.near_moves.proofs.ChainLaws.{in-rotation}

@@ -6,7 +6,7 @@ use Rattle.std.proofs.Math.Nat.{mul-add}
 use Rattle.std.proofs.lemmas.Bool.{true≢false, and_parts, and_from, eq-eqb, ne_eqb, not-true, false_from_ne_true}
 use Rattle.std.proofs.lemmas.List.Sums.{sum_by-cons, sum_by_push}
 use Rattle.desk_rules.specs.Numbers.{numbers}
-use Rattle.board_kit.proofs.SumLaws.{sum_same, sum_change}
+use Rattle.step_laws.proofs.SumLaws.{sum_same, sum_change}
 use Rattle.near_moves.proofs.ListLaws.{contains_cases, contains_head, contains_tail, contains_none}
 use Rattle.near_moves.proofs.TallyLaws.{AreApart}
 

@@ -5,7 +5,7 @@ use Rattle.std.specs.List.{list_any}
 use Rattle.std.proofs.lemmas.Bool.{cases_lt, eq-eqb, ne_eqb}
 use Rattle.std.proofs.lemmas.List.Sums.{sum_by-cons, sum_by_push, sum_by-le-sum_by}
 use Rattle.desk_rules.specs.Numbers.{numbers}
-use Rattle.board_kit.proofs.SumLaws.{sum_same, sum_change}
+use Rattle.step_laws.proofs.SumLaws.{sum_same, sum_change}
 use Rattle.near_dear.proofs.LegSumLaws.{none-sum}
 
 -- what those of the first n numbers come to that pass a test

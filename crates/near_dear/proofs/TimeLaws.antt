@@ -27,7 +27,7 @@ use Rattle.desk_model.specs.Steps.{after_step, after_move}
 use Rattle.desk_model.proofs.SwapLaws.{after_swap-row, after_swap-valid}
 use Rattle.desk_model.proofs.PushLaws.{after_push-others, after_push-valid}
 use Rattle.desk_model.proofs.RotationOrder.{flown_once, rotation-each}
-use Rattle.hour_counts.proofs.FlownLaws.{pushed-flies}
+use Rattle.step_laws.proofs.PushedLaws.{pushed-flies}
 use Rattle.near_moves.specs.LegMoves.{exchange}
 use Rattle.near_moves.proofs.TallyLaws.{AreApart}
 use Rattle.near_moves.proofs.ChainLaws.{rotation-apart, in-rotation}

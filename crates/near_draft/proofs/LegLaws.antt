@@ -19,7 +19,7 @@ use Rattle.desk_model.specs.Push.{rotation}
 use Rattle.std.proofs.lemmas.List.Kept.{AllPairs-cons}
 use Rattle.desk_data.proofs.PathOrder.{pairs_head, pairs_tail, pairs_nil}
 use Rattle.desk_model.proofs.RotationOrder.{Contains-cases, Contains-head, Contains-tail, Contains-filter, precedes-trans, precedes-itself, rotation-ordered, rotation-flown, rotation-each}
-use Rattle.desk_eval.specs.Swapped.{legs_of_both}
+use Rattle.step_laws.specs.Swapped.{legs_of_both}
 use Rattle.near_draft.specs.declared.change.Change.{Change}
 use Rattle.near_draft.specs.Drafts.{AreAllChanged, changed, drafted}
 use Rattle.near_draft.specs.Legs.{AreLegsOf, IsAdded, numbers_of}

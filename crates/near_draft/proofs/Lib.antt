@@ -1,3 +1,4 @@
+pub mod BaseLaws
 pub mod ChangeLaws
 mod HourLaws
 mod LegLaws

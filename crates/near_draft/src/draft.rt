@@ -1,4 +1,4 @@
-//! A draft: the plan of an evaluator with other rows, which the evaluator does not see.
+//! A draft: a plan with other rows, which no board sees.
 
 ghost use Rattle.std.specs.Prelude.{◌≡◌, ◌<◌, [], All, OnOk, true};
 ghost use Rattle.std.specs.Option.{ForSome};
@@ -8,22 +8,22 @@ ghost use Rattle.desk_data.specs.Valid.{IsPlanFor, IsRowOf};
 ghost use Rattle.near_draft.specs.Drafts.{AreChanges, plan_of};
 ghost use Rattle.near_draft.specs.Legs.{AreLegsOf, numbers_of};
 
+use crate::base::Base;
 use crate::change::Change;
 use crate::hours::beside_after;
 use crate::kept::{PlaneLegs, kept_legs, let_go};
 use crate::rows::{MARKS, row_after};
 use desk_data::{Airport, Group, Instance, Leg, NoMem, Plane, Res, Row};
-use desk_eval::Evaluator;
 use hour_counts::{KnowsHours, Movement};
 use plan_reads::ReadPlan;
 use std::alloc::Global;
 use std::marker::Model;
 
-/// The plan of an evaluator with other rows of some legs, which the evaluator does not see. Contracts see it as the
-/// day, the evaluator's plan and the changes. It is read as a plan is, and knows the hours of its plan, each in a walk
+/// A plan with other rows of some legs, which no board sees. Contracts see it as the day, the plan over which it is drafted
+/// and the changes. It is read as a plan is, and knows the hours of its plan, each in a walk
 /// over the changes.
 pub struct Draft<'a> {
-    eval: &'a Evaluator,
+    base: &'a Base<'a>,
     changes: Vec<Change>,
     marks: [bool; MARKS],
     /// The legs of some aircraft in this draft.
@@ -34,7 +34,7 @@ pub struct Draft<'a> {
 impl<'a> Drop for Draft<'a> {
     fn drop(self) {
         let Draft {
-            eval: _,
+            base: _,
             changes: _,
             marks: _,
             lists: _,
@@ -48,33 +48,33 @@ impl<'a> Model for Draft<'a> {
 
     ghost Value = { Drafted };
 
-    ghost view = { λ d. record { inst = d.eval.now.inst; rows = d.eval.now.rows; changes = d.changes.items } };
+    ghost view = { λ d. record { inst = d.base.now.inst; rows = d.base.now.rows; changes = d.changes.items } };
 
-    ghost invariant = { λ d. AreDrafted d.eval.now.inst d.eval.now.rows d.changes.items d.marks d.lists.items };
+    ghost invariant = { λ d. AreDrafted d.base.now.inst d.base.now.rows d.changes.items d.marks d.lists.items };
 }
 
 impl<'a> Draft<'a> {
     /// A draft with no change.
-    pub(crate) fn of(alloc: Global, eval: &'a Evaluator) -> Draft<'a>
-        ensures { result ≡ record { inst = eval.now.inst; rows = eval.now.rows; changes = [] } }
+    pub(crate) fn of(alloc: Global, base: &'a Base<'a>) -> Draft<'a>
+        ensures { result ≡ record { inst = base.now.inst; rows = base.now.rows; changes = [] } }
     {
         Draft {
-            eval,
+            base,
             changes: Vec::new(alloc),
             marks: [false; MARKS],
             lists: Vec::new(alloc),
         }
     }
 
-    /// The evaluator over whose plan it is drafted.
-    pub fn eval(&self) -> &Evaluator
+    /// What it is drafted over.
+    pub fn base(&self) -> &Base<'a>
         ensures inst { result.now.inst ≡ self.now.inst }
         ensures rows { result.now.rows ≡ self.now.rows }
         ensures plan { IsPlanFor self.now.inst (plan_of self.now) }
     {
-        // the evaluator's plan is one for its day
-        let _ = self.eval.plan();
-        self.eval
+        // the plan is one for its day
+        let _ = self.base.plan();
+        self.base
     }
 
     /// The changes, the last one last.
@@ -92,18 +92,18 @@ impl<'a> Draft<'a> {
         ensures row { result ≡ row_at (plan_of self.now) leg.0 }
         ensures fits { IsRowOf (planes_of self.now.inst) result }
     {
-        row_after(self.eval, self.changes.as_slice(), &self.marks, leg)
+        row_after(self.base, self.changes.as_slice(), &self.marks, leg)
     }
 
-    /// Whether a leg has the row that it has in the evaluator's plan.
+    /// Whether a leg has the row that it has in the plan over which it is drafted.
     pub(crate) fn has_its_row(&self, leg: Leg) -> bool
         requires { leg.0 < legs_of self.now.inst }
         ensures { result ≡ true → row_at self.now.rows leg.0 ≡ row_at (plan_of self.now) leg.0 }
     {
         let row = self.row(leg);
         // there are as many rows as legs
-        let _ = self.eval.plan();
-        self.eval.plan().read_row(leg) == row
+        let _ = self.base.plan();
+        self.base.plan().read_row(leg) == row
     }
 
     /// Gives a leg a row, where it has another one. The only error is out of memory.
@@ -114,7 +114,7 @@ impl<'a> Draft<'a> {
         ensures inst { self.new.inst ≡ self.old.inst }
         ensures rows { self.new.rows ≡ self.old.rows }
     {
-        let was = row_after(self.eval, self.changes.as_slice(), &self.marks, leg);
+        let was = row_after(self.base, self.changes.as_slice(), &self.marks, leg);
         if was != row {
             self.changes.push(Change { leg, was, row })?;
             self.marks[leg.0 as usize % MARKS] = true;
@@ -148,12 +148,12 @@ impl<'a> ReadPlan for Draft<'a> {
 
     fn read_row(&self, leg: Leg) -> Row {
         // there are as many rows as legs
-        let _ = self.eval.plan();
-        row_after(self.eval, self.changes.as_slice(), &self.marks, leg)
+        let _ = self.base.plan();
+        row_after(self.base, self.changes.as_slice(), &self.marks, leg)
     }
 
     fn groups(&self, res: Res) -> &[Group] {
-        self.eval.plan().groups(res)
+        self.base.plan().groups(res)
     }
 }
 
@@ -171,9 +171,9 @@ impl<'a> KnowsHours for Draft<'a> {
         airport: Airport,
         hour: u32,
     ) -> u32 {
-        if leg.0 < self.eval.instance().legs() {
+        if leg.0 < self.base.instance().legs() {
             let changes = self.changes.as_slice();
-            beside_after(self.eval, changes, Movement::Departure, leg, airport, hour)
+            beside_after(self.base, changes, Movement::Departure, leg, airport, hour)
         } else {
             0
         }
@@ -187,9 +187,9 @@ impl<'a> KnowsHours for Draft<'a> {
         airport: Airport,
         hour: u32,
     ) -> u32 {
-        if leg.0 < self.eval.instance().legs() {
+        if leg.0 < self.base.instance().legs() {
             let changes = self.changes.as_slice();
-            beside_after(self.eval, changes, Movement::Arrival, leg, airport, hour)
+            beside_after(self.base, changes, Movement::Arrival, leg, airport, hour)
         } else {
             0
         }

@@ -7,30 +7,30 @@ ghost use Rattle.near_draft.specs.Drafts.{AreChanges, drafted};
 ghost use Rattle.hour_counts.specs.Counts.{one_if};
 ghost use Rattle.near_draft.specs.Hours.{beside, is_counted_at};
 
+use crate::base::Base;
 use crate::change::Change;
 use desk_data::{Airport, Instance, Leg, Row};
-use desk_eval::Evaluator;
 use hour_counts::{KnowsHours, Movement};
 
-/// How many other legs than a leg depart from an airport in an hour after some changes of the evaluator's plan, or
+/// How many other legs than a leg depart from an airport in an hour after some changes of a plan, or
 /// arrive there: those of the plan, and with each change one more or one less.
 pub(crate) fn beside_after(
-    eval: &Evaluator,
+    base: &Base,
     changes: &[Change],
     movement: Movement,
     leg: Leg,
     airport: Airport,
     hour: u32,
 ) -> u32
-    requires changes { AreChanges eval.now.inst eval.now.rows changes.now }
-    requires leg { leg.0 < legs_of eval.now.inst }
-    ensures { result ≡ beside movement eval.now.inst (drafted eval.now.rows changes.now) leg.0 airport.0 hour }
+    requires changes { AreChanges base.now.inst base.now.rows changes.now }
+    requires leg { leg.0 < legs_of base.now.inst }
+    ensures { result ≡ beside movement base.now.inst (drafted base.now.rows changes.now) leg.0 airport.0 hour }
 {
     // the plan is one for the day, which has at most 20,000 legs
-    let _ = eval.plan();
-    let inst = eval.instance();
+    let _ = base.plan();
+    let inst = base.instance();
     let _few = inst.legs();
-    let mut count = beside(eval, movement, leg, airport, hour);
+    let mut count = beside(base, movement, leg, airport, hour);
     for change in changes {
         if change.leg.0 != leg.0 {
             count = after_change(inst, movement, change, airport, hour, count);
@@ -39,16 +39,16 @@ pub(crate) fn beside_after(
     count
 }
 
-/// The same in the evaluator's plan.
-fn beside(eval: &Evaluator, movement: Movement, leg: Leg, airport: Airport, hour: u32) -> u32
-    requires { leg.0 < legs_of eval.now.inst }
-    ensures { result ≡ beside movement eval.now.inst eval.now.rows leg.0 airport.0 hour }
+/// The same in the plan.
+fn beside(base: &Base, movement: Movement, leg: Leg, airport: Airport, hour: u32) -> u32
+    requires { leg.0 < legs_of base.now.inst }
+    ensures { result ≡ beside movement base.now.inst base.now.rows leg.0 airport.0 hour }
 {
-    let inst = eval.instance();
-    let row = eval.plan().read_row(leg);
+    let inst = base.instance();
+    let row = base.plan().read_row(leg);
     match movement {
-        Movement::Departure => eval.departures_beside(inst, leg, row, airport, hour),
-        Movement::Arrival => eval.arrivals_beside(inst, leg, row, airport, hour),
+        Movement::Departure => base.departures_beside(inst, leg, row, airport, hour),
+        Movement::Arrival => base.arrivals_beside(inst, leg, row, airport, hour),
     }
 }
 

@@ -37,7 +37,7 @@ fn find_legs(alloc: Global, draft: &Draft, plane: Plane) -> Result<Vec<Leg>, NoM
     ensures legs { IfOk result (λ legs. AreLegsOf draft.now.inst (plan_of draft.now) plane.0 (numbers_of legs.items)) }
     ensures within { IfOk result (λ legs. All (λ leg. leg.0 < legs_of draft.now.inst) legs.items) }
 {
-    let own = draft.eval().rotation(alloc, plane)?;
+    let own = draft.base().rotation(alloc, plane)?;
     let mut legs = kept(alloc, draft, plane, own.as_slice())?;
     let changes = draft.changes();
     for change in changes {
@@ -66,16 +66,16 @@ pub(crate) fn legs_in_order(
     Ok(Some(legs))
 }
 
-/// The same of any number. Where there is no change, the evaluator knows the order.
+/// The same of any number. Where there is no change, the order is known.
 fn all_in_order(alloc: Global, draft: &Draft, plane: Plane) -> Result<Option<Vec<Leg>>, NoMem>
     requires { plane.0 < planes_of draft.now.inst }
     ensures order { IfOk result (λ all. ForSome all (λ legs. numbers_of legs.items ≡ rotation draft.now.inst (plan_of draft.now) plane.0)) }
     ensures within { IfOk result (λ all. ForSome all (λ legs. All (λ leg. leg.0 < legs_of draft.now.inst) legs.items)) }
 {
     // there are as many rows as legs
-    let eval = draft.eval();
+    let base = draft.base();
     if draft.changes().is_empty() {
-        let legs = eval.rotation(alloc, plane)?;
+        let legs = base.rotation(alloc, plane)?;
         return Ok(Some(legs));
     }
     let legs = legs_of_plane(alloc, draft, plane)?;

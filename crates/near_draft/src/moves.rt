@@ -11,33 +11,29 @@ ghost use Rattle.near_draft.specs.Drafts.{IsDraftOf, plan_of};
 ghost use Rattle.near_draft.specs.LegRules.{BreaksOf, BreaksPushed};
 ghost use Rattle.near_draft.specs.Legs.{AreLegsOf, numbers_of};
 
+use crate::base::Base;
 use crate::draft::Draft;
 use crate::legs::{are_in_order, legs_of_plane};
 use crate::rules::break_leg_rules;
 use crate::steps::take_step;
 use desk_data::{Leg, NoMem, Plane};
-use desk_eval::Evaluator;
 use near_moves::keeps_rows;
 use plan_moves::{Move, Step};
 use std::alloc::Global;
 
 /// The plan that a move's first steps make, those before the first that leaves rows as they are, where they change rows
-/// alone and the others leave them; `None` where it is not drafted. The evaluator does not see it. The only error is
+/// alone and the others leave them; `None` where it is not drafted. No board sees it. The only error is
 /// out of memory.
-pub fn draft_of<'a>(
-    alloc: Global,
-    eval: &'a Evaluator,
-    m: &Move,
-) -> Result<Option<Draft<'a>>, NoMem>
-    requires { Fits eval.now.inst m.now }
-    ensures { IfOk result (λ drafted. ForSome drafted (IsDraftOf eval.now.inst eval.now.rows m.now)) }
+pub fn draft_of<'a>(alloc: Global, base: &'a Base<'a>, m: &Move) -> Result<Option<Draft<'a>>, NoMem>
+    requires { Fits base.now.inst m.now }
+    ensures { IfOk result (λ drafted. ForSome drafted (IsDraftOf base.now.inst base.now.rows m.now)) }
 {
     let steps = m.steps.as_slice();
     let (first, others) = steps.split_at(first_steps(steps));
     if first.is_empty() || !leave_rows(others) {
         return Ok(None);
     }
-    let mut draft = Draft::of(alloc, eval);
+    let mut draft = Draft::of(alloc, base);
     if !take_steps(alloc, &mut draft, first)? {
         return Ok(None);
     }
@@ -120,6 +116,6 @@ fn break_rules(draft: &Draft, legs: &[Leg]) -> bool
     requires { All (λ leg. leg.0 < legs_of draft.now.inst) legs.now }
     ensures { (p : ℕ) → AreLegsOf draft.now.inst (plan_of draft.now) p (numbers_of legs.now) → result ≡ true → BreaksOf draft.now.inst (plan_of draft.now) p }
 {
-    let inst = draft.eval().instance();
+    let inst = draft.base().instance();
     are_in_order(draft, legs) && break_leg_rules(inst, draft, legs)
 }

@@ -74,7 +74,7 @@ fn push_step(
     let Some(order) = legs_in_order(alloc, &*draft, plane)? else {
         return Ok(false);
     };
-    let inst = draft.eval().instance();
+    let inst = draft.base().instance();
     let all = placings(alloc, inst, &*draft, order.as_slice(), after)?;
     draft.keep(plane, order)?;
     for placing in &all {
@@ -91,7 +91,7 @@ fn place(draft: &mut Draft, plane: Plane, placing: &Placing) -> Result<(), NoMem
     ensures inst { draft.new.inst ≡ draft.old.inst }
     ensures rows { draft.new.rows ≡ draft.old.rows }
 {
-    let inst = draft.eval().instance();
+    let inst = draft.base().instance();
     match first_departure(inst, &*draft, &*draft, plane, placing) {
         Some(dep) => draft.set_row(placing.leg, Row::Flown { plane, dep }),
         None => Ok(()),

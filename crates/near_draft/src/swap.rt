@@ -6,7 +6,7 @@ ghost use Rattle.desk_data.specs.Situation.{legs_of, planes_of};
 ghost use Rattle.desk_data.specs.PlanRows.{row_at, with_row};
 ghost use Rattle.desk_data.specs.Valid.{IsRowOf};
 ghost use Rattle.desk_model.specs.Swap.{after_swap, other_plane, row_after_swap};
-ghost use Rattle.desk_eval.specs.Swapped.{legs_of_both};
+ghost use Rattle.step_laws.specs.Swapped.{legs_of_both};
 ghost use Rattle.near_draft.specs.Drafts.{plan_of};
 
 use crate::draft::Draft;
@@ -32,7 +32,7 @@ pub(crate) fn swap_step(alloc: Global, draft: &mut Draft, exchange: Exchange) ->
     ensures rows { draft.new.rows ≡ draft.old.rows }
 {
     // there are as many rows as legs
-    let _ = draft.eval();
+    let _ = draft.base();
     let Some(legs) = legs_of_both(alloc, &*draft, exchange)? else {
         return Ok(false);
     };

@@ -23,7 +23,7 @@ use Rattle.desk_model.specs.Steps.{after_set, after_step, after_steps}
 use Rattle.desk_data.proofs.PathOrder.{pairs_head}
 use Rattle.desk_model.proofs.SetLaws.{after_set-sets}
 use Rattle.desk_model.proofs.RotationOrder.{flown_once, precedes-trans, precedes-itself, pairs_across, pairs_after, rotation-ordered, rotation-each}
-use Rattle.hour_counts.proofs.FlownLaws.{pushed-flies}
+use Rattle.step_laws.proofs.PushedLaws.{pushed-flies}
 use Rattle.near_moves.specs.MoveParts.{plane, flier, flown_row, legs_from, run}
 use Rattle.near_moves.specs.LegMoves.{handing_step, handing}
 use Rattle.near_moves.specs.Units.{handed}

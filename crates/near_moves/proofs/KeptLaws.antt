@@ -19,7 +19,7 @@ use Rattle.desk_model.specs.Rebook.{after_rebook}
 use Rattle.desk_model.specs.Tidy.{after_tidy}
 use Rattle.desk_model.specs.Refill.{is_refilled, after_refilling, after_refill}
 use Rattle.desk_model.specs.Steps.{after_step, after_steps, after_move}
-use Rattle.hour_counts.proofs.FlownLaws.{pushed-flies}
+use Rattle.step_laws.proofs.PushedLaws.{pushed-flies}
 use Rattle.near_moves.specs.Descent.{is_better}
 use Rattle.near_moves.specs.Chains.{keeps_aircraft}
 

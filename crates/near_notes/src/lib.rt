@@ -37,20 +37,17 @@
 //!
 //! # Notes of a day
 //!
-//! A day, and what a search noted of it.
+//! What a search noted of the rebookings of a day.
 //!
-//!     let mut day = NotedDay::of(inst);
-//!     let notes = day.take_notes();          // what was noted, if anything was
 //!     if notes.knows(res, place) { .. }      // no rebooking off that path is better
-//!     day.put_notes(notes);
+//!     notes.note(res, place);
 //!
 //! Notes are of one plan, whose pages they share: how many were aboard its legs, and off which paths no rebooking is
 //! better there. They say nothing of any other plan, and of no other day: whoever has notes of an earlier plan has to
-//! see first what of them still holds (`later_notes` says it). Beside them a day keeps notes of its units of legs (`UnitNotes`,
-//! and near_untouched for a later plan). A day keeps its notes as long as it is the same, and contracts see none of them.
+//! see first what of them still holds (`later_notes` says it). Beside them a search notes units of legs (`UnitNotes`,
+//! and near_untouched for a later plan). near_search keeps both between its calls.
 //!
-//! Proved, as the invariant of a day that is noted: each note is true at the plan of the notes. The words of `near_moves` say
-//! which moves are better.
+//! Proved: a note that is true of the day stays so. The words of `near_moves` say which moves are better.
 //!
 //! # Notes at a later plan
 //!
@@ -74,7 +71,6 @@ mod changes;
 mod findings;
 mod later;
 mod links;
-mod noted;
 mod notes;
 mod notes_of_day;
 mod onward;
@@ -85,7 +81,6 @@ mod untouched;
 pub use findings::Findings;
 pub use later::{first_notes, later_notes};
 pub use near_legs::LegUnit;
-pub use noted::NotedDay;
 pub use notes::{Shard, UnitNotes};
 pub use notes_of_day::Notes;
 pub use rows::NumberRows;

@@ -21,8 +21,8 @@ use Rattle.desk_model.proofs.RotationOrder.{Contains-head, Contains-tail, preced
 use Rattle.plan_reads.specs.Last.{IsLastOf, stand}
 use Rattle.plan_reads.specs.declared.rotation_leg.RotationLeg.{RotationLeg}
 use Rattle.plan_checks.specs.Stands.{end_of, is_there}
-use Rattle.board_kit.proofs.RowLaws.{row_here, row_there}
-use Rattle.board_kit.proofs.SumLaws.{one_if, filter_change}
+use Rattle.step_laws.proofs.RowLaws.{row_here, row_there}
+use Rattle.step_laws.proofs.SumLaws.{one_if, filter_change}
 use Rattle.board_cost.proofs.HandLaws.{hand_few}
 use Rattle.near_moves.specs.Same.{FliesSame}
 use Rattle.near_moves.proofs.RuleLaws.{left_at-same}

@@ -15,7 +15,7 @@ use Rattle.desk_data.specs.PlanRows.{PlanRows, row_at, with_row}
 use Rattle.desk_data.specs.Valid.{IsPlanFor, IsRowOf, IsValid}
 use Rattle.desk_rules.specs.Cost.{weight, rows_of, by_item, at_hand, operating_of, operating_cost, missing_aircraft, position_cost}
 use Rattle.desk_model.proofs.ValidLaws.{with_row-valid}
-use Rattle.board_kit.proofs.RowLaws.{sum_of_rows}
+use Rattle.step_laws.proofs.RowLaws.{sum_of_rows}
 use Rattle.near_draft.specs.declared.change.Change.{Change}
 use Rattle.near_draft.specs.Drafts.{AreChanges, Drafted, IsChange, changed, drafted}
 use Rattle.near_draft.proofs.ChangeLaws.{no_change, changes-at, front-valid}

@@ -35,10 +35,10 @@ use Rattle.desk_model.specs.Steps.{after_set, after_step, after_steps, after_mov
 use Rattle.desk_model.proofs.SetLaws.{with_row-same, with_row-other}
 use Rattle.desk_model.proofs.SwapLaws.{after_swap-row}
 use Rattle.desk_model.proofs.MoveLaws.{after_steps-valid}
-use Rattle.hour_counts.proofs.FlownLaws.{pushed-flies}
+use Rattle.step_laws.proofs.PushedLaws.{pushed-flies}
 use Rattle.plan_checks.specs.Amounts.{reservation_cost}
-use Rattle.board_kit.proofs.SumLaws.{sum_same, sum_change}
-use Rattle.board_cost.proofs.BalanceLaws.{cost_is}
+use Rattle.step_laws.proofs.SumLaws.{sum_same, sum_change}
+use Rattle.cost_laws.proofs.BalanceLaws.{cost_is}
 use Rattle.near_moves.specs.MoveParts.{flier}
 use Rattle.near_moves.specs.Descent.{is_better}
 use Rattle.near_moves.proofs.FromLaws.{or_cases, or_left}

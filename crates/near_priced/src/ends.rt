@@ -119,7 +119,7 @@ fn last_of(inst: &Instance, draft: &Draft, plane: Plane, legs: &[Leg]) -> Option
     ensures { IsLastOf (plan_of draft.now) plane.0 inst.now.parts.to.0 (legs_of inst.now) result }
 {
     // the draft's plan is one for the day
-    let _ = draft.eval();
+    let _ = draft.base();
     let end = inst.window().1;
     let mut last = None;
     for leg in legs {

@@ -52,7 +52,7 @@ impl Payments {
         }
         let _rows = inst.parts();
         // the draft's plan is one for the day
-        let _ = draft.eval();
+        let _ = draft.base();
         let steps = m.steps.as_slice();
         if !name_no_path(steps) {
             return Ok(false);

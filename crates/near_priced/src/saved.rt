@@ -85,7 +85,7 @@ fn beyond_least(inst: &Instance, draft: &Draft, res: Res, cost: u128) -> u128
 {
     let _rows = inst.parts();
     // the draft's plan is one for the day
-    let _ = draft.eval();
+    let _ = draft.base();
     let mut left = cost;
     for group in draft.groups(res) {
         let path = group.path.as_slice();

@@ -11,7 +11,7 @@ use crate::rotations::Rotations;
 use crate::verdict::Verdict;
 use desk_data::NoMem;
 use desk_eval::Evaluator;
-use near_draft::{Draft, breaks_rule, draft_of};
+use near_draft::{Base, Draft, breaks_rule, draft_of};
 use plan_moves::Move;
 use std::alloc::Global;
 
@@ -27,10 +27,20 @@ pub(crate) fn judge_draft(
     requires fits { Fits eval.now.inst m.now }
     ensures { IfOk result (λ known. ForSome known (IsVerdict eval.now.inst eval.now.rows m.now)) }
 {
-    match draft_of(alloc, eval, m)? {
+    let base = base_of(eval, rotations);
+    match draft_of(alloc, &base, m)? {
         Some(draft) => judge_by(alloc, eval, rotations, &draft, m),
         None => Ok(None),
     }
+}
+
+/// What a draft over the evaluator's plan stands on.
+fn base_of<'a>(eval: &'a Evaluator, rotations: &'a Rotations) -> Base<'a>
+    requires { AreRotations eval.now.inst eval.now.rows rotations.now }
+    ensures inst { result.inst ≡ eval.now.inst }
+    ensures rows { result.rows ≡ eval.now.rows }
+{
+    Base::of(eval.instance(), eval.plan(), eval.slots(), rotations.legs())
 }
 
 /// The same by its draft: the move costs at least as much more as those pay whom it touches, or the draft breaks a rule.

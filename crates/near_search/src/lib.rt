@@ -18,7 +18,7 @@
 //! - By a draft of its rows (`near_draft`) is told one that costs at least as much more as those pay whom it touches
 //!   (`near_priced`), or that breaks a rule of a leg.
 //!
-//! What is known is a law each. A path off which no rebooking was better is noted in the evaluator, and passed over by the next
+//! What is known is a law each. A path off which no rebooking was better is noted in the finder, and passed over by the next
 //! search as long as nothing is touched that those hang on (`near_notes`). So is a unit of legs of each of whose moves it is
 //! known why it is not better (`near_notes`, and `near_untouched` for a later plan), apart where rows alone say so: each test that
 //! rules a move out says why, and a trial does where the plan that the move makes is no cheaper.

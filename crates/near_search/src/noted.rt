@@ -7,8 +7,10 @@ ghost use Rattle.desk_rules.specs.Least.{least};
 ghost use Rattle.near_pax.specs.Units.{group_at};
 ghost use Rattle.near_notes.specs.DayNotes.{AreNotes, IsInVain};
 ghost use Rattle.near_notes.specs.Later.{AreNotesAt};
+ghost use Rattle.near_search.specs.Finders.{IsFinderOf};
 ghost use Rattle.near_search.specs.Noted.{AreNotedAt};
 
+use crate::finder::Finder;
 use crate::ruled_out::costs_nothing;
 use desk_data::{NoMem, Res};
 use desk_eval::Evaluator;
@@ -16,16 +18,21 @@ use near_notes::{Notes, first_notes, later_notes};
 use std::alloc::Global;
 
 /// What is noted of the day at the evaluator's plan: what was noted at an earlier plan, as far as it still holds. No notes
-/// where the plan is not feasible. The evaluator hands them out, and stands where it stood. The only error is out of
-/// memory, and then the notes are given up.
-pub(crate) fn noted(alloc: Global, eval: &mut Evaluator) -> Result<Option<Notes>, NoMem>
-    ensures notes { IfOk result (AreNotedAt eval.old.inst eval.old.rows) }
-    ensures eval { eval.new ≡ eval.old }
+/// where the plan is not feasible. The finder hands them out. The only error is out of memory, and then the notes are given
+/// up.
+pub(crate) fn noted(
+    alloc: Global,
+    eval: &Evaluator,
+    finder: &mut Finder,
+) -> Result<Option<Notes>, NoMem>
+    requires finder { IsFinderOf eval.now.inst finder.old }
+    ensures notes { IfOk result (AreNotedAt eval.now.inst eval.now.rows) }
+    ensures finder { IsFinderOf eval.now.inst finder.new }
 {
     if !is_feasible(eval) {
         return Ok(None);
     }
-    let earlier = eval.take_notes();
+    let earlier = finder.notes.take();
     let notes = notes_now(alloc, eval, earlier)?;
     Ok(Some(notes))
 }
@@ -50,13 +57,14 @@ fn notes_now(alloc: Global, eval: &Evaluator, earlier: Option<Notes>) -> Result<
     }
 }
 
-/// The evaluator keeps the notes of its plan, if there are any, and stands where it stood.
-pub(crate) fn keep(eval: &mut Evaluator, notes: Option<Notes>)
-    requires { AreNotedAt eval.old.inst eval.old.rows notes }
-    ensures { eval.new ≡ eval.old }
+/// The finder keeps the notes of the evaluator's plan, if there are any.
+pub(crate) fn keep(eval: &Evaluator, finder: &mut Finder, notes: Option<Notes>)
+    requires finder { IsFinderOf eval.now.inst finder.old }
+    requires notes { AreNotedAt eval.now.inst eval.now.rows notes }
+    ensures { IsFinderOf eval.now.inst finder.new }
 {
     if let Some(notes) = notes {
-        eval.put_notes(notes);
+        finder.notes = Some(notes);
     }
 }
 

@@ -72,6 +72,13 @@ impl Rotations {
         })
     }
 
+    /// The legs of each aircraft, in their order.
+    pub(crate) fn legs(&self) -> &[Vec<Leg>]
+        ensures { result.now ≡ self.now.legs.items }
+    {
+        self.legs.as_slice()
+    }
+
     /// The legs of an aircraft, in their order.
     pub(crate) fn of_plane(&self, plane: Plane) -> &[Leg]
         requires { plane.0 < length self.now.legs.items }

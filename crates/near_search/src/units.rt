@@ -6,8 +6,10 @@ ghost use Rattle.near_moves.specs.Descent.{first_better, is_better};
 ghost use Rattle.near_moves.specs.Near.{unit_moves};
 ghost use Rattle.near_legs.specs.Choices.{IsLegUnit, unit_of};
 ghost use Rattle.near_notes.specs.Notes.{AreUnitNotes, AreUnitNotesAt, IsUnitOut, IsUnitOutByRows};
+ghost use Rattle.near_search.specs.Finders.{IsFinderOf};
 ghost use Rattle.near_search.specs.Noted.{AreUnitsNotedAt};
 
+use crate::finder::Finder;
 use crate::noted::is_feasible;
 use desk_data::NoMem;
 use desk_eval::Evaluator;
@@ -17,16 +19,21 @@ use near_untouched::later_unit_notes;
 use std::alloc::Global;
 
 /// What is noted of units of legs at the evaluator's plan: what was noted at an earlier plan, as far as it still holds. No
-/// notes where the plan is not feasible. The evaluator hands them out, and stands where it stood. The only error is out of
-/// memory, and then the notes are given up.
-pub(crate) fn noted_units(alloc: Global, eval: &mut Evaluator) -> Result<Option<UnitNotes>, NoMem>
-    ensures notes { IfOk result (AreUnitsNotedAt eval.old.inst eval.old.rows) }
-    ensures eval { eval.new ≡ eval.old }
+/// notes where the plan is not feasible. The finder hands them out. The only error is out of memory, and then the notes are
+/// given up.
+pub(crate) fn noted_units(
+    alloc: Global,
+    eval: &Evaluator,
+    finder: &mut Finder,
+) -> Result<Option<UnitNotes>, NoMem>
+    requires finder { IsFinderOf eval.now.inst finder.old }
+    ensures notes { IfOk result (AreUnitsNotedAt eval.now.inst eval.now.rows) }
+    ensures finder { IsFinderOf eval.now.inst finder.new }
 {
     if !is_feasible(eval) {
         return Ok(None);
     }
-    let earlier = eval.take_unit_notes();
+    let earlier = finder.units.take();
     let notes = units_now(alloc, eval, earlier)?;
     Ok(Some(notes))
 }
@@ -48,13 +55,14 @@ fn units_now(
     }
 }
 
-/// The evaluator keeps the notes of its plan, if there are any, and stands where it stood.
-pub(crate) fn keep_units(eval: &mut Evaluator, notes: Option<UnitNotes>)
-    requires { AreUnitsNotedAt eval.old.inst eval.old.rows notes }
-    ensures { eval.new ≡ eval.old }
+/// The finder keeps the notes of the evaluator's plan, if there are any.
+pub(crate) fn keep_units(eval: &Evaluator, finder: &mut Finder, notes: Option<UnitNotes>)
+    requires finder { IsFinderOf eval.now.inst finder.old }
+    requires notes { AreUnitsNotedAt eval.now.inst eval.now.rows notes }
+    ensures { IsFinderOf eval.now.inst finder.new }
 {
     if let Some(notes) = notes {
-        eval.put_unit_notes(notes);
+        finder.units = Some(notes);
     }
 }
 

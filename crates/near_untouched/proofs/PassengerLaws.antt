@@ -16,8 +16,7 @@ use Rattle.desk_data.specs.PlanRows.{PlanRows, groups_at}
 use Rattle.desk_data.specs.Valid.{IsPathOf, IsPlanFor}
 use Rattle.desk_rules.specs.Numbers.{numbers}
 use Rattle.desk_rules.specs.Passengers.{aboard, aboard_of, takes}
-use Rattle.board_cost.proofs.UserLaws.{sum_lists}
-use Rattle.board_kit.proofs.SumLaws.{sum_same}
+use Rattle.step_laws.proofs.SumLaws.{sum_same, sum_lists}
 use Rattle.near_untouched.specs.Marks.{is_marked, AreKept, HoldsOf, AreLegsMarked, ArePathsMarked}
 use Rattle.near_untouched.specs.Passengers.{IsRegroupedTold, IsUserTold, IsBookedTold, HasSameUsers}
 use Rattle.near_untouched.proofs.MarkLaws.{legs-kept, paths-kept, path-off, paths-off}

@@ -14,7 +14,7 @@ use Rattle.hour_counts.specs.Counts.{one_if, departs_at, arrives_at}
 use Rattle.hour_counts.specs.declared.slot.Movement.{Movement}
 use Rattle.hour_counts.specs.declared.slot.Movement.TheVariants.{Departure, Arrival}
 use Rattle.hour_counts.proofs.CountLaws.{count_change}
-use Rattle.board_kit.proofs.SumLaws.{sum_same}
+use Rattle.step_laws.proofs.SumLaws.{sum_same}
 use Rattle.near_moves.proofs.ListLaws.{any_holds, any_from, numbers_each, numbers_within}
 use Rattle.near_moves.specs.Room.{IsSameRoom}
 use Rattle.near_moves.proofs.FrameLaws.{count-weaker}

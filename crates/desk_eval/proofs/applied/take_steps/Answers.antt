@@ -3,7 +3,7 @@ use Rattle.desk_data.specs.Situation.{Situation}
 use Rattle.desk_data.specs.PlanRows.{PlanRows}
 use Rattle.desk_model.specs.Steps.{after_step}
 use Rattle.desk_eval.proofs.BackLaws.{after-itself, after-then}
-use Rattle.desk_eval.proofs.StepLaws.{after_steps-more}
+use Rattle.step_laws.proofs.StepLaws.{after_steps-more}
 use Rattle.desk_eval.proofs.applied.take_steps.Goals as goal
 
 pub loop-step-init : goal.loop-step-init

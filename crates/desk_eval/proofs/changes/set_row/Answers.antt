@@ -1,7 +1,7 @@
 use Rattle.std.proofs.Common.{◌≡◌, rules, sym, ap, ◌∙◌}
 use Rattle.desk_data.specs.PlanRows.{PlanRows, row_at}
 use Rattle.desk_eval.proofs.BackLaws.{after-itself}
-use Rattle.desk_eval.proofs.SwapLaws.{with_row-own}
+use Rattle.step_laws.proofs.SwapLaws.{with_row-own}
 use Rattle.desk_eval.proofs.changes.set_row.Goals as goal
 
 pub returns-then-eq-clause-rows : goal.returns-then-eq-clause-rows

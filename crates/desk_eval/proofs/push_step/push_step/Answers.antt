@@ -10,7 +10,7 @@ use Rattle.hour_counts.specs.declared.pushed.Placing.{Placing}
 use Rattle.hour_counts.specs.Placings.{AreLegs, IsPlacing}
 use Rattle.desk_eval.proofs.BackLaws.{after-itself, after-more, after-then}
 use Rattle.hour_counts.proofs.PlacedLaws.{placed_all, placed_all-more, placed_all-is}
-use Rattle.desk_eval.proofs.PushLaws.{length-placings}
+use Rattle.desk_eval.proofs.PlacingLaws.{length-placings}
 use Rattle.desk_eval.proofs.push_step.push_step.Goals as goal
 
 -- what is read where there is no placing

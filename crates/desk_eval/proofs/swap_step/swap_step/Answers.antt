@@ -3,7 +3,7 @@ use Rattle.std.proofs.lemmas.List.{take_all}
 use Rattle.desk_data.specs.Situation.{Situation, legs_of, planes_of}
 use Rattle.desk_data.specs.PlanRows.{PlanRows}
 use Rattle.desk_eval.proofs.BackLaws.{after-itself, after-more, after-then}
-use Rattle.desk_eval.proofs.SwapLaws.{no_leg, swapping, swapped_all, swapped_all-more, swapped_all-is, length-swapped, swapped-within}
+use Rattle.step_laws.proofs.SwapLaws.{no_leg, swapping, swapped_all, swapped_all-more, swapped_all-is, length-swapped, swapped-within}
 use Rattle.desk_eval.proofs.swap_step.swap_step.Goals as goal
 
 pub returns-in_err-legs-clause-after : goal.returns-in_err-legs-clause-after

@@ -1,6 +1,6 @@
 use Rattle.std.proofs.Common.{◌≡◌, take}
 use Rattle.desk_eval.specs.Back.{IsAfter}
-use Rattle.desk_eval.proofs.SwapLaws.{swapped_all}
+use Rattle.step_laws.proofs.SwapLaws.{swapped_all}
 use Rattle.desk_eval.proofs.swap_step.swap_step.Given as goal
 
 abbrev pub invariant-loop-leg : goal.invariant-loop-leg

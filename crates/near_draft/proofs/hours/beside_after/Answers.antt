@@ -15,17 +15,17 @@ use Rattle.near_draft.proofs.hours.beside_after.Goals.{then-change-leg, else-cha
 pub after_change-count-requires-clause-leg : goal.after_change-count-requires-clause-leg
 after_change-count-requires-clause-leg c =
     subst (λ (I : Situation). (get_or c.args.changes.now c.loop-change.change-index no_change).leg.0 < legs_of I) (sym c.instance-inst.ensures)
-    (changes-at c.args.eval.now.inst c.args.eval.now.rows c.args.changes.now c.loop-change.change-index c.requires.changes c.loop-change-test.true).leg
+    (changes-at c.args.base.now.inst c.args.base.now.rows c.args.changes.now c.loop-change.change-index c.requires.changes c.loop-change-test.true).leg
 
 pub after_change-count-requires-clause-row : goal.after_change-count-requires-clause-row
 after_change-count-requires-clause-row c =
     subst (λ (I : Situation). IsRowOf (planes_of I) (get_or c.args.changes.now c.loop-change.change-index no_change).row) (sym c.instance-inst.ensures)
-    (changes-at c.args.eval.now.inst c.args.eval.now.rows c.args.changes.now c.loop-change.change-index c.requires.changes c.loop-change-test.true).row
+    (changes-at c.args.base.now.inst c.args.base.now.rows c.args.changes.now c.loop-change.change-index c.requires.changes c.loop-change-test.true).row
 
 pub after_change-count-requires-clause-was : goal.after_change-count-requires-clause-was
 after_change-count-requires-clause-was c =
-    let I = c.args.eval.now.inst in
-    let P = c.args.eval.now.rows in
+    let I = c.args.base.now.inst in
+    let P = c.args.base.now.rows in
     let changes = c.args.changes.now in
     let i = c.loop-change.change-index in
     let is = changes-at I P changes i c.requires.changes c.loop-change-test.true in
@@ -38,14 +38,14 @@ after_change-count-requires-clause-was c =
 
 pub after_change-count-requires-clause-few : goal.after_change-count-requires-clause-few
 after_change-count-requires-clause-few c =
-    let Q = drafted c.args.eval.now.rows (take c.loop-change.change-index c.args.changes.now) in
-    let few = beside-few c.args.eval.now.inst c.args.leg.0 c.args.airport.0 c.args.hour c.args.movement Q in
+    let Q = drafted c.args.base.now.rows (take c.loop-change.change-index c.args.changes.now) in
+    let few = beside-few c.args.base.now.inst c.args.leg.0 c.args.airport.0 c.args.hour c.args.movement Q in
     omega (arith, few, c.loop-change.invariant, c.legs-few.ensures.limit, c.legs-few.ensures.count, ap legs_of c.instance-inst.ensures)
 
 pub loop-change-preserved : goal.loop-change-preserved
 loop-change-preserved c =
-    let I = c.args.eval.now.inst in
-    let P = c.args.eval.now.rows in
+    let I = c.args.base.now.inst in
+    let P = c.args.base.now.rows in
     let changes = c.args.changes.now in
     let i = c.loop-change.change-index in
     let lt = c.loop-change-test.true in

@@ -19,7 +19,7 @@ pub loop-change-init : goal.loop-change-init
 loop-change-init c =
     let D = c.args.draft.now in
     let p = c.args.plane.0 in
-    let whole = ap numbers_of c.as_slice.ensures.value ∙ c.in_ok-own.ensures.order ∙ ap (λ (I : Situation). rotation I c.eval.result.now.rows p) c.eval.ensures.inst ∙ ap (λ (P : PlanRows). rotation D.inst P p) c.eval.ensures.rows in
+    let whole = ap numbers_of c.as_slice.ensures.value ∙ c.in_ok-own.ensures.order ∙ ap (λ (I : Situation). rotation I c.base.result.now.rows p) c.base.ensures.inst ∙ ap (λ (P : PlanRows). rotation D.inst P p) c.base.ensures.rows in
     let are : numbers_of c.in_ok-legs.legs.items ≡ filter (flies (plan_of D) p) (rotation D.inst D.rows p) = c.in_ok-legs.ensures ∙ ap (filter (flies (plan_of D) p)) whole in
     record {
       flown = subst (All (λ z. (z < legs_of D.inst) × (flies (plan_of D) p z ≡ true))) (sym are) (still-flown D.inst D.rows (plan_of D) p);

@@ -9,8 +9,8 @@ use Rattle.near_draft.proofs.moves.draft_of.Goals as goal
 
 pub returns : goal.returns
 returns c =
-    let I = c.args.eval.now.inst in
-    let P = c.args.eval.now.rows in
+    let I = c.args.base.now.inst in
+    let P = c.args.base.now.rows in
     let m = c.args.m.now in
     let n = c.first_steps.result in
     let D = c.take_steps.new.draft in

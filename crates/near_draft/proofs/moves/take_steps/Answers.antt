@@ -2,7 +2,7 @@ use Rattle.std.proofs.Common.{◌≡◌, true, rules, ap, ◌∙◌}
 use Rattle.desk_data.specs.Situation.{Situation}
 use Rattle.desk_data.specs.PlanRows.{PlanRows}
 use Rattle.desk_model.specs.Steps.{after_step}
-use Rattle.desk_eval.proofs.StepLaws.{after_steps-more}
+use Rattle.step_laws.proofs.StepLaws.{after_steps-more}
 use Rattle.near_draft.specs.Drafts.{plan_of}
 use Rattle.near_draft.proofs.moves.take_steps.Goals as goal
 

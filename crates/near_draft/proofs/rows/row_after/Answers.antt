@@ -8,15 +8,15 @@ use Rattle.near_draft.proofs.rows.row_after.Goals as goal
 
 pub returns-then-not-marks-leg-clause-row : goal.returns-then-not-marks-leg-clause-row
 returns-then-not-marks-leg-clause-row c =
-    let P = c.args.eval.now.rows in
+    let P = c.args.base.now.rows in
     let x = c.args.leg.0 in
     let none : get_or c.args.marks.now (x % 64) false ≡ false = search rules in
     c.read_row.ensures.row ∙ ap (λ (Q : PlanRows). row_at Q x) c.plan-plan.ensures.rows ∙ unmarked-row P c.args.changes.now c.args.marks.now x c.requires.marks none
 
 pub loop-place-preserved : goal.loop-place-preserved
 loop-place-preserved c =
-    let I = c.args.eval.now.inst in
-    let P = c.args.eval.now.rows in
+    let I = c.args.base.now.inst in
+    let P = c.args.base.now.rows in
     let changes = c.args.changes.now in
     let x = c.args.leg.0 in
     let i = c.loop-place.place - 1 in
@@ -31,8 +31,8 @@ loop-place-preserved c =
 
 pub returns-then-changes-place-clause-row : goal.returns-then-changes-place-clause-row
 returns-then-changes-place-clause-row c =
-    let I = c.args.eval.now.inst in
-    let P = c.args.eval.now.rows in
+    let I = c.args.base.now.inst in
+    let P = c.args.base.now.rows in
     let changes = c.args.changes.now in
     let x = c.args.leg.0 in
     let i = c.loop-place.place - 1 in
@@ -45,4 +45,4 @@ returns-then-changes-place-clause-row c =
 pub returns-then-changes-place-clause-fits : goal.returns-then-changes-place-clause-fits
 returns-then-changes-place-clause-fits c =
     let lt : c.loop-place.place - 1 < length c.args.changes.now = omega (arith, c.loop-place.invariant.within, c.loop-place-test.true) in
-    (changes-at c.args.eval.now.inst c.args.eval.now.rows c.args.changes.now (c.loop-place.place - 1) c.requires.changes lt).row
+    (changes-at c.args.base.now.inst c.args.base.now.rows c.args.changes.now (c.loop-place.place - 1) c.requires.changes lt).row

@@ -7,7 +7,7 @@ use Rattle.near_draft.proofs.rows.row_after.Given as goal
 abbrev pub invariant-loop-place : goal.invariant-loop-place
 invariant-loop-place l = record {
   within : l.place ≤ length l.changes;
-  row : row_at (drafted l.eval.rows (take l.place l.changes)) l.leg.0 ≡ row_at (drafted l.eval.rows l.changes) l.leg.0;
+  row : row_at (drafted l.base.rows (take l.place l.changes)) l.leg.0 ≡ row_at (drafted l.base.rows l.changes) l.leg.0;
 }
 
 abbrev pub decreases-loop-place : goal.decreases-loop-place

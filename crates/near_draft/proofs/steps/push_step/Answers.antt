@@ -30,7 +30,7 @@ place-requires-clause-legs c =
     let i = c.loop-placing.placing-index in
     let order : numbers_of c.as_slice.result.now ≡ rotation D.inst (plan_of D) p =
     ap numbers_of c.as_slice.ensures.value ∙ c.in_ok-order.ensures.order c.in-Some.order c.in-Some.is in
-    let are = rw (c.instance-inst.ensures, c.eval.ensures.inst, ← c.deref-placing-items.ensures.value) at c.in_ok-all.ensures.before p order in
+    let are = rw (c.instance-inst.ensures, c.base.ensures.inst, ← c.deref-placing-items.ensures.value) at c.in_ok-all.ensures.before p order in
     let is : IsPlacing D.inst (plan_of D) (get_or items i no_placing) = are i no_placing c.loop-placing-test.true in
     subst (λ (I : Situation). AreLegs I (get_or items i no_placing)) (sym c.loop-placing.invariant.inst) is.legs
 
@@ -45,7 +45,7 @@ loop-placing-preserved c =
     let placing = get_or items i no_placing in
     let order : numbers_of c.as_slice.result.now ≡ rotation D.inst (plan_of D) p =
     ap numbers_of c.as_slice.ensures.value ∙ c.in_ok-order.ensures.order c.in-Some.order c.in-Some.is in
-    let are = rw (c.instance-inst.ensures, c.eval.ensures.inst, ← c.deref-placing-items.ensures.value) at c.in_ok-all.ensures.before p order in
+    let are = rw (c.instance-inst.ensures, c.base.ensures.inst, ← c.deref-placing-items.ensures.value) at c.in_ok-all.ensures.before p order in
     let is : IsPlacing D.inst (plan_of D) placing = are i no_placing c.loop-placing-test.true in
     record {
       plan = c.in_ok-place.ensures.plan (plan_of D) (subst (λ (I : Situation). IsPlacing I (plan_of D) placing) (sym c.loop-placing.invariant.inst) is)
@@ -63,7 +63,7 @@ returns-clause-taken c = λ taken.
     let items = c.deref-placing-items.result.now in
     let order : numbers_of c.as_slice.result.now ≡ rotation D.inst (plan_of D) p =
     ap numbers_of c.as_slice.ensures.value ∙ c.in_ok-order.ensures.order c.in-Some.order c.in-Some.is in
-    let legs = rw (c.instance-inst.ensures, c.eval.ensures.inst, ← c.deref-placing-items.ensures.value) at c.in_ok-all.ensures.legs p order in
+    let legs = rw (c.instance-inst.ensures, c.base.ensures.inst, ← c.deref-placing-items.ensures.value) at c.in_ok-all.ensures.legs p order in
     c.loop-placing.invariant.plan
     ∙ ap (placed_all D.inst (plan_of D) p) (take_all c.loop-placing.placing-index items c.loop-placing-test.false)
     ∙ placed_all-is D.inst (plan_of D) p c.args.after items legs

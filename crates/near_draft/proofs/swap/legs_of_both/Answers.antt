@@ -1,7 +1,7 @@
 use Rattle.std.proofs.Common.{◌≡◌, ◌≢◌, ◌++◌, Vec, Global, rules, ap, ◌∙◌, map}
 use Rattle.desk_units.specs.declared.numbers.Leg.{Leg}
 use Rattle.desk_model.specs.Push.{rotation}
-use Rattle.desk_eval.specs.Swapped.{legs_of_both}
+use Rattle.step_laws.specs.Swapped.{legs_of_both}
 use Rattle.near_moves.proofs.ListLaws.{for_some}
 use Rattle.near_draft.specs.Drafts.{plan_of}
 use Rattle.near_draft.specs.Legs.{numbers_of}

@@ -2,8 +2,8 @@ use Rattle.std.proofs.Common.{◌≡◌, ◌<◌, get_or, sym, ap, subst, ◌∙
 use Rattle.std.proofs.lemmas.List.{take_all}
 use Rattle.desk_data.specs.Situation.{Situation, legs_of, planes_of}
 use Rattle.desk_data.specs.PlanRows.{PlanRows}
-use Rattle.desk_eval.proofs.SwapLaws.{no_leg, swapping, swapped_all, swapped_all-more, swapped_all-is, swapped-within}
-use Rattle.desk_eval.specs.Swapped.{legs_of_both}
+use Rattle.step_laws.proofs.SwapLaws.{no_leg, swapping, swapped_all, swapped_all-more, swapped_all-is, swapped-within}
+use Rattle.step_laws.specs.Swapped.{legs_of_both}
 use Rattle.near_draft.specs.Drafts.{plan_of}
 use Rattle.near_draft.specs.Legs.{numbers_of}
 use Rattle.near_draft.proofs.swap.swap_step.Goals as goal

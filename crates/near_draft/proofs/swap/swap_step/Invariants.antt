@@ -1,5 +1,5 @@
 use Rattle.std.proofs.Common.{◌≡◌, take}
-use Rattle.desk_eval.proofs.SwapLaws.{swapped_all}
+use Rattle.step_laws.proofs.SwapLaws.{swapped_all}
 use Rattle.near_draft.specs.Drafts.{plan_of}
 use Rattle.near_draft.proofs.swap.swap_step.Given as goal
 

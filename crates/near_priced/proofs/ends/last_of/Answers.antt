@@ -13,7 +13,7 @@ pub later_of-last-requires-clause-leg : goal.later_of-last-requires-clause-leg
 later_of-last-requires-clause-leg c =
     let both = leg-flown c.args.inst.now (plan_of c.args.draft.now) c.args.plane.0 c.args.legs.now c.loop-leg.leg-index c.loop-leg-test.true c.requires.legs in
     let lt = both.0 in
-    let rows = c.eval.ensures.plan.legs in
+    let rows = c.base.ensures.plan.legs in
     let same = ap legs_of c.requires.day in
     omega (arith, lt, rows, same)
 

@@ -2,7 +2,7 @@ use Rattle.std.proofs.Common.{◌∙◌, arith}
 use Rattle.std.proofs.lemmas.Option.{slice_get_within}
 use Rattle.turn_book.specs.Passes.{first_book, seen}
 use Rattle.desk_core.proofs.TurnedLaws.{desk_legal}
-use Rattle.desk_pool.proofs.Following.{entry_after, asked_at, reported_at, next_stands, changes_within, accepted_within}
+use Rattle.desk_pool.proofs.Following.{entry_after, asked_at, reported_at, next_stands, finder_next, changes_within, accepted_within}
 use Rattle.desk_pool.proofs.follower.Follower.catch_up.Goals as goal
 
 pub follow-requires-clause-asked : goal.follow-requires-clause-asked
@@ -39,4 +39,5 @@ loop-entry-preserved g c =
     record {
       followed = omega (arith, one, on);
       stands = next_stands I c.loop-entry.self c.follow.new.self h c.entry-item.result c.loop-entry.invariant.stands at behind;
+      finder = finder_next c.loop-entry.self c.follow.new.self c.entry-item.result c.loop-entry.finder c.go_on.new.finder behind c.loop-entry.invariant.finder c.go_on.ensures.same c.go_on.ensures.anew;
     }

@@ -3,6 +3,7 @@ use Rattle.std.specs.Prelude.{Ok}
 use Rattle.turn_book.specs.Passes.{first_book, known, seen}
 use Rattle.desk_units.specs.declared.memory.NoMem.{NoMem}
 use Rattle.desk_teams.specs.declared.report.Report.{Report}
+use Rattle.near_search.specs.Finders.{IsFinderOf}
 use Rattle.desk_pool.specs.declared.follower.Follower.{Follower}
 use Rattle.desk_pool.specs.declared.searcher.Searcher.{Searcher}
 use Rattle.desk_pool.specs.Rounds.{IsReady, HasRound, IsSameShard}
@@ -14,7 +15,7 @@ use Rattle.desk_pool.proofs.searcher.Searcher.round.Goals as goal
 pub returns-in_err-catch_up-clause-ready : goal.returns-in_err-catch_up-clause-ready
 returns-in_err-catch_up-clause-ready g c =
     let s = c.args.self.now in
-    ready_on (first_book c.args.turn.now).opening s (record s { follower = c.catch_up.new.self }) (seen c.args.pass.now) (seen c.catch_up.new.pass) c.requires.ready c.catch_up.ensures.looked.began (record { number = refl; shards = refl }) c.catch_up.ensures.stands refl
+    ready_on (first_book c.args.turn.now).opening s (record s { follower = c.catch_up.new.self; finder = c.catch_up.new.finder }) (seen c.args.pass.now) (seen c.catch_up.new.pass) c.requires.ready c.catch_up.ensures.looked.began (record { number = refl; shards = refl }) c.catch_up.ensures.stands c.catch_up.ensures.finder refl
 
 pub returns-in_err-catch_up-clause-round : goal.returns-in_err-catch_up-clause-round
 returns-in_err-catch_up-clause-round g c =
@@ -25,7 +26,8 @@ returns-in_err-end-clause-ready g c =
     let s = c.args.self.now in
     let same = c.search.ensures.same in
     ready_on (first_book c.args.turn.now).opening s c.search.new.self (seen c.args.pass.now) (seen c.catch_up.new.pass) c.requires.ready c.catch_up.ensures.looked.began (record { number = same.number; shards = same.shards })
-    (subst (λ (f : Follower). Rattle.desk_pool.specs.Follows.StandsAt (first_book c.args.turn.now).opening f (seen c.catch_up.new.pass)) (sym same.follower) c.catch_up.ensures.stands) (ap (λ t. t.items) same.trail)
+    (subst (λ (f : Follower). Rattle.desk_pool.specs.Follows.StandsAt (first_book c.args.turn.now).opening f (seen c.catch_up.new.pass)) (sym same.follower) c.catch_up.ensures.stands)
+    (subst (λ (f : Follower). IsFinderOf f.eval.inst c.search.new.self.finder) (sym same.follower) c.search.ensures.finder) (ap (λ t. t.items) same.trail)
 
 pub returns-in_err-end-clause-round : goal.returns-in_err-end-clause-round
 returns-in_err-end-clause-round g c =
@@ -45,10 +47,11 @@ returns-in_err-propose-in-Proposes-clause-ready g c =
     let t = c.search.new.self in
     let same = c.search.ensures.same in
     let stands = subst (λ (f : Follower). Rattle.desk_pool.specs.Follows.StandsAt I f h) (sym same.follower) c.catch_up.ensures.stands in
-    let ready : IsReady I t h = ready_on I s t (seen c.args.pass.now) h c.requires.ready c.catch_up.ensures.looked.began (record { number = same.number; shards = same.shards }) stands (ap (λ x. x.items) same.trail) in
+    let finder = subst (λ (f : Follower). IsFinderOf f.eval.inst t.finder) (sym same.follower) c.search.ensures.finder in
+    let ready : IsReady I t h = ready_on I s t (seen c.args.pass.now) h c.requires.ready c.catch_up.ensures.looked.began (record { number = same.number; shards = same.shards }) stands finder (ap (λ x. x.items) same.trail) in
     let e : StandsAtEnd I t.follower h = at_end I t.follower h stands (ap (λ (f : Follower). f.followed) same.follower ∙ c.in_ok-catch_up.ensures.all) in
     let found = found_same c.args.budget _ t c.in_ok-end.field-0 same c.in_ok-end.ensures.found in
-    ready_proposed c.args.budget I t c.propose.new.self c.in_ok-end.field-0 c.in-Proposes.m (known c.catch_up.new.pass) (known c.propose.new.pass) c.propose.result ready e found c.in-Proposes.is c.propose.ensures.proposed c.propose.ensures.same.0 c.propose.ensures.same.1
+    ready_proposed c.args.budget I t c.propose.new.self c.in_ok-end.field-0 c.in-Proposes.m (known c.catch_up.new.pass) (known c.propose.new.pass) c.propose.result ready e found c.in-Proposes.is c.propose.ensures.proposed c.propose.ensures.same.0 c.propose.ensures.same.1 c.propose.ensures.same.2
 
 pub returns-in_err-propose-in-Proposes-clause-round : goal.returns-in_err-propose-in-Proposes-clause-round
 returns-in_err-propose-in-Proposes-clause-round g c =
@@ -64,12 +67,13 @@ returns-clause-ready g c =
     let t = c.search.new.self in
     let same = c.search.ensures.same in
     let stands = subst (λ (f : Follower). Rattle.desk_pool.specs.Follows.StandsAt I f h) (sym same.follower) c.catch_up.ensures.stands in
-    let ready : IsReady I t h = ready_on I s t (seen c.args.pass.now) h c.requires.ready c.catch_up.ensures.looked.began (record { number = same.number; shards = same.shards }) stands (ap (λ x. x.items) same.trail) in
+    let finder = subst (λ (f : Follower). IsFinderOf f.eval.inst t.finder) (sym same.follower) c.search.ensures.finder in
+    let ready : IsReady I t h = ready_on I s t (seen c.args.pass.now) h c.requires.ready c.catch_up.ensures.looked.began (record { number = same.number; shards = same.shards }) stands finder (ap (λ x. x.items) same.trail) in
     let e : StandsAtEnd I t.follower h = at_end I t.follower h stands (ap (λ (f : Follower). f.followed) same.follower ∙ c.in_ok-catch_up.ensures.all) in
     let found = found_same c.args.budget _ t c.in_ok-end.field-0 same c.in_ok-end.ensures.found in
     elim c.match-branch-3.branch [
       | in-Ends w ↦ subst (λ (p : _). IsReady I c.match-branch-3.self (seen p)) (sym w.pass-is) (subst (λ (x : Searcher). IsReady I x h) (sym w.self-is) ready)
-      | in-Proposes+in_ok-propose-in-Proposes w ↦ subst (λ (p : _). IsReady I c.match-branch-3.self (seen p)) (sym w.pass-is) (subst (λ (x : Searcher). IsReady I x (seen w.propose.new.pass)) (sym w.self-is) (ready_proposed c.args.budget I t w.propose.new.self c.in_ok-end.field-0 w.in-Proposes.m (known c.catch_up.new.pass) (known w.propose.new.pass) w.propose.result ready e found w.in-Proposes.is w.propose.ensures.proposed w.propose.ensures.same.0 w.propose.ensures.same.1))
+      | in-Proposes+in_ok-propose-in-Proposes w ↦ subst (λ (p : _). IsReady I c.match-branch-3.self (seen p)) (sym w.pass-is) (subst (λ (x : Searcher). IsReady I x (seen w.propose.new.pass)) (sym w.self-is) (ready_proposed c.args.budget I t w.propose.new.self c.in_ok-end.field-0 w.in-Proposes.m (known c.catch_up.new.pass) (known w.propose.new.pass) w.propose.result ready e found w.in-Proposes.is w.propose.ensures.proposed w.propose.ensures.same.0 w.propose.ensures.same.1 w.propose.ensures.same.2))
     ]
 
 pub returns-clause-round : goal.returns-clause-round

@@ -11,7 +11,7 @@ returns-clause-within c =
     let e = c.self.inside in
     subst (λ (changes : List Change). All (λ (change : Change). change.leg.0 < legs_of c.args.self.now.inst) changes) (sym c.as_slice.ensures.value)
     (subst (λ (I : Situation). All (λ (change : Change). change.leg.0 < legs_of I) e.changes.items) (ap (λ (D : Drafted). D.inst) c.self.view_is)
-    (changes-within e.eval.now.inst e.eval.now.rows e.changes.items c.self.invariant.are))
+    (changes-within e.base.now.inst e.base.now.rows e.changes.items c.self.invariant.are))
 
 pub returns-clause-are : goal.returns-clause-are
 returns-clause-are c =

@@ -9,8 +9,8 @@ use Rattle.near_draft.proofs.draft.Draft.keep.Goals as goal
 pub invariant_of-self-2 : goal.invariant_of-self-2
 invariant_of-self-2 c =
     let e = c.self.inside in
-    let I = e.eval.now.inst in
-    let Q = drafted e.eval.now.rows e.changes.items in
+    let I = e.base.now.inst in
+    let Q = drafted e.base.now.rows e.changes.items in
     let list : PlaneLegs = record { plane = c.args.plane; legs = c.args.legs } in
     record {
       marked = c.self.invariant.marked;

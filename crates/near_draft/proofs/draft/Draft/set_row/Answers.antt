@@ -2,7 +2,7 @@ use Rattle.std.proofs.Common.{◌≡◌, ◌<◌, List, [], ◌∷◌, ◌++◌,
 use Rattle.desk_data.specs.Situation.{legs_of, planes_of}
 use Rattle.desk_data.specs.PlanRows.{PlanRows, row_at}
 use Rattle.desk_data.specs.Valid.{IsRowOf}
-use Rattle.desk_eval.proofs.SwapLaws.{with_row-own}
+use Rattle.step_laws.proofs.SwapLaws.{with_row-own}
 use Rattle.near_draft.specs.declared.change.Change.{Change}
 use Rattle.near_draft.specs.Drafts.{AreChanges, Drafted, IsChange, drafted, plan_of}
 use Rattle.near_draft.specs.Kept.{AreKept, AreMarked}
@@ -13,8 +13,8 @@ use Rattle.near_draft.proofs.draft.Draft.set_row.Goals as goal
 pub invariant_of-self-then-ne : goal.invariant_of-self-then-ne
 invariant_of-self-then-ne c =
     let e = c.self.inside in
-    let I = e.eval.now.inst in
-    let P = e.eval.now.rows in
+    let I = e.base.now.inst in
+    let P = e.base.now.rows in
     let changes = e.changes.items in
     let change : Change = record { leg = c.args.leg; was = c.row_after-was.result; row = c.args.row } in
     let is : IsChange I (drafted P changes) change = record {
@@ -34,6 +34,6 @@ pub returns-else-ne-clause-plan : goal.returns-else-ne-clause-plan
 returns-else-ne-clause-plan c =
     let e = c.self.inside in
     let there : c.row_after-was.result ≡ row_at (plan_of c.args.self.now) c.args.leg.0 =
-    c.row_after-was.ensures.row ∙ ap (λ (cs : List Change). row_at (drafted e.eval.now.rows cs) c.args.leg.0) c.as_slice.ensures.value ∙ ap (λ (D : Drafted). row_at (plan_of D) c.args.leg.0) c.self.view_is in
+    c.row_after-was.ensures.row ∙ ap (λ (cs : List Change). row_at (drafted e.base.now.rows cs) c.args.leg.0) c.as_slice.ensures.value ∙ ap (λ (D : Drafted). row_at (plan_of D) c.args.leg.0) c.self.view_is in
     let same : c.row_after-was.result ≡ c.args.row = search rules in
     sym (with_row-own (plan_of c.args.self.now) c.args.leg.0 c.args.row (sym same ∙ there))

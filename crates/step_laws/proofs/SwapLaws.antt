@@ -19,8 +19,8 @@ use Rattle.desk_model.specs.Push.{rotation}
 use Rattle.desk_model.specs.Swap.{row_after_swap, after_swap}
 use Rattle.desk_data.proofs.PathOrder.{pairs_head, pairs_tail, pairs_append}
 use Rattle.desk_model.proofs.RotationOrder.{flown_once, precedes-itself, rotation-ordered, rotation-flown, rotation-each}
-use Rattle.desk_eval.specs.Swapped.{legs_of_both}
-use Rattle.desk_eval.proofs.PushLaws.{length-rotation}
+use Rattle.step_laws.specs.Swapped.{legs_of_both}
+use Rattle.step_laws.proofs.PushLaws.{length-rotation}
 
 -- ---- some places of a list are mapped, each once
 

@@ -1,5 +1,5 @@
 -- Sums and counts over numbers, as terms change: at one number, or where a test holds.
-use Rattle.std.proofs.Common.{◌≡◌, ◌≢◌, ℕ, zero, suc, ◌+◌, ◌<◌, ◌⊎◌, inl, inr, Bool, true, false, cond, List, [], ◌∷◌, length, refl, sym, ap, ◌∙◌, arith}
+use Rattle.std.proofs.Common.{◌≡◌, ◌≢◌, ℕ, zero, suc, ◌+◌, ◌<◌, ◌⊎◌, inl, inr, Bool, true, false, cond, List, [], ◌∷◌, length, get_or, refl, sym, ap, ◌∙◌, arith}
 use Rattle.std.specs.List.{filter, sum_by, count_by}
 use Rattle.std.proofs.lemmas.List.Sums.{sum_by_push, sum_by-cons, length-filter}
 use Rattle.std.specs.Prelude.{◌&&◌, not, ◌==◌}
@@ -70,3 +70,15 @@ none_by_count p zero = refl
 none_by_count p (suc n) =
     none_counted (none_below n p) (p n) (count_by p (numbers n)) (none_by_count p n)
     ∙ ap (λ (k : ℕ). k == 0) (sym (sum_by_push (λ y. one_if (p y)) (numbers n) n))
+
+-- ---- lists
+
+-- the term of 0 comes first
+first_number : (f : ℕ → ℕ) (n : ℕ) → sum_by f (numbers (suc n)) ≡ f zero + sum_by (λ r. f (suc r)) (numbers n)
+first_number f zero = omega arith
+first_number f (suc n) = omega (arith, sum_by_push f (numbers (suc n)) (suc n), first_number f n, sum_by_push (λ (r : ℕ). f (suc r)) (numbers n) n)
+
+-- a sum over lists is one over their numbers
+pub sum_lists : {X : Type 0} (f : List X → ℕ) (xs : List (List X)) → sum_by f xs ≡ sum_by (λ r. f (get_or xs r [])) (numbers (length xs))
+sum_lists f [] = refl
+sum_lists f (x ∷ xs) = sum_by-cons f x xs ∙ ap (λ (n : ℕ). f x + n) (sum_lists f xs) ∙ sym (first_number (λ (r : ℕ). f (get_or (x ∷ xs) r [])) (length xs))

@@ -1,8 +1,7 @@
 -- How many legs are placed. That they are placed one at a time stands in hour_counts.
-use Rattle.std.proofs.Common.{◌≡◌, ℕ, ◌+◌, ◌≤◌, inl, inr, Bool, true, ◌&&◌, not, List, [], ◌∷◌, length, ap, arith, length-append}
-use Rattle.std.specs.Prelude.{Option, filter, fold, map}
+use Rattle.std.proofs.Common.{◌≡◌, ℕ, ◌+◌, ◌≤◌, inl, inr, Bool, true, ◌&&◌, not, List, [], ◌∷◌, length, arith, length-append}
+use Rattle.std.specs.Prelude.{Option, filter, fold}
 use Rattle.std.proofs.lemmas.Bool.{cases_Bool}
-use Rattle.std.proofs.lemmas.List.{length-map}
 use Rattle.desk_units.specs.declared.numbers.Leg.{Leg}
 use Rattle.desk_data.specs.Situation.{Situation, legs_of, fixed}
 use Rattle.desk_data.specs.PlanRows.{PlanRows}
@@ -13,7 +12,6 @@ use Rattle.desk_rules.proofs.HourLaws.{length-numbers}
 use Rattle.desk_rules.proofs.RotationLaws.{precedes-holds}
 use Rattle.desk_model.specs.Push.{with_leg, rotation, comes_after, pushed_legs}
 use Rattle.desk_model.proofs.RotationOrder.{precedes-itself, precedes-trans}
-use Rattle.hour_counts.specs.declared.pushed.Placing.{Placing}
 
 -- ---- how many legs are placed
 
@@ -67,7 +65,3 @@ pub length-pushed_legs : (I : Situation) (P : PlanRows) (p : ℕ) (after : Optio
 unfolding pushed_legs
 length-pushed_legs I P p after =
     omega (arith, length-filter-le (λ x. not (fixed I x) && comes_after P after x) (rotation I P p), length-rotation I P p)
-
-pub length-placings : (I : Situation) (P : PlanRows) (p : ℕ) (after : Option Leg) (all : List Placing) → map (λ placing. placing.leg.0) all ≡ pushed_legs I P p after → length all ≤ legs_of I
-length-placings I P p after all is =
-    omega (arith, length-map all (λ (placing : Placing). placing.leg.0), ap length is, length-pushed_legs I P p after)

@@ -7,8 +7,11 @@ use Rattle.desk_data.specs.declared.row.Row.{Row}
 use Rattle.desk_data.specs.declared.row.Row.TheVariants.{Cancelled}
 use Rattle.desk_data.specs.declared.row.Group.{Group}
 use Rattle.desk_data.specs.PlanRows.{PlanRows, row_at, groups_at, with_row, with_groups}
+use Rattle.desk_units.specs.declared.numbers.Cabin.{Cabin}
 use Rattle.desk_rules.specs.Numbers.{numbers}
-use Rattle.board_kit.proofs.SumLaws.{one_if, sum_change}
+use Rattle.desk_rules.specs.Passengers.{aboard, aboard_of}
+use Rattle.std.proofs.lemmas.List.Sums.{sum_by-set}
+use Rattle.step_laws.proofs.SumLaws.{one_if, sum_change}
 
 -- ---- rows
 
@@ -45,3 +48,8 @@ sum_of_groups f P n r groups lt within =
 -- how many reservations pass a test of their groups
 pub count_of_groups : (p : ℕ → List Group → Bool) (P : PlanRows) (n r : ℕ) (groups : List Group) → r < n → r < length P.groups → count_by (λ s. p s (groups_at (with_groups P r groups) s)) (numbers n) + one_if (p r (groups_at P r)) ≡ count_by (λ s. p s (groups_at P s)) (numbers n) + one_if (p r groups)
 count_of_groups p P n r groups lt within = sum_of_groups (λ s gs. one_if (p s gs)) P n r groups lt within
+
+-- how many are aboard a leg
+pub aboard_groups : (P : PlanRows) (r : ℕ) (groups : List Group) (x : ℕ) (c : Cabin) → r < length P.groups → aboard (with_groups P r groups) x c + aboard_of x c (groups_at P r) ≡ aboard P x c + aboard_of x c groups
+unfolding aboard
+aboard_groups P r groups x c within = sum_by-set (aboard_of x c) P.groups r groups [] within
