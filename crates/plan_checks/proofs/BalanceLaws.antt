@@ -12,7 +12,7 @@ use Rattle.step_laws.proofs.SumLaws.{sum_same}
 use Rattle.step_laws.proofs.RowLaws.{sum_of_groups}
 use Rattle.plan_checks.specs.Amounts.{group_cost, reservation_cost}
 use Rattle.plan_checks.proofs.GroupLaws.{reservations_are}
-use Rattle.cost_laws.specs.Flown.{flown_cost}
+use Rattle.plan_checks.specs.Flown.{flown_cost}
 
 -- the whole is what legs and passengers cost, and the positions
 pub cost_is : (I : Situation) (P : PlanRows) → cost I P ≡ flown_cost I P + position_cost I P
