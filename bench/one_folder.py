@@ -4,7 +4,8 @@
     bench/one_folder.py [--program PATH] [--show]
 
 The folder has two spellings of five kinds in turn: with a slash or a dot behind or before it, by a link, by its whole path, and by a way
-that leads out of it and back; and once the same word twice. A write fails since a folder stands in the place of an output or of journal.bin, since no file may have more
+that leads out of it and back; and once the same word twice, and once OUT is another folder in which what the command reads
+is there by links to the files themselves. A write fails since a folder stands in the place of an output or of journal.bin, since no file may have more
 than some bytes (RLIMIT_FSIZE), since standard output takes nothing, or since the folder is a disk that is full (that needs a root that may mount).
 Whatever the status, each file that the command reads has to have the bytes that it had. Where the run is done, journal.csv of a replay may
 be the new one: the same events, each with its answer. It ends with 1 where a file that was read is another, or where no write failed.
@@ -25,6 +26,10 @@ from judge.files import DAY_FILES, SOLUTION_FILES
 TOP = os.path.dirname(os.path.dirname(os.path.abspath(__file__)))
 DESK = os.path.join(TOP, "crates", "desk", "out", "desk")
 SAMPLE = os.path.join(TOP, "examples", "disrupted")
+CASES = os.path.join(TOP, "crates", "desk_rows", "data")
+# a day and its plan, to which `ferry` adds a leg: the files of a case over the usual ones, and these aircraft
+ADDED_TO = ("usual", "an_added_leg_saves_more_than_it_costs")
+AIRCRAFT = b"P1 M1 NB 0/0/10 600 499.9999 30 20 AAA NULL\nP2 M1 NB 0/0/9 600 120 30 20 AAA NULL\n"
 DONE, OUTPUTS = (0, 1), ("sol_rotations.csv", "sol_itineraries.csv", "journal.csv")
 PLAIN = "day"
 SPELLINGS = {"slash": "day/", "dot": "./day", "dot behind": "day/.", "link": "link", "absolute": "{room}/day", "relative": "day/../day"}
@@ -71,7 +76,8 @@ def faults_of(command):
 def spelled(room):
     """The pairs of spellings."""
     words = [PLAIN] + [word.format(room=room) for word in SPELLINGS.values()]
-    return [(PLAIN, PLAIN)] + [(PLAIN, word) for word in words[1:]] + [(word, PLAIN) for word in words[1:]] + [(words[4], words[1])]
+    pairs = [(PLAIN, PLAIN), (words[4], words[1]), (PLAIN, "other")]
+    return pairs + [(PLAIN, word) for word in words[1:]] + [(word, PLAIN) for word in words[1:]]
 
 
 def bytes_of(path):
@@ -98,7 +104,18 @@ def run(program, words, room, fault):
     return done.returncode
 
 
-def set_up(command, fault, room, plan, ends):
+def make_day(command, day):
+    """Puts the files of the day into the folder, and for `ferry` those of a plan."""
+    if command.word != "ferry":
+        shutil.copytree(SAMPLE, day, dirs_exist_ok=True)
+        return
+    for case in ADDED_TO:
+        shutil.copytree(os.path.join(CASES, case), day, dirs_exist_ok=True)
+    with open(os.path.join(day, "aircraft.csv"), "wb") as file:
+        file.write(AIRCRAFT)
+
+
+def set_up(command, fault, room, ends):
     """Puts the day into the folder, and has the fault stand there; whether it could."""
     day = os.path.join(room, PLAIN)
     os.mkdir(day)
@@ -107,11 +124,10 @@ def set_up(command, fault, room, plan, ends):
         if subprocess.run(["mount", "-t", "tmpfs", "-o", "size=256k", "none", day], stderr=subprocess.DEVNULL, check=False).returncode:
             return False
         ends.callback(subprocess.run, ["umount", "-l", day], check=True)
-    shutil.copytree(SAMPLE, day, dirs_exist_ok=True)
-    if command.word == "ferry":
-        for name, text in plan.items():
-            with open(os.path.join(day, name), "wb") as file:
-                file.write(text)
+    make_day(command, day)
+    os.mkdir(os.path.join(room, "other"))
+    for name in command.reads:
+        os.symlink(os.path.join("..", PLAIN, name), os.path.join(room, "other", name))
     if fault.folder:
         with contextlib.suppress(FileNotFoundError):
             os.remove(os.path.join(day, fault.folder))
@@ -126,7 +142,7 @@ def set_up(command, fault, room, plan, ends):
 def tried(program, command, fault, pair, plan):
     """The status of a run and the files that were read and are others now; none where it could not be tried."""
     with tempfile.TemporaryDirectory() as room, contextlib.ExitStack() as ends:
-        if not set_up(command, fault, room, plan, ends):
+        if not set_up(command, fault, room, ends):
             return None
         words = [word.format(room=room) for word in pair]
         day = os.path.join(room, PLAIN)
