@@ -28,6 +28,7 @@ pub struct HostFolder<R: Files + Drop> {
     is_output: [bool; FILES],
     sources: [Option<R::File>; FILES],
     targets: [Option<R::File>; FILES],
+    turns: [u64; FILES],
     next_faults: [u64; FILES],
     put_faults: [u64; FILES],
 }
@@ -42,6 +43,7 @@ impl<R: Files + Drop> Drop for HostFolder<R> {
             is_output: _,
             sources: _,
             targets: _,
+            turns: _,
             next_faults: _,
             put_faults: _,
         } = self;
@@ -56,6 +58,7 @@ impl<R: Files + Drop> Model for HostFolder<R> {
 
     ghost view = { λ h. record {
       directories = record { input = string_bytes h.input; output = string_bytes h.output };
+      turns = h.turns;
       next = h.next_faults;
       put = h.put_faults;
     } };
@@ -76,6 +79,7 @@ impl<R: Files + Drop> HostFolder<R> {
             is_output: [false; FILES],
             sources: closed(),
             targets: closed(),
+            turns: [0; FILES],
             next_faults: [0; FILES],
             put_faults: [0; FILES],
         }
@@ -193,6 +197,7 @@ impl<R: Files + Drop> Folder for HostFolder<R> {
         ensures takes { Takes (host_outside self.old) (host_outside self.new) file into.new result }
         ensures counted { CountsFailure ((host_outside self.old).next_faults file) ((host_outside self.new).next_faults file) result }
     {
+        raise(&mut self.turns, file);
         let source = &mut self.sources[file.number()];
         let (input, output) = (self.input.as_str(), self.output.as_str());
         let directory = source_directory(input, output, file);
