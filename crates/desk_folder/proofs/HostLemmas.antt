@@ -1,15 +1,15 @@
 -- A call of the host's folder changes no more than its directories and counts.
-use Rattle.std.proofs.Common.{◌≡◌, ◌≢◌, ℕ, ◌<◌, ◌≤◌, List, [], ◌∷◌, Result, Ok, Err, IfOk, length, slice_index, refl, arith}
+use Rattle.std.proofs.Common.{◌≡◌, ◌≢◌, ℕ, ◌<◌, ◌≤◌, List, [], ◌∷◌, Result, Ok, Err, IfOk, length, slice_index, refl, sym, ap, subst, arith}
 use Rattle.std.specs.Io.{ReadsAtMost}
 use Rattle.desk_folder.specs.Calls.{Counts, Places, PutAppends, Puts, Takes, TakesTurn}
 use Rattle.desk_folder.specs.Files.{file_number}
 use Rattle.desk_folder.specs.Outside.{Directories}
-use Rattle.desk_folder.specs.Host.{host_outside}
+use Rattle.desk_folder.specs.Host.{HostSide, host_outside}
 use Rattle.desk_folder.specs.declared.faults.FolderFault.{FolderFault}
 use Rattle.desk_folder.specs.declared.faults.FolderFault.TheVariants.{Failed, Memory}
 use Rattle.desk_folder.specs.declared.files.File.{File}
 use Rattle.desk_folder.specs.declared.files.File.TheVariants.{Config}
-use Rattle.std.specs.Prelude.{None}
+use Rattle.std.specs.Prelude.{None, IsErrAnd}
 use Rattle.std.specs.Io.KnownBytes.{ReadConsumes}
 
 -- the counts of other files stay
@@ -70,6 +70,21 @@ Places-unshown was i o input output turns next put i_is o_is = record {
   faults = record { kept = omega arith; rose = λ e. absurd (cc) };
   others = record { left = λ f. refl; written = λ f. refl; turns = λ f. refl; next_faults = λ f. refl; put_faults = λ f. refl };
 }
+
+-- no directory is named where there is no memory
+abbrev pub unnamed : Result (Unit {0}) FolderFault
+unnamed = Err Memory
+
+by_memory : (answer : Result (Unit {0}) FolderFault) → IsErrAnd answer (λ e. e ≡ Memory) → answer ≡ unnamed
+by_memory (Ok done) is = absurd is
+by_memory (Err e) is = ap (λ (f : FolderFault). let r : Result (Unit {0}) FolderFault = Err f in r) is
+
+pub Places-unnamed : (h : HostSide) (input output : List ℕ) (answer : Result (Unit {0}) FolderFault) → IsErrAnd answer (λ e. e ≡ Memory) → Places (host_outside h) (host_outside h) input output answer
+Places-unnamed h input output answer is = subst (λ (r : Result (Unit {0}) FolderFault). Places (host_outside h) (host_outside h) input output r) (sym (by_memory answer is)) (record {
+  names = refl;
+  faults = record { kept = omega arith; rose = λ e. absurd (cc) };
+  others = record { left = λ f. refl; written = λ f. refl; turns = λ f. refl; next_faults = λ f. refl; put_faults = λ f. refl };
+})
 
 -- no call has failed where the counts of all files are 0
 pub count-zero : (f : File) → slice_index (0 ∷ 0 ∷ 0 ∷ 0 ∷ 0 ∷ 0 ∷ 0 ∷ 0 ∷ 0 ∷ 0 ∷ 0 ∷ 0 ∷ 0 ∷ 0 ∷ 0 ∷ 0 ∷ 0 ∷ 0 ∷ []) (file_number f) ≡ 0
